@@ -1,0 +1,88 @@
+-- How a reading and a writing end.
+use Rattle.std.specs.Prelude.{◌≡◌, ℕ, List, [], ◌∷◌, Result, Ok, Err, codes}
+use Rattle.concretizer.specs.Lines.{line}
+use Rattle.concretizer.specs.Refusals.{status_of, line_of}
+use Rattle.concretizer.specs.declared.refusal.Refusal.{Refusal}
+use Rattle.concretizer.specs.declared.refusal.Refusal.TheVariants.{Usage, NotBuilt, UnknownRoot, RecipeTooLarge}
+use Rattle.concretizer.specs.declared.stop.ReadStop.{ReadStop}
+use Rattle.concretizer.specs.declared.stop.ReadStop.TheVariants as reads
+use Rattle.concretizer.specs.declared.stop.WriteStop.{WriteStop}
+use Rattle.concretizer.specs.declared.stop.WriteStop.TheVariants as writes
+use Rattle.concretizer.specs.declared.stop.Stop.{Stop}
+use Rattle.concretizer.specs.declared.stop.Stop.TheVariants.{Read, Write}
+use Rattle.concretizer.specs.declared.status.Status.{Status}
+use Rattle.concretizer.specs.declared.status.Status.TheVariants as statuses
+
+-- what a call returned is what reading gives; a device's fault or want of memory may come instead
+abbrev pub Gives : {T : Type 0} → Result T ReadStop → Result T Refusal → Type 0
+Gives (Ok x) read = read ≡ Ok x
+Gives (Err (reads.Refused refusal)) read = read ≡ Err refusal
+Gives (Err (reads.Fault path)) read = Unit {0}
+Gives (Err reads.NoMemory) read = Unit {0}
+
+-- a device fails only while the file at the path is read
+abbrev pub FailsAt : {T : Type 0} → List ℕ → Result T ReadStop → Type 0
+FailsAt path (Ok x) = Unit {0}
+FailsAt path (Err (reads.Refused refusal)) = Unit {0}
+FailsAt path (Err (reads.Fault at)) = at ≡ path
+FailsAt path (Err reads.NoMemory) = Unit {0}
+
+-- a reading that a device made fail
+abbrev pub IsReadFault : {T : Type 0} → Result T ReadStop → Type 0
+IsReadFault (Ok x) = ⊥
+IsReadFault (Err (reads.Refused refusal)) = ⊥
+IsReadFault (Err (reads.Fault path)) = Unit {0}
+IsReadFault (Err reads.NoMemory) = ⊥
+
+-- a writing that a put made fail, and one that the sink of the answer made fail
+abbrev pub IsPutFault : {T : Type 0} → Result T WriteStop → Type 0
+IsPutFault (Ok x) = ⊥
+IsPutFault (Err (writes.Put path)) = Unit {0}
+IsPutFault (Err writes.Output) = ⊥
+IsPutFault (Err writes.NoMemory) = ⊥
+
+abbrev pub IsOutputFault : {T : Type 0} → Result T WriteStop → Type 0
+IsOutputFault (Ok x) = ⊥
+IsOutputFault (Err (writes.Put path)) = ⊥
+IsOutputFault (Err writes.Output) = Unit {0}
+IsOutputFault (Err writes.NoMemory) = ⊥
+
+-- a refusal of the words
+abbrev pub IsUsage : {T : Type 0} → Result T ReadStop → Type 0
+IsUsage (Ok x) = ⊥
+IsUsage (Err (reads.Refused Usage)) = Unit {0}
+IsUsage (Err (reads.Refused (NotBuilt what))) = ⊥
+IsUsage (Err (reads.Refused (UnknownRoot name))) = ⊥
+IsUsage (Err (reads.Refused (RecipeTooLarge name))) = ⊥
+IsUsage (Err (reads.Fault path)) = ⊥
+IsUsage (Err reads.NoMemory) = ⊥
+
+-- ---- what is answered and said
+
+unfoldable pub read_fault_line : List ℕ → List ℕ
+read_fault_line path = line (codes "read fault: " ∷ path ∷ [])
+
+unfoldable pub write_fault_line : List ℕ → List ℕ
+write_fault_line path = line (codes "write fault: " ∷ path ∷ [])
+
+unfoldable pub output_fault_line : List ℕ
+output_fault_line = line (codes "write fault: output" ∷ [])
+
+unfoldable pub no_memory_line : List ℕ
+no_memory_line = line (codes "no memory" ∷ [])
+
+abbrev pub stop_status : Stop → Status
+stop_status (Read (reads.Refused refusal)) = status_of refusal
+stop_status (Read (reads.Fault path)) = statuses.ReadFault
+stop_status (Read reads.NoMemory) = statuses.NoMemory
+stop_status (Write (writes.Put path)) = statuses.WriteFault
+stop_status (Write writes.Output) = statuses.WriteFault
+stop_status (Write writes.NoMemory) = statuses.NoMemory
+
+abbrev pub stop_line : Stop → List ℕ
+stop_line (Read (reads.Refused refusal)) = line_of refusal
+stop_line (Read (reads.Fault path)) = read_fault_line path
+stop_line (Read reads.NoMemory) = no_memory_line
+stop_line (Write (writes.Put path)) = write_fault_line path
+stop_line (Write writes.Output) = output_fault_line
+stop_line (Write writes.NoMemory) = no_memory_line

@@ -1,0 +1,105 @@
+// The words of the command line.
+ghost use Rattle.std.specs.Prelude.{◌≡◌, ◌∷◌, ◌++◌, IfOk};
+ghost use Rattle.std.specs.List.{list_all};
+ghost use Rattle.std.specs.String.{string_bytes};
+ghost use Rattle.concretizer.specs.Words.{words_of, joined_words, command_of, is_blank, is_name, is_same, is_white, is_name_first, is_name_later};
+
+use plain_data::Word;
+use std::alloc::{AllocError, Global};
+
+/// The words of `concretize REPO SETTINGS DATABASE LOCK CERT SPEC`.
+#[derive(Debug, Drop)]
+pub struct Command {
+    pub repo: Word,
+    pub settings: Word,
+    pub database: Word,
+    pub lock: Word,
+    pub cert: Word,
+    /// The words of the spec, joined by one space.
+    pub spec: Word,
+}
+
+/// Words joined by one space.
+fn join_words(alloc: Global, first: &str, more: &[String]) -> Result<String, AllocError>
+    ensures { IfOk result (λ text. string_bytes text ≡ joined_words first.now (words_of more.now)) }
+{
+    let mut text = String::from_str(alloc, first)?;
+    for word in more {
+        text.push(' ')?;
+        text.push_str(word.as_str())?;
+    }
+    Ok(text)
+}
+
+fn is_white(b: u8) -> bool
+    ensures { result ≡ is_white b }
+{
+    matches!(b, b' ' | b'\t' | b'\n' | b'\r')
+}
+
+fn is_blank(text: &[u8]) -> bool
+    ensures { result ≡ is_blank text.now }
+{
+    text.iter().all(|b| is_white(*b))
+}
+
+fn is_name_first(b: u8) -> bool
+    ensures { result ≡ is_name_first b }
+{
+    b.is_ascii_alphanumeric() || b == b'_'
+}
+
+fn is_name_later(b: u8) -> bool
+    ensures { result ≡ is_name_later b }
+{
+    is_name_first(b) || b == b'-'
+}
+
+fn are_name_later(text: &[u8]) -> bool
+    ensures { result ≡ list_all is_name_later text.now }
+{
+    text.iter().all(|b| is_name_later(*b))
+}
+
+/// Whether a text is a NAME: a letter, digit or `_`, then letters, digits, `_`, `-`.
+pub fn is_name(text: &[u8]) -> bool
+    ensures { result ≡ is_name text.now }
+{
+    match text {
+        [] => false,
+        [first, later @ ..] => is_name_first(*first) && are_name_later(later),
+    }
+}
+
+/// Whether two texts are the same.
+#[tactic(auto, unfolding(crate::specs::Words::is_same))]
+pub fn is_same(a: &str, b: &str) -> bool
+    ensures { result ≡ is_same a.now b.now }
+{
+    a == b
+}
+
+/// The command that the words are; `None` where they are none.
+pub fn read_command(alloc: Global, words: &[String]) -> Result<Option<Command>, AllocError>
+    ensures { IfOk result (λ command. command ≡ command_of (words_of words.now)) }
+{
+    let [verb, repo, settings, database, lock, cert, first, more @ ..] = words else {
+        return Ok(None);
+    };
+    let spec = join_words(alloc, first.as_str(), more)?;
+    if !is_same(verb.as_str(), "concretize")
+        || is_same(lock.as_str(), "-")
+        || is_same(lock.as_str(), cert.as_str())
+        || is_blank(spec.as_bytes())
+    {
+        return Ok(None);
+    }
+    Ok(Some(Command {
+        repo: Word::new(alloc, repo.as_str())?,
+        settings: Word::new(alloc, settings.as_str())?,
+        database: Word::new(alloc, database.as_str())?,
+        lock: Word::new(alloc, lock.as_str())?,
+        cert: Word::new(alloc, cert.as_str())?,
+        spec: Word::new(alloc, spec.as_str())?,
+    }))
+}

@@ -1,0 +1,139 @@
+// What a run reads.
+ghost use Rattle.std.specs.Prelude.{◌≡◌, IfOk, IfSome};
+ghost use Rattle.std.specs.FinMap.{get};
+ghost use Rattle.std.specs.String.{string_bytes};
+ghost use Rattle.outside_desk.specs.Causes.{Counts};
+ghost use Rattle.concretizer.specs.Words.{words_of};
+ghost use Rattle.concretizer.specs.Problems.{asked_of, not_built_of, recipe_path, recipe_file, declared_of, problem_at};
+ghost use Rattle.concretizer.specs.Stops.{Gives, FailsAt, IsReadFault, IsUsage};
+
+use crate::command::{Command, is_name, is_same, read_command};
+use crate::recipe::read_recipe;
+use crate::refusal::{NotBuilt, Refusal};
+use crate::stop::ReadStop;
+use outside_desk::{Desk, ReadFault, read_whole};
+use plain_data::{Duplicate, List, Word};
+use std::alloc::{AllocError, Global};
+use version_order::Version;
+
+/// The most bytes that a recipe has: 1 MiB.
+const RECIPE_LIMIT: u64 = 1 << 20;
+
+/// What a run is to solve.
+#[derive(Debug, Drop)]
+pub struct Problem {
+    /// The path of the lock file.
+    pub lock: Word,
+    /// The name of the package that is asked for.
+    pub name: Word,
+    /// The versions that its recipe declares, in file order and each once.
+    pub versions: List<Version>,
+}
+
+/// The first form of the command that is not built yet.
+fn not_built(command: &Command) -> Option<NotBuilt>
+    ensures { result ≡ not_built_of command.now }
+{
+    if !is_same(command.settings.as_str(), "-") {
+        Some(NotBuilt::Settings)
+    } else if !is_same(command.database.as_str(), "-") {
+        Some(NotBuilt::Database)
+    } else if !is_same(command.cert.as_str(), "-") {
+        Some(NotBuilt::Certificate)
+    } else if !is_name(command.spec.as_str().as_bytes()) {
+        Some(NotBuilt::Specs)
+    } else {
+        None
+    }
+}
+
+/// The command that the words ask for.
+#[tactic(auto, unfolding(crate::specs::Problems::asked_of))]
+pub fn read_words(alloc: Global, words: &[String]) -> Result<Command, ReadStop>
+    ensures read { Gives result (asked_of (words_of words.now)) }
+    ensures no_fault { IsReadFault result → ⊥ }
+{
+    let Some(command) = read_command(alloc, words)? else {
+        return Err(ReadStop::Refused(Refusal::Usage));
+    };
+    match not_built(&command) {
+        Some(what) => Err(ReadStop::Refused(Refusal::NotBuilt(what))),
+        None => Ok(command),
+    }
+}
+
+#[tactic(auto, unfolding(crate::specs::Problems::recipe_path))]
+fn recipe_path(alloc: Global, repo: &str, name: &str) -> Result<String, AllocError>
+    ensures { IfOk result (λ path. string_bytes path ≡ recipe_path repo.now name.now) }
+{
+    format!(in alloc; "{repo}/packages/{name}/package.py")
+}
+
+/// The bytes of the recipe at the path.
+#[tactic(auto, unfolding(crate::specs::Problems::recipe_file))]
+fn read_file<D: Desk>(
+    alloc: Global,
+    desk: &mut D,
+    path: &str,
+    name: &str,
+) -> Result<List<u8>, ReadStop>
+    ensures read { IfSome (D.files desk.old) (λ m. Gives result (recipe_file name.now (get m path.now))) }
+    ensures path { FailsAt path.now result }
+    ensures no_usage { IsUsage result → ⊥ }
+    ensures same { D.files desk.new ≡ D.files desk.old }
+    ensures cause { Counts (D.faults desk.old) (D.faults desk.new) (IsReadFault result) }
+    ensures put_faults { D.put_faults desk.new ≡ D.put_faults desk.old }
+{
+    match read_whole(alloc, desk, path, RECIPE_LIMIT) {
+        Ok(bytes) => Ok(List::from_vec(bytes)),
+        Err(ReadFault::Missing) => {
+            Err(ReadStop::Refused(Refusal::UnknownRoot(Word::new(alloc, name)?)))
+        }
+        Err(ReadFault::TooLong) => {
+            Err(ReadStop::Refused(Refusal::RecipeTooLarge(Word::new(alloc, name)?)))
+        }
+        Err(ReadFault::Failed) => Err(ReadStop::Fault(Word::new(alloc, path)?)),
+        Err(ReadFault::OutOfMemory) => Err(ReadStop::NoMemory),
+    }
+}
+
+/// The versions that the bytes of a recipe declare.
+#[tactic(auto, unfolding(crate::specs::Problems::declared_of))]
+fn read_versions(alloc: Global, name: &str, file: &[u8]) -> Result<List<Version>, ReadStop>
+    ensures read { Gives result (declared_of name.now file.now) }
+    ensures no_usage { IsUsage result → ⊥ }
+    ensures no_fault { IsReadFault result → ⊥ }
+{
+    match read_recipe(alloc, file)? {
+        Some(versions) => Ok(versions),
+        None => Err(ReadStop::Refused(Refusal::NotBuilt(NotBuilt::Recipe(Word::new(
+            alloc, name,
+        )?)))),
+    }
+}
+
+/// The problem that a command names over the desk's files.
+#[tactic(auto, unfolding(crate::specs::Problems::problem_at))]
+pub fn read_problem<D: Desk>(
+    alloc: Global,
+    desk: &mut D,
+    command: &Command,
+) -> Result<Problem, ReadStop>
+    ensures read { IfSome (D.files desk.old) (λ m. Gives result (problem_at m command.now)) }
+    ensures lock { IfOk result (λ problem. problem.lock ≡ command.now.lock) }
+    ensures path { FailsAt (recipe_path command.now.repo command.now.spec) result }
+    ensures no_usage { IsUsage result → ⊥ }
+    ensures same { D.files desk.new ≡ D.files desk.old }
+    ensures cause { Counts (D.faults desk.old) (D.faults desk.new) (IsReadFault result) }
+    ensures put_faults { D.put_faults desk.new ≡ D.put_faults desk.old }
+{
+    let name = command.spec.as_str();
+    let path = recipe_path(alloc, command.repo.as_str(), name)?;
+    let file = read_file(alloc, desk, path.as_str(), name)?;
+    let versions = read_versions(alloc, name, file.as_slice())?;
+    Ok(Problem {
+        lock: command.lock.duplicate(alloc)?,
+        name: command.spec.duplicate(alloc)?,
+        versions,
+    })
+}

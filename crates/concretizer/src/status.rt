@@ -1,0 +1,26 @@
+// The answers of a run.
+
+/// The answer of a run. The program ends with its place in this list as the exit status.
+#[derive(Clone, Copy, Debug, PartialEq, Eq)]
+pub enum Status {
+    /// The lock file was put.
+    Done,
+    /// There is no valid graph.
+    Unsatisfiable,
+    /// The words are no command.
+    Usage,
+    /// The budget was spent.
+    Undecided,
+    /// The input is refused.
+    BadInput,
+    /// A file could not be read.
+    ReadFault,
+    /// A file could not be put, or a line could not be said.
+    WriteFault,
+    /// The input is beyond a limit.
+    TooLarge,
+    /// What was to be checked is wrong.
+    Refused,
+    /// Memory ran out.
+    NoMemory,
+}

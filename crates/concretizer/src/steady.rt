@@ -1,0 +1,32 @@
+// Runs over devices that never fail.
+ghost use Rattle.std.specs.Prelude.{◌≢◌, IsOk};
+ghost use Rattle.concretizer.specs.Words.{words_of};
+ghost use Rattle.concretizer.specs.Problems.{problem_of};
+ghost use Rattle.concretizer.specs.Headline.{IsDone, IsUnsatisfiable, IsRefused, Settles, Refuses};
+ghost use Rattle.std.specs.Prelude.{◌≡◌, Some};
+
+use crate::status::Status;
+use crate::top::run;
+use outside_desk::{SteadyDesk, SteadySink};
+use std::alloc::Global;
+use std::thread::Threads;
+
+/// `run` over files and sinks in memory, none of which fails. So no fault is answered, and input that
+/// nothing refuses is Done, Unsatisfiable or NoMemory.
+pub fn run_steady<R: Threads + Sync>(
+    rt: &R,
+    alloc: Global,
+    words: &[String],
+    desk: &mut SteadyDesk,
+    out: &mut SteadySink,
+    err: &mut SteadySink,
+) -> Status
+    ensures done { result ≡ Status.Done → IsDone desk.old (words_of words.now) (Some desk.new) (Some out.old) (Some out.new) (Some err.old) (Some err.new) }
+    ensures unsatisfiable { result ≡ Status.Unsatisfiable → IsUnsatisfiable desk.old (words_of words.now) (Some desk.new) (Some out.old) (Some out.new) (Some err.old) (Some err.new) }
+    ensures refused { Refuses result → IsRefused desk.old (words_of words.now) result (Some desk.new) (Some out.old) (Some out.new) (Some err.old) (Some err.new) }
+    ensures no_read_fault { result ≢ Status.ReadFault }
+    ensures no_write_fault { result ≢ Status.WriteFault }
+    ensures complete { IsOk (problem_of desk.old (words_of words.now)) → Settles result }
+{
+    run(rt, alloc, words, desk, out, err)
+}

@@ -1,0 +1,115 @@
+// The top call.
+ghost use Rattle.std.specs.Prelude.{◌≡◌, ◌≢◌, ◌⊎◌, ◌≤◌, Err, IfSome, IfErr, IsOk, IsErr};
+ghost use Rattle.outside_desk.specs.Causes.{Counts, Rose};
+ghost use Rattle.concretizer.specs.Words.{words_of};
+ghost use Rattle.concretizer.specs.Problems.{asked_of, problem_of};
+ghost use Rattle.concretizer.specs.Refusals.{status_of, line_of};
+ghost use Rattle.concretizer.specs.Stops.{stop_status, stop_line};
+ghost use Rattle.concretizer.specs.Headline.{IsDone, IsUnsatisfiable, IsRefused, IsReadFault, IsPutFault, IsOutputFault, Keeps, Settles, Refuses, Reports};
+ghost use Rattle.concretizer.specs.declared.refusal.Refusal.TheVariants as Refusal;
+ghost use Rattle.concretizer.specs.Changes.{ChangesOnly};
+ghost use Rattle.concretizer.specs.Attempts.{Attempts, Follows, StopsAtOnce, FailsToRead, FailsToPut, FailsToSay, lock_path};
+
+use crate::answer::{Answer, write_answer};
+use crate::problem::{read_problem, read_words};
+use crate::status::Status;
+use crate::stop::Stop;
+use outside_desk::{Desk, Sink, SinkFault};
+use std::alloc::Global;
+use std::thread::Threads;
+
+/// Reads the problem that the words name, and writes its answer.
+fn attempt<D: Desk, O: Sink>(
+    alloc: Global,
+    words: &[String],
+    desk: &mut D,
+    out: &mut O,
+) -> Result<Answer, Stop>
+    ensures outcome { IfSome (D.files desk.old) (λ files. Attempts files (words_of words.now) (D.files desk.new) (O.said out.old) (O.said out.new) result) }
+    ensures follows { Follows (asked_of (words_of words.now)) result }
+    ensures at_once { IfErr (asked_of (words_of words.now)) (λ refusal. StopsAtOnce refusal result) }
+    ensures untouched { IsErr (asked_of (words_of words.now)) → D.files desk.new ≡ D.files desk.old }
+    ensures unread { FailsToRead result → (D.files desk.new ≡ D.files desk.old) × (O.said out.new ≡ O.said out.old) }
+    ensures others { IfSome (D.files desk.old) (λ files. ChangesOnly (lock_path (asked_of (words_of words.now))) files (D.files desk.new)) }
+    ensures held { IfSome (D.files desk.old) (λ files. Keeps files (words_of words.now) (D.files desk.new)) }
+    ensures read { Counts (D.faults desk.old) (D.faults desk.new) (FailsToRead result) }
+    ensures put { Counts (D.put_faults desk.old) (D.put_faults desk.new) (FailsToPut result) }
+    ensures said { Counts (O.faults out.old) (O.faults out.new) (FailsToSay result) }
+{
+    let command = read_words(alloc, words)?;
+    let problem = read_problem(alloc, desk, &command)?;
+    Ok(write_answer(alloc, &problem, desk, out)?)
+}
+
+/// Says why a run stops, and answers so.
+fn report<E: Sink>(alloc: Global, err: &mut E, stop: &Stop) -> Status
+    ensures reports { Reports (stop_status stop.now) (stop_line stop.now) (E.said err.old) (E.said err.new) (E.faults err.old) (E.faults err.new) result }
+    ensures later { E.faults err.old ≤ E.faults err.new }
+{
+    let Ok(line) = stop.line(alloc) else {
+        return Status::NoMemory;
+    };
+    match err.say(alloc, line.as_bytes()) {
+        Ok(()) => stop.status(),
+        Err(SinkFault::Failed) => Status::WriteFault,
+        Err(SinkFault::OutOfMemory) => Status::NoMemory,
+    }
+}
+
+/// Does what the words ask for: `concretize REPO SETTINGS DATABASE LOCK CERT SPEC`.
+///
+/// The words are those behind the program's name. A run reads the recipe of the package that SPEC
+/// names from `REPO/packages/SPEC/package.py`, puts the lock file of its best version at LOCK, and
+/// says its node and its cost vector on `out`; `err` gets one line where the run stops before that.
+pub fn run<R: Threads + Sync, D: Desk, O: Sink, E: Sink>(
+    _rt: &R,
+    alloc: Global,
+    words: &[String],
+    desk: &mut D,
+    out: &mut O,
+    err: &mut E,
+) -> Status
+    // Words that are refused are answered so whatever the desk tells, and only words are Usage.
+    ensures words { IfErr (asked_of (words_of words.now)) (λ refusal. (D.files desk.new ≡ D.files desk.old)
+        × Reports (status_of refusal) (line_of refusal) (E.said err.old) (E.said err.new) (E.faults err.old) (E.faults err.new) result) }
+    ensures usage { result ≡ Status.Usage → asked_of (words_of words.now) ≡ Err Refusal.Usage }
+
+    // The answers of a desk that tells its files.
+    ensures done { result ≡ Status.Done → IfSome (D.files desk.old) (λ files.
+        IsDone files (words_of words.now) (D.files desk.new) (O.said out.old) (O.said out.new) (E.said err.old) (E.said err.new)) }
+    ensures unsatisfiable { result ≡ Status.Unsatisfiable → IfSome (D.files desk.old) (λ files.
+        IsUnsatisfiable files (words_of words.now) (D.files desk.new) (O.said out.old) (O.said out.new) (E.said err.old) (E.said err.new)) }
+    ensures refused { Refuses result → IfSome (D.files desk.old) (λ files.
+        IsRefused files (words_of words.now) result (D.files desk.new) (O.said out.old) (O.said out.new) (E.said err.old) (E.said err.new)) }
+
+    // Faults come from outside, and are told.
+    ensures read_fault { result ≡ Status.ReadFault →
+        IsReadFault (words_of words.now) (D.faults desk.old) (D.faults desk.new) (D.files desk.old) (D.files desk.new) (O.said out.old) (O.said out.new) (E.said err.old) (E.said err.new) }
+    ensures write_fault { result ≡ Status.WriteFault →
+        IsPutFault (words_of words.now) (D.put_faults desk.old) (D.put_faults desk.new) (E.said err.old) (E.said err.new)
+        ⊎ (IsOutputFault (O.faults out.old) (O.faults out.new) (E.said err.old) (E.said err.new)
+        ⊎ Rose (E.faults err.old) (E.faults err.new)) }
+
+    // No file but the lock file changes, and it holds a front of its text at the worst.
+    ensures others { IfSome (D.files desk.old) (λ files. ChangesOnly (lock_path (asked_of (words_of words.now))) files (D.files desk.new)) }
+    ensures held { IfSome (D.files desk.old) (λ files. Keeps files (words_of words.now) (D.files desk.new)) }
+
+    // Input that nothing refuses is answered, where no device fails.
+    ensures complete { IfSome (D.files desk.old) (λ files. IsOk (problem_of files (words_of words.now))
+        → ¬ Rose (D.faults desk.old) (D.faults desk.new) → ¬ Rose (D.put_faults desk.old) (D.put_faults desk.new)
+        → ¬ Rose (O.faults out.old) (O.faults out.new) → ¬ Rose (E.faults err.old) (E.faults err.new) → Settles result) }
+
+    // No count of faults falls.
+    ensures counts { (D.faults desk.old ≤ D.faults desk.new) × (D.put_faults desk.old ≤ D.put_faults desk.new)
+        × (O.faults out.old ≤ O.faults out.new) × (E.faults err.old ≤ E.faults err.new) }
+
+    // These answers do not come yet.
+    ensures decided { result ≢ Status.Undecided }
+    ensures trusted { result ≢ Status.Refused }
+{
+    match attempt(alloc, words, desk, out) {
+        Ok(Answer::Solved) => Status::Done,
+        Ok(Answer::Unsolved) => Status::Unsatisfiable,
+        Err(stop) => report(alloc, err, &stop),
+    }
+}

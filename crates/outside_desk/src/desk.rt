@@ -1,0 +1,71 @@
+// The trait of a desk, which holds files by their paths.
+ghost use Rattle.std.specs.Prelude.{◌≡◌, ◌≤◌, ◌<◌, ◌^◌, ℕ, Option, length, IfOk, IfSome, OnOk, IsErrOf};
+ghost use Rattle.std.specs.FinMap.{get};
+ghost use Rattle.outside_desk.specs.Causes.{Counts};
+ghost use Rattle.outside_desk.specs.Files.{Files, ReadsAt, with_file, MayHold};
+
+use crate::DeskFault;
+use std::alloc::Global;
+
+/// Files by their paths.
+///
+/// ```text
+///   read_at, list ──► answer, files as before ── Failed: faults rises
+///   put           ──► the file holds the bytes ─ Failed: put_faults rises
+/// ```
+///
+/// Calls come in any order, also after a fault: no fault closes a desk.
+/// A count never falls, is below 2^64, and stays at 2^64 - 1 once it stands there.
+pub trait Desk {
+    /// The files, where the desk tells them.
+    ghost files: { Self → Option Files };
+
+    /// How often a reading or a listing failed.
+    ghost faults: { Self → ℕ };
+
+    /// How often a put failed.
+    ghost put_faults: { Self → ℕ };
+
+    /// Reads bytes of the file at `path` from place `from` on into the front of `out`, and answers how many.
+    ///
+    /// The answer is 0 exactly where `out` is empty or `from` is not below the file's length, and else at
+    /// most `out.len()`. `Missing` where there is no such file. After an error `out` may hold anything.
+    fn read_at(
+        &mut self,
+        alloc: Global,
+        path: &str,
+        from: u64,
+        out: &mut [u8],
+    ) -> Result<usize, DeskFault>
+        ensures bound { IfOk result (λ n. n ≤ length out.new) }
+        ensures bytes { IfSome (files self.old) (λ m. ReadsAt (get m path.now) from out.new result) }
+        ensures same { files self.new ≡ files self.old }
+        ensures cause { Counts (faults self.old) (faults self.new) (IsErrOf result DeskFault.Failed) }
+        ensures put_faults { put_faults self.new ≡ put_faults self.old };
+
+    /// The names in the folder at `path`: the distinct texts that stand between `path/` and the next `/`,
+    /// or the path's end, in the paths of the files, sorted by their bytes.
+    ///
+    /// `Missing` where there is none.
+    fn list(&mut self, alloc: Global, path: &str) -> Result<Vec<String>, DeskFault>
+        ensures same { files self.new ≡ files self.old }
+        ensures cause { Counts (faults self.old) (faults self.new) (IsErrOf result DeskFault.Failed) }
+        ensures put_faults { put_faults self.new ≡ put_faults self.old };
+
+    /// Makes the file at `path` hold `bytes`, and leaves all other files.
+    ///
+    /// After `Failed` the file holds what it held or a front of the bytes. After `OutOfMemory` nothing
+    /// changed. Never `Missing`.
+    fn put(&mut self, alloc: Global, path: &str, bytes: &[u8]) -> Result<(), DeskFault>
+        ensures ok { OnOk result (files self.new ≡ with_file (files self.old) path.now bytes.now) }
+        ensures failed { IsErrOf result DeskFault.Failed → MayHold (files self.old) (files self.new) path.now bytes.now }
+        ensures memory { IsErrOf result DeskFault.OutOfMemory → files self.new ≡ files self.old }
+        ensures never_missing { IsErrOf result DeskFault.Missing → ⊥ }
+        ensures cause { Counts (put_faults self.old) (put_faults self.new) (IsErrOf result DeskFault.Failed) }
+        ensures faults { faults self.new ≡ faults self.old };
+
+    /// Each count fits 64 bits.
+    ghost faults_fit: { (desk : Self) → faults desk < 2 ^ 64 };
+
+    ghost put_faults_fit: { (desk : Self) → put_faults desk < 2 ^ 64 };
+}

@@ -1,0 +1,112 @@
+// The desk of the machine, which tells no content.
+ghost use Rattle.std.specs.Prelude.{◌≡◌, ◌≤◌, ◌<◌, ◌^◌, ℕ, None, IfOk, IsErrOf, length};
+ghost use Rattle.outside_desk.specs.Causes.{CountsEach};
+
+use crate::real_files::{fault_of, list_folder, put_file, read_piece};
+use crate::{Desk, DeskFault};
+use std::alloc::Global;
+use std::io::Error;
+use std::rt::Files;
+
+/// Files of the machine, through a runtime. It tells no content, and its counts rise by one at each `Failed`.
+///
+/// ```text
+///   new ──► both counts 0
+///   read_at, list ── Failed: faults + 1
+///   put ── Failed: put_faults + 1
+/// ```
+///
+/// `Missing` also where a file stands in a folder's place. Interrupted readings and writings are tried again.
+/// A folder without names is an empty list, and names that are no texts are passed over. A put answers
+/// `OutOfMemory` only where the file could not be opened, and `Failed` at each other error.
+#[derive(Drop)]
+pub struct RealDesk<'a, R> {
+    rt: &'a R,
+    faults: u64,
+    put_faults: u64,
+    ghost faults_fit: { faults < 2 ^ 64 },
+    ghost put_faults_fit: { put_faults < 2 ^ 64 },
+}
+
+impl<'a, R: Files> RealDesk<'a, R> {
+    ghost use Rattle.outside_desk.specs.RealDesk.{real_faults, real_put_faults};
+
+    /// A desk of the runtime's files, with no faults.
+    pub fn new(rt: &'a R) -> RealDesk<'a, R>
+        ensures faults { real_faults result ≡ 0 }
+        ensures put_faults { real_put_faults result ≡ 0 }
+    {
+        RealDesk {
+            rt,
+            faults: 0,
+            put_faults: 0,
+        }
+    }
+
+    /// The fault for an error of a reading or a listing, which is counted where it is `Failed`.
+    fn fault(&mut self, error: &Error) -> DeskFault
+        ensures faults { CountsEach (real_faults self.old) (real_faults self.new) (result ≡ DeskFault.Failed) }
+        ensures put_faults { real_put_faults self.new ≡ real_put_faults self.old }
+    {
+        let fault = fault_of(error);
+        if fault == DeskFault::Failed {
+            self.faults = self.faults.saturating_add(1);
+        }
+        fault
+    }
+}
+
+impl<'a, R: Files> Desk for RealDesk<'a, R> {
+    ghost use Rattle.outside_desk.specs.RealDesk.{real_faults, real_put_faults};
+
+    ghost files = { λ _. None };
+
+    ghost faults = { λ desk. desk.faults };
+
+    ghost put_faults = { λ desk. desk.put_faults };
+
+    ghost faults_fit = { λ desk. desk.faults_fit };
+
+    ghost put_faults_fit = { λ desk. desk.put_faults_fit };
+
+    fn read_at(
+        &mut self,
+        _: Global,
+        path: &str,
+        from: u64,
+        out: &mut [u8],
+    ) -> Result<usize, DeskFault>
+        ensures bound { IfOk result (λ n. n ≤ length out.new) }
+        ensures faults { CountsEach (real_faults self.old) (real_faults self.new) (IsErrOf result DeskFault.Failed) }
+        ensures put_faults { real_put_faults self.new ≡ real_put_faults self.old }
+    {
+        match read_piece(self.rt, path, from, out) {
+            Ok(count) => Ok(count),
+            Err(error) => Err(self.fault(&error)),
+        }
+    }
+
+    fn list(&mut self, alloc: Global, path: &str) -> Result<Vec<String>, DeskFault>
+        ensures faults { CountsEach (real_faults self.old) (real_faults self.new) (IsErrOf result DeskFault.Failed) }
+        ensures put_faults { real_put_faults self.new ≡ real_put_faults self.old }
+    {
+        match list_folder(alloc, self.rt, path) {
+            Ok(names) => Ok(names),
+            Err(error) => Err(self.fault(&error)),
+        }
+    }
+
+    fn put(&mut self, _: Global, path: &str, bytes: &[u8]) -> Result<(), DeskFault>
+        ensures never_missing { IsErrOf result DeskFault.Missing → ⊥ }
+        ensures put_faults { CountsEach (real_put_faults self.old) (real_put_faults self.new) (IsErrOf result DeskFault.Failed) }
+        ensures faults { real_faults self.new ≡ real_faults self.old }
+    {
+        match put_file(self.rt, path, bytes) {
+            Err(DeskFault::Failed) => {
+                self.put_faults = self.put_faults.saturating_add(1);
+                Err(DeskFault::Failed)
+            }
+            answer => answer,
+        }
+    }
+}

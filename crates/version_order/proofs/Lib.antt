@@ -1,0 +1,17 @@
+pub mod PieceLaws
+pub mod CutLaws
+pub mod NumberLaws
+pub mod SameLaws
+pub mod ReleaseLaws
+pub mod OrderLaws
+pub mod MachineLaws
+pub mod VersionLaws
+pub mod AcceptLaws
+pub mod RestLaws
+pub mod ListLaws
+pub mod FirstLaws
+pub mod SoFarLaws
+pub mod EmptyLaws
+pub mod OverlapLaws
+pub mod WriteLaws
+pub mod RightLaws

@@ -1,0 +1,13 @@
+pub mod Signs
+pub mod Pieces
+pub mod Component
+pub mod Order
+pub mod Prefix
+pub mod Items
+pub mod Sets
+pub mod Cut
+pub mod Scan
+pub mod Fronts
+pub mod Machine
+pub mod Faults
+pub mod Standing

@@ -1,0 +1,2 @@
+class Empty(Package):
+    pass
