@@ -1,0 +1,251 @@
+-- How far a text goes that is not of the right form.
+use Rattle.std.proofs.Common.{◌≡◌, ℕ, zero, suc, ◌<◌, ◌≤◌, ◌+◌, ◌-◌, true, false, List, [], ◌∷◌, ◌++◌, length, take, drop, Option, Some, None, refl, sym, ap, subst, ◌∙◌, arith, inl, inr, append_assoc}
+use Rattle.std.specs.Prelude.{◌⊎◌, ◌==◌, option_map, option_and_then, is_some}
+use Rattle.std.specs.List.{list_all}
+use Rattle.std.proofs.lemmas.Bool.{cases_Bool, cases_lt, and_parts}
+use Rattle.std.proofs.lemmas.Bool.Decides.{nat_tests}
+use Rattle.std.proofs.lemmas.List.{append-nil, take-append-drop, take_all, length-drop}
+use Rattle.std.proofs.Math.Seq.{take-add}
+use Rattle.version_order.specs.Fronts.{Begins, IsBadAt}
+use Rattle.spec_grammar.specs.Signs.{is_white, AreWhite}
+use Rattle.spec_grammar.specs.Items.{spell, IsOver, kind_of}
+use Rattle.spec_grammar.specs.Right.{Step, spell_step, spell_steps, before_of, before_item, last_of, IsOverLast, is_some_gap, IsRightStep, AreRight, IsCut, HasForm, needs_name, may_stand, may_end}
+use Rattle.spec_grammar.specs.Meaning.{take_item, constrain, nest, nest_in, begin_part, add}
+use Rattle.spec_grammar.specs.Reading.{Read, last_item, place_of, has_gap, IsRead, IsFirst, IsDark, IsItemAt, take_steps, begin, first_part}
+use Rattle.spec_grammar.specs.Locals.{IsStuckHere, IsViable, varied}
+use Rattle.spec_grammar.specs.declared.item.Item.{Item}
+use Rattle.spec_grammar.specs.declared.item.Item.TheVariants.{Name, Versions, Variant, Compiler, Key, Caret}
+use Rattle.spec_grammar.specs.declared.mode.Mode.{Mode}
+use Rattle.spec_grammar.specs.declared.mode.Mode.TheVariants as mode_is
+use Rattle.spec_grammar.specs.declared.mode.Before.TheVariants as before
+use Rattle.spec_grammar.specs.declared.part.Part.{Part}
+use Rattle.spec_grammar.specs.declared.draft.Draft.{Draft}
+use Rattle.spec_grammar.proofs.RunLaws.{Stop, stop_cons, stop_none, cons_none, true_false, two_cons}
+use Rattle.spec_grammar.proofs.WhiteLaws.{last_white}
+use Rattle.spec_grammar.proofs.StandLaws.{spell_push, last_push, right_push}
+use Rattle.spec_grammar.proofs.VaryLaws.{varied_own}
+use Rattle.spec_grammar.proofs.SameLaws.{Cuts, GoesOnWith, compare, some_item}
+
+dark_stop : (text : List ℕ) → IsDark text → Stop is_white text
+dark_stop [] h = absurd h
+dark_stop (b ∷ text) h = stop_cons is_white b text h
+
+pub item_cuts : (mode : Mode) (text : List ℕ) (p : ℕ) (read : Read) → IsItemAt mode text p read → Cuts mode None text read.steps read.trail (drop p text)
+item_cuts mode text p read at = record {
+  right = at.before.cut.right;
+  white = at.before.cut.white;
+  spelled = sym (take-append-drop p text) ∙ ap (λ (l : List ℕ). l ++ drop p text) at.before.cut.spelled ∙ append_assoc (spell_steps read.steps) read.trail (drop p text);
+  over = at.over;
+  dark = dark_stop (drop p text) at.dark;
+}
+
+pub no_rest : {A : Type 0} {mode : Mode} {steps : List Step} {trail : List ℕ} {others : List Step} → GoesOnWith mode None steps trail [] others → A
+no_rest g = some_item g.step.item g.tail g.first.form.0 (sym g.first.cut)
+
+pub rest_dark : {A : Type 0} (text : List ℕ) → IsDark text → text ≡ [] → A
+rest_dark [] h e = absurd h
+rest_dark (b ∷ text) h e = cons_none b text e
+
+form_cuts : (mode : Mode) (text : List ℕ) (steps : List Step) (trail : List ℕ) → IsCut mode text steps trail → Cuts mode None text steps trail []
+form_cuts mode text steps trail cut = record {
+  right = cut.right;
+  white = cut.white;
+  spelled = cut.spelled ∙ ap (λ (l : List ℕ). spell_steps steps ++ l) (sym (append-nil trail));
+  over = subst (IsOverLast (last_of None steps)) (sym (append-nil trail)) (last_white (last_of None steps) trail cut.white);
+  dark = stop_none is_white;
+}
+
+-- no right text has, behind what was read, a rest with no item at its front
+no_form : (mode : Mode) (text : List ℕ) (read : Read) (rest : List ℕ) → Cuts mode None text read.steps read.trail rest → IsDark rest
+    → ((item : Item) (behind : List ℕ) → IsFirst rest item behind → may_stand mode (place_of read) (has_gap read) (kind_of item) ≡ true → ⊥) → HasForm mode text → ⊥
+no_form mode text read rest cuts dark none (steps, trail, cut, end) =
+    elim (compare mode None text read.steps read.trail rest steps trail [] cuts (form_cuts mode text steps trail cut)) [
+      | inl same ↦ rest_dark rest dark same.2
+      | inr (inl g) ↦ none g.step.item g.tail g.first (subst (λ (l : List ℕ). may_stand mode (place_of read) (is_some_gap l) (kind_of g.step.item) ≡ true) g.gap g.right.stands)
+      | inr (inr g) ↦ no_rest g
+    ]
+
+-- ---- what was read can be completed
+
+white_bracket : (b : ℕ) → is_white b ≡ true → (b == 91) ≡ false
+white_bracket b h = grind (arith, nat_tests)
+
+caret_over : (trail : List ℕ) → AreWhite trail → IsOver Caret (trail ++ 97 ∷ [])
+caret_over [] h = λ b more e on. true_false (97 == 91) (ap (λ (c : ℕ). c == 91) (two_cons _ _ _ _ e).0 ∙ on) refl
+caret_over (c ∷ trail) h = λ b more e on. true_false (c == 91) (ap (λ (d : ℕ). d == 91) (two_cons _ _ _ _ e).0 ∙ on) (white_bracket c (and_parts (is_white c) (list_all is_white trail) h).0)
+
+whole_form : (mode : Mode) (steps : List Step) (trail : List ℕ) → AreRight mode None steps → AreWhite trail → may_end mode (before_of (last_of None steps)) ≡ true → Begins (HasForm mode) (spell_steps steps ++ trail)
+whole_form mode steps trail are white end = ([], (steps, trail, record { right = are; white = white; spelled = append-nil (spell_steps steps ++ trail) }, end))
+
+-- with one step more, the text may end
+with_step : (mode : Mode) (steps : List Step) (s : Step) → AreRight mode None steps → IsRightStep mode (last_of None steps) s → may_end mode (before_item s.item) ≡ true → HasForm mode (spell_steps steps ++ spell_step s)
+with_step mode steps s are is end = (
+  steps ++ s ∷ [],
+  [],
+  record { right = right_push mode None steps s are is; white = refl; spelled = sym (append-nil _ ∙ spell_push steps s) },
+  ap (λ (l : Option Item). may_end mode (before_of l)) (last_push None steps s) ∙ end,
+)
+
+name_step : (mode : Mode) (steps : List Step) (trail : List ℕ) (last : Option Item) → last_of None steps ≡ last → AreRight mode None steps → AreWhite trail → IsOverLast last (trail ++ 97 ∷ []) → may_stand mode (before_of last) (is_some_gap trail) (kind_of (Name (97 ∷ []))) ≡ true
+    → HasForm mode (spell_steps steps ++ (trail ++ 97 ∷ []))
+name_step mode steps trail last e are white over may =
+    with_step mode steps (record { gap = trail; item = Name (97 ∷ []) }) are (record { white = white; form = (refl, tt); stands = rw e may; over = rw e over }) refl
+
+complete_by : (mode : Mode) (steps : List Step) (trail : List ℕ) (last : Option Item) → last_of None steps ≡ last → AreRight mode None steps → AreWhite trail → Begins (HasForm mode) (spell_steps steps ++ trail)
+complete_by mode steps trail None e are white = elim (cases_Bool (needs_name mode)) [
+  | inl needs ↦ (97 ∷ [], subst (HasForm mode) (sym (append_assoc (spell_steps steps) trail (97 ∷ []))) (name_step mode steps trail None e are white tt refl))
+  | inr not_needed ↦ whole_form mode steps trail are white (ap (λ (l : Option Item). may_end mode (before_of l)) e ∙ rw not_needed refl)
+]
+complete_by mode steps trail (Some Caret) e are white = (97 ∷ [], subst (HasForm mode) (sym (append_assoc (spell_steps steps) trail (97 ∷ []))) (name_step mode steps trail (Some Caret) e are white (caret_over trail white) refl))
+complete_by mode steps trail (Some (Name w)) e are white = whole_form mode steps trail are white (ap (λ (l : Option Item). may_end mode (before_of l)) e)
+complete_by mode steps trail (Some (Versions items)) e are white = whole_form mode steps trail are white (ap (λ (l : Option Item). may_end mode (before_of l)) e)
+complete_by mode steps trail (Some (Variant mark w)) e are white = whole_form mode steps trail are white (ap (λ (l : Option Item). may_end mode (before_of l)) e)
+complete_by mode steps trail (Some (Compiler w items)) e are white = whole_form mode steps trail are white (ap (λ (l : Option Item). may_end mode (before_of l)) e)
+complete_by mode steps trail (Some (Key w values)) e are white = whole_form mode steps trail are white (ap (λ (l : Option Item). may_end mode (before_of l)) e)
+
+complete : (mode : Mode) (text : List ℕ) (steps : List Step) (trail : List ℕ) → IsCut mode text steps trail → Begins (HasForm mode) text
+complete mode text steps trail cut = subst (Begins (HasForm mode)) (sym cut.spelled) (complete_by mode steps trail (last_of None steps) refl cut.right cut.white)
+
+-- ---- the same byte
+
+over_byte : (last : Option Item) (trail : List ℕ) (b : ℕ) (r s : List ℕ) → IsOverLast last (trail ++ b ∷ r) → IsOverLast last (trail ++ b ∷ s)
+over_byte None trail b r s over = tt
+over_byte (Some item) [] b r s over = λ c more e. over c r (ap (λ (x : ℕ). x ∷ r) (two_cons _ _ _ _ e).0)
+over_byte (Some item) (t ∷ trail) b r s over = λ c more e. over c (trail ++ b ∷ r) (ap (λ (x : ℕ). x ∷ (trail ++ b ∷ r)) (two_cons _ _ _ _ e).0)
+
+over_last_byte : (last : Option Item) (trail : List ℕ) (b : ℕ) (a c r s : List ℕ) → a ≡ b ∷ r → c ≡ b ∷ s → IsOverLast last (trail ++ a) → IsOverLast last (trail ++ c)
+over_last_byte last trail b a c r s e f over = rw f (over_byte last trail b r s (rw e at over))
+
+dark_byte : (b : ℕ) (a c r s : List ℕ) → a ≡ b ∷ r → c ≡ b ∷ s → IsDark a → IsDark c
+dark_byte b a c r s e f dark = rw f (rw e at dark)
+
+dark_cons : (rest : List ℕ) → IsDark rest → (b : ℕ) × (r : List ℕ) × (rest ≡ b ∷ r)
+dark_cons [] h = absurd h
+dark_cons (b ∷ r) h = (b, r, refl)
+
+item_begins : (mode : Mode) (text : List ℕ) (p : ℕ) (read : Read) (k : ℕ) → IsItemAt mode text p read → p ≤ length text → IsViable mode (place_of read) (has_gap read) (drop p text) (suc k) → Begins (HasForm mode) (take (p + suc k) text)
+item_begins mode text p read k at le v =
+    let d = dark_cons (drop p text) at.dark in
+    let spelled : spell v.item ≡ d.0 ∷ (take k d.1 ++ v.tail) = sym v.cut ∙ ap (λ (l : List ℕ). take (suc k) l ++ v.tail) d.2 in
+    let step : Step = record { gap = read.trail; item = v.item } in
+    let right : IsRightStep mode (last_item read) step = record { white = at.before.cut.white; form = v.form; stands = v.stands; over = over_last_byte (last_item read) read.trail d.0 (drop p text) (spell v.item) d.1 (take k d.1 ++ v.tail) d.2 spelled at.over } in
+    let steps = read.steps ++ step ∷ [] in
+    let cut : IsCut mode (spell_steps steps) steps [] = record { right = right_push mode None read.steps step at.before.cut.right right; white = refl; spelled = sym (append-nil (spell_steps steps)) } in
+    let done = complete mode (spell_steps steps) steps [] cut in
+    let text_is : take (p + suc k) text ++ v.tail ≡ spell_steps steps =
+    ap (λ (l : List ℕ). l ++ v.tail) (take-add p (suc k) text) ∙ append_assoc (take p text) (take (suc k) (drop p text)) v.tail
+    ∙ ap (λ (l : List ℕ). take p text ++ l) v.cut ∙ ap (λ (l : List ℕ). l ++ spell v.item) at.before.cut.spelled ∙ append_assoc (spell_steps read.steps) read.trail (spell v.item) ∙ sym (spell_push read.steps step) in
+    (v.tail ++ done.0, subst (HasForm mode) (ap (λ (l : List ℕ). l ++ done.0) (sym text_is) ∙ append_assoc (take (p + suc k) text) v.tail done.0) done.1)
+
+front_begins : (mode : Mode) (text : List ℕ) (p : ℕ) (read : Read) (q : ℕ) → IsItemAt mode text p read → p ≤ length text → (q ≡ 0) ⊎ IsViable mode (place_of read) (has_gap read) (drop p text) q → Begins (HasForm mode) (take (p + q) text)
+front_begins mode text p read zero at le v = let none : p + 0 ≡ p = omega arith in rw none (complete mode (take p text) read.steps read.trail at.before.cut)
+front_begins mode text p read (suc k) at le (inl no_more) = absurd (omega (arith, no_more))
+front_begins mode text p read (suc k) at le (inr v) = item_begins mode text p read k at le v
+
+-- a longer front is none of a right text
+not_further : (mode : Mode) (text : List ℕ) (p : ℕ) (read : Read) (q k : ℕ) (more : List ℕ) → IsItemAt mode text p read → p ≤ length text → IsStuckHere mode (place_of read) (has_gap read) (drop p text) q → p + q < k → k ≤ length text → HasForm mode (take k text ++ more) → ⊥
+not_further mode text p read q k more at le stuck gt within right =
+    let rest : List ℕ = drop p text in
+    let d = dark_cons rest at.dark in
+    let bytes : k ≡ p + (q + 1 + (k - (p + q + 1))) = omega arith in
+    let j : ℕ = k - (p + q + 1) in
+    let tail : List ℕ = take j (drop (q + 1) rest) ++ more in
+    let here : List ℕ = varied rest q tail in
+    let cut : take k text ++ more ≡ take p text ++ here =
+    ap (λ (i : ℕ). take i text ++ more) bytes
+    ∙ ap (λ (l : List ℕ). l ++ more) (take-add p (q + 1 + j) text ∙ ap (λ (l : List ℕ). take p text ++ l) (take-add (q + 1) j rest))
+    ∙ append_assoc (take p text) (take (q + 1) rest ++ take j (drop (q + 1) rest)) more
+    ∙ ap (λ (l : List ℕ). take p text ++ l) (append_assoc (take (q + 1) rest) (take j (drop (q + 1) rest)) more) in
+    let one : q + 1 ≡ suc q = omega arith in
+    let first : here ≡ d.0 ∷ (take q d.1 ++ tail) = ap (λ (i : ℕ). take i rest ++ tail) one ∙ ap (λ (l : List ℕ). take (suc q) l ++ tail) d.2 in
+    let cuts : Cuts mode None (take k text ++ more) read.steps read.trail here = record {
+      right = at.before.cut.right;
+      white = at.before.cut.white;
+      spelled = cut ∙ ap (λ (l : List ℕ). l ++ here) at.before.cut.spelled ∙ append_assoc (spell_steps read.steps) read.trail here;
+      over = over_last_byte (last_item read) read.trail d.0 rest here d.1 (take q d.1 ++ tail) d.2 first at.over;
+      dark = dark_stop here (dark_byte d.0 rest here d.1 (take q d.1 ++ tail) d.2 first at.dark);
+    } in
+    no_form mode (take k text ++ more) read here cuts (dark_byte d.0 rest here d.1 (take q d.1 ++ tail) d.2 first at.dark)
+    (λ item behind. stuck.none tail (λ short. absurd (omega (arith, length-drop p text, short))) item behind) right
+
+pub bad_at : (mode : Mode) (text : List ℕ) (p : ℕ) (read : Read) (q : ℕ) → IsItemAt mode text p read → p ≤ length text → IsStuckHere mode (place_of read) (has_gap read) (drop p text) q → IsBadAt (HasForm mode) text (p + q)
+bad_at mode text p read q at le stuck =
+    let own = varied_own (drop p text) q in
+    record {
+      wrong = no_form mode text read (drop p text) (item_cuts mode text p read at) at.dark (λ item behind first. stuck.none own.0 own.1 item behind (subst (λ (l : List ℕ). IsFirst l item behind) (sym own.2) first));
+      front = record {
+        within = omega (arith, stuck.within, length-drop p text);
+        begins = front_begins mode text p read q at le stuck.viable;
+        longest = λ k within b. elim (cases_lt (p + q) k) [
+          | inl gt ↦ absurd (not_further mode text p read q k b.0 at le stuck gt within b.1)
+          | inr less ↦ less
+        ];
+      };
+    }
+
+-- ---- a text that ends early
+
+draft_is : (a b : Draft) → Some a ≡ Some b → a ≡ b
+draft_is a b e = cc
+
+no_draft : {A : Type 0} (d : Draft) → None ≡ Some d → A
+no_draft d e = absurd cc
+
+named_ends : (w : List ℕ) (draft : Draft) (part : Option Part) → is_some (begin_part w draft part).part ≡ true
+named_ends w draft None = refl
+named_ends w draft (Some part) = elim (cases_Bool (is_some part.name)) [ inl h ↦ rw h refl | inr h ↦ rw h refl ]
+
+added_ends : (draft next : Draft) (part : Option Part) → option_map (λ p. record draft { part = Some p }) part ≡ Some next → is_some next.part ≡ true
+added_ends draft next None e = no_draft next e
+added_ends draft next (Some part) e = ap (λ (d : Draft). is_some d.part) (sym (draft_is _ next e))
+
+constrained_ends : (item : Item) (draft next : Draft) (part : Option Part) → constrain item draft part ≡ Some next → is_some next.part ≡ true
+constrained_ends item draft next None e = no_draft next e
+constrained_ends item draft next (Some part) e = added_ends draft next (add item part) e
+
+nested_none : (draft : Draft) (top : Option Part) (part : Part) → is_some (nest_in draft top part).part ≡ false
+nested_none draft None part = refl
+nested_none draft (Some top) part = refl
+
+nested_ends : (draft next : Draft) (part : Option Part) → option_map (nest draft) part ≡ Some next → is_some next.part ≡ false
+nested_ends draft next None e = no_draft next e
+nested_ends draft next (Some part) e = ap (λ (d : Draft). is_some d.part) (sym (draft_is _ next e)) ∙ nested_none draft draft.top part
+
+part_after : (mode : Mode) (item : Item) (draft next : Draft) → take_item item draft ≡ Some next → is_some next.part ≡ may_end mode (before_item item)
+part_after mode (Name w) draft next e = ap (λ (d : Draft). is_some d.part) (sym (draft_is _ next e)) ∙ named_ends w draft draft.part
+part_after mode (Versions items) draft next e = constrained_ends (Versions items) draft next draft.part e
+part_after mode (Variant mark w) draft next e = constrained_ends (Variant mark w) draft next draft.part e
+part_after mode (Compiler w items) draft next e = constrained_ends (Compiler w items) draft next draft.part e
+part_after mode (Key w values) draft next e = constrained_ends (Key w values) draft next draft.part e
+part_after mode Caret draft next e = nested_ends draft next draft.part e
+
+part_ends : (mode : Mode) (steps : List Step) (last : Option Item) (draft end : Draft) → is_some draft.part ≡ may_end mode (before_of last) → take_steps draft steps ≡ Some end → is_some end.part ≡ may_end mode (before_of (last_of last steps))
+unfolding take_steps
+part_ends mode [] last draft end h e = ap (λ (d : Draft). is_some d.part) (sym (draft_is draft end e)) ∙ h
+part_ends mode (s ∷ steps) last draft end h e =
+    elim (take_item s.item draft) as (λ o. take_item s.item draft ≡ o → option_and_then (λ next. take_steps next steps) o ≡ Some end → is_some end.part ≡ may_end mode (before_of (last_of (Some s.item) steps))) [
+      | None ↦ λ none no_more. no_draft end no_more
+      | Some next ↦ λ some more. part_ends mode steps (Some s.item) next end (part_after mode s.item draft next some) more
+    ] refl e
+
+first_ends : (mode : Mode) → is_some (first_part (needs_name mode)) ≡ may_end mode before.Start
+first_ends mode_is.Specs = refl
+first_ends mode_is.Condition = refl
+first_ends mode_is.Dependency = refl
+first_ends mode_is.Provision = refl
+
+pub bad_end : (mode : Mode) (text : List ℕ) (read : Read) → IsRead mode text read → read.draft.part ≡ None → IsBadAt (HasForm mode) text (length text)
+bad_end mode text read is none =
+    let open_ : may_end mode (before_of (last_of None read.steps)) ≡ false = sym (part_ends mode read.steps None (begin mode) read.draft (first_ends mode) is.value) ∙ ap is_some none in
+    record {
+      wrong = λ (steps, trail, cut, end). elim (compare mode None text read.steps read.trail [] steps trail [] (form_cuts mode text read.steps read.trail is.cut) (form_cuts mode text steps trail cut)) [
+        | inl same ↦ true_false (may_end mode (before_of (last_of None steps))) end (rw same.0 at open_)
+        | inr (inl g) ↦ no_rest g
+        | inr (inr g) ↦ no_rest g
+      ];
+      front = record {
+        within = omega arith;
+        begins = rw (take_all (length text) text (omega arith)) (complete mode text read.steps read.trail is.cut);
+        longest = λ k within b. within;
+      };
+    }

@@ -1,0 +1,135 @@
+-- A text is cut into items in one way.
+use Rattle.std.proofs.Common.{◌≡◌, ℕ, true, false, List, [], ◌∷◌, ◌++◌, Option, Some, refl, sym, ap, subst, ◌∙◌, arith, inl, inr, append_assoc}
+use Rattle.std.specs.Prelude.{◌⊎◌}
+use Rattle.std.specs.List.{list_all}
+use Rattle.std.proofs.lemmas.Bool.{and_parts}
+use Rattle.std.proofs.lemmas.Bool.Decides.{nat_tests}
+use Rattle.std.proofs.lemmas.List.{append-nil}
+use Rattle.version_order.specs.Signs.{is_start}
+use Rattle.spec_grammar.specs.Signs.{is_white, AreWhite, is_name_byte, IsName}
+use Rattle.spec_grammar.specs.Items.{spell, spell_values, HasShape, IsOver}
+use Rattle.spec_grammar.specs.Right.{Step, spell_step, spell_steps, last_of, IsOverLast, IsRightStep, AreRight}
+use Rattle.spec_grammar.specs.Reading.{IsFirst}
+use Rattle.spec_grammar.specs.declared.item.Mark.TheVariants.{Plus, Tilde, Minus}
+use Rattle.spec_grammar.specs.declared.item.Item.{Item}
+use Rattle.spec_grammar.specs.declared.item.Item.TheVariants.{Name, Versions, Variant, Compiler, Key, Caret}
+use Rattle.spec_grammar.specs.declared.mode.Mode.{Mode}
+use Rattle.spec_grammar.proofs.RunLaws.{Stop, stop_cons, run_cut, two_cons, cons_none}
+use Rattle.spec_grammar.proofs.UniqueLaws.{one_first}
+
+-- items, white space behind them, and a rest that begins with none
+pub record Cuts (mode : Mode) (last : Option Item) (text : List ℕ) (steps : List Step) (trail rest : List ℕ) : Type 0 where
+  pub right : AreRight mode last steps
+  pub white : AreWhite trail
+  pub spelled : text ≡ spell_steps steps ++ (trail ++ rest)
+  pub over : IsOverLast (last_of last steps) (trail ++ rest)
+  pub dark : Stop is_white rest
+
+start_dark : (b : ℕ) → is_start b ≡ true → is_white b ≡ false
+start_dark b h = grind (arith, nat_tests)
+
+name_dark : (w rest : List ℕ) → IsName w → Stop is_white (w ++ rest)
+name_dark [] rest h = absurd cc
+name_dark (b ∷ w) rest h = stop_cons is_white b (w ++ rest) (start_dark b (and_parts (is_start b) (list_all is_name_byte w) h).0)
+
+item_dark : (item : Item) (rest : List ℕ) → HasShape item → Stop is_white (spell item ++ rest)
+item_dark (Name w) rest h = name_dark w rest h
+item_dark (Versions items) rest h = stop_cons is_white 64 _ refl
+item_dark (Variant Plus w) rest h = stop_cons is_white 43 _ refl
+item_dark (Variant Tilde w) rest h = stop_cons is_white 126 _ refl
+item_dark (Variant Minus w) rest h = stop_cons is_white 45 _ refl
+item_dark (Compiler w items) rest h = stop_cons is_white 37 _ refl
+item_dark (Key w values) rest h = rw (append_assoc w (61 ∷ spell_values values) rest) (name_dark w (61 ∷ (spell_values values ++ rest)) h.0)
+item_dark Caret rest h = stop_cons is_white 94 _ refl
+
+some_name : {A : Type 0} (w rest : List ℕ) → IsName w → w ++ rest ≡ [] → A
+some_name [] rest h e = absurd cc
+some_name (b ∷ w) rest h e = cons_none b (w ++ rest) e
+
+pub some_item : {A : Type 0} (item : Item) (rest : List ℕ) → HasShape item → spell item ++ rest ≡ [] → A
+some_item (Name w) rest h e = some_name w rest h e
+some_item (Versions items) rest h e = cons_none 64 _ e
+some_item (Variant Plus w) rest h e = cons_none 43 _ e
+some_item (Variant Tilde w) rest h e = cons_none 126 _ e
+some_item (Variant Minus w) rest h e = cons_none 45 _ e
+some_item (Compiler w items) rest h e = cons_none 37 _ e
+some_item (Key w values) rest h e = some_name w (61 ∷ (spell_values values ++ rest)) h.0 (sym (append_assoc w (61 ∷ spell_values values) rest) ∙ e)
+some_item Caret rest h e = cons_none 94 _ e
+
+-- an item that is over before the front of a text is over before it
+over_more : (item : Item) (a rest : List ℕ) → IsOver item a → (a ≡ [] → ⊥) → IsOver item (a ++ rest)
+over_more item [] rest over some = absurd (some refl)
+over_more item (b ∷ a) rest over some = λ c more e. over c a (ap (λ (x : ℕ). x ∷ a) (two_cons _ _ _ _ e).0)
+
+gap_some : (gap text : List ℕ) → (text ++ [] ≡ [] → ⊥) → gap ++ text ≡ [] → ⊥
+gap_some [] text some e = some (append-nil text ∙ e)
+gap_some (b ∷ gap) text some e = cons_none b (gap ++ text) e
+
+step_some : (s : Step) → HasShape s.item → spell_step s ≡ [] → ⊥
+step_some s h e = gap_some s.gap (spell s.item) (some_item s.item [] h) e
+
+-- the first item of these
+first_over : (mode : Mode) (item : Item) (more : List Step) (trail rest : List ℕ) → AreRight mode (Some item) more → IsOverLast (last_of (Some item) more) (trail ++ rest) → IsOver item (spell_steps more ++ (trail ++ rest))
+first_over mode item [] trail rest are over = over
+first_over mode item (t ∷ more) trail rest are over =
+    subst (IsOver item) (sym (append_assoc (spell_step t) (spell_steps more) (trail ++ rest))) (over_more item (spell_step t) (spell_steps more ++ (trail ++ rest)) are.0.over (step_some t are.0.form.0))
+
+step_first : (mode : Mode) (last : Option Item) (text : List ℕ) (s : Step) (more : List Step) (trail rest : List ℕ) → Cuts mode last text (s ∷ more) trail rest
+    → (text ≡ s.gap ++ (spell s.item ++ (spell_steps more ++ (trail ++ rest)))) × IsFirst (spell s.item ++ (spell_steps more ++ (trail ++ rest))) s.item (spell_steps more ++ (trail ++ rest))
+step_first mode last text s more trail rest c = (
+  c.spelled ∙ append_assoc (spell_step s) (spell_steps more) (trail ++ rest) ∙ append_assoc s.gap (spell s.item) (spell_steps more ++ (trail ++ rest)),
+  record { cut = refl; form = c.right.0.form; over = first_over mode s.item more trail rest c.right.1 c.over },
+)
+
+-- the second goes on with this step behind the rest of the first
+pub record GoesOnWith (mode : Mode) (last : Option Item) (steps : List Step) (trail rest : List ℕ) (others : List Step) : Type 0 where
+  pub step : Step
+  pub more : List Step
+  pub tail : List ℕ
+  pub joined : others ≡ steps ++ step ∷ more
+  pub gap : step.gap ≡ trail
+  pub first : IsFirst rest step.item tail
+  pub right : IsRightStep mode (last_of last steps) step
+
+abbrev pub AreSame : List Step → List ℕ → List ℕ → List Step → List ℕ → List ℕ → Type 0
+AreSame a ta ra b tb rb = (a ≡ b) × (ta ≡ tb) × (ra ≡ rb)
+
+none_first : (mode : Mode) (last : Option Item) (text : List ℕ) (ta ra : List ℕ) (s : Step) (more : List Step) (tb rb : List ℕ) → Cuts mode last text [] ta ra → Cuts mode last text (s ∷ more) tb rb → GoesOnWith mode last [] ta ra (s ∷ more)
+none_first mode last text ta ra s more tb rb a b =
+    let f = step_first mode last text s more tb rb b in
+    let tail : List ℕ = spell_steps more ++ (tb ++ rb) in
+    let cut = run_cut is_white ta s.gap ra (spell s.item ++ tail) a.white b.right.0.white a.dark (item_dark s.item tail b.right.0.form.0) (sym a.spelled ∙ f.0) in
+    record { step = s; more = more; tail = tail; joined = refl; gap = sym cut.0; first = subst (λ (l : List ℕ). IsFirst l s.item tail) (sym cut.1) f.1; right = b.right.0 }
+
+next_same : (s t : Step) → s.gap ≡ t.gap → s.item ≡ t.item → s ≡ t
+next_same s t g i = ap (λ (l : List ℕ). record { gap = l; item = s.item }) g ∙ ap (λ (x : Item). record { gap = t.gap; item = x }) i
+
+compare_more : (mode : Mode) (last : Option Item) (s : Step) (a : List Step) (ta ra : List ℕ) (b : List Step) (tb rb : List ℕ)
+    → AreSame a ta ra b tb rb ⊎ (GoesOnWith mode (Some s.item) a ta ra b ⊎ GoesOnWith mode (Some s.item) b tb rb a)
+    → AreSame (s ∷ a) ta ra (s ∷ b) tb rb ⊎ (GoesOnWith mode last (s ∷ a) ta ra (s ∷ b) ⊎ GoesOnWith mode last (s ∷ b) tb rb (s ∷ a))
+compare_more mode last s a ta ra b tb rb (inl same) = inl (ap (λ (l : List Step). s ∷ l) same.0, same.1, same.2)
+compare_more mode last s a ta ra b tb rb (inr (inl g)) = inr (inl (record { step = g.step; more = g.more; tail = g.tail; joined = ap (λ (l : List Step). s ∷ l) g.joined; gap = g.gap; first = g.first; right = g.right }))
+compare_more mode last s a ta ra b tb rb (inr (inr g)) = inr (inr (record { step = g.step; more = g.more; tail = g.tail; joined = ap (λ (l : List Step). s ∷ l) g.joined; gap = g.gap; first = g.first; right = g.right }))
+
+tail_cuts : (mode : Mode) (last : Option Item) (text : List ℕ) (s : Step) (more : List Step) (trail rest : List ℕ) → Cuts mode last text (s ∷ more) trail rest → Cuts mode (Some s.item) (spell_steps more ++ (trail ++ rest)) more trail rest
+tail_cuts mode last text s more trail rest c = record { right = c.right.1; white = c.white; spelled = refl; over = c.over; dark = c.dark }
+
+pub compare : (mode : Mode) (last : Option Item) (text : List ℕ) (a : List Step) (ta ra : List ℕ) (b : List Step) (tb rb : List ℕ) → Cuts mode last text a ta ra → Cuts mode last text b tb rb
+    → AreSame a ta ra b tb rb ⊎ (GoesOnWith mode last a ta ra b ⊎ GoesOnWith mode last b tb rb a)
+compare mode last text [] ta ra [] tb rb x y =
+    let cut = run_cut is_white ta tb ra rb x.white y.white x.dark y.dark (sym x.spelled ∙ y.spelled) in
+    inl (refl, cut.0, cut.1)
+compare mode last text [] ta ra (t ∷ b) tb rb x y = inr (inl (none_first mode last text ta ra t b tb rb x y))
+compare mode last text (s ∷ a) ta ra [] tb rb x y = inr (inr (none_first mode last text tb rb s a ta ra y x))
+compare mode last text (s ∷ a) ta ra (t ∷ b) tb rb x y =
+    let f = step_first mode last text s a ta ra x in
+    let g = step_first mode last text t b tb rb y in
+    let taila : List ℕ = spell_steps a ++ (ta ++ ra) in
+    let tailb : List ℕ = spell_steps b ++ (tb ++ rb) in
+    let cut = run_cut is_white s.gap t.gap (spell s.item ++ taila) (spell t.item ++ tailb) x.right.0.white y.right.0.white (item_dark s.item taila x.right.0.form.0) (item_dark t.item tailb y.right.0.form.0) (sym f.0 ∙ g.0) in
+    let one = one_first (spell s.item ++ taila) s.item t.item taila tailb f.1 (subst (λ (l : List ℕ). IsFirst l t.item tailb) (sym cut.1) g.1) in
+    let same : s ≡ t = next_same s t cut.0 one.0 in
+    let moved = subst (λ (z : Step). Cuts mode last text (z ∷ b) tb rb) (sym same) y in
+    let tails = subst (λ (l : List ℕ). Cuts mode (Some s.item) l b tb rb) (sym one.1) (tail_cuts mode last text s b tb rb moved) in
+    subst (λ (z : Step). AreSame (s ∷ a) ta ra (z ∷ b) tb rb ⊎ (GoesOnWith mode last (s ∷ a) ta ra (z ∷ b) ⊎ GoesOnWith mode last (z ∷ b) tb rb (s ∷ a))) same
+    (compare_more mode last s a ta ra b tb rb (compare mode (Some s.item) taila a ta ra b tb rb (tail_cuts mode last text s a ta ra x) tails))

@@ -1,0 +1,11 @@
+pub mod Signs
+pub mod Keys
+pub mod Items
+pub mod Right
+pub mod Meaning
+pub mod Values
+pub mod Forms
+pub mod Reading
+pub mod Faults
+pub mod Canonical
+pub mod Locals

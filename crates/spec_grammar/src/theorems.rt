@@ -1,0 +1,16 @@
+//! What holds of all texts. The bodies are empty: what is proved are the contracts.
+
+ghost use Rattle.std.specs.Prelude.{◌≡◌, ◌≢◌, ℕ, List};
+ghost use Rattle.spec_grammar.specs.Reading.{Spells};
+ghost use Rattle.spec_grammar.specs.Faults.{IsFault};
+ghost use Rattle.spec_grammar.specs.declared.mode.Mode.{Mode};
+ghost use Rattle.spec_grammar.specs.declared.part.Spec.{Spec};
+ghost use Rattle.spec_grammar.specs.declared.fault.SpecFault.{SpecFault};
+
+/// A text spells one list of specs at most, and a text that spells specs is refused for want of memory
+/// alone. Another text has one fault, besides.
+pub fn reading_laws()
+    ensures one_reading { (mode : Mode) (text : List ℕ) (a b : List Spec) → Spells mode text a → Spells mode text b → a ≡ b }
+    ensures one_fault { (mode : Mode) (text : List ℕ) (a b : SpecFault) → IsFault mode text a → IsFault mode text b → a ≢ SpecFault.OutOfMemory → b ≢ SpecFault.OutOfMemory → a ≡ b }
+    ensures right { (mode : Mode) (text : List ℕ) (specs : List Spec) (fault : SpecFault) → Spells mode text specs → IsFault mode text fault → fault ≡ SpecFault.OutOfMemory }
+{}
