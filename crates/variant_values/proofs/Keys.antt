@@ -24,7 +24,7 @@ module _ {K : Type 0} where
   pub Contains-cons : (x : K) (xs : List K) (q : K) → Contains (x ∷ xs) q ↔ ((q ≡ x) ⊎ Contains xs q)
   Contains-cons x xs q = (λ h. first_or_later x xs q h.0 h.1 h.2, λ h. ⊎_elim (λ e. (0, omega arith, sym e)) (λ r. (suc r.0, omega arith, r.2)) h)
 
-  lacks_all : (q : K) → Contains [] q → ⊥
+  pub lacks_all : (q : K) → Contains [] q → ⊥
   lacks_all q h = omega (arith, h.1)
 
 module _ {K : Type 0} {R : K → K → Ordering} (o : IsTotalOrder R) where

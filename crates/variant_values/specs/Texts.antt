@@ -1,5 +1,5 @@
 -- Sets of texts, as lists of them in byte order.
-use Rattle.std.specs.Prelude.{◌≡◌, ◌⊎◌, ◌↔◌, ℕ, List, ◌≤◌, length, Contains}
+use Rattle.std.specs.Prelude.{◌≡◌, ◌⊎◌, ◌↔◌, ℕ, List, [], ◌∷◌, ◌≤◌, length, Contains}
 use Rattle.std.specs.List.Sorted.{IsStrictlySortedBy, IsPartitionPoint}
 use Rattle.std.specs.Ordering.{nat_cmp}
 use Rattle.std.specs.declared.cmp.Ordering.{Ordering}
@@ -30,6 +30,11 @@ AddsText old text new = (q : List ℕ) → Contains new q ↔ ((q ≡ text) ⊎ 
 -- the texts, with this one at its place in the order unless it is there
 abbrev pub with_text : Texts → List ℕ → Texts
 with_text = insert_key byte_cmp
+
+-- the texts and these, put to them one after another
+unfoldable pub with_texts : Texts → Texts → Texts
+with_texts texts [] = texts
+with_texts texts (word ∷ words) = with_texts (with_text texts word) words
 
 -- the text would stand at the place: those before are below it, and those from there on above
 pub record IsGapFor (texts : Texts) (text : List ℕ) (place : ℕ) : Type 0 where

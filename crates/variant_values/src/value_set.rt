@@ -1,6 +1,6 @@
 // Sets of texts.
 ghost use Rattle.std.specs.Prelude.{◌≡◌, ◌↔◌, ℕ, List, [], length, All, Contains, IfOk, IfErr, OnOk, OnErr, IsTrue};
-ghost use Rattle.variant_values.specs.Texts.{Texts, AddsText, HaveSameTexts, IsGapFor, IsInByteOrder, with_text};
+ghost use Rattle.variant_values.specs.Texts.{Texts, AddsText, HaveSameTexts, IsGapFor, IsInByteOrder, with_text, with_texts};
 
 use plain_data::{Duplicate, Same, Word};
 use std::alloc::{AllocError, Global};
@@ -39,6 +39,21 @@ impl ValueSet {
         ValueSet {
             items: Vec::new(alloc),
         }
+    }
+
+    /// The set of some texts, in whatever order and however often they stand there.
+    ///
+    /// Takes n log n comparisons for n texts, and no memory.
+    pub fn from_words(mut words: Vec<Word>) -> ValueSet
+        ensures texts { HaveSameTexts result words.items }
+        ensures ordered { IsInByteOrder result }
+
+        // The same as one list, for callers that say what a record is after many insertions.
+        ensures set { result ≡ with_texts [] words.items }
+    {
+        words.sort_unstable();
+        words.dedup();
+        ValueSet { items: words }
     }
 
     /// Adds a text; `true` exactly where it is new.
