@@ -1,30 +1,14 @@
 -- How far a text goes that is not of the right form.
-use Rattle.std.proofs.Common.{◌≡◌, ℕ, zero, suc, ◌<◌, ◌≤◌, ◌+◌, ◌-◌, true, false, List, [], ◌∷◌, ◌++◌, length, take, drop, Option, Some, None, refl, sym, ap, subst, ◌∙◌, arith, inl, inr, append_assoc}
-use Rattle.std.specs.Prelude.{◌⊎◌, ◌==◌, option_map, option_and_then, is_some}
-use Rattle.std.specs.List.{list_all}
-use Rattle.std.proofs.lemmas.Bool.{cases_Bool, cases_lt, and_parts}
-use Rattle.std.proofs.lemmas.Bool.Decides.{nat_tests}
-use Rattle.std.proofs.lemmas.List.{append-nil, take-append-drop, take_all, length-drop}
-use Rattle.std.proofs.Math.Seq.{take-add}
-use Rattle.version_order.specs.Fronts.{Begins, IsBadAt}
-use Rattle.spec_grammar.specs.Signs.{is_white, AreWhite}
-use Rattle.spec_grammar.specs.Items.{spell, IsOver, kind_of}
-use Rattle.spec_grammar.specs.Right.{Step, spell_step, spell_steps, before_of, before_item, last_of, IsOverLast, is_some_gap, IsRightStep, AreRight, IsCut, HasForm, needs_name, may_stand, may_end}
-use Rattle.spec_grammar.specs.Meaning.{take_item, constrain, nest, nest_in, begin_part, add}
-use Rattle.spec_grammar.specs.Reading.{Read, last_item, place_of, has_gap, IsRead, IsFirst, IsDark, IsItemAt, take_steps, begin, first_part}
-use Rattle.spec_grammar.specs.Locals.{IsStuckHere, IsViable, varied}
-use Rattle.spec_grammar.specs.declared.item.Item.{Item}
-use Rattle.spec_grammar.specs.declared.item.Item.TheVariants.{Name, Versions, Variant, Compiler, Key, Caret}
-use Rattle.spec_grammar.specs.declared.mode.Mode.{Mode}
+use Rattle.std.proofs.Common.{◌≡◌, ℕ, zero, suc, ◌<◌, ◌≤◌, ◌+◌, ◌-◌, true, false, List, [], ◌∷◌, ◌++◌, length, take, drop, Option, Some, None, refl, sym, ap, subst, ◌∙◌, arith, inl, inr, append_assoc, ◌⊎◌, ◌==◌, is_some, append-nil, take-append-drop, take_all, length-drop, take-add}
 use Rattle.spec_grammar.specs.declared.mode.Mode.TheVariants as mode_is
 use Rattle.spec_grammar.specs.declared.mode.Before.TheVariants as before
-use Rattle.spec_grammar.specs.declared.part.Part.{Part}
-use Rattle.spec_grammar.specs.declared.draft.Draft.{Draft}
+use Rattle.spec_grammar.proofs.Common.{list_all, cases_Bool, cases_lt, and_parts, nat_tests, Begins, IsBadAt, is_white, AreWhite, spell, IsOver, kind_of, Step, spell_step, spell_steps, before_of, before_item, last_of, IsOverLast, is_some_gap, IsRightStep, AreRight, IsCut, HasForm, needs_name, may_stand, may_end, begin_part, Read, last_item, place_of, has_gap, IsRead, IsFirst, IsDark, IsItemAt, begin, first_part, IsStuckHere, IsViable, varied}
+use Rattle.spec_grammar.proofs.Common.{Item, Name, Caret, Mode, Part, Draft}
 use Rattle.spec_grammar.proofs.RunLaws.{Stop, stop_cons, stop_none, cons_none, true_false, two_cons}
 use Rattle.spec_grammar.proofs.WhiteLaws.{last_white}
-use Rattle.spec_grammar.proofs.StandLaws.{spell_push, last_push, right_push}
 use Rattle.spec_grammar.proofs.VaryLaws.{varied_own}
 use Rattle.spec_grammar.proofs.SameLaws.{Cuts, GoesOnWith, compare, some_item}
+use Rattle.spec_grammar.proofs.StepLaws.{right_append, last_append, spell_one, steps_keep, Took, nested_part}
 
 dark_stop : (text : List ℕ) → IsDark text → Stop is_white text
 dark_stop [] h = absurd h
@@ -46,7 +30,7 @@ pub rest_dark : {A : Type 0} (text : List ℕ) → IsDark text → text ≡ [] �
 rest_dark [] h e = absurd h
 rest_dark (b ∷ text) h e = cons_none b text e
 
-form_cuts : (mode : Mode) (text : List ℕ) (steps : List Step) (trail : List ℕ) → IsCut mode text steps trail → Cuts mode None text steps trail []
+pub form_cuts : (mode : Mode) (text : List ℕ) (steps : List Step) (trail : List ℕ) → IsCut mode text steps trail → Cuts mode None text steps trail []
 form_cuts mode text steps trail cut = record {
   right = cut.right;
   white = cut.white;
@@ -82,8 +66,8 @@ with_step : (mode : Mode) (steps : List Step) (s : Step) → AreRight mode None 
 with_step mode steps s are is end = (
   steps ++ s ∷ [],
   [],
-  record { right = right_push mode None steps s are is; white = refl; spelled = sym (append-nil _ ∙ spell_push steps s) },
-  ap (λ (l : Option Item). may_end mode (before_of l)) (last_push None steps s) ∙ end,
+  record { right = right_append mode None steps (s ∷ []) are (is, tt); white = refl; spelled = sym (append-nil _ ∙ spell_one steps s) },
+  ap (λ (l : Option Item). may_end mode (before_of l)) (last_append None steps (s ∷ [])) ∙ end,
 )
 
 name_step : (mode : Mode) (steps : List Step) (trail : List ℕ) (last : Option Item) → last_of None steps ≡ last → AreRight mode None steps → AreWhite trail → IsOverLast last (trail ++ 97 ∷ []) → may_stand mode (before_of last) (is_some_gap trail) (kind_of (Name (97 ∷ []))) ≡ true
@@ -97,11 +81,7 @@ complete_by mode steps trail None e are white = elim (cases_Bool (needs_name mod
   | inr not_needed ↦ whole_form mode steps trail are white (ap (λ (l : Option Item). may_end mode (before_of l)) e ∙ rw not_needed refl)
 ]
 complete_by mode steps trail (Some Caret) e are white = (97 ∷ [], subst (HasForm mode) (sym (append_assoc (spell_steps steps) trail (97 ∷ []))) (name_step mode steps trail (Some Caret) e are white (caret_over trail white) refl))
-complete_by mode steps trail (Some (Name w)) e are white = whole_form mode steps trail are white (ap (λ (l : Option Item). may_end mode (before_of l)) e)
-complete_by mode steps trail (Some (Versions items)) e are white = whole_form mode steps trail are white (ap (λ (l : Option Item). may_end mode (before_of l)) e)
-complete_by mode steps trail (Some (Variant mark w)) e are white = whole_form mode steps trail are white (ap (λ (l : Option Item). may_end mode (before_of l)) e)
-complete_by mode steps trail (Some (Compiler w items)) e are white = whole_form mode steps trail are white (ap (λ (l : Option Item). may_end mode (before_of l)) e)
-complete_by mode steps trail (Some (Key w values)) e are white = whole_form mode steps trail are white (ap (λ (l : Option Item). may_end mode (before_of l)) e)
+complete_by mode steps trail (Some item) e are white = whole_form mode steps trail are white (ap (λ (l : Option Item). may_end mode (before_of l)) e)
 
 complete : (mode : Mode) (text : List ℕ) (steps : List Step) (trail : List ℕ) → IsCut mode text steps trail → Begins (HasForm mode) text
 complete mode text steps trail cut = subst (Begins (HasForm mode)) (sym cut.spelled) (complete_by mode steps trail (last_of None steps) refl cut.right cut.white)
@@ -130,11 +110,11 @@ item_begins mode text p read k at le v =
     let step : Step = record { gap = read.trail; item = v.item } in
     let right : IsRightStep mode (last_item read) step = record { white = at.before.cut.white; form = v.form; stands = v.stands; over = over_last_byte (last_item read) read.trail d.0 (drop p text) (spell v.item) d.1 (take k d.1 ++ v.tail) d.2 spelled at.over } in
     let steps = read.steps ++ step ∷ [] in
-    let cut : IsCut mode (spell_steps steps) steps [] = record { right = right_push mode None read.steps step at.before.cut.right right; white = refl; spelled = sym (append-nil (spell_steps steps)) } in
+    let cut : IsCut mode (spell_steps steps) steps [] = record { right = right_append mode None read.steps (step ∷ []) at.before.cut.right (right, tt); white = refl; spelled = sym (append-nil (spell_steps steps)) } in
     let done = complete mode (spell_steps steps) steps [] cut in
     let text_is : take (p + suc k) text ++ v.tail ≡ spell_steps steps =
     ap (λ (l : List ℕ). l ++ v.tail) (take-add p (suc k) text) ∙ append_assoc (take p text) (take (suc k) (drop p text)) v.tail
-    ∙ ap (λ (l : List ℕ). take p text ++ l) v.cut ∙ ap (λ (l : List ℕ). l ++ spell v.item) at.before.cut.spelled ∙ append_assoc (spell_steps read.steps) read.trail (spell v.item) ∙ sym (spell_push read.steps step) in
+    ∙ ap (λ (l : List ℕ). take p text ++ l) v.cut ∙ ap (λ (l : List ℕ). l ++ spell v.item) at.before.cut.spelled ∙ append_assoc (spell_steps read.steps) read.trail (spell v.item) ∙ sym (spell_one read.steps step) in
     (v.tail ++ done.0, subst (HasForm mode) (ap (λ (l : List ℕ). l ++ done.0) (sym text_is) ∙ append_assoc (take (p + suc k) text) v.tail done.0) done.1)
 
 front_begins : (mode : Mode) (text : List ℕ) (p : ℕ) (read : Read) (q : ℕ) → IsItemAt mode text p read → p ≤ length text → (q ≡ 0) ⊎ IsViable mode (place_of read) (has_gap read) (drop p text) q → Begins (HasForm mode) (take (p + q) text)
@@ -185,58 +165,23 @@ bad_at mode text p read q at le stuck =
 
 -- ---- a text that ends early
 
-draft_is : (a b : Draft) → Some a ≡ Some b → a ≡ b
-draft_is a b e = cc
-
-no_draft : {A : Type 0} (d : Draft) → None ≡ Some d → A
-no_draft d e = absurd cc
-
 named_ends : (w : List ℕ) (draft : Draft) (part : Option Part) → is_some (begin_part w draft part).part ≡ true
 named_ends w draft None = refl
 named_ends w draft (Some part) = elim (cases_Bool (is_some part.name)) [ inl h ↦ rw h refl | inr h ↦ rw h refl ]
 
-added_ends : (draft next : Draft) (part : Option Part) → option_map (λ p. record draft { part = Some p }) part ≡ Some next → is_some next.part ≡ true
-added_ends draft next None e = no_draft next e
-added_ends draft next (Some part) e = ap (λ (d : Draft). is_some d.part) (sym (draft_is _ next e))
-
-constrained_ends : (item : Item) (draft next : Draft) (part : Option Part) → constrain item draft part ≡ Some next → is_some next.part ≡ true
-constrained_ends item draft next None e = no_draft next e
-constrained_ends item draft next (Some part) e = added_ends draft next (add item part) e
-
-nested_none : (draft : Draft) (top : Option Part) (part : Part) → is_some (nest_in draft top part).part ≡ false
-nested_none draft None part = refl
-nested_none draft (Some top) part = refl
-
-nested_ends : (draft next : Draft) (part : Option Part) → option_map (nest draft) part ≡ Some next → is_some next.part ≡ false
-nested_ends draft next None e = no_draft next e
-nested_ends draft next (Some part) e = ap (λ (d : Draft). is_some d.part) (sym (draft_is _ next e)) ∙ nested_none draft draft.top part
-
-part_after : (mode : Mode) (item : Item) (draft next : Draft) → take_item item draft ≡ Some next → is_some next.part ≡ may_end mode (before_item item)
-part_after mode (Name w) draft next e = ap (λ (d : Draft). is_some d.part) (sym (draft_is _ next e)) ∙ named_ends w draft draft.part
-part_after mode (Versions items) draft next e = constrained_ends (Versions items) draft next draft.part e
-part_after mode (Variant mark w) draft next e = constrained_ends (Variant mark w) draft next draft.part e
-part_after mode (Compiler w items) draft next e = constrained_ends (Compiler w items) draft next draft.part e
-part_after mode (Key w values) draft next e = constrained_ends (Key w values) draft next draft.part e
-part_after mode Caret draft next e = nested_ends draft next draft.part e
-
-part_ends : (mode : Mode) (steps : List Step) (last : Option Item) (draft end : Draft) → is_some draft.part ≡ may_end mode (before_of last) → take_steps draft steps ≡ Some end → is_some end.part ≡ may_end mode (before_of (last_of last steps))
-unfolding take_steps
-part_ends mode [] last draft end h e = ap (λ (d : Draft). is_some d.part) (sym (draft_is draft end e)) ∙ h
-part_ends mode (s ∷ steps) last draft end h e =
-    elim (take_item s.item draft) as (λ o. take_item s.item draft ≡ o → option_and_then (λ next. take_steps next steps) o ≡ Some end → is_some end.part ≡ may_end mode (before_of (last_of (Some s.item) steps))) [
-      | None ↦ λ none no_more. no_draft end no_more
-      | Some next ↦ λ some more. part_ends mode steps (Some s.item) next end (part_after mode s.item draft next some) more
-    ] refl e
+part_after : (mode : Mode) (item : Item) (draft next : Draft) → Took item draft next → is_some next.part ≡ may_end mode (before_item item)
+part_after mode (Name w) draft next took = ap (λ (d : Draft). is_some d.part) (sym took) ∙ named_ends w draft draft.part
+part_after mode Caret draft next took = ap (λ (d : Draft). is_some d.part) (sym took.2) ∙ ap is_some (nested_part draft draft.top took.0)
+part_after mode item draft next took = ap (λ (d : Draft). is_some d.part) (sym took.4)
 
 first_ends : (mode : Mode) → is_some (first_part (needs_name mode)) ≡ may_end mode before.Start
-first_ends mode_is.Specs = refl
 first_ends mode_is.Condition = refl
-first_ends mode_is.Dependency = refl
-first_ends mode_is.Provision = refl
+first_ends mode = refl
 
 pub bad_end : (mode : Mode) (text : List ℕ) (read : Read) → IsRead mode text read → read.draft.part ≡ None → IsBadAt (HasForm mode) text (length text)
 bad_end mode text read is none =
-    let open_ : may_end mode (before_of (last_of None read.steps)) ≡ false = sym (part_ends mode read.steps None (begin mode) read.draft (first_ends mode) is.value) ∙ ap is_some none in
+    let ends = steps_keep mode (λ place draft. is_some draft.part ≡ may_end mode place) (λ last s a b right ranges h. part_after mode s.item a b) None read.steps (begin mode) read.draft is.cut.right is.ranges (first_ends mode) is.value in
+    let open_ : may_end mode (before_of (last_of None read.steps)) ≡ false = sym ends ∙ ap is_some none in
     record {
       wrong = λ (steps, trail, cut, end). elim (compare mode None text read.steps read.trail [] steps trail [] (form_cuts mode text read.steps read.trail is.cut) (form_cuts mode text steps trail cut)) [
         | inl same ↦ true_false (may_end mode (before_of (last_of None steps))) end (rw same.0 at open_)

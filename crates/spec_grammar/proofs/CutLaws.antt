@@ -1,9 +1,6 @@
 -- Values, cut at their commas.
-use Rattle.std.proofs.Common.{◌≡◌, ℕ, List, [], ◌∷◌, ◌++◌, length, take, drop, refl, sym, ap, ◌∙◌, append_assoc}
-use Rattle.std.specs.List.{AllByRecursion, prefix_len}
-use Rattle.std.proofs.lemmas.List.{take_at, drop_at}
-use Rattle.spec_grammar.specs.Signs.{is_value_byte, IsValue}
-use Rattle.spec_grammar.specs.Items.{spell_more, spell_values}
+use Rattle.std.proofs.Common.{◌≡◌, ℕ, List, [], ◌∷◌, ◌++◌, length, take, drop, refl, sym, ap, ◌∙◌, append_assoc, take_at, drop_at}
+use Rattle.spec_grammar.proofs.Common.{AllByRecursion, prefix_len, is_value_byte, IsValue, spell_more, spell_values}
 use Rattle.spec_grammar.proofs.RunLaws.{Stop, stop_cons, stop_none, run_is, value_run, two_cons, cons_none}
 
 abbrev pub AreValues : List (List ℕ) → Type 0

@@ -1,31 +1,12 @@
 -- An item that is right begins no form that is not read.
-use Rattle.std.proofs.Common.{◌≡◌, ℕ, ◌<◌, Bool, true, false, List, [], ◌∷◌, ◌++◌, length, None, nat_eq, refl, ap, ◌∙◌, arith, append_assoc}
-use Rattle.std.specs.Prelude.{◌==◌, ◌&&◌, ◌||◌}
-use Rattle.std.specs.List.{list_all}
-use Rattle.std.proofs.lemmas.Bool.{and_parts}
-use Rattle.std.proofs.lemmas.Bool.Decides.{nat_tests}
-use Rattle.version_order.specs.Signs.{is_start}
-use Rattle.spec_grammar.specs.Signs.{is_name_byte, IsName, name_length, is_value_byte}
-use Rattle.spec_grammar.specs.Keys.{key_of, Takes}
-use Rattle.spec_grammar.specs.Items.{spell_values, spell_more, AreValues, IsOver, is_name_end, kind_of, mark_byte}
-use Rattle.spec_grammar.specs.Right.{may_constrain, may_have_all, may_nest, may_stand, is_apart}
-use Rattle.spec_grammar.specs.Forms.{is_flags, form_at, form_behind, form_of_sign}
-use Rattle.spec_grammar.specs.Reading.{IsFirst}
-use Rattle.spec_grammar.specs.declared.key.KeyKind.{KeyKind}
+use Rattle.std.proofs.Common.{◌≡◌, ℕ, ◌<◌, Bool, true, false, List, [], ◌∷◌, ◌++◌, None, nat_eq, refl, ap, ◌∙◌, arith, append_assoc, ◌==◌}
 use Rattle.spec_grammar.specs.declared.key.KeyKind.TheVariants as key
-use Rattle.spec_grammar.specs.declared.item.Mark.{Mark}
-use Rattle.spec_grammar.specs.declared.item.Mark.TheVariants.{Plus, Tilde, Minus}
-use Rattle.spec_grammar.specs.declared.item.Item.{Item}
-use Rattle.spec_grammar.specs.declared.item.Item.TheVariants.{Name, Versions, Variant, Compiler, Key, Caret}
-use Rattle.spec_grammar.specs.declared.mode.Mode.{Mode}
-use Rattle.spec_grammar.specs.declared.mode.Before.{Before}
+use Rattle.spec_grammar.proofs.Common.{list_all, and_parts, false_from_ne_true, nat_tests, is_start, is_name_byte, IsName, name_length, is_value_byte, key_of, Takes, spell_values, spell_more, AreValues, IsOver, is_name_end, kind_of, mark_byte, may_constrain, may_have_all, may_nest, may_stand, is_flags, form_at, form_behind, form_of_sign, IsFirst}
+use Rattle.spec_grammar.proofs.Common.{KeyKind, Mark, Plus, Tilde, Minus, Item, Name, Versions, Variant, Compiler, Key, Caret, Mode, Before}
 use Rattle.spec_grammar.proofs.RunLaws.{Stop, stop_cons}
-use Rattle.spec_grammar.proofs.KindLaws.{over_name}
-use Rattle.spec_grammar.proofs.NameLaws.{name_cut}
-
-not_true : (b : Bool) → (b ≡ true → ⊥) → b ≡ false
-not_true true h = absurd (h refl)
-not_true false h = refl
+use Rattle.spec_grammar.proofs.KindLaws.{over_name, or_right}
+use Rattle.spec_grammar.proofs.NameLaws.{name_cut, some_text}
+use Rattle.spec_grammar.proofs.AskLaws.{may_behind}
 
 start_signs : (b : ℕ) → is_start b ≡ true → (nat_eq 43 b ≡ false) × (nat_eq 126 b ≡ false) × (nat_eq 45 b ≡ false)
 start_signs b h = (grind (arith, nat_tests), grind (arith, nat_tests), grind (arith, nat_tests))
@@ -51,21 +32,17 @@ caret_none : (mode : Mode) (named : Bool) (rest : List ℕ) → IsOver Caret res
 unfolding form_at form_of_sign
 caret_none mode named [] over may = rw may refl
 caret_none mode named (b ∷ rest) over may =
-    let other : nat_eq 91 b ≡ false = turned 91 b (not_true (b == 91) (over b rest refl)) in
+    let other : nat_eq 91 b ≡ false = turned 91 b (false_from_ne_true (b == 91) (over b rest refl)) in
     rw (other, may) refl
 
 ends_apart : (b : ℕ) → is_name_end b ≡ false → (nat_eq 61 b ≡ false) × (nat_eq 58 b ≡ false) × (nat_eq 46 b ≡ false)
 ends_apart b h = (grind (arith, nat_tests), grind (arith, nat_tests), grind (arith, nat_tests))
 
-or_right : (a b : Bool) → b ≡ true → (a || b) ≡ true
-or_right true b h = refl
-or_right false b h = h
-
 behind_none : (mode : Mode) (named : Bool) (w rest : List ℕ) → IsOver (Name w) rest → form_behind mode named w rest ≡ None
 unfolding form_behind
 behind_none mode named w [] over = refl
 behind_none mode named w (b ∷ rest) over =
-    let other : is_name_end b ≡ false = not_true (is_name_end b) (λ is. over b rest refl (or_right (is_name_byte b) (is_name_end b) is)) in
+    let other : is_name_end b ≡ false = false_from_ne_true (is_name_end b) (λ is. over b rest refl (or_right (is_name_byte b) (is_name_end b) is)) in
     let e = ends_apart b other in
     rw (e.0, e.1, e.2) refl
 
@@ -73,12 +50,8 @@ value_apart : (b : ℕ) → is_value_byte b ≡ true → (nat_eq 61 b ≡ false)
 value_apart b h = (grind (arith, nat_tests), grind (arith, nat_tests), grind (arith, nat_tests), grind (arith, nat_tests))
 
 no_flags : (k : KeyKind) (values : List (List ℕ)) → Takes k values → is_flags k ≡ false
-no_flags key.Platform values h = refl
-no_flags key.Os values h = refl
-no_flags key.Arch values h = refl
-no_flags key.Target values h = refl
 no_flags key.Flags values h = absurd h
-no_flags key.Variant values h = refl
+no_flags k values h = refl
 
 value_behind : (mode : Mode) (named : Bool) (w : List ℕ) (b : ℕ) (more : List ℕ) → is_value_byte b ≡ true → is_flags (key_of w) ≡ false → may_have_all mode ≡ true → form_behind mode named w (61 ∷ b ∷ more) ≡ None
 unfolding form_behind
@@ -95,10 +68,6 @@ key_behind mode named w ((b ∷ v) ∷ values) rest are takes all =
 zero_not : (n : ℕ) → 0 < n → nat_eq n 0 ≡ false
 zero_not n lt = grind (arith, nat_tests)
 
-some_text : (w : List ℕ) → IsName w → 0 < length w
-some_text [] h = absurd cc
-some_text (b ∷ w) h = omega arith
-
 with_name : (mode : Mode) (named : Bool) (w rest : List ℕ) → IsName w → Stop is_name_byte rest → form_behind mode named w rest ≡ None → form_at mode named (w ++ rest) ≡ None
 unfolding form_at
 with_name mode named w rest h stop none =
@@ -111,18 +80,13 @@ name_start : (mode : Mode) (named : Bool) (mark : Mark) (w rest : List ℕ) → 
 name_start mode named mark [] rest h all = absurd cc
 name_start mode named mark (b ∷ w) rest h all = variant_none mode named mark b (w ++ rest) (and_parts (is_start b) (list_all is_name_byte w) h).0 all
 
-may_variant : (mode : Mode) (place : Before) (gap : Bool) (mark : Mark) (w : List ℕ) → may_stand mode place gap (kind_of (Variant mark w)) ≡ true → may_have_all mode ≡ true
-may_variant mode place gap Plus w h = (and_parts (may_constrain mode place) (may_have_all mode) h).1
-may_variant mode place gap Tilde w h = (and_parts (may_constrain mode place) (may_have_all mode) h).1
-may_variant mode place gap Minus w h = (and_parts (may_constrain mode place) (may_have_all mode) (and_parts (may_constrain mode place && may_have_all mode) (is_apart place gap) h).0).1
-
 pub form_none : (mode : Mode) (place : Before) (gap : Bool) (text : List ℕ) (item : Item) (rest : List ℕ) (named : Bool) → IsFirst text item rest → may_stand mode place gap (kind_of item) ≡ true → form_at mode named text ≡ None
 form_none mode place gap text (Name w) rest named first may = ap (form_at mode named) first.cut ∙ with_name mode named w rest first.form.0 (over_name w rest first.over) (behind_none mode named w rest first.over)
 form_none mode place gap text (Versions items) rest named first may = ap (form_at mode named) first.cut ∙ versions_none mode named _
-form_none mode place gap text (Variant mark w) rest named first may = ap (form_at mode named) first.cut ∙ name_start mode named mark w rest first.form.0 (may_variant mode place gap mark w may)
-form_none mode place gap text (Compiler w items) rest named first may = ap (form_at mode named) first.cut ∙ compiler_none mode named _ (and_parts (may_constrain mode place) (may_have_all mode) may).1
+form_none mode place gap text (Variant mark w) rest named first may = ap (form_at mode named) first.cut ∙ name_start mode named mark w rest first.form.0 (may_behind mode place gap (Variant mark w) tt may)
+form_none mode place gap text (Compiler w items) rest named first may = ap (form_at mode named) first.cut ∙ compiler_none mode named _ (may_behind mode place gap (Compiler w items) tt may)
 form_none mode place gap text (Key w values) rest named first may =
     ap (form_at mode named) (first.cut ∙ append_assoc w (61 ∷ spell_values values) rest)
     ∙ with_name mode named w (61 ∷ (spell_values values ++ rest)) first.form.0.0 (stop_cons is_name_byte 61 (spell_values values ++ rest) refl)
-    (key_behind mode named w values rest first.form.0.1 first.form.1 (and_parts (may_constrain mode place) (may_have_all mode) (and_parts (may_constrain mode place && may_have_all mode) (is_apart place gap) may).0).1)
+    (key_behind mode named w values rest first.form.0.1 first.form.1 (may_behind mode place gap (Key w values) tt may))
 form_none mode place gap text Caret rest named first may = ap (form_at mode named) first.cut ∙ caret_none mode named rest first.over (and_parts (may_constrain mode place) (may_nest mode) may).1

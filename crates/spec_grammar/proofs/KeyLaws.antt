@@ -1,34 +1,17 @@
 -- `NAME=` with its values as an item.
-use Rattle.std.proofs.Common.{◌≡◌, ℕ, ◌<◌, ◌≤◌, ◌+◌, ◌^◌, suc, Bool, true, false, List, [], ◌∷◌, ◌++◌, length, take, drop, Some, None, refl, sym, ap, subst, ◌∙◌, arith, append_assoc, codes}
-use Rattle.std.specs.Str.{bytes_eq}
-use Rattle.std.specs.List.{list_all}
-use Rattle.std.proofs.lemmas.Bool.{and_parts}
-use Rattle.std.proofs.lemmas.Slice.Eq.{bytes_eq-Decides}
-use Rattle.version_order.specs.Signs.{is_start}
-use Rattle.std.proofs.lemmas.List.{take-append-drop, drop-drop, length-drop}
-use Rattle.spec_grammar.specs.Signs.{is_name_byte, IsName, name_length}
-use Rattle.spec_grammar.specs.Keys.{key_of, Takes}
-use Rattle.spec_grammar.specs.Items.{spell, spell_values, AreValues, is_run_byte, IsItem, IsOver, kind_of, kind_at}
-use Rattle.spec_grammar.specs.Reading.{IsFirst}
-use Rattle.spec_grammar.specs.Values.{start_run}
-use Rattle.spec_grammar.specs.Locals.{IsCutOff, IsItemFault, IsStuck, AreStuck, varied, AreValuesAt, IsValuesFault, goes_on, moved, Fits}
-use Rattle.spec_grammar.specs.declared.key.KeyKind.{KeyKind}
+use Rattle.std.proofs.Common.{◌≡◌, ℕ, ◌<◌, ◌≤◌, ◌+◌, ◌^◌, suc, false, List, [], ◌∷◌, ◌++◌, length, take, drop, Some, None, refl, sym, ap, subst, ◌∙◌, arith, append_assoc, codes, bytes_eq, take-append-drop, drop-drop, length-drop, ◌==◌}
 use Rattle.spec_grammar.specs.declared.key.KeyKind.TheVariants as key
-use Rattle.spec_grammar.specs.declared.item.Item.{Item}
-use Rattle.spec_grammar.specs.declared.item.Item.TheVariants.{Name, Versions, Variant, Compiler, Key, Caret}
-use Rattle.spec_grammar.specs.declared.item.Kind.{Kind}
 use Rattle.spec_grammar.specs.declared.item.Kind.TheVariants as kind
-use Rattle.spec_grammar.specs.declared.fault.SpecFault.{SpecFault}
 use Rattle.spec_grammar.specs.declared.fault.SpecFault.TheVariants as fault
+use Rattle.std.proofs.lemmas.List.Folds.{list_any-append, list_all-append}
+use Rattle.std.proofs.Math.Bool.{or-true}
+use Rattle.spec_grammar.proofs.Common.{list_all, list_any, and_parts, false_from_ne_true, bytes_eq-Decides, is_start, is_name_byte, IsName, name_length, key_of, Takes, spell, spell_values, AreValues, is_run_byte, IsItem, IsOver, kind_of, kind_at, IsFirst, start_run, IsCutOff, IsItemFault, IsStuck, AreStuck, varied, AreValuesAt, IsValuesFault, goes_on, moved, Fits, same_Some, none-some}
+use Rattle.spec_grammar.proofs.Common.{KeyKind, Item, Key, Kind, SpecFault}
 use Rattle.spec_grammar.proofs.RunLaws.{stop_cons, name_front, name_length-le, true_false, two_cons}
 use Rattle.spec_grammar.proofs.KindLaws.{first_kind, key_some}
-use Rattle.spec_grammar.proofs.NameLaws.{name_cut, kind_same, starts_is, named_again, name_varied, key_kind}
+use Rattle.spec_grammar.proofs.NameLaws.{name_cut, starts_is, named_again, name_varied, key_kind}
 use Rattle.spec_grammar.proofs.VaryLaws.{varied_behind, varies_behind, take_behind}
 use Rattle.spec_grammar.proofs.ValueLaws.{accepts}
-
-not_true : (b : Bool) → (b ≡ true → ⊥) → b ≡ false
-not_true true h = absurd (h refl)
-not_true false h = refl
 
 -- a key begins this item
 pub record AtKey (text list : List ℕ) (item : Item) (rest : List ℕ) : Type 0 where
@@ -45,18 +28,11 @@ pub at_key : (text list : List ℕ) (item : Item) (rest : List ℕ) → kind.Key
 at_key text list (Key w values) rest k behind first =
     let c = name_cut text w (61 ∷ (spell_values values ++ rest)) (first.cut ∙ append_assoc w (61 ∷ spell_values values) rest) first.form.0.0 (stop_cons is_name_byte 61 (spell_values values ++ rest) refl) in
     record { w = w; values = values; same = refl; name = c.0; behind = (two_cons _ _ _ _ (sym behind ∙ c.1)).1; are = first.form.0.1; takes = first.form.1; over = first.over }
-at_key text list (Variant other w) rest k behind first = absurd cc
-at_key text list (Name w) rest k behind first = absurd cc
-at_key text list (Versions items) rest k behind first = absurd cc
-at_key text list (Compiler w items) rest k behind first = absurd cc
-at_key text list Caret rest k behind first = absurd cc
-
-none_run : {S : Type 0} (s : S) → None ≡ Some s → ⊥
-none_run s e = cc
+at_key text list item rest k behind first = absurd cc
 
 pub over_run : (w : List ℕ) (values : List (List ℕ)) (rest : List ℕ) → IsOver (Key w values) rest → goes_on rest ≡ false
 over_run w values [] over = refl
-over_run w values (b ∷ rest) over = not_true (is_run_byte b) (λ on. over b rest refl on)
+over_run w values (b ∷ rest) over = false_from_ne_true (is_run_byte b) (λ on. over b rest refl on)
 
 not_over : (w : List ℕ) (values : List (List ℕ)) (rest : List ℕ) → goes_on rest ≡ false → IsOver (Key w values) rest
 not_over w values rest h b more e on = true_false (is_run_byte b) on (rw e at h)
@@ -64,58 +40,33 @@ not_over w values rest h b more e on = true_false (is_run_byte b) on (rw e at h)
 pub key_none : (text : List ℕ) (n : ℕ) → n ≡ name_length text → kind_at text ≡ Some kind.Key → start_run (key_of (take n text)) ≡ None → (item : Item) (rest : List ℕ) → IsFirst text item rest → ⊥
 key_none text n e k none item rest first =
     let some = key_some text k in
-    let a = at_key text (drop 1 (drop (name_length text) text)) item rest (kind_same _ _ (sym k ∙ first_kind text item rest first)) (starts_is 61 _ some.1) first in
+    let a = at_key text (drop 1 (drop (name_length text) text)) item rest (same_Some _ _ (sym k ∙ first_kind text item rest first)) (starts_is 61 _ some.1) first in
     let b = accepts (key_of a.w) a.values a.are a.takes in
     let no : start_run (key_of a.w) ≡ None = ap (λ (w : List ℕ). start_run (key_of w)) (sym a.name ∙ ap (λ (m : ℕ). take m text) (sym e)) ∙ none in
-    none_run b.0 (sym no ∙ b.1)
+    none-some b.0 (sym no ∙ b.1)
 
 pub key_behind : (text : List ℕ) (n : ℕ) → n ≡ name_length text → kind_at text ≡ Some kind.Key → (0 < n) × (drop n text ≡ 61 ∷ drop 1 (drop n text))
 key_behind text n e k =
     let some = key_some text k in
     (omega (arith, some.0), rw e (starts_is 61 _ some.1))
 
-last_byte : List ℕ → ℕ
-last_byte [] = 0
-last_byte (b ∷ []) = b
-last_byte (b ∷ c ∷ l) = last_byte (c ∷ l)
-
-last_is : (w : List ℕ) (b : ℕ) → last_byte (w ++ b ∷ []) ≡ b
-unfolding last_byte
-last_is [] b = refl
-last_is (c ∷ []) b = refl
-last_is (c ∷ d ∷ w) b = last_is (d ∷ w) b
-
-not_text : (w text : List ℕ) → (last_byte text ≡ 95 → ⊥) → bytes_eq (w ++ 95 ∷ []) text ≡ false
-not_text w text other = not_true (bytes_eq (w ++ 95 ∷ []) text) (λ is. other (ap last_byte (sym ((bytes_eq-Decides (w ++ 95 ∷ []) text).0 is)) ∙ last_is w 95))
+not_text : (w text : List ℕ) → list_any (λ b. b == 95) text ≡ false → bytes_eq (w ++ 95 ∷ []) text ≡ false
+not_text w text none = false_from_ne_true (bytes_eq (w ++ 95 ∷ []) text) (λ is.
+    true_false (list_any (λ b. b == 95) text) (ap (list_any (λ b. b == 95)) (sym ((bytes_eq-Decides (w ++ 95 ∷ []) text).0 is)) ∙ list_any-append (λ b. b == 95) w (95 ∷ []) ∙ or-true (list_any (λ b. b == 95) w)) none)
 
 -- no key with a meaning of its own ends in `_`
 own_key : (w : List ℕ) → key_of (w ++ 95 ∷ []) ≡ key.Variant
-unfolding key_of last_byte
+unfolding key_of
 own_key w =
-    rw (
-      not_text w (codes "platform") (λ e. omega arith),
-      not_text w (codes "os") (λ e. omega arith),
-      not_text w (codes "arch") (λ e. omega arith),
-      not_text w (codes "target") (λ e. omega arith),
-      not_text w (codes "cflags") (λ e. omega arith),
-      not_text w (codes "cxxflags") (λ e. omega arith),
-      not_text w (codes "fflags") (λ e. omega arith),
-      not_text w (codes "cppflags") (λ e. omega arith),
-      not_text w (codes "ldflags") (λ e. omega arith),
-      not_text w (codes "ldlibs") (λ e. omega arith),
-    ) refl
-
-bytes_under : (w : List ℕ) → list_all is_name_byte w ≡ true → list_all is_name_byte (w ++ 95 ∷ []) ≡ true
-bytes_under [] h = refl
-bytes_under (b ∷ w) h =
-    let p = and_parts (is_name_byte b) (list_all is_name_byte w) h in
-    rw (p.0, bytes_under w p.1) refl
+    let n : (text : List ℕ) → list_any (λ b. b == 95) text ≡ false → bytes_eq (w ++ 95 ∷ []) text ≡ false = not_text w in
+    rw (n (codes "platform") refl, n (codes "os") refl, n (codes "arch") refl, n (codes "target") refl, n (codes "cflags") refl, n (codes "cxxflags") refl, n (codes "fflags") refl)
+    (rw (n (codes "cppflags") refl, n (codes "ldflags") refl, n (codes "ldlibs") refl) refl)
 
 name_under : (w : List ℕ) → IsName w → IsName (w ++ 95 ∷ [])
 name_under [] h = absurd cc
 name_under (b ∷ w) h =
     let p = and_parts (is_start b) (list_all is_name_byte w) h in
-    rw (p.0, bytes_under w p.1) refl
+    rw (p.0, list_all-append is_name_byte w (95 ∷ []), p.1) refl
 
 -- a NAME can go on as a key
 pub key_viable : (w : List ℕ) → IsName w → (tail : List ℕ) × (item : Item) × IsItem item × (kind.Key ≡ kind_of item) × (w ++ tail ≡ spell item)
@@ -171,7 +122,7 @@ key_stuck text n list q e k behind h =
           let t : List ℕ = take n text ++ 61 ∷ l in
           let there = subst (λ (x : List ℕ). IsFirst x item rest) (varied_behind text n 61 list q more le behind) first in
           let named = named_again text n 61 l e lt refl in
-          let a = at_key t l item rest (kind_same _ _ (sym (key_kind text n l e lt) ∙ first_kind t item rest there)) (ap (λ (m : ℕ). drop m t) (sym named.len) ∙ named.behind) there in
+          let a = at_key t l item rest (same_Some _ _ (sym (key_kind text n l e lt) ∙ first_kind t item rest there)) (ap (λ (m : ℕ). drop m t) (sym named.len) ∙ named.behind) there in
           let same : a.w ≡ take n text = sym a.name ∙ ap (λ (m : ℕ). take m t) (sym named.len) ∙ named.front in
           h.none more (varies_behind text n 61 list q more behind varies) a.values rest
           (record { cut = a.behind; are = a.are; takes = subst (λ (w : List ℕ). Takes (key_of w) a.values) same a.takes; over = over_run a.w a.values rest a.over });
@@ -183,15 +134,11 @@ key_stuck text n list q e k behind h =
     }
 
 pub key_moved : (text : List ℕ) (n : ℕ) (list : List ℕ) (e : SpecFault) → n ≡ name_length text → kind_at text ≡ Some kind.Key → drop n text ≡ 61 ∷ list → IsValuesFault (key_of (take n text)) list e → IsItemFault text (moved (n + 1) e)
-key_moved text n list (fault.Unsupported q form) e k behind h = absurd h
 key_moved text n list (fault.Expected q) e k behind h = key_stuck text n list q e k behind h
-key_moved text n list (fault.BadVersion q) e k behind h = absurd h
-key_moved text n list (fault.TwiceSet q) e k behind h = absurd h
 key_moved text n list fault.OutOfMemory e k behind h = tt
+key_moved text n list other e k behind h = absurd h
 
 pub key_fits : (text : List ℕ) (k : KeyKind) (by : ℕ) (e : SpecFault) → by + length text < 2 ^ 64 → IsValuesFault k text e → Fits by e
-key_fits text k by (fault.Unsupported q form) lt h = absurd h
 key_fits text k by (fault.Expected q) lt h = omega (arith, h.within)
-key_fits text k by (fault.BadVersion q) lt h = absurd h
-key_fits text k by (fault.TwiceSet q) lt h = absurd h
 key_fits text k by fault.OutOfMemory lt h = tt
+key_fits text k by e lt h = absurd h

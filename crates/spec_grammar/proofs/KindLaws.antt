@@ -1,20 +1,8 @@
 -- The kind of the item that a text begins with.
-use Rattle.std.proofs.Common.{◌≡◌, ℕ, ◌<◌, Bool, true, false, List, [], ◌∷◌, ◌++◌, drop, Option, Some, None, refl, sym, ap, ◌∙◌, arith, inl, inr, append_assoc}
-use Rattle.std.specs.Prelude.{◌==◌, ◌||◌, if◌then◌else◌}
-use Rattle.std.proofs.lemmas.Bool.{cases_Bool, and_parts, eqb-true}
-use Rattle.std.proofs.lemmas.Bool.Decides.{nat_tests}
-use Rattle.std.proofs.lemmas.List.{drop_at}
-use Rattle.std.specs.List.{list_all}
-use Rattle.version_order.specs.Signs.{is_start}
-use Rattle.spec_grammar.specs.Signs.{is_name_byte, IsName, name_length}
-use Rattle.spec_grammar.specs.Items.{spell, spell_values, HasShape, IsOver, kind_of, kind_by, kind_at, starts_with_byte, mark_byte, is_name_end}
-use Rattle.spec_grammar.specs.Reading.{IsFirst}
-use Rattle.spec_grammar.specs.declared.item.Mark.{Mark}
-use Rattle.spec_grammar.specs.declared.item.Mark.TheVariants.{Plus, Tilde, Minus}
-use Rattle.spec_grammar.specs.declared.item.Item.{Item}
-use Rattle.spec_grammar.specs.declared.item.Item.TheVariants.{Name, Versions, Variant, Compiler, Key, Caret}
-use Rattle.spec_grammar.specs.declared.item.Kind.{Kind}
+use Rattle.std.proofs.Common.{◌≡◌, ℕ, ◌<◌, Bool, true, false, List, [], ◌∷◌, ◌++◌, drop, Option, Some, None, refl, sym, ap, ◌∙◌, arith, append_assoc, ◌==◌, ◌||◌, if◌then◌else◌, eqb-true, drop_at}
 use Rattle.spec_grammar.specs.declared.item.Kind.TheVariants as kind
+use Rattle.spec_grammar.proofs.Common.{and_parts, false_from_ne_true, nat_tests, list_all, is_start, is_name_byte, IsName, name_length, spell, spell_values, HasShape, IsOver, kind_of, kind_by, kind_at, starts_with_byte, mark_byte, is_name_end, IsFirst}
+use Rattle.spec_grammar.proofs.Common.{Mark, Plus, Tilde, Minus, Item, Name, Versions, Variant, Compiler, Key, Caret, Kind}
 use Rattle.spec_grammar.proofs.RunLaws.{Stop, stop_cons, name_length_is}
 
 -- what a kind says of the byte and of what is behind the NAME
@@ -30,32 +18,22 @@ Says b rest (Some kind.Caret) = b ≡ 94
 start_signs : (b : ℕ) → is_start b ≡ true → ((b == 64) ≡ false) × ((b == 43) ≡ false) × ((b == 126) ≡ false) × ((b == 45) ≡ false) × ((b == 37) ≡ false) × ((b == 94) ≡ false)
 start_signs b h = (grind (arith, nat_tests), grind (arith, nat_tests), grind (arith, nat_tests), grind (arith, nat_tests), grind (arith, nat_tests), grind (arith, nat_tests))
 
+says_if : (b : ℕ) (rest : List ℕ) (c : Bool) (k : Kind) (other : Option Kind) → (c ≡ true → Says b rest (Some k)) → Says b rest other → Says b rest (if c then Some k else other)
+says_if b rest true k other f h = f refl
+says_if b rest false k other f h = h
+
+says_start : (b : ℕ) (rest : List ℕ) (start equals : Bool) → is_start b ≡ start → starts_with_byte 61 rest ≡ equals → Says b rest (if start then Some (if equals then kind.Key else kind.Name) else None)
+says_start b rest true true h k = (h, k)
+says_start b rest true false h k = (h, k)
+says_start b rest false equals h k = h
+
 pub says : (b : ℕ) (rest : List ℕ) → Says b rest (kind_by b rest)
-says b rest = elim (cases_Bool (is_start b)) [
-  | inl h ↦ let n = start_signs b h in elim (cases_Bool (starts_with_byte 61 rest)) [
-    | inl k ↦ rw (h, n.0, n.1, n.2, n.3, n.4, n.5, k) (h, k)
-    | inr k ↦ rw (h, n.0, n.1, n.2, n.3, n.4, n.5, k) (h, k)
-  ]
-  | inr h ↦ elim (cases_Bool (b == 64)) [
-    | inl k ↦ rw k (eqb-true b 64 k)
-    | inr h1 ↦ elim (cases_Bool (b == 43)) [
-      | inl k ↦ rw (h1, k) (eqb-true b 43 k)
-      | inr h2 ↦ elim (cases_Bool (b == 126)) [
-        | inl k ↦ rw (h1, h2, k) (eqb-true b 126 k)
-        | inr h3 ↦ elim (cases_Bool (b == 45)) [
-          | inl k ↦ rw (h1, h2, h3, k) (eqb-true b 45 k)
-          | inr h4 ↦ elim (cases_Bool (b == 37)) [
-            | inl k ↦ rw (h1, h2, h3, h4, k) (eqb-true b 37 k)
-            | inr h5 ↦ elim (cases_Bool (b == 94)) [
-              | inl k ↦ rw (h1, h2, h3, h4, h5, k) (eqb-true b 94 k)
-              | inr h6 ↦ rw (h, h1, h2, h3, h4, h5, h6) h
-            ]
-          ]
-        ]
-      ]
-    ]
-  ]
-]
+says b rest =
+    says_if b rest (b == 64) kind.Versions _ (eqb-true b 64)
+    (says_if b rest (b == 43) (kind.Variant Plus) _ (eqb-true b 43)
+    (says_if b rest (b == 126) (kind.Variant Tilde) _ (eqb-true b 126)
+    (says_if b rest (b == 45) (kind.Variant Minus) _ (eqb-true b 45)
+    (says_if b rest (b == 37) kind.Compiler _ (eqb-true b 37) (says_if b rest (b == 94) kind.Caret _ (eqb-true b 94) (says_start b rest (is_start b) (starts_with_byte 61 rest) refl refl))))))
 
 -- a text whose item is of this kind
 pub record Begins (text : List ℕ) (k : Kind) : Type 0 where
@@ -86,27 +64,18 @@ key_some text e =
 -- ---- the kind of an item
 
 pub over_name : (w rest : List ℕ) → IsOver (Name w) rest → Stop is_name_byte rest
-over_name w rest over b more e = elim (cases_Bool (is_name_byte b)) [
-  | inl is ↦ absurd (over b more e (rw is refl))
-  | inr other ↦ other
-]
+over_name w rest over b more e = false_from_ne_true (is_name_byte b) (λ is. over b more e (rw is refl))
 
 pub over_variant : (mark : Mark) (w rest : List ℕ) → IsOver (Variant mark w) rest → Stop is_name_byte rest
-over_variant mark w rest over b more e = elim (cases_Bool (is_name_byte b)) [
-  | inl is ↦ absurd (over b more e is)
-  | inr other ↦ other
-]
+over_variant mark w rest over b more e = false_from_ne_true (is_name_byte b) (over b more e)
 
-or_right : (a b : Bool) → b ≡ true → (a || b) ≡ true
+pub or_right : (a b : Bool) → b ≡ true → (a || b) ≡ true
 or_right true b h = refl
 or_right false b h = h
 
 pub over_key : (w rest : List ℕ) → IsOver (Name w) rest → starts_with_byte 61 rest ≡ false
 over_key w [] over = refl
-over_key w (b ∷ rest) over = elim (cases_Bool (b == 61)) [
-  | inl is ↦ absurd (over b rest refl (or_right (is_name_byte b) (is_name_end b) (rw is refl)))
-  | inr other ↦ other
-]
+over_key w (b ∷ rest) over = false_from_ne_true (b == 61) (λ is. over b rest refl (or_right (is_name_byte b) (is_name_end b) (rw is refl)))
 
 pub named_by : (b : ℕ) (rest : List ℕ) → is_start b ≡ true → kind_by b rest ≡ Some (if starts_with_byte 61 rest then kind.Key else kind.Name)
 named_by b rest h = let n = start_signs b h in rw (h, n.0, n.1, n.2, n.3, n.4, n.5) refl

@@ -1,11 +1,15 @@
+pub mod Common
 pub mod RunLaws
+pub mod StepLaws
 pub mod CutLaws
+pub mod RestLaws
 pub mod ValueLaws
 pub mod VaryLaws
 pub mod StopLaws
 pub mod KindLaws
 pub mod ListLaws
 pub mod NameLaws
+pub mod CompilerLaws
 pub mod KeyLaws
 pub mod ItemLaws
 pub mod PartLaws
@@ -18,3 +22,11 @@ pub mod WhiteLaws
 pub mod BadLaws
 pub mod FaultLaws
 pub mod RightLaws
+pub mod AsciiLaws
+pub mod OrderLaws
+pub mod WordLaws
+pub mod AskLaws
+pub mod KeptLaws
+pub mod DraftLaws
+pub mod PieceLaws
+pub mod WriteLaws

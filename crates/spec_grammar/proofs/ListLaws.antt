@@ -1,17 +1,9 @@
 -- A LIST as an item, or as a compiler's versions.
-use Rattle.std.proofs.Common.{◌≡◌, ℕ, ◌<◌, ◌≤◌, ◌+◌, ◌^◌, suc, List, [], ◌∷◌, ◌++◌, length, take, drop, Some, None, refl, sym, ap, subst, ◌∙◌, arith, inl, inr, append_assoc}
-use Rattle.std.proofs.lemmas.Bool.{cases_Bool, cases_order}
-use Rattle.std.proofs.lemmas.List.{append-nil, take-append-drop, take-take, take_at, length-append, length-take, length-drop}
-use Rattle.version_order.specs.Fronts.{Begins, IsLongestFront}
-use Rattle.version_order.specs.Items.{Reads, IsList, spelling, spell_more, first_empty, is_empty_range, spell as spell_range}
-use Rattle.version_order.specs.declared.item.Item.{Item as Range}
-use Rattle.spec_grammar.specs.Items.{AreListed}
-use Rattle.spec_grammar.specs.Reading.{IsFirst}
-use Rattle.spec_grammar.specs.Locals.{IsListAt, IsListFault, IsCutOff, IsItemFault, IsStuck, Varies, varied, moved, Fits}
-use Rattle.spec_grammar.specs.declared.item.Item.{Item}
-use Rattle.spec_grammar.specs.declared.item.Item.TheVariants.{Name, Versions, Variant, Compiler, Key, Caret}
-use Rattle.spec_grammar.specs.declared.fault.SpecFault.{SpecFault}
+use Rattle.std.proofs.Common.{◌≡◌, ℕ, ◌<◌, ◌≤◌, ◌+◌, ◌^◌, suc, List, [], ◌∷◌, ◌++◌, length, take, drop, Some, None, refl, sym, ap, subst, ◌∙◌, arith, inl, inr, append_assoc, append-nil, take-append-drop, take-take, take_at, length-append, length-take, length-drop, option_map, Option}
+use Rattle.version_order.specs.Items.{spell_more, is_empty_range, spell as spell_range}
 use Rattle.spec_grammar.specs.declared.fault.SpecFault.TheVariants as fault
+use Rattle.spec_grammar.proofs.Common.{cases_Bool, cases_order, Begins, IsLongestFront, Reads, IsList, spelling, first_empty, AreListed, IsFirst, IsListAt, IsListFault, IsCutOff, IsItemFault, IsStuck, Varies, varied, moved, Fits, same_Some, none-some}
+use Rattle.spec_grammar.proofs.Common.{Range, Item, Versions, SpecFault}
 use Rattle.spec_grammar.proofs.RunLaws.{two_cons}
 use Rattle.spec_grammar.proofs.KindLaws.{first_kind}
 use Rattle.spec_grammar.proofs.VaryLaws.{varied_front, varied_cons, varies_cons, varied_longest}
@@ -59,34 +51,20 @@ list_over text n items front e b more behind begins =
 
 -- ---- empty ranges
 
-some_is : (p q : ℕ) → Some p ≡ Some q → p ≡ q
-some_is p q e = cc
-
-pub empty_past : (items : List Range) (p q by : ℕ) → first_empty p items ≡ Some q → first_empty (by + p) items ≡ Some (by + q)
+-- places count from where the first range stands
+pub empty_past : (items : List Range) (p by : ℕ) (o : Option ℕ) → first_empty p items ≡ o → first_empty (by + p) items ≡ option_map (λ q. by + q) o
 unfolding first_empty
-empty_past [] p q by e = absurd (let no : None ≡ Some q = e in cc)
-empty_past (x ∷ items) p q by e = elim (cases_Bool (is_empty_range x)) [
-  | inl is ↦ let same = some_is p q (rw is at e) in rw is (ap (λ (k : ℕ). Some (by + k)) same)
-  | inr other ↦
-      let more = empty_past items (p + length (spell_range x) + 1) q by (rw other at e) in
-      rw other (ap (λ (k : ℕ). first_empty k items) (omega arith) ∙ more)
-]
-
-pub none_past : (items : List Range) (p by : ℕ) → first_empty p items ≡ None → first_empty (by + p) items ≡ None
-unfolding first_empty
-none_past [] p by e = refl
-none_past (x ∷ items) p by e = elim (cases_Bool (is_empty_range x)) [
-  | inl is ↦ absurd (let no : Some p ≡ None = rw is at e in cc)
-  | inr other ↦
-      let more = none_past items (p + length (spell_range x) + 1) by (rw other at e) in
-      rw other (ap (λ (k : ℕ). first_empty k items) (omega arith) ∙ more)
+empty_past [] p by o e = ap (option_map (λ q. by + q)) e
+empty_past (x ∷ items) p by o e = elim (cases_Bool (is_empty_range x)) [
+  | inl is ↦ rw is (ap (option_map (λ q. by + q)) (rw is at e))
+  | inr other ↦ rw other (ap (λ (k : ℕ). first_empty k items) (omega arith) ∙ empty_past items (p + length (spell_range x) + 1) by o (rw other at e))
 ]
 
 pub empty_below : (items : List Range) (p q : ℕ) → first_empty p items ≡ Some q → q < p + length (spell_more items)
 unfolding first_empty
-empty_below [] p q e = absurd (let no : None ≡ Some q = e in cc)
+empty_below [] p q e = absurd (none-some q e)
 empty_below (x ∷ items) p q e = elim (cases_Bool (is_empty_range x)) [
-  | inl is ↦ let same = some_is p q (rw is at e) in omega arith
+  | inl is ↦ let same = same_Some p q (rw is at e) in omega arith
   | inr other ↦
       let more = empty_below items (p + length (spell_range x) + 1) q (rw other at e) in
       omega (arith, length-append (spell_range x) (spell_more items))
@@ -100,11 +78,10 @@ pub empty_within : (text : List ℕ) (items : List Range) (q : ℕ) → Reads te
 empty_within text items q r e = omega (arith, empty_below items 0 q e, more_length text items r)
 
 pub list_fits : (text : List ℕ) (by : ℕ) (e : SpecFault) → by + length text < 2 ^ 64 → IsListFault text e → Fits by e
-list_fits text by (fault.Unsupported q form) lt h = absurd h
 list_fits text by (fault.Expected q) lt h = omega (arith, h.0.within)
 list_fits text by (fault.BadVersion q) lt h = omega (arith, empty_within (take h.1 text) h.0 q h.2.reads h.3, length-take h.1 text)
-list_fits text by (fault.TwiceSet q) lt h = absurd h
 list_fits text by fault.OutOfMemory lt h = tt
+list_fits text by e lt h = absurd h
 
 -- ---- `@LIST`
 
@@ -128,7 +105,7 @@ pub versions_read : (text : List ℕ) (items : List Range) (n : ℕ) → IsListA
 versions_read text items n at none = record {
   within = omega (arith, at.longest.within);
   first = rw (drop_one 64 n text) (versions_first text items n at);
-  ranges = none_past items 0 1 none;
+  ranges = empty_past items 0 1 None none;
 }
 
 -- `@` begins this item
@@ -141,11 +118,7 @@ pub record AtVersions (text : List ℕ) (item : Item) (rest : List ℕ) : Type 0
 
 pub at_versions : (text : List ℕ) (item : Item) (rest : List ℕ) → IsFirst (64 ∷ text) item rest → AtVersions text item rest
 at_versions text (Versions items) rest first = record { items = items; same = refl; are = first.form.0; cut = (two_cons _ _ _ _ first.cut).1; over = first.over }
-at_versions text (Name w) rest first = absurd (let e = first_kind (64 ∷ text) (Name w) rest first in cc)
-at_versions text (Variant mark w) rest first = absurd (let e = first_kind (64 ∷ text) (Variant mark w) rest first in cc)
-at_versions text (Compiler w items) rest first = absurd (let e = first_kind (64 ∷ text) (Compiler w items) rest first in cc)
-at_versions text (Key w values) rest first = absurd (let e = first_kind (64 ∷ text) (Key w values) rest first in cc)
-at_versions text Caret rest first = absurd (let e = first_kind (64 ∷ text) Caret rest first in cc)
+at_versions text item rest first = absurd (let e = first_kind (64 ∷ text) item rest first in cc)
 
 pub no_list : (text : List ℕ) (q : ℕ) → IsLongestFront IsList text q → (IsList (take q text) → ⊥) → (items : List Range) (rest : List ℕ) → text ≡ spelling items ++ rest → AreListed items → IsListOver items rest → ⊥
 no_list text q front not_list items rest e are over = not_list (subst IsList (sym (list_here text q items rest front e are over)) (items, are))
@@ -171,8 +144,7 @@ versions_stuck text q front not_list =
     }
 
 pub versions_moved : (text : List ℕ) (e : SpecFault) → IsListFault text e → IsItemFault (64 ∷ text) (moved 1 e)
-versions_moved text (fault.Unsupported q form) h = absurd h
 versions_moved text (fault.Expected q) h = versions_stuck text q h.0 h.1
-versions_moved text (fault.BadVersion q) h = (Versions h.0, drop h.1 text, versions_first text h.0 h.1 h.2, empty_past h.0 0 q 1 h.3)
-versions_moved text (fault.TwiceSet q) h = absurd h
+versions_moved text (fault.BadVersion q) h = (Versions h.0, drop h.1 text, versions_first text h.0 h.1 h.2, empty_past h.0 0 1 (Some q) h.3)
 versions_moved text fault.OutOfMemory h = tt
+versions_moved text e h = absurd h

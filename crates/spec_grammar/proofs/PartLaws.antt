@@ -1,30 +1,25 @@
--- Values as sets and targets, and variants in byte order.
-use Rattle.std.proofs.Common.{◌≡◌, ℕ, ◌<◌, ◌≤◌, ◌+◌, suc, Bool, true, false, List, [], ◌∷◌, ◌++◌, length, take, drop, get_or, map, Some, None, refl, sym, ap, ◌∙◌, arith, inl, inr, append_assoc}
-use Rattle.std.specs.Prelude.{insert}
+-- Values as sets and targets, and variants in byte order of their names.
+use Rattle.std.proofs.Common.{◌≡◌, ℕ, ◌<◌, suc, ◌+◌, Bool, true, false, List, [], ◌∷◌, length, map, Some, None, refl, sym, ap, ◌∙◌, arith, inl, inr, is_some}
+use mathlib.Core.Bool.{true≢false}
+use Rattle.std.specs.BTreeMap.{insert_entry, is_at}
+use Rattle.std.specs.Map.{keys_of, lookup}
 use Rattle.std.specs.List.{list_any, position_or_len, before_first, after_first}
-use Rattle.std.specs.Ordering.{nat_cmp}
+use Rattle.std.specs.Str.{bytes_eq}
+use Rattle.std.specs.Ordering.{nat_cmp, is_eq, match_ordering}
 use Rattle.std.specs.declared.cmp.Ordering.TheVariants.{Less, Equal, Greater}
-use Rattle.std.specs.Cmp.Lexicographic.{slice_cmp}
+use Rattle.std.specs.Cmp.Lexicographic.{slice_cmp, nat_list_eq_equiv}
 use Rattle.std.proofs.lemmas.Bool.{cases_Bool}
-use Rattle.std.proofs.lemmas.List.{drop_more, take_more, drop_all, take_all}
-use Rattle.variant_values.specs.Texts.{with_text}
-use Rattle.spec_grammar.specs.Meaning.{truth, put_all, target_of, end_of, Settings, set}
+use Rattle.std.proofs.lemmas.Map.Made.{is_some-lookup}
+use Rattle.std.proofs.lemmas.Map.Text.{is_eq-slice_cmp}
+use Rattle.variant_values.specs.Texts.{with_text, with_texts}
+use Rattle.spec_grammar.specs.Meaning.{truth, put_all, target_of, end_of, Settings, has_variant, set_at, set}
 use Rattle.spec_grammar.specs.Keys.{is_colon}
 
-pub put_more : (texts values : List (List ℕ)) (i : ℕ) (d : List ℕ) → i < length values → put_all texts (drop i values) ≡ put_all (with_text texts (truth (get_or values i d))) (drop (i + 1) values)
-unfolding put_all
-put_more texts values i d lt = rw (drop_more values i d lt) refl
-
-pub put_none : (texts values : List (List ℕ)) (i : ℕ) → length values ≤ i → put_all texts (drop i values) ≡ texts
-unfolding put_all
-put_none texts values i le = rw (drop_all i values le) refl
-
-map_push : {X Y : Type 0} (f : X → Y) (xs : List X) (x : X) → map f (xs ++ x ∷ []) ≡ map f xs ++ f x ∷ []
-map_push f [] x = refl
-map_push f (y ∷ xs) x = ap (λ l. f y ∷ l) (map_push f xs x)
-
-pub map_more : {X Y : Type 0} (f : X → Y) (xs : List X) (i : ℕ) (d : X) → i < length xs → map f (take (i + 1) xs) ≡ map f (take i xs) ++ f (get_or xs i d) ∷ []
-map_more f xs i d lt = rw (take_more xs i d lt) (map_push f (take i xs) (get_or xs i d))
+-- values put one after another
+pub put_all-is : (texts values : List (List ℕ)) → with_texts texts (map truth values) ≡ put_all texts values
+unfolding put_all with_texts
+put_all-is texts [] = refl
+put_all-is texts (w ∷ values) = put_all-is (with_text texts (truth w)) values
 
 -- ---- marks between
 
@@ -48,34 +43,31 @@ any_none p (b ∷ w) e = elim (cases_Bool (p b)) [
 
 -- ---- variants in byte order
 
--- what holds of the variants before place i
-pub record Passed (variants : Settings) (w : List ℕ) (i : ℕ) : Type 0 where
-  pub within : i ≤ length variants
-  pub setting : (values : List (List ℕ)) → set (w, values) variants ≡ take i variants ++ set (w, values) (drop i variants)
+same_name : (w v : List ℕ) → is_at (slice_cmp nat_cmp w) v ≡ bytes_eq v w
+same_name w v = is_eq-slice_cmp w v ∙ nat_list_eq_equiv.symm w v
 
-pub passed_none : (variants : Settings) (w : List ℕ) → Passed variants w 0
-passed_none variants w = record { within = omega arith; setting = λ values. refl }
+named : (w : List ℕ) (variants : Settings) → list_any (is_at (slice_cmp nat_cmp w)) (keys_of variants) ≡ has_variant w variants
+named w [] = refl
+named w (v ∷ variants) = rw (same_name w v.0, named w variants) refl
 
-pub passed_more : (variants : Settings) (w : List ℕ) (i : ℕ) (d : List ℕ × List (List ℕ)) → i < length variants → slice_cmp nat_cmp w (get_or variants i d).0 ≡ Greater → Passed variants w i → Passed variants w (i + 1)
+-- the name is found where it is set
+pub has_variant-is : (w : List ℕ) (variants : Settings) → is_some (lookup (is_at (slice_cmp nat_cmp w)) variants) ≡ has_variant w variants
+has_variant-is w variants = is_some-lookup (is_at (slice_cmp nat_cmp w)) variants ∙ named w variants
+
+-- a name that is new goes to its place
+pub set-is : (w : List ℕ) (values : List (List ℕ)) (variants : Settings) → has_variant w variants ≡ false → insert_entry (slice_cmp nat_cmp) variants w values ≡ set (w, values) variants
 unfolding set
-passed_more variants w i d lt e p = record {
-  within = omega arith;
-  setting = λ values. p.setting values ∙ rw (drop_more variants i d lt, take_more variants i d lt, e) (sym (append_assoc (take i variants) (get_or variants i d ∷ []) (set (w, values) (drop (i + 1) variants))));
-}
-
-pub place_less : (variants : Settings) (w : List ℕ) (i : ℕ) (d : List ℕ × List (List ℕ)) → i < length variants → slice_cmp nat_cmp w (get_or variants i d).0 ≡ Less → Passed variants w i
-    → (values : List (List ℕ)) → set (w, values) variants ≡ insert variants i (w, values)
-unfolding set
-place_less variants w i d lt e p values = p.setting values ∙ rw (drop_more variants i d lt, e) refl
-
-pub place_equal : (variants : Settings) (w : List ℕ) (i : ℕ) (d : List ℕ × List (List ℕ)) → i < length variants → slice_cmp nat_cmp w (get_or variants i d).0 ≡ Equal → Passed variants w i
-    → (values : List (List ℕ)) → set (w, values) variants ≡ insert variants i (w, values)
-unfolding set
-place_equal variants w i d lt e p values = p.setting values ∙ rw (drop_more variants i d lt, e) refl
-
-pub place_end : (variants : Settings) (w : List ℕ) (i : ℕ) → length variants ≤ i → Passed variants w i → (values : List (List ℕ)) → set (w, values) variants ≡ insert variants (length variants) (w, values)
-unfolding set
-place_end variants w i le p values = p.setting values ∙ rw (drop_all i variants le, take_all i variants le, take_all (length variants) variants (omega arith), drop_all (length variants) variants (omega arith)) refl
+set-is w values [] new = refl
+set-is w values (v ∷ variants) new = elim (cases_Bool (bytes_eq v.0 w)) [
+  | inl is ↦ absurd (true≢false (sym (rw is refl) ∙ new))
+  | inr other ↦
+      let rest = set-is w values variants (rw other at new) in
+      elim (slice_cmp nat_cmp w v.0) as (λ r. is_eq r ≡ false → match_ordering r ((w, values) ∷ v ∷ variants) ((v.0, values) ∷ variants) (v ∷ insert_entry (slice_cmp nat_cmp) variants w values) ≡ set_at r (w, values) v variants (set (w, values) variants)) [
+        | Less ↦ λ e. refl
+        | Equal ↦ λ e. absurd (true≢false e)
+        | Greater ↦ λ e. ap (λ l. v ∷ l) rest
+      ] (same_name w v.0 ∙ other)
+]
 
 -- ---- targets
 

@@ -1,14 +1,9 @@
 -- Runs of bytes at the front of a text.
-use Rattle.std.proofs.Common.{◌≡◌, ℕ, zero, suc, ◌<◌, ◌≤◌, ◌+◌, Bool, true, false, List, [], ◌∷◌, ◌++◌, length, take, drop, get_or, refl, sym, arith, inl, inr}
-use Rattle.std.specs.Str.{IsUtf8, IsAscii}
-use Rattle.std.specs.List.{list_all, prefix_len}
-use Rattle.std.proofs.lemmas.Bool.{cases_Bool, and_parts}
-use Rattle.std.proofs.lemmas.Bool.Decides.{nat_tests}
+use Rattle.std.proofs.Common.{◌≡◌, ℕ, zero, suc, ◌<◌, ◌≤◌, ◌+◌, Bool, true, false, List, [], ◌∷◌, ◌++◌, length, take, drop, get_or, refl, sym, arith, inl, inr, IsUtf8, IsAscii}
 use Rattle.std.proofs.lemmas.List.Sums.{prefix_len-le-length, prefix_len_stops}
 use Rattle.std.proofs.lemmas.Str.{IsUtf8-from_ascii}
 use Rattle.std.proofs.lemmas.Str.Ascii.{IsAscii-nil, IsAscii-cons}
-use Rattle.version_order.specs.Signs.{is_start}
-use Rattle.spec_grammar.specs.Signs.{is_name_byte, IsName, name_length, is_value_byte, IsValue}
+use Rattle.spec_grammar.proofs.Common.{list_all, prefix_len, cases_Bool, and_parts, nat_tests, is_start, is_name_byte, IsName, name_length, is_value_byte, IsValue}
 
 pub true_false : {A : Type 0} (b : Bool) → b ≡ true → b ≡ false → A
 true_false b t f = absurd cc
@@ -111,10 +106,10 @@ value_run (b ∷ w) h = h
 
 -- ---- text
 
-byte_ascii : (b : ℕ) → is_value_byte b ≡ true → b < 128
+pub byte_ascii : (b : ℕ) → is_value_byte b ≡ true → b < 128
 byte_ascii b h = grind (arith, nat_tests)
 
-bytes_ascii : (w : List ℕ) → list_all is_value_byte w ≡ true → IsAscii w
+pub bytes_ascii : (w : List ℕ) → list_all is_value_byte w ≡ true → IsAscii w
 bytes_ascii [] h = IsAscii-nil
 bytes_ascii (b ∷ w) h =
     let p = and_parts (is_value_byte b) (list_all is_value_byte w) h in
@@ -123,7 +118,7 @@ bytes_ascii (b ∷ w) h =
 pub value_utf8 : (w : List ℕ) → list_all is_value_byte w ≡ true → IsUtf8 w
 value_utf8 w h = IsUtf8-from_ascii w (bytes_ascii w h)
 
-name_value : (w : List ℕ) → list_all is_name_byte w ≡ true → list_all is_value_byte w ≡ true
+pub name_value : (w : List ℕ) → list_all is_name_byte w ≡ true → list_all is_value_byte w ≡ true
 name_value [] h = refl
 name_value (b ∷ w) h =
     let p = and_parts (is_name_byte b) (list_all is_name_byte w) h in

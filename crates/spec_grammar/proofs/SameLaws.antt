@@ -1,19 +1,7 @@
 -- A text is cut into items in one way.
-use Rattle.std.proofs.Common.{◌≡◌, ℕ, true, false, List, [], ◌∷◌, ◌++◌, Option, Some, refl, sym, ap, subst, ◌∙◌, arith, inl, inr, append_assoc}
-use Rattle.std.specs.Prelude.{◌⊎◌}
-use Rattle.std.specs.List.{list_all}
-use Rattle.std.proofs.lemmas.Bool.{and_parts}
-use Rattle.std.proofs.lemmas.Bool.Decides.{nat_tests}
-use Rattle.std.proofs.lemmas.List.{append-nil}
-use Rattle.version_order.specs.Signs.{is_start}
-use Rattle.spec_grammar.specs.Signs.{is_white, AreWhite, is_name_byte, IsName}
-use Rattle.spec_grammar.specs.Items.{spell, spell_values, HasShape, IsOver}
-use Rattle.spec_grammar.specs.Right.{Step, spell_step, spell_steps, last_of, IsOverLast, IsRightStep, AreRight}
-use Rattle.spec_grammar.specs.Reading.{IsFirst}
-use Rattle.spec_grammar.specs.declared.item.Mark.TheVariants.{Plus, Tilde, Minus}
-use Rattle.spec_grammar.specs.declared.item.Item.{Item}
-use Rattle.spec_grammar.specs.declared.item.Item.TheVariants.{Name, Versions, Variant, Compiler, Key, Caret}
-use Rattle.spec_grammar.specs.declared.mode.Mode.{Mode}
+use Rattle.std.proofs.Common.{◌≡◌, ℕ, true, false, List, [], ◌∷◌, ◌++◌, Option, Some, refl, sym, ap, subst, ◌∙◌, arith, inl, inr, append_assoc, ◌⊎◌, append-nil}
+use Rattle.spec_grammar.proofs.Common.{list_all, and_parts, nat_tests, is_start, is_white, AreWhite, is_name_byte, IsName, spell, spell_values, HasShape, IsOver, Step, spell_step, spell_steps, last_of, IsOverLast, IsRightStep, AreRight, IsFirst}
+use Rattle.spec_grammar.proofs.Common.{Plus, Tilde, Minus, Item, Name, Variant, Key, Mode}
 use Rattle.spec_grammar.proofs.RunLaws.{Stop, stop_cons, run_cut, two_cons, cons_none}
 use Rattle.spec_grammar.proofs.UniqueLaws.{one_first}
 
@@ -28,33 +16,27 @@ pub record Cuts (mode : Mode) (last : Option Item) (text : List ℕ) (steps : Li
 start_dark : (b : ℕ) → is_start b ≡ true → is_white b ≡ false
 start_dark b h = grind (arith, nat_tests)
 
-name_dark : (w rest : List ℕ) → IsName w → Stop is_white (w ++ rest)
-name_dark [] rest h = absurd cc
-name_dark (b ∷ w) rest h = stop_cons is_white b (w ++ rest) (start_dark b (and_parts (is_start b) (list_all is_name_byte w) h).0)
+-- the first byte of an item is no white space
+abbrev IsDarkText : List ℕ → Type 0
+IsDarkText text = (b : ℕ) × (more : List ℕ) × (text ≡ b ∷ more) × (is_white b ≡ false)
+
+dark_name : (w rest : List ℕ) → IsName w → IsDarkText (w ++ rest)
+dark_name [] rest h = absurd cc
+dark_name (b ∷ w) rest h = (b, w ++ rest, refl, start_dark b (and_parts (is_start b) (list_all is_name_byte w) h).0)
+
+dark_item : (item : Item) (rest : List ℕ) → HasShape item → IsDarkText (spell item ++ rest)
+dark_item (Name w) rest h = dark_name w rest h
+dark_item (Key w values) rest h = rw (append_assoc w (61 ∷ spell_values values) rest) (dark_name w (61 ∷ (spell_values values ++ rest)) h.0)
+dark_item (Variant Plus w) rest h = (43, w ++ rest, refl, refl)
+dark_item (Variant Tilde w) rest h = (126, w ++ rest, refl, refl)
+dark_item (Variant Minus w) rest h = (45, w ++ rest, refl, refl)
+dark_item item rest h = (_, _, refl, refl)
 
 item_dark : (item : Item) (rest : List ℕ) → HasShape item → Stop is_white (spell item ++ rest)
-item_dark (Name w) rest h = name_dark w rest h
-item_dark (Versions items) rest h = stop_cons is_white 64 _ refl
-item_dark (Variant Plus w) rest h = stop_cons is_white 43 _ refl
-item_dark (Variant Tilde w) rest h = stop_cons is_white 126 _ refl
-item_dark (Variant Minus w) rest h = stop_cons is_white 45 _ refl
-item_dark (Compiler w items) rest h = stop_cons is_white 37 _ refl
-item_dark (Key w values) rest h = rw (append_assoc w (61 ∷ spell_values values) rest) (name_dark w (61 ∷ (spell_values values ++ rest)) h.0)
-item_dark Caret rest h = stop_cons is_white 94 _ refl
-
-some_name : {A : Type 0} (w rest : List ℕ) → IsName w → w ++ rest ≡ [] → A
-some_name [] rest h e = absurd cc
-some_name (b ∷ w) rest h e = cons_none b (w ++ rest) e
+item_dark item rest h = let d = dark_item item rest h in rw d.2 (stop_cons is_white d.0 d.1 d.3)
 
 pub some_item : {A : Type 0} (item : Item) (rest : List ℕ) → HasShape item → spell item ++ rest ≡ [] → A
-some_item (Name w) rest h e = some_name w rest h e
-some_item (Versions items) rest h e = cons_none 64 _ e
-some_item (Variant Plus w) rest h e = cons_none 43 _ e
-some_item (Variant Tilde w) rest h e = cons_none 126 _ e
-some_item (Variant Minus w) rest h e = cons_none 45 _ e
-some_item (Compiler w items) rest h e = cons_none 37 _ e
-some_item (Key w values) rest h e = some_name w (61 ∷ (spell_values values ++ rest)) h.0 (sym (append_assoc w (61 ∷ spell_values values) rest) ∙ e)
-some_item Caret rest h e = cons_none 94 _ e
+some_item item rest h e = let d = dark_item item rest h in cons_none d.0 d.1 (sym d.2 ∙ e)
 
 -- an item that is over before the front of a text is over before it
 over_more : (item : Item) (a rest : List ℕ) → IsOver item a → (a ≡ [] → ⊥) → IsOver item (a ++ rest)

@@ -1,50 +1,11 @@
 -- What was read before a place, one item more.
-use Rattle.std.proofs.Common.{◌≡◌, ℕ, ◌<◌, ◌≤◌, ◌+◌, Bool, false, List, [], ◌∷◌, ◌++◌, length, take, drop, Option, Some, None, nat_lt, refl, sym, ap, subst, ◌∙◌, arith, append_assoc}
-use Rattle.std.specs.Prelude.{option_and_then}
-use Rattle.std.specs.List.{AllByRecursion, prefix_len}
-use Rattle.std.proofs.lemmas.Bool.Decides.{nat_tests}
-use Rattle.std.proofs.lemmas.List.{append-nil, take-append-drop, take_at, drop-drop, length-drop, length-append, length-take}
+use Rattle.std.proofs.Common.{◌≡◌, ℕ, ◌<◌, ◌≤◌, ◌+◌, Bool, false, List, [], ◌∷◌, ◌++◌, length, take, drop, Option, Some, None, nat_lt, refl, sym, ap, subst, ◌∙◌, arith, append_assoc, option_and_then, take-append-drop, take_at, drop-drop, length-drop, length-append, length-take, take-add}
 use Rattle.std.proofs.lemmas.List.Sums.{prefix_len-le-length}
-use Rattle.std.proofs.Math.Seq.{take-add}
-use Rattle.spec_grammar.specs.Signs.{is_white, AreWhite}
-use Rattle.spec_grammar.specs.Items.{spell, IsOver}
-use Rattle.spec_grammar.specs.Right.{Step, spell_step, spell_steps, before_item, before_of, last_of, is_some_gap, IsOverLast, IsRightStep, AreRight}
-use Rattle.spec_grammar.specs.Meaning.{take_item}
-use Rattle.spec_grammar.specs.Reading.{Read, last_item, place_of, has_gap, IsRead, IsDark, HasNoEmpty, take_steps, begin}
-use Rattle.spec_grammar.specs.Locals.{IsTaken}
-use Rattle.spec_grammar.specs.declared.item.Item.{Item}
-use Rattle.spec_grammar.specs.declared.mode.Mode.{Mode}
-use Rattle.spec_grammar.specs.declared.mode.Before.{Before}
 use Rattle.spec_grammar.specs.declared.mode.Before.TheVariants.{Start}
-use Rattle.spec_grammar.specs.declared.draft.Draft.{Draft}
+use Rattle.spec_grammar.proofs.Common.{prefix_len, nat_tests, is_white, AreWhite, spell, IsOver, Step, spell_step, spell_steps, before_item, before_of, is_some_gap, IsOverLast, take_item, Read, last_item, place_of, has_gap, IsRead, IsDark, HasNoEmpty, take_steps, begin, IsTaken}
+use Rattle.spec_grammar.proofs.Common.{Item, Mode, Before, Draft}
 use Rattle.spec_grammar.proofs.RunLaws.{run_front, run_stop}
-
--- ---- one step more
-
-pub spell_push : (steps : List Step) (s : Step) → spell_steps (steps ++ s ∷ []) ≡ spell_steps steps ++ spell_step s
-spell_push [] s = append-nil (spell_step s)
-spell_push (x ∷ steps) s = rw (spell_push steps s) (sym (append_assoc (spell_step x) (spell_steps steps) (spell_step s)))
-
-pub last_push : (last : Option Item) (steps : List Step) (s : Step) → last_of last (steps ++ s ∷ []) ≡ Some s.item
-last_push last [] s = refl
-last_push last (x ∷ steps) s = last_push (Some x.item) steps s
-
-pub right_push : (mode : Mode) (last : Option Item) (steps : List Step) (s : Step) → AreRight mode last steps → IsRightStep mode (last_of last steps) s → AreRight mode last (steps ++ s ∷ [])
-right_push mode last [] s are is = (is, tt)
-right_push mode last (x ∷ steps) s are is = (are.0, right_push mode (Some x.item) steps s are.1 is)
-
-pub all_push : {X : Type 0} (P : X → Type 0) (xs : List X) (x : X) → AllByRecursion P xs → P x → AllByRecursion P (xs ++ x ∷ [])
-all_push P [] x h p = (p, tt)
-all_push P (y ∷ xs) x h p = (h.0, all_push P xs x h.1 p)
-
-pub take_push : (draft : Draft) (steps : List Step) (s : Step) → take_steps draft (steps ++ s ∷ []) ≡ option_and_then (λ next. take_item s.item next) (take_steps draft steps)
-unfolding take_steps
-take_push draft [] s = elim (take_item s.item draft) as (λ o. option_and_then (λ next. Some next) o ≡ o) [ None ↦ refl | Some p ↦ refl ]
-take_push draft (x ∷ steps) s =
-    elim (take_item x.item draft) as (λ o. option_and_then (λ next. take_steps next (steps ++ s ∷ [])) o ≡ option_and_then (λ next. take_item s.item next) (option_and_then (λ next. take_steps next steps) o)) [
-      | None ↦ refl
-      | Some next ↦ take_push next steps s
-    ]
+use Rattle.spec_grammar.proofs.StepLaws.{right_append, last_append, all_append, spell_one, take_append, take_one}
 
 -- what is over before a text is over before its front
 over_front : (item : Item) (a rest : List ℕ) → IsOver item (a ++ rest) → IsOver item a
@@ -123,24 +84,27 @@ stands_more mode text at n w draft next before gap more item s taken value e g =
       within = omega (arith, within, le, length-drop (at + n) text);
       is = record {
         cut = record {
-          right = right_push mode None read.steps step s.is.cut.right (record {
-            white = s.is.cut.white;
-            form = taken.cut.first.form;
-            stands = rw (s.before_is, s.gap_is) taken.stands;
-            over = over_last_front (last_item read) (spell_step step) rest (subst (IsOverLast (last_item read)) (ap (λ (l : List ℕ). read.trail ++ l) cut ∙ sym (append_assoc read.trail (spell item) rest)) s.over);
-          });
+          right = right_append mode None read.steps (step ∷ []) s.is.cut.right (
+            record {
+              white = s.is.cut.white;
+              form = taken.cut.first.form;
+              stands = rw (s.before_is, s.gap_is) taken.stands;
+              over = over_last_front (last_item read) (spell_step step) rest (subst (IsOverLast (last_item read)) (ap (λ (l : List ℕ). read.trail ++ l) cut ∙ sym (append_assoc read.trail (spell item) rest)) s.over);
+            },
+            tt,
+          );
           white = white_take (drop (at + n) text) w e;
           spelled =
-              rw (spell_push read.steps step)
+              rw (spell_one read.steps step)
               (take-add (at + n) w text
               ∙ ap (λ (l : List ℕ). l ++ take w (drop (at + n) text)) (take-add at n text ∙ ap (λ (l : List ℕ). take at text ++ l) front ∙ ap (λ (l : List ℕ). l ++ spell item) s.is.cut.spelled ∙ append_assoc (spell_steps read.steps) read.trail (spell item)));
         };
-        ranges = all_push HasNoEmpty read.steps step s.is.ranges taken.cut.ranges;
-        value = take_push (begin mode) read.steps step ∙ ap (option_and_then (λ d. take_item item d)) (s.is.value ∙ ap (λ d. Some d) s.draft_is) ∙ value;
+        ranges = all_append HasNoEmpty read.steps (step ∷ []) s.is.ranges (taken.cut.ranges, tt);
+        value = take_append (begin mode) read.steps (step ∷ []) ∙ ap (option_and_then (λ d. take_steps d (step ∷ []))) (s.is.value ∙ ap (λ d. Some d) s.draft_is) ∙ take_one draft step ∙ value;
       };
       draft_is = refl;
-      before_is = ap before_of (last_push None read.steps step);
+      before_is = ap before_of (last_append None read.steps (step ∷ []));
       gap_is = take_gap (drop (at + n) text) w le ∙ sym g;
-      over = rw (last_push None read.steps step, behind, ← here) taken.cut.first.over;
+      over = rw (last_append None read.steps (step ∷ []), behind, ← here) taken.cut.first.over;
       dark = λ lt. white_dark text (at + n) w e lt;
     }

@@ -1,18 +1,9 @@
 -- Where the machine of values stops, the values end.
-use Rattle.std.proofs.Common.{◌≡◌, ℕ, ◌<◌, ◌≤◌, ◌+◌, zero, suc, true, false, List, [], ◌∷◌, ◌++◌, length, take, drop, get_or, Option, Some, None, refl, sym, ap, subst, ◌∙◌, arith, inl, inr}
-use Rattle.std.specs.Prelude.{◌==◌}
-use Rattle.std.proofs.lemmas.Bool.{cases_order, cases_lt}
-use Rattle.std.proofs.lemmas.Bool.Decides.{nat_tests}
-use Rattle.std.proofs.lemmas.List.{take-append-drop, take-take, length-take, take_at, drop_at, take-append-le, get_or_append_left, drop_more, length-append}
-use Rattle.version_order.specs.Machine.{run}
+use Rattle.std.proofs.Common.{◌≡◌, ℕ, ◌<◌, ◌≤◌, ◌+◌, true, false, List, [], ◌∷◌, ◌++◌, length, take, drop, get_or, Option, Some, None, refl, sym, ap, subst, ◌∙◌, arith, inl, inr, ◌==◌, take-append-drop, take-take, length-take, take_at, drop_at, length-append}
 use Rattle.version_order.proofs.MachineLaws.{run-append}
-use Rattle.spec_grammar.specs.Signs.{is_value_byte}
-use Rattle.spec_grammar.specs.Items.{spell_values, is_run_byte}
-use Rattle.spec_grammar.specs.Values.{start_run, after, is_whole, Stops}
-use Rattle.spec_grammar.specs.Locals.{goes_on, AreFirst, AreValuesAt, AreStuck, Varies, varied}
-use Rattle.spec_grammar.specs.declared.key.KeyKind.{KeyKind}
-use Rattle.spec_grammar.specs.declared.values.Run.{Run}
-use Rattle.spec_grammar.specs.declared.values.Run.TheVariants.{One, Many, Target, First, Second, Third}
+use Rattle.std.proofs.Math.Seq.{get_or-append_seam}
+use Rattle.spec_grammar.proofs.Common.{cases_order, cases_lt, nat_tests, take-append-le, get_or_append_left, drop_more, get_or-take, run, is_value_byte, spell_values, is_run_byte, start_run, after, is_whole, Stops, goes_on, AreFirst, AreValuesAt, AreStuck, Varies, varied, same_Some, none-some}
+use Rattle.spec_grammar.proofs.Common.{KeyKind, Run, One, Many, Target, First, Second, Third}
 use Rattle.spec_grammar.proofs.RunLaws.{true_false}
 use Rattle.spec_grammar.proofs.CutLaws.{IsSoFarAll}
 use Rattle.spec_grammar.proofs.VaryLaws.{varied_end, varied_front, varied_get, varied_length}
@@ -30,36 +21,20 @@ after_stop (First some) b h = let n = no_byte b h in rw (n.0, n.3) refl
 after_stop (Second some) b h = let n = no_byte b h in rw (n.0, n.3) refl
 after_stop (Third some colon) b h = let n = no_byte b h in rw (n.0, n.3, n.2) refl
 
-none_some : {A S : Type 0} (s : S) → None ≡ Some s → A
-none_some s e = absurd cc
-
-run_same : (s t : Run) → Some s ≡ Some t → s ≡ t
-run_same s t e = cc
-
 -- a machine that is stuck within a text does not go over it
 pub stuck_within : {S : Type 0} (step : S → ℕ → Option S) (start s t : S) (l : List ℕ) (n : ℕ) → n < length l → run step start (take n l) ≡ Some s → step s (get_or l n 0) ≡ None → run step start l ≡ Some t → ⊥
 stuck_within step start s t l n lt here stuck there =
     let cut : l ≡ take n l ++ get_or l n 0 ∷ drop (n + 1) l = sym (take-append-drop n l) ∙ ap (λ (k : List ℕ). take n l ++ k) (drop_more l n 0 lt) in
     let none : run step start (take n l ++ get_or l n 0 ∷ drop (n + 1) l) ≡ None = rw (run-append step start (take n l) (get_or l n 0 ∷ drop (n + 1) l), here, stuck) refl in
-    none_some t (sym none ∙ ap (run step start) (sym cut) ∙ there)
-
-byte_at : (l : List ℕ) (b : ℕ) (rest : List ℕ) → get_or (l ++ b ∷ rest) (length l) 0 ≡ b
-byte_at [] b rest = refl
-byte_at (c ∷ l) b rest = byte_at l b rest
-
-get_or_take : (l : List ℕ) (n i : ℕ) → i < n → get_or (take n l) i 0 ≡ get_or l i 0
-get_or_take l zero i lt = absurd (omega arith)
-get_or_take [] (suc n) i lt = refl
-get_or_take (b ∷ l) (suc n) zero lt = refl
-get_or_take (b ∷ l) (suc n) (suc i) lt = get_or_take l n i (omega arith)
+    absurd (none-some t (sym none ∙ ap (run step start) (sym cut) ∙ there))
 
 not_further : (start s v : Run) (l rest : List ℕ) (n : ℕ) → length l < n → n ≤ length (l ++ rest) → run after start l ≡ Some s → goes_on rest ≡ false → run after start (take n (l ++ rest)) ≡ Some v → ⊥
 not_further start s v l [] n gt le here over there = absurd (omega (arith, length-append l []))
 not_further start s v l (b ∷ rest) n gt le here over there =
     let t : List ℕ = take n (l ++ b ∷ rest) in
-    let at : get_or (l ++ b ∷ rest) (length l) 0 ≡ b = byte_at l b rest in
+    let at : get_or (l ++ b ∷ rest) (length l) 0 ≡ b = get_or-append_seam l b rest 0 in
     let front : take (length l) t ≡ l = take-take (length l) n (l ++ b ∷ rest) (omega arith) ∙ take_at l (b ∷ rest) (length l) refl in
-    let same : get_or t (length l) 0 ≡ b = get_or_take (l ++ b ∷ rest) n (length l) (omega arith) ∙ at in
+    let same : get_or t (length l) 0 ≡ b = get_or-take n (l ++ b ∷ rest) (length l) 0 (omega arith) ∙ at in
     let long : length l < length t = omega (arith, length-take n (l ++ b ∷ rest)) in
     stuck_within after start s v t (length l) long (rw front here) (rw same (after_stop s b over)) there
 
@@ -73,7 +48,7 @@ values_stop k start v text n values rest e stops first =
     elim (cases_order n (length l)) [
       | inl same ↦
           let here : run after start l ≡ Some v = rw (take_at l rest n (sym same)) at reached in
-          (same, ap is_whole (run_same v a.0 (sym here ∙ a.1)) ∙ a.2)
+          (same, ap is_whole (same_Some v a.0 (sym here ∙ a.1)) ∙ a.2)
       | inr (inl lt) ↦
           let here : run after start (take n l) ≡ Some v = rw (take-append-le n l rest (omega arith)) at reached in
           let stuck : after v (get_or (l ++ rest) n 0) ≡ None = rw (← first.cut) (stops.stuck (omega (arith, ap length first.cut, length-append l rest))) in

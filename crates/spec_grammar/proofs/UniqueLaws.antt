@@ -1,23 +1,15 @@
 -- One item stands at the front of a text: a run is always the longest one.
-use Rattle.std.proofs.Common.{◌≡◌, ℕ, true, false, List, [], ◌∷◌, ◌++◌, Option, Some, None, refl, sym, ap, subst, ◌∙◌, inl, inr, append_assoc}
-use Rattle.std.specs.Prelude.{◌⊎◌}
-use Rattle.std.specs.List.{AllByRecursion, list_all}
-use Rattle.std.proofs.lemmas.Bool.{and_parts}
-use Rattle.version_order.specs.Items.{Reads, IsList, spelling}
-use Rattle.version_order.specs.declared.item.Item.{Item as Range}
+use Rattle.std.proofs.Common.{◌≡◌, ℕ, true, false, List, [], ◌∷◌, ◌++◌, Option, Some, None, refl, sym, ap, subst, ◌∙◌, inl, inr, append_assoc, ◌⊎◌}
 use Rattle.version_order.proofs.SoFarLaws.{one_reading}
-use Rattle.spec_grammar.specs.Signs.{is_name_byte, is_value_byte, IsValue}
-use Rattle.spec_grammar.specs.Items.{spell, spell_more, spell_values, spell_list, AreListed, AreValues, IsOver, is_run_byte, kind_of}
-use Rattle.spec_grammar.specs.Reading.{IsFirst}
-use Rattle.spec_grammar.specs.Locals.{goes_on}
-use Rattle.spec_grammar.specs.declared.item.Item.{Item}
-use Rattle.spec_grammar.specs.declared.item.Item.TheVariants.{Name, Versions, Variant, Compiler, Key, Caret}
+use Rattle.spec_grammar.proofs.Common.{AllByRecursion, list_all, and_parts, Reads, IsList, spelling, is_name_byte, is_value_byte, IsValue, spell, spell_more, spell_values, spell_list, AreListed, AreValues, IsOver, is_run_byte, kind_of, IsFirst, goes_on, append_cancel_left, same_Some}
+use Rattle.spec_grammar.proofs.Common.{Range, Item, Name, Versions, Variant, Compiler, Key, Caret}
 use Rattle.spec_grammar.proofs.RunLaws.{Stop, stop_cons, run_cut, two_cons, cons_none, value_run}
 use Rattle.spec_grammar.proofs.CutLaws.{more_stop}
 use Rattle.spec_grammar.proofs.KindLaws.{first_kind, over_name, over_variant}
 use Rattle.spec_grammar.proofs.ListLaws.{IsListOver, at_versions}
-use Rattle.spec_grammar.proofs.NameLaws.{name_cut, kind_same, at_name, at_variant, at_compiler, at_caret, over_compiler}
+use Rattle.spec_grammar.proofs.NameLaws.{name_cut, at_name, at_variant}
 use Rattle.spec_grammar.proofs.KeyLaws.{at_key, over_run}
+use Rattle.spec_grammar.proofs.CompilerLaws.{at_compiler, at_caret, over_compiler}
 
 -- which of two fronts of one list goes on further
 abbrev Longer : List ℕ → List ℕ → List ℕ → Type 0
@@ -138,11 +130,7 @@ one_item text Caret j rest behind k f g =
     let a = at_caret rest j behind (subst (λ (l : List ℕ). IsFirst l j behind) f.cut g) in
     sym a.same
 
-cancel : (a r s : List ℕ) → a ++ r ≡ a ++ s → r ≡ s
-cancel [] r s e = e
-cancel (b ∷ a) r s e = cancel a r s (two_cons _ _ _ _ e).1
-
 pub one_first : (text : List ℕ) (i j : Item) (rest behind : List ℕ) → IsFirst text i rest → IsFirst text j behind → (i ≡ j) × (rest ≡ behind)
 one_first text i j rest behind f g =
-    let same = one_item text i j rest behind (kind_same _ _ (sym (first_kind text i rest f) ∙ first_kind text j behind g)) f g in
-    (same, cancel (spell j) rest behind (ap (λ (x : Item). spell x ++ rest) (sym same) ∙ sym f.cut ∙ g.cut))
+    let same = one_item text i j rest behind (same_Some _ _ (sym (first_kind text i rest f) ∙ first_kind text j behind g)) f g in
+    (same, append_cancel_left (spell j) rest behind (ap (λ (x : Item). spell x ++ rest) (sym same) ∙ sym f.cut ∙ g.cut))

@@ -1,19 +1,6 @@
 -- Texts that begin alike.
-use Rattle.std.proofs.Common.{◌≡◌, ℕ, zero, suc, ◌<◌, ◌≤◌, ◌+◌, List, [], ◌∷◌, ◌++◌, length, take, drop, get_or, refl, sym, ap, subst, ◌∙◌, arith, inl, inr, append_assoc, zero-add}
-use Rattle.std.proofs.lemmas.Bool.{cases_lt}
-use Rattle.std.proofs.lemmas.List.{append-nil, take-append-drop, take-append-le, take-take, take_all, take_at, get_or_append_left, length-append, length-take, length-drop}
-use Rattle.version_order.specs.Fronts.{Begins, IsLongestFront}
-use Rattle.spec_grammar.specs.Locals.{Varies, varied}
-
-pub nil_of : (l : List ℕ) → length l ≡ 0 → l ≡ []
-nil_of [] e = refl
-nil_of (b ∷ l) e = absurd (omega arith)
-
-get_or_take : (l : List ℕ) (n i : ℕ) → i < n → get_or (take n l) i 0 ≡ get_or l i 0
-get_or_take l zero i lt = absurd (omega arith)
-get_or_take [] (suc n) i lt = refl
-get_or_take (b ∷ l) (suc n) zero lt = refl
-get_or_take (b ∷ l) (suc n) (suc i) lt = get_or_take l n i (omega arith)
+use Rattle.std.proofs.Common.{◌≡◌, ℕ, suc, ◌<◌, ◌≤◌, ◌+◌, List, [], ◌∷◌, ◌++◌, length, take, drop, get_or, refl, sym, ap, subst, ◌∙◌, arith, inl, inr, append_assoc, zero-add, append-nil, take-append-drop, take-take, take_all, take_at, length-append, length-take, length-drop}
+use Rattle.spec_grammar.proofs.Common.{cases_lt, take-append-le, get_or_append_left, get_or-take, nil_from_length, Begins, IsLongestFront, Varies, varied}
 
 take-append-add : (a l : List ℕ) (n : ℕ) → take (length a + n) (a ++ l) ≡ a ++ take n l
 take-append-add [] l n = ap (λ (k : ℕ). take k l) (zero-add n)
@@ -25,7 +12,7 @@ varied_end text q more v le = ap (λ (l : List ℕ). take (q + 1) text ++ l) (v 
 
 -- the text itself
 pub varied_own : (text : List ℕ) (q : ℕ) → (more : List ℕ) × Varies text q more × (varied text q more ≡ text)
-varied_own text q = (drop (q + 1) text, λ le. nil_of (drop (q + 1) text) (omega (arith, length-drop (q + 1) text)), take-append-drop (q + 1) text)
+varied_own text q = (drop (q + 1) text, λ le. nil_from_length (drop (q + 1) text) (omega (arith, length-drop (q + 1) text)), take-append-drop (q + 1) text)
 
 pub varied_front : (text : List ℕ) (q : ℕ) (more : List ℕ) → q ≤ length text → take q (varied text q more) ≡ take q text
 varied_front text q more le = take-append-le q (take (q + 1) text) more (omega (arith, length-take (q + 1) text)) ∙ take-take q (q + 1) text (omega arith)
@@ -34,7 +21,7 @@ pub varied_front_more : (text : List ℕ) (q : ℕ) (more : List ℕ) → q < le
 varied_front_more text q more lt = take_at (take (q + 1) text) more (q + 1) (length-take (q + 1) text ∙ omega arith)
 
 pub varied_get : (text : List ℕ) (q : ℕ) (more : List ℕ) → q < length text → get_or (varied text q more) q 0 ≡ get_or text q 0
-varied_get text q more lt = get_or_append_left (take (q + 1) text) more 0 q (omega (arith, length-take (q + 1) text)) ∙ get_or_take text (q + 1) q (omega arith)
+varied_get text q more lt = get_or_append_left (take (q + 1) text) more 0 q (omega (arith, length-take (q + 1) text)) ∙ get_or-take (q + 1) text q 0 (omega arith)
 
 pub varied_length : (text : List ℕ) (q : ℕ) (more : List ℕ) → q ≤ length text → q ≤ length (varied text q more)
 varied_length text q more le = omega (arith, length-append (take (q + 1) text) more, length-take (q + 1) text)
@@ -46,21 +33,19 @@ pub varies_cons : (b : ℕ) (text : List ℕ) (q : ℕ) (more : List ℕ) → Va
 varies_cons b text q more v le = v (omega arith)
 
 -- behind a front
-pub varied_behind : (text : List ℕ) (n b : ℕ) (list : List ℕ) (q : ℕ) (more : List ℕ) → n ≤ length text → drop n text ≡ b ∷ list → varied text (n + 1 + q) more ≡ take n text ++ b ∷ varied list q more
-varied_behind text n b list q more le e =
+pub front_behind : (text : List ℕ) (n b : ℕ) (list : List ℕ) (q : ℕ) → n ≤ length text → drop n text ≡ b ∷ list → take (n + 1 + q) text ≡ take n text ++ b ∷ take q list
+front_behind text n b list q le e =
     let cut : text ≡ take n text ++ b ∷ list = sym (take-append-drop n text) ∙ ap (λ (l : List ℕ). take n text ++ l) e in
-    let long : length (take n text) ≡ n = length-take n text ∙ omega arith in
-    let more_bytes : n + 1 + q + 1 ≡ length (take n text) + suc (q + 1) = omega (arith, long) in
-    let front : take (n + 1 + q + 1) text ≡ take n text ++ b ∷ take (q + 1) list = ap (λ (k : ℕ). take k text) more_bytes ∙ ap (take (length (take n text) + suc (q + 1))) cut ∙ take-append-add (take n text) (b ∷ list) (suc (q + 1)) in
-    ap (λ (l : List ℕ). l ++ more) front ∙ append_assoc (take n text) (b ∷ take (q + 1) list) more
+    let bytes : n + 1 + q ≡ length (take n text) + suc q = omega (arith, length-take n text) in
+    ap (λ (k : ℕ). take k text) bytes ∙ ap (take (length (take n text) + suc q)) cut ∙ take-append-add (take n text) (b ∷ list) (suc q)
 
 pub take_behind : (text : List ℕ) (n b : ℕ) (list : List ℕ) (q : ℕ) (tail : List ℕ) → n ≤ length text → drop n text ≡ b ∷ list → take (n + 1 + q) text ++ tail ≡ take n text ++ b ∷ (take q list ++ tail)
-take_behind text n b list q tail le e =
-    let cut : text ≡ take n text ++ b ∷ list = sym (take-append-drop n text) ∙ ap (λ (l : List ℕ). take n text ++ l) e in
-    let long : length (take n text) ≡ n = length-take n text ∙ omega arith in
-    let bytes : n + 1 + q ≡ length (take n text) + suc q = omega (arith, long) in
-    let front : take (n + 1 + q) text ≡ take n text ++ b ∷ take q list = ap (λ (k : ℕ). take k text) bytes ∙ ap (take (length (take n text) + suc q)) cut ∙ take-append-add (take n text) (b ∷ list) (suc q) in
-    ap (λ (l : List ℕ). l ++ tail) front ∙ append_assoc (take n text) (b ∷ take q list) tail
+take_behind text n b list q tail le e = ap (λ (l : List ℕ). l ++ tail) (front_behind text n b list q le e) ∙ append_assoc (take n text) (b ∷ take q list) tail
+
+pub varied_behind : (text : List ℕ) (n b : ℕ) (list : List ℕ) (q : ℕ) (more : List ℕ) → n ≤ length text → drop n text ≡ b ∷ list → varied text (n + 1 + q) more ≡ take n text ++ b ∷ varied list q more
+varied_behind text n b list q more le e =
+    let place : n + 1 + q + 1 ≡ n + 1 + (q + 1) = omega arith in
+    ap (λ (k : ℕ). take k text ++ more) place ∙ take_behind text n b list (q + 1) more le e
 
 pub varies_behind : (text : List ℕ) (n b : ℕ) (list : List ℕ) (q : ℕ) (more : List ℕ) → drop n text ≡ b ∷ list → Varies text (n + 1 + q) more → Varies list q more
 varies_behind text n b list q more e v le = v (omega (arith, ap length e, length-drop n text))

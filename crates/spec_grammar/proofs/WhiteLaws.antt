@@ -1,25 +1,14 @@
 -- No item goes on with white space.
-use Rattle.std.proofs.Common.{◌≡◌, ℕ, true, false, List, [], ◌∷◌, ◌++◌, Option, Some, None, refl, sym, subst, ◌∙◌, arith, append_assoc}
-use Rattle.std.specs.Prelude.{◌==◌, ◌||◌, option_and_then}
-use Rattle.std.specs.List.{list_all}
-use Rattle.std.proofs.lemmas.Bool.{and_parts}
-use Rattle.std.proofs.lemmas.Bool.Decides.{nat_tests}
-use Rattle.version_order.specs.Signs.{is_start, is_version_byte}
-use Rattle.version_order.specs.Fronts.{Begins}
-use Rattle.version_order.specs.Machine.{run}
-use Rattle.version_order.specs.Items.{IsList, spelling}
-use Rattle.version_order.specs.declared.item.Item.{Item as Range}
+use Rattle.std.proofs.Common.{◌≡◌, ℕ, true, false, List, [], ◌∷◌, ◌++◌, Option, Some, None, refl, sym, subst, ◌∙◌, arith, append_assoc, ◌==◌, ◌||◌, option_and_then}
+use Rattle.version_order.specs.Signs.{is_version_byte}
 use Rattle.version_order.specs.Scan as list
 use Rattle.version_order.specs.declared.scan.Sign.TheVariants as sign_list
 use Rattle.version_order.specs.declared.scan.Place.{Place}
 use Rattle.version_order.specs.declared.scan.Place.TheVariants as place
 use Rattle.version_order.proofs.MachineLaws.{run-append}
 use Rattle.version_order.proofs.AcceptLaws.{list_accepted}
-use Rattle.spec_grammar.specs.Signs.{is_white, AreWhite, is_name_byte}
-use Rattle.spec_grammar.specs.Items.{is_name_end, is_run_byte, GoesOn, IsOver}
-use Rattle.spec_grammar.specs.Right.{IsOverLast}
-use Rattle.spec_grammar.specs.declared.item.Item.{Item}
-use Rattle.spec_grammar.specs.declared.item.Item.TheVariants.{Name, Versions, Variant, Compiler, Key, Caret}
+use Rattle.spec_grammar.proofs.Common.{list_all, and_parts, nat_tests, is_start, Begins, run, IsList, spelling, is_white, AreWhite, is_name_byte, is_name_end, is_run_byte, GoesOn, IsOver, IsOverLast, none-some}
+use Rattle.spec_grammar.proofs.Common.{Range, Item, Name, Versions, Variant, Compiler, Key, Caret}
 use Rattle.spec_grammar.proofs.RunLaws.{true_false, two_cons, cons_none}
 
 -- no LIST goes on with another sign
@@ -50,9 +39,6 @@ white-sign b h = rw (white-version b h, white-start b h, (white-marks b h).0, (w
 pub white_list : (p : Place) (b : ℕ) → is_white b ≡ true → list.step p b ≡ None
 white_list p b h = list_other p b (white-sign b h)
 
-none_some : (s : Place) → None ≡ Some s → ⊥
-none_some s e = cc
-
 -- a machine of a LIST that is stuck at a byte
 pub list_stuck : (l : List ℕ) (b : ℕ) (more : List ℕ) → ((p : Place) → list.step p b ≡ None) → IsList (l ++ b ∷ more) → ⊥
 list_stuck l b more stuck is =
@@ -63,7 +49,7 @@ list_stuck l b more stuck is =
       | None ↦ refl
       | Some p ↦ rw (stuck p) refl
     ]) in
-    none_some a.0 (sym none ∙ a.1)
+    none-some a.0 (sym none ∙ a.1)
 
 list_white : (items : List Range) (b : ℕ) → is_white b ≡ true → Begins IsList (spelling items ++ b ∷ []) → ⊥
 list_white items b h (rest, is) = list_stuck (spelling items) b rest (λ p. white_list p b h) (subst IsList (append_assoc (spelling items) (b ∷ []) rest) is)

@@ -1,9 +1,13 @@
 -- The canonical text of a spec.
-use Rattle.std.specs.Prelude.{ℕ, List, [], ◌∷◌, ◌++◌, Option, Some, None, if◌then◌else◌, codes}
+use Rattle.std.specs.Prelude.{◌≡◌, ℕ, true, List, [], ◌∷◌, ◌++◌, map, Option, Some, None, IsSome, if◌then◌else◌, codes}
+use Rattle.std.specs.List.{All}
 use Rattle.std.specs.Str.{bytes_eq}
 use Rattle.version_order.specs.declared.item.Item.{Item as Range}
+use Rattle.variant_values.specs.Texts.{IsInByteOrder}
 use Rattle.spec_grammar.specs.Items.{spell_values, spell_list}
+use Rattle.spec_grammar.specs.Right.{needs_name}
 use Rattle.spec_grammar.specs.Meaning.{Settings}
+use Rattle.spec_grammar.specs.declared.mode.Mode.{Mode}
 use Rattle.spec_grammar.specs.declared.part.Part.{Part}
 use Rattle.spec_grammar.specs.declared.part.Spec.{Spec}
 use Rattle.spec_grammar.specs.declared.part.TargetItem.{TargetItem}
@@ -69,3 +73,16 @@ below_text (p ∷ below) = codes " ^" ++ (part_text p ++ below_text below)
 
 unfoldable pub spec_text : Spec → List ℕ
 spec_text s = part_text s.top ++ below_text s.below
+
+-- ---- what holds of each spec that was read
+
+-- only the first part of a condition may have no name
+abbrev pub AreNamed : Mode → Spec → Type 0
+AreNamed mode s = (needs_name mode ≡ true → IsSome s.top.name) × All (λ p. IsSome p.name) s.below
+
+abbrev pub variant_names : Settings → List (List ℕ)
+variant_names variants = map (λ v. v.0) variants
+
+-- each part names a variant once, in byte order
+abbrev pub AreInOrder : Spec → Type 0
+AreInOrder s = All (λ p. IsInByteOrder (variant_names p.variants)) (s.top ∷ s.below)

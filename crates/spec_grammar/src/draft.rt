@@ -4,7 +4,10 @@ ghost use Rattle.std.specs.Prelude.{◌≡◌, IfOk};
 ghost use Rattle.spec_grammar.specs.Meaning.{spec_with};
 
 use crate::constrain::add;
-use crate::{Item, Mode, Part, Spec};
+use crate::item::Item;
+use crate::mode::Mode;
+use crate::open_part::OpenPart;
+use crate::{Part, Spec};
 use plain_data::{List, Word};
 use std::alloc::{AllocError, Global};
 
@@ -18,26 +21,7 @@ pub struct Draft {
     /// Its further parts that are over.
     pub below: List<Part>,
     /// The part at hand. `None` where a NAME is needed.
-    pub part: Option<Part>,
-}
-
-impl Part {
-    ghost use Rattle.spec_grammar.specs.Meaning.{empty_part};
-
-    /// A part of which nothing is asked but its name.
-    pub(crate) fn empty(alloc: Global, name: Option<Word>) -> Part
-        ensures { result ≡ empty_part name }
-    {
-        Part {
-            name,
-            versions: None,
-            variants: List::new(alloc),
-            compiler: None,
-            platform: None,
-            os: None,
-            targets: None,
-        }
-    }
+    pub part: Option<OpenPart>,
 }
 
 impl Draft {
@@ -52,7 +36,7 @@ impl Draft {
         let part = if mode.needs_name() {
             None
         } else {
-            Some(Part::empty(alloc, None))
+            Some(OpenPart::empty(alloc, None))
         };
         Draft {
             specs: List::new(alloc),
@@ -63,7 +47,7 @@ impl Draft {
     }
 
     /// The part at hand is over, and `^` stands behind it.
-    fn nest(self, part: Part) -> Result<Draft, AllocError>
+    fn nest(self, alloc: Global, part: OpenPart) -> Result<Draft, AllocError>
         ensures { IfOk result (λ next. next ≡ nest self part) }
     {
         let Draft {
@@ -72,6 +56,7 @@ impl Draft {
             mut below,
             ..
         } = self;
+        let part = part.close(alloc)?;
         let Some(first) = top else {
             return Ok(Draft {
                 specs,
@@ -90,7 +75,7 @@ impl Draft {
     }
 
     /// The specs, where this part is the last.
-    pub(crate) fn finish(self, part: Part) -> Result<List<Spec>, AllocError>
+    pub(crate) fn finish(self, alloc: Global, part: OpenPart) -> Result<List<Spec>, AllocError>
         ensures { IfOk result (λ specs. specs ≡ finish self part) }
     {
         let Draft {
@@ -99,6 +84,7 @@ impl Draft {
             below,
             ..
         } = self;
+        let part = part.close(alloc)?;
         specs.push(spec_with(top, below, part)?)?;
         Ok(specs)
     }
@@ -114,7 +100,7 @@ impl Draft {
             part,
         } = self;
         let Some(part) = part else {
-            let part = Some(Part::empty(alloc, Some(name)));
+            let part = Some(OpenPart::empty(alloc, Some(name)));
             return Ok(Draft {
                 specs,
                 top,
@@ -123,7 +109,7 @@ impl Draft {
             });
         };
         if part.name.is_none() {
-            let part = Some(Part {
+            let part = Some(OpenPart {
                 name: Some(name),
                 ..part
             });
@@ -141,10 +127,10 @@ impl Draft {
             part: None,
         };
         Ok(Draft {
-            specs: draft.finish(part)?,
+            specs: draft.finish(alloc, part)?,
             top: None,
             below: List::new(alloc),
-            part: Some(Part::empty(alloc, Some(name))),
+            part: Some(OpenPart::empty(alloc, Some(name))),
         })
     }
 
@@ -173,7 +159,7 @@ impl Draft {
     }
 
     /// `^` stands behind the part at hand.
-    fn take_caret(self) -> Result<Option<Draft>, AllocError>
+    fn take_caret(self, alloc: Global) -> Result<Option<Draft>, AllocError>
         ensures { IfOk result (λ next. next ≡ take_item Item.Caret self) }
     {
         let Draft {
@@ -191,7 +177,7 @@ impl Draft {
             below,
             part: None,
         };
-        Ok(Some(draft.nest(part)?))
+        Ok(Some(draft.nest(alloc, part)?))
     }
 
     /// An item more, and `None` where it sets the same again.
@@ -200,7 +186,7 @@ impl Draft {
     {
         match item {
             Item::Name(name) => Ok(Some(self.begin_part(alloc, name)?)),
-            Item::Caret => self.take_caret(),
+            Item::Caret => self.take_caret(alloc),
             item => self.constrain(alloc, item),
         }
     }
@@ -223,7 +209,7 @@ impl Draft {
     ghost use Rattle.spec_grammar.specs.Meaning.{finish};
 
     /// The specs, where a part is at hand.
-    pub(crate) fn into_specs(self) -> Result<Option<List<Spec>>, AllocError>
+    pub(crate) fn into_specs(self, alloc: Global) -> Result<Option<List<Spec>>, AllocError>
         ensures { IfOk result (λ specs. specs ≡ option_map (finish self) self.part) }
     {
         let Draft {
@@ -241,6 +227,6 @@ impl Draft {
             below,
             part: None,
         };
-        Ok(Some(draft.finish(part)?))
+        Ok(Some(draft.finish(alloc, part)?))
     }
 }

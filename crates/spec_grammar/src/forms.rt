@@ -3,9 +3,10 @@
 ghost use Rattle.std.specs.Prelude.{◌≡◌};
 ghost use Rattle.spec_grammar.specs.Forms.{form_at, form_behind, form_of_sign, is_flags};
 
-use crate::key::key_of;
+use crate::Form;
+use crate::key::{KeyKind, key_of};
+use crate::mode::Mode;
 use crate::signs::name_length;
-use crate::{Form, KeyKind, Mode};
 
 fn is_flags(key: KeyKind) -> bool
     ensures { result ≡ is_flags key }

@@ -15,6 +15,7 @@ mod forms;
 mod item;
 mod key;
 mod mode;
+mod open_part;
 mod part;
 mod read;
 mod read_item;
@@ -25,16 +26,11 @@ mod values;
 mod values_set;
 mod write;
 
-pub use draft::Draft;
 pub use fault::{Form, SpecFault};
-pub use item::{Item, Kind, Mark};
-pub use key::KeyKind;
-pub use mode::{Before, Mode};
 pub use part::{Part, Spec, TargetItem};
 pub use read::{
     read_condition, read_condition_bytes, read_dependency, read_dependency_bytes, read_provision,
     read_provision_bytes, read_specs, read_specs_bytes,
 };
-pub use theorems::reading_laws;
-pub use values::Run;
+pub use theorems::{reading_laws, writing_laws};
 pub use write::write_spec;

@@ -3,7 +3,7 @@
 ghost use Rattle.std.specs.Prelude.{◌≡◌};
 ghost use Rattle.spec_grammar.specs.Right.{is_apart};
 
-use crate::{Kind, Mark};
+use crate::item::{Kind, Mark};
 
 /// The kinds of spec texts.
 #[derive(Clone, Copy, Debug)]

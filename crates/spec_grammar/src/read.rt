@@ -6,8 +6,9 @@ ghost use Rattle.spec_grammar.specs.Reading.{Spells};
 ghost use Rattle.spec_grammar.specs.Faults.{IsFault};
 ghost use Rattle.spec_grammar.specs.declared.part.Spec.{Spec};
 
+use crate::mode::Mode;
 use crate::reading::read_text;
-use crate::{Mode, Part, Spec, SpecFault};
+use crate::{Part, Spec, SpecFault};
 use plain_data::List;
 use std::alloc::Global;
 

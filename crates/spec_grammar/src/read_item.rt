@@ -6,10 +6,12 @@ ghost use Rattle.spec_grammar.specs.Signs.{name_length};
 ghost use Rattle.spec_grammar.specs.Items.{kind_at, kind_by, kind_of, mark_byte, starts_with_byte};
 ghost use Rattle.spec_grammar.specs.Locals.{IsListAt, IsListFault, IsCutOff, IsItemFault, IsTaken, IsRefused, refused_place, moved, Fits};
 
+use crate::SpecFault;
+use crate::item::{Item, Kind, Mark};
 use crate::key::key_of;
+use crate::mode::{Before, Mode};
 use crate::signs::{is_start, name_length, word};
 use crate::values::{start_run, values_from};
-use crate::{Before, Item, Kind, Mark, Mode, SpecFault};
 use std::alloc::Global;
 use version_order::{VersionSet, VersionSetFault, list_front};
 

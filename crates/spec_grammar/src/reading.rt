@@ -9,9 +9,11 @@ ghost use Rattle.spec_grammar.specs.Faults.{IsFault};
 
 use crate::draft::Draft;
 use crate::forms::form_at;
+use crate::item::Item;
+use crate::mode::{Before, Mode};
 use crate::read_item::{moved, read_item};
 use crate::signs::white_length;
-use crate::{Before, Item, Mode, Spec, SpecFault};
+use crate::{Spec, SpecFault};
 use plain_data::List;
 use std::alloc::Global;
 
@@ -69,7 +71,7 @@ pub(crate) fn read_text(alloc: Global, mode: Mode, text: &[u8]) -> Result<List<S
         gap = white > 0;
         at += white;
     }
-    match draft.into_specs()? {
+    match draft.into_specs(alloc)? {
         Some(specs) => Ok(specs),
         None => Err(SpecFault::Expected(at as u64)),
     }

@@ -7,8 +7,9 @@ ghost use Rattle.spec_grammar.specs.Items.{spell_values};
 ghost use Rattle.spec_grammar.specs.Values.{start_run, after, is_whole, Stops};
 ghost use Rattle.spec_grammar.specs.Locals.{goes_on, AreValuesAt, IsValuesFault};
 
+use crate::SpecFault;
+use crate::key::KeyKind;
 use crate::signs::{is_value_byte, value_bytes, word};
-use crate::{KeyKind, SpecFault};
 use plain_data::{List, Word};
 use std::alloc::{AllocError, Global};
 

@@ -5,7 +5,8 @@ ghost use Rattle.std.specs.List.{before_first, after_first, position_or_len};
 ghost use Rattle.spec_grammar.specs.Keys.{is_colon};
 ghost use Rattle.spec_grammar.specs.Meaning.{truth, put_all, end_of, target_of, is_dash, mark_value};
 
-use crate::{Mark, TargetItem};
+use crate::TargetItem;
+use crate::item::Mark;
 use plain_data::{List, Word};
 use std::alloc::{AllocError, Global};
 use variant_values::ValueSet;
@@ -27,11 +28,11 @@ pub(crate) fn truth(alloc: Global, text: &str) -> Result<Word, AllocError>
 pub(crate) fn value_set(alloc: Global, values: &[Word]) -> Result<ValueSet, AllocError>
     ensures { IfOk result (λ set. set ≡ put_all [] values.now) }
 {
-    let mut set = ValueSet::new(alloc);
+    let mut words = Vec::new(alloc);
     for value in values {
-        set.insert(truth(alloc, value.as_str())?)?;
+        words.push(truth(alloc, value.as_str())?)?;
     }
-    Ok(set)
+    Ok(ValueSet::from_words(words))
 }
 
 /// The set of the one value that a mark gives a variant.

@@ -1,5 +1,5 @@
 use Rattle.std.proofs.Common.{◌∙◌, sym}
-use Rattle.spec_grammar.proofs.NameLaws.{caret_read, caret_stuck}
+use Rattle.spec_grammar.proofs.CompilerLaws.{caret_read, caret_stuck}
 use Rattle.spec_grammar.proofs.read_item.caret.Goals as goal
 
 pub returns-then-starts_with_byte-clause-fault : goal.returns-then-starts_with_byte-clause-fault

@@ -2,8 +2,9 @@ use Rattle.std.proofs.Common.{arith, ◌∙◌, ◌+◌, sym, drop}
 use Rattle.std.proofs.lemmas.List.{take_rest, length-drop}
 use Rattle.spec_grammar.proofs.RunLaws.{name_front, name_utf8}
 use Rattle.spec_grammar.proofs.ListLaws.{list_fits}
-use Rattle.spec_grammar.proofs.NameLaws.{compiler_stuck, compiler_alone, compiler_read, compiler_moved, starts_is}
+use Rattle.spec_grammar.proofs.NameLaws.{starts_is}
 use Rattle.spec_grammar.proofs.read_item.compiler.Goals as goal
+use Rattle.spec_grammar.proofs.CompilerLaws.{compiler_stuck, compiler_alone, compiler_read, compiler_moved}
 
 pub word-requires : goal.word-requires
 word-requires c = rw c.split_at.ensures.front (name_utf8 _ (name_front c.args.text.now c.name_length-len.result c.name_length-len.ensures.value (omega arith)))

@@ -1,11 +1,11 @@
-use Rattle.std.proofs.Common.{◌∙◌, arith, sym}
-use Rattle.spec_grammar.proofs.PartLaws.{put_more, put_none}
+use Rattle.std.proofs.Common.{◌∙◌, [], map, ap, arith}
+use Rattle.std.proofs.lemmas.List.{take_all}
+use Rattle.variant_values.specs.Texts.{with_texts}
+use Rattle.spec_grammar.specs.Meaning.{truth}
+use Rattle.spec_grammar.proofs.PartLaws.{put_all-is}
 use Rattle.spec_grammar.proofs.values_set.value_set.Goals as goal
 
-pub loop-value-preserved : goal.loop-value-preserved
-loop-value-preserved c =
-    let more = put_more c.loop-value.set c.args.values.now c.loop-value.value-index c.value-item.result (omega arith) in
-    rw (c.in_ok-insert.ensures.set, c.in_ok-truth.ensures, c.as_str.ensures, c.value-item.is) (sym more ∙ c.loop-value.invariant)
-
 pub returns : goal.returns
-returns c = sym (put_none c.loop-value.set c.args.values.now c.loop-value.value-index (omega arith)) ∙ c.loop-value.invariant
+returns c =
+    let values = c.loop-value.invariant ∙ ap (map truth) (take_all _ _ (omega arith)) in
+    c.from_words.ensures.set ∙ ap (with_texts []) values ∙ put_all-is [] _

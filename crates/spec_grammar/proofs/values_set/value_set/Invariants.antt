@@ -1,6 +1,6 @@
-use Rattle.std.proofs.Common.{◌≡◌, [], drop}
-use Rattle.spec_grammar.specs.Meaning.{put_all}
+use Rattle.std.proofs.Common.{◌≡◌, map, take}
+use Rattle.spec_grammar.specs.Meaning.{truth}
 use Rattle.spec_grammar.proofs.values_set.value_set.Given as goal
 
 abbrev pub invariant-loop-value : goal.invariant-loop-value
-invariant-loop-value l = put_all l.set (drop l.value-index l.values) ≡ put_all [] l.values
+invariant-loop-value l = l.words.items ≡ map truth (take l.value-index l.values)
