@@ -27,9 +27,9 @@ cp "$root/crates.txt" "$copy/"
 if [ -f "$root/HANDLES" ]; then
     cp "$root/HANDLES" "$copy/"
 fi
-tar -C "$root" --exclude='crates/*/out/incremental' --exclude='crates/worked_rows/out' -cf - crates |
+tar -C "$root" --exclude='crates/*/out/incremental' --exclude='crates/worked_*/out' -cf - crates |
     tar -C "$copy" -xf -
-tests=$copy/crates/worked_rows/src
+tests=$copy/crates/worked_runs/src
 printf '\n#[cfg(test)]\nmod fail_alloc;\n' >>"$tests/lib.rt"
 {
     echo 'use crate::faults::check_zlib_or_no_memory;'
@@ -40,7 +40,7 @@ printf '\n#[cfg(test)]\nmod fail_alloc;\n' >>"$tests/lib.rt"
     done
 } >"$tests/fail_alloc.rt"
 
-cd "$copy/crates/worked_rows"
+cd "$copy/crates/worked_runs"
 rt try --test --fail-alloc "$bound" -- fail_alloc:: >"$copy/log" 2>&1 || true
 
 # The lines of each test, in the order of the numbers.

@@ -116,7 +116,7 @@ fn shown(alloc: Global, specs: &[Spec]) -> Result<String, AllocError> {
 
 // ---- right texts
 
-const SPECS: [(&str, &str); 36] = [
+const SPECS: &[(&str, &str)] = &[
     (
         " hdf5 @1.10:+mpi os=a ^ mpich ",
         "| name[hdf5] versions[1.10:] mpi=true; os[a] ^ name[mpich]",
@@ -173,7 +173,8 @@ const SPECS: [(&str, &str); 36] = [
 #[test]
 fn specs_are_read(rt: HostRuntime) -> Result<(), Fail> {
     let alloc = rt.alloc();
-    for (text, wanted) in SPECS {
+    for row in SPECS {
+        let (text, wanted) = *row;
         let specs = read_specs(alloc, text)?;
         let got = shown(alloc, specs.as_slice())?;
         assert_eq!(rt; got.as_str(), wanted, "at {text:?}");
@@ -181,7 +182,7 @@ fn specs_are_read(rt: HostRuntime) -> Result<(), Fail> {
     Ok(())
 }
 
-const CONDITIONS: [(&str, &str); 12] = [
+const CONDITIONS: &[(&str, &str)] = &[
     ("", ""),
     (" \t\r\n", ""),
     ("+mpi", " mpi=true;"),
@@ -199,7 +200,8 @@ const CONDITIONS: [(&str, &str); 12] = [
 #[test]
 fn conditions_are_read(rt: HostRuntime) -> Result<(), Fail> {
     let alloc = rt.alloc();
-    for (text, wanted) in CONDITIONS {
+    for row in CONDITIONS {
+        let (text, wanted) = *row;
         let spec = read_condition(alloc, text)?;
         let mut got = String::new(alloc);
         push_spec(alloc, &mut got, &spec)?;
@@ -210,7 +212,7 @@ fn conditions_are_read(rt: HostRuntime) -> Result<(), Fail> {
 
 // ---- wrong texts
 
-const WRONG_SPECS: [(&str, SpecFault); 52] = [
+const WRONG_SPECS: &[(&str, SpecFault)] = &[
     ("", SpecFault::Expected(0)),
     ("  ", SpecFault::Expected(2)),
     ("é", SpecFault::Expected(0)),
@@ -274,12 +276,13 @@ fn check_wrong(rt: &impl Abort, text: &str, got: Option<SpecFault>, fault: SpecF
 
 #[test]
 fn wrong_specs_have_their_fault(rt: HostRuntime) {
-    for (text, fault) in WRONG_SPECS {
+    for row in WRONG_SPECS {
+        let (text, fault) = *row;
         check_wrong(&rt, text, read_specs(rt.alloc(), text).err(), fault);
     }
 }
 
-const TWICE: [(&str, u64); 8] = [
+const TWICE: &[(&str, u64)] = &[
     ("a@1@2", 3),
     ("a+b+b", 3),
     ("a+b b=c", 4),
@@ -292,13 +295,14 @@ const TWICE: [(&str, u64); 8] = [
 
 #[test]
 fn what_is_set_twice_is_refused(rt: HostRuntime) {
-    for (text, place) in TWICE {
+    for row in TWICE {
+        let (text, place) = *row;
         let fault = SpecFault::TwiceSet(place);
         check_wrong(&rt, text, read_specs(rt.alloc(), text).err(), fault);
     }
 }
 
-const WRONG_CONDITIONS: [(&str, SpecFault); 7] = [
+const WRONG_CONDITIONS: &[(&str, SpecFault)] = &[
     ("zlib foo", SpecFault::Expected(8)),
     ("zlib foo.b", SpecFault::Expected(8)),
     ("a.b", SpecFault::Unsupported(0, Form::Namespace)),
@@ -310,19 +314,20 @@ const WRONG_CONDITIONS: [(&str, SpecFault); 7] = [
 
 #[test]
 fn wrong_conditions_have_their_fault(rt: HostRuntime) {
-    for (text, fault) in WRONG_CONDITIONS {
+    for row in WRONG_CONDITIONS {
+        let (text, fault) = *row;
         check_wrong(&rt, text, read_condition(rt.alloc(), text).err(), fault);
     }
 }
 
-const WRONG_DEPENDENCIES: [(&str, SpecFault); 4] = [
+const WRONG_DEPENDENCIES: &[(&str, SpecFault)] = &[
     ("a ^b", SpecFault::Unsupported(2, Form::NestedDependency)),
     ("a ^[b]", SpecFault::Unsupported(2, Form::EdgeAttributes)),
     ("a b", SpecFault::Expected(3)),
     ("+a", SpecFault::Expected(0)),
 ];
 
-const WRONG_PROVISIONS: [(&str, SpecFault); 5] = [
+const WRONG_PROVISIONS: &[(&str, SpecFault)] = &[
     ("a+b", SpecFault::Unsupported(1, Form::ProvidesForm)),
     ("a b=c", SpecFault::Unsupported(2, Form::ProvidesForm)),
     ("a ^b", SpecFault::Unsupported(2, Form::NestedDependency)),
@@ -332,17 +337,19 @@ const WRONG_PROVISIONS: [(&str, SpecFault); 5] = [
 
 #[test]
 fn wrong_dependencies_and_provisions(rt: HostRuntime) {
-    for (text, fault) in WRONG_DEPENDENCIES {
+    for row in WRONG_DEPENDENCIES {
+        let (text, fault) = *row;
         check_wrong(&rt, text, read_dependency(rt.alloc(), text).err(), fault);
     }
-    for (text, fault) in WRONG_PROVISIONS {
+    for row in WRONG_PROVISIONS {
+        let (text, fault) = *row;
         check_wrong(&rt, text, read_provision(rt.alloc(), text).err(), fault);
     }
 }
 
 // ---- canonical texts
 
-const CANONICAL: [(&str, &str); 10] = [
+const CANONICAL: &[(&str, &str)] = &[
     (
         " hdf5 @1.10:+mpi os=a ^ mpich ",
         "hdf5@1.10: +mpi os=a ^mpich",
@@ -385,7 +392,8 @@ fn check_canonical(rt: &impl Abort, alloc: Global, text: &str, wanted: &str) -> 
 
 #[test]
 fn canonical_texts(rt: HostRuntime) -> Result<(), Fail> {
-    for (text, wanted) in CANONICAL {
+    for row in CANONICAL {
+        let (text, wanted) = *row;
         check_canonical(&rt, rt.alloc(), text, wanted)?;
     }
     Ok(())

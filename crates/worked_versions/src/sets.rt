@@ -6,7 +6,7 @@ use std::test::Fail;
 use version_order::{Version, VersionSet, VersionSetFault, list_front};
 
 /// A set, a version, and whether the set contains it.
-const CONTAINED: [(&str, &str, bool); 38] = [
+const CONTAINED: &[(&str, &str, bool)] = &[
     ("1.2", "1.2.3", true),
     ("1.2", "1.2", true),
     ("1.2", "1.20", false),
@@ -48,7 +48,7 @@ const CONTAINED: [(&str, &str, bool); 38] = [
 ];
 
 /// Two sets, and whether they overlap.
-const OVERLAPPING: [(&str, &str, bool); 22] = [
+const OVERLAPPING: &[(&str, &str, bool)] = &[
     (":3.1", "3.1.2:", true),
     (":3", "4:", false),
     (":3", "3:", true),
@@ -77,13 +77,19 @@ fn set_of(alloc: Global, text: &str) -> Result<VersionSet, Fail> {
     Ok(VersionSet::read(alloc, text)?)
 }
 
+/// What is got of two texts, and what is wanted.
+fn check_bool(rt: &impl Abort, left: &str, right: &str, got: bool, wanted: bool) {
+    assert_eq!(rt; got, wanted, "{left} and {right}");
+}
+
 #[test]
 fn sets_contain(rt: HostRuntime) -> Result<(), Fail> {
     let alloc = rt.alloc();
-    for (set, version, wanted) in CONTAINED {
+    for row in CONTAINED {
+        let (set, version, wanted) = *row;
         let read = set_of(alloc, set)?;
         let of = Version::read(alloc, version)?;
-        assert_eq!(rt; read.contains(&of), wanted, "{set} and {version}");
+        check_bool(&rt, set, version, read.contains(&of), wanted);
     }
     Ok(())
 }
@@ -91,12 +97,31 @@ fn sets_contain(rt: HostRuntime) -> Result<(), Fail> {
 #[test]
 fn sets_overlap(rt: HostRuntime) -> Result<(), Fail> {
     let alloc = rt.alloc();
-    for (left, right, wanted) in OVERLAPPING {
+    for row in OVERLAPPING {
+        let (left, right, wanted) = *row;
         let a = set_of(alloc, left)?;
         let b = set_of(alloc, right)?;
-        assert_eq!(rt; a.overlaps(&b), wanted, "{left} and {right}");
-        assert_eq!(rt; b.overlaps(&a), wanted, "{right} and {left}");
+        check_bool(&rt, left, right, a.overlaps(&b), wanted);
+        check_bool(&rt, right, left, b.overlaps(&a), wanted);
     }
+    Ok(())
+}
+
+/// The items of a text and its single version.
+fn check_items(rt: &impl Abort, set: &VersionSet, text: &str, count: usize, single: Option<&str>) {
+    assert_eq!(rt; set.items().len(), count, "the items of {text}");
+    let only = set.single().map(|version| version.text());
+    assert_eq!(rt; only, single, "the single version of {text}");
+}
+
+/// What is written of a set, twice.
+fn check_written(rt: &impl Abort, alloc: Global, set: &VersionSet, text: &str) -> Result<(), Fail> {
+    let mut out = Vec::new(alloc);
+    set.write(&mut out)?;
+    set.write(&mut out)?;
+    let (first, second) = out.split_at(out.len() / 2);
+    assert_eq!(rt; first, text.as_bytes(), "what is written of {text}");
+    assert_eq!(rt; second, text.as_bytes(), "what is added of {text}");
     Ok(())
 }
 
@@ -109,42 +134,37 @@ fn check_right(
     single: Option<&str>,
 ) -> Result<(), Fail> {
     let set = set_of(alloc, text)?;
-    assert_eq!(rt; set.items().len(), count, "the items of {text}");
-    let only = set.single().map(|version| version.text());
-    assert_eq!(rt; only, single, "the single version of {text}");
-    let mut out = Vec::new(alloc);
-    set.write(&mut out)?;
-    set.write(&mut out)?;
-    let (first, second) = out.split_at(out.len() / 2);
-    assert_eq!(rt; first, text.as_bytes(), "what is written of {text}");
-    assert_eq!(rt; second, text.as_bytes(), "what is added of {text}");
-    let again = VersionSet::from_bytes(alloc, first)?;
+    check_items(rt, &set, text, count, single);
+    check_written(rt, alloc, &set, text)?;
+    let again = VersionSet::from_bytes(alloc, text.as_bytes())?;
     assert!(rt; again.same(&set), "{text} is read again");
     let copy = set.duplicate(alloc)?;
     assert!(rt; copy.same(&set), "a copy of {text}");
     Ok(())
 }
 
+const RIGHT: &[(&str, usize, Option<&str>)] = &[
+    ("1.2", 1, Some("1.2")),
+    ("=1.2", 1, Some("1.2")),
+    ("1.2:", 1, None),
+    (":1.2", 1, None),
+    ("1.2:1.2", 1, None),
+    (":", 1, None),
+    ("1:01", 1, None),
+    ("1.2:1", 1, None),
+    ("1,1", 2, None),
+    ("1,=2,3:,:4,:", 5, None),
+    ("=a-b_c.d", 1, Some("a-b_c.d")),
+    ("_", 1, Some("_")),
+    ("1.,2-", 2, None),
+    (":,:", 2, None),
+];
+
 #[test]
 fn sets_are_read(rt: HostRuntime) -> Result<(), Fail> {
     let alloc = rt.alloc();
-    let right: [(&str, usize, Option<&str>); 14] = [
-        ("1.2", 1, Some("1.2")),
-        ("=1.2", 1, Some("1.2")),
-        ("1.2:", 1, None),
-        (":1.2", 1, None),
-        ("1.2:1.2", 1, None),
-        (":", 1, None),
-        ("1:01", 1, None),
-        ("1.2:1", 1, None),
-        ("1,1", 2, None),
-        ("1,=2,3:,:4,:", 5, None),
-        ("=a-b_c.d", 1, Some("a-b_c.d")),
-        ("_", 1, Some("_")),
-        ("1.,2-", 2, None),
-        (":,:", 2, None),
-    ];
-    for (text, count, single) in right {
+    for row in RIGHT {
+        let (text, count, single) = *row;
         check_right(&rt, alloc, text, count, single)?;
     }
     Ok(())
@@ -167,42 +187,44 @@ fn check_wrong(rt: &impl Abort, alloc: Global, text: &str, fault: VersionSetFaul
     assert_eq!(rt; got, Some(fault), "at the bytes of {text:?}");
 }
 
+const WRONG: &[(&str, VersionSetFault)] = &[
+    ("", VersionSetFault::Empty),
+    ("=", VersionSetFault::BadByte(1)),
+    (",", VersionSetFault::BadByte(0)),
+    ("1,", VersionSetFault::BadByte(2)),
+    ("1,,2", VersionSetFault::BadByte(2)),
+    (",1", VersionSetFault::BadByte(0)),
+    ("==1", VersionSetFault::BadByte(1)),
+    ("=:1", VersionSetFault::BadByte(1)),
+    ("=1:2", VersionSetFault::BadByte(2)),
+    ("1:2:3", VersionSetFault::BadByte(3)),
+    ("::", VersionSetFault::BadByte(1)),
+    (":=1", VersionSetFault::BadByte(1)),
+    ("1=2", VersionSetFault::BadByte(1)),
+    (" 1", VersionSetFault::BadByte(0)),
+    ("1 ", VersionSetFault::BadByte(1)),
+    ("1, 2", VersionSetFault::BadByte(2)),
+    (".1", VersionSetFault::BadByte(0)),
+    ("-1", VersionSetFault::BadByte(0)),
+    ("1:.2", VersionSetFault::BadByte(2)),
+    ("1:-2", VersionSetFault::BadByte(2)),
+    ("1+", VersionSetFault::BadByte(1)),
+    ("1,=", VersionSetFault::BadByte(3)),
+    ("é", VersionSetFault::BadByte(0)),
+    ("1.é", VersionSetFault::BadByte(2)),
+    ("2:1", VersionSetFault::EmptyRange(0)),
+    ("1,2:1", VersionSetFault::EmptyRange(2)),
+    ("1:2,=3,develop:1,4:3", VersionSetFault::EmptyRange(7)),
+    ("1.0:1.0-alpha1", VersionSetFault::EmptyRange(0)),
+    ("2:1,", VersionSetFault::BadByte(4)),
+    ("2:1,1:2:3", VersionSetFault::BadByte(7)),
+];
+
 #[test]
 fn wrong_sets_have_their_fault(rt: HostRuntime) -> Result<(), Fail> {
     let alloc = rt.alloc();
-    let wrong: [(&str, VersionSetFault); 30] = [
-        ("", VersionSetFault::Empty),
-        ("=", VersionSetFault::BadByte(1)),
-        (",", VersionSetFault::BadByte(0)),
-        ("1,", VersionSetFault::BadByte(2)),
-        ("1,,2", VersionSetFault::BadByte(2)),
-        (",1", VersionSetFault::BadByte(0)),
-        ("==1", VersionSetFault::BadByte(1)),
-        ("=:1", VersionSetFault::BadByte(1)),
-        ("=1:2", VersionSetFault::BadByte(2)),
-        ("1:2:3", VersionSetFault::BadByte(3)),
-        ("::", VersionSetFault::BadByte(1)),
-        (":=1", VersionSetFault::BadByte(1)),
-        ("1=2", VersionSetFault::BadByte(1)),
-        (" 1", VersionSetFault::BadByte(0)),
-        ("1 ", VersionSetFault::BadByte(1)),
-        ("1, 2", VersionSetFault::BadByte(2)),
-        (".1", VersionSetFault::BadByte(0)),
-        ("-1", VersionSetFault::BadByte(0)),
-        ("1:.2", VersionSetFault::BadByte(2)),
-        ("1:-2", VersionSetFault::BadByte(2)),
-        ("1+", VersionSetFault::BadByte(1)),
-        ("1,=", VersionSetFault::BadByte(3)),
-        ("é", VersionSetFault::BadByte(0)),
-        ("1.é", VersionSetFault::BadByte(2)),
-        ("2:1", VersionSetFault::EmptyRange(0)),
-        ("1,2:1", VersionSetFault::EmptyRange(2)),
-        ("1:2,=3,develop:1,4:3", VersionSetFault::EmptyRange(7)),
-        ("1.0:1.0-alpha1", VersionSetFault::EmptyRange(0)),
-        ("2:1,", VersionSetFault::BadByte(4)),
-        ("2:1,1:2:3", VersionSetFault::BadByte(7)),
-    ];
-    for (text, fault) in wrong {
+    for row in WRONG {
+        let (text, fault) = *row;
         check_wrong(&rt, alloc, text, fault);
     }
     Ok(())
@@ -275,9 +297,13 @@ fn spell(text: &mut Vec<u8>, length: usize, number: usize) -> Result<(), AllocEr
 /// How many texts have this length.
 const COUNTS: [usize; 6] = [1, 6, 36, 216, 1296, 7776];
 
+/// Lengths of texts, and how many texts have each.
+const MORE: &[(usize, usize)] = &[(0, 1), (1, 6), (2, 36)];
+
 /// Whether some list begins with a text: with it and at most two signs more.
 fn begins_a_list(alloc: Global, front: &[u8]) -> Result<bool, AllocError> {
-    for (length, count) in [(0usize, 1usize), (1, 6), (2, 36)] {
+    for row in MORE {
+        let (length, count) = *row;
         for number in 0..count {
             let mut text = Vec::from_slice(alloc, front)?;
             spell(&mut text, length, number)?;

@@ -14,6 +14,15 @@ fn set_of(alloc: Global, texts: &[&str]) -> Result<ValueSet, AllocError> {
     Ok(set)
 }
 
+// The same set, made of all its texts at once.
+fn set_at_once(alloc: Global, texts: &[&str]) -> Result<ValueSet, AllocError> {
+    let mut words = Vec::new(alloc);
+    for text in texts {
+        words.push(Word::new(alloc, *text)?)?;
+    }
+    Ok(ValueSet::from_words(words))
+}
+
 // Whether the set's texts are these, in this order.
 fn is_listed(set: &ValueSet, texts: &[&str]) -> bool {
     let values = set.values();
@@ -29,7 +38,7 @@ fn is_listed(set: &ValueSet, texts: &[&str]) -> bool {
 }
 
 // Insertions, and the texts that the set then has, in byte order.
-const ROWS: [(&[&str], &[&str]); 10] = [
+const ROWS: &[(&[&str], &[&str])] = &[
     (&[], &[]),
     (&[""], &[""]),
     (&["mpi"], &["mpi"]),
@@ -42,50 +51,70 @@ const ROWS: [(&[&str], &[&str]); 10] = [
     (&["é", "z", "e", "z"], &["e", "z", "é"]),
 ];
 
+fn check_texts(rt: &impl Abort, set: &ValueSet, texts: &[&str]) {
+    assert!(rt; is_listed(set, texts));
+    assert_eq!(rt; set.len(), texts.len() as u64);
+    assert_eq!(rt; set.is_empty(), texts.is_empty());
+}
+
 #[test]
 fn values_stand_in_byte_order(rt: HostRuntime) -> Result<(), Fail> {
-    let alloc = rt.alloc();
-    for (inserted, texts) in ROWS {
-        let set = set_of(alloc, inserted)?;
-        assert!(rt; is_listed(&set, texts));
-        assert_eq!(rt; set.len(), texts.len() as u64);
-        assert_eq!(rt; set.is_empty(), texts.is_empty());
+    for row in ROWS {
+        let set = set_of(rt.alloc(), row.0)?;
+        check_texts(&rt, &set, row.1);
+        let at_once = set_at_once(rt.alloc(), row.0)?;
+        check_texts(&rt, &at_once, row.1);
     }
+    Ok(())
+}
+
+const INSERTIONS: &[(&str, bool, u64)] = &[
+    ("b", true, 1),
+    ("", true, 2),
+    ("b", false, 2),
+    ("ba", true, 3),
+    ("a", true, 4),
+    ("", false, 4),
+    ("ba", false, 4),
+    ("bab", true, 5),
+];
+
+fn check_insertion(
+    rt: &impl Abort,
+    alloc: Global,
+    set: &mut ValueSet,
+    (text, is_new, len): (&str, bool, u64),
+) -> Result<(), Fail> {
+    assert_eq!(rt; set.contains(text), !is_new);
+    assert_eq!(rt; set.insert(Word::new(alloc, text)?)?, is_new);
+    assert!(rt; set.contains(text));
+    assert_eq!(rt; set.len(), len);
     Ok(())
 }
 
 #[test]
 fn insert_tells_what_is_new(rt: HostRuntime) -> Result<(), Fail> {
     let alloc = rt.alloc();
-    let rows = [
-        ("b", true, 1),
-        ("", true, 2),
-        ("b", false, 2),
-        ("ba", true, 3),
-        ("a", true, 4),
-        ("", false, 4),
-        ("ba", false, 4),
-        ("bab", true, 5),
-    ];
     let mut set = ValueSet::new(alloc);
-    for (text, is_new, len) in rows {
-        assert_eq!(rt; set.contains(text), !is_new);
-        assert_eq!(rt; set.insert(Word::new(alloc, text)?)?, is_new);
-        assert!(rt; set.contains(text));
-        assert_eq!(rt; set.len(), len);
+    for row in INSERTIONS {
+        check_insertion(&rt, alloc, &mut set, *row)?;
     }
     assert!(rt; is_listed(&set, &["", "a", "b", "ba", "bab"]));
     Ok(())
 }
 
+const CONTAINED: &[&str] = &["open", "openmp", "tbb"];
+
+const NOT_CONTAINED: &[&str] = &["", "o", "openm", "openmpi", "Open", "tb", "tbb "];
+
 #[test]
 fn only_what_was_inserted_is_contained(rt: HostRuntime) -> Result<(), Fail> {
     let alloc = rt.alloc();
     let set = set_of(alloc, &["openmp", "open", "tbb"])?;
-    for text in ["open", "openmp", "tbb"] {
+    for text in CONTAINED {
         assert!(rt; set.contains(text));
     }
-    for text in ["", "o", "openm", "openmpi", "Open", "tb", "tbb "] {
+    for text in NOT_CONTAINED {
         assert!(rt; !set.contains(text));
     }
     assert!(rt; !ValueSet::new(alloc).contains(""));
@@ -93,7 +122,7 @@ fn only_what_was_inserted_is_contained(rt: HostRuntime) -> Result<(), Fail> {
 }
 
 // Two sets, and whether the first has all of the second, and the second all of the first.
-const PAIRS: [(&[&str], &[&str], bool, bool); 8] = [
+const PAIRS: &[(&[&str], &[&str], bool, bool)] = &[
     (&[], &[], true, true),
     (&["a"], &[], true, false),
     (&[""], &[], true, false),
@@ -121,7 +150,8 @@ fn check_pair(
 #[test]
 fn one_set_has_all_of_another(rt: HostRuntime) -> Result<(), Fail> {
     let alloc = rt.alloc();
-    for (first, second, has_all, is_within) in PAIRS {
+    for row in PAIRS {
+        let (first, second, has_all, is_within) = *row;
         let first = set_of(alloc, first)?;
         let second = set_of(alloc, second)?;
         check_pair(&rt, &first, &second, has_all, is_within);
@@ -129,16 +159,25 @@ fn one_set_has_all_of_another(rt: HostRuntime) -> Result<(), Fail> {
     Ok(())
 }
 
+fn check_copy(
+    rt: &impl Abort,
+    alloc: Global,
+    inserted: &[&str],
+    texts: &[&str],
+) -> Result<(), Fail> {
+    let set = set_of(alloc, inserted)?;
+    let mut copy = set.duplicate(alloc)?;
+    assert!(rt; copy.same(&set));
+    assert!(rt; copy.insert(Word::new(alloc, "new")?)?);
+    assert!(rt; !copy.same(&set));
+    assert!(rt; is_listed(&set, texts));
+    Ok(())
+}
+
 #[test]
 fn a_copy_is_a_set_of_its_own(rt: HostRuntime) -> Result<(), Fail> {
-    let alloc = rt.alloc();
-    for (inserted, texts) in ROWS {
-        let set = set_of(alloc, inserted)?;
-        let mut copy = set.duplicate(alloc)?;
-        assert!(rt; copy.same(&set));
-        assert!(rt; copy.insert(Word::new(alloc, "new")?)?);
-        assert!(rt; !copy.same(&set));
-        assert!(rt; is_listed(&set, texts));
+    for row in ROWS {
+        check_copy(&rt, rt.alloc(), row.0, row.1)?;
     }
     Ok(())
 }
