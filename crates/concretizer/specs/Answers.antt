@@ -2,11 +2,12 @@
 use Rattle.std.specs.Prelude.{◌≡◌, ◌⊎◌, ℕ, List, [], ◌∷◌, replicate, slice_set, Option, Some, Result, Ok, Err, codes}
 use Rattle.outside_desk.specs.Files.{Files, with_file, and_said, MayHold}
 use Rattle.concretizer.specs.Lines.{line}
-use Rattle.concretizer.specs.Weights.{weight_of, IsBest}
+use Rattle.concretizer.specs.Weights.{weight_of, IsBest, HasNone}
 use Rattle.concretizer.specs.Lock.{node_hash, lock_text}
 use Rattle.concretizer.specs.Report.{report_text}
 use Rattle.concretizer.specs.declared.node.BuiltNode.{BuiltNode}
 use Rattle.concretizer.specs.declared.node.Root.{Root}
+use Rattle.concretizer.specs.declared.request.Wanted.{Wanted}
 use Rattle.concretizer.specs.declared.problem.Problem.{Problem}
 use Rattle.concretizer.specs.declared.answer.Answer.{Answer}
 use Rattle.concretizer.specs.declared.answer.Answer.TheVariants as answers
@@ -26,13 +27,17 @@ node_of name version = record {
   target = codes "x86_64";
 }
 
--- its root: the package was asked for by its name
-abbrev pub root_of : BuiltNode → Root
-root_of node = record { hash = node_hash node; spec = node.name }
+-- the root: the node, and the canonical text of the spec that asked for it
+abbrev pub root_of : List ℕ → BuiltNode → Root
+root_of text node = record { hash = node_hash node; spec = text }
 
--- its lock file
-abbrev pub lock_of : BuiltNode → List ℕ
-lock_of node = lock_text (node ∷ []) (root_of node ∷ [])
+-- the lock file of one node
+abbrev pub lock_by : List ℕ → BuiltNode → List ℕ
+lock_by text node = lock_text (node ∷ []) (root_of text node ∷ [])
+
+-- the lock file of a version
+abbrev pub lock_of : Wanted → List ℕ → List ℕ
+lock_of wanted version = lock_by wanted.text (node_of wanted.name version)
 
 -- its cost vector: of the 31 numbers the second is the version weight of the roots, and the sixteenth the number of builds
 abbrev pub cost_of : ℕ → List ℕ
@@ -40,48 +45,48 @@ cost_of weight = slice_set (slice_set (replicate 31 0) 1 weight) 15 1
 
 -- what is said of it
 abbrev pub report_of : Problem → List ℕ → List ℕ
-report_of problem version = report_text (node_of problem.name version ∷ []) (cost_of (weight_of problem.versions version))
+report_of problem version = report_text (node_of problem.wanted.name version ∷ []) (cost_of (weight_of problem.declared version))
 
 -- ---- answers
 
 -- there is a graph: the lock file is that of a best version, and its lines were said
 pub record IsSolved (problem : Problem) (before after : Option Files) (out_before out_after : Option (List ℕ)) : Type 0 where
   pub version : List ℕ
-  pub best : IsBest problem.versions version
-  pub lock : after ≡ with_file before problem.lock (lock_of (node_of problem.name version))
+  pub best : IsBest problem.wanted.versions problem.declared version
+  pub lock : after ≡ with_file before problem.lock (lock_of problem.wanted version)
   pub out : out_after ≡ and_said out_before (report_of problem version)
 
 unfoldable pub unsatisfiable_line : List ℕ
 unsatisfiable_line = line (codes "unsatisfiable" ∷ [])
 
--- there is none, since no version is declared
+-- there is none, since no declared version is wanted
 pub record IsUnsolved (problem : Problem) (before after : Option Files) (out_before out_after : Option (List ℕ)) : Type 0 where
-  pub none : problem.versions ≡ []
+  pub none : HasNone problem.wanted.versions problem.declared
   pub files : after ≡ before
   pub out : out_after ≡ and_said out_before unsatisfiable_line
 
 -- the put failed: the lock file is as it was or holds a front of its text, and nothing was said
 pub record IsHalfPut (problem : Problem) (before after : Option Files) (out_before out_after : Option (List ℕ)) : Type 0 where
   pub version : List ℕ
-  pub best : IsBest problem.versions version
-  pub lock : MayHold before after problem.lock (lock_of (node_of problem.name version))
+  pub best : IsBest problem.wanted.versions problem.declared version
+  pub lock : MayHold before after problem.lock (lock_of problem.wanted version)
   pub out : out_after ≡ out_before
 
 -- the lock file is whole
 pub record IsLocked (problem : Problem) (before after : Option Files) : Type 0 where
   pub version : List ℕ
-  pub best : IsBest problem.versions version
-  pub lock : after ≡ with_file before problem.lock (lock_of (node_of problem.name version))
+  pub best : IsBest problem.wanted.versions problem.declared version
+  pub lock : after ≡ with_file before problem.lock (lock_of problem.wanted version)
 
--- the sink failed: the lock file is whole, or no version is declared and no file changed
+-- the sink failed: the lock file is whole, or no declared version is wanted and no file changed
 abbrev pub IsUnsaid : Problem → Option Files → Option Files → Type 0
-IsUnsaid problem before after = IsLocked problem before after ⊎ ((problem.versions ≡ []) × (after ≡ before))
+IsUnsaid problem before after = IsLocked problem before after ⊎ (HasNone problem.wanted.versions problem.declared × (after ≡ before))
 
 -- the lock file is as it was or holds a front of its text, the whole of it among them
 pub record HoldsFront (problem : Problem) (before after : Option Files) : Type 0 where
   pub version : List ℕ
-  pub best : IsBest problem.versions version
-  pub held : MayHold before after problem.lock (lock_of (node_of problem.name version))
+  pub best : IsBest problem.wanted.versions problem.declared version
+  pub held : MayHold before after problem.lock (lock_of problem.wanted version)
 
 -- what a put of the lock file leaves
 abbrev pub Puts : List ℕ → List ℕ → Option Files → Option Files → Result (Unit {0}) WriteStop → Type 0

@@ -1,13 +1,16 @@
 -- What reading the problem and writing its answer leave.
-use Rattle.std.specs.Prelude.{◌≡◌, ℕ, List, [], Option, Some, Result, Ok, Err}
+use Rattle.std.specs.Prelude.{◌≡◌, ℕ, List, [], Option, Some, None, Result, Ok, Err}
 use Rattle.outside_desk.specs.Files.{Files}
-use Rattle.concretizer.specs.Problems.{recipe_path, problem_of}
+use Rattle.concretizer.specs.Words.{command_of}
+use Rattle.concretizer.specs.Requests.{Asks}
+use Rattle.concretizer.specs.Problems.{path_of, Poses}
 use Rattle.concretizer.specs.Answers.{Writes}
 use Rattle.concretizer.specs.declared.command.Command.{Command}
+use Rattle.concretizer.specs.declared.request.Request.{Request}
 use Rattle.concretizer.specs.declared.problem.Problem.{Problem}
 use Rattle.concretizer.specs.declared.answer.Answer.{Answer}
 use Rattle.concretizer.specs.declared.refusal.Refusal.{Refusal}
-use Rattle.concretizer.specs.declared.refusal.Refusal.TheVariants.{Usage, NotBuilt, UnknownRoot, RecipeTooLarge}
+use Rattle.concretizer.specs.declared.refusal.Refusal.TheVariants.{Usage, NotBuilt, SpecsTooLarge, BadSpecs, TooManyRoots, UnknownRoot, RecipeTooLarge}
 use Rattle.concretizer.specs.declared.stop.ReadStop.TheVariants as reads
 use Rattle.concretizer.specs.declared.stop.WriteStop.{WriteStop}
 use Rattle.concretizer.specs.declared.stop.WriteStop.TheVariants as writes
@@ -19,7 +22,7 @@ use Rattle.concretizer.specs.declared.stop.Stop.TheVariants.{Read, Write}
 -- reading gave a problem, and writing left this
 pub record IsWritten (files : Files) (words : List (List ℕ)) (after : Option Files) (out_before out_after : Option (List ℕ)) (result : Result Answer WriteStop) : Type 0 where
   pub problem : Problem
-  pub read : problem_of files words ≡ Ok problem
+  pub read : Poses files words (Ok problem)
   pub left : Writes problem (Some files) after out_before out_after result
 
 -- nothing was written
@@ -29,7 +32,7 @@ pub record IsUnwritten (files : Files) (after : Option Files) (out_before out_af
 
 abbrev pub Attempts : Files → List (List ℕ) → Option Files → Option (List ℕ) → Option (List ℕ) → Result Answer Stop → Type 0
 Attempts files words after out_before out_after (Ok answer) = IsWritten files words after out_before out_after (Ok answer)
-Attempts files words after out_before out_after (Err (Read (reads.Refused refusal))) = (problem_of files words ≡ Err refusal) × IsUnwritten files after out_before out_after
+Attempts files words after out_before out_after (Err (Read (reads.Refused refusal))) = Poses files words (Err refusal) × IsUnwritten files after out_before out_after
 Attempts files words after out_before out_after (Err (Read (reads.Fault path))) = IsUnwritten files after out_before out_after
 Attempts files words after out_before out_after (Err (Read reads.NoMemory)) = IsUnwritten files after out_before out_after
 Attempts files words after out_before out_after (Err (Write stop)) = IsWritten files words after out_before out_after (Err stop)
@@ -37,17 +40,20 @@ Attempts files words after out_before out_after (Err (Write stop)) = IsWritten f
 -- ---- for any desk
 
 -- what the words say of how an attempt ended
-abbrev pub Follows : Result Command Refusal → Result Answer Stop → Type 0
-Follows asked (Ok answer) = (c : Command) × (asked ≡ Ok c)
-Follows asked (Err (Read (reads.Refused Usage))) = asked ≡ Err Usage
-Follows asked (Err (Read (reads.Refused (NotBuilt what)))) = Unit {0}
-Follows asked (Err (Read (reads.Refused (UnknownRoot name)))) = Unit {0}
-Follows asked (Err (Read (reads.Refused (RecipeTooLarge name)))) = Unit {0}
-Follows asked (Err (Read (reads.Fault path))) = (c : Command) × (asked ≡ Ok c) × (path ≡ recipe_path c.repo c.spec)
-Follows asked (Err (Read reads.NoMemory)) = Unit {0}
-Follows asked (Err (Write (writes.Put path))) = (c : Command) × (asked ≡ Ok c) × (path ≡ c.lock)
-Follows asked (Err (Write writes.Output)) = (c : Command) × (asked ≡ Ok c)
-Follows asked (Err (Write writes.NoMemory)) = Unit {0}
+abbrev pub Follows : List (List ℕ) → Result Answer Stop → Type 0
+Follows words (Ok answer) = (r : Request) × Asks words (Ok r)
+Follows words (Err (Read (reads.Refused Usage))) = command_of words ≡ None
+Follows words (Err (Read (reads.Refused (NotBuilt what)))) = Unit {0}
+Follows words (Err (Read (reads.Refused SpecsTooLarge))) = Unit {0}
+Follows words (Err (Read (reads.Refused (BadSpecs e)))) = Unit {0}
+Follows words (Err (Read (reads.Refused TooManyRoots))) = Unit {0}
+Follows words (Err (Read (reads.Refused (UnknownRoot name)))) = Unit {0}
+Follows words (Err (Read (reads.Refused (RecipeTooLarge name)))) = Unit {0}
+Follows words (Err (Read (reads.Fault path))) = (r : Request) × Asks words (Ok r) × (path ≡ path_of r)
+Follows words (Err (Read reads.NoMemory)) = Unit {0}
+Follows words (Err (Write (writes.Put path))) = (r : Request) × Asks words (Ok r) × (path ≡ r.lock)
+Follows words (Err (Write writes.Output)) = (r : Request) × Asks words (Ok r)
+Follows words (Err (Write writes.NoMemory)) = Unit {0}
 
 -- the words alone were refused, or memory ran out over them
 abbrev pub StopsAtOnce : Refusal → Result Answer Stop → Type 0
@@ -80,6 +86,9 @@ FailsToSay (Err (Write writes.Output)) = Unit {0}
 FailsToSay (Err (Write writes.NoMemory)) = ⊥
 
 -- the path of the lock file that the words name
-abbrev pub lock_path : Result Command Refusal → List ℕ
-lock_path (Ok c) = c.lock
-lock_path (Err refusal) = []
+abbrev pub lock_of_command : Option Command → List ℕ
+lock_of_command None = []
+lock_of_command (Some c) = c.lock
+
+abbrev pub lock_path : List (List ℕ) → List ℕ
+lock_path words = lock_of_command (command_of words)

@@ -5,35 +5,36 @@
 use Rattle.std.specs.Prelude.{◌≡◌, ◌⊎◌, ℕ, List, Option, Some, Ok, Err}
 use Rattle.outside_desk.specs.Causes.{Rose}
 use Rattle.outside_desk.specs.Files.{Files, and_said}
-use Rattle.concretizer.specs.Problems.{asked_of, recipe_path, problem_of}
+use Rattle.concretizer.specs.Requests.{Asks}
+use Rattle.concretizer.specs.Problems.{path_of, Poses}
 use Rattle.concretizer.specs.Refusals.{status_of, line_of}
 use Rattle.concretizer.specs.Stops.{read_fault_line, write_fault_line, output_fault_line}
 use Rattle.concretizer.specs.Answers.{IsSolved, IsUnsolved, HoldsFront}
-use Rattle.concretizer.specs.declared.command.Command.{Command}
+use Rattle.concretizer.specs.declared.request.Request.{Request}
 use Rattle.concretizer.specs.declared.problem.Problem.{Problem}
 use Rattle.concretizer.specs.declared.refusal.Refusal.{Refusal}
 use Rattle.concretizer.specs.declared.status.Status.{Status}
 use Rattle.concretizer.specs.declared.status.Status.TheVariants as statuses
 
--- Done: the lock file is that of the best version that the recipe declares, every other file is as at
--- entry, its lines were said, and nothing else was
+-- Done: the lock file is that of the best wanted version that the recipe declares, every other file is as
+-- at entry, its lines were said, and nothing else was
 pub record IsDone (files : Files) (words : List (List ℕ)) (after : Option Files) (out_before out_after err_before err_after : Option (List ℕ)) : Type 0 where
   pub problem : Problem
-  pub read : problem_of files words ≡ Ok problem
+  pub read : Poses files words (Ok problem)
   pub solved : IsSolved problem (Some files) after out_before out_after
   pub err : err_after ≡ err_before
 
--- Unsatisfiable: the recipe declares no version, and no file changed
+-- Unsatisfiable: the recipe declares no version that is wanted, and no file changed
 pub record IsUnsatisfiable (files : Files) (words : List (List ℕ)) (after : Option Files) (out_before out_after err_before err_after : Option (List ℕ)) : Type 0 where
   pub problem : Problem
-  pub read : problem_of files words ≡ Ok problem
+  pub read : Poses files words (Ok problem)
   pub unsolved : IsUnsolved problem (Some files) after out_before out_after
   pub err : err_after ≡ err_before
 
 -- Usage, BadInput and TooLarge: reading refuses, in its order; no file changed, and the refusal was said
 pub record IsRefused (files : Files) (words : List (List ℕ)) (answer : Status) (after : Option Files) (out_before out_after err_before err_after : Option (List ℕ)) : Type 0 where
   pub refusal : Refusal
-  pub read : problem_of files words ≡ Err refusal
+  pub read : Poses files words (Err refusal)
   pub status : answer ≡ status_of refusal
   pub unchanged : after ≡ Some files
   pub out : out_after ≡ out_before
@@ -41,19 +42,19 @@ pub record IsRefused (files : Files) (words : List (List ℕ)) (answer : Status)
 
 -- ReadFault: the desk failed to read the recipe, and that was said
 pub record IsReadFault (words : List (List ℕ)) (faults_before faults_after : ℕ) (before after : Option Files) (out_before out_after err_before err_after : Option (List ℕ)) : Type 0 where
-  pub command : Command
-  pub asked : asked_of words ≡ Ok command
+  pub request : Request
+  pub asked : Asks words (Ok request)
   pub rose : Rose faults_before faults_after
   pub unchanged : after ≡ before
   pub out : out_after ≡ out_before
-  pub err : err_after ≡ and_said err_before (read_fault_line (recipe_path command.repo command.spec))
+  pub err : err_after ≡ and_said err_before (read_fault_line (path_of request))
 
 -- WriteFault where the desk failed to put the lock file, and that was said
 pub record IsPutFault (words : List (List ℕ)) (put_before put_after : ℕ) (err_before err_after : Option (List ℕ)) : Type 0 where
-  pub command : Command
-  pub asked : asked_of words ≡ Ok command
+  pub request : Request
+  pub asked : Asks words (Ok request)
   pub rose : Rose put_before put_after
-  pub err : err_after ≡ and_said err_before (write_fault_line command.lock)
+  pub err : err_after ≡ and_said err_before (write_fault_line request.lock)
 
 -- WriteFault where the sink of the answer failed, and that was said
 pub record IsOutputFault (faults_before faults_after : ℕ) (err_before err_after : Option (List ℕ)) : Type 0 where
@@ -64,7 +65,7 @@ pub record IsOutputFault (faults_before faults_after : ℕ) (err_before err_afte
 -- is as it was or holds a front of the lock file of a best version
 pub record IsLocking (files : Files) (words : List (List ℕ)) (after : Option Files) : Type 0 where
   pub problem : Problem
-  pub read : problem_of files words ≡ Ok problem
+  pub read : Poses files words (Ok problem)
   pub held : HoldsFront problem (Some files) after
 
 abbrev pub Keeps : Files → List (List ℕ) → Option Files → Type 0

@@ -2,6 +2,7 @@ pub mod Lines
 pub mod Words
 pub mod Refusals
 pub mod Recipe
+pub mod Requests
 pub mod Problems
 pub mod Stops
 pub mod Weights

@@ -3,11 +3,10 @@ use Rattle.std.specs.Prelude.{ℕ, List, [], ◌∷◌, length, nat_le, ◌^◌,
 use Rattle.std.specs.FinMap.{get}
 use Rattle.outside_desk.specs.Files.{Files}
 use Rattle.concretizer.specs.Lines.{joined}
-use Rattle.concretizer.specs.Words.{command_of, is_name, is_same}
+use Rattle.concretizer.specs.Requests.{Asks, Is, Then}
 use Rattle.concretizer.specs.Recipe.{recipe_of}
-use Rattle.concretizer.specs.declared.command.Command.{Command}
+use Rattle.concretizer.specs.declared.request.Request.{Request}
 use Rattle.concretizer.specs.declared.problem.Problem.{Problem}
-use Rattle.concretizer.specs.declared.refusal.NotBuilt.{NotBuilt}
 use Rattle.concretizer.specs.declared.refusal.NotBuilt.TheVariants as forms
 use Rattle.concretizer.specs.declared.refusal.Refusal.{Refusal}
 use Rattle.concretizer.specs.declared.refusal.Refusal.TheVariants as refusals
@@ -17,36 +16,15 @@ abbrev pub ◌>>=◌ : {A B : Type 0} → Result A Refusal → (A → Result B R
 (Ok x) >>= f = f x
 (Err refusal) >>= f = Err refusal
 
--- ---- the words
-
--- the first form of a command that is not built yet
-abbrev pub not_built_of : Command → Option NotBuilt
-not_built_of c =
-    if is_same c.settings (codes "-") then
-    if is_same c.database (codes "-") then
-    if is_same c.cert (codes "-") then
-    if is_name c.spec then None else Some forms.Specs
-    else Some forms.Certificate
-    else Some forms.Database
-    else Some forms.Settings
-
-abbrev pub unless_not_built : Command → Option NotBuilt → Result Command Refusal
-unless_not_built c None = Ok c
-unless_not_built c (Some what) = Err (refusals.NotBuilt what)
-
-abbrev pub unless_usage : Option Command → Result Command Refusal
-unless_usage None = Err refusals.Usage
-unless_usage (Some c) = unless_not_built c (not_built_of c)
-
--- the command that the words ask for
-unfoldable pub asked_of : List (List ℕ) → Result Command Refusal
-asked_of words = unless_usage (command_of words)
-
 -- ---- the recipe
 
 -- where the recipe of a package stands
 unfoldable pub recipe_path : List ℕ → List ℕ → List ℕ
 recipe_path repo name = joined (repo ∷ codes "/packages/" ∷ name ∷ codes "/package.py" ∷ [])
+
+-- where the recipe of the wanted package stands
+abbrev pub path_of : Request → List ℕ
+path_of request = recipe_path request.repo request.wanted.name
 
 -- the bytes of a recipe, of which there are at most 1 MiB
 unfoldable pub recipe_file : List ℕ → Option (List ℕ) → Result (List ℕ) Refusal
@@ -63,16 +41,16 @@ declared_of name file = unless_other name (recipe_of file)
 
 -- ---- the whole
 
-abbrev pub problem_by : Command → List (List ℕ) → Problem
-problem_by c versions = record { lock = c.lock; name = c.spec; versions = versions }
+abbrev pub problem_by : Request → List (List ℕ) → Problem
+problem_by request declared = record { lock = request.lock; wanted = request.wanted; declared = declared }
 
--- the problem that a command names over the files
-unfoldable pub problem_at : Files → Command → Result Problem Refusal
-problem_at files c = do
-  file ← recipe_file c.spec (get files (recipe_path c.repo c.spec))
-  versions ← declared_of c.spec file
-  Ok (problem_by c versions)
+-- the problem that a request names over the files
+unfoldable pub problem_at : Files → Request → Result Problem Refusal
+problem_at files request = do
+  file ← recipe_file request.wanted.name (get files (path_of request))
+  declared ← declared_of request.wanted.name file
+  Ok (problem_by request declared)
 
 -- the problem that the words name over the files
-abbrev pub problem_of : Files → List (List ℕ) → Result Problem Refusal
-problem_of files words = asked_of words >>= problem_at files
+abbrev pub Poses : Files → List (List ℕ) → Result Problem Refusal → Type 0
+Poses files words = Then (Asks words) (λ request. Is (problem_at files request))

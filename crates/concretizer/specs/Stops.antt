@@ -3,7 +3,7 @@ use Rattle.std.specs.Prelude.{◌≡◌, ℕ, List, [], ◌∷◌, Result, Ok, E
 use Rattle.concretizer.specs.Lines.{line}
 use Rattle.concretizer.specs.Refusals.{status_of, line_of}
 use Rattle.concretizer.specs.declared.refusal.Refusal.{Refusal}
-use Rattle.concretizer.specs.declared.refusal.Refusal.TheVariants.{Usage, NotBuilt, UnknownRoot, RecipeTooLarge}
+use Rattle.concretizer.specs.declared.refusal.Refusal.TheVariants.{Usage, NotBuilt, SpecsTooLarge, BadSpecs, TooManyRoots, UnknownRoot, RecipeTooLarge}
 use Rattle.concretizer.specs.declared.stop.ReadStop.{ReadStop}
 use Rattle.concretizer.specs.declared.stop.ReadStop.TheVariants as reads
 use Rattle.concretizer.specs.declared.stop.WriteStop.{WriteStop}
@@ -14,11 +14,18 @@ use Rattle.concretizer.specs.declared.status.Status.{Status}
 use Rattle.concretizer.specs.declared.status.Status.TheVariants as statuses
 
 -- what a call returned is what reading gives; a device's fault or want of memory may come instead
-abbrev pub Gives : {T : Type 0} → Result T ReadStop → Result T Refusal → Type 0
-Gives (Ok x) read = read ≡ Ok x
-Gives (Err (reads.Refused refusal)) read = read ≡ Err refusal
-Gives (Err (reads.Fault path)) read = Unit {0}
-Gives (Err reads.NoMemory) read = Unit {0}
+abbrev pub Gives : {T : Type 0} → Result T ReadStop → (Result T Refusal → Type 0) → Type 0
+Gives (Ok x) Reads = Reads (Ok x)
+Gives (Err (reads.Refused refusal)) Reads = Reads (Err refusal)
+Gives (Err (reads.Fault path)) Reads = Unit {0}
+Gives (Err reads.NoMemory) Reads = Unit {0}
+
+-- reading gives nothing but what the call returned
+abbrev pub GivesOnly : {T : Type 0} → Result T ReadStop → Result T Refusal → Type 0
+GivesOnly (Ok x) read = read ≡ Ok x
+GivesOnly (Err (reads.Refused refusal)) read = read ≡ Err refusal
+GivesOnly (Err (reads.Fault path)) read = Unit {0}
+GivesOnly (Err reads.NoMemory) read = Unit {0}
 
 -- a device fails only while the file at the path is read
 abbrev pub FailsAt : {T : Type 0} → List ℕ → Result T ReadStop → Type 0
@@ -52,6 +59,9 @@ abbrev pub IsUsage : {T : Type 0} → Result T ReadStop → Type 0
 IsUsage (Ok x) = ⊥
 IsUsage (Err (reads.Refused Usage)) = Unit {0}
 IsUsage (Err (reads.Refused (NotBuilt what))) = ⊥
+IsUsage (Err (reads.Refused SpecsTooLarge)) = ⊥
+IsUsage (Err (reads.Refused (BadSpecs e))) = ⊥
+IsUsage (Err (reads.Refused TooManyRoots)) = ⊥
 IsUsage (Err (reads.Refused (UnknownRoot name))) = ⊥
 IsUsage (Err (reads.Refused (RecipeTooLarge name))) = ⊥
 IsUsage (Err (reads.Fault path)) = ⊥

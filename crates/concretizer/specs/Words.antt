@@ -1,10 +1,10 @@
 -- The words of a command line as a command.
-use Rattle.std.specs.Prelude.{ℕ, List, [], ◌∷◌, ◌++◌, map, Bool, false, not, ◌&&◌, ◌||◌, ◌==◌, if◌then◌else◌, Option, Some, None, String, codes}
+use Rattle.std.specs.Prelude.{ℕ, List, ◌∷◌, ◌++◌, map, Bool, not, ◌||◌, if◌then◌else◌, Option, Some, None, String, codes}
 use Rattle.std.specs.List.{flat_map, list_all}
-use Rattle.std.specs.Int.{is_in_range}
 use Rattle.std.specs.Str.{bytes_eq}
 use Rattle.std.specs.String.{string_bytes}
 use Rattle.std.specs.declared.alloc.Global.{Global}
+use Rattle.spec_grammar.specs.Signs.{is_white}
 use Rattle.concretizer.specs.declared.command.Command.{Command}
 
 -- words by their bytes
@@ -15,25 +15,9 @@ words_of words = map string_bytes words
 abbrev pub joined_words : List ℕ → List (List ℕ) → List ℕ
 joined_words first more = first ++ flat_map (λ word. 32 ∷ word) more
 
--- space, tab, line feed and carriage return
-abbrev pub is_white : ℕ → Bool
-is_white b = (b == 32) || (b == 9) || (b == 10) || (b == 13)
-
+-- empty, or white space alone
 abbrev pub is_blank : List ℕ → Bool
 is_blank text = list_all is_white text
-
--- a letter, a digit or `_`
-abbrev pub is_name_first : ℕ → Bool
-is_name_first b = is_in_range 48 57 b || is_in_range 65 90 b || is_in_range 97 122 b || b == 95
-
--- or `-`
-abbrev pub is_name_later : ℕ → Bool
-is_name_later b = is_name_first b || b == 45
-
--- a NAME
-abbrev pub is_name : List ℕ → Bool
-is_name [] = false
-is_name (first ∷ later) = is_name_first first && list_all is_name_later later
 
 unfoldable pub is_same : List ℕ → List ℕ → Bool
 is_same a b = bytes_eq a b

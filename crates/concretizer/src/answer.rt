@@ -3,7 +3,7 @@ ghost use Rattle.std.specs.Prelude.{◌≡◌, ◌⊎◌, IfOk, IfSome, OnOk};
 ghost use Rattle.std.specs.String.{string_bytes};
 ghost use Rattle.outside_desk.specs.Causes.{Counts};
 ghost use Rattle.outside_desk.specs.Files.{and_said, MayHold};
-ghost use Rattle.concretizer.specs.Answers.{node_of, lock_of, cost_of, report_of, unsatisfiable_line, HoldsFront, Puts, Writes};
+ghost use Rattle.concretizer.specs.Answers.{node_of, lock_by, lock_of, cost_of, report_of, unsatisfiable_line, HoldsFront, Puts, Writes};
 ghost use Rattle.concretizer.specs.Changes.{ChangesOnly};
 ghost use Rattle.concretizer.specs.Stops.{IsPutFault, IsOutputFault};
 ghost use Rattle.concretizer.specs.Weights.{IsBest};
@@ -45,13 +45,13 @@ fn built_node(alloc: Global, name: &Word, version: &Version) -> Result<BuiltNode
     })
 }
 
-/// The lock file of a graph of one root.
-fn lock_of(alloc: Global, node: &BuiltNode) -> Result<String, AllocError>
-    ensures { IfOk result (λ text. string_bytes text ≡ lock_of node.now) }
+/// The lock file of one node, which a spec asked for.
+fn lock_by(alloc: Global, spec: &Word, node: &BuiltNode) -> Result<String, AllocError>
+    ensures { IfOk result (λ text. string_bytes text ≡ lock_by spec.now node.now) }
 {
     let root = Root {
         hash: node_hash(alloc, node)?,
-        spec: node.name.duplicate(alloc)?,
+        spec: spec.duplicate(alloc)?,
     };
     lock_text(alloc, slice::from_ref(node), slice::from_ref(&root))
 }
@@ -107,12 +107,12 @@ fn solved_texts(
     problem: &Problem,
     version: &Version,
 ) -> Result<(String, String), AllocError>
-    ensures lock { IfOk result (λ texts. string_bytes texts.0 ≡ lock_of (node_of problem.now.name version.now)) }
+    ensures lock { IfOk result (λ texts. string_bytes texts.0 ≡ lock_of problem.now.wanted version.now) }
     ensures report { IfOk result (λ texts. string_bytes texts.1 ≡ report_of problem.now version.now) }
 {
-    let node = built_node(alloc, &problem.name, version)?;
-    let lock = lock_of(alloc, &node)?;
-    let weight = weight_of(problem.versions.as_slice(), version) as u64;
+    let node = built_node(alloc, &problem.wanted.name, version)?;
+    let lock = lock_by(alloc, &problem.wanted.text, &node)?;
+    let weight = weight_of(problem.declared.as_slice(), version) as u64;
     let report = report_text(alloc, slice::from_ref(&node), &cost_of(weight))?;
     Ok((lock, report))
 }
@@ -125,7 +125,7 @@ fn write_solved<D: Desk, O: Sink>(
     desk: &mut D,
     out: &mut O,
 ) -> Result<Answer, WriteStop>
-    requires { IsBest problem.now.versions best.now }
+    requires { IsBest problem.now.wanted.versions problem.now.declared best.now }
     ensures left { Writes problem.now (D.files desk.old) (D.files desk.new) (O.said out.old) (O.said out.new) result }
     ensures held { (D.files desk.new ≡ D.files desk.old) ⊎ HoldsFront problem.now (D.files desk.old) (D.files desk.new) }
     ensures others { IfSome (D.files desk.old) (λ files. ChangesOnly problem.now.lock files (D.files desk.new)) }
@@ -153,7 +153,7 @@ pub fn write_answer<D: Desk, O: Sink>(
     ensures put { Counts (D.put_faults desk.old) (D.put_faults desk.new) (IsPutFault result) }
     ensures said { Counts (O.faults out.old) (O.faults out.new) (IsOutputFault result) }
 {
-    match best_of(problem.versions.as_slice()) {
+    match best_of(&problem.wanted.versions, problem.declared.as_slice()) {
         Some(best) => write_solved(alloc, problem, best, desk, out),
         None => {
             say(alloc, out, unsatisfiable_text())?;

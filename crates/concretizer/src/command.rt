@@ -1,8 +1,8 @@
 // The words of the command line.
 ghost use Rattle.std.specs.Prelude.{◌≡◌, ◌∷◌, ◌++◌, IfOk};
-ghost use Rattle.std.specs.List.{list_all};
 ghost use Rattle.std.specs.String.{string_bytes};
-ghost use Rattle.concretizer.specs.Words.{words_of, joined_words, command_of, is_blank, is_name, is_same, is_white, is_name_first, is_name_later};
+ghost use Rattle.spec_grammar.specs.Signs.{is_white};
+ghost use Rattle.concretizer.specs.Words.{words_of, joined_words, command_of, is_blank, is_same};
 
 use plain_data::Word;
 use std::alloc::{AllocError, Global};
@@ -41,34 +41,6 @@ fn is_blank(text: &[u8]) -> bool
     ensures { result ≡ is_blank text.now }
 {
     text.iter().all(|b| is_white(*b))
-}
-
-fn is_name_first(b: u8) -> bool
-    ensures { result ≡ is_name_first b }
-{
-    b.is_ascii_alphanumeric() || b == b'_'
-}
-
-fn is_name_later(b: u8) -> bool
-    ensures { result ≡ is_name_later b }
-{
-    is_name_first(b) || b == b'-'
-}
-
-fn are_name_later(text: &[u8]) -> bool
-    ensures { result ≡ list_all is_name_later text.now }
-{
-    text.iter().all(|b| is_name_later(*b))
-}
-
-/// Whether a text is a NAME: a letter, digit or `_`, then letters, digits, `_`, `-`.
-pub fn is_name(text: &[u8]) -> bool
-    ensures { result ≡ is_name text.now }
-{
-    match text {
-        [] => false,
-        [first, later @ ..] => is_name_first(*first) && are_name_later(later),
-    }
 }
 
 /// Whether two texts are the same.

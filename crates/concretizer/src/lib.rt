@@ -1,7 +1,7 @@
 //! The concretizer: from the words of a command line and the files of a desk to the lock file.
 //!
 //! It promises what `specs/Headline.antt` says of each answer of `run`, for any desk and any sinks.
-//! It stands on the devices of `outside_desk`, on versions and hashes, and on `serde_json` for JSON.
+//! It stands on the devices of `outside_desk`, on specs, versions and hashes, and on `serde_json` for JSON.
 //! It must not know which machine, files or streams are behind the desk and the sinks.
 //! The readers of recipes and the writers of lock files are private parts of it for now.
 #![tactic(auto)]
@@ -14,6 +14,7 @@ mod problem;
 mod recipe;
 mod refusal;
 mod report;
+mod request;
 mod status;
 mod steady;
 mod stop;

@@ -3,16 +3,16 @@ ghost use Rattle.std.specs.Prelude.{◌≡◌, IfOk, IfSome};
 ghost use Rattle.std.specs.FinMap.{get};
 ghost use Rattle.std.specs.String.{string_bytes};
 ghost use Rattle.outside_desk.specs.Causes.{Counts};
-ghost use Rattle.concretizer.specs.Words.{words_of};
-ghost use Rattle.concretizer.specs.Problems.{asked_of, not_built_of, recipe_path, recipe_file, declared_of, problem_at};
+ghost use Rattle.concretizer.specs.Requests.{Is};
+ghost use Rattle.concretizer.specs.Problems.{recipe_path, path_of, recipe_file, declared_of, problem_at};
 ghost use Rattle.concretizer.specs.Stops.{Gives, FailsAt, IsReadFault, IsUsage};
 
-use crate::command::{Command, is_name, is_same, read_command};
 use crate::recipe::read_recipe;
 use crate::refusal::{NotBuilt, Refusal};
+use crate::request::{Request, Wanted};
 use crate::stop::ReadStop;
 use outside_desk::{Desk, ReadFault, read_whole};
-use plain_data::{Duplicate, List, Word};
+use plain_data::{List, Word};
 use std::alloc::{AllocError, Global};
 use version_order::Version;
 
@@ -24,42 +24,10 @@ const RECIPE_LIMIT: u64 = 1 << 20;
 pub struct Problem {
     /// The path of the lock file.
     pub lock: Word,
-    /// The name of the package that is asked for.
-    pub name: Word,
+    /// The package that is asked for.
+    pub wanted: Wanted,
     /// The versions that its recipe declares, in file order and each once.
-    pub versions: List<Version>,
-}
-
-/// The first form of the command that is not built yet.
-fn not_built(command: &Command) -> Option<NotBuilt>
-    ensures { result ≡ not_built_of command.now }
-{
-    if !is_same(command.settings.as_str(), "-") {
-        Some(NotBuilt::Settings)
-    } else if !is_same(command.database.as_str(), "-") {
-        Some(NotBuilt::Database)
-    } else if !is_same(command.cert.as_str(), "-") {
-        Some(NotBuilt::Certificate)
-    } else if !is_name(command.spec.as_str().as_bytes()) {
-        Some(NotBuilt::Specs)
-    } else {
-        None
-    }
-}
-
-/// The command that the words ask for.
-#[tactic(auto, unfolding(crate::specs::Problems::asked_of))]
-pub fn read_words(alloc: Global, words: &[String]) -> Result<Command, ReadStop>
-    ensures read { Gives result (asked_of (words_of words.now)) }
-    ensures no_fault { IsReadFault result → ⊥ }
-{
-    let Some(command) = read_command(alloc, words)? else {
-        return Err(ReadStop::Refused(Refusal::Usage));
-    };
-    match not_built(&command) {
-        Some(what) => Err(ReadStop::Refused(Refusal::NotBuilt(what))),
-        None => Ok(command),
-    }
+    pub declared: List<Version>,
 }
 
 #[tactic(auto, unfolding(crate::specs::Problems::recipe_path))]
@@ -77,7 +45,7 @@ fn read_file<D: Desk>(
     path: &str,
     name: &str,
 ) -> Result<List<u8>, ReadStop>
-    ensures read { IfSome (D.files desk.old) (λ m. Gives result (recipe_file name.now (get m path.now))) }
+    ensures read { IfSome (D.files desk.old) (λ m. Gives result (Is (recipe_file name.now (get m path.now)))) }
     ensures path { FailsAt path.now result }
     ensures no_usage { IsUsage result → ⊥ }
     ensures same { D.files desk.new ≡ D.files desk.old }
@@ -100,7 +68,7 @@ fn read_file<D: Desk>(
 /// The versions that the bytes of a recipe declare.
 #[tactic(auto, unfolding(crate::specs::Problems::declared_of))]
 fn read_versions(alloc: Global, name: &str, file: &[u8]) -> Result<List<Version>, ReadStop>
-    ensures read { Gives result (declared_of name.now file.now) }
+    ensures read { Gives result (Is (declared_of name.now file.now)) }
     ensures no_usage { IsUsage result → ⊥ }
     ensures no_fault { IsReadFault result → ⊥ }
 {
@@ -112,28 +80,29 @@ fn read_versions(alloc: Global, name: &str, file: &[u8]) -> Result<List<Version>
     }
 }
 
-/// The problem that a command names over the desk's files.
+/// The problem that a request names over the desk's files.
 #[tactic(auto, unfolding(crate::specs::Problems::problem_at))]
 pub fn read_problem<D: Desk>(
     alloc: Global,
     desk: &mut D,
-    command: &Command,
+    request: Request,
 ) -> Result<Problem, ReadStop>
-    ensures read { IfSome (D.files desk.old) (λ m. Gives result (problem_at m command.now)) }
-    ensures lock { IfOk result (λ problem. problem.lock ≡ command.now.lock) }
-    ensures path { FailsAt (recipe_path command.now.repo command.now.spec) result }
+    ensures read { IfSome (D.files desk.old) (λ m. Gives result (Is (problem_at m request))) }
+    ensures lock { IfOk result (λ problem. problem.lock ≡ request.lock) }
+    ensures path { FailsAt (path_of request) result }
     ensures no_usage { IsUsage result → ⊥ }
     ensures same { D.files desk.new ≡ D.files desk.old }
     ensures cause { Counts (D.faults desk.old) (D.faults desk.new) (IsReadFault result) }
     ensures put_faults { D.put_faults desk.new ≡ D.put_faults desk.old }
 {
-    let name = command.spec.as_str();
-    let path = recipe_path(alloc, command.repo.as_str(), name)?;
+    let name = request.wanted.name.as_str();
+    let path = recipe_path(alloc, request.repo.as_str(), name)?;
     let file = read_file(alloc, desk, path.as_str(), name)?;
-    let versions = read_versions(alloc, name, file.as_slice())?;
+    let declared = read_versions(alloc, name, file.as_slice())?;
+    let Request { lock, wanted, .. } = request;
     Ok(Problem {
-        lock: command.lock.duplicate(alloc)?,
-        name: command.spec.duplicate(alloc)?,
-        versions,
+        lock,
+        wanted,
+        declared,
     })
 }

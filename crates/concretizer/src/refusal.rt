@@ -6,6 +6,7 @@ ghost use Rattle.concretizer.specs.Refusals as lines;
 
 use crate::status::Status;
 use plain_data::Word;
+use spec_grammar::{Form, SpecFault};
 use std::alloc::{AllocError, Global};
 
 /// A form of input that is not built yet.
@@ -25,6 +26,12 @@ pub enum Refusal {
     /// The words are no command.
     Usage,
     NotBuilt(NotBuilt),
+    /// The text of the specs is longer than 64 KiB.
+    SpecsTooLarge,
+    /// The text is no specs.
+    BadSpecs(SpecFault),
+    /// There are more than 64 specs.
+    TooManyRoots,
     /// No recipe has the name.
     UnknownRoot(Word),
     /// The recipe with the name is longer than 1 MiB.
@@ -37,8 +44,12 @@ impl Refusal {
     {
         match self {
             Refusal::Usage => Status::Usage,
-            Refusal::NotBuilt(_) | Refusal::UnknownRoot(_) => Status::BadInput,
-            Refusal::RecipeTooLarge(_) => Status::TooLarge,
+            Refusal::NotBuilt(_) | Refusal::BadSpecs(_) | Refusal::UnknownRoot(_) => {
+                Status::BadInput
+            }
+            Refusal::SpecsTooLarge | Refusal::TooManyRoots | Refusal::RecipeTooLarge(_) => {
+                Status::TooLarge
+            }
         }
     }
 
@@ -50,6 +61,9 @@ impl Refusal {
         match self {
             Refusal::Usage => { format!(in alloc; "usage: spack_concretize COMMAND ARGUMENT...\n") }
             Refusal::NotBuilt(what) => not_built_line(alloc, what),
+            Refusal::SpecsTooLarge => format!(in alloc; "too large: specs\n"),
+            Refusal::BadSpecs(fault) => fault_line(alloc, *fault),
+            Refusal::TooManyRoots => format!(in alloc; "too large: roots\n"),
             Refusal::UnknownRoot(name) => unknown_line(alloc, name.as_str()),
             Refusal::RecipeTooLarge(name) => too_large_line(alloc, name.as_str()),
         }
@@ -74,6 +88,39 @@ fn recipe_line(alloc: Global, name: &str) -> Result<String, AllocError>
     ensures { IfOk result (λ line. string_bytes line ≡ lines.recipe_line name.now) }
 {
     format!(in alloc; "bad input: not built recipe {name}\n")
+}
+
+fn form_name(form: Form) -> &'static str
+    ensures { result.now ≡ lines.form_name form }
+{
+    match form {
+        Form::Propagation => "Propagation",
+        Form::ConcreteAssign => "ConcreteAssign",
+        Form::AnyValue => "AnyValue",
+        Form::Quoted => "Quoted",
+        Form::Flags => "Flags",
+        Form::Reference => "Reference",
+        Form::EdgeAttributes => "EdgeAttributes",
+        Form::Namespace => "Namespace",
+        Form::NestedDependency => "NestedDependency",
+        Form::ProvidesForm => "ProvidesForm",
+    }
+}
+
+#[tactic(auto, unfolding(crate::specs::Refusals::fault_line))]
+fn fault_line(alloc: Global, fault: SpecFault) -> Result<String, AllocError>
+    ensures { IfOk result (λ line. string_bytes line ≡ lines.fault_line fault) }
+{
+    match fault {
+        SpecFault::Expected(place) => format!(in alloc; "bad input: specs: Expected {place}\n"),
+        SpecFault::Unsupported(place, form) => {
+            let form = form_name(form);
+            format!(in alloc; "bad input: specs: Unsupported {place} {form}\n")
+        }
+        SpecFault::BadVersion(place) => format!(in alloc; "bad input: specs: BadVersion {place}\n"),
+        SpecFault::TwiceSet(place) => format!(in alloc; "bad input: specs: TwiceSet {place}\n"),
+        SpecFault::OutOfMemory => format!(in alloc; "bad input: specs: OutOfMemory\n"),
+    }
 }
 
 #[tactic(auto, unfolding(crate::specs::Refusals::unknown_line))]

@@ -1,7 +1,8 @@
 // Runs over devices that never fail.
-ghost use Rattle.std.specs.Prelude.{◌≢◌, IsOk};
+ghost use Rattle.std.specs.Prelude.{◌≢◌, Ok};
 ghost use Rattle.concretizer.specs.Words.{words_of};
-ghost use Rattle.concretizer.specs.Problems.{problem_of};
+ghost use Rattle.concretizer.specs.Problems.{Poses};
+ghost use Rattle.concretizer.specs.declared.problem.Problem.{Problem};
 ghost use Rattle.concretizer.specs.Headline.{IsDone, IsUnsatisfiable, IsRefused, Settles, Refuses};
 ghost use Rattle.std.specs.Prelude.{◌≡◌, Some};
 
@@ -26,7 +27,7 @@ pub fn run_steady<R: Threads + Sync>(
     ensures refused { Refuses result → IsRefused desk.old (words_of words.now) result (Some desk.new) (Some out.old) (Some out.new) (Some err.old) (Some err.new) }
     ensures no_read_fault { result ≢ Status.ReadFault }
     ensures no_write_fault { result ≢ Status.WriteFault }
-    ensures complete { IsOk (problem_of desk.old (words_of words.now)) → Settles result }
+    ensures complete { (problem : Problem) → Poses desk.old (words_of words.now) (Ok problem) → Settles result }
 {
     run(rt, alloc, words, desk, out, err)
 }

@@ -1,20 +1,24 @@
 // The top call.
-ghost use Rattle.std.specs.Prelude.{◌≡◌, ◌≢◌, ◌⊎◌, ◌≤◌, Err, IfSome, IfErr, IsOk, IsErr};
+ghost use Rattle.std.specs.Prelude.{◌≡◌, ◌≢◌, ◌⊎◌, ◌≤◌, None, Ok, Err, IfSome};
 ghost use Rattle.outside_desk.specs.Causes.{Counts, Rose};
-ghost use Rattle.concretizer.specs.Words.{words_of};
-ghost use Rattle.concretizer.specs.Problems.{asked_of, problem_of};
+ghost use Rattle.concretizer.specs.Words.{words_of, command_of};
+ghost use Rattle.concretizer.specs.Requests.{Asks};
+ghost use Rattle.concretizer.specs.Problems.{Poses};
 ghost use Rattle.concretizer.specs.Refusals.{status_of, line_of};
 ghost use Rattle.concretizer.specs.Stops.{stop_status, stop_line};
 ghost use Rattle.concretizer.specs.Headline.{IsDone, IsUnsatisfiable, IsRefused, IsReadFault, IsPutFault, IsOutputFault, Keeps, Settles, Refuses, Reports};
-ghost use Rattle.concretizer.specs.declared.refusal.Refusal.TheVariants as Refusal;
+ghost use Rattle.concretizer.specs.declared.problem.Problem.{Problem};
+ghost use Rattle.concretizer.specs.declared.refusal.Refusal.{Refusal};
 ghost use Rattle.concretizer.specs.Changes.{ChangesOnly};
 ghost use Rattle.concretizer.specs.Attempts.{Attempts, Follows, StopsAtOnce, FailsToRead, FailsToPut, FailsToSay, lock_path};
 
 use crate::answer::{Answer, write_answer};
-use crate::problem::{read_problem, read_words};
+use crate::problem::read_problem;
+use crate::request::read_request;
 use crate::status::Status;
 use crate::stop::Stop;
 use outside_desk::{Desk, Sink, SinkFault};
+use spec_grammar::reading_laws;
 use std::alloc::Global;
 use std::thread::Threads;
 
@@ -26,18 +30,17 @@ fn attempt<D: Desk, O: Sink>(
     out: &mut O,
 ) -> Result<Answer, Stop>
     ensures outcome { IfSome (D.files desk.old) (λ files. Attempts files (words_of words.now) (D.files desk.new) (O.said out.old) (O.said out.new) result) }
-    ensures follows { Follows (asked_of (words_of words.now)) result }
-    ensures at_once { IfErr (asked_of (words_of words.now)) (λ refusal. StopsAtOnce refusal result) }
-    ensures untouched { IsErr (asked_of (words_of words.now)) → D.files desk.new ≡ D.files desk.old }
+    ensures follows { Follows (words_of words.now) result }
+    ensures at_once { (refusal : Refusal) → Asks (words_of words.now) (Err refusal) → StopsAtOnce refusal result × (D.files desk.new ≡ D.files desk.old) }
     ensures unread { FailsToRead result → (D.files desk.new ≡ D.files desk.old) × (O.said out.new ≡ O.said out.old) }
-    ensures others { IfSome (D.files desk.old) (λ files. ChangesOnly (lock_path (asked_of (words_of words.now))) files (D.files desk.new)) }
+    ensures others { IfSome (D.files desk.old) (λ files. ChangesOnly (lock_path (words_of words.now)) files (D.files desk.new)) }
     ensures held { IfSome (D.files desk.old) (λ files. Keeps files (words_of words.now) (D.files desk.new)) }
     ensures read { Counts (D.faults desk.old) (D.faults desk.new) (FailsToRead result) }
     ensures put { Counts (D.put_faults desk.old) (D.put_faults desk.new) (FailsToPut result) }
     ensures said { Counts (O.faults out.old) (O.faults out.new) (FailsToSay result) }
 {
-    let command = read_words(alloc, words)?;
-    let problem = read_problem(alloc, desk, &command)?;
+    let request = read_request(alloc, words)?;
+    let problem = read_problem(alloc, desk, request)?;
     Ok(write_answer(alloc, &problem, desk, out)?)
 }
 
@@ -58,9 +61,10 @@ fn report<E: Sink>(alloc: Global, err: &mut E, stop: &Stop) -> Status
 
 /// Does what the words ask for: `concretize REPO SETTINGS DATABASE LOCK CERT SPEC`.
 ///
-/// The words are those behind the program's name. A run reads the recipe of the package that SPEC
-/// names from `REPO/packages/SPEC/package.py`, puts the lock file of its best version at LOCK, and
-/// says its node and its cost vector on `out`; `err` gets one line where the run stops before that.
+/// The words are those behind the program's name. SPEC names one package with its versions, as
+/// `zlib@1.2:`. A run reads the package's recipe from `REPO/packages/NAME/package.py`, puts the lock
+/// file of the best version in the set at LOCK, and says its node and its cost vector on `out`; `err`
+/// gets one line where the run stops before that.
 pub fn run<R: Threads + Sync, D: Desk, O: Sink, E: Sink>(
     _rt: &R,
     alloc: Global,
@@ -70,9 +74,9 @@ pub fn run<R: Threads + Sync, D: Desk, O: Sink, E: Sink>(
     err: &mut E,
 ) -> Status
     // Words that are refused are answered so whatever the desk tells, and only words are Usage.
-    ensures words { IfErr (asked_of (words_of words.now)) (λ refusal. (D.files desk.new ≡ D.files desk.old)
-        × Reports (status_of refusal) (line_of refusal) (E.said err.old) (E.said err.new) (E.faults err.old) (E.faults err.new) result) }
-    ensures usage { result ≡ Status.Usage → asked_of (words_of words.now) ≡ Err Refusal.Usage }
+    ensures words { (refusal : Refusal) → Asks (words_of words.now) (Err refusal) → (D.files desk.new ≡ D.files desk.old)
+        × Reports (status_of refusal) (line_of refusal) (E.said err.old) (E.said err.new) (E.faults err.old) (E.faults err.new) result }
+    ensures usage { result ≡ Status.Usage → command_of (words_of words.now) ≡ None }
 
     // The answers of a desk that tells its files.
     ensures done { result ≡ Status.Done → IfSome (D.files desk.old) (λ files.
@@ -91,11 +95,11 @@ pub fn run<R: Threads + Sync, D: Desk, O: Sink, E: Sink>(
         ⊎ Rose (E.faults err.old) (E.faults err.new)) }
 
     // No file but the lock file changes, and it holds a front of its text at the worst.
-    ensures others { IfSome (D.files desk.old) (λ files. ChangesOnly (lock_path (asked_of (words_of words.now))) files (D.files desk.new)) }
+    ensures others { IfSome (D.files desk.old) (λ files. ChangesOnly (lock_path (words_of words.now)) files (D.files desk.new)) }
     ensures held { IfSome (D.files desk.old) (λ files. Keeps files (words_of words.now) (D.files desk.new)) }
 
     // Input that nothing refuses is answered, where no device fails.
-    ensures complete { IfSome (D.files desk.old) (λ files. IsOk (problem_of files (words_of words.now))
+    ensures complete { IfSome (D.files desk.old) (λ files. (problem : Problem) → Poses files (words_of words.now) (Ok problem)
         → ¬ Rose (D.faults desk.old) (D.faults desk.new) → ¬ Rose (D.put_faults desk.old) (D.put_faults desk.new)
         → ¬ Rose (O.faults out.old) (O.faults out.new) → ¬ Rose (E.faults err.old) (E.faults err.new) → Settles result) }
 
@@ -107,6 +111,7 @@ pub fn run<R: Threads + Sync, D: Desk, O: Sink, E: Sink>(
     ensures decided { result ≢ Status.Undecided }
     ensures trusted { result ≢ Status.Refused }
 {
+    reading_laws();
     match attempt(alloc, words, desk, out) {
         Ok(Answer::Solved) => Status::Done,
         Ok(Answer::Unsolved) => Status::Unsatisfiable,

@@ -1,10 +1,11 @@
 // The weights of declared versions.
-ghost use Rattle.std.specs.Prelude.{◌≡◌, ℕ, List, [], MatchOption, Some, fold, slice_get};
+ghost use Rattle.std.specs.Prelude.{◌≡◌, ℕ, List, MatchOption, Some, None, fold, slice_get};
+ghost use Rattle.std.specs.Option.{option_copied};
 ghost use Rattle.std.specs.List.Sorted.{IsPermutation, IsStrictlySortedBy};
-ghost use Rattle.concretizer.specs.Weights.{weight_cmp, weight_of, lighter, IsBest};
+ghost use Rattle.concretizer.specs.Weights.{weight_cmp, weight_of, lighter, lighter_than, picked, is_wanted, IsBest, HasNone};
 
 use std::cmp::Ordering;
-use version_order::{Version, laws};
+use version_order::{Version, VersionSet, laws};
 
 /// Which of two versions comes first: those without a special component, and then the newer.
 fn compare_weights(a: &Version, b: &Version) -> Ordering
@@ -24,23 +25,45 @@ fn lighter_of<'a>(a: &'a Version, b: &'a Version) -> &'a Version
     }
 }
 
-fn lightest<'a>(first: &'a Version, others: &'a [Version]) -> &'a Version
-    ensures { result.now ≡ fold lighter first.now others.now }
+/// Whether a version is in the set that is asked for, where one is.
+fn is_wanted(set: &Option<VersionSet>, version: &Version) -> bool
+    ensures { result ≡ is_wanted set.now version.now }
 {
-    let mut best = first;
-    for version in others {
-        best = lighter_of(best, version);
+    match set {
+        Some(set) => set.contains(version),
+        None => true,
+    }
+}
+
+/// The lighter of what is there so far and one version more.
+fn lighter_than<'a>(best: Option<&'a Version>, version: &'a Version) -> &'a Version
+    ensures { result.now ≡ lighter_than (option_copied best.entry) version.now }
+{
+    match best {
+        Some(best) => lighter_of(best, version),
+        None => version,
+    }
+}
+
+/// The version of the first least weight among those that are wanted.
+fn lightest<'a>(set: &Option<VersionSet>, declared: &'a [Version]) -> Option<&'a Version>
+    ensures { option_copied result ≡ fold (picked set.now) None declared.now }
+{
+    let mut best = None;
+    for version in declared {
+        if is_wanted(set, version) {
+            best = Some(lighter_than(best, version));
+        }
     }
     best
 }
 
-/// A declared version of the least weight, and none where none is declared.
-pub fn best_of(declared: &[Version]) -> Option<&Version>
-    ensures { MatchOption result (declared.now ≡ []) (λ best. IsBest declared.now best.now) }
+/// A declared version of the least weight among those that are wanted, and none where none is.
+pub fn best_of<'a>(set: &Option<VersionSet>, declared: &'a [Version]) -> Option<&'a Version>
+    ensures { MatchOption result (HasNone set.now declared.now) (λ best. IsBest set.now declared.now best.now) }
 {
     laws();
-    let (first, others) = declared.split_first()?;
-    Some(lightest(first, others))
+    lightest(set, declared)
 }
 
 /// The weight of a version: how many declared versions come before it.

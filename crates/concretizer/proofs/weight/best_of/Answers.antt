@@ -1,5 +1,14 @@
-use Rattle.concretizer.proofs.BestOf.{best_is}
+use Rattle.std.proofs.Common.{Some, None}
+use Rattle.std.specs.Option.{MatchOption, option_copied}
+use Rattle.concretizer.specs.Weights.{IsBest, HasNone}
+use Rattle.concretizer.proofs.BestOf.{Best, best_is}
 use Rattle.concretizer.proofs.weight.best_of.Goals as goal
 
 pub returns : goal.returns
-returns c = best_is c.laws.ensures.total c.args.declared.now c.in_ok-first.first.now c.in_ok-first.others.now _ c.in_ok-first.ensures.cases.0 c.lightest.ensures
+returns c =
+    let set = c.args.set.now in
+    let declared = c.args.declared.now in
+    elim c.lightest.result as (λ r. Best set declared (option_copied r) → MatchOption r (HasNone set declared) (λ best. IsBest set declared best.now)) [
+      | None ↦ λ h. h
+      | Some best ↦ λ h. h
+    ] (best_is c.laws.ensures.total set declared (option_copied c.lightest.result) c.lightest.ensures)
