@@ -1,5 +1,5 @@
 -- How a run that stops is answered.
-use Rattle.std.proofs.Common.{◌≡◌, ◌⊎◌, ℕ, List, Option, Some, None, Result, Ok, Err, sym, subst, inl, inr}
+use Rattle.std.proofs.Common.{◌≡◌, ℕ, List, Option, Some, None, Result, Ok, Err, subst, inl, inr}
 use Rattle.std.specs.Prelude.{IfSome}
 use Rattle.outside_desk.specs.Causes.{Counts, Rose}
 use Rattle.outside_desk.specs.Files.{Files, and_said}
@@ -8,7 +8,6 @@ use Rattle.concretizer.specs.Refusals.{status_of, line_of}
 use Rattle.concretizer.specs.Stops.{stop_status, stop_line}
 use Rattle.concretizer.specs.Attempts.{Attempts, StopsAtOnce, FailsToRead, FailsToPut, FailsToSay}
 use Rattle.concretizer.specs.Headline.{IsRefused, Refuses, Settles, Reports}
-use Rattle.concretizer.specs.declared.answer.Answer.{Answer}
 use Rattle.concretizer.specs.declared.problem.Problem.{Problem}
 use Rattle.concretizer.specs.declared.refusal.Refusal.{Refusal}
 use Rattle.concretizer.specs.declared.status.Status.{Status}

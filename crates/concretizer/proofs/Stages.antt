@@ -1,5 +1,5 @@
 -- Stages of reading, one after the other.
-use Rattle.std.proofs.Common.{◌≡◌, ◌≢◌, ◌⊎◌, ℕ, zero, List, [], ◌∷◌, length, arith, Bool, true, false, cond, Option, None, refl, sym, ap, ◌∙◌, subst, Result, Ok, Err, Some, inl, inr}
+use Rattle.std.proofs.Common.{◌≡◌, ◌≢◌, ℕ, zero, List, [], ◌∷◌, length, arith, Bool, true, false, cond, Option, None, refl, sym, ap, ◌∙◌, subst, Result, Ok, Err, Some, inl, inr}
 use Rattle.std.specs.Result.{IsErrAnd}
 use Rattle.std.specs.Prelude.{Contains, IfOk, nat_le, ◌^◌}
 use Rattle.spec_grammar.specs.Reading.{Spells}
@@ -10,7 +10,7 @@ use Rattle.spec_grammar.specs.declared.fault.SpecFault.{SpecFault}
 use Rattle.spec_grammar.specs.declared.fault.SpecFault.TheVariants as fault
 use Rattle.outside_desk.specs.Files.{Files}
 use Rattle.concretizer.specs.Words.{command_of}
-use Rattle.concretizer.specs.Requests.{Is, Then, SpecsOf, Wants, Asks, order_of, wanted_of, request_by, only, unless_usage, unless_not_built, unless_large, not_built_of}
+use Rattle.concretizer.specs.Requests.{Is, Then, SpecsOf, Wants, Asks, order_of, wanted_of, request_by, only, unless_usage, unless_not_built, not_built_of}
 use Rattle.concretizer.specs.Problems.{Poses, problem_at}
 use Rattle.concretizer.specs.Stops.{Gives, GivesOnly, IsReadFault}
 use Rattle.concretizer.specs.Attempts.{lock_path, lock_of_command, StopsAtOnce}
@@ -19,7 +19,7 @@ use Rattle.concretizer.specs.declared.request.Request.{Request}
 use Rattle.concretizer.specs.declared.refusal.NotBuilt.{NotBuilt}
 use Rattle.concretizer.specs.declared.answer.Answer.{Answer}
 use Rattle.concretizer.specs.declared.stop.Stop.{Stop}
-use Rattle.concretizer.specs.declared.stop.Stop.TheVariants.{Read, Write}
+use Rattle.concretizer.specs.declared.stop.Stop.TheVariants.{Read}
 use Rattle.concretizer.specs.declared.refusal.Refusal.{Refusal}
 use Rattle.concretizer.specs.declared.refusal.Refusal.TheVariants as refusals
 use Rattle.concretizer.specs.declared.stop.ReadStop.{ReadStop}

@@ -6,6 +6,7 @@ use Rattle.concretizer.specs.Weights.{weight_of, IsBest, HasNone}
 use Rattle.concretizer.specs.Lock.{node_hash, lock_text}
 use Rattle.concretizer.specs.Report.{report_text}
 use Rattle.concretizer.specs.declared.node.BuiltNode.{BuiltNode}
+use Rattle.concretizer.specs.declared.node.Compiler.{Compiler}
 use Rattle.concretizer.specs.declared.node.Root.{Root}
 use Rattle.concretizer.specs.declared.request.Wanted.{Wanted}
 use Rattle.concretizer.specs.declared.problem.Problem.{Problem}
@@ -16,13 +17,17 @@ use Rattle.concretizer.specs.declared.stop.WriteStop.TheVariants as writes
 
 -- ---- the graph of one package
 
--- the node that a version of a package becomes: the first compiler, OS and target of the standard settings
+-- the first compiler, OS and target of the standard settings
+abbrev pub standard_compiler : Compiler
+standard_compiler = record { name = codes "gcc"; version = codes "12.3.0" }
+
+-- the node that a version of a package becomes
 unfoldable pub node_of : List ℕ → List ℕ → BuiltNode
 node_of name version = record {
   name = name;
   version = version;
   variants = [];
-  compiler = Some (record { name = codes "gcc"; version = codes "12.3.0" });
+  compiler = Some standard_compiler;
   os = codes "ubuntu22.04";
   target = codes "x86_64";
 }

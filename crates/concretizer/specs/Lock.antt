@@ -24,16 +24,19 @@ compiler_data None = null
 compiler_data (Some compiler) = object (member (codes "name") (string compiler.name) (member (codes "version") (string compiler.version) no_members))
 
 -- the record of a node without its hash
-unfoldable pub record_data : BuiltNode → Data
-record_data node = object
-    (member (codes "compiler") (compiler_data node.compiler)
+abbrev pub record_members : BuiltNode → Members
+record_members node =
+    member (codes "compiler") (compiler_data node.compiler)
     (member (codes "dependencies") (array no_items)
     (member (codes "external") null
     (member (codes "name") (string node.name)
     (member (codes "os") (string node.os)
     (member (codes "target") (string node.target)
     (member (codes "variants") (object (variants_data node.variants))
-    (member (codes "version") (string node.version) no_members))))))))
+    (member (codes "version") (string node.version) no_members)))))))
+
+unfoldable pub record_data : BuiltNode → Data
+record_data node = object (record_members node)
 
 -- the canonical text of a node
 unfoldable pub canonical_text : BuiltNode → List ℕ

@@ -44,11 +44,16 @@ declared_of name file = unless_other name (recipe_of file)
 abbrev pub problem_by : Request → List (List ℕ) → Problem
 problem_by request declared = record { lock = request.lock; wanted = request.wanted; declared = declared }
 
+-- the versions that the recipe of the wanted package declares
+unfoldable pub declared_at : Files → Request → Result (List (List ℕ)) Refusal
+declared_at files request = do
+  file ← recipe_file request.wanted.name (get files (path_of request))
+  declared_of request.wanted.name file
+
 -- the problem that a request names over the files
 unfoldable pub problem_at : Files → Request → Result Problem Refusal
 problem_at files request = do
-  file ← recipe_file request.wanted.name (get files (path_of request))
-  declared ← declared_of request.wanted.name file
+  declared ← declared_at files request
   Ok (problem_by request declared)
 
 -- the problem that the words name over the files

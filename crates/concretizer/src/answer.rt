@@ -3,7 +3,7 @@ ghost use Rattle.std.specs.Prelude.{◌≡◌, ◌⊎◌, IfOk, IfSome, OnOk};
 ghost use Rattle.std.specs.String.{string_bytes};
 ghost use Rattle.outside_desk.specs.Causes.{Counts};
 ghost use Rattle.outside_desk.specs.Files.{and_said, MayHold};
-ghost use Rattle.concretizer.specs.Answers.{node_of, lock_by, lock_of, cost_of, report_of, unsatisfiable_line, HoldsFront, Puts, Writes};
+ghost use Rattle.concretizer.specs.Answers.{standard_compiler, node_of, lock_by, lock_of, cost_of, report_of, unsatisfiable_line, HoldsFront, Puts, Writes};
 ghost use Rattle.concretizer.specs.Changes.{ChangesOnly};
 ghost use Rattle.concretizer.specs.Stops.{IsPutFault, IsOutputFault};
 ghost use Rattle.concretizer.specs.Weights.{IsBest};
@@ -27,21 +27,31 @@ pub enum Answer {
     Unsolved,
 }
 
+fn standard_compiler(alloc: Global) -> Result<Compiler, AllocError>
+    ensures { IfOk result (λ compiler. compiler ≡ standard_compiler) }
+{
+    Ok(Compiler {
+        name: Word::new(alloc, "gcc")?,
+        version: Word::new(alloc, "12.3.0")?,
+    })
+}
+
 /// The node that a version of a package becomes.
 #[tactic(auto, unfolding(crate::specs::Answers::node_of))]
 fn built_node(alloc: Global, name: &Word, version: &Version) -> Result<BuiltNode, AllocError>
     ensures { IfOk result (λ node. node ≡ node_of name.now version.now) }
 {
+    let os = Word::new(alloc, "ubuntu22.04")?;
+    let target = Word::new(alloc, "x86_64")?;
+    let name = name.duplicate(alloc)?;
+    let version = version.duplicate(alloc)?;
     Ok(BuiltNode {
-        name: name.duplicate(alloc)?,
-        version: version.duplicate(alloc)?,
+        name,
+        version,
         variants: List::new(alloc),
-        compiler: Some(Compiler {
-            name: Word::new(alloc, "gcc")?,
-            version: Word::new(alloc, "12.3.0")?,
-        }),
-        os: Word::new(alloc, "ubuntu22.04")?,
-        target: Word::new(alloc, "x86_64")?,
+        compiler: Some(standard_compiler(alloc)?),
+        os,
+        target,
     })
 }
 
@@ -101,6 +111,23 @@ fn say<O: Sink>(alloc: Global, out: &mut O, text: &str) -> Result<(), WriteStop>
     }
 }
 
+/// The lock file and the report of a version, which becomes this node.
+fn node_texts(
+    alloc: Global,
+    problem: &Problem,
+    version: &Version,
+    node: &BuiltNode,
+) -> Result<(String, String), AllocError>
+    requires { node.now ≡ node_of problem.now.wanted.name version.now }
+    ensures lock { IfOk result (λ texts. string_bytes texts.0 ≡ lock_of problem.now.wanted version.now) }
+    ensures report { IfOk result (λ texts. string_bytes texts.1 ≡ report_of problem.now version.now) }
+{
+    let lock = lock_by(alloc, &problem.wanted.text, node)?;
+    let weight = weight_of(problem.declared.as_slice(), version) as u64;
+    let report = report_text(alloc, slice::from_ref(node), &cost_of(weight))?;
+    Ok((lock, report))
+}
+
 /// The lock file and the report of a version.
 fn solved_texts(
     alloc: Global,
@@ -111,10 +138,9 @@ fn solved_texts(
     ensures report { IfOk result (λ texts. string_bytes texts.1 ≡ report_of problem.now version.now) }
 {
     let node = built_node(alloc, &problem.wanted.name, version)?;
-    let lock = lock_by(alloc, &problem.wanted.text, &node)?;
-    let weight = weight_of(problem.declared.as_slice(), version) as u64;
-    let report = report_text(alloc, slice::from_ref(&node), &cost_of(weight))?;
-    Ok((lock, report))
+    let texts = node_texts(alloc, problem, version, &node);
+    drop(node);
+    texts
 }
 
 /// Writes the answer of a problem that a best version solves.

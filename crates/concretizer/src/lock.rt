@@ -1,10 +1,10 @@
 // Lock files.
-ghost use Rattle.std.specs.Prelude.{◌≡◌, ◌++◌, ◌∷◌, [], IfOk, map, false};
+ghost use Rattle.std.specs.Prelude.{◌≡◌, ◌++◌, ◌∷◌, [], IfOk, OnOk, map, false};
 ghost use Rattle.std.specs.String.{string_bytes};
-ghost use Rattle.serde_json.specs.Data.{array, object, string, no_members};
+ghost use Rattle.serde_json.specs.Data.{array, object, string, no_members, put as with_member};
 ghost use Rattle.serde_json.specs.View.{view, items_of, items_view, members_view};
 ghost use Rattle.serde_json.specs.Written.{compact_text, has_float};
-ghost use Rattle.concretizer.specs.Lock.{strings, variants_data, compiler_data, record_data, canonical_text, node_hash, node_data, root_data, lock_data, lock_text};
+ghost use Rattle.concretizer.specs.Lock.{strings, variants_data, compiler_data, record_members, record_data, canonical_text, node_hash, node_data, root_data, lock_data, lock_text};
 
 use crate::node::{BuiltNode, Compiler, Root};
 use plain_data::{List, Word};
@@ -47,23 +47,59 @@ fn compiler_value(alloc: Global, compiler: &Option<Compiler>) -> Result<Value, A
     }
 }
 
+fn put_text(
+    alloc: Global,
+    members: &mut Map<String, Value>,
+    key: &str,
+    text: &str,
+) -> Result<(), AllocError>
+    ensures { OnOk result (members_view members.new.entries ≡ with_member key.now (string text.now) (members_view members.old.entries)) }
+{
+    put(members, alloc, key, Value::try_from_str(alloc, text)?)
+}
+
+/// Puts the members of a node's record among none.
+fn put_record(
+    alloc: Global,
+    members: &mut Map<String, Value>,
+    node: &BuiltNode,
+) -> Result<(), AllocError>
+    requires { members.old.entries ≡ [] }
+    ensures { OnOk result (members_view members.new.entries ≡ record_members node.now) }
+{
+    put(
+        members,
+        alloc,
+        "compiler",
+        compiler_value(alloc, &node.compiler)?,
+    )?;
+    put(
+        members,
+        alloc,
+        "dependencies",
+        Value::Array(Vec::new(alloc)),
+    )?;
+    put(members, alloc, "external", Value::Null)?;
+    put_text(alloc, members, "name", node.name.as_str())?;
+    put_text(alloc, members, "os", node.os.as_str())?;
+    put_text(alloc, members, "target", node.target.as_str())?;
+    put(
+        members,
+        alloc,
+        "variants",
+        variants_value(alloc, node.variants.as_slice())?,
+    )?;
+    put_text(alloc, members, "version", node.version.text())
+}
+
 /// The record of a node without its hash.
 #[tactic(auto, unfolding(crate::specs::Lock::record_data))]
 fn record_value(alloc: Global, node: &BuiltNode) -> Result<Value, AllocError>
     ensures { IfOk result (λ v. view v ≡ record_data node.now) }
 {
-    let compiler = compiler_value(alloc, &node.compiler)?;
-    let variants = variants_value(alloc, node.variants.as_slice())?;
-    json!(in alloc; {
-        "compiler": compiler,
-        "dependencies": [],
-        "external": null,
-        "name": node.name.as_str(),
-        "os": node.os.as_str(),
-        "target": node.target.as_str(),
-        "variants": variants,
-        "version": node.version.text()
-    })
+    let mut members = Map::new(alloc);
+    put_record(alloc, &mut members, node)?;
+    Ok(Value::Object(members))
 }
 
 /// The text of a value that holds no float.
@@ -84,27 +120,18 @@ pub fn node_hash(alloc: Global, node: &BuiltNode) -> Result<Hash, AllocError>
     Ok(hash_text(text.as_bytes()))
 }
 
-/// A node of a lock file.
+/// A node of a lock file: its record with its hash and where it comes from.
 #[tactic(auto, unfolding(crate::specs::Lock::node_data))]
 fn node_value(alloc: Global, node: &BuiltNode) -> Result<Value, AllocError>
     ensures { IfOk result (λ v. view v ≡ node_data node.now) }
 {
     let hash = node_hash(alloc, node)?;
-    let compiler = compiler_value(alloc, &node.compiler)?;
-    let variants = variants_value(alloc, node.variants.as_slice())?;
-    json!(in alloc; {
-        "compiler": compiler,
-        "dependencies": [],
-        "entry": null,
-        "external": null,
-        "hash": hash.as_str(),
-        "name": node.name.as_str(),
-        "origin": "built",
-        "os": node.os.as_str(),
-        "target": node.target.as_str(),
-        "variants": variants,
-        "version": node.version.text()
-    })
+    let mut members = Map::new(alloc);
+    put_record(alloc, &mut members, node)?;
+    put(&mut members, alloc, "entry", Value::Null)?;
+    put_text(alloc, &mut members, "hash", hash.as_str())?;
+    put_text(alloc, &mut members, "origin", "built")?;
+    Ok(Value::Object(members))
 }
 
 fn nodes_value(alloc: Global, nodes: &[BuiltNode]) -> Result<Value, AllocError>

@@ -4,7 +4,7 @@ ghost use Rattle.std.specs.FinMap.{get};
 ghost use Rattle.std.specs.String.{string_bytes};
 ghost use Rattle.outside_desk.specs.Causes.{Counts};
 ghost use Rattle.concretizer.specs.Requests.{Is};
-ghost use Rattle.concretizer.specs.Problems.{recipe_path, path_of, recipe_file, declared_of, problem_at};
+ghost use Rattle.concretizer.specs.Problems.{recipe_path, path_of, recipe_file, declared_of, declared_at, problem_at};
 ghost use Rattle.concretizer.specs.Stops.{Gives, FailsAt, IsReadFault, IsUsage};
 
 use crate::recipe::read_recipe;
@@ -80,6 +80,26 @@ fn read_versions(alloc: Global, name: &str, file: &[u8]) -> Result<List<Version>
     }
 }
 
+/// The versions that the recipe of the wanted package declares.
+#[tactic(auto, unfolding(crate::specs::Problems::declared_at))]
+fn read_declared<D: Desk>(
+    alloc: Global,
+    desk: &mut D,
+    request: &Request,
+) -> Result<List<Version>, ReadStop>
+    ensures read { IfSome (D.files desk.old) (λ m. Gives result (Is (declared_at m request.now))) }
+    ensures path { FailsAt (path_of request.now) result }
+    ensures no_usage { IsUsage result → ⊥ }
+    ensures same { D.files desk.new ≡ D.files desk.old }
+    ensures cause { Counts (D.faults desk.old) (D.faults desk.new) (IsReadFault result) }
+    ensures put_faults { D.put_faults desk.new ≡ D.put_faults desk.old }
+{
+    let name = request.wanted.name.as_str();
+    let path = recipe_path(alloc, request.repo.as_str(), name)?;
+    let file = read_file(alloc, desk, path.as_str(), name)?;
+    read_versions(alloc, name, file.as_slice())
+}
+
 /// The problem that a request names over the desk's files.
 #[tactic(auto, unfolding(crate::specs::Problems::problem_at))]
 pub fn read_problem<D: Desk>(
@@ -95,14 +115,18 @@ pub fn read_problem<D: Desk>(
     ensures cause { Counts (D.faults desk.old) (D.faults desk.new) (IsReadFault result) }
     ensures put_faults { D.put_faults desk.new ≡ D.put_faults desk.old }
 {
-    let name = request.wanted.name.as_str();
-    let path = recipe_path(alloc, request.repo.as_str(), name)?;
-    let file = read_file(alloc, desk, path.as_str(), name)?;
-    let declared = read_versions(alloc, name, file.as_slice())?;
-    let Request { lock, wanted, .. } = request;
-    Ok(Problem {
-        lock,
-        wanted,
-        declared,
-    })
+    match read_declared(alloc, desk, &request) {
+        Ok(declared) => {
+            let Request { lock, wanted, .. } = request;
+            Ok(Problem {
+                lock,
+                wanted,
+                declared,
+            })
+        }
+        Err(stop) => {
+            drop(request);
+            Err(stop)
+        }
+    }
 }

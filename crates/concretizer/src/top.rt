@@ -41,7 +41,9 @@ fn attempt<D: Desk, O: Sink>(
 {
     let request = read_request(alloc, words)?;
     let problem = read_problem(alloc, desk, request)?;
-    Ok(write_answer(alloc, &problem, desk, out)?)
+    let answer = write_answer(alloc, &problem, desk, out);
+    drop(problem);
+    Ok(answer?)
 }
 
 /// Says why a run stops, and answers so.

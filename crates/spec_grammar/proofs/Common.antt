@@ -18,7 +18,7 @@ pub use Rattle.spec_grammar.specs.Keys.{IsTarget, Takes, is_colon, is_other, is_
 unfoldable pub use Rattle.spec_grammar.specs.Keys.{key_of}
 pub use Rattle.spec_grammar.specs.Items.{spell, spell_more, spell_values, spell_list, IsItem, kind_of, mark_byte, IsOver, starts_with_byte, AreListed, AreValues, is_name_end, kind_at, kind_by, is_run_byte, HasShape, GoesOn}
 pub use Rattle.spec_grammar.specs.Right.{before_item, may_constrain, may_have_all, may_stand, is_apart, Step, spell_step, spell_steps, before_of, last_of, IsOverLast, is_some_gap, IsRightStep, AreRight, IsCut, HasForm, needs_name, may_end, may_nest, may_name, may_repeat}
-pub use Rattle.spec_grammar.specs.Meaning.{add, set_key, set_variant, take_item, mark_value, begin_part, empty_part, spec_with, nest_in, finish, set_platform, set_os, set_targets, set_arch, has_variant, truth, is_dash, Settings, set_at, end_of, nest, constrain}
+pub use Rattle.spec_grammar.specs.Meaning.{add, set_key, set_variant, take_item, mark_value, begin_part, empty_part, spec_with, nest_in, finish, set_platform, set_os, set_targets, set_arch, has_variant, truth, is_dash, Settings, set_at, end_of, nest, constrain, end_spec, Becomes}
 unfoldable pub use Rattle.spec_grammar.specs.Meaning.{target_of, set, put_all}
 pub use Rattle.spec_grammar.specs.Values.{start_run, after, is_whole, Stops}
 pub use Rattle.spec_grammar.specs.Forms.{is_flags}

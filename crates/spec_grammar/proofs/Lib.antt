@@ -30,3 +30,4 @@ pub mod KeptLaws
 pub mod DraftLaws
 pub mod PieceLaws
 pub mod WriteLaws
+pub mod LoopLaws

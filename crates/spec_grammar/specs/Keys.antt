@@ -6,14 +6,18 @@ use Rattle.spec_grammar.specs.Signs.{is_value_byte}
 use Rattle.spec_grammar.specs.declared.key.KeyKind.{KeyKind}
 use Rattle.spec_grammar.specs.declared.key.KeyKind.TheVariants.{Platform, Os, Arch, Target, Flags, Variant}
 
+abbrev pub names_flags : List ℕ → Bool
+names_flags w =
+    bytes_eq w (codes "cflags") || bytes_eq w (codes "cxxflags") || bytes_eq w (codes "fflags")
+    || bytes_eq w (codes "cppflags") || bytes_eq w (codes "ldflags") || bytes_eq w (codes "ldlibs")
+
 unfoldable pub key_of : List ℕ → KeyKind
 key_of w =
     if bytes_eq w (codes "platform") then Platform
     else if bytes_eq w (codes "os") then Os
     else if bytes_eq w (codes "arch") then Arch
     else if bytes_eq w (codes "target") then Target
-    else if bytes_eq w (codes "cflags") || bytes_eq w (codes "cxxflags") || bytes_eq w (codes "fflags") then Flags
-    else if bytes_eq w (codes "cppflags") || bytes_eq w (codes "ldflags") || bytes_eq w (codes "ldlibs") then Flags
+    else if names_flags w then Flags
     else Variant
 
 -- not `-`

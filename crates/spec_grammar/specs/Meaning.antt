@@ -1,5 +1,5 @@
 -- What items stand for.
-use Rattle.std.specs.Prelude.{ℕ, ◌==◌, Bool, true, false, List, [], ◌∷◌, ◌++◌, map, Option, Some, None, is_some, option_map, option_and_then, if◌then◌else◌, codes}
+use Rattle.std.specs.Prelude.{◌≡◌, ℕ, ◌==◌, Bool, true, false, List, [], ◌∷◌, ◌++◌, map, Option, Some, None, is_some, option_map, option_and_then, if◌then◌else◌, codes}
 use Rattle.std.specs.List.{before_first, after_first, list_any}
 use Rattle.std.specs.Str.{bytes_eq}
 use Rattle.std.specs.Ordering.{nat_cmp}
@@ -50,6 +50,11 @@ set_at Greater new v variants more = v ∷ more
 unfoldable pub set : (List ℕ × List (List ℕ)) → Settings → Settings
 set new [] = new ∷ []
 set new (v ∷ variants) = set_at (slice_cmp nat_cmp new.0 v.0) new v variants (set new variants)
+
+-- a thing became the next one, where there is one
+abbrev pub Becomes : {T : Type 0} → Option T → Bool → T → Type 0
+Becomes next true new = next ≡ Some new
+Becomes next false new = next ≡ None
 
 -- each of these gives None where the part has the same already
 abbrev pub set_variant : List ℕ → List (List ℕ) → Part → Option Part
@@ -129,11 +134,15 @@ nest draft part = nest_in draft draft.top part
 abbrev pub finish : Draft → Part → List Spec
 finish draft part = draft.specs ++ spec_with draft.top draft.below part ∷ []
 
+-- the part at hand is the last of its spec
+abbrev pub end_spec : Draft → Part → Draft
+end_spec draft part = record { specs = finish draft part; top = None; below = []; part = None }
+
 -- a NAME names the part at hand, begins one behind `^`, or begins another spec
 abbrev pub begin_part : List ℕ → Draft → Option Part → Draft
 begin_part w draft None = record draft { part = Some (empty_part (Some w)) }
 begin_part w draft (Some part) =
-    if is_some part.name then record { specs = finish draft part; top = None; below = []; part = Some (empty_part (Some w)) }
+    if is_some part.name then record (end_spec draft part) { part = Some (empty_part (Some w)) }
     else record draft { part = Some (record part { name = Some w }) }
 
 -- a constraint belongs to the nearest NAME before it

@@ -2,7 +2,7 @@
 
 ghost use Rattle.std.specs.Prelude.{◌≡◌, IfOk, [], ◌∷◌};
 ghost use Rattle.spec_grammar.specs.Keys.{key_of};
-ghost use Rattle.spec_grammar.specs.Meaning.{set_variant, set_platform, set_os, set_targets, set_arch, set_key, first_value, add};
+ghost use Rattle.spec_grammar.specs.Meaning.{Becomes, set_variant, set_platform, set_os, set_targets, set_arch, set_key, first_value, add};
 
 use crate::item::Item;
 use crate::key::{KeyKind, key_of};
@@ -13,82 +13,72 @@ use std::alloc::{AllocError, Global};
 use variant_values::ValueSet;
 use version_order::VersionSet;
 
-// Each of these gives `None` where the part has the same already.
+// Each of these is `false` where the part has the same already.
 
-fn set_variant(
-    mut part: OpenPart,
-    name: Word,
-    values: ValueSet,
-) -> Result<Option<OpenPart>, AllocError>
-    ensures { IfOk result (λ next. next ≡ set_variant name values part) }
+fn set_variant(part: &mut OpenPart, name: Word, values: ValueSet) -> Result<bool, AllocError>
+    ensures { IfOk result (λ done. Becomes (set_variant name values part.old) done part.new) }
 {
     if part.has_variant(&name) {
-        return Ok(None);
+        return Ok(false);
     }
     part.put_variant(name, values)?;
-    Ok(Some(part))
+    Ok(true)
 }
 
-fn set_platform(alloc: Global, part: OpenPart, text: &str) -> Result<Option<OpenPart>, AllocError>
-    ensures { IfOk result (λ next. next ≡ set_platform text.now part) }
+fn set_platform(alloc: Global, part: &mut OpenPart, text: &str) -> Result<bool, AllocError>
+    ensures { IfOk result (λ done. Becomes (set_platform text.now part.old) done part.new) }
 {
     if part.platform.is_some() {
-        return Ok(None);
+        return Ok(false);
     }
-    let platform = Some(truth(alloc, text)?);
-    Ok(Some(OpenPart { platform, ..part }))
+    part.platform = Some(truth(alloc, text)?);
+    Ok(true)
 }
 
-fn set_os(alloc: Global, part: OpenPart, text: &str) -> Result<Option<OpenPart>, AllocError>
-    ensures { IfOk result (λ next. next ≡ set_os text.now part) }
+fn set_os(alloc: Global, part: &mut OpenPart, text: &str) -> Result<bool, AllocError>
+    ensures { IfOk result (λ done. Becomes (set_os text.now part.old) done part.new) }
 {
     if part.os.is_some() {
-        return Ok(None);
+        return Ok(false);
     }
-    let os = Some(truth(alloc, text)?);
-    Ok(Some(OpenPart { os, ..part }))
+    part.os = Some(truth(alloc, text)?);
+    Ok(true)
 }
 
-fn set_target(alloc: Global, part: OpenPart, text: &str) -> Result<Option<OpenPart>, AllocError>
-    ensures { IfOk result (λ next. next ≡ set_targets (text.now ∷ []) part) }
+fn set_target(alloc: Global, part: &mut OpenPart, text: &str) -> Result<bool, AllocError>
+    ensures { IfOk result (λ done. Becomes (set_targets (text.now ∷ []) part.old) done part.new) }
 {
     if part.targets.is_some() {
-        return Ok(None);
+        return Ok(false);
     }
     let mut targets = List::new(alloc);
     targets.push(target_of(alloc, text)?)?;
-    Ok(Some(OpenPart {
-        targets: Some(targets),
-        ..part
-    }))
+    part.targets = Some(targets);
+    Ok(true)
 }
 
-fn set_targets(
-    alloc: Global,
-    part: OpenPart,
-    values: &[Word],
-) -> Result<Option<OpenPart>, AllocError>
-    ensures { IfOk result (λ next. next ≡ set_targets values.now part) }
+fn set_targets(alloc: Global, part: &mut OpenPart, values: &[Word]) -> Result<bool, AllocError>
+    ensures { IfOk result (λ done. Becomes (set_targets values.now part.old) done part.new) }
 {
     if part.targets.is_some() {
-        return Ok(None);
+        return Ok(false);
     }
-    let targets = Some(targets_of(alloc, values)?);
-    Ok(Some(OpenPart { targets, ..part }))
+    part.targets = Some(targets_of(alloc, values)?);
+    Ok(true)
 }
 
 /// P-O-T
-fn set_arch(alloc: Global, part: OpenPart, text: &str) -> Result<Option<OpenPart>, AllocError>
-    ensures { IfOk result (λ next. next ≡ set_arch text.now part) }
+fn set_arch(alloc: Global, part: &mut OpenPart, text: &str) -> Result<bool, AllocError>
+    ensures { IfOk result (λ done. Becomes (set_arch text.now part.old) done part.new) }
 {
     let (platform, rest) = cut_dash(text);
     let (os, target) = cut_dash(rest);
-    let Some(part) = set_platform(alloc, part, platform)? else {
-        return Ok(None);
-    };
-    let Some(part) = set_os(alloc, part, os)? else {
-        return Ok(None);
-    };
+    if !set_platform(alloc, part, platform)? {
+        return Ok(false);
+    }
+    if !set_os(alloc, part, os)? {
+        return Ok(false);
+    }
     set_target(alloc, part, target)
 }
 
@@ -103,52 +93,48 @@ fn first_value(values: &[Word]) -> &str
 
 fn set_key(
     alloc: Global,
-    part: OpenPart,
+    part: &mut OpenPart,
     name: Word,
     values: &[Word],
-) -> Result<Option<OpenPart>, AllocError>
-    ensures { IfOk result (λ next. next ≡ set_key (key_of name) name values.now part) }
+) -> Result<bool, AllocError>
+    ensures { IfOk result (λ done. Becomes (set_key (key_of name) name values.now part.old) done part.new) }
 {
     match key_of(name.as_str().as_bytes()) {
         KeyKind::Platform => set_platform(alloc, part, first_value(values)),
         KeyKind::Os => set_os(alloc, part, first_value(values)),
         KeyKind::Arch => set_arch(alloc, part, first_value(values)),
         KeyKind::Target => set_targets(alloc, part, values),
-        KeyKind::Flags => Ok(None),
+        KeyKind::Flags => Ok(false),
         KeyKind::Variant => set_variant(part, name, value_set(alloc, values)?),
     }
 }
 
-fn set_versions(part: OpenPart, versions: VersionSet) -> Option<OpenPart>
-    ensures { result ≡ add (Item.Versions versions) part }
+fn set_versions(part: &mut OpenPart, versions: VersionSet) -> bool
+    ensures { Becomes (add (Item.Versions versions) part.old) result part.new }
 {
     if part.versions.is_some() {
-        return None;
+        return false;
     }
-    Some(OpenPart {
-        versions: Some(versions),
-        ..part
-    })
+    part.versions = Some(versions);
+    true
 }
 
-fn set_compiler(part: OpenPart, name: Word, versions: Option<VersionSet>) -> Option<OpenPart>
-    ensures { result ≡ add (Item.Compiler name versions) part }
+fn set_compiler(part: &mut OpenPart, name: Word, versions: Option<VersionSet>) -> bool
+    ensures { Becomes (add (Item.Compiler name versions) part.old) result part.new }
 {
     if part.compiler.is_some() {
-        return None;
+        return false;
     }
-    Some(OpenPart {
-        compiler: Some((name, versions)),
-        ..part
-    })
+    part.compiler = Some((name, versions));
+    true
 }
 
-/// The part with a constraint more, and `None` where it sets the same again.
-pub(crate) fn add(alloc: Global, part: OpenPart, item: Item) -> Result<Option<OpenPart>, AllocError>
-    ensures { IfOk result (λ next. next ≡ add item part) }
+/// Adds a constraint, and is `false` where it sets the same again.
+pub(crate) fn add(alloc: Global, part: &mut OpenPart, item: Item) -> Result<bool, AllocError>
+    ensures { IfOk result (λ done. Becomes (add item part.old) done part.new) }
 {
     match item {
-        Item::Name(_) | Item::Caret => Ok(None),
+        Item::Name(_) | Item::Caret => Ok(false),
         Item::Versions(versions) => Ok(set_versions(part, versions)),
         Item::Variant(mark, name) => set_variant(part, name, mark_set(alloc, mark)?),
         Item::Compiler(name, versions) => Ok(set_compiler(part, name, versions)),

@@ -1,7 +1,6 @@
 //! Specs while they are read.
 
-ghost use Rattle.std.specs.Prelude.{◌≡◌, IfOk};
-ghost use Rattle.spec_grammar.specs.Meaning.{spec_with};
+ghost use Rattle.std.specs.Prelude.{◌≡◌, IfOk, OnOk};
 
 use crate::constrain::add;
 use crate::item::Item;
@@ -10,9 +9,11 @@ use crate::open_part::OpenPart;
 use crate::{Part, Spec};
 use plain_data::{List, Word};
 use std::alloc::{AllocError, Global};
+use std::mem;
 
-/// Specs while they are read.
-#[derive(Debug, Drop)]
+/// Specs while they are read. They are changed in place, and a place is filled by `Option::insert`:
+/// where a value with many fields may be dropped, a check has each way to drop it before it.
+#[derive(Drop)]
 pub struct Draft {
     /// The specs that are over.
     pub specs: List<Spec>,
@@ -25,9 +26,9 @@ pub struct Draft {
 }
 
 impl Draft {
-    ghost use Rattle.std.specs.Prelude.{Some, None};
+    ghost use Rattle.std.specs.Prelude.{None, option_map};
     ghost use Rattle.spec_grammar.specs.Reading.{begin};
-    ghost use Rattle.spec_grammar.specs.Meaning.{nest, finish, begin_part, constrain, take_item};
+    ghost use Rattle.spec_grammar.specs.Meaning.{Becomes, nest, finish, end_spec, begin_part, constrain, take_item};
 
     /// What stands before the first item.
     pub(crate) fn begin(alloc: Global, mode: Mode) -> Draft
@@ -46,187 +47,100 @@ impl Draft {
         }
     }
 
-    /// The part at hand is over, and `^` stands behind it.
-    fn nest(self, alloc: Global, part: OpenPart) -> Result<Draft, AllocError>
-        ensures { IfOk result (λ next. next ≡ nest self part) }
+    /// A part of the spec at hand is over, and `^` stands behind it.
+    fn nest(&mut self, alloc: Global, part: OpenPart) -> Result<(), AllocError>
+        requires { self.old.part ≡ None }
+        ensures { OnOk result (self.new ≡ nest self.old part) }
     {
-        let Draft {
-            specs,
-            top,
-            mut below,
-            ..
-        } = self;
         let part = part.close(alloc)?;
-        let Some(first) = top else {
-            return Ok(Draft {
-                specs,
-                top: Some(part),
-                below,
-                part: None,
-            });
-        };
-        below.push(part)?;
-        Ok(Draft {
-            specs,
-            top: Some(first),
-            below,
-            part: None,
-        })
+        if self.top.is_none() {
+            self.top.insert(part);
+            Ok(())
+        } else {
+            self.below.push(part)
+        }
     }
 
-    /// The specs, where this part is the last.
-    pub(crate) fn finish(self, alloc: Global, part: OpenPart) -> Result<List<Spec>, AllocError>
-        ensures { IfOk result (λ specs. specs ≡ finish self part) }
+    /// The spec at hand is over, and this is its last part.
+    fn end_spec(&mut self, alloc: Global, part: OpenPart) -> Result<(), AllocError>
+        requires { self.old.part ≡ None }
+        ensures { OnOk result (self.new ≡ end_spec self.old part) }
     {
-        let Draft {
-            mut specs,
-            top,
-            below,
-            ..
-        } = self;
-        let part = part.close(alloc)?;
-        specs.push(spec_with(top, below, part)?)?;
-        Ok(specs)
+        self.nest(alloc, part)?;
+        let below = mem::replace(&mut self.below, List::new(alloc));
+        match self.top.take() {
+            Some(top) => self.specs.push(Spec { top, below }),
+            None => unreachable!(),
+        }
     }
 
     /// A NAME names the part at hand, begins one behind `^`, or begins another spec.
-    fn begin_part(self, alloc: Global, name: Word) -> Result<Draft, AllocError>
-        ensures { IfOk result (λ next. next ≡ begin_part name self self.part) }
+    fn begin_part(&mut self, alloc: Global, name: Word) -> Result<(), AllocError>
+        ensures { OnOk result (self.new ≡ begin_part name self.old self.old.part) }
     {
-        let Draft {
-            specs,
-            top,
-            below,
-            part,
-        } = self;
-        let Some(part) = part else {
-            let part = Some(OpenPart::empty(alloc, Some(name)));
-            return Ok(Draft {
-                specs,
-                top,
-                below,
-                part,
-            });
-        };
-        if part.name.is_none() {
-            let part = Some(OpenPart {
-                name: Some(name),
-                ..part
-            });
-            return Ok(Draft {
-                specs,
-                top,
-                below,
-                part,
-            });
+        if let Some(part) = &mut self.part
+            && part.name.is_none()
+        {
+            part.name = Some(name);
+            return Ok(());
         }
-        let draft = Draft {
-            specs,
-            top,
-            below,
-            part: None,
-        };
-        Ok(Draft {
-            specs: draft.finish(alloc, part)?,
-            top: None,
-            below: List::new(alloc),
-            part: Some(OpenPart::empty(alloc, Some(name))),
-        })
+        if let Some(part) = self.part.take() {
+            self.end_spec(alloc, part)?;
+        }
+        self.part.insert(OpenPart::empty(alloc, Some(name)));
+        Ok(())
     }
 
     /// A constraint belongs to the part at hand.
-    fn constrain(self, alloc: Global, item: Item) -> Result<Option<Draft>, AllocError>
-        ensures { IfOk result (λ next. next ≡ constrain item self self.part) }
+    fn constrain(&mut self, alloc: Global, item: Item) -> Result<bool, AllocError>
+        ensures { IfOk result (λ done. Becomes (constrain item self.old self.old.part) done self.new) }
     {
-        let Draft {
-            specs,
-            top,
-            below,
-            part,
-        } = self;
-        let Some(part) = part else {
-            return Ok(None);
-        };
-        let Some(part) = add(alloc, part, item)? else {
-            return Ok(None);
-        };
-        Ok(Some(Draft {
-            specs,
-            top,
-            below,
-            part: Some(part),
-        }))
+        match &mut self.part {
+            Some(part) => add(alloc, part, item),
+            None => {
+                drop(item);
+                Ok(false)
+            }
+        }
     }
 
     /// `^` stands behind the part at hand.
-    fn take_caret(self, alloc: Global) -> Result<Option<Draft>, AllocError>
-        ensures { IfOk result (λ next. next ≡ take_item Item.Caret self) }
+    fn take_caret(&mut self, alloc: Global) -> Result<bool, AllocError>
+        ensures { IfOk result (λ done. Becomes (take_item Item.Caret self.old) done self.new) }
     {
-        let Draft {
-            specs,
-            top,
-            below,
-            part,
-        } = self;
-        let Some(part) = part else {
-            return Ok(None);
-        };
-        let draft = Draft {
-            specs,
-            top,
-            below,
-            part: None,
-        };
-        Ok(Some(draft.nest(alloc, part)?))
+        match self.part.take() {
+            Some(part) => {
+                self.nest(alloc, part)?;
+                Ok(true)
+            }
+            None => Ok(false),
+        }
     }
 
-    /// An item more, and `None` where it sets the same again.
-    pub(crate) fn take(self, alloc: Global, item: Item) -> Result<Option<Draft>, AllocError>
-        ensures { IfOk result (λ next. next ≡ take_item item self) }
+    /// Takes an item more, and is `false` where it sets the same again.
+    pub(crate) fn take(&mut self, alloc: Global, item: Item) -> Result<bool, AllocError>
+        ensures { IfOk result (λ done. Becomes (take_item item self.old) done self.new) }
     {
         match item {
-            Item::Name(name) => Ok(Some(self.begin_part(alloc, name)?)),
+            Item::Name(name) => {
+                self.begin_part(alloc, name)?;
+                Ok(true)
+            }
             Item::Caret => self.take_caret(alloc),
             item => self.constrain(alloc, item),
         }
     }
-}
 
-/// A spec, by its first part, its further parts, and its last part.
-fn spec_with(top: Option<Part>, below: List<Part>, part: Part) -> Result<Spec, AllocError>
-    ensures { IfOk result (λ spec. spec ≡ spec_with top below part) }
-{
-    let mut below = below;
-    let Some(top) = top else {
-        return Ok(Spec { top: part, below });
-    };
-    below.push(part)?;
-    Ok(Spec { top, below })
-}
-
-impl Draft {
-    ghost use Rattle.std.specs.Prelude.{option_map};
-    ghost use Rattle.spec_grammar.specs.Meaning.{finish};
-
-    /// The specs, where a part is at hand.
-    pub(crate) fn into_specs(self, alloc: Global) -> Result<Option<List<Spec>>, AllocError>
-        ensures { IfOk result (λ specs. specs ≡ option_map (finish self) self.part) }
+    /// Takes the specs out, where a part is at hand.
+    pub(crate) fn take_specs(&mut self, alloc: Global) -> Result<Option<List<Spec>>, AllocError>
+        ensures { IfOk result (λ specs. specs ≡ option_map (finish self.old) self.old.part) }
     {
-        let Draft {
-            specs,
-            top,
-            below,
-            part,
-        } = self;
-        let Some(part) = part else {
-            return Ok(None);
-        };
-        let draft = Draft {
-            specs,
-            top,
-            below,
-            part: None,
-        };
-        Ok(Some(draft.finish(alloc, part)?))
+        match self.part.take() {
+            Some(part) => {
+                self.end_spec(alloc, part)?;
+                Ok(Some(mem::replace(&mut self.specs, List::new(alloc))))
+            }
+            None => Ok(None),
+        }
     }
 }

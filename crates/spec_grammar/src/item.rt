@@ -4,7 +4,7 @@ use plain_data::{List, Word};
 use version_order::VersionSet;
 
 /// The sign before a variant's name.
-#[derive(Clone, Copy, Debug)]
+#[derive(Clone, Copy)]
 pub enum Mark {
     /// `+`
     Plus,
@@ -15,7 +15,7 @@ pub enum Mark {
 }
 
 /// An item of a text.
-#[derive(Debug, Drop)]
+#[derive(Drop)]
 pub enum Item {
     /// A package's name.
     Name(Word),
@@ -32,7 +32,7 @@ pub enum Item {
 }
 
 /// The kind of an item.
-#[derive(Clone, Copy, Debug)]
+#[derive(Clone, Copy)]
 pub enum Kind {
     /// A package's name.
     Name,

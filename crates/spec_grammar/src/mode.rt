@@ -6,7 +6,7 @@ ghost use Rattle.spec_grammar.specs.Right.{is_apart};
 use crate::item::{Kind, Mark};
 
 /// The kinds of spec texts.
-#[derive(Clone, Copy, Debug)]
+#[derive(Clone, Copy)]
 pub enum Mode {
     /// Specs of a command line or an environment, with white space between them.
     Specs,
@@ -19,7 +19,7 @@ pub enum Mode {
 }
 
 /// What stands before a place of a text, besides white space.
-#[derive(Clone, Copy, Debug)]
+#[derive(Clone, Copy)]
 pub enum Before {
     /// Nothing.
     Start,

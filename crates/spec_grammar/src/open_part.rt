@@ -8,13 +8,14 @@ use plain_data::{List, Word};
 use std::alloc::{AllocError, Global};
 use std::collections::BTreeMap;
 use std::marker::Model;
+use std::mem;
 use variant_values::ValueSet;
 use version_order::VersionSet;
 
 /// A part while it is read, seen as the part that it is so far.
 ///
 /// A variant is found and set in logarithmic time, however many there are.
-#[derive(Debug, Drop)]
+#[derive(Drop)]
 pub struct OpenPart {
     pub(crate) name: Option<Word>,
     pub(crate) versions: Option<VersionSet>,
@@ -66,22 +67,30 @@ impl OpenPart {
     }
 
     /// The part, now that it is over.
-    pub(crate) fn close(self, alloc: Global) -> Result<Part, AllocError>
+    pub(crate) fn close(mut self, alloc: Global) -> Result<Part, AllocError>
         ensures { IfOk result (λ part. part ≡ self) }
     {
+        let variants = mem::replace(&mut self.variants, BTreeMap::new(alloc));
+        let variants = match in_order(alloc, variants) {
+            Ok(variants) => variants,
+            Err(error) => {
+                drop(self);
+                return Err(error);
+            }
+        };
         let OpenPart {
             name,
             versions,
-            variants,
             compiler,
             platform,
             os,
             targets,
+            ..
         } = self;
         Ok(Part {
             name,
             versions,
-            variants: in_order(alloc, variants)?,
+            variants,
             compiler,
             platform,
             os,

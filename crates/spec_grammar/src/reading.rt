@@ -4,7 +4,7 @@ ghost use Rattle.std.specs.Prelude.{◌≡◌, None, IfOk, IfErr};
 ghost use Rattle.spec_grammar.specs.Right.{before_item, may_name};
 ghost use Rattle.spec_grammar.specs.Forms.{form_at};
 ghost use Rattle.spec_grammar.specs.Locals.{IsTaken, IsFaultHere};
-ghost use Rattle.spec_grammar.specs.Reading.{Spells};
+ghost use Rattle.spec_grammar.specs.Reading.{Spells, begin};
 ghost use Rattle.spec_grammar.specs.Faults.{IsFault};
 
 use crate::draft::Draft;
@@ -47,12 +47,17 @@ fn next_item(
     }
 }
 
-/// The specs that a text spells.
-pub(crate) fn read_text(alloc: Global, mode: Mode, text: &[u8]) -> Result<List<Spec>, SpecFault>
+/// The specs that a text spells, read into a draft that has nothing yet.
+fn read_items(
+    alloc: Global,
+    mode: Mode,
+    text: &[u8],
+    draft: &mut Draft,
+) -> Result<List<Spec>, SpecFault>
+    requires { draft.old ≡ begin mode }
     ensures found { IfOk result (λ specs. Spells mode text.now specs) }
     ensures fault { IfErr result (λ fault. IsFault mode text.now fault) }
 {
-    let mut draft = Draft::begin(alloc, mode);
     let mut before = Before::Start;
     let mut at = white_length(text);
     let mut gap = at > 0;
@@ -62,17 +67,27 @@ pub(crate) fn read_text(alloc: Global, mode: Mode, text: &[u8]) -> Result<List<S
             Err(fault) => return Err(moved(at, fault)),
         };
         before = before_item(&item);
-        draft = match draft.take(alloc, item)? {
-            Some(next) => next,
-            None => return Err(SpecFault::TwiceSet(at as u64)),
-        };
+        if !draft.take(alloc, item)? {
+            return Err(SpecFault::TwiceSet(at as u64));
+        }
         at += len;
         let white = white_length(&text[at..]);
         gap = white > 0;
         at += white;
     }
-    match draft.into_specs(alloc)? {
+    match draft.take_specs(alloc)? {
         Some(specs) => Ok(specs),
         None => Err(SpecFault::Expected(at as u64)),
     }
+}
+
+/// The specs that a text spells.
+pub(crate) fn read_text(alloc: Global, mode: Mode, text: &[u8]) -> Result<List<Spec>, SpecFault>
+    ensures found { IfOk result (λ specs. Spells mode text.now specs) }
+    ensures fault { IfErr result (λ fault. IsFault mode text.now fault) }
+{
+    let mut draft = Draft::begin(alloc, mode);
+    let read = read_items(alloc, mode, text, &mut draft);
+    drop(draft);
+    read
 }

@@ -15,7 +15,7 @@ use std::alloc::{AllocError, Global};
 
 /// What stands before a place of values. The first field of each says whether the VALUE or the part
 /// of it at hand has a byte, and the second whether it has a `:`.
-#[derive(Clone, Copy, Debug)]
+#[derive(Clone, Copy)]
 pub enum Run {
     /// In the one VALUE of a key.
     One(bool),

@@ -72,18 +72,23 @@ fn write_key(name: &Word, values: &[Word], out: &mut Vec<u8>) -> Result<(), Allo
     write_values(values, out)
 }
 
+fn write_marked(mark: &[u8], name: &Word, out: &mut Vec<u8>) -> Result<(), AllocError>
+    ensures { OnOk result (out.new.items ≡ out.old.items ++ mark.now ++ name.now) }
+{
+    write_bytes(mark, out)?;
+    write_word(name, out)
+}
+
 /// A variant, by its values.
 fn write_variant(name: &Word, values: &[Word], out: &mut Vec<u8>) -> Result<(), AllocError>
     ensures { OnOk result (out.new.items ≡ out.old.items ++ variant_text name.now values.now) }
 {
     if let [value] = values {
         if value.as_str() == "true" {
-            write_bytes(b"+", out)?;
-            return write_word(name, out);
+            return write_marked(b"+", name, out);
         }
         if value.as_str() == "false" {
-            write_bytes(b"~", out)?;
-            return write_word(name, out);
+            return write_marked(b"~", name, out);
         }
     }
     write_key(name, values, out)

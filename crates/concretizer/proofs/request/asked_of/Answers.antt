@@ -1,8 +1,6 @@
-use Rattle.std.proofs.Common.{Ok, Err, sym}
-use Rattle.std.proofs.Common.{subst, List, ℕ}
+use Rattle.std.proofs.Common.{Ok, Err}
 use Rattle.concretizer.specs.Words.{words_of}
 use Rattle.concretizer.specs.Requests.{Is, Then, Wants, order_of, request_by}
-use Rattle.concretizer.specs.Stops.{Gives}
 use Rattle.concretizer.proofs.Stages.{carried, then_gives, then_stop}
 use Rattle.concretizer.proofs.request.asked_of.Goals as goal
 
