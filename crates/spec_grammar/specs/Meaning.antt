@@ -51,7 +51,7 @@ unfoldable pub set : (List ℕ × List (List ℕ)) → Settings → Settings
 set new [] = new ∷ []
 set new (v ∷ variants) = set_at (slice_cmp nat_cmp new.0 v.0) new v variants (set new variants)
 
--- a thing became the next one, where there is one
+-- whether a change was made, and if so that it led to the next value, which then is there
 abbrev pub Becomes : {T : Type 0} → Option T → Bool → T → Type 0
 Becomes next true new = next ≡ Some new
 Becomes next false new = next ≡ None

@@ -11,8 +11,8 @@ use plain_data::{List, Word};
 use std::alloc::{AllocError, Global};
 use std::mem;
 
-/// Specs while they are read. They are changed in place, and a place is filled by `Option::insert`:
-/// where a value with many fields may be dropped, a check has each way to drop it before it.
+/// Specs while they are read, changed in place. A part is put by `Option::insert`: an assignment
+/// would be proved once for each way to drop what stood there before.
 #[derive(Drop)]
 pub struct Draft {
     /// The specs that are over.
