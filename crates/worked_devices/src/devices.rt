@@ -1,5 +1,4 @@
 // Desks and sinks, and whole files.
-use crate::one_byte_desk::OneByteDesk;
 use outside_desk::{
     Desk, DeskFault, MemoryDesk, MemorySink, ReadFault, RealDesk, RealSink, Sink, SinkFault,
     SteadyDesk, SteadySink, read_whole,
@@ -8,6 +7,7 @@ use std::alloc::{AllocError, Global};
 use std::process::Abort;
 use std::test::Fail;
 use std::{fs, io};
+use test_desks::OneByteDesk;
 
 /// Where to read in a file of `hello`, how many bytes are asked for, and what is got.
 const PIECES: &[(u64, usize, &[u8])] = &[

@@ -10,6 +10,4 @@ mod devices;
 #[cfg(test)]
 mod hashes;
 #[cfg(test)]
-mod one_byte_desk;
-#[cfg(test)]
 mod plain;

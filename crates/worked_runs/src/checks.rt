@@ -1,11 +1,11 @@
 // Runs of the top call: what they have to answer, to say and to leave, and the test that they do.
-use crate::one_byte_desk::OneByteDesk;
 use concretizer::{Status, run};
 use outside_desk::{MemoryDesk, MemorySink, SteadySink};
 use std::alloc::{AllocError, Global};
 use std::process::Abort;
 use std::test::Fail;
 use std::thread::Threads;
+use test_desks::OneByteDesk;
 
 pub const RECIPE_PATH: &str = "r/packages/zlib/package.py";
 

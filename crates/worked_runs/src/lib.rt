@@ -10,8 +10,6 @@ mod checks;
 #[cfg(test)]
 mod faults;
 #[cfg(test)]
-mod one_byte_desk;
-#[cfg(test)]
 mod recipes;
 #[cfg(test)]
 mod runs;
