@@ -9,12 +9,11 @@ use Rattle.spec_grammar.specs.declared.part.Spec.{Spec}
 use Rattle.spec_grammar.specs.declared.fault.SpecFault.{SpecFault}
 use Rattle.spec_grammar.specs.declared.fault.SpecFault.TheVariants as fault
 use Rattle.outside_desk.specs.Files.{Files}
-use Rattle.concretizer.specs.Words.{command_of}
+use Rattle.concretizer.specs.Words.{Command, command_of}
 use Rattle.concretizer.specs.Requests.{Is, Then, SpecsOf, Wants, Asks, order_of, wanted_of, request_by, only, unless_usage, unless_not_built, not_built_of}
 use Rattle.concretizer.specs.Problems.{Poses, problem_at}
 use Rattle.concretizer.specs.Stops.{Gives, GivesOnly, IsReadFault}
 use Rattle.concretizer.specs.Attempts.{lock_path, lock_of_command, StopsAtOnce}
-use Rattle.concretizer.specs.declared.command.Command.{Command}
 use Rattle.concretizer.specs.declared.request.Request.{Request}
 use Rattle.concretizer.specs.declared.refusal.NotBuilt.{NotBuilt}
 use Rattle.concretizer.specs.declared.answer.Answer.{Answer}

@@ -1,11 +1,10 @@
 -- What reading the problem and writing its answer leave.
 use Rattle.std.specs.Prelude.{◌≡◌, ℕ, List, [], Option, Some, None, Result, Ok, Err}
 use Rattle.outside_desk.specs.Files.{Files}
-use Rattle.concretizer.specs.Words.{command_of}
+use Rattle.concretizer.specs.Words.{Command, command_of}
 use Rattle.concretizer.specs.Requests.{Asks}
 use Rattle.concretizer.specs.Problems.{path_of, Poses}
 use Rattle.concretizer.specs.Answers.{Writes}
-use Rattle.concretizer.specs.declared.command.Command.{Command}
 use Rattle.concretizer.specs.declared.request.Request.{Request}
 use Rattle.concretizer.specs.declared.problem.Problem.{Problem}
 use Rattle.concretizer.specs.declared.answer.Answer.{Answer}

@@ -8,8 +8,7 @@ use Rattle.spec_grammar.specs.declared.part.Part.{Part}
 use Rattle.spec_grammar.specs.declared.part.Spec.{Spec}
 use Rattle.spec_grammar.specs.declared.fault.SpecFault.{SpecFault}
 use Rattle.spec_grammar.specs.declared.fault.SpecFault.TheVariants as fault
-use Rattle.concretizer.specs.Words.{command_of, is_same}
-use Rattle.concretizer.specs.declared.command.Command.{Command}
+use Rattle.concretizer.specs.Words.{Command, command_of, is_same}
 use Rattle.concretizer.specs.declared.request.Request.{Request}
 use Rattle.concretizer.specs.declared.request.Wanted.{Wanted}
 use Rattle.concretizer.specs.declared.refusal.NotBuilt.{NotBuilt}

@@ -5,7 +5,6 @@ use Rattle.std.specs.Str.{bytes_eq}
 use Rattle.std.specs.String.{string_bytes}
 use Rattle.std.specs.declared.alloc.Global.{Global}
 use Rattle.spec_grammar.specs.Signs.{is_white}
-use Rattle.concretizer.specs.declared.command.Command.{Command}
 
 -- words by their bytes
 abbrev pub words_of : List (String Global) → List (List ℕ)
@@ -21,6 +20,15 @@ is_blank text = list_all is_white text
 
 unfoldable pub is_same : List ℕ → List ℕ → Bool
 is_same a b = bytes_eq a b
+
+-- the words behind `concretize`, of which those of the spec are joined
+pub record Command : Type 0 where
+  pub repo : List ℕ
+  pub settings : List ℕ
+  pub database : List ℕ
+  pub lock : List ℕ
+  pub cert : List ℕ
+  pub spec : List ℕ
 
 -- whether the words, of which there are enough, are no `concretize` command
 abbrev pub is_wrong : List ℕ → Command → Bool

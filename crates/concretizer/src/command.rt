@@ -4,19 +4,28 @@ ghost use Rattle.std.specs.String.{string_bytes};
 ghost use Rattle.spec_grammar.specs.Signs.{is_white};
 ghost use Rattle.concretizer.specs.Words.{words_of, joined_words, command_of, is_blank, is_same};
 
-use plain_data::Word;
 use std::alloc::{AllocError, Global};
+use std::marker::Model;
 
 /// The words of `concretize REPO SETTINGS DATABASE LOCK CERT SPEC`.
 #[derive(Debug, Drop)]
-pub struct Command {
-    pub repo: Word,
-    pub settings: Word,
-    pub database: Word,
-    pub lock: Word,
-    pub cert: Word,
+pub struct Command<'a> {
+    pub(crate) repo: &'a str,
+    pub(crate) settings: &'a str,
+    pub(crate) database: &'a str,
+    pub(crate) lock: &'a str,
+    pub(crate) cert: &'a str,
     /// The words of the spec, joined by one space.
-    pub spec: Word,
+    pub(crate) spec: String,
+}
+
+impl<'a> Model for Command<'a> {
+    ghost use Rattle.std.specs.String.{string_bytes};
+    ghost use Rattle.concretizer.specs.Words.{Command};
+
+    ghost Value = { Command };
+
+    ghost view = { λ c. record { repo = c.repo.now; settings = c.settings.now; database = c.database.now; lock = c.lock.now; cert = c.cert.now; spec = string_bytes c.spec } };
 }
 
 /// Words joined by one space.
@@ -52,7 +61,10 @@ pub fn is_same(a: &str, b: &str) -> bool
 }
 
 /// The command that the words are; `None` where they are none.
-pub fn read_command(alloc: Global, words: &[String]) -> Result<Option<Command>, AllocError>
+pub fn read_command<'a>(
+    alloc: Global,
+    words: &'a [String],
+) -> Result<Option<Command<'a>>, AllocError>
     ensures { IfOk result (λ command. command ≡ command_of (words_of words.now)) }
 {
     let [verb, repo, settings, database, lock, cert, first, more @ ..] = words else {
@@ -67,11 +79,11 @@ pub fn read_command(alloc: Global, words: &[String]) -> Result<Option<Command>, 
         return Ok(None);
     }
     Ok(Some(Command {
-        repo: Word::new(alloc, repo.as_str())?,
-        settings: Word::new(alloc, settings.as_str())?,
-        database: Word::new(alloc, database.as_str())?,
-        lock: Word::new(alloc, lock.as_str())?,
-        cert: Word::new(alloc, cert.as_str())?,
-        spec: Word::new(alloc, spec.as_str())?,
+        repo: repo.as_str(),
+        settings: settings.as_str(),
+        database: database.as_str(),
+        lock: lock.as_str(),
+        cert: cert.as_str(),
+        spec,
     }))
 }

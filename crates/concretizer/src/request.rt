@@ -43,14 +43,14 @@ pub struct Request {
 }
 
 /// The first form of the command that is not built yet.
-fn not_built(command: &Command) -> Option<NotBuilt>
+fn not_built(command: &Command<'_>) -> Option<NotBuilt>
     ensures { result ≡ not_built_of command.now }
 {
-    if !is_same(command.settings.as_str(), "-") {
+    if !is_same(command.settings, "-") {
         Some(NotBuilt::Settings)
-    } else if !is_same(command.database.as_str(), "-") {
+    } else if !is_same(command.database, "-") {
         Some(NotBuilt::Database)
-    } else if !is_same(command.cert.as_str(), "-") {
+    } else if !is_same(command.cert, "-") {
         Some(NotBuilt::Certificate)
     } else {
         None
@@ -59,7 +59,7 @@ fn not_built(command: &Command) -> Option<NotBuilt>
 
 /// The command that the words are.
 #[tactic(auto, unfolding(crate::specs::Requests::order_of))]
-fn read_order(alloc: Global, words: &[String]) -> Result<Command, ReadStop>
+fn read_order<'a>(alloc: Global, words: &'a [String]) -> Result<Command<'a>, ReadStop>
     ensures read { Gives result (Is (order_of (words_of words.now))) }
     ensures usage { IsUsage result → command_of (words_of words.now) ≡ None }
     ensures no_fault { IsReadFault result → ⊥ }
@@ -70,7 +70,7 @@ fn read_order(alloc: Global, words: &[String]) -> Result<Command, ReadStop>
     if let Some(what) = not_built(&command) {
         return Err(ReadStop::Refused(Refusal::NotBuilt(what)));
     }
-    if command.spec.as_str().len() > SPECS_LIMIT {
+    if command.spec.len() > SPECS_LIMIT {
         return Err(ReadStop::Refused(Refusal::SpecsTooLarge));
     }
     Ok(command)
@@ -179,8 +179,11 @@ fn asked_of(alloc: Global, words: &[String]) -> Result<Request, ReadStop>
 {
     let command = read_order(alloc, words)?;
     let wanted = wanted_of(alloc, command.spec.as_str())?;
-    let Command { repo, lock, .. } = command;
-    Ok(Request { repo, lock, wanted })
+    Ok(Request {
+        repo: Word::new(alloc, command.repo)?,
+        lock: Word::new(alloc, command.lock)?,
+        wanted,
+    })
 }
 
 /// What the words ask for, and nothing else.
