@@ -12,7 +12,7 @@ use Rattle.std.specs.declared.cmp.Ordering.TheVariants.{Less, Equal, Greater}
 use Rattle.std.proofs.lemmas.Cmp.{on_total, then_total, back_total}
 use Rattle.version_order.specs.Order.{version_cmp}
 use Rattle.version_order.specs.Prefix.{is_special}
-use Rattle.version_order.specs.declared.item.Item.{Item as Range}
+use Rattle.version_order.specs.declared.item.Item.{Item as VersionItem}
 use Rattle.concretizer.specs.Weights.{weight_cmp, weight_of, lighter, picked, is_wanted, IsBest, HasNone}
 
 true_false : {A : Type 0} (b : Bool) → b ≡ true → b ≡ false → A
@@ -71,17 +71,17 @@ in_head : (x y : List ℕ) (xs : List (List ℕ)) → y ≡ x → Contains (x �
 in_head x y xs e = (zero, omega arith, sym e)
 
 -- what the fold from a version on gives
-pub record IsLightest (set : Option (List Range)) (best : List ℕ) (versions : List (List ℕ)) (r : List ℕ) : Type 0 where
+pub record IsLightest (set : Option (List VersionItem)) (best : List ℕ) (versions : List (List ℕ)) (r : List ℕ) : Type 0 where
   pub result : fold (picked set) (Some best) versions ≡ Some r
   pub below : NoLess best r
   pub least : AllByRecursion (λ w. is_wanted set w ≡ true → NoLess w r) versions
   pub inside : (r ≡ best) ⊎ (Contains versions r × (is_wanted set r ≡ true))
 
-chosen_inside : (t : Bool) (set : Option (List Range)) (best v r : List ℕ) (vs : List (List ℕ)) → is_wanted set v ≡ true → r ≡ cond t v best → (r ≡ best) ⊎ (Contains (v ∷ vs) r × (is_wanted set r ≡ true))
+chosen_inside : (t : Bool) (set : Option (List VersionItem)) (best v r : List ℕ) (vs : List (List ℕ)) → is_wanted set v ≡ true → r ≡ cond t v best → (r ≡ best) ⊎ (Contains (v ∷ vs) r × (is_wanted set r ≡ true))
 chosen_inside true set best v r vs is e = inr (in_head v r vs e, rw e is)
 chosen_inside false set best v r vs is e = inl e
 
-from_some : IsTotalOrder weight_cmp → (set : Option (List Range)) (best : List ℕ) (versions : List (List ℕ)) → (r : List ℕ) × IsLightest set best versions r
+from_some : IsTotalOrder weight_cmp → (set : Option (List VersionItem)) (best : List ℕ) (versions : List (List ℕ)) → (r : List ℕ) × IsLightest set best versions r
 from_some t set best [] = (best, record { result = refl; below = no_less_self t best; least = tt; inside = inl refl })
 from_some t set best (v ∷ vs) = elim (cases_Bool (is_wanted set v)) [
   | inl is ↦
@@ -114,15 +114,15 @@ from_some t set best (v ∷ vs) = elim (cases_Bool (is_wanted set v)) [
 ]
 
 -- what the fold over all gives
-abbrev pub Folded : Option (List Range) → List (List ℕ) → Option (List ℕ) → Type 0
+abbrev pub Folded : Option (List VersionItem) → List (List ℕ) → Option (List ℕ) → Type 0
 Folded set versions None = AllByRecursion (λ w. is_wanted set w ≡ false) versions
 Folded set versions (Some r) = Contains versions r × (is_wanted set r ≡ true) × AllByRecursion (λ w. is_wanted set w ≡ true → NoLess w r) versions
 
-folded_more : (set : Option (List Range)) (v : List ℕ) (vs : List (List ℕ)) (o : Option (List ℕ)) → is_wanted set v ≡ false → Folded set vs o → Folded set (v ∷ vs) o
+folded_more : (set : Option (List VersionItem)) (v : List ℕ) (vs : List (List ℕ)) (o : Option (List ℕ)) → is_wanted set v ≡ false → Folded set vs o → Folded set (v ∷ vs) o
 folded_more set v vs None not h = (not, h)
 folded_more set v vs (Some r) not (inside, is, least) = (in_tail v r vs inside, is, (λ yes. true_false (is_wanted set v) yes not, least))
 
-folded : IsTotalOrder weight_cmp → (set : Option (List Range)) (versions : List (List ℕ)) → Folded set versions (fold (picked set) None versions)
+folded : IsTotalOrder weight_cmp → (set : Option (List VersionItem)) (versions : List (List ℕ)) → Folded set versions (fold (picked set) None versions)
 folded t set [] = tt
 folded t set (v ∷ vs) = elim (cases_Bool (is_wanted set v)) [
   | inl is ↦
@@ -166,11 +166,11 @@ weight_le t best other no_less (v ∷ vs) =
     omega (arith, first, weight_le t best other no_less vs, sum_by-cons (λ w. cond (is_lt (weight_cmp w best)) 1 0) v vs, sum_by-cons (λ w. cond (is_lt (weight_cmp w other)) 1 0) v vs)
 
 -- the fold gives the best
-abbrev pub Best : Option (List Range) → List (List ℕ) → Option (List ℕ) → Type 0
+abbrev pub Best : Option (List VersionItem) → List (List ℕ) → Option (List ℕ) → Type 0
 Best set declared None = HasNone set declared
 Best set declared (Some best) = IsBest set declared best
 
-best_from : IsTotalOrder weight_cmp → (set : Option (List Range)) (declared : List (List ℕ)) (o : Option (List ℕ)) → Folded set declared o → Best set declared o
+best_from : IsTotalOrder weight_cmp → (set : Option (List VersionItem)) (declared : List (List ℕ)) (o : Option (List ℕ)) → Folded set declared o → Best set declared o
 best_from t set declared None h = All-from_recursion _ declared h
 best_from t set declared (Some r) (inside, is, least) = record {
   declares = inside;
@@ -178,5 +178,5 @@ best_from t set declared (Some r) (inside, is, least) = record {
   least = All-weaker (λ w. is_wanted set w ≡ true → NoLess w r) (λ w. is_wanted set w ≡ true → weight_of declared r ≤ weight_of declared w) (λ w no_less yes. weight_le t r w (no_less yes) declared) declared (All-from_recursion _ declared least);
 }
 
-pub best_is : IsTotalOrder version_cmp → (set : Option (List Range)) (declared : List (List ℕ)) (o : Option (List ℕ)) → o ≡ fold (picked set) None declared → Best set declared o
+pub best_is : IsTotalOrder version_cmp → (set : Option (List VersionItem)) (declared : List (List ℕ)) (o : Option (List ℕ)) → o ≡ fold (picked set) None declared → Best set declared o
 best_is total set declared o e = rw e (best_from (weight_total total) set declared _ (folded (weight_total total) set declared))

@@ -2,13 +2,13 @@
 use Rattle.std.proofs.Common.{◌≡◌, ℕ, List, Option, Some, None, Result, Ok, Err, subst, inl, inr}
 use Rattle.std.specs.Prelude.{IfSome}
 use Rattle.outside_desk.specs.Causes.{Counts, Rose}
-use Rattle.outside_desk.specs.Files.{Files, and_said}
-use Rattle.concretizer.specs.Problems.{Poses}
+use Rattle.outside_desk.specs.Files.{Files}
+use Rattle.concretizer.specs.Problems.{Problem, Poses}
 use Rattle.concretizer.specs.Refusals.{status_of, line_of}
 use Rattle.concretizer.specs.Stops.{stop_status, stop_line}
 use Rattle.concretizer.specs.Attempts.{Attempts, StopsAtOnce, FailsToRead, FailsToPut, FailsToSay}
-use Rattle.concretizer.specs.Headline.{IsRefused, Refuses, Settles, Reports}
-use Rattle.concretizer.specs.declared.problem.Problem.{Problem}
+use Rattle.concretizer.specs.Headline.{IsRefused, IsRefusalStatus, Settles, Reports, IsAnsweredBy, Spoken, Says}
+use Rattle.concretizer.specs.declared.answer.Answer.{Answer}
 use Rattle.concretizer.specs.declared.refusal.Refusal.{Refusal}
 use Rattle.concretizer.specs.declared.status.Status.{Status}
 use Rattle.concretizer.specs.declared.status.Status.TheVariants as statuses
@@ -20,86 +20,140 @@ use Rattle.concretizer.proofs.Stages.{ReadsOnce, one_posed}
 
 -- ---- words that are refused
 
-reports_none : (status : Status) (line other : List ℕ) (before after : Option (List ℕ)) (faults_before faults_after : ℕ) (result : Status)
-    → Reports statuses.NoMemory other before after faults_before faults_after result → Reports status line before after faults_before faults_after result
-reports_none status line other before after faults_before faults_after result (inl (is, said)) = inr (inr is)
-reports_none status line other before after faults_before faults_after result (inr more) = inr more
+reports_none : (status : Status) (line other : List ℕ) (said : Spoken) (faults : ℕ × ℕ) (result : Status)
+    → Reports statuses.NoMemory other said faults result → Reports status line said faults result
+reports_none status line other said faults result (inl (is, line_said)) = inr (inr is)
+reports_none status line other said faults result (inr more) = inr more
 
 -- what is reported of words that are refused
-pub reports_words : (refusal : Refusal) (stop : Stop) (before after : Option (List ℕ)) (faults_before faults_after : ℕ) (result : Status)
-    → StopsAtOnce refusal (Err stop) → Reports (stop_status stop) (stop_line stop) before after faults_before faults_after result → Reports (status_of refusal) (line_of refusal) before after faults_before faults_after result
-reports_words refusal (Read (Refused given)) before after faults_before faults_after result same reports =
-    subst (λ (r : Refusal). Reports (status_of r) (line_of r) before after faults_before faults_after result) same reports
-reports_words refusal (Read (Fault path)) before after faults_before faults_after result no_fault reports = absurd no_fault
-reports_words refusal (Read NoMemory) before after faults_before faults_after result h reports = reports_none (status_of refusal) (line_of refusal) _ before after faults_before faults_after result reports
-reports_words refusal (Write stop) before after faults_before faults_after result no_write reports = absurd no_write
+pub reports_words : (refusal : Refusal) (stop : Stop) (said : Spoken) (faults : ℕ × ℕ) (result : Status)
+    → StopsAtOnce refusal (Err stop) → Reports (stop_status stop) (stop_line stop) said faults result → Reports (status_of refusal) (line_of refusal) said faults result
+reports_words refusal (Read (Refused given)) said faults result same reports =
+    subst (λ (r : Refusal). Reports (status_of r) (line_of r) said faults result) same reports
+reports_words refusal (Read (Fault path)) said faults result no_fault reports = absurd no_fault
+reports_words refusal (Read NoMemory) said faults result h reports = reports_none (status_of refusal) (line_of refusal) _ said faults result reports
+reports_words refusal (Write stop) said faults result no_write reports = absurd no_write
 
 -- ---- answers that a refusal has
 
-abbrev Said : Status → List ℕ → Option (List ℕ) → Option (List ℕ) → Status → Type 0
-Said status line before after result = (result ≡ status) × (after ≡ and_said before line)
+abbrev Said : Status → List ℕ → Spoken → Status → Type 0
+Said status line said result = (result ≡ status) × Says said line
 
 -- a report that did not fail
-report_said : (status : Status) (line : List ℕ) (before after : Option (List ℕ)) (faults_before faults_after : ℕ) (result : Status)
-    → Reports status line before after faults_before faults_after result → Refuses result → Said status line before after result
-report_said status line before after faults_before faults_after result (inl said) refuses = said
-report_said status line before after faults_before faults_after result (inr (inl (is, rose))) refuses = absurd (rw is at refuses)
-report_said status line before after faults_before faults_after result (inr (inr is)) refuses = absurd (rw is at refuses)
+report_said : (status : Status) (line : List ℕ) (said : Spoken) (faults : ℕ × ℕ) (result : Status)
+    → Reports status line said faults result → IsRefusalStatus result → Said status line said result
+report_said status line said faults result (inl is) refuses = is
+report_said status line said faults result (inr (inl (is, rose))) refuses = absurd (rw is at refuses)
+report_said status line said faults result (inr (inr is)) refuses = absurd (rw is at refuses)
 
-refused_here : (files : Files) (words : List (List ℕ)) (stop : Stop) (after : Option Files) (out_before out_after err_before err_after : Option (List ℕ)) (result : Status)
-    → Attempts files words after out_before out_after (Err stop) → Said (stop_status stop) (stop_line stop) err_before err_after result → Refuses result
-    → IsRefused files words result after out_before out_after err_before err_after
-refused_here files words (Read (Refused refusal)) after out_before out_after err_before err_after result (poses, left) (is, said) refuses =
-    record { refusal = refusal; read = poses; status = is; unchanged = left.unchanged; out = left.out; err = said }
-refused_here files words (Read (Fault path)) after out_before out_after err_before err_after result left (is, said) refuses = absurd (rw is at refuses)
-refused_here files words (Read NoMemory) after out_before out_after err_before err_after result left (is, said) refuses = absurd (rw is at refuses)
-refused_here files words (Write (writes.Put path)) after out_before out_after err_before err_after result left (is, said) refuses = absurd (rw is at refuses)
-refused_here files words (Write writes.Output) after out_before out_after err_before err_after result left (is, said) refuses = absurd (rw is at refuses)
-refused_here files words (Write writes.NoMemory) after out_before out_after err_before err_after result left (is, said) refuses = absurd (rw is at refuses)
+refused_here : (files : Files) (words : List (List ℕ)) (stop : Stop) (after : Option Files) (out err : Spoken) (result : Status)
+    → Attempts files words after out.0 out.1 (Err stop) → Said (stop_status stop) (stop_line stop) err result → IsRefusalStatus result
+    → IsRefused files words result after out err
+refused_here files words (Read (Refused refusal)) after out err result (poses, left) (is, said) refuses =
+    record { refusal = refusal; read = poses; status = is; unchanged = left.unchanged; output = left.out; errors = said }
+refused_here files words (Read (Fault path)) after out err result left (is, said) refuses = absurd (rw is at refuses)
+refused_here files words (Read NoMemory) after out err result left (is, said) refuses = absurd (rw is at refuses)
+refused_here files words (Write (writes.Put path)) after out err result left (is, said) refuses = absurd (rw is at refuses)
+refused_here files words (Write writes.Output) after out err result left (is, said) refuses = absurd (rw is at refuses)
+refused_here files words (Write writes.NoMemory) after out err result left (is, said) refuses = absurd (rw is at refuses)
 
-pub refused : (before : Option Files) (words : List (List ℕ)) (stop : Stop) (after : Option Files) (out_before out_after err_before err_after : Option (List ℕ)) (faults_before faults_after : ℕ) (result : Status)
-    → IfSome before (λ files. Attempts files words after out_before out_after (Err stop)) → Reports (stop_status stop) (stop_line stop) err_before err_after faults_before faults_after result → Refuses result
-    → IfSome before (λ files. IsRefused files words result after out_before out_after err_before err_after)
-refused None words stop after out_before out_after err_before err_after faults_before faults_after result left reports refuses = tt
-refused (Some files) words stop after out_before out_after err_before err_after faults_before faults_after result left reports refuses =
-    refused_here files words stop after out_before out_after err_before err_after result left (report_said _ _ err_before err_after faults_before faults_after result reports refuses) refuses
+pub refused : (before : Option Files) (words : List (List ℕ)) (stop : Stop) (after : Option Files) (out err : Spoken) (faults : ℕ × ℕ) (result : Status)
+    → IfSome before (λ files. Attempts files words after out.0 out.1 (Err stop)) → Reports (stop_status stop) (stop_line stop) err faults result → IsRefusalStatus result
+    → IfSome before (λ files. IsRefused files words result after out err)
+refused None words stop after out err faults result left reports refuses = tt
+refused (Some files) words stop after out err faults result left reports refuses =
+    refused_here files words stop after out err result left (report_said _ _ err faults result reports refuses) refuses
 
 -- ---- input that nothing refuses
 
 -- a report of want of memory, where the sink did not fail
-settles_none : (line : List ℕ) (before after : Option (List ℕ)) (faults_before faults_after : ℕ) (result : Status)
-    → Reports statuses.NoMemory line before after faults_before faults_after result → ¬ Rose faults_before faults_after → Settles result
-settles_none line before after faults_before faults_after result (inl (is, said)) still = rw is tt
-settles_none line before after faults_before faults_after result (inr (inl (is, rose))) still = absurd (still rose)
-settles_none line before after faults_before faults_after result (inr (inr is)) still = rw is tt
+settles_none : (line : List ℕ) (said : Spoken) (faults : ℕ × ℕ) (result : Status)
+    → Reports statuses.NoMemory line said faults result → ¬ Rose faults.0 faults.1 → Settles result
+settles_none line said faults result (inl (is, line_said)) still = rw is tt
+settles_none line said faults result (inr (inl (is, rose))) still = absurd (still rose)
+settles_none line said faults result (inr (inr is)) still = rw is tt
 
 -- no device failed
-pub record AreStill (read_before read_after put_before put_after said_before said_after err_before err_after : ℕ) : Type 0 where
-  pub read : ¬ Rose read_before read_after
-  pub put : ¬ Rose put_before put_after
-  pub said : ¬ Rose said_before said_after
-  pub err : ¬ Rose err_before err_after
+pub record AreStill (reads puts says errs : ℕ × ℕ) : Type 0 where
+  pub read : ¬ Rose reads.0 reads.1
+  pub put : ¬ Rose puts.0 puts.1
+  pub said : ¬ Rose says.0 says.1
+  pub err : ¬ Rose errs.0 errs.1
 
 -- whose count rose where an attempt failed
-pub record AreCounted (stop : Stop) (read_before read_after put_before put_after said_before said_after : ℕ) : Type 0 where
-  pub read : Counts read_before read_after (FailsToRead (Err stop))
-  pub put : Counts put_before put_after (FailsToPut (Err stop))
-  pub said : Counts said_before said_after (FailsToSay (Err stop))
+pub record AreCounted (stop : Stop) (reads puts says : ℕ × ℕ) : Type 0 where
+  pub read : Counts reads.0 reads.1 (FailsToRead (Err stop))
+  pub put : Counts puts.0 puts.1 (FailsToPut (Err stop))
+  pub said : Counts says.0 says.1 (FailsToSay (Err stop))
 
-settles_here : ReadsOnce → (files : Files) (words : List (List ℕ)) (stop : Stop) (after : Option Files) (out_before out_after err_before err_after : Option (List ℕ)) (a b c d e f g h : ℕ) (result : Status)
-    → Attempts files words after out_before out_after (Err stop) → AreCounted stop a b c d e f → Reports (stop_status stop) (stop_line stop) err_before err_after g h result
-    → (problem : Problem) → Poses files words (Ok problem) → AreStill a b c d e f g h → Settles result
-settles_here laws files words (Read (Refused refusal)) after out_before out_after err_before err_after a b c d e f g h result left counts reports problem poses still =
+settles_here : ReadsOnce → (files : Files) (words : List (List ℕ)) (stop : Stop) (after : Option Files) (out err : Spoken) (reads puts says errs : ℕ × ℕ) (result : Status)
+    → Attempts files words after out.0 out.1 (Err stop) → AreCounted stop reads puts says → Reports (stop_status stop) (stop_line stop) err errs result
+    → (problem : Problem) → Poses files words (Ok problem) → AreStill reads puts says errs → Settles result
+settles_here laws files words (Read (Refused refusal)) after out err reads puts says errs result left counts reports problem poses still =
     absurd (let same : (let T : Type 0 = Result Problem Refusal in let l : T = Ok problem in let r : T = Err refusal in l ≡ r) = one_posed laws files words (Ok problem) (Err refusal) poses left.0 in cc)
-settles_here laws files words (Read (Fault path)) after out_before out_after err_before err_after a b c d e f g h result left counts reports problem poses still = absurd (still.read (counts.read.cause tt))
-settles_here laws files words (Read NoMemory) after out_before out_after err_before err_after a b c d e f g h result left counts reports problem poses still = settles_none _ err_before err_after g h result reports still.err
-settles_here laws files words (Write (writes.Put path)) after out_before out_after err_before err_after a b c d e f g h result left counts reports problem poses still = absurd (still.put (counts.put.cause tt))
-settles_here laws files words (Write writes.Output) after out_before out_after err_before err_after a b c d e f g h result left counts reports problem poses still = absurd (still.said (counts.said.cause tt))
-settles_here laws files words (Write writes.NoMemory) after out_before out_after err_before err_after a b c d e f g h result left counts reports problem poses still = settles_none _ err_before err_after g h result reports still.err
+settles_here laws files words (Read (Fault path)) after out err reads puts says errs result left counts reports problem poses still = absurd (still.read (counts.read.cause tt))
+settles_here laws files words (Read NoMemory) after out err reads puts says errs result left counts reports problem poses still = settles_none _ err errs result reports still.err
+settles_here laws files words (Write (writes.Put path)) after out err reads puts says errs result left counts reports problem poses still = absurd (still.put (counts.put.cause tt))
+settles_here laws files words (Write writes.Output) after out err reads puts says errs result left counts reports problem poses still = absurd (still.said (counts.said.cause tt))
+settles_here laws files words (Write writes.NoMemory) after out err reads puts says errs result left counts reports problem poses still = settles_none _ err errs result reports still.err
 
-pub settles : ReadsOnce → (before : Option Files) (words : List (List ℕ)) (stop : Stop) (after : Option Files) (out_before out_after err_before err_after : Option (List ℕ)) (a b c d e f g h : ℕ) (result : Status)
-    → IfSome before (λ files. Attempts files words after out_before out_after (Err stop)) → AreCounted stop a b c d e f → Reports (stop_status stop) (stop_line stop) err_before err_after g h result
-    → IfSome before (λ files. (problem : Problem) → Poses files words (Ok problem) → ¬ Rose a b → ¬ Rose c d → ¬ Rose e f → ¬ Rose g h → Settles result)
-settles laws None words stop after out_before out_after err_before err_after a b c d e f g h result left counts reports = tt
-settles laws (Some files) words stop after out_before out_after err_before err_after a b c d e f g h result left counts reports = λ problem poses read put said err.
-    settles_here laws files words stop after out_before out_after err_before err_after a b c d e f g h result left counts reports problem poses (record { read = read; put = put; said = said; err = err })
+pub settles : ReadsOnce → (before : Option Files) (words : List (List ℕ)) (stop : Stop) (after : Option Files) (out err : Spoken) (reads puts says errs : ℕ × ℕ) (result : Status)
+    → IfSome before (λ files. Attempts files words after out.0 out.1 (Err stop)) → AreCounted stop reads puts says → Reports (stop_status stop) (stop_line stop) err errs result
+    → IfSome before (λ files. (problem : Problem) → Poses files words (Ok problem) → ¬ Rose reads.0 reads.1 → ¬ Rose puts.0 puts.1 → ¬ Rose says.0 says.1 → ¬ Rose errs.0 errs.1 → Settles result)
+settles laws None words stop after out err reads puts says errs result left counts reports = tt
+settles laws (Some files) words stop after out err reads puts says errs result left counts reports = λ problem poses read put said late.
+    settles_here laws files words stop after out err reads puts says errs result left counts reports problem poses (record { read = read; put = put; said = said; err = late })
+
+-- ---- input that is refused
+
+-- a report, where the sink did not fail
+reported : (status : Status) (line : List ℕ) (said : Spoken) (faults : ℕ × ℕ) (result : Status)
+    → Reports status line said faults result → ¬ Rose faults.0 faults.1 → IsAnsweredBy status result
+reported status line said faults result (inl (is, line_said)) still = inl is
+reported status line said faults result (inr (inl (is, rose))) still = absurd (still rose)
+reported status line said faults result (inr (inr is)) still = inr is
+
+-- a report of want of memory, where the sink did not fail
+none_reported : (status : Status) (line : List ℕ) (said : Spoken) (faults : ℕ × ℕ) (result : Status)
+    → Reports statuses.NoMemory line said faults result → ¬ Rose faults.0 faults.1 → IsAnsweredBy status result
+none_reported status line said faults result (inl (is, line_said)) still = inr is
+none_reported status line said faults result (inr (inl (is, rose))) still = absurd (still rose)
+none_reported status line said faults result (inr (inr is)) still = inr is
+
+not_both : {A : Type 0} → ReadsOnce → (files : Files) (words : List (List ℕ)) (problem : Problem) (refusal : Refusal)
+    → Poses files words (Ok problem) → Poses files words (Err refusal) → A
+not_both laws files words problem refusal p q =
+    absurd (let same : (let T : Type 0 = Result Problem Refusal in let l : T = Ok problem in let r : T = Err refusal in l ≡ r) = one_posed laws files words (Ok problem) (Err refusal) p q in cc)
+
+same_refusal : ReadsOnce → (files : Files) (words : List (List ℕ)) (a b : Refusal)
+    → Poses files words (Err a) → Poses files words (Err b) → a ≡ b
+same_refusal laws files words a b p q =
+    let same : (let T : Type 0 = Result Problem Refusal in let l : T = Err a in let r : T = Err b in l ≡ r) = one_posed laws files words (Err a) (Err b) p q in cc
+
+due_here : ReadsOnce → (files : Files) (words : List (List ℕ)) (stop : Stop) (after : Option Files) (out err : Spoken) (reads puts says errs : ℕ × ℕ) (result : Status)
+    → Attempts files words after out.0 out.1 (Err stop) → AreCounted stop reads puts says → Reports (stop_status stop) (stop_line stop) err errs result
+    → (refusal : Refusal) → Poses files words (Err refusal) → AreStill reads puts says errs → IsAnsweredBy (status_of refusal) result
+due_here laws files words (Read (Refused given)) after out err reads puts says errs result left counts reports refusal poses still =
+    subst (λ (r : Refusal). IsAnsweredBy (status_of r) result) (same_refusal laws files words given refusal left.0 poses)
+    (reported (status_of given) (line_of given) err errs result reports still.err)
+due_here laws files words (Read (Fault path)) after out err reads puts says errs result left counts reports refusal poses still = absurd (still.read (counts.read.cause tt))
+due_here laws files words (Read NoMemory) after out err reads puts says errs result left counts reports refusal poses still = none_reported (status_of refusal) _ err errs result reports still.err
+due_here laws files words (Write (writes.Put path)) after out err reads puts says errs result left counts reports refusal poses still = absurd (still.put (counts.put.cause tt))
+due_here laws files words (Write writes.Output) after out err reads puts says errs result left counts reports refusal poses still = absurd (still.said (counts.said.cause tt))
+due_here laws files words (Write writes.NoMemory) after out err reads puts says errs result left counts reports refusal poses still = none_reported (status_of refusal) _ err errs result reports still.err
+
+-- a refusal is due where an attempt stopped
+pub due : ReadsOnce → (before : Option Files) (words : List (List ℕ)) (stop : Stop) (after : Option Files) (out err : Spoken) (reads puts says errs : ℕ × ℕ) (result : Status)
+    → IfSome before (λ files. Attempts files words after out.0 out.1 (Err stop)) → AreCounted stop reads puts says → Reports (stop_status stop) (stop_line stop) err errs result
+    → IfSome before (λ files. (refusal : Refusal) → Poses files words (Err refusal) → ¬ Rose reads.0 reads.1 → ¬ Rose puts.0 puts.1 → ¬ Rose says.0 says.1 → ¬ Rose errs.0 errs.1 → IsAnsweredBy (status_of refusal) result)
+due laws None words stop after out err reads puts says errs result left counts reports = tt
+due laws (Some files) words stop after out err reads puts says errs result left counts reports = λ refusal poses read put said late.
+    due_here laws files words stop after out err reads puts says errs result left counts reports refusal poses (record { read = read; put = put; said = said; err = late })
+
+-- no refusal is due where an answer was written
+pub written : ReadsOnce → (before : Option Files) (words : List (List ℕ)) (answer : Answer) (after : Option Files) (out : Spoken) (reads puts says errs : ℕ × ℕ) (result : Status)
+    → IfSome before (λ files. Attempts files words after out.0 out.1 (Ok answer))
+    → IfSome before (λ files. (refusal : Refusal) → Poses files words (Err refusal) → ¬ Rose reads.0 reads.1 → ¬ Rose puts.0 puts.1 → ¬ Rose says.0 says.1 → ¬ Rose errs.0 errs.1 → IsAnsweredBy (status_of refusal) result)
+written laws None words answer after out reads puts says errs result left = tt
+written laws (Some files) words answer after out reads puts says errs result left = λ refusal poses read put said late.
+    not_both laws files words left.problem refusal left.read poses

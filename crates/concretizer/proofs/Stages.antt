@@ -1,5 +1,5 @@
 -- Stages of reading, one after the other.
-use Rattle.std.proofs.Common.{◌≡◌, ◌≢◌, ℕ, zero, List, [], ◌∷◌, length, arith, Bool, true, false, cond, Option, None, refl, sym, ap, ◌∙◌, subst, Result, Ok, Err, Some, inl, inr}
+use Rattle.std.proofs.Common.{◌≡◌, ◌≢◌, ℕ, zero, List, [], ◌∷◌, length, arith, Option, None, refl, sym, ap, ◌∙◌, subst, Result, Ok, Err, Some, inl, inr}
 use Rattle.std.specs.Result.{IsErrAnd}
 use Rattle.std.specs.Prelude.{Contains, IfOk, nat_le, ◌^◌}
 use Rattle.spec_grammar.specs.Reading.{Spells}
@@ -9,13 +9,12 @@ use Rattle.spec_grammar.specs.declared.part.Spec.{Spec}
 use Rattle.spec_grammar.specs.declared.fault.SpecFault.{SpecFault}
 use Rattle.spec_grammar.specs.declared.fault.SpecFault.TheVariants as fault
 use Rattle.outside_desk.specs.Files.{Files}
-use Rattle.concretizer.specs.Words.{Command, command_of}
-use Rattle.concretizer.specs.Requests.{Is, Then, SpecsOf, Wants, Asks, order_of, wanted_of, request_by, only, unless_usage, unless_not_built, not_built_of}
+use Rattle.concretizer.specs.Words.{Command, command_of, lock_path, lock_of_command}
+use Rattle.concretizer.specs.Requests.{Is, Then, SpecsOf, Wants, Asks, order_of, wanted_of, request_by, only, not_built_of, ◌>>=◌, or_refuse, refuse_some, check}
 use Rattle.concretizer.specs.Problems.{Poses, problem_at}
-use Rattle.concretizer.specs.Stops.{Gives, GivesOnly, IsReadFault}
-use Rattle.concretizer.specs.Attempts.{lock_path, lock_of_command, StopsAtOnce}
+use Rattle.concretizer.specs.Stops.{Gives, GivesOnly, EndsInReadFault}
+use Rattle.concretizer.specs.Attempts.{StopsAtOnce}
 use Rattle.concretizer.specs.declared.request.Request.{Request}
-use Rattle.concretizer.specs.declared.refusal.NotBuilt.{NotBuilt}
 use Rattle.concretizer.specs.declared.answer.Answer.{Answer}
 use Rattle.concretizer.specs.declared.stop.Stop.{Stop}
 use Rattle.concretizer.specs.declared.stop.Stop.TheVariants.{Read}
@@ -107,21 +106,22 @@ only_in specs spec e = rw (only_is specs spec e) (zero, omega arith, refl)
 
 -- ---- the path of the lock file
 
-large_same : (t : Bool) (b c : Command) → (let T : Type 0 = Result Command Refusal in let l : T = cond t (Ok b) (Err refusals.SpecsTooLarge) in let r : T = Ok c in l ≡ r) → b ≡ c
-large_same true b c e = ok_same b c e
-large_same false b c e = ok_not_err c refusals.SpecsTooLarge (sym e)
+-- a chain of stages that answers
+then_ok : {A B : Type 0} (first : Result A Refusal) (next : A → Result B Refusal) (y : B) → (first >>= next) ≡ Ok y → (x : A) × (first ≡ Ok x) × (next x ≡ Ok y)
+then_ok (Ok x) next y e = (x, refl, e)
+then_ok (Err refusal) next y e = ok_not_err y refusal (sym e)
 
-built_same : (b c : Command) (what : Option NotBuilt) → unless_not_built b what ≡ Ok c → b ≡ c
-built_same b c None e = large_same (nat_le (length b.spec) (2 ^ 16)) b c e
-built_same b c (Some what) e = ok_not_err c (refusals.NotBuilt what) (sym e)
-
-usage_same : (o : Option Command) (c : Command) → unless_usage o ≡ Ok c → o ≡ Some c
-usage_same None c e = ok_not_err c refusals.Usage (sym e)
-usage_same (Some b) c e = ap Some (built_same b c (not_built_of b) e)
+there : {A : Type 0} (refusal : Refusal) (o : Option A) (x : A) → or_refuse refusal o ≡ Ok x → o ≡ Some x
+there refusal None x e = ok_not_err x refusal (sym e)
+there refusal (Some y) x e = ap Some (ok_same y x e)
 
 order_lock : (words : List (List ℕ)) (c : Command) → order_of words ≡ Ok c → lock_path words ≡ c.lock
 unfolding order_of
-order_lock words c e = ap lock_of_command (usage_same (command_of words) c e)
+order_lock words c e =
+    let command = then_ok (or_refuse refusals.Usage (command_of words)) (λ b. refuse_some refusals.NotBuilt (not_built_of b) >>= λ built. check refusals.SpecsTooLarge (nat_le (length b.spec) (2 ^ 16)) >>= λ small. Ok b) c e in
+    let built = then_ok (refuse_some refusals.NotBuilt (not_built_of command.0)) (λ built. check refusals.SpecsTooLarge (nat_le (length command.0.spec) (2 ^ 16)) >>= λ small. Ok command.0) c command.2 in
+    let small = then_ok (check refusals.SpecsTooLarge (nat_le (length command.0.spec) (2 ^ 16))) (λ small. Ok command.0) c built.2 in
+    ap lock_of_command (there refusals.Usage (command_of words) command.0 command.1) ∙ ap (λ (k : Command). k.lock) (ok_same command.0 c small.2)
 
 pub asked_lock : (words : List (List ℕ)) (result : Result Request ReadStop) → Gives result (Asks words) → IfOk result (λ request. request.lock ≡ lock_path words)
 asked_lock words (Ok r) (c, order, (wanted, wants, is)) =
@@ -141,7 +141,7 @@ Only words read = (asked : Result Request Refusal) → Asks words asked → Give
 pub not_refused : {A : Type 0} (words : List (List ℕ)) (request : Request) → Only words (Ok request) → (refusal : Refusal) → Asks words (Err refusal) → A
 not_refused words request only refusal asks = ok_not_err request refusal (sym (only (Err refusal) asks))
 
-stops : (words : List (List ℕ)) (stop : ReadStop) → Only words (Err stop) → (IsReadFault {T = Request} (Err stop) → ⊥) → (refusal : Refusal) → Asks words (Err refusal) → StopsAtOnce refusal (Err (Read stop))
+stops : (words : List (List ℕ)) (stop : ReadStop) → Only words (Err stop) → (EndsInReadFault {T = Request} (Err stop) → ⊥) → (refusal : Refusal) → Asks words (Err refusal) → StopsAtOnce refusal (Err (Read stop))
 stops words (Refused given) only fault refusal asks = sym (err_same refusal given (only (Err refusal) asks))
 stops words (Fault path) only fault refusal asks = absurd (fault tt)
 stops words NoMemory only fault refusal asks = tt
@@ -150,6 +150,6 @@ stop_carried : (stop : ReadStop) (result : Result Answer Stop) → IsErrAnd resu
 stop_carried stop (Ok answer) h = absurd h
 stop_carried stop (Err given) h = ap Err h
 
-pub stops_at_once : (words : List (List ℕ)) (stop : ReadStop) (result : Result Answer Stop) → IsErrAnd result (λ given. given ≡ Read stop) → Only words (Err stop) → (IsReadFault {T = Request} (Err stop) → ⊥)
+pub stops_at_once : (words : List (List ℕ)) (stop : ReadStop) (result : Result Answer Stop) → IsErrAnd result (λ given. given ≡ Read stop) → Only words (Err stop) → (EndsInReadFault {T = Request} (Err stop) → ⊥)
     → (refusal : Refusal) → Asks words (Err refusal) → StopsAtOnce refusal result
 stops_at_once words stop result carried only fault refusal asks = rw (stop_carried stop result carried) (stops words stop only fault refusal asks)

@@ -9,7 +9,7 @@ use Rattle.concretizer.specs.declared.node.BuiltNode.{BuiltNode}
 use Rattle.concretizer.specs.declared.node.Compiler.{Compiler}
 use Rattle.concretizer.specs.declared.node.Root.{Root}
 use Rattle.concretizer.specs.declared.request.Wanted.{Wanted}
-use Rattle.concretizer.specs.declared.problem.Problem.{Problem}
+use Rattle.concretizer.specs.Problems.{Problem}
 use Rattle.concretizer.specs.declared.answer.Answer.{Answer}
 use Rattle.concretizer.specs.declared.answer.Answer.TheVariants as answers
 use Rattle.concretizer.specs.declared.stop.WriteStop.{WriteStop}
@@ -52,13 +52,13 @@ cost_of weight = slice_set (slice_set (replicate 31 0) 1 weight) 15 1
 abbrev pub report_of : Problem → List ℕ → List ℕ
 report_of problem version = report_text (node_of problem.wanted.name version ∷ []) (cost_of (weight_of problem.declared version))
 
--- ---- answers
+-- ---- answers, where the lock file is to stand at `path`
 
 -- there is a graph: the lock file is that of a best version, and its lines were said
-pub record IsSolved (problem : Problem) (before after : Option Files) (out_before out_after : Option (List ℕ)) : Type 0 where
+pub record IsSolved (path : List ℕ) (problem : Problem) (before after : Option Files) (out_before out_after : Option (List ℕ)) : Type 0 where
   pub version : List ℕ
   pub best : IsBest problem.wanted.versions problem.declared version
-  pub lock : after ≡ with_file before problem.lock (lock_of problem.wanted version)
+  pub lock : after ≡ with_file before path (lock_of problem.wanted version)
   pub out : out_after ≡ and_said out_before (report_of problem version)
 
 unfoldable pub unsatisfiable_line : List ℕ
@@ -71,27 +71,27 @@ pub record IsUnsolved (problem : Problem) (before after : Option Files) (out_bef
   pub out : out_after ≡ and_said out_before unsatisfiable_line
 
 -- the put failed: the lock file is as it was or holds a front of its text, and nothing was said
-pub record IsHalfPut (problem : Problem) (before after : Option Files) (out_before out_after : Option (List ℕ)) : Type 0 where
+pub record IsHalfPut (path : List ℕ) (problem : Problem) (before after : Option Files) (out_before out_after : Option (List ℕ)) : Type 0 where
   pub version : List ℕ
   pub best : IsBest problem.wanted.versions problem.declared version
-  pub lock : MayHold before after problem.lock (lock_of problem.wanted version)
+  pub lock : MayHold before after path (lock_of problem.wanted version)
   pub out : out_after ≡ out_before
 
 -- the lock file is whole
-pub record IsLocked (problem : Problem) (before after : Option Files) : Type 0 where
+pub record IsLocked (path : List ℕ) (problem : Problem) (before after : Option Files) : Type 0 where
   pub version : List ℕ
   pub best : IsBest problem.wanted.versions problem.declared version
-  pub lock : after ≡ with_file before problem.lock (lock_of problem.wanted version)
+  pub lock : after ≡ with_file before path (lock_of problem.wanted version)
 
 -- the sink failed: the lock file is whole, or no declared version is wanted and no file changed
-abbrev pub IsUnsaid : Problem → Option Files → Option Files → Type 0
-IsUnsaid problem before after = IsLocked problem before after ⊎ (HasNone problem.wanted.versions problem.declared × (after ≡ before))
+abbrev pub IsUnsaid : List ℕ → Problem → Option Files → Option Files → Type 0
+IsUnsaid path problem before after = IsLocked path problem before after ⊎ (HasNone problem.wanted.versions problem.declared × (after ≡ before))
 
 -- the lock file is as it was or holds a front of its text, the whole of it among them
-pub record HoldsFront (problem : Problem) (before after : Option Files) : Type 0 where
+pub record HoldsFront (path : List ℕ) (problem : Problem) (before after : Option Files) : Type 0 where
   pub version : List ℕ
   pub best : IsBest problem.wanted.versions problem.declared version
-  pub held : MayHold before after problem.lock (lock_of problem.wanted version)
+  pub held : MayHold before after path (lock_of problem.wanted version)
 
 -- what a put of the lock file leaves
 abbrev pub Puts : List ℕ → List ℕ → Option Files → Option Files → Result (Unit {0}) WriteStop → Type 0
@@ -101,9 +101,9 @@ Puts path text before after (Err writes.Output) = ⊥
 Puts path text before after (Err writes.NoMemory) = Unit {0}
 
 -- what writing leaves
-abbrev pub Writes : Problem → Option Files → Option Files → Option (List ℕ) → Option (List ℕ) → Result Answer WriteStop → Type 0
-Writes problem before after out_before out_after (Ok answers.Solved) = IsSolved problem before after out_before out_after
-Writes problem before after out_before out_after (Ok answers.Unsolved) = IsUnsolved problem before after out_before out_after
-Writes problem before after out_before out_after (Err (writes.Put path)) = (path ≡ problem.lock) × IsHalfPut problem before after out_before out_after
-Writes problem before after out_before out_after (Err writes.Output) = IsUnsaid problem before after
-Writes problem before after out_before out_after (Err writes.NoMemory) = Unit {0}
+abbrev pub Writes : List ℕ → Problem → Option Files → Option Files → Option (List ℕ) → Option (List ℕ) → Result Answer WriteStop → Type 0
+Writes path problem before after out_before out_after (Ok answers.Solved) = IsSolved path problem before after out_before out_after
+Writes path problem before after out_before out_after (Ok answers.Unsolved) = IsUnsolved problem before after out_before out_after
+Writes path problem before after out_before out_after (Err (writes.Put at)) = (at ≡ path) × IsHalfPut path problem before after out_before out_after
+Writes path problem before after out_before out_after (Err writes.Output) = IsUnsaid path problem before after
+Writes path problem before after out_before out_after (Err writes.NoMemory) = Unit {0}

@@ -12,3 +12,4 @@ pub mod Answers
 pub mod Changes
 pub mod Attempts
 pub mod Headline
+pub mod Exits

@@ -3,18 +3,13 @@ use Rattle.std.specs.Prelude.{ℕ, List, [], ◌∷◌, length, nat_le, ◌^◌,
 use Rattle.std.specs.FinMap.{get}
 use Rattle.outside_desk.specs.Files.{Files}
 use Rattle.concretizer.specs.Lines.{joined}
-use Rattle.concretizer.specs.Requests.{Asks, Is, Then}
+use Rattle.concretizer.specs.Requests.{Asks, Is, Then, ◌>>=◌, or_refuse}
 use Rattle.concretizer.specs.Recipe.{recipe_of}
 use Rattle.concretizer.specs.declared.request.Request.{Request}
-use Rattle.concretizer.specs.declared.problem.Problem.{Problem}
+use Rattle.concretizer.specs.declared.request.Wanted.{Wanted}
 use Rattle.concretizer.specs.declared.refusal.NotBuilt.TheVariants as forms
 use Rattle.concretizer.specs.declared.refusal.Refusal.{Refusal}
 use Rattle.concretizer.specs.declared.refusal.Refusal.TheVariants as refusals
-
-infixl 10 ◌>>=◌
-abbrev pub ◌>>=◌ : {A B : Type 0} → Result A Refusal → (A → Result B Refusal) → Result B Refusal
-(Ok x) >>= f = f x
-(Err refusal) >>= f = Err refusal
 
 -- ---- the recipe
 
@@ -31,18 +26,20 @@ unfoldable pub recipe_file : List ℕ → Option (List ℕ) → Result (List ℕ
 recipe_file name None = Err (refusals.UnknownRoot name)
 recipe_file name (Some bytes) = if nat_le (length bytes) (2 ^ 20) then Ok bytes else Err (refusals.RecipeTooLarge name)
 
-abbrev pub unless_other : List ℕ → Option (List (List ℕ)) → Result (List (List ℕ)) Refusal
-unless_other name None = Err (refusals.NotBuilt (forms.Recipe name))
-unless_other name (Some versions) = Ok versions
-
 -- the versions that a recipe declares
 unfoldable pub declared_of : List ℕ → List ℕ → Result (List (List ℕ)) Refusal
-declared_of name file = unless_other name (recipe_of file)
+declared_of name file = or_refuse (refusals.NotBuilt (forms.Recipe name)) (recipe_of file)
 
 -- ---- the whole
 
+-- what a run is to solve: the package that is asked for, and the versions that its recipe declares, in file
+-- order and each once
+pub record Problem : Type 0 where
+  pub wanted : Wanted
+  pub declared : List (List ℕ)
+
 abbrev pub problem_by : Request → List (List ℕ) → Problem
-problem_by request declared = record { lock = request.lock; wanted = request.wanted; declared = declared }
+problem_by request declared = record { wanted = request.wanted; declared = declared }
 
 -- the versions that the recipe of the wanted package declares
 unfoldable pub declared_at : Files → Request → Result (List (List ℕ)) Refusal

@@ -1,31 +1,9 @@
 -- What is said of a graph: a line for each node, and the line of its cost vector.
-use Rattle.std.specs.Prelude.{ℕ, List, [], ◌∷◌, ◌++◌, Bool, false, if◌then◌else◌, Option, Some, None, codes, decimal}
+use Rattle.std.specs.Prelude.{ℕ, List, [], ◌∷◌, ◌++◌, Option, Some, None, codes, decimal}
 use Rattle.std.specs.List.{flat_map}
-use Rattle.std.specs.Str.{bytes_eq}
+use Rattle.spec_grammar.specs.Canonical.{variants_text}
 use Rattle.concretizer.specs.declared.node.Compiler.{Compiler}
 use Rattle.concretizer.specs.declared.node.BuiltNode.{BuiltNode}
-
--- whether the text is the one value
-abbrev pub is_only : List ℕ → List (List ℕ) → Bool
-is_only text [] = false
-is_only text (value ∷ []) = bytes_eq value text
-is_only text (value ∷ other ∷ others) = false
-
--- texts with a comma between each two
-abbrev pub comma_list : List (List ℕ) → List ℕ
-comma_list [] = []
-comma_list (first ∷ more) = first ++ flat_map (λ value. 44 ∷ value) more
-
--- a variant: `+v` for true, `~v` for false, else `v=a,b`
-unfoldable pub variant_text : List ℕ → List (List ℕ) → List ℕ
-variant_text name values =
-    if is_only (codes "true") values then 43 ∷ name
-    else if is_only (codes "false") values then 126 ∷ name
-    else name ++ 61 ∷ comma_list values
-
--- the variants, each after a space
-abbrev pub variants_text : List (List ℕ × List (List ℕ)) → List ℕ
-variants_text variants = flat_map (λ variant. 32 ∷ variant_text variant.0 variant.1) variants
 
 -- the compiler, after a space
 unfoldable pub compiler_text : Option Compiler → List ℕ

@@ -27,6 +27,28 @@ abbrev pub Then : {A B : Type 0} → (Result A Refusal → Type 0) → (A → Re
 Then {A} first next (Ok y) = (x : A) × first (Ok x) × next x (Ok y)
 Then {A} first next (Err refusal) = first (Err refusal) ⊎ ((x : A) × first (Ok x) × next x (Err refusal))
 
+-- ---- stages that compute: each answers, or refuses
+
+infixl 10 ◌>>=◌
+abbrev pub ◌>>=◌ : {A B : Type 0} → Result A Refusal → (A → Result B Refusal) → Result B Refusal
+(Ok x) >>= f = f x
+(Err refusal) >>= f = Err refusal
+
+-- a value that has to be there
+abbrev pub or_refuse : {A : Type 0} → Refusal → Option A → Result A Refusal
+or_refuse refusal None = Err refusal
+or_refuse refusal (Some x) = Ok x
+
+-- nothing that may be there
+abbrev pub refuse_some : {A : Type 0} → (A → Refusal) → Option A → Result (Unit {0}) Refusal
+refuse_some refusal None = Ok tt
+refuse_some refusal (Some x) = Err (refusal x)
+
+-- a test that has to hold
+abbrev pub check : Refusal → Bool → Result (Unit {0}) Refusal
+check refusal true = Ok tt
+check refusal false = Err refusal
+
 -- ---- the words
 
 -- the first form of a command that is not built yet
@@ -39,21 +61,13 @@ not_built_of c =
     else Some forms.Database
     else Some forms.Settings
 
--- the text of the specs has at most 64 KiB
-abbrev pub unless_large : Command → Result Command Refusal
-unless_large c = if nat_le (length c.spec) (2 ^ 16) then Ok c else Err refusals.SpecsTooLarge
-
-abbrev pub unless_not_built : Command → Option NotBuilt → Result Command Refusal
-unless_not_built c None = unless_large c
-unless_not_built c (Some what) = Err (refusals.NotBuilt what)
-
-abbrev pub unless_usage : Option Command → Result Command Refusal
-unless_usage None = Err refusals.Usage
-unless_usage (Some c) = unless_not_built c (not_built_of c)
-
--- the command that the words are
+-- the command that the words are: built so far, and its specs have at most 64 KiB
 unfoldable pub order_of : List (List ℕ) → Result Command Refusal
-order_of words = unless_usage (command_of words)
+order_of words = do
+  c ← or_refuse refusals.Usage (command_of words)
+  built ← refuse_some refusals.NotBuilt (not_built_of c)
+  small ← check refusals.SpecsTooLarge (nat_le (length c.spec) (2 ^ 16))
+  Ok c
 
 -- ---- the specs
 
@@ -83,13 +97,13 @@ only [] = None
 only (spec ∷ []) = Some spec
 only (spec ∷ other ∷ more) = None
 
-abbrev pub unless_many : Option Spec → Result Wanted Refusal
-unless_many None = Err (refusals.NotBuilt forms.Specs)
-unless_many (Some spec) = if is_simple spec then Ok (wanted_by spec) else Err (refusals.NotBuilt forms.Specs)
-
 -- what is wanted, by specs of which there are at most 64
 unfoldable pub wanted_of : List Spec → Result Wanted Refusal
-wanted_of specs = if nat_le (length specs) 64 then unless_many (only specs) else Err refusals.TooManyRoots
+wanted_of specs = do
+  few ← check refusals.TooManyRoots (nat_le (length specs) 64)
+  spec ← or_refuse (refusals.NotBuilt forms.Specs) (only specs)
+  simple ← check (refusals.NotBuilt forms.Specs) (is_simple spec)
+  Ok (wanted_by spec)
 
 abbrev pub Wants : List ℕ → Result Wanted Refusal → Type 0
 Wants text = Then (SpecsOf text) (λ specs. Is (wanted_of specs))

@@ -3,7 +3,7 @@ use Rattle.std.specs.Prelude.{◌≡◌, ℕ, List, [], ◌∷◌, Result, Ok, E
 use Rattle.concretizer.specs.Lines.{line}
 use Rattle.concretizer.specs.Refusals.{status_of, line_of}
 use Rattle.concretizer.specs.declared.refusal.Refusal.{Refusal}
-use Rattle.concretizer.specs.declared.refusal.Refusal.TheVariants.{Usage, NotBuilt, SpecsTooLarge, BadSpecs, TooManyRoots, UnknownRoot, RecipeTooLarge}
+use Rattle.concretizer.specs.declared.refusal.Refusal.TheVariants.{Usage}
 use Rattle.concretizer.specs.declared.stop.ReadStop.{ReadStop}
 use Rattle.concretizer.specs.declared.stop.ReadStop.TheVariants as reads
 use Rattle.concretizer.specs.declared.stop.WriteStop.{WriteStop}
@@ -29,43 +29,27 @@ GivesOnly (Err reads.NoMemory) read = Unit {0}
 
 -- a device fails only while the file at the path is read
 abbrev pub FailsAt : {T : Type 0} → List ℕ → Result T ReadStop → Type 0
-FailsAt path (Ok x) = Unit {0}
-FailsAt path (Err (reads.Refused refusal)) = Unit {0}
 FailsAt path (Err (reads.Fault at)) = at ≡ path
-FailsAt path (Err reads.NoMemory) = Unit {0}
+FailsAt path other = Unit {0}
 
 -- a reading that a device made fail
-abbrev pub IsReadFault : {T : Type 0} → Result T ReadStop → Type 0
-IsReadFault (Ok x) = ⊥
-IsReadFault (Err (reads.Refused refusal)) = ⊥
-IsReadFault (Err (reads.Fault path)) = Unit {0}
-IsReadFault (Err reads.NoMemory) = ⊥
+abbrev pub EndsInReadFault : {T : Type 0} → Result T ReadStop → Type 0
+EndsInReadFault (Err (reads.Fault path)) = Unit {0}
+EndsInReadFault other = ⊥
 
 -- a writing that a put made fail, and one that the sink of the answer made fail
-abbrev pub IsPutFault : {T : Type 0} → Result T WriteStop → Type 0
-IsPutFault (Ok x) = ⊥
-IsPutFault (Err (writes.Put path)) = Unit {0}
-IsPutFault (Err writes.Output) = ⊥
-IsPutFault (Err writes.NoMemory) = ⊥
+abbrev pub EndsInPutFault : {T : Type 0} → Result T WriteStop → Type 0
+EndsInPutFault (Err (writes.Put path)) = Unit {0}
+EndsInPutFault other = ⊥
 
-abbrev pub IsOutputFault : {T : Type 0} → Result T WriteStop → Type 0
-IsOutputFault (Ok x) = ⊥
-IsOutputFault (Err (writes.Put path)) = ⊥
-IsOutputFault (Err writes.Output) = Unit {0}
-IsOutputFault (Err writes.NoMemory) = ⊥
+abbrev pub EndsInOutputFault : {T : Type 0} → Result T WriteStop → Type 0
+EndsInOutputFault (Err writes.Output) = Unit {0}
+EndsInOutputFault other = ⊥
 
 -- a refusal of the words
-abbrev pub IsUsage : {T : Type 0} → Result T ReadStop → Type 0
-IsUsage (Ok x) = ⊥
-IsUsage (Err (reads.Refused Usage)) = Unit {0}
-IsUsage (Err (reads.Refused (NotBuilt what))) = ⊥
-IsUsage (Err (reads.Refused SpecsTooLarge)) = ⊥
-IsUsage (Err (reads.Refused (BadSpecs e))) = ⊥
-IsUsage (Err (reads.Refused TooManyRoots)) = ⊥
-IsUsage (Err (reads.Refused (UnknownRoot name))) = ⊥
-IsUsage (Err (reads.Refused (RecipeTooLarge name))) = ⊥
-IsUsage (Err (reads.Fault path)) = ⊥
-IsUsage (Err reads.NoMemory) = ⊥
+abbrev pub EndsInUsage : {T : Type 0} → Result T ReadStop → Type 0
+EndsInUsage (Err (reads.Refused Usage)) = Unit {0}
+EndsInUsage other = ⊥
 
 -- ---- what is answered and said
 

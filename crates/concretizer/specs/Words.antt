@@ -1,5 +1,5 @@
 -- The words of a command line as a command.
-use Rattle.std.specs.Prelude.{ℕ, List, ◌∷◌, ◌++◌, map, Bool, not, ◌||◌, if◌then◌else◌, Option, Some, None, String, codes}
+use Rattle.std.specs.Prelude.{ℕ, List, [], ◌∷◌, ◌++◌, map, Bool, not, ◌||◌, if◌then◌else◌, Option, Some, None, String, codes}
 use Rattle.std.specs.List.{flat_map, list_all}
 use Rattle.std.specs.Str.{bytes_eq}
 use Rattle.std.specs.String.{string_bytes}
@@ -42,3 +42,11 @@ abbrev pub command_of : List (List ℕ) → Option Command
 command_of (verb ∷ repo ∷ settings ∷ database ∷ lock ∷ cert ∷ first ∷ more) =
     unless_wrong verb (record { repo = repo; settings = settings; database = database; lock = lock; cert = cert; spec = joined_words first more })
 command_of few = None
+
+-- the path of the lock file that the words name
+abbrev pub lock_of_command : Option Command → List ℕ
+lock_of_command None = []
+lock_of_command (Some c) = c.lock
+
+abbrev pub lock_path : List (List ℕ) → List ℕ
+lock_path words = lock_of_command (command_of words)

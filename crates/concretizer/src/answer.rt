@@ -1,11 +1,12 @@
-// The answer of a run: the lock file and what is said.
+//! The answer of a run: the lock file and what is said.
+
 ghost use Rattle.std.specs.Prelude.{◌≡◌, ◌⊎◌, IfOk, IfSome, OnOk};
 ghost use Rattle.std.specs.String.{string_bytes};
 ghost use Rattle.outside_desk.specs.Causes.{Counts};
 ghost use Rattle.outside_desk.specs.Files.{and_said, MayHold};
 ghost use Rattle.concretizer.specs.Answers.{standard_compiler, node_of, lock_by, lock_of, cost_of, report_of, unsatisfiable_line, HoldsFront, Puts, Writes};
 ghost use Rattle.concretizer.specs.Changes.{ChangesOnly};
-ghost use Rattle.concretizer.specs.Stops.{IsPutFault, IsOutputFault};
+ghost use Rattle.concretizer.specs.Stops.{EndsInPutFault, EndsInOutputFault};
 ghost use Rattle.concretizer.specs.Weights.{IsBest};
 
 use crate::lock::{lock_text, node_hash};
@@ -30,10 +31,11 @@ pub enum Answer {
 fn standard_compiler(alloc: Global) -> Result<Compiler, AllocError>
     ensures { IfOk result (λ compiler. compiler ≡ standard_compiler) }
 {
-    Ok(Compiler {
-        name: Word::new(alloc, "gcc")?,
-        version: Word::new(alloc, "12.3.0")?,
-    })
+    let name = Word::new(alloc, "gcc")?;
+    match Version::read(alloc, "12.3.0") {
+        Ok(version) => Ok(Compiler { name, version }),
+        Err(_) => Err(AllocError),
+    }
 }
 
 /// The node that a version of a package becomes.
@@ -89,7 +91,7 @@ fn put_lock<D: Desk>(alloc: Global, desk: &mut D, path: &str, text: &str) -> Res
     ensures held { MayHold (D.files desk.old) (D.files desk.new) path.now text.now }
     ensures others { IfSome (D.files desk.old) (λ files. ChangesOnly path.now files (D.files desk.new)) }
     ensures faults { D.faults desk.new ≡ D.faults desk.old }
-    ensures cause { Counts (D.put_faults desk.old) (D.put_faults desk.new) (IsPutFault result) }
+    ensures cause { Counts (D.put_faults desk.old) (D.put_faults desk.new) (EndsInPutFault result) }
 {
     match desk.put(alloc, path, text.as_bytes()) {
         Ok(()) => Ok(()),
@@ -99,12 +101,12 @@ fn put_lock<D: Desk>(alloc: Global, desk: &mut D, path: &str, text: &str) -> Res
 }
 
 /// Says a text on the sink of the answer.
-fn say<O: Sink>(alloc: Global, out: &mut O, text: &str) -> Result<(), WriteStop>
+fn say<O: Sink>(alloc: Global, out: &mut O, text: &[u8]) -> Result<(), WriteStop>
     ensures ok { OnOk result (O.said out.new ≡ and_said (O.said out.old) text.now) }
-    ensures cause { Counts (O.faults out.old) (O.faults out.new) (IsOutputFault result) }
-    ensures no_put { IsPutFault result → ⊥ }
+    ensures cause { Counts (O.faults out.old) (O.faults out.new) (EndsInOutputFault result) }
+    ensures no_put { EndsInPutFault result → ⊥ }
 {
-    match out.say(alloc, text.as_bytes()) {
+    match out.say(alloc, text) {
         Ok(()) => Ok(()),
         Err(SinkFault::Failed) => Err(WriteStop::Output),
         Err(SinkFault::OutOfMemory) => Err(WriteStop::NoMemory),
@@ -114,13 +116,13 @@ fn say<O: Sink>(alloc: Global, out: &mut O, text: &str) -> Result<(), WriteStop>
 /// The lock file and the report of a version, which becomes this node.
 fn node_texts(
     alloc: Global,
-    problem: &Problem,
+    problem: &Problem<'_>,
     version: &Version,
     node: &BuiltNode,
-) -> Result<(String, String), AllocError>
+) -> Result<(String, Vec<u8>), AllocError>
     requires { node.now ≡ node_of problem.now.wanted.name version.now }
     ensures lock { IfOk result (λ texts. string_bytes texts.0 ≡ lock_of problem.now.wanted version.now) }
-    ensures report { IfOk result (λ texts. string_bytes texts.1 ≡ report_of problem.now version.now) }
+    ensures report { IfOk result (λ texts. texts.1.items ≡ report_of problem.now version.now) }
 {
     let lock = lock_by(alloc, &problem.wanted.text, node)?;
     let weight = weight_of(problem.declared.as_slice(), version) as u64;
@@ -131,11 +133,11 @@ fn node_texts(
 /// The lock file and the report of a version.
 fn solved_texts(
     alloc: Global,
-    problem: &Problem,
+    problem: &Problem<'_>,
     version: &Version,
-) -> Result<(String, String), AllocError>
+) -> Result<(String, Vec<u8>), AllocError>
     ensures lock { IfOk result (λ texts. string_bytes texts.0 ≡ lock_of problem.now.wanted version.now) }
-    ensures report { IfOk result (λ texts. string_bytes texts.1 ≡ report_of problem.now version.now) }
+    ensures report { IfOk result (λ texts. texts.1.items ≡ report_of problem.now version.now) }
 {
     let node = built_node(alloc, &problem.wanted.name, version)?;
     let texts = node_texts(alloc, problem, version, &node);
@@ -146,43 +148,45 @@ fn solved_texts(
 /// Writes the answer of a problem that a best version solves.
 fn write_solved<D: Desk, O: Sink>(
     alloc: Global,
-    problem: &Problem,
+    problem: &Problem<'_>,
     best: &Version,
+    lock: &str,
     desk: &mut D,
     out: &mut O,
 ) -> Result<Answer, WriteStop>
     requires { IsBest problem.now.wanted.versions problem.now.declared best.now }
-    ensures left { Writes problem.now (D.files desk.old) (D.files desk.new) (O.said out.old) (O.said out.new) result }
-    ensures held { (D.files desk.new ≡ D.files desk.old) ⊎ HoldsFront problem.now (D.files desk.old) (D.files desk.new) }
-    ensures others { IfSome (D.files desk.old) (λ files. ChangesOnly problem.now.lock files (D.files desk.new)) }
+    ensures left { Writes lock.now problem.now (D.files desk.old) (D.files desk.new) (O.said out.old) (O.said out.new) result }
+    ensures held { (D.files desk.new ≡ D.files desk.old) ⊎ HoldsFront lock.now problem.now (D.files desk.old) (D.files desk.new) }
+    ensures others { IfSome (D.files desk.old) (λ files. ChangesOnly lock.now files (D.files desk.new)) }
     ensures faults { D.faults desk.new ≡ D.faults desk.old }
-    ensures put { Counts (D.put_faults desk.old) (D.put_faults desk.new) (IsPutFault result) }
-    ensures said { Counts (O.faults out.old) (O.faults out.new) (IsOutputFault result) }
+    ensures put { Counts (D.put_faults desk.old) (D.put_faults desk.new) (EndsInPutFault result) }
+    ensures said { Counts (O.faults out.old) (O.faults out.new) (EndsInOutputFault result) }
 {
-    let (lock, report) = solved_texts(alloc, problem, best)?;
-    put_lock(alloc, desk, problem.lock.as_str(), lock.as_str())?;
-    say(alloc, out, report.as_str())?;
+    let (text, report) = solved_texts(alloc, problem, best)?;
+    put_lock(alloc, desk, lock, text.as_str())?;
+    say(alloc, out, report.as_slice())?;
     Ok(Answer::Solved)
 }
 
 /// Writes the answer of a problem.
 pub fn write_answer<D: Desk, O: Sink>(
     alloc: Global,
-    problem: &Problem,
+    problem: &Problem<'_>,
+    lock: &str,
     desk: &mut D,
     out: &mut O,
 ) -> Result<Answer, WriteStop>
-    ensures left { Writes problem.now (D.files desk.old) (D.files desk.new) (O.said out.old) (O.said out.new) result }
-    ensures held { (D.files desk.new ≡ D.files desk.old) ⊎ HoldsFront problem.now (D.files desk.old) (D.files desk.new) }
-    ensures others { IfSome (D.files desk.old) (λ files. ChangesOnly problem.now.lock files (D.files desk.new)) }
+    ensures left { Writes lock.now problem.now (D.files desk.old) (D.files desk.new) (O.said out.old) (O.said out.new) result }
+    ensures held { (D.files desk.new ≡ D.files desk.old) ⊎ HoldsFront lock.now problem.now (D.files desk.old) (D.files desk.new) }
+    ensures others { IfSome (D.files desk.old) (λ files. ChangesOnly lock.now files (D.files desk.new)) }
     ensures faults { D.faults desk.new ≡ D.faults desk.old }
-    ensures put { Counts (D.put_faults desk.old) (D.put_faults desk.new) (IsPutFault result) }
-    ensures said { Counts (O.faults out.old) (O.faults out.new) (IsOutputFault result) }
+    ensures put { Counts (D.put_faults desk.old) (D.put_faults desk.new) (EndsInPutFault result) }
+    ensures said { Counts (O.faults out.old) (O.faults out.new) (EndsInOutputFault result) }
 {
     match best_of(&problem.wanted.versions, problem.declared.as_slice()) {
-        Some(best) => write_solved(alloc, problem, best, desk, out),
+        Some(best) => write_solved(alloc, problem, best, lock, desk, out),
         None => {
-            say(alloc, out, unsatisfiable_text())?;
+            say(alloc, out, unsatisfiable_text().as_bytes())?;
             Ok(Answer::Unsolved)
         }
     }

@@ -1,9 +1,10 @@
-// The words of the command line.
+//! The words of the command line.
+
 ghost use Rattle.std.specs.Prelude.{◌≡◌, ◌∷◌, ◌++◌, IfOk};
 ghost use Rattle.std.specs.String.{string_bytes};
-ghost use Rattle.spec_grammar.specs.Signs.{is_white};
 ghost use Rattle.concretizer.specs.Words.{words_of, joined_words, command_of, is_blank, is_same};
 
+use spec_grammar::is_white;
 use std::alloc::{AllocError, Global};
 use std::marker::Model;
 
@@ -38,12 +39,6 @@ fn join_words(alloc: Global, first: &str, more: &[String]) -> Result<String, All
         text.push_str(word.as_str())?;
     }
     Ok(text)
-}
-
-fn is_white(b: u8) -> bool
-    ensures { result ≡ is_white b }
-{
-    matches!(b, b' ' | b'\t' | b'\n' | b'\r')
 }
 
 fn is_blank(text: &[u8]) -> bool

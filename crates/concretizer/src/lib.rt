@@ -22,6 +22,7 @@ mod top;
 mod weight;
 mod worked;
 
+pub use refusal::NotBuilt;
 pub use status::Status;
 pub use steady::run_steady;
 pub use top::run;

@@ -1,4 +1,5 @@
-// Lock files.
+//! Lock files.
+
 ghost use Rattle.std.specs.Prelude.{◌≡◌, ◌++◌, ◌∷◌, [], IfOk, OnOk, map, false};
 ghost use Rattle.std.specs.String.{string_bytes};
 ghost use Rattle.serde_json.specs.Data.{array, object, string, no_members, put as with_member};
@@ -7,10 +8,11 @@ ghost use Rattle.serde_json.specs.Written.{compact_text, has_float};
 ghost use Rattle.concretizer.specs.Lock.{strings, variants_data, compiler_data, record_members, record_data, canonical_text, node_hash, node_data, root_data, lock_data, lock_text};
 
 use crate::node::{BuiltNode, Compiler, Root};
-use plain_data::{List, Word};
+use plain_data::Word;
 use serde_json::{Map, Value, json, put};
 use spec_hash::{Hash, hash_text};
 use std::alloc::{AllocError, Global};
+use variant_values::ValueSet;
 
 /// A list of texts.
 fn strings_value(alloc: Global, texts: &[Word]) -> Result<Value, AllocError>
@@ -24,12 +26,12 @@ fn strings_value(alloc: Global, texts: &[Word]) -> Result<Value, AllocError>
 }
 
 /// The variants by their names.
-fn variants_value(alloc: Global, variants: &[(Word, List<Word>)]) -> Result<Value, AllocError>
+fn variants_value(alloc: Global, variants: &[(Word, ValueSet)]) -> Result<Value, AllocError>
     ensures { IfOk result (λ v. view v ≡ object (variants_data variants.now)) }
 {
     let mut members = Map::new(alloc);
     for (name, values) in variants {
-        let values = strings_value(alloc, values.as_slice())?;
+        let values = strings_value(alloc, values.values())?;
         put(&mut members, alloc, name.as_str(), values)?;
     }
     Ok(Value::Object(members))
@@ -42,7 +44,7 @@ fn compiler_value(alloc: Global, compiler: &Option<Compiler>) -> Result<Value, A
     match compiler {
         None => Ok(Value::Null),
         Some(compiler) => {
-            json!(in alloc; {"name": compiler.name.as_str(), "version": compiler.version.as_str()})
+            json!(in alloc; {"name": compiler.name.as_str(), "version": compiler.version.text()})
         }
     }
 }

@@ -1,13 +1,15 @@
-// A node of a build graph.
+//! A node of a build graph.
+
 use plain_data::{List, Word};
 use spec_hash::Hash;
+use variant_values::ValueSet;
 use version_order::Version;
 
 /// A compiler by its name and version.
 #[derive(Debug, Drop)]
 pub struct Compiler {
     pub name: Word,
-    pub version: Word,
+    pub version: Version,
 }
 
 /// A node to build, without edges.
@@ -15,7 +17,8 @@ pub struct Compiler {
 pub struct BuiltNode {
     pub name: Word,
     pub version: Version,
-    pub variants: List<(Word, List<Word>)>,
+    /// Each variant with its values, in byte order of names.
+    pub variants: List<(Word, ValueSet)>,
     pub compiler: Option<Compiler>,
     pub os: Word,
     pub target: Word,

@@ -1,11 +1,12 @@
-// What a run reads.
+//! What a run reads.
+
 ghost use Rattle.std.specs.Prelude.{◌≡◌, IfOk, IfSome};
 ghost use Rattle.std.specs.FinMap.{get};
 ghost use Rattle.std.specs.String.{string_bytes};
 ghost use Rattle.outside_desk.specs.Causes.{Counts};
 ghost use Rattle.concretizer.specs.Requests.{Is};
 ghost use Rattle.concretizer.specs.Problems.{recipe_path, path_of, recipe_file, declared_of, declared_at, problem_at};
-ghost use Rattle.concretizer.specs.Stops.{Gives, FailsAt, IsReadFault, IsUsage};
+ghost use Rattle.concretizer.specs.Stops.{Gives, FailsAt, EndsInReadFault, EndsInUsage};
 
 use crate::recipe::read_recipe;
 use crate::refusal::{NotBuilt, Refusal};
@@ -14,6 +15,7 @@ use crate::stop::ReadStop;
 use outside_desk::{Desk, ReadFault, read_whole};
 use plain_data::{List, Word};
 use std::alloc::{AllocError, Global};
+use std::marker::Model;
 use version_order::Version;
 
 /// The most bytes that a recipe has: 1 MiB.
@@ -21,13 +23,19 @@ const RECIPE_LIMIT: u64 = 1 << 20;
 
 /// What a run is to solve.
 #[derive(Debug, Drop)]
-pub struct Problem {
-    /// The path of the lock file.
-    pub lock: Word,
+pub struct Problem<'a> {
     /// The package that is asked for.
-    pub wanted: Wanted,
+    pub(crate) wanted: &'a Wanted,
     /// The versions that its recipe declares, in file order and each once.
-    pub declared: List<Version>,
+    pub(crate) declared: List<Version>,
+}
+
+impl<'a> Model for Problem<'a> {
+    ghost use Rattle.concretizer.specs.Problems.{Problem};
+
+    ghost Value = { Problem };
+
+    ghost view = { λ p. record { wanted = p.wanted.now; declared = p.declared } };
 }
 
 #[tactic(auto, unfolding(crate::specs::Problems::recipe_path))]
@@ -47,9 +55,9 @@ fn read_file<D: Desk>(
 ) -> Result<List<u8>, ReadStop>
     ensures read { IfSome (D.files desk.old) (λ m. Gives result (Is (recipe_file name.now (get m path.now)))) }
     ensures path { FailsAt path.now result }
-    ensures no_usage { IsUsage result → ⊥ }
+    ensures no_usage { EndsInUsage result → ⊥ }
     ensures same { D.files desk.new ≡ D.files desk.old }
-    ensures cause { Counts (D.faults desk.old) (D.faults desk.new) (IsReadFault result) }
+    ensures cause { Counts (D.faults desk.old) (D.faults desk.new) (EndsInReadFault result) }
     ensures put_faults { D.put_faults desk.new ≡ D.put_faults desk.old }
 {
     match read_whole(alloc, desk, path, RECIPE_LIMIT) {
@@ -69,8 +77,8 @@ fn read_file<D: Desk>(
 #[tactic(auto, unfolding(crate::specs::Problems::declared_of))]
 fn read_versions(alloc: Global, name: &str, file: &[u8]) -> Result<List<Version>, ReadStop>
     ensures read { Gives result (Is (declared_of name.now file.now)) }
-    ensures no_usage { IsUsage result → ⊥ }
-    ensures no_fault { IsReadFault result → ⊥ }
+    ensures no_usage { EndsInUsage result → ⊥ }
+    ensures no_fault { EndsInReadFault result → ⊥ }
 {
     match read_recipe(alloc, file)? {
         Some(versions) => Ok(versions),
@@ -89,9 +97,9 @@ fn read_declared<D: Desk>(
 ) -> Result<List<Version>, ReadStop>
     ensures read { IfSome (D.files desk.old) (λ m. Gives result (Is (declared_at m request.now))) }
     ensures path { FailsAt (path_of request.now) result }
-    ensures no_usage { IsUsage result → ⊥ }
+    ensures no_usage { EndsInUsage result → ⊥ }
     ensures same { D.files desk.new ≡ D.files desk.old }
-    ensures cause { Counts (D.faults desk.old) (D.faults desk.new) (IsReadFault result) }
+    ensures cause { Counts (D.faults desk.old) (D.faults desk.new) (EndsInReadFault result) }
     ensures put_faults { D.put_faults desk.new ≡ D.put_faults desk.old }
 {
     let name = request.wanted.name.as_str();
@@ -102,31 +110,21 @@ fn read_declared<D: Desk>(
 
 /// The problem that a request names over the desk's files.
 #[tactic(auto, unfolding(crate::specs::Problems::problem_at))]
-pub fn read_problem<D: Desk>(
+pub fn read_problem<'a, D: Desk>(
     alloc: Global,
     desk: &mut D,
-    request: Request,
-) -> Result<Problem, ReadStop>
-    ensures read { IfSome (D.files desk.old) (λ m. Gives result (Is (problem_at m request))) }
-    ensures lock { IfOk result (λ problem. problem.lock ≡ request.lock) }
-    ensures path { FailsAt (path_of request) result }
-    ensures no_usage { IsUsage result → ⊥ }
+    request: &'a Request,
+) -> Result<Problem<'a>, ReadStop>
+    ensures read { IfSome (D.files desk.old) (λ m. Gives result (Is (problem_at m request.now))) }
+    ensures path { FailsAt (path_of request.now) result }
+    ensures no_usage { EndsInUsage result → ⊥ }
     ensures same { D.files desk.new ≡ D.files desk.old }
-    ensures cause { Counts (D.faults desk.old) (D.faults desk.new) (IsReadFault result) }
+    ensures cause { Counts (D.faults desk.old) (D.faults desk.new) (EndsInReadFault result) }
     ensures put_faults { D.put_faults desk.new ≡ D.put_faults desk.old }
 {
-    match read_declared(alloc, desk, &request) {
-        Ok(declared) => {
-            let Request { lock, wanted, .. } = request;
-            Ok(Problem {
-                lock,
-                wanted,
-                declared,
-            })
-        }
-        Err(stop) => {
-            drop(request);
-            Err(stop)
-        }
-    }
+    let declared = read_declared(alloc, desk, request)?;
+    Ok(Problem {
+        wanted: &request.wanted,
+        declared,
+    })
 }

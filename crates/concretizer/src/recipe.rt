@@ -1,4 +1,5 @@
-// Recipes of versions alone.
+//! Recipes of versions alone.
+
 ghost use Rattle.std.specs.Prelude.{◌≡◌, ◌∷◌, [], ◌<◌, ◌≤◌, ◌==◌, IfOk, MatchOption, Some, None, not, take_while, length};
 ghost use Rattle.std.specs.List.{list_all};
 ghost use Rattle.std.specs.Option.{option_map, option_and_then};

@@ -1,4 +1,5 @@
-// Why input is refused, and what is said of it.
+//! Why input is refused, and what is said of it.
+
 ghost use Rattle.std.specs.Prelude.{◌≡◌, IfOk};
 ghost use Rattle.std.specs.String.{string_bytes};
 ghost use Rattle.concretizer.specs.Refusals.{status_of};

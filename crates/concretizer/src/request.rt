@@ -1,11 +1,11 @@
-// What the words ask for.
+//! What the words ask for.
+
 ghost use Rattle.std.specs.Prelude.{◌≡◌, IfOk, IsSome, None, Result};
 ghost use Rattle.std.specs.Str.{IsUtf8};
 ghost use Rattle.spec_grammar.specs.Canonical.{spec_text};
-ghost use Rattle.concretizer.specs.Words.{words_of, command_of};
-ghost use Rattle.concretizer.specs.Attempts.{lock_path};
+ghost use Rattle.concretizer.specs.Words.{words_of, command_of, lock_path};
 ghost use Rattle.concretizer.specs.Requests.{Asks, Is, SpecsOf, Wants, asks_versions, is_simple, not_built_of, only, order_of, wanted_by, wanted_of};
-ghost use Rattle.concretizer.specs.Stops.{Gives, GivesOnly, IsReadFault, IsUsage};
+ghost use Rattle.concretizer.specs.Stops.{Gives, GivesOnly, EndsInReadFault, EndsInUsage};
 ghost use Rattle.concretizer.specs.declared.refusal.Refusal.{Refusal};
 ghost use Rattle.concretizer.specs.declared.request.Request.{Request};
 
@@ -61,8 +61,8 @@ fn not_built(command: &Command<'_>) -> Option<NotBuilt>
 #[tactic(auto, unfolding(crate::specs::Requests::order_of))]
 fn read_order<'a>(alloc: Global, words: &'a [String]) -> Result<Command<'a>, ReadStop>
     ensures read { Gives result (Is (order_of (words_of words.now))) }
-    ensures usage { IsUsage result → command_of (words_of words.now) ≡ None }
-    ensures no_fault { IsReadFault result → ⊥ }
+    ensures usage { EndsInUsage result → command_of (words_of words.now) ≡ None }
+    ensures no_fault { EndsInReadFault result → ⊥ }
 {
     let Some(command) = read_command(alloc, words)? else {
         return Err(ReadStop::Refused(Refusal::Usage));
@@ -79,8 +79,8 @@ fn read_order<'a>(alloc: Global, words: &'a [String]) -> Result<Command<'a>, Rea
 /// The specs that a text spells.
 fn specs_of(alloc: Global, text: &str) -> Result<List<Spec>, ReadStop>
     ensures read { Gives result (SpecsOf text.now) }
-    ensures no_usage { IsUsage result → ⊥ }
-    ensures no_fault { IsReadFault result → ⊥ }
+    ensures no_usage { EndsInUsage result → ⊥ }
+    ensures no_fault { EndsInReadFault result → ⊥ }
 {
     match read_specs(alloc, text) {
         Ok(specs) => Ok(specs),
@@ -153,8 +153,8 @@ fn only(specs: List<Spec>) -> Option<Spec>
 #[tactic(auto, unfolding(crate::specs::Requests::wanted_of))]
 fn wanted_of(alloc: Global, text: &str) -> Result<Wanted, ReadStop>
     ensures read { Gives result (Wants text.now) }
-    ensures no_usage { IsUsage result → ⊥ }
-    ensures no_fault { IsReadFault result → ⊥ }
+    ensures no_usage { EndsInUsage result → ⊥ }
+    ensures no_fault { EndsInReadFault result → ⊥ }
 {
     reading_laws();
     writing_laws();
@@ -174,8 +174,8 @@ fn wanted_of(alloc: Global, text: &str) -> Result<Wanted, ReadStop>
 /// What the words ask for.
 fn asked_of(alloc: Global, words: &[String]) -> Result<Request, ReadStop>
     ensures read { Gives result (Asks (words_of words.now)) }
-    ensures usage { IsUsage result → command_of (words_of words.now) ≡ None }
-    ensures no_fault { IsReadFault result → ⊥ }
+    ensures usage { EndsInUsage result → command_of (words_of words.now) ≡ None }
+    ensures no_fault { EndsInReadFault result → ⊥ }
 {
     let command = read_order(alloc, words)?;
     let wanted = wanted_of(alloc, command.spec.as_str())?;
@@ -190,9 +190,9 @@ fn asked_of(alloc: Global, words: &[String]) -> Result<Request, ReadStop>
 pub fn read_request(alloc: Global, words: &[String]) -> Result<Request, ReadStop>
     ensures read { Gives result (Asks (words_of words.now)) }
     ensures only { (asked : Result Request Refusal) → Asks (words_of words.now) asked → GivesOnly result asked }
-    ensures usage { IsUsage result → command_of (words_of words.now) ≡ None }
+    ensures usage { EndsInUsage result → command_of (words_of words.now) ≡ None }
     ensures lock { IfOk result (λ request. request.lock ≡ lock_path (words_of words.now)) }
-    ensures no_fault { IsReadFault result → ⊥ }
+    ensures no_fault { EndsInReadFault result → ⊥ }
 {
     reading_laws();
     asked_of(alloc, words)

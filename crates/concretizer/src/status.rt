@@ -1,6 +1,9 @@
-// The answers of a run.
+//! The answers of a run.
 
-/// The answer of a run. The program ends with its place in this list as the exit status.
+ghost use Rattle.std.specs.Prelude.{◌≡◌};
+ghost use Rattle.concretizer.specs.Exits.{number_of};
+
+/// The answer of a run. The program ends with its place in this list as the exit status: see `number`.
 #[derive(Clone, Copy, Debug, PartialEq, Eq)]
 pub enum Status {
     /// The lock file was put.
@@ -23,4 +26,13 @@ pub enum Status {
     Refused,
     /// Memory ran out.
     NoMemory,
+}
+
+impl Status {
+    /// The exit status: the answer's place in the list of answers, from 0 for `Done` to 9 for `NoMemory`.
+    pub fn number(self) -> u8
+        ensures { result ≡ number_of self }
+    {
+        self as u8
+    }
 }

@@ -1,10 +1,11 @@
-// Runs over devices that never fail.
-ghost use Rattle.std.specs.Prelude.{◌≢◌, Ok};
+//! Runs over devices that never fail.
+
+ghost use Rattle.std.specs.Prelude.{◌≡◌, ◌≢◌, Ok, Err, Some};
 ghost use Rattle.concretizer.specs.Words.{words_of};
-ghost use Rattle.concretizer.specs.Problems.{Poses};
-ghost use Rattle.concretizer.specs.declared.problem.Problem.{Problem};
-ghost use Rattle.concretizer.specs.Headline.{IsDone, IsUnsatisfiable, IsRefused, Settles, Refuses};
-ghost use Rattle.std.specs.Prelude.{◌≡◌, Some};
+ghost use Rattle.concretizer.specs.Problems.{Problem, Poses};
+ghost use Rattle.concretizer.specs.Headline.{IsDone, IsUnsatisfiable, IsRefused, Settles, IsRefusalStatus, IsAnsweredBy};
+ghost use Rattle.concretizer.specs.Refusals.{status_of};
+ghost use Rattle.concretizer.specs.declared.refusal.Refusal.{Refusal};
 
 use crate::status::Status;
 use crate::top::run;
@@ -13,7 +14,7 @@ use std::alloc::Global;
 use std::thread::Threads;
 
 /// `run` over files and sinks in memory, none of which fails. So no fault is answered, and input that
-/// nothing refuses is Done, Unsatisfiable or NoMemory.
+/// nothing refuses is Done, Unsatisfiable or NoMemory, and input that is refused is answered so.
 pub fn run_steady<R: Threads + Sync>(
     rt: &R,
     alloc: Global,
@@ -22,12 +23,13 @@ pub fn run_steady<R: Threads + Sync>(
     out: &mut SteadySink,
     err: &mut SteadySink,
 ) -> Status
-    ensures done { result ≡ Status.Done → IsDone desk.old (words_of words.now) (Some desk.new) (Some out.old) (Some out.new) (Some err.old) (Some err.new) }
-    ensures unsatisfiable { result ≡ Status.Unsatisfiable → IsUnsatisfiable desk.old (words_of words.now) (Some desk.new) (Some out.old) (Some out.new) (Some err.old) (Some err.new) }
-    ensures refused { Refuses result → IsRefused desk.old (words_of words.now) result (Some desk.new) (Some out.old) (Some out.new) (Some err.old) (Some err.new) }
+    ensures done { result ≡ Status.Done → IsDone desk.old (words_of words.now) (Some desk.new) (Some out.old, Some out.new) (Some err.old, Some err.new) }
+    ensures unsatisfiable { result ≡ Status.Unsatisfiable → IsUnsatisfiable desk.old (words_of words.now) (Some desk.new) (Some out.old, Some out.new) (Some err.old, Some err.new) }
+    ensures refused { IsRefusalStatus result → IsRefused desk.old (words_of words.now) result (Some desk.new) (Some out.old, Some out.new) (Some err.old, Some err.new) }
     ensures no_read_fault { result ≢ Status.ReadFault }
     ensures no_write_fault { result ≢ Status.WriteFault }
     ensures complete { (problem : Problem) → Poses desk.old (words_of words.now) (Ok problem) → Settles result }
+    ensures due { (refusal : Refusal) → Poses desk.old (words_of words.now) (Err refusal) → IsAnsweredBy (status_of refusal) result }
 {
     run(rt, alloc, words, desk, out, err)
 }

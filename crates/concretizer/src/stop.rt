@@ -1,4 +1,5 @@
-// Why a reading or a writing stops.
+//! Why a reading or a writing stops.
+
 ghost use Rattle.std.specs.Prelude.{◌≡◌, IfOk};
 ghost use Rattle.std.specs.String.{string_bytes};
 ghost use Rattle.concretizer.specs.declared.stop.ReadStop.TheVariants as reads;

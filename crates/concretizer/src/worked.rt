@@ -1,4 +1,5 @@
-// The texts of one graph, by computation.
+//! The texts of one graph, by computation.
+
 ghost use Rattle.std.specs.Prelude.{◌≡◌, codes};
 ghost use Rattle.concretizer.specs.Answers.{node_of, cost_of};
 ghost use Rattle.concretizer.specs.Lock.{canonical_text};

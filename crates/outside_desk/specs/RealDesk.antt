@@ -2,8 +2,8 @@
 use Rattle.std.specs.Prelude.{ℕ}
 use Rattle.outside_desk.specs.declared.real_desk.RealDesk.{RealDesk}
 
-abbrev pub real_faults : {R : Type 0} → RealDesk R → ℕ
+abbrev pub real_faults : {R F : Type 0} → RealDesk R F → ℕ
 real_faults desk = desk.faults
 
-abbrev pub real_put_faults : {R : Type 0} → RealDesk R → ℕ
+abbrev pub real_put_faults : {R F : Type 0} → RealDesk R F → ℕ
 real_put_faults desk = desk.put_faults

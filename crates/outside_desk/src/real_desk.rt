@@ -1,11 +1,13 @@
-// The desk of the machine, which tells no content.
+//! The desk of the machine, which tells no content.
+
 ghost use Rattle.std.specs.Prelude.{◌≡◌, ◌≤◌, ◌<◌, ◌^◌, ℕ, None, IfOk, IsErrOf, length};
+ghost use Rattle.std.specs.Io.{ReadsAtMost};
 ghost use Rattle.outside_desk.specs.Causes.{CountsEach};
 
-use crate::real_files::{fault_of, list_folder, put_file, read_piece};
+use crate::real_files::{fault_of, list_folder, open_regular, put_file, read_piece};
 use crate::{Desk, DeskFault};
 use std::alloc::Global;
-use std::io::Error;
+use std::io::{Error, ErrorKind, Read, Seek};
 use std::rt::Files;
 
 /// Files of the machine, through a runtime. It tells no content, and its counts rise by one at each `Failed`.
@@ -16,30 +18,90 @@ use std::rt::Files;
 ///   put ── Failed: put_faults + 1
 /// ```
 ///
-/// `Missing` also where a file stands in a folder's place. Interrupted readings and writings are tried again.
-/// A folder without names is an empty list, and names that are no texts are passed over. A put answers
-/// `OutOfMemory` only where the file could not be opened, and `Failed` at each other error.
+/// `Missing` also where a file stands in a folder's place, and where a name is too long for the machine.
+/// Reading what is no regular file is `Failed`. A file is opened once for all its pieces, so one that is
+/// replaced in between is not read as a mix. Interrupted readings and writings are tried again. A folder
+/// without names is an empty list, and names that are no texts are passed over. A put answers `OutOfMemory`
+/// only where the file could not be opened, and `Failed` at each other error.
+///
+/// `F` is the runtime's type of open files.
 #[derive(Drop)]
-pub struct RealDesk<'a, R> {
+pub struct RealDesk<'a, R, F> {
     rt: &'a R,
+    /// The file whose piece was read last.
+    reading: Option<Reading<F>>,
     faults: u64,
     put_faults: u64,
     ghost faults_fit: { faults < 2 ^ 64 },
     ghost put_faults_fit: { put_faults < 2 ^ 64 },
 }
 
-impl<'a, R: Files> RealDesk<'a, R> {
+/// A file that is being read.
+#[derive(Drop)]
+struct Reading<F> {
+    path: String,
+    file: F,
+}
+
+impl<F: Read + Seek> Reading<F> {
+    /// Reads a piece from a place on into the front of the buffer, and answers how many bytes.
+    fn read(&mut self, from: u64, out: &mut [u8]) -> Result<usize, Error>
+        ensures { ReadsAtMost result out.new }
+    {
+        read_piece(&mut self.file, from, out)
+    }
+}
+
+/// Opens the file at a path.
+fn begin<R: Files>(alloc: Global, rt: &R, path: &str) -> Result<Reading<R::File>, Error> {
+    let path = String::from_str(alloc, path)?;
+    let file = open_regular(rt, path.as_str())?;
+    Ok(Reading { path, file })
+}
+
+impl<'a, R: Files> RealDesk<'a, R, R::File> {
     ghost use Rattle.outside_desk.specs.RealDesk.{real_faults, real_put_faults};
 
     /// A desk of the runtime's files, with no faults.
-    pub fn new(rt: &'a R) -> RealDesk<'a, R>
+    pub fn new(rt: &'a R) -> RealDesk<'a, R, R::File>
         ensures faults { real_faults result ≡ 0 }
         ensures put_faults { real_put_faults result ≡ 0 }
     {
         RealDesk {
             rt,
+            reading: None,
             faults: 0,
             put_faults: 0,
+        }
+    }
+
+    /// Whether the file at the path is the one that is being read.
+    fn is_reading(&self, path: &str) -> bool {
+        match &self.reading {
+            Some(reading) => reading.path.as_str() == path,
+            None => false,
+        }
+    }
+
+    /// Reads a piece of the file at the path. The file is opened where its front is asked for, or another
+    /// one is being read.
+    fn read_piece(
+        &mut self,
+        alloc: Global,
+        path: &str,
+        from: u64,
+        out: &mut [u8],
+    ) -> Result<usize, Error>
+        ensures bound { ReadsAtMost result out.new }
+        ensures faults { real_faults self.new ≡ real_faults self.old }
+        ensures put_faults { real_put_faults self.new ≡ real_put_faults self.old }
+    {
+        if from == 0 || !self.is_reading(path) {
+            self.reading = Some(begin(alloc, self.rt, path)?);
+        }
+        match &mut self.reading {
+            Some(reading) => reading.read(from, out),
+            None => Err(Error::from(ErrorKind::InvalidInput)),
         }
     }
 
@@ -56,7 +118,7 @@ impl<'a, R: Files> RealDesk<'a, R> {
     }
 }
 
-impl<'a, R: Files> Desk for RealDesk<'a, R> {
+impl<'a, R: Files> Desk for RealDesk<'a, R, R::File> {
     ghost use Rattle.outside_desk.specs.RealDesk.{real_faults, real_put_faults};
 
     ghost files = { λ _. None };
@@ -71,7 +133,7 @@ impl<'a, R: Files> Desk for RealDesk<'a, R> {
 
     fn read_at(
         &mut self,
-        _: Global,
+        alloc: Global,
         path: &str,
         from: u64,
         out: &mut [u8],
@@ -80,7 +142,7 @@ impl<'a, R: Files> Desk for RealDesk<'a, R> {
         ensures faults { CountsEach (real_faults self.old) (real_faults self.new) (IsErrOf result DeskFault.Failed) }
         ensures put_faults { real_put_faults self.new ≡ real_put_faults self.old }
     {
-        match read_piece(self.rt, path, from, out) {
+        match self.read_piece(alloc, path, from, out) {
             Ok(count) => Ok(count),
             Err(error) => Err(self.fault(&error)),
         }

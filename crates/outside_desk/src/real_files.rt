@@ -1,9 +1,10 @@
-// Files and folders of the machine: the trusted edge, which tells no content.
+//! Files and folders of the machine: the trusted edge, which tells no content.
+
 ghost use Rattle.std.specs.Prelude.{◌≡◌, IsErrOf, OnOk, OnErr};
 ghost use Rattle.std.specs.Io.{ReadsAtMost};
 ghost use Rattle.std.specs.Io.KnownBytes.{Appends};
 ghost use Rattle.std.specs.IoError.{error_kind};
-ghost use Rattle.outside_desk.specs.RealFiles.{fault_of_kind, AppendsPart};
+ghost use Rattle.outside_desk.specs.RealFiles.{fault_of_kind, open_fault_of_kind, AppendsPart};
 
 use crate::DeskFault;
 use crate::names::Names;
@@ -15,28 +16,38 @@ use std::rt::Files;
 /// How many bytes of a folder's names are read at once.
 const NAMES: usize = 4096;
 
-/// A file in a folder's place counts as missing too.
+/// A file in a folder's place counts as missing too, and a name that is too long for the machine.
 pub fn fault_of(error: &Error) -> DeskFault
     ensures { result ≡ fault_of_kind (error_kind error.now) }
 {
     match error.kind() {
-        ErrorKind::NotFound | ErrorKind::NotADirectory => DeskFault::Missing,
+        ErrorKind::NotFound | ErrorKind::NotADirectory | ErrorKind::InvalidFilename => {
+            DeskFault::Missing
+        }
         ErrorKind::OutOfMemory => DeskFault::OutOfMemory,
         _ => DeskFault::Failed,
     }
 }
 
+/// Opens a file to be read. What is no regular file, as a folder, a pipe or a device, is an error at once,
+/// since to open or to read it may wait for ever.
+pub fn open_regular<R: Files>(rt: &R, path: &str) -> Result<R::File, Error> {
+    if !fs::metadata(rt, path)?.is_file() {
+        return Err(Error::from(ErrorKind::InvalidInput));
+    }
+    fs::open(rt, path)
+}
+
 /// Reads a piece of a file into the front of the buffer, and answers how many bytes. No file reaches a place
 /// past `i64::MAX`, and no seek goes there.
-pub fn read_piece<R: Files>(rt: &R, path: &str, from: u64, out: &mut [u8]) -> Result<usize, Error>
+pub fn read_piece<F: Read + Seek>(file: &mut F, from: u64, out: &mut [u8]) -> Result<usize, Error>
     ensures { ReadsAtMost result out.new }
 {
-    let mut file = fs::open(rt, path)?;
     if from > i64::MAX as u64 {
         return Ok(0);
     }
     file.seek(SeekFrom::Start(from))?;
-    read_once(&mut file, out)
+    read_once(file, out)
 }
 
 /// One reading, tried again where it was interrupted.
@@ -72,20 +83,35 @@ pub fn write_whole<W: Write>(writer: &mut W, bytes: &[u8]) -> Result<(), Error>
     Err(Error::from(ErrorKind::Interrupted))
 }
 
-/// Makes the file hold the bytes. Once it was opened it may have lost its old ones, so from there on each
-/// error is `Failed`.
+/// The fault for an error of opening a file for a put.
+fn open_fault_of(error: &Error) -> DeskFault
+    ensures { result ≡ open_fault_of_kind (error_kind error.now) }
+{
+    match error.kind() {
+        ErrorKind::OutOfMemory => DeskFault::OutOfMemory,
+        _ => DeskFault::Failed,
+    }
+}
+
+/// Fills a file that was opened. It may have lost its old bytes, so each error is `Failed`.
+fn fill<W: Write>(file: &mut W, bytes: &[u8]) -> Result<(), DeskFault>
+    ensures { OnErr result (IsErrOf result DeskFault.Failed) }
+{
+    match write_whole(file, bytes) {
+        Ok(()) => Ok(()),
+        Err(_) => Err(DeskFault::Failed),
+    }
+}
+
+/// Makes the file hold the bytes.
 pub fn put_file<R: Files>(rt: &R, path: &str, bytes: &[u8]) -> Result<(), DeskFault>
     ensures { IsErrOf result DeskFault.Missing → ⊥ }
 {
     let mut file = match fs::create(rt, path) {
         Ok(file) => file,
-        Err(error) if error.kind() == ErrorKind::OutOfMemory => return Err(DeskFault::OutOfMemory),
-        Err(_) => return Err(DeskFault::Failed),
+        Err(error) => return Err(open_fault_of(&error)),
     };
-    match write_whole(&mut file, bytes) {
-        Ok(()) => Ok(()),
-        Err(_) => Err(DeskFault::Failed),
-    }
+    fill(&mut file, bytes)
 }
 
 /// The names in a folder that are texts, sorted by their bytes.

@@ -8,7 +8,7 @@ use Rattle.std.proofs.lemmas.Str.{IsAscii-append}
 use Rattle.std.proofs.lemmas.Str.Ascii.{IsAscii-nil, IsAscii-cons}
 use Rattle.version_order.specs.Signs.{is_start, is_version_byte, IsVersion}
 use Rattle.version_order.specs.Items.{IsItem as IsRange, spelling, spell as spell_range, spell_more as spell_ranges, written}
-use Rattle.version_order.specs.declared.item.Item.{Item as Range}
+use Rattle.version_order.specs.declared.item.Item.{Item as VersionItem}
 use Rattle.version_order.specs.declared.item.Item.TheVariants as range
 use Rattle.spec_grammar.specs.Signs.{is_white, AreWhite, IsName, IsValue}
 use Rattle.spec_grammar.specs.Items.{spell, spell_more, HasShape, mark_byte}
@@ -53,16 +53,16 @@ end_ascii : (w : Option (List ℕ)) → IfSome w IsVersion → IsAscii (written 
 end_ascii None h = IsAscii-nil
 end_ascii (Some w) h = version_ascii w h
 
-range_ascii : (item : Range) → IsRange item → IsAscii (spell_range item)
+range_ascii : (item : VersionItem) → IsRange item → IsAscii (spell_range item)
 range_ascii (range.Exact w) h = IsAscii-cons 61 w (omega arith) (version_ascii w h)
 range_ascii (range.Prefix w) h = version_ascii w h
 range_ascii (range.Range low high) h = IsAscii-append (written low) (58 ∷ written high) (end_ascii low h.0) (IsAscii-cons 58 (written high) (omega arith) (end_ascii high h.1))
 
-ranges_ascii : (items : List Range) → AllByRecursion IsRange items → IsAscii (spell_ranges items)
+ranges_ascii : (items : List VersionItem) → AllByRecursion IsRange items → IsAscii (spell_ranges items)
 ranges_ascii [] h = IsAscii-nil
 ranges_ascii (x ∷ items) h = IsAscii-cons 44 _ (omega arith) (IsAscii-append (spell_range x) (spell_ranges items) (range_ascii x h.0) (ranges_ascii items h.1))
 
-list_ascii : (items : List Range) → AllByRecursion IsRange items → IsAscii (spelling items)
+list_ascii : (items : List VersionItem) → AllByRecursion IsRange items → IsAscii (spelling items)
 list_ascii [] h = IsAscii-nil
 list_ascii (x ∷ items) h = IsAscii-append (spell_range x) (spell_ranges items) (range_ascii x h.0) (ranges_ascii items h.1)
 

@@ -3,7 +3,7 @@ use Rattle.std.proofs.Common.{◌≡◌, ℕ, Bool, true, List, [], ◌∷◌, �
 use Rattle.spec_grammar.specs.declared.key.KeyKind.TheVariants as key
 use Rattle.spec_grammar.specs.declared.mode.Before.TheVariants as before
 use Rattle.spec_grammar.proofs.Common.{AllByRecursion, cases_Bool, and_parts, bytes_eq-Decides, IsName, IsValue, key_of, IsTarget, spell, spell_more, spell_values, spell_list, IsItem, kind_of, mark_byte, before_item, may_constrain, may_have_all, may_stand, is_apart, add, set_key, set_variant, take_item, mark_value, target_of, values_text, one_text, variant_text, target_text, more_targets, targets_items, empty_place}
-use Rattle.spec_grammar.proofs.Common.{Range, KeyKind, Mark, Plus, Tilde, Minus, Item, Name, Versions, Variant, Compiler, Key, Caret, Mode, Before, Part, TargetItem, Draft}
+use Rattle.spec_grammar.proofs.Common.{VersionItem, KeyKind, Mark, Plus, Tilde, Minus, Item, Name, Versions, Variant, Compiler, Key, Caret, Mode, Before, Part, TargetItem, Draft}
 use Rattle.spec_grammar.proofs.WordLaws.{IsWord, AreKept, kept_values, kept_same, IsTargetKept}
 
 -- a constraint other than `@`
@@ -57,7 +57,7 @@ behind_takes item draft part h = refl
 
 -- ---- what is set
 
-abbrev pub compiler_is : (List ℕ × Option (List Range)) → Part → Option Part
+abbrev pub compiler_is : (List ℕ × Option (List VersionItem)) → Part → Option Part
 compiler_is c part = if is_some part.compiler then None else Some (record part { compiler = Some c })
 
 abbrev pub platform_is : List ℕ → Part → Option Part
@@ -73,7 +73,7 @@ targets_are l part = if is_some part.targets then None else Some (record part { 
 key_asks : (mode : Mode) (w : List ℕ) (values : List (List ℕ)) (text : List ℕ) (does : Part → Option Part) → may_have_all mode ≡ true → IsItem (Key w values) → w ++ 61 ∷ spell_values values ≡ text → ((part : Part) → add (Key w values) part ≡ does part) → Asks mode text does
 key_asks mode w values text does may form spelled adds = record { item = Key w values; behind = tt; may = may; form = form; ranges = refl; spelled = spelled; adds = adds }
 
-pub compiler_asks : (mode : Mode) (w : List ℕ) (items : Option (List Range)) → may_have_all mode ≡ true → IsItem (Compiler w items) → empty_place (Compiler w items) ≡ None → Asks mode (37 ∷ (w ++ spell_list items)) (compiler_is (w, items))
+pub compiler_asks : (mode : Mode) (w : List ℕ) (items : Option (List VersionItem)) → may_have_all mode ≡ true → IsItem (Compiler w items) → empty_place (Compiler w items) ≡ None → Asks mode (37 ∷ (w ++ spell_list items)) (compiler_is (w, items))
 compiler_asks mode w items may form ranges = record { item = Compiler w items; behind = tt; may = may; form = form; ranges = ranges; spelled = refl; adds = λ part. refl }
 
 pub platform_asks : (mode : Mode) (w : List ℕ) → may_have_all mode ≡ true → IsWord w → Asks mode (codes "platform=" ++ w) (platform_is w)

@@ -2,7 +2,7 @@
 use Rattle.std.proofs.Common.{◌≡◌, ℕ, ◌<◌, ◌≤◌, ◌+◌, suc, true, false, List, [], ◌∷◌, ◌++◌, length, take, drop, Option, Some, None, refl, sym, ap, subst, ◌∙◌, arith, append_assoc, ◌==◌, ◌||◌, append-nil, take-append-drop, drop-drop, length-take, length-drop}
 use Rattle.spec_grammar.specs.declared.fault.SpecFault.TheVariants as fault
 use Rattle.spec_grammar.proofs.Common.{or_from, false_from_ne_true, IsLongestFront, IsList, spelling, first_empty, is_name_byte, IsName, name_length, spell_list, IsOver, starts_with_byte, IsFirst, IsListAt, IsListFault, IsCutOff, IsItemFault, IsStuck, Varies, varied, moved}
-use Rattle.spec_grammar.proofs.Common.{Range, Item, Compiler, Caret, SpecFault}
+use Rattle.spec_grammar.proofs.Common.{VersionItem, Item, Compiler, Caret, SpecFault}
 use Rattle.spec_grammar.proofs.RunLaws.{Stop, stop_cons, name_front, name_stop, name_length-le, true_false, two_cons}
 use Rattle.spec_grammar.proofs.KindLaws.{first_kind}
 use Rattle.spec_grammar.proofs.VaryLaws.{varied_cons, varies_cons, varied_behind, varies_behind, take_behind}
@@ -54,7 +54,7 @@ caret_stuck text h = record {
 -- `%` begins this item
 pub record AtCompiler (text : List ℕ) (item : Item) (rest : List ℕ) : Type 0 where
   pub w : List ℕ
-  pub items : Option (List Range)
+  pub items : Option (List VersionItem)
   pub same : item ≡ Compiler w items
   pub is : IsName w
   pub cut : text ≡ w ++ (spell_list items ++ rest)
@@ -109,7 +109,7 @@ compiler_alone text n e lt behind = record {
   ranges = refl;
 }
 
-compiler_first : (text : List ℕ) (n m : ℕ) (items : List Range) (list : List ℕ) → n ≡ name_length text → 0 < n → drop n text ≡ 64 ∷ list → IsListAt list items m → IsFirst (37 ∷ text) (Compiler (take n text) (Some items)) (drop m list)
+compiler_first : (text : List ℕ) (n m : ℕ) (items : List VersionItem) (list : List ℕ) → n ≡ name_length text → 0 < n → drop n text ≡ 64 ∷ list → IsListAt list items m → IsFirst (37 ∷ text) (Compiler (take n text) (Some items)) (drop m list)
 compiler_first text n m items list e lt behind at = record {
   cut = ap (λ (l : List ℕ). 37 ∷ l) (
       sym (take-append-drop n text)
@@ -127,7 +127,7 @@ drop_two b n m text list e =
 length_two : (b n : ℕ) (text list : List ℕ) → drop n text ≡ b ∷ list → n + 1 + length list ≡ length text
 length_two b n text list e = omega (arith, ap length e, length-drop n text)
 
-pub compiler_read : (text : List ℕ) (n m : ℕ) (items : List Range) (list : List ℕ) → n ≡ name_length text → 0 < n → drop n text ≡ 64 ∷ list → IsListAt list items m → first_empty 0 items ≡ None
+pub compiler_read : (text : List ℕ) (n m : ℕ) (items : List VersionItem) (list : List ℕ) → n ≡ name_length text → 0 < n → drop n text ≡ 64 ∷ list → IsListAt list items m → first_empty 0 items ≡ None
     → IsCutOff (37 ∷ text) (Compiler (take n text) (Some items)) (2 + n + m)
 compiler_read text n m items list e lt behind at none = record {
   within = omega (arith, at.longest.within, length_two 64 n text list behind);
@@ -136,7 +136,7 @@ compiler_read text n m items list e lt behind at none = record {
 }
 
 -- the LIST behind `%NAME@` is none
-no_varied_compiler : (list : List ℕ) (q : ℕ) (more : List ℕ) → IsLongestFront IsList list q → (IsList (take q list) → ⊥) → Varies list q more → (w : List ℕ) (items : Option (List Range)) (item : Item) (rest : List ℕ) → item ≡ Compiler w items
+no_varied_compiler : (list : List ℕ) (q : ℕ) (more : List ℕ) → IsLongestFront IsList list q → (IsList (take q list) → ⊥) → Varies list q more → (w : List ℕ) (items : Option (List VersionItem)) (item : Item) (rest : List ℕ) → item ≡ Compiler w items
     → 64 ∷ varied list q more ≡ spell_list items ++ rest → (text : List ℕ) → IsFirst text item rest → ⊥
 no_varied_compiler list q more front not_list varies w None item rest same there text first =
     let f = subst (λ (i : Item). IsFirst text i rest) same first in

@@ -1,8 +1,8 @@
 -- What is wrong at an item is the text's fault.
 use Rattle.std.proofs.Common.{◌≡◌, ℕ, ◌<◌, ◌≤◌, ◌+◌, ◌^◌, Bool, List, ◌∷◌, ◌++◌, length, take, drop, Option, Some, None, refl, sym, ap, subst, ◌∙◌, arith, inl, inr, option_map, take_all, length-drop, length-append}
 use Rattle.spec_grammar.specs.declared.fault.SpecFault.TheVariants as fault
-use Rattle.spec_grammar.proofs.Common.{spelling, first_empty, AreListed, IsBadAt, may_name, HasForm, take_item, finish, form_at, Read, place_of, has_gap, IsRead, IsFirst, IsItemAt, Spells, empty_place, IsFault, IsTaken, IsFaultHere, IsStuckHere, moved, Fits, none-some}
-use Rattle.spec_grammar.proofs.Common.{Range, Item, Versions, Compiler, Mode, Before, Spec, Draft, Form, SpecFault}
+use Rattle.spec_grammar.proofs.Common.{spelling, first_empty, AreListed, IsBadAt, may_name, HasForm, take_item, finish, form_at, Read, place_of, has_gap, IsRead, IsFirst, IsItemAt, Spells, empty_place, IsFault, IsAllowedItem, IsFaultHere, IsStuckHere, moved, Fits, none-some}
+use Rattle.spec_grammar.proofs.Common.{VersionItem, Item, Versions, Compiler, Mode, Before, Spec, Draft, Form, SpecFault}
 use Rattle.spec_grammar.proofs.ListLaws.{empty_below, more_length}
 use Rattle.spec_grammar.proofs.VaryLaws.{varied_own}
 use Rattle.spec_grammar.proofs.BadLaws.{bad_at, bad_end}
@@ -18,7 +18,7 @@ form_here : (mode : Mode) (text : List ℕ) (at : ℕ) (draft : Draft) (before :
 form_here mode text at draft before gap form s e = rw (s.before_is, s.gap_is) e
 
 pub twice : (mode : Mode) (text : List ℕ) (at n : ℕ) (draft : Draft) (before : Before) (gap : Bool) (item : Item) → Stands mode text at draft before gap → at < length text
-    → form_at mode (may_name mode before gap) (drop at text) ≡ None → IsTaken mode before gap (drop at text) item n → take_item item draft ≡ None → IsFault mode text (fault.TwiceSet at)
+    → form_at mode (may_name mode before gap) (drop at text) ≡ None → IsAllowedItem mode before gap (drop at text) item n → take_item item draft ≡ None → IsFault mode text (fault.TwiceSet at)
 twice mode text at n draft before gap item s lt form taken none = (
   at,
   s.read,
@@ -49,7 +49,7 @@ fault_here mode text at draft before gap fault.OutOfMemory s lt h = tt
 -- ---- places fit
 
 -- the place of an empty range is within its LIST
-place_of_list : (items : List Range) (p q : ℕ) → AreListed items → first_empty p items ≡ Some q → q ≤ p + length (spelling items)
+place_of_list : (items : List VersionItem) (p q : ℕ) → AreListed items → first_empty p items ≡ Some q → q ≤ p + length (spelling items)
 place_of_list items p q are e = omega (arith, empty_below items p q e, more_length (spelling items) items are)
 
 place_within : (item : Item) (rest text : List ℕ) (q : ℕ) → IsFirst text item rest → empty_place item ≡ Some q → q ≤ length text

@@ -3,7 +3,7 @@ use Rattle.std.proofs.Common.{◌≡◌, ℕ, ◌≤◌, ◌+◌, Bool, true, fa
 use Rattle.spec_grammar.specs.declared.item.Item.TheVariants as item
 use Rattle.spec_grammar.specs.declared.item.Kind.TheVariants as kind
 use Rattle.spec_grammar.specs.declared.fault.SpecFault.TheVariants as fault
-use Rattle.spec_grammar.proofs.Common.{cases_Bool, cases_lt, drop_more, is_start, name_length, kind_of, kind_at, kind_by, starts_with_byte, may_stand, IsFirst, IsCutOff, IsItemFault, IsTaken, IsRefused, IsStuckHere, refused_place, Varies, varied, same_Some, none-some}
+use Rattle.spec_grammar.proofs.Common.{cases_Bool, cases_lt, drop_more, is_start, name_length, kind_of, kind_at, kind_by, starts_with_byte, may_stand, IsFirst, IsCutOff, IsItemFault, IsAllowedItem, IsItemFaultHere, IsStuckHere, refused_place, Varies, varied, same_Some, none-some}
 use Rattle.spec_grammar.proofs.Common.{Plus, Tilde, Minus, Item, Kind, Mode, Before, SpecFault}
 use Rattle.spec_grammar.proofs.RunLaws.{true_false, name_front, name_stop, name_length-le}
 use Rattle.spec_grammar.proofs.KindLaws.{begins, first_kind, name_some, key_some, named_by, Says}
@@ -143,12 +143,12 @@ refused_stuck mode place gap kind.Name text here not_there = name_refused mode p
 refused_stuck mode place gap kind.Key text here not_there = key_refused mode place gap (may_stand mode place gap kind.Name) text here not_there refl
 refused_stuck mode place gap k text here not_there = sign_stuck mode place gap k text here not_there tt
 
-pub taken : (mode : Mode) (place : Before) (gap : Bool) (k : Kind) (text : List ℕ) (it : Item) (n : ℕ) → kind_at text ≡ Some k → may_stand mode place gap k ≡ true → IsCutOff text it n → IsTaken mode place gap text it n
+pub taken : (mode : Mode) (place : Before) (gap : Bool) (k : Kind) (text : List ℕ) (it : Item) (n : ℕ) → kind_at text ≡ Some k → may_stand mode place gap k ≡ true → IsCutOff text it n → IsAllowedItem mode place gap text it n
 taken mode place gap k text it n here may cut =
     let same = same_Some k (kind_of it) (sym here ∙ first_kind text it (drop n text) cut.first) in
     record { cut = cut; stands = rw (← same) may }
 
-pub refused : (mode : Mode) (place : Before) (gap : Bool) (k : Kind) (text : List ℕ) (e : SpecFault) → kind_at text ≡ Some k → may_stand mode place gap k ≡ true → IsItemFault text e → IsRefused mode place gap text e
+pub refused : (mode : Mode) (place : Before) (gap : Bool) (k : Kind) (text : List ℕ) (e : SpecFault) → kind_at text ≡ Some k → may_stand mode place gap k ≡ true → IsItemFault text e → IsItemFaultHere mode place gap text e
 refused mode place gap k text (fault.Expected q) here may h =
     let same = same_Some k (kind_of h.item) (sym here ∙ h.kind) in
     record {

@@ -3,8 +3,8 @@ use Rattle.std.proofs.Common.{◌≡◌, ℕ, Bool, true, false, List, [], ◌�
 use Rattle.std.specs.List.Sorted.{IsStrictlySortedBy}
 use Rattle.variant_values.proofs.Texts.{with_text_in_order}
 use Rattle.spec_grammar.specs.declared.key.KeyKind.TheVariants as key
-use Rattle.spec_grammar.proofs.Common.{AllByRecursion, before_first, after_first, IsInByteOrder, first_empty, IsName, key_of, Takes, IsTarget, spell_list, AreListed, AreValues, IsItem, may_have_all, add, empty_part, set_key, set_variant, set_platform, set_os, set_targets, set_arch, has_variant, set, put_all, mark_value, truth, target_of, is_dash, variant_names, variant_text, targets_items, empty_place}
-use Rattle.spec_grammar.proofs.Common.{Range, KeyKind, Item, Name, Versions, Variant, Compiler, Key, Caret, Mode, Part}
+use Rattle.spec_grammar.proofs.Common.{AllByRecursion, before_first, after_first, IsInByteOrder, first_empty, IsName, key_of, Takes, IsTarget, spell_list, AreListed, AreValues, IsItem, may_have_all, add, empty_part, set_key, set_variant, set_platform, set_os, set_targets, set_arch, has_variant, with_variant, put_all, mark_value, truth, target_of, is_dash, variant_names, variant_text, targets_items, empty_place}
+use Rattle.spec_grammar.proofs.Common.{VersionItem, KeyKind, Item, Name, Versions, Variant, Compiler, Key, Caret, Mode, Part}
 use Rattle.spec_grammar.proofs.StepLaws.{some_then}
 use Rattle.spec_grammar.proofs.OrderLaws.{all_set, names_set}
 use Rattle.spec_grammar.proofs.WordLaws.{word_of, values_kept, targets_kept, arch_parts}
@@ -39,11 +39,11 @@ unless false x next e = (refl, cc)
 more : (mode : Mode) (p : Part) (b : Bool) (x next : Part) → (if b then None else Some x) ≡ Some next → IsMore mode p x → IsMore mode p next
 more mode p b x next e h = subst (IsMore mode p) (unless b x next e).1 h
 
-kept_versions : (mode : Mode) (p next : Part) (l : List Range) → IsKept mode p → AreListed l → first_empty 1 l ≡ None → add (Versions l) p ≡ Some next → IsMore mode p next
+kept_versions : (mode : Mode) (p next : Part) (l : List VersionItem) → IsKept mode p → AreListed l → first_empty 1 l ≡ None → add (Versions l) p ≡ Some next → IsMore mode p next
 kept_versions mode p next l h are none e =
     more mode p _ _ next e (record { name = h.name; versions = (are, none); variants = h.variants; ordered = h.ordered; compiler = h.compiler; platform = h.platform; os = h.os; targets = h.targets }, refl)
 
-kept_compiler : (mode : Mode) (p next : Part) (c : List ℕ × Option (List Range)) → IsKept mode p → Asks mode (37 ∷ (c.0 ++ spell_list c.1)) (compiler_is c) → compiler_is c p ≡ Some next → IsMore mode p next
+kept_compiler : (mode : Mode) (p next : Part) (c : List ℕ × Option (List VersionItem)) → IsKept mode p → Asks mode (37 ∷ (c.0 ++ spell_list c.1)) (compiler_is c) → compiler_is c p ≡ Some next → IsMore mode p next
 kept_compiler mode p next c h asks e =
     more mode p _ _ next e (record { name = h.name; versions = h.versions; variants = h.variants; ordered = h.ordered; compiler = asks; platform = h.platform; os = h.os; targets = h.targets }, refl)
 
@@ -66,7 +66,7 @@ kept_targets mode p next (v ∷ values) h may are targets e =
 
 kept_variant : (mode : Mode) (p next : Part) (w : List ℕ) (values : List (List ℕ)) → IsKept mode p → Asks mode (variant_text w values) (set_variant w values) → set_variant w values p ≡ Some next → IsMore mode p next
 kept_variant mode p next w values h asks e =
-    let new = unless (has_variant w p.variants) (record p { variants = set (w, values) p.variants }) next e in
+    let new = unless (has_variant w p.variants) (record p { variants = with_variant (w, values) p.variants }) next e in
     subst (IsMore mode p) new.1 (
       record {
         name = h.name;

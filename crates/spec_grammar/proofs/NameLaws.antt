@@ -120,7 +120,7 @@ end_of_name : (b : ℕ) → is_name_end b ≡ true → (rest : List ℕ) → sta
 end_of_name b is [] h w over = absurd cc
 end_of_name b is (c ∷ rest) h w over = let same : c ≡ b = eqb-true c b h in over c rest refl (or_right (is_name_byte c) (is_name_end c) (rw same is))
 
--- no NAME that begins a `named` stands before this byte
+-- no NAME that begins a part stands before this byte
 pub name_not : (text : List ℕ) (n b : ℕ) → n ≡ name_length text → kind_at text ≡ Some kind.Name → is_name_end b ≡ true → starts_with_byte b (drop n text) ≡ true → (item : Item) (rest : List ℕ) → IsFirst text item rest → ⊥
 name_not text n b e k is h item rest first =
     let a = at_name text item rest (same_Some _ _ (sym k ∙ first_kind text item rest first)) first in
@@ -156,7 +156,7 @@ named_again text n b list e lt other =
     let len : name_length (take n text ++ b ∷ list) ≡ n = c.2 ∙ long in
     record { len = sym len; front = rw len at c.0; behind = rw len at c.1 }
 
--- a NAME that no `named` begins with
+-- a NAME that begins no part
 pub name_stuck : (text : List ℕ) (n b : ℕ) → n ≡ name_length text → kind_at text ≡ Some kind.Name → is_name_end b ≡ true → is_name_byte b ≡ false → (b == 61) ≡ false → starts_with_byte b (drop n text) ≡ true → IsStuck text n
 name_stuck text n b e k is other equals h =
     let some = name_some text k in

@@ -1,7 +1,7 @@
 -- The canonical text of a part, piece by piece.
 use Rattle.std.proofs.Common.{◌≡◌, ℕ, true, false, List, [], ◌∷◌, ◌++◌, Option, Some, None, refl, sym, ap, subst, ◌∙◌, append_assoc, IfSome, ◌||◌, option_map, option_and_then, codes, append-nil}
-use Rattle.spec_grammar.proofs.Common.{AllByRecursion, map-append, IsInByteOrder, spelling, first_empty, IsName, is_name_byte, spell, spell_list, AreListed, IsOver, is_name_end, Step, spell_step, spell_steps, before_of, before_item, last_of, IsOverLast, IsRightStep, AreRight, needs_name, may_name, may_constrain, Settings, empty_part, set_variant, begin_part, take_item, word_text, key_text, variant_text, variants_text, compiler_text, targets_text, targets_items, variant_names, part_text, HasNoEmpty, take_steps}
-use Rattle.spec_grammar.proofs.Common.{Range, Item, Name, Versions, Mode, Part, Draft}
+use Rattle.spec_grammar.proofs.Common.{AllByRecursion, map-append, IsInByteOrder, spelling, first_empty, IsName, is_name_byte, spell, spell_list, AreListed, IsOver, is_name_end, Step, spell_step, spell_steps, before_of, before_item, last_of, IsOverLast, IsRightStep, AreRight, needs_name, may_name, may_constrain, Variants, empty_part, set_variant, begin_part, take_item, word_text, key_text, variant_text, variants_text, compiler_text, targets_text, targets_items, variant_names, part_text, HasNoEmpty, take_steps}
+use Rattle.spec_grammar.proofs.Common.{VersionItem, Item, Name, Versions, Mode, Part, Draft}
 use Rattle.spec_grammar.proofs.RunLaws.{two_cons, true_false}
 use Rattle.spec_grammar.proofs.WhiteLaws.{white_goes}
 use Rattle.spec_grammar.proofs.OrderLaws.{before_above, not_there, set_last}
@@ -84,7 +84,7 @@ once_piece mode p all text does with None nothing spelled none sets asks = rw (n
 once_piece mode p all text does with (Some a) nothing spelled none sets asks = rw (spelled a) (piece_one mode (text a) (does a) p (with (Some a)) asks (sets a))
 
 -- the variants behind those of a part, in byte order
-variants_piece : (mode : Mode) (p : Part) (front variants : Settings) → AllByRecursion (λ v. Asks mode (variant_text v.0 v.1) (set_variant v.0 v.1)) variants → IsInByteOrder (variant_names (front ++ variants))
+variants_piece : (mode : Mode) (p : Part) (front variants : Variants) → AllByRecursion (λ v. Asks mode (variant_text v.0 v.1) (set_variant v.0 v.1)) variants → IsInByteOrder (variant_names (front ++ variants))
     → Piece mode (variants_text variants) (record p { variants = front }) (record p { variants = front ++ variants })
 variants_piece mode p front [] asks ordered = subst (λ l. Piece mode [] (record p { variants = front }) (record p { variants = l })) (sym (append-nil front)) (piece_none mode _)
 variants_piece mode p front (v ∷ variants) asks ordered =
@@ -121,7 +121,7 @@ pub record MayBegin (mode : Mode) (last : Option Item) (draft : Draft) (name : O
   pub begins : (w : List ℕ) → begin_part w draft draft.part ≡ at draft (empty_part (Some w))
   pub nameless : name ≡ None → (draft ≡ at draft (empty_part None)) × (last ≡ None) × (needs_name mode ≡ false)
 
-versions_lead : (mode : Mode) (last : Option Item) (draft : Draft) (name : Option (List ℕ)) (versions : Option (List Range)) → ((text : List ℕ) → IsOverLast last (64 ∷ text)) → may_constrain mode (before_of last) ≡ true
+versions_lead : (mode : Mode) (last : Option Item) (draft : Draft) (name : Option (List ℕ)) (versions : Option (List VersionItem)) → ((text : List ℕ) → IsOverLast last (64 ∷ text)) → may_constrain mode (before_of last) ≡ true
     → IfSome versions (λ l. AreListed l × (first_empty 1 l ≡ None)) → Leads mode last (spell_list versions) (at draft (empty_part name)) (at draft (record (empty_part name) { versions = versions }))
 versions_lead mode last draft name None over ready is = leads_none mode last (at draft (empty_part name)) ready
 versions_lead mode last draft name (Some l) over ready is = leads_one mode last (record { gap = []; item = Versions l }) _ _ (record { white = refl; form = (is.0, tt); stands = ready; over = over (spelling l) }) is.1 refl refl
@@ -129,7 +129,7 @@ versions_lead mode last draft name (Some l) over ready is = leads_one mode last 
 name_over : (w text : List ℕ) → IsOver (Name w) (64 ∷ text)
 name_over w text b more e on = true_false (is_name_byte b || is_name_end b) on (rw (sym (two_cons 64 b text more e).0) refl)
 
-front_leads : (mode : Mode) (last : Option Item) (draft : Draft) (name : Option (List ℕ)) (versions : Option (List Range)) → MayBegin mode last draft name → IfSome name IsName → IfSome versions (λ l. AreListed l × (first_empty 1 l ≡ None))
+front_leads : (mode : Mode) (last : Option Item) (draft : Draft) (name : Option (List ℕ)) (versions : Option (List VersionItem)) → MayBegin mode last draft name → IfSome name IsName → IfSome versions (λ l. AreListed l × (first_empty 1 l ≡ None))
     → Leads mode last (word_text name ++ spell_list versions) draft (at draft (record (empty_part name) { versions = versions }))
 front_leads mode last draft None versions may is listed =
     let (same, first, needs) = may.nameless refl in

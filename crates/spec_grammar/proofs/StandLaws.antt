@@ -2,7 +2,7 @@
 use Rattle.std.proofs.Common.{◌≡◌, ℕ, ◌<◌, ◌≤◌, ◌+◌, Bool, false, List, [], ◌∷◌, ◌++◌, length, take, drop, Option, Some, None, nat_lt, refl, sym, ap, subst, ◌∙◌, arith, append_assoc, option_and_then, take-append-drop, take_at, drop-drop, length-drop, length-append, length-take, take-add}
 use Rattle.std.proofs.lemmas.List.Sums.{prefix_len-le-length}
 use Rattle.spec_grammar.specs.declared.mode.Before.TheVariants.{Start}
-use Rattle.spec_grammar.proofs.Common.{prefix_len, nat_tests, is_white, AreWhite, spell, IsOver, Step, spell_step, spell_steps, before_item, before_of, is_some_gap, IsOverLast, take_item, Read, last_item, place_of, has_gap, IsRead, IsDark, HasNoEmpty, take_steps, begin, IsTaken}
+use Rattle.spec_grammar.proofs.Common.{prefix_len, nat_tests, is_white, AreWhite, spell, IsOver, Step, spell_step, spell_steps, before_item, before_of, is_some_gap, IsOverLast, take_item, Read, last_item, place_of, has_gap, IsRead, IsDark, HasNoEmpty, take_steps, begin, IsAllowedItem}
 use Rattle.spec_grammar.proofs.Common.{Item, Mode, Before, Draft}
 use Rattle.spec_grammar.proofs.RunLaws.{run_front, run_stop}
 use Rattle.spec_grammar.proofs.StepLaws.{right_append, last_append, all_append, spell_one, take_append, take_one}
@@ -67,7 +67,7 @@ front_is l a n le e =
     let long : length a ≡ n = omega (arith, ap length e, length-append a (drop n l), length-drop n l) in
     ap (take n) e ∙ take_at a (drop n l) n long
 
-pub stands_more : (mode : Mode) (text : List ℕ) (at n w : ℕ) (draft next : Draft) (before : Before) (gap more : Bool) (item : Item) → Stands mode text at draft before gap → IsTaken mode before gap (drop at text) item n → take_item item draft ≡ Some next
+pub stands_more : (mode : Mode) (text : List ℕ) (at n w : ℕ) (draft next : Draft) (before : Before) (gap more : Bool) (item : Item) → Stands mode text at draft before gap → IsAllowedItem mode before gap (drop at text) item n → take_item item draft ≡ Some next
     → w ≡ prefix_len is_white (drop (at + n) text) → more ≡ nat_lt 0 w → Stands mode text (at + n + w) next (before_item item) more
 stands_more mode text at n w draft next before gap more item s taken value e g =
     let read = s.read in

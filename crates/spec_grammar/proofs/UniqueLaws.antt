@@ -2,7 +2,7 @@
 use Rattle.std.proofs.Common.{◌≡◌, ℕ, true, false, List, [], ◌∷◌, ◌++◌, Option, Some, None, refl, sym, ap, subst, ◌∙◌, inl, inr, append_assoc, ◌⊎◌}
 use Rattle.version_order.proofs.SoFarLaws.{one_reading}
 use Rattle.spec_grammar.proofs.Common.{AllByRecursion, list_all, and_parts, Reads, IsList, spelling, is_name_byte, is_value_byte, IsValue, spell, spell_more, spell_values, spell_list, AreListed, AreValues, IsOver, is_run_byte, kind_of, IsFirst, goes_on, append_cancel_left, same_Some}
-use Rattle.spec_grammar.proofs.Common.{Range, Item, Name, Versions, Variant, Compiler, Key, Caret}
+use Rattle.spec_grammar.proofs.Common.{VersionItem, Item, Name, Versions, Variant, Compiler, Key, Caret}
 use Rattle.spec_grammar.proofs.RunLaws.{Stop, stop_cons, run_cut, two_cons, cons_none, value_run}
 use Rattle.spec_grammar.proofs.CutLaws.{more_stop}
 use Rattle.spec_grammar.proofs.KindLaws.{first_kind, over_name, over_variant}
@@ -30,13 +30,13 @@ compare_fronts (x ∷ a) rest (y ∷ c) behind e =
       | inr (inr l) ↦ inr (inr (longer_cons y x c behind a (sym t.0) l))
     ]
 
-not_longer : (a c : List Range) (rest : List ℕ) → AreListed c → IsListOver a rest → Longer (spelling a) rest (spelling c) → ⊥
+not_longer : (a c : List VersionItem) (rest : List ℕ) → AreListed c → IsListOver a rest → Longer (spelling a) rest (spelling c) → ⊥
 not_longer a c rest are over (b, k, more, f, g) = over b more g (k, subst IsList (f ∙ sym (append_assoc (spelling a) (b ∷ []) k)) (c, are))
 
-same_list : (a c : List Range) → AreListed a → AreListed c → spelling a ≡ spelling c → a ≡ c
+same_list : (a c : List VersionItem) → AreListed a → AreListed c → spelling a ≡ spelling c → a ≡ c
 same_list a c p q e = one_reading (spelling a) a c p (subst (λ (l : List ℕ). Reads l c) (sym e) q)
 
-one_list : (a c : List Range) (rest behind : List ℕ) → AreListed a → AreListed c → IsListOver a rest → IsListOver c behind → spelling a ++ rest ≡ spelling c ++ behind → a ≡ c
+one_list : (a c : List VersionItem) (rest behind : List ℕ) → AreListed a → AreListed c → IsListOver a rest → IsListOver c behind → spelling a ++ rest ≡ spelling c ++ behind → a ≡ c
 one_list a c rest behind p q over_a over_c e =
     elim (compare_fronts (spelling a) rest (spelling c) behind e) [
       | inl same ↦ same_list a c p q same
@@ -84,16 +84,16 @@ same_values (v ∷ a) (u ∷ c) p q e = same_more (v ∷ a) (u ∷ c) p q (ap (�
 
 -- ---- one item
 
-compiler_stop : (w : List ℕ) (items : Option (List Range)) (rest : List ℕ) → IsOver (Compiler w items) rest → Stop is_name_byte (spell_list items ++ rest)
+compiler_stop : (w : List ℕ) (items : Option (List VersionItem)) (rest : List ℕ) → IsOver (Compiler w items) rest → Stop is_name_byte (spell_list items ++ rest)
 compiler_stop w None rest over = over_compiler w rest over
 compiler_stop w (Some items) rest over = stop_cons is_name_byte 64 (spelling items ++ rest) refl
 
-compilers : (w : List ℕ) (a c : Option (List Range)) (rest behind : List ℕ) → spell_list a ++ rest ≡ spell_list c ++ behind → (text other : List ℕ) → IsFirst text (Compiler w a) rest → IsFirst other (Compiler w c) behind → a ≡ c
+compilers : (w : List ℕ) (a c : Option (List VersionItem)) (rest behind : List ℕ) → spell_list a ++ rest ≡ spell_list c ++ behind → (text other : List ℕ) → IsFirst text (Compiler w a) rest → IsFirst other (Compiler w c) behind → a ≡ c
 compilers w None None rest behind e text other f g = refl
 compilers w None (Some c) rest behind e text other f g = absurd (f.over 64 (spelling c ++ behind) e refl)
 compilers w (Some a) None rest behind e text other f g = absurd (g.over 64 (spelling a ++ rest) (sym e) refl)
 compilers w (Some a) (Some c) rest behind e text other f g =
-    ap (λ (l : List Range). Some l) (one_list a c rest behind f.form.0.1 g.form.0.1 f.over g.over (two_cons _ _ _ _ e).1)
+    ap (λ (l : List VersionItem). Some l) (one_list a c rest behind f.form.0.1 g.form.0.1 f.over g.over (two_cons _ _ _ _ e).1)
 
 one_item : (text : List ℕ) (i j : Item) (rest behind : List ℕ) → kind_of i ≡ kind_of j → IsFirst text i rest → IsFirst text j behind → i ≡ j
 one_item text (Name w) j rest behind k f g =
@@ -103,7 +103,7 @@ one_item text (Name w) j rest behind k f g =
     ap (λ (v : List ℕ). Name v) (sym c.0 ∙ d.0) ∙ sym a.same
 one_item text (Versions items) j rest behind k f g =
     let a = at_versions (spelling items ++ rest) j behind (subst (λ (l : List ℕ). IsFirst l j behind) f.cut g) in
-    ap (λ (l : List Range). Versions l) (one_list items a.items rest behind f.form.0 a.are f.over a.over a.cut) ∙ sym a.same
+    ap (λ (l : List VersionItem). Versions l) (one_list items a.items rest behind f.form.0 a.are f.over a.over a.cut) ∙ sym a.same
 one_item text (Variant mark w) j rest behind k f g =
     let a = at_variant mark (w ++ rest) j behind k (subst (λ (l : List ℕ). IsFirst l j behind) f.cut g) in
     let c = name_cut (w ++ rest) w rest refl f.form.0 (over_variant mark w rest f.over) in

@@ -8,7 +8,7 @@ use Rattle.version_order.specs.declared.scan.Place.TheVariants as place
 use Rattle.version_order.proofs.MachineLaws.{run-append}
 use Rattle.version_order.proofs.AcceptLaws.{list_accepted}
 use Rattle.spec_grammar.proofs.Common.{list_all, and_parts, nat_tests, is_start, Begins, run, IsList, spelling, is_white, AreWhite, is_name_byte, is_name_end, is_run_byte, GoesOn, IsOver, IsOverLast, none-some}
-use Rattle.spec_grammar.proofs.Common.{Range, Item, Name, Versions, Variant, Compiler, Key, Caret}
+use Rattle.spec_grammar.proofs.Common.{VersionItem, Item, Name, Versions, Variant, Compiler, Key, Caret}
 use Rattle.spec_grammar.proofs.RunLaws.{true_false, two_cons, cons_none}
 
 -- no LIST goes on with another sign
@@ -51,7 +51,7 @@ list_stuck l b more stuck is =
     ]) in
     none-some a.0 (sym none ∙ a.1)
 
-list_white : (items : List Range) (b : ℕ) → is_white b ≡ true → Begins IsList (spelling items ++ b ∷ []) → ⊥
+list_white : (items : List VersionItem) (b : ℕ) → is_white b ≡ true → Begins IsList (spelling items ++ b ∷ []) → ⊥
 list_white items b h (rest, is) = list_stuck (spelling items) b rest (λ p. white_list p b h) (subst IsList (append_assoc (spelling items) (b ∷ []) rest) is)
 
 white_name : (b : ℕ) → is_white b ≡ true → ((is_name_byte b || is_name_end b) ≡ false) × (is_name_byte b ≡ false) × ((is_name_byte b || b == 64) ≡ false) × (is_run_byte b ≡ false) × ((b == 91) ≡ false)

@@ -2,11 +2,11 @@
 use Rattle.std.specs.Prelude.{◌≡◌, ℕ, true, List, [], ◌∷◌, ◌++◌, map, Option, Some, None, IsSome, if◌then◌else◌, codes}
 use Rattle.std.specs.List.{All}
 use Rattle.std.specs.Str.{bytes_eq}
-use Rattle.version_order.specs.declared.item.Item.{Item as Range}
+use Rattle.version_order.specs.declared.item.Item.{Item as VersionItem}
 use Rattle.variant_values.specs.Texts.{IsInByteOrder}
 use Rattle.spec_grammar.specs.Items.{spell_values, spell_list}
 use Rattle.spec_grammar.specs.Right.{needs_name}
-use Rattle.spec_grammar.specs.Meaning.{Settings}
+use Rattle.spec_grammar.specs.Meaning.{Variants}
 use Rattle.spec_grammar.specs.declared.mode.Mode.{Mode}
 use Rattle.spec_grammar.specs.declared.part.Part.{Part}
 use Rattle.spec_grammar.specs.declared.part.Spec.{Spec}
@@ -37,11 +37,11 @@ variant_text w [] = values_text w []
 variant_text w (v ∷ []) = one_text w v
 variant_text w (v ∷ u ∷ values) = values_text w (v ∷ u ∷ values)
 
-abbrev pub variants_text : Settings → List ℕ
+abbrev pub variants_text : Variants → List ℕ
 variants_text [] = []
 variants_text (v ∷ variants) = 32 ∷ (variant_text v.0 v.1 ++ variants_text variants)
 
-abbrev pub compiler_text : Option (List ℕ × Option (List Range)) → List ℕ
+abbrev pub compiler_text : Option (List ℕ × Option (List VersionItem)) → List ℕ
 compiler_text None = []
 compiler_text (Some c) = 32 ∷ 37 ∷ (c.0 ++ spell_list c.1)
 
@@ -80,7 +80,7 @@ spec_text s = part_text s.top ++ below_text s.below
 abbrev pub AreNamed : Mode → Spec → Type 0
 AreNamed mode s = (needs_name mode ≡ true → IsSome s.top.name) × All (λ p. IsSome p.name) s.below
 
-abbrev pub variant_names : Settings → List (List ℕ)
+abbrev pub variant_names : Variants → List (List ℕ)
 variant_names variants = map (λ v. v.0) variants
 
 -- each part names a variant once, in byte order

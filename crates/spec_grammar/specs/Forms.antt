@@ -14,14 +14,10 @@ abbrev pub begins : List ℕ → List ℕ → Bool
 begins mark text = starts_with nat_eq text mark
 
 abbrev pub is_flags : KeyKind → Bool
-is_flags key.Platform = false
-is_flags key.Os = false
-is_flags key.Arch = false
-is_flags key.Target = false
 is_flags key.Flags = true
-is_flags key.Variant = false
+is_flags other = false
 
--- behind a NAME; `named` says whether the NAME begins a `named`
+-- behind a NAME; `named` says whether the NAME begins a part
 unfoldable pub form_behind : Mode → Bool → List ℕ → List ℕ → Option Form
 form_behind mode named w rest =
     if begins (codes "==") rest then Some Propagation

@@ -1,10 +1,10 @@
--- The items of a text: a NAME that begins a `named`, a constraint, or `^`.
+-- The items of a text: a NAME that begins a part, a constraint, or `^`.
 use Rattle.std.specs.Prelude.{◌≡◌, ℕ, ◌==◌, ◌||◌, Bool, true, false, List, [], ◌∷◌, ◌++◌, drop, Option, Some, None, IfSome, if◌then◌else◌}
 use Rattle.std.specs.List.{AllByRecursion}
 use Rattle.version_order.specs.Signs.{is_start}
 use Rattle.version_order.specs.Fronts.{Begins}
 use Rattle.version_order.specs.Items.{Reads, IsList, spelling}
-use Rattle.version_order.specs.declared.item.Item.{Item as Range}
+use Rattle.version_order.specs.declared.item.Item.{Item as VersionItem}
 use Rattle.spec_grammar.specs.Signs.{IsName, IsValue, is_name_byte, is_value_byte, name_length}
 use Rattle.spec_grammar.specs.Keys.{key_of, Takes}
 use Rattle.spec_grammar.specs.declared.item.Mark.{Mark}
@@ -31,7 +31,7 @@ spell_values [] = []
 spell_values (w ∷ values) = w ++ spell_more values
 
 -- `@LIST`, where there is one
-abbrev pub spell_list : Option (List Range) → List ℕ
+abbrev pub spell_list : Option (List VersionItem) → List ℕ
 spell_list None = []
 spell_list (Some items) = 64 ∷ spelling items
 
@@ -46,7 +46,7 @@ spell Caret = 94 ∷ []
 -- ---- their form
 
 -- items of a LIST
-abbrev pub AreListed : List Range → Type 0
+abbrev pub AreListed : List VersionItem → Type 0
 AreListed items = Reads (spelling items) items
 
 -- one VALUE or more
@@ -65,12 +65,8 @@ HasShape Caret = Unit {0}
 
 -- the values of an item are such as its key takes
 abbrev pub IsTaken : Item → Type 0
-IsTaken (Name w) = Unit {0}
-IsTaken (Versions items) = Unit {0}
-IsTaken (Variant mark w) = Unit {0}
-IsTaken (Compiler w items) = Unit {0}
 IsTaken (Key w values) = Takes (key_of w) values
-IsTaken Caret = Unit {0}
+IsTaken other = Unit {0}
 
 abbrev pub IsItem : Item → Type 0
 IsItem item = HasShape item × IsTaken item
@@ -86,7 +82,7 @@ abbrev pub is_name_end : ℕ → Bool
 is_name_end b = b == 61 || b == 58 || b == 46
 
 -- an item goes on with this byte: a run is always the longest one. A NAME that is directly followed by
--- `=`, `:` or `.` begins no `named`, and `^[` is no `^`.
+-- `=`, `:` or `.` begins no part, and `^[` is no `^`.
 abbrev pub GoesOn : Item → ℕ → Type 0
 GoesOn (Name w) b = (is_name_byte b || is_name_end b) ≡ true
 GoesOn (Versions items) b = Begins IsList (spelling items ++ b ∷ [])

@@ -2,7 +2,7 @@
 use Rattle.std.specs.Prelude.{◌≡◌, ◌<◌, ◌≤◌, ℕ, ◌+◌, ◌^◌, Bool, true, false, List, [], ◌∷◌, ◌++◌, length, take, drop, Some, None, ◌⊎◌, if◌then◌else◌}
 use Rattle.version_order.specs.Fronts.{IsLongestFront}
 use Rattle.version_order.specs.Items.{Reads, IsList, first_empty}
-use Rattle.version_order.specs.declared.item.Item.{Item as Range}
+use Rattle.version_order.specs.declared.item.Item.{Item as VersionItem}
 use Rattle.spec_grammar.specs.Keys.{Takes}
 use Rattle.spec_grammar.specs.Items.{kind_of, kind_at, spell, spell_values, IsItem, AreValues, is_run_byte}
 use Rattle.spec_grammar.specs.declared.key.KeyKind.{KeyKind}
@@ -29,16 +29,15 @@ varied text q more = take (q + 1) text ++ more
 -- ---- a LIST
 
 -- the first n bytes are the longest front that a LIST begins with, and a LIST of these items
-pub record IsListAt (text : List ℕ) (items : List Range) (n : ℕ) : Type 0 where
+pub record IsListAt (text : List ℕ) (items : List VersionItem) (n : ℕ) : Type 0 where
   pub reads : Reads (take n text) items
   pub longest : IsLongestFront IsList text n
 
 abbrev pub IsListFault : List ℕ → SpecFault → Type 0
-IsListFault text (fault.Unsupported q form) = ⊥
 IsListFault text (fault.Expected q) = IsLongestFront IsList text q × (IsList (take q text) → ⊥)
-IsListFault text (fault.BadVersion q) = (items : List Range) × (n : ℕ) × IsListAt text items n × (first_empty 0 items ≡ Some q)
-IsListFault text (fault.TwiceSet q) = ⊥
+IsListFault text (fault.BadVersion q) = (items : List VersionItem) × (n : ℕ) × IsListAt text items n × (first_empty 0 items ≡ Some q)
 IsListFault text fault.OutOfMemory = Unit {0}
+IsListFault text other = ⊥
 
 -- ---- values
 
@@ -69,11 +68,9 @@ pub record AreStuck (key : KeyKind) (text : List ℕ) (q : ℕ) : Type 0 where
   pub cut : take q text ++ tail ≡ spell_values values
 
 abbrev pub IsValuesFault : KeyKind → List ℕ → SpecFault → Type 0
-IsValuesFault key text (fault.Unsupported q form) = ⊥
 IsValuesFault key text (fault.Expected q) = AreStuck key text q
-IsValuesFault key text (fault.BadVersion q) = ⊥
-IsValuesFault key text (fault.TwiceSet q) = ⊥
 IsValuesFault key text fault.OutOfMemory = Unit {0}
+IsValuesFault key text other = ⊥
 
 -- ---- an item
 
@@ -94,15 +91,14 @@ pub record IsStuck (text : List ℕ) (q : ℕ) : Type 0 where
   pub cut : take q text ++ tail ≡ spell item
 
 abbrev pub IsItemFault : List ℕ → SpecFault → Type 0
-IsItemFault text (fault.Unsupported q form) = ⊥
 IsItemFault text (fault.Expected q) = IsStuck text q
 IsItemFault text (fault.BadVersion q) = (item : Item) × (rest : List ℕ) × IsFirst text item rest × (empty_place item ≡ Some q)
-IsItemFault text (fault.TwiceSet q) = ⊥
 IsItemFault text fault.OutOfMemory = Unit {0}
+IsItemFault text other = ⊥
 
 -- ---- an item that may stand there
 
-pub record IsTaken (mode : Mode) (place : Before) (gap : Bool) (text : List ℕ) (item : Item) (n : ℕ) : Type 0 where
+pub record IsAllowedItem (mode : Mode) (place : Before) (gap : Bool) (text : List ℕ) (item : Item) (n : ℕ) : Type 0 where
   pub cut : IsCutOff text item n
   pub stands : may_stand mode place gap (kind_of item) ≡ true
 
@@ -125,23 +121,19 @@ pub record IsStuckHere (mode : Mode) (place : Before) (gap : Bool) (text : List 
 abbrev pub refused_place : Mode → Before → Bool → Kind → ℕ → ℕ
 refused_place mode place gap kind.Name n = if may_stand mode place gap kind.Key then n else 0
 refused_place mode place gap kind.Key n = if may_stand mode place gap kind.Name then n else 0
-refused_place mode place gap kind.Versions n = 0
-refused_place mode place gap (kind.Variant mark) n = 0
-refused_place mode place gap kind.Compiler n = 0
-refused_place mode place gap kind.Caret n = 0
+refused_place mode place gap other n = 0
 
-abbrev pub IsRefused : Mode → Before → Bool → List ℕ → SpecFault → Type 0
-IsRefused mode place gap text (fault.Unsupported q form) = ⊥
-IsRefused mode place gap text (fault.Expected q) = IsStuckHere mode place gap text q
-IsRefused mode place gap text (fault.BadVersion q) = (item : Item) × (rest : List ℕ) × IsFirst text item rest × (may_stand mode place gap (kind_of item) ≡ true) × (empty_place item ≡ Some q)
-IsRefused mode place gap text (fault.TwiceSet q) = ⊥
-IsRefused mode place gap text fault.OutOfMemory = Unit {0}
+abbrev pub IsItemFaultHere : Mode → Before → Bool → List ℕ → SpecFault → Type 0
+IsItemFaultHere mode place gap text (fault.Expected q) = IsStuckHere mode place gap text q
+IsItemFaultHere mode place gap text (fault.BadVersion q) = (item : Item) × (rest : List ℕ) × IsFirst text item rest × (may_stand mode place gap (kind_of item) ≡ true) × (empty_place item ≡ Some q)
+IsItemFaultHere mode place gap text fault.OutOfMemory = Unit {0}
+IsItemFaultHere mode place gap text other = ⊥
 
 -- what is wrong with the item, or what form it begins that is not read
 abbrev pub IsFaultHere : Mode → Before → Bool → List ℕ → SpecFault → Type 0
 IsFaultHere mode place gap text (fault.Unsupported q form) = (q ≡ 0) × (form_at mode (may_name mode place gap) text ≡ Some form)
-IsFaultHere mode place gap text (fault.Expected q) = (form_at mode (may_name mode place gap) text ≡ None) × IsRefused mode place gap text (fault.Expected q)
-IsFaultHere mode place gap text (fault.BadVersion q) = (form_at mode (may_name mode place gap) text ≡ None) × IsRefused mode place gap text (fault.BadVersion q)
+IsFaultHere mode place gap text (fault.Expected q) = (form_at mode (may_name mode place gap) text ≡ None) × IsItemFaultHere mode place gap text (fault.Expected q)
+IsFaultHere mode place gap text (fault.BadVersion q) = (form_at mode (may_name mode place gap) text ≡ None) × IsItemFaultHere mode place gap text (fault.BadVersion q)
 IsFaultHere mode place gap text (fault.TwiceSet q) = ⊥
 IsFaultHere mode place gap text fault.OutOfMemory = Unit {0}
 

@@ -35,21 +35,21 @@ put_all texts (w ∷ values) = put_all (with_text texts (truth w)) values
 abbrev pub empty_part : Option (List ℕ) → Part
 empty_part w = record { name = w; versions = None; variants = []; compiler = None; platform = None; os = None; targets = None }
 
-abbrev pub Settings : Type 0
-Settings = List (List ℕ × List (List ℕ))
+abbrev pub Variants : Type 0
+Variants = List (List ℕ × List (List ℕ))
 
-abbrev pub has_variant : List ℕ → Settings → Bool
+abbrev pub has_variant : List ℕ → Variants → Bool
 has_variant w variants = list_any (λ v. bytes_eq v.0 w) variants
 
-abbrev pub set_at : Ordering → (List ℕ × List (List ℕ)) → (List ℕ × List (List ℕ)) → Settings → Settings → Settings
+abbrev pub set_at : Ordering → (List ℕ × List (List ℕ)) → (List ℕ × List (List ℕ)) → Variants → Variants → Variants
 set_at Less new v variants more = new ∷ v ∷ variants
 set_at Equal new v variants more = new ∷ v ∷ variants
 set_at Greater new v variants more = v ∷ more
 
 -- a variant more, in byte order of names
-unfoldable pub set : (List ℕ × List (List ℕ)) → Settings → Settings
-set new [] = new ∷ []
-set new (v ∷ variants) = set_at (slice_cmp nat_cmp new.0 v.0) new v variants (set new variants)
+unfoldable pub with_variant : (List ℕ × List (List ℕ)) → Variants → Variants
+with_variant new [] = new ∷ []
+with_variant new (v ∷ variants) = set_at (slice_cmp nat_cmp new.0 v.0) new v variants (with_variant new variants)
 
 -- whether a change was made, and if so that it led to the next value, which then is there
 abbrev pub Becomes : {T : Type 0} → Option T → Bool → T → Type 0
@@ -58,7 +58,7 @@ Becomes next false new = next ≡ None
 
 -- each of these gives None where the part has the same already
 abbrev pub set_variant : List ℕ → List (List ℕ) → Part → Option Part
-set_variant w values part = if has_variant w part.variants then None else Some (record part { variants = set (w, values) part.variants })
+set_variant w values part = if has_variant w part.variants then None else Some (record part { variants = with_variant (w, values) part.variants })
 
 abbrev pub set_platform : List ℕ → Part → Option Part
 set_platform w part = if is_some part.platform then None else Some (record part { platform = Some (truth w) })

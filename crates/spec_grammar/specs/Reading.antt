@@ -9,7 +9,7 @@ use Rattle.spec_grammar.specs.Forms.{form_at}
 use Rattle.spec_grammar.specs.declared.fault.Form.{Form}
 use Rattle.spec_grammar.specs.Meaning.{empty_part, take_item, finish}
 use Rattle.spec_grammar.specs.declared.item.Item.{Item}
-use Rattle.spec_grammar.specs.declared.item.Item.TheVariants.{Name, Versions, Variant, Compiler, Key, Caret}
+use Rattle.spec_grammar.specs.declared.item.Item.TheVariants.{Versions, Compiler}
 use Rattle.spec_grammar.specs.declared.mode.Mode.{Mode}
 use Rattle.spec_grammar.specs.declared.mode.Before.{Before}
 use Rattle.spec_grammar.specs.declared.part.Part.{Part}
@@ -18,13 +18,9 @@ use Rattle.spec_grammar.specs.declared.draft.Draft.{Draft}
 
 -- the place of the first empty range of an item, from the item's first byte
 abbrev pub empty_place : Item → Option ℕ
-empty_place (Name w) = None
 empty_place (Versions items) = first_empty 1 items
-empty_place (Variant mark w) = None
-empty_place (Compiler w None) = None
 empty_place (Compiler w (Some items)) = first_empty (length w + 2) items
-empty_place (Key w values) = None
-empty_place Caret = None
+empty_place other = None
 
 -- no range of the step's item is empty
 abbrev pub HasNoEmpty : Step → Type 0

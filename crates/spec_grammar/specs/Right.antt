@@ -44,7 +44,7 @@ may_have_all Provision = false
 
 -- ---- where an item may stand
 
--- a NAME that begins a `named`; `gap` says whether white space stands before it
+-- a NAME that begins a part; `gap` says whether white space stands before it
 abbrev pub may_name : Mode → Before → Bool → Bool
 may_name mode before.Start gap = true
 may_name mode before.Caret gap = true
@@ -93,12 +93,8 @@ spell_steps [] = []
 spell_steps (s ∷ steps) = spell_step s ++ spell_steps steps
 
 abbrev pub before_item : Item → Before
-before_item (item.Name w) = before.Inside
-before_item (item.Versions items) = before.Inside
-before_item (item.Variant mark w) = before.Inside
-before_item (item.Compiler w items) = before.Inside
-before_item (item.Key w values) = before.Inside
 before_item item.Caret = before.Caret
+before_item other = before.Inside
 
 -- what stands before an item, by the item before it
 abbrev pub before_of : Option Item → Before

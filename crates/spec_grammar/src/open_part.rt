@@ -1,7 +1,7 @@
 //! Parts while they are read.
 
 ghost use Rattle.std.specs.Prelude.{◌≡◌, false, IfOk, OnOk};
-ghost use Rattle.spec_grammar.specs.Meaning.{empty_part, has_variant, set};
+ghost use Rattle.spec_grammar.specs.Meaning.{empty_part, has_variant, with_variant};
 
 use crate::{Part, TargetItem};
 use plain_data::{List, Word};
@@ -60,7 +60,7 @@ impl OpenPart {
     /// Sets a variant that is not set.
     pub(crate) fn put_variant(&mut self, name: Word, values: ValueSet) -> Result<(), AllocError>
         requires { has_variant name self.old.variants ≡ false }
-        ensures { OnOk result (self.new ≡ record self.old { variants = set (name, values) self.old.variants }) }
+        ensures { OnOk result (self.new ≡ record self.old { variants = with_variant (name, values) self.old.variants }) }
     {
         self.variants.insert(name, values)?;
         Ok(())

@@ -4,16 +4,16 @@ ghost use Rattle.std.specs.Prelude.{◌≡◌, ◌<◌, ◌≤◌, ◌+◌, ◌^
 ghost use Rattle.version_order.specs.Items.{first_empty};
 ghost use Rattle.spec_grammar.specs.Signs.{name_length};
 ghost use Rattle.spec_grammar.specs.Items.{kind_at, kind_by, kind_of, mark_byte, starts_with_byte};
-ghost use Rattle.spec_grammar.specs.Locals.{IsListAt, IsListFault, IsCutOff, IsItemFault, IsTaken, IsRefused, refused_place, moved, Fits};
+ghost use Rattle.spec_grammar.specs.Locals.{IsListAt, IsListFault, IsCutOff, IsItemFault, IsAllowedItem, IsItemFaultHere, refused_place, moved, Fits};
 
 use crate::SpecFault;
 use crate::item::{Item, Kind, Mark};
 use crate::key::key_of;
 use crate::mode::{Before, Mode};
-use crate::signs::{is_start, name_length, word};
+use crate::signs::{name_length, word};
 use crate::values::{start_run, values_from};
 use std::alloc::Global;
-use version_order::{VersionSet, VersionSetFault, list_front};
+use version_order::{VersionSet, VersionSetFault, is_start, list_front};
 
 /// A fault, its place counted from so many bytes earlier.
 pub(crate) fn moved(by: usize, fault: SpecFault) -> SpecFault
@@ -217,8 +217,8 @@ pub(crate) fn read_item(
     gap: bool,
     text: &[u8],
 ) -> Result<(Item, usize), SpecFault>
-    ensures found { IfOk result (λ found. IsTaken mode before gap text.now found.0 found.1) }
-    ensures fault { IfErr result (λ fault. IsRefused mode before gap text.now fault) }
+    ensures found { IfOk result (λ found. IsAllowedItem mode before gap text.now found.0 found.1) }
+    ensures fault { IfErr result (λ fault. IsItemFaultHere mode before gap text.now fault) }
 {
     let Some(kind) = kind_at(text) else {
         return Err(SpecFault::Expected(0));
@@ -226,8 +226,5 @@ pub(crate) fn read_item(
     if !mode.may_stand(before, gap, kind) {
         return Err(SpecFault::Expected(refused_at(mode, before, gap, kind, text) as u64));
     }
-    match item(alloc, kind, text) {
-        Ok(found) => Ok(found),
-        Err(fault) => Err(fault),
-    }
+    item(alloc, kind, text)
 }

@@ -3,7 +3,7 @@
 ghost use Rattle.std.specs.Prelude.{◌≡◌, None, IfOk, IfErr};
 ghost use Rattle.spec_grammar.specs.Right.{before_item, may_name};
 ghost use Rattle.spec_grammar.specs.Forms.{form_at};
-ghost use Rattle.spec_grammar.specs.Locals.{IsTaken, IsFaultHere};
+ghost use Rattle.spec_grammar.specs.Locals.{IsAllowedItem, IsFaultHere};
 ghost use Rattle.spec_grammar.specs.Reading.{Spells, begin};
 ghost use Rattle.spec_grammar.specs.Faults.{IsFault};
 
@@ -35,16 +35,13 @@ fn next_item(
     gap: bool,
     text: &[u8],
 ) -> Result<(Item, usize), SpecFault>
-    ensures found { IfOk result (λ found. IsTaken mode before gap text.now found.0 found.1 × (form_at mode (may_name mode before gap) text.now ≡ None)) }
+    ensures found { IfOk result (λ found. IsAllowedItem mode before gap text.now found.0 found.1 × (form_at mode (may_name mode before gap) text.now ≡ None)) }
     ensures fault { IfErr result (λ fault. IsFaultHere mode before gap text.now fault) }
 {
     if let Some(form) = form_at(mode, mode.may_name(before, gap), text) {
         return Err(SpecFault::Unsupported(0, form));
     }
-    match read_item(alloc, mode, before, gap, text) {
-        Ok(found) => Ok(found),
-        Err(fault) => Err(fault),
-    }
+    read_item(alloc, mode, before, gap, text)
 }
 
 /// The specs that a text spells, read into a draft that has nothing yet.

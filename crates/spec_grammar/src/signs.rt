@@ -3,22 +3,17 @@
 ghost use Rattle.std.specs.Prelude.{◌≡◌, ◌≤◌, length, IfOk};
 ghost use Rattle.std.specs.List.{prefix_len};
 ghost use Rattle.std.specs.Str.{IsUtf8};
-ghost use Rattle.version_order.specs.Signs.{is_start};
 ghost use Rattle.spec_grammar.specs.Signs.{is_white, is_name_byte, is_value_byte, name_length};
 
 use plain_data::Word;
 use std::alloc::{AllocError, Global};
+use version_order::is_start;
 
-fn is_white(b: u8) -> bool
+/// Whether the byte is white space: space, tab, line feed or carriage return.
+pub fn is_white(b: u8) -> bool
     ensures { result ≡ is_white b }
 {
     b == b' ' || b == b'\t' || b == b'\n' || b == b'\r'
-}
-
-pub(crate) fn is_start(b: u8) -> bool
-    ensures { result ≡ is_start b }
-{
-    b.is_ascii_alphabetic() || b.is_ascii_digit() || b == b'_'
 }
 
 fn is_name_byte(b: u8) -> bool

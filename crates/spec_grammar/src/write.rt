@@ -94,7 +94,9 @@ fn write_variant(name: &Word, values: &[Word], out: &mut Vec<u8>) -> Result<(), 
     write_key(name, values, out)
 }
 
-fn write_variants(variants: &[(Word, ValueSet)], out: &mut Vec<u8>) -> Result<(), AllocError>
+/// Appends variants, each after a space: `+v` for the set of `true` alone, `~v` for `false` alone, and
+/// `v=a,b` for any other. After an error some of it was appended.
+pub fn write_variants(variants: &[(Word, ValueSet)], out: &mut Vec<u8>) -> Result<(), AllocError>
     ensures { OnOk result (out.new.items ≡ out.old.items ++ variants_text variants.now) }
 {
     for variant in variants {

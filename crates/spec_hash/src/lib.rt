@@ -5,7 +5,7 @@
 //! It stands on the crate `sha2`. It knows nothing of what the hashed texts mean.
 #![tactic(auto)]
 
-ghost use Rattle.std.specs.Prelude.{◌≡◌, ◌<◌, Some, None, IsTrue, length, slice_index, if◌then◌else◌};
+ghost use Rattle.std.specs.Prelude.{◌≡◌, ◌<◌, ◌∷◌, [], codes, Some, None, IsTrue, length, slice_index, if◌then◌else◌};
 ghost use Rattle.std.specs.List.{list_all};
 ghost use Rattle.spec_hash.specs.Base32.{letter_of, five_bits, hash_of, is_letter, is_hash, base32};
 
@@ -130,3 +130,11 @@ fn spell(bytes: &[u8]) -> [u8; LETTERS]
     }
     out
 }
+
+/// Two rows of base 32 by computation. The first 48 bits of the second are `foobar`, which RFC 4648
+/// (section 10) spells `MZXW6YTBOI`.
+#[tactic(auto, unfolding(crate::specs::Base32::base32))]
+pub fn worked_letters()
+    ensures letters { base32 (0 ∷ 10 ∷ 20 ∷ 30 ∷ 40 ∷ 50 ∷ 60 ∷ 70 ∷ 80 ∷ 90 ∷ 100 ∷ 110 ∷ 120 ∷ 130 ∷ 140 ∷ 150 ∷ 160 ∷ 170 ∷ 180 ∷ 190 ∷ []) ≡ codes "aafbihrigi6emuc2mrxhraums2qkvnf6" }
+    ensures rfc { base32 (102 ∷ 111 ∷ 111 ∷ 98 ∷ 97 ∷ 114 ∷ 0 ∷ 0 ∷ 0 ∷ 0 ∷ 0 ∷ 0 ∷ 0 ∷ 0 ∷ 0 ∷ 0 ∷ 0 ∷ 0 ∷ 0 ∷ 0 ∷ []) ≡ codes "mzxw6ytboiaaaaaaaaaaaaaaaaaaaaaa" }
+{}

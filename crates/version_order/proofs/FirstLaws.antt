@@ -1,26 +1,16 @@
 -- What the first item of a text is.
-use Rattle.std.proofs.Common.{◌≡◌, ℕ, suc, ◌≤◌, ◌+◌, true, false, List, [], ◌∷◌, ◌++◌, length, take, Option, Some, None, refl, ap, ◌∙◌, arith, inl, inr, append_assoc}
+use Rattle.std.proofs.Common.{◌≡◌, ℕ, suc, ◌≤◌, ◌+◌, true, false, List, [], ◌∷◌, ◌++◌, length, Option, Some, None, refl, ap, subst, ◌∙◌, arith, inl, inr, append_assoc}
 use Rattle.std.specs.Prelude.{◌==◌, IfSome}
 use Rattle.std.specs.List.{list_all, prefix_len}
 use Rattle.std.proofs.lemmas.Bool.{cases_Bool, and_parts}
 use Rattle.std.proofs.lemmas.Bool.Decides.{nat_tests}
 use Rattle.std.proofs.lemmas.List.{length-drop}
 use Rattle.version_order.specs.Signs.{is_start, is_version_byte, IsVersion, AreBytes}
-use Rattle.version_order.specs.Items.{written, spell, spell_more, IsItem}
+use Rattle.version_order.specs.Items.{written, spell, spell_more, IsItem, IsList}
 use Rattle.version_order.specs.Cut.{front, behind, end_of, after_low, first_item}
 use Rattle.version_order.specs.declared.item.Item.{Item}
 use Rattle.version_order.specs.declared.item.Item.TheVariants.{Exact, Prefix, Range}
 use Rattle.version_order.proofs.VersionLaws.{version_bytes}
-
--- the longest front passes
-pub front_bytes : (text : List ℕ) → AreBytes (take (prefix_len is_version_byte text) text)
-front_bytes [] = refl
-front_bytes (b ∷ rest) = elim (cases_Bool (is_version_byte b)) [
-  | inl is ↦
-      let one : 1 + prefix_len is_version_byte rest ≡ suc (prefix_len is_version_byte rest) = omega arith in
-      rw (is, one, is) (front_bytes rest)
-  | inr other ↦ rw other refl
-]
 
 start_other : (b : ℕ) → is_start b ≡ true → (b == 61) ≡ false
 start_other b h = grind (arith, nat_tests)
@@ -113,3 +103,19 @@ first_item-le (b ∷ rest) = elim (cases_Bool (b == 61)) [
   | inl is ↦ rw is (omega (arith, behind-le rest))
   | inr other ↦ rw other (omega (arith, after_low-le (front (b ∷ rest)) (behind (b ∷ rest)), behind-le (b ∷ rest)))
 ]
+
+-- the first item of a LIST is a right one
+pub first_right : (text : List ℕ) → IsList text → IsItem (first_item text).0
+first_right text ([], r) = absurd (omega (arith, r.some))
+first_right text (x ∷ items, r) =
+    let first : first_item text ≡ (x, spell_more items) = ap first_item r.spelled ∙ first_item_is x items r.each.0 in
+    rw first r.each.0
+
+-- the version behind `=`
+pub exact_right : (text rest : List ℕ) → text ≡ 61 ∷ rest → IsList text → IsVersion (front rest)
+unfolding first_item
+exact_right text rest whole list = first_right (61 ∷ rest) (subst IsList whole list)
+
+-- an item that does not begin with `=`
+pub low_right : (text : List ℕ) → first_item text ≡ after_low (front text) (behind text) → IsList text → IsItem (after_low (front text) (behind text)).0
+low_right text first list = subst (λ (p : Item × List ℕ). IsItem p.0) first (first_right text list)

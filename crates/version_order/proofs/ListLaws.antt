@@ -1,5 +1,6 @@
 -- The machine tells a LIST, and what the place where it stops says of a text.
 use Rattle.std.proofs.Common.{◌≡◌, ◌<◌, ◌≤◌, ◌+◌, true, false, ℕ, List, [], ◌∷◌, length, take, Some, refl, sym, ap, subst, ◌∙◌, arith, inl, inr}
+use Rattle.std.proofs.lemmas.Option.{same_Some}
 use Rattle.std.specs.Prelude.{◌⊎◌}
 use Rattle.std.proofs.lemmas.List.{take_all}
 use Rattle.std.proofs.lemmas.Bool.{cases_lt}
@@ -28,9 +29,6 @@ list_tells = record { accepts = list_accepted; completes = list_completes; ends 
 
 -- ---- where it stops
 
-place_is : (s t : Place) → Some s ≡ Some t → s ≡ t
-place_is s t e = cc
-
 pub bad : (text : List ℕ) (place : Place) (n : ℕ) → Stops text place n → (n < length text) ⊎ (is_final place ≡ false) → IsBadAt IsList text n
 bad text place n stops (inl lt) = bad_at_stop step list_tells text n place lt stops.reached (stops.stuck lt)
 bad text place n stops (inr open_) =
@@ -49,13 +47,6 @@ pub more-length : (text : List ℕ) (items : List Item) → Reads text items →
 more-length text [] r = absurd (omega (arith, r.some))
 more-length text (x ∷ items) r = omega (arith, ap length r.spelled)
 
--- what is read of a LIST
-pub read_all : (text : List ℕ) (place : Place) (n : ℕ) (items : List Item) → Stops text place n → length text ≤ n → is_final place ≡ true → ((all : List Item) → Reads text all → items ≡ all)
-    → Reads text items
-read_all text place n items stops le final only =
-    let is = good text place n stops le final in
-    subst (λ (all : List Item). Reads text all) (sym (only is.0 is.1)) is.1
-
 -- ---- how far a LIST goes
 
 pub stops_longest : (text : List ℕ) (place : Place) (n : ℕ) → Stops text place n → IsLongestFront IsList text n
@@ -67,5 +58,5 @@ stops_longest text place n stops = elim (cases_lt n (length text)) [
 pub stops_whole : (text : List ℕ) (place : Place) (n : ℕ) → Stops text place n → IsList (take n text) → is_final place ≡ true
 stops_whole text place n stops is =
     let a = list_accepted (take n text) is in
-    let same : place ≡ a.0 = place_is place a.0 (sym stops.reached ∙ a.1) in
+    let same : place ≡ a.0 = same_Some place a.0 (sym stops.reached ∙ a.1) in
     rw same a.2

@@ -1,5 +1,6 @@
 -- What the machine accepts is a LIST.
 use Rattle.std.proofs.Common.{◌≡◌, ℕ, true, List, [], ◌∷◌, ◌++◌, Option, Some, None, refl, sym, ap, subst, ◌∙◌, arith, inl, inr, append_assoc}
+use Rattle.std.proofs.lemmas.Option.{same_Some}
 use Rattle.std.specs.Prelude.{◌==◌, ◌⊎◌, IfSome, option_and_then}
 use Rattle.std.specs.List.{AllByRecursion}
 use Rattle.std.proofs.lemmas.Bool.{cases_Bool, eqb-true}
@@ -80,9 +81,6 @@ low-cons : (b : ℕ) (rest : List ℕ) → is_version_byte b ≡ true → Rest p
 low-cons b rest h (inl r) = inl (inside-cons b rest h r)
 low-cons b rest h (inr (w, high, items, bytes, upper, are, e)) = inr (b ∷ w, high, items, bytes-cons b w h bytes, upper, are, cc)
 
-some_is : (s t : Place) → Some s ≡ Some t → s ≡ t
-some_is s t e = cc
-
 -- one byte more in front
 prepend : (s : Place) (g : Sign) (b : ℕ) (rest : List ℕ) → Says b g → RestAfter (after s g) rest → Rest s (b ∷ rest)
 prepend place.Item Start b rest h (inl (w, items, bytes, are, e)) =
@@ -109,7 +107,7 @@ prepend s g b rest h r = absurd r
 -- what stands after the states that a text goes through
 back : (s t : Place) (text rest : List ℕ) → run step s text ≡ Some t → Rest t rest → Rest s (text ++ rest)
 unfolding step
-back s t [] rest e r = subst (λ (u : Place). Rest u rest) (sym (some_is s t e)) r
+back s t [] rest e r = subst (λ (u : Place). Rest u rest) (sym (same_Some s t e)) r
 back s t (b ∷ text) rest e r =
     prepend s (sign_of b) b (text ++ rest) (says b) (elim (after s (sign_of b)) as (λ o. option_and_then (λ u. run step u text) o ≡ Some t → RestAfter o (text ++ rest)) [
       | None ↦ λ no. absurd cc

@@ -1,5 +1,6 @@
 -- Components are the same exactly where neither is above the other.
 use Rattle.std.proofs.Common.{◌≡◌, ℕ, false, cond, List, Option, Some, None, refl, sym, ap, ◌∙◌, inl, inr, codes, arith}
+use Rattle.std.proofs.lemmas.Option.{same_Some, none-some}
 use Rattle.std.specs.Prelude.{◌==◌, if◌then◌else◌}
 use Rattle.std.specs.Str.{bytes_eq}
 use Rattle.std.specs.Bool.{Decides}
@@ -10,12 +11,6 @@ use Rattle.std.proofs.lemmas.Map.Text.{is_eq-slice_cmp}
 use Rattle.std.proofs.lemmas.Slice.Eq.{bytes_eq-Decides}
 use Rattle.version_order.specs.Component.{word_of, number_of, rank_of, rank_by, rank_cmp, component_cmp}
 use Rattle.version_order.specs.Prefix.{is_same, is_same_by}
-
-some_same : (m n : ℕ) → Some m ≡ Some n → m ≡ n
-some_same m n e = cc
-
-none_some : (n : ℕ) → None ≡ Some n → ⊥
-none_some n e = cc
 
 -- ---- the six words, by their places
 
@@ -38,7 +33,7 @@ one_word piece text n w others is none later e = elim (cases_Bool (bytes_eq piec
   | inl here ↦
       let same : piece ≡ text = (bytes_eq-Decides piece text).0 here in
       let place : Some n ≡ Some w = rw here at e in
-      (same ∙ is ∙ ap spelled (some_same n w place), ap number_of same ∙ none)
+      (same ∙ is ∙ ap spelled (same_Some n w place), ap number_of same ∙ none)
   | inr other ↦ later (rw other at e)
 ]
 
@@ -50,7 +45,7 @@ word_is piece w =
     (one_word piece (codes "master") 4 w _ refl refl
     (one_word piece (codes "head") 3 w _ refl refl
     (one_word piece (codes "trunk") 2 w _ refl refl
-    (one_word piece (codes "stable") 1 w _ refl refl (λ e. absurd (none_some w e)))))))
+    (one_word piece (codes "stable") 1 w _ refl refl (λ e. absurd (none-some w e)))))))
 
 -- ---- equal ranks
 
@@ -61,7 +56,7 @@ equal_words : (a b : List ℕ) (i j : ℕ) → word_of a ≡ Some i → word_of 
 equal_words a b i j x y =
     let places : Decides (i == j) (a ≡ b) = (
       λ e. (word_is a i x).0 ∙ ap spelled ((Decides-eqb i j).0 e) ∙ sym (word_is b j y).0,
-      λ e. (Decides-eqb i j).1 (some_same i j (sym x ∙ ap word_of e ∙ y)),
+      λ e. (Decides-eqb i j).1 (same_Some i j (sym x ∙ ap word_of e ∙ y)),
     ) in
     same_from_decides (bytes_eq a b) (i == j) (bytes_eq-Decides a b) places ∙ equal_numbers i j
 
@@ -72,7 +67,7 @@ other_bytes a b other = elim (cases_Bool (bytes_eq a b)) [
 ]
 
 not_number : {A : Type 0} (a : List ℕ) (i m : ℕ) → word_of a ≡ Some i → number_of a ≡ Some m → A
-not_number a i m x e = absurd (none_some m (sym (word_is a i x).1 ∙ e))
+not_number a i m x e = absurd (none-some m (sym (word_is a i x).1 ∙ e))
 
 by_ranks : (a b : List ℕ) (i j m n : Option ℕ) → word_of a ≡ i → word_of b ≡ j → number_of a ≡ m → number_of b ≡ n
     → is_same_by m n a b ≡ is_eq (rank_cmp (rank_by i m a) (rank_by j n b))
@@ -80,11 +75,11 @@ by_ranks a b None None None None x y p q = sym (is_eq-slice_cmp a b)
 by_ranks a b None None None (Some n) x y p q = refl
 by_ranks a b None None (Some m) None x y p q = refl
 by_ranks a b None None (Some m) (Some n) x y p q = equal_numbers m n
-by_ranks a b None (Some j) None None x y p q = other_bytes a b (λ e. none_some j (sym x ∙ ap word_of e ∙ y))
+by_ranks a b None (Some j) None None x y p q = other_bytes a b (λ e. none-some j (sym x ∙ ap word_of e ∙ y))
 by_ranks a b None (Some j) None (Some n) x y p q = not_number b j n y q
 by_ranks a b None (Some j) (Some m) None x y p q = refl
 by_ranks a b None (Some j) (Some m) (Some n) x y p q = not_number b j n y q
-by_ranks a b (Some i) None None None x y p q = other_bytes a b (λ e. none_some i (sym y ∙ sym (ap word_of e) ∙ x))
+by_ranks a b (Some i) None None None x y p q = other_bytes a b (λ e. none-some i (sym y ∙ sym (ap word_of e) ∙ x))
 by_ranks a b (Some i) None None (Some n) x y p q = refl
 by_ranks a b (Some i) None (Some m) n x y p q = not_number a i m x p
 by_ranks a b (Some i) (Some j) None None x y p q = equal_words a b i j x y

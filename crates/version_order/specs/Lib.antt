@@ -1,3 +1,4 @@
+-- what contracts of public calls say
 pub mod Signs
 pub mod Pieces
 pub mod Component
@@ -5,9 +6,11 @@ pub mod Order
 pub mod Prefix
 pub mod Items
 pub mod Sets
-pub mod Cut
-pub mod Scan
 pub mod Fronts
-pub mod Machine
 pub mod Faults
-pub mod Standing
+-- what the readers of the grammar above cite of a LIST
+pub mod Machine
+pub mod Scan
+-- inside
+pub mod Cut
+pub mod HeldRanks

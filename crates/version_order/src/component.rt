@@ -6,13 +6,13 @@ ghost use Rattle.std.specs.List.{list_all, AllPass};
 ghost use Rattle.version_order.specs.Component.{word_of, is_number, value_of, number_of, rank_of, component_cmp};
 ghost use Rattle.version_order.specs.Order.{stage_of};
 ghost use Rattle.version_order.specs.Prefix.{is_same};
-ghost use Rattle.version_order.specs.Standing.{seen_rank};
+ghost use Rattle.version_order.specs.HeldRanks.{seen_rank};
 
 use std::cmp::Ordering;
 
-/// Where a component stands, from the lowest.
+/// The rank of a component: where it stands, from the lowest.
 #[derive(Clone, Copy, PartialEq, Eq, PartialOrd, Ord)]
-enum Standing<'a> {
+enum Rank<'a> {
     Other(&'a [u8]),
     Number(u64),
     Word(u8),
@@ -96,13 +96,13 @@ pub(crate) fn number_of(piece: &[u8]) -> Option<u64>
 
 /// The rank of a component.
 #[tactic(auto, unfolding(crate::specs::Component::rank_of))]
-fn standing_of(piece: &[u8]) -> Standing<'_>
+fn rank_of(piece: &[u8]) -> Rank<'_>
     ensures { seen_rank result ≡ rank_of piece.now }
 {
     match (word_of(piece), number_of(piece)) {
-        (Some(word), _) => Standing::Word(word),
-        (None, Some(number)) => Standing::Number(number),
-        (None, None) => Standing::Other(piece),
+        (Some(word), _) => Rank::Word(word),
+        (None, Some(number)) => Rank::Number(number),
+        (None, None) => Rank::Other(piece),
     }
 }
 
@@ -110,7 +110,7 @@ fn standing_of(piece: &[u8]) -> Standing<'_>
 pub(crate) fn compare_components(a: &[u8], b: &[u8]) -> Ordering
     ensures { result ≡ component_cmp a.now b.now }
 {
-    standing_of(a).cmp(&standing_of(b))
+    rank_of(a).cmp(&rank_of(b))
 }
 
 /// Whether two components are the same: `01` is the same as `1`.

@@ -29,6 +29,7 @@ mod write_set;
 
 pub use fault::{VersionFault, VersionSetFault};
 pub use item::Item;
+pub use reading::is_start;
 pub use scan::{Place, Sign, list_front, list_machine};
 pub use set::VersionSet;
 pub use set_theorems::{set_laws, set_reading_laws, worked_faults, worked_sets};

@@ -1,12 +1,12 @@
 //! The items that a text writes.
 
-ghost use Rattle.std.specs.Prelude.{◌≡◌, ◌<◌, ◌≤◌, ◌^◌, List, length, IfOk, IfErr, None};
+ghost use Rattle.std.specs.Prelude.{◌≡◌, ◌<◌, ◌≤◌, ◌^◌, length, IfOk, IfErr, IfSome, None, MatchOption, ◌∷◌};
 ghost use Rattle.std.specs.List.{prefix_len};
-ghost use Rattle.version_order.specs.Signs.{is_version_byte, AreBytes};
-ghost use Rattle.version_order.specs.Cut.{end_of, first_item, front, behind};
-ghost use Rattle.version_order.specs.Items.{Reads, written, spell, spell_more, first_empty};
+ghost use Rattle.version_order.specs.Signs.{is_version_byte, IsVersion};
+ghost use Rattle.version_order.specs.Cut.{end_of, after_low, first_item, front, behind};
+ghost use Rattle.version_order.specs.Items.{Reads, IsItem, IsList, written, spell, spell_more, first_empty};
 ghost use Rattle.version_order.specs.Faults.{IsSetFault};
-ghost use Rattle.version_order.specs.declared.item.Item.{Item};
+ghost use Rattle.version_order.specs.declared.item.Item;
 
 use crate::reading::is_version_byte;
 use crate::scan::{is_final, scan};
@@ -27,14 +27,13 @@ fn version_length(text: &[u8]) -> usize
 fn cut(text: &[u8]) -> (&[u8], &[u8])
     ensures front { result.0.now ≡ front text.now }
     ensures behind { result.1.now ≡ behind text.now }
-    ensures bytes { AreBytes result.0.now }
 {
     text.split_at(version_length(text))
 }
 
 /// The end of a range.
 fn end_of(alloc: Global, bytes: &[u8]) -> Result<Option<Version>, AllocError>
-    requires { AreBytes bytes.now }
+    requires { IfSome (end_of bytes.now) IsVersion }
     ensures { IfOk result (λ end. end ≡ end_of bytes.now) }
 {
     if bytes.is_empty() {
@@ -43,17 +42,22 @@ fn end_of(alloc: Global, bytes: &[u8]) -> Result<Option<Version>, AllocError>
     Ok(Some(Version::of_bytes(alloc, bytes)?))
 }
 
-/// The first item, and what stands behind it.
-#[tactic(auto, unfolding(crate::specs::Cut::first_item))]
-fn first_item(alloc: Global, text: &[u8]) -> Result<(Item, &[u8]), AllocError>
-    ensures item { IfOk result (λ found. found.0 ≡ (first_item text.now).0) }
-    ensures rest { IfOk result (λ found. found.1.now ≡ (first_item text.now).1) }
+/// The item that `=` begins, and what stands behind it.
+fn exact_item(alloc: Global, text: &[u8]) -> Result<(Item, &[u8]), AllocError>
+    requires { IsVersion (front text.now) }
+    ensures item { IfOk result (λ found. found.0 ≡ Item.Exact (front text.now)) }
+    ensures rest { IfOk result (λ found. found.1.now ≡ behind text.now) }
 {
-    if let [b'=', rest @ ..] = text {
-        let (version, rest) = cut(rest);
-        return Ok((Item::Exact(Version::of_bytes(alloc, version)?), rest));
-    }
-    let (low, rest) = cut(text);
+    let (version, rest) = cut(text);
+    Ok((Item::Exact(Version::of_bytes(alloc, version)?), rest))
+}
+
+/// The item that begins with these bytes of a version, or none, and what stands behind it.
+fn low_item<'a>(alloc: Global, low: &[u8], rest: &'a [u8]) -> Result<(Item, &'a [u8]), AllocError>
+    requires { IsItem (after_low low.now rest.now).0 }
+    ensures item { IfOk result (λ found. found.0 ≡ (after_low low.now rest.now).0) }
+    ensures rest { IfOk result (λ found. found.1.now ≡ (after_low low.now rest.now).1) }
+{
     if let [b':', rest @ ..] = rest {
         let (high, rest) = cut(rest);
         let low = end_of(alloc, low)?;
@@ -62,9 +66,35 @@ fn first_item(alloc: Global, text: &[u8]) -> Result<(Item, &[u8]), AllocError>
     Ok((Item::Prefix(Version::of_bytes(alloc, low)?), rest))
 }
 
+/// What stands behind `=` at the front of a text.
+#[tactic(auto, unfolding(crate::specs::Cut::first_item))]
+fn behind_equals(text: &[u8]) -> Option<&[u8]>
+    ensures { MatchOption result (first_item text.now ≡ after_low (front text.now) (behind text.now)) (λ rest. text.now ≡ 61 ∷ rest.now) }
+{
+    match text {
+        [b'=', rest @ ..] => Some(rest),
+        _ => None,
+    }
+}
+
+/// The first item of a LIST, and what stands behind it.
+#[tactic(auto, unfolding(crate::specs::Cut::first_item), using(crate::proofs::FirstLaws::exact_right, crate::proofs::FirstLaws::low_right))]
+fn first_item(alloc: Global, text: &[u8]) -> Result<(Item, &[u8]), AllocError>
+    requires { IsList text.now }
+    ensures item { IfOk result (λ found. found.0 ≡ (first_item text.now).0) }
+    ensures rest { IfOk result (λ found. found.1.now ≡ (first_item text.now).1) }
+{
+    if let Some(rest) = behind_equals(text) {
+        return exact_item(alloc, rest);
+    }
+    let (low, rest) = cut(text);
+    low_item(alloc, low, rest)
+}
+
 /// The items of a LIST.
 fn items_of(alloc: Global, text: &[u8]) -> Result<List<Item>, AllocError>
-    ensures { IfOk result (λ items. (all : List Item) → Reads text.now all → items ≡ all) }
+    requires { IsList text.now }
+    ensures { IfOk result (λ items. Reads text.now items) }
 {
     let mut items = List::new(alloc);
     let mut rest = text;

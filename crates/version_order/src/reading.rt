@@ -1,13 +1,14 @@
 //! How far a text is a version.
 
 ghost use Rattle.std.specs.Prelude.{◌≡◌, ◌≢◌, ◌<◌, ◌≤◌, length, MatchOption, if◌then◌else◌};
-ghost use Rattle.version_order.specs.Signs.{is_start, is_version_byte, IsVersion, AreBytes};
+ghost use Rattle.version_order.specs.Signs.{is_start, is_version_byte, IsVersion};
 ghost use Rattle.version_order.specs.Fronts.{IsBadAt};
 ghost use Rattle.version_order.specs.Faults.{IsVersionFault};
 
 use crate::VersionFault;
 
-pub(crate) fn is_start(b: u8) -> bool
+/// Whether a version, or a name, may begin with the byte: a letter, a digit or `_`.
+pub fn is_start(b: u8) -> bool
     ensures { result ≡ is_start b }
 {
     b.is_ascii_alphabetic() || b.is_ascii_digit() || b == b'_'
@@ -61,9 +62,9 @@ pub(crate) fn fault_of(text: &[u8]) -> Option<VersionFault>
     None
 }
 
-/// The text that bytes of versions are.
+/// The text that the bytes of a version are.
 pub(crate) fn text_of(bytes: &[u8]) -> &str
-    requires { AreBytes bytes.now }
+    requires { IsVersion bytes.now }
     ensures { result.now ≡ bytes.now }
 {
     match str::from_utf8(bytes) {

@@ -36,6 +36,7 @@ pub fn set_reading_laws()
 {}
 
 /// Rows of what sets contain and overlap, computed.
+#[tactic(auto, unfolding(crate::specs::Order::version_cmp, crate::specs::Pieces::pieces, crate::specs::Order::release, crate::specs::Order::pre_release, crate::specs::Order::staged, crate::specs::Order::stage_of, crate::specs::Component::rank_of, crate::specs::Component::word_of, crate::specs::Component::number_of, crate::specs::Prefix::is_same, crate::specs::Items::is_empty_range, crate::specs::Sets::is_under, crate::specs::Sets::item_contains, crate::specs::Sets::items_overlap))]
 pub fn worked_sets()
     // Each form of an item.
     ensures forms { Reads (codes "=1,2,3:4,5:,:6,:") (Item.Exact (codes "1") ∷ Item.Prefix (codes "2") ∷ Item.Range (Some (codes "3")) (Some (codes "4")) ∷ Item.Range (Some (codes "5")) None ∷ Item.Range None (Some (codes "6")) ∷ Item.Range None None ∷ []) }

@@ -42,6 +42,7 @@ pub fn cutting_laws()
 {}
 
 /// Rows of the order, computed.
+#[tactic(auto, unfolding(crate::specs::Order::version_cmp, crate::specs::Pieces::pieces, crate::specs::Order::release, crate::specs::Order::pre_release, crate::specs::Order::staged, crate::specs::Order::stage_of, crate::specs::Component::rank_of, crate::specs::Component::word_of, crate::specs::Component::number_of, crate::specs::Prefix::is_same))]
 pub fn worked_order()
     // Pre-releases stand below their release.
     ensures rising { Rise (codes "1.0-alpha1" ∷ codes "1.0-beta1" ∷ codes "1.0-rc1" ∷ codes "1.0" ∷ codes "1.0.1" ∷ codes "2" ∷ codes "develop" ∷ []) }

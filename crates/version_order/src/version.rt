@@ -1,7 +1,7 @@
 //! A version.
 
 ghost use Rattle.std.specs.Prelude.{◌≡◌, IfOk, IfErr};
-ghost use Rattle.version_order.specs.Signs.{IsVersion, AreBytes};
+ghost use Rattle.version_order.specs.Signs.{IsVersion};
 ghost use Rattle.version_order.specs.Faults.{IsVersionFault};
 ghost use Rattle.version_order.specs.Order.{version_cmp};
 ghost use Rattle.version_order.specs.Prefix.{is_prefix, is_special};
@@ -25,10 +25,13 @@ pub struct Version {
 
 impl Model for Version {
     ghost use Rattle.std.specs.Prelude.{ℕ, List};
+    ghost use Rattle.version_order.specs.Signs.{IsVersion};
 
     ghost Value = { List ℕ };
 
     ghost view = { λ version. version.text };
+
+    ghost invariant = { λ version. IsVersion version.text };
 }
 
 impl Version {
@@ -67,7 +70,7 @@ impl Version {
 
     /// The version with these bytes as its text, which are known to be right.
     pub(crate) fn of_bytes(alloc: Global, bytes: &[u8]) -> Result<Version, AllocError>
-        requires { AreBytes bytes.now }
+        requires { IsVersion bytes.now }
         ensures { IfOk result (λ version. version ≡ bytes.now) }
     {
         Ok(Version {
@@ -77,7 +80,8 @@ impl Version {
 
     /// The text, as it was read.
     pub fn text(&self) -> &str
-        ensures { result.now ≡ self.now }
+        ensures text { result.now ≡ self.now }
+        ensures form { IsVersion self.now }
     {
         self.text.as_str()
     }

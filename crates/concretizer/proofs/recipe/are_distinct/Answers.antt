@@ -7,14 +7,14 @@ use Rattle.concretizer.proofs.recipe.are_distinct.Goals as goal
 
 pub returns-then-not-branch : goal.returns-then-not-branch
 returns-then-not-branch c =
-    let key : c.in_ok-new.field-0 ≡ c.version-item.result = c.in_ok-new.ensures ∙ c.text.ensures in
+    let key : c.in_ok-new.field-0 ≡ c.version-item.result = c.in_ok-new.ensures ∙ c.text.ensures.text in
     let added : c.in_ok-insert.field-0 ≡ not (contains (slice_cmp nat_cmp) c.loop-version.seen c.version-item.result) = rw (← key) c.in_ok-insert.ensures.added in
     let more = distinct_more c.args.versions.now c.loop-version.version-index c.version-item.result _ c.loop-version-test.true c.version-item.is (c.loop-version.invariant.seen c.version-item.result) c.loop-version.invariant.distinct in
     sym (front_repeats c.args.versions.now (c.loop-version.version-index + 1) (more ∙ sym added ∙ c.if-not-branch.true))
 
 pub loop-version-preserved : goal.loop-version-preserved
 loop-version-preserved c =
-    let key : c.in_ok-new.field-0 ≡ c.version-item.result = c.in_ok-new.ensures ∙ c.text.ensures in
+    let key : c.in_ok-new.field-0 ≡ c.version-item.result = c.in_ok-new.ensures ∙ c.text.ensures.text in
     let added : c.in_ok-insert.field-0 ≡ not (contains (slice_cmp nat_cmp) c.loop-version.seen c.version-item.result) = rw (← key) c.in_ok-insert.ensures.added in
     let more = distinct_more c.args.versions.now c.loop-version.version-index c.version-item.result _ c.loop-version-test.true c.version-item.is (c.loop-version.invariant.seen c.version-item.result) c.loop-version.invariant.distinct in
     record {

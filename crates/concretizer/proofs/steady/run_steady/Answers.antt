@@ -7,3 +7,6 @@ still rose = omega (arith, rose)
 
 pub returns-clause-complete : goal.returns-clause-complete
 returns-clause-complete g c = λ problem poses. c.run.ensures.complete problem poses still still still still
+
+pub returns-clause-due : goal.returns-clause-due
+returns-clause-due g c = λ refusal poses. c.run.ensures.due refusal poses still still still still

@@ -1,7 +1,7 @@
 use Rattle.spec_grammar.specs.declared.mode.Mode.TheVariants.{Specs}
 use Rattle.concretizer.specs.Words.{words_of}
 use Rattle.concretizer.proofs.Stages.{ReadsOnce}
-use Rattle.concretizer.proofs.Ends.{reports_words, refused, settles}
+use Rattle.concretizer.proofs.Ends.{reports_words, refused, settles, due, written}
 use Rattle.concretizer.proofs.top.run.Goals as goal
 
 pub returns-in-Ok-Solved-clause-words : goal.returns-in-Ok-Solved-clause-words
@@ -13,13 +13,28 @@ returns-in-Ok-Unsolved-clause-words g c = λ refusal asks. absurd ((c.in-Ok-Unso
 pub returns-in-Err-clause-words : goal.returns-in-Err-clause-words
 returns-in-Err-clause-words g c = λ refusal asks.
     let at_once = c.in-Err.ensures.at_once refusal asks in
-    (at_once.1, reports_words refusal c.in-Err.stop _ _ _ _ _ at_once.0 c.report.ensures.reports)
+    (at_once.1, at_once.2, at_once.3, reports_words refusal c.in-Err.stop _ _ _ at_once.0 c.report.ensures.reports)
 
 pub returns-in-Err-clause-refused : goal.returns-in-Err-clause-refused
 returns-in-Err-clause-refused g c = λ refuses.
-    refused _ (words_of c.args.words.now) c.in-Err.stop _ _ _ _ _ _ _ _ c.in-Err.ensures.outcome c.report.ensures.reports refuses
+    refused _ (words_of c.args.words.now) c.in-Err.stop _ (_, _) (_, _) (_, _) _ c.in-Err.ensures.outcome c.report.ensures.reports refuses
 
 pub returns-in-Err-clause-complete : goal.returns-in-Err-clause-complete
 returns-in-Err-clause-complete g c =
     let laws : ReadsOnce = record { reading = c.reading_laws.ensures.one_reading Specs; refusal = c.reading_laws.ensures.one_fault Specs; right = c.reading_laws.ensures.right Specs } in
-    settles laws _ (words_of c.args.words.now) c.in-Err.stop _ _ _ _ _ _ _ _ _ _ _ _ _ _ c.in-Err.ensures.outcome (record { read = c.in-Err.ensures.read; put = c.in-Err.ensures.put; said = c.in-Err.ensures.said }) c.report.ensures.reports
+    settles laws _ (words_of c.args.words.now) c.in-Err.stop _ (_, _) (_, _) (_, _) (_, _) (_, _) (_, _) _ c.in-Err.ensures.outcome (record { read = c.in-Err.ensures.read; put = c.in-Err.ensures.put; said = c.in-Err.ensures.said }) c.report.ensures.reports
+
+pub returns-in-Err-clause-due : goal.returns-in-Err-clause-due
+returns-in-Err-clause-due g c =
+    let laws : ReadsOnce = record { reading = c.reading_laws.ensures.one_reading Specs; refusal = c.reading_laws.ensures.one_fault Specs; right = c.reading_laws.ensures.right Specs } in
+    due laws _ (words_of c.args.words.now) c.in-Err.stop _ (_, _) (_, _) (_, _) (_, _) (_, _) (_, _) _ c.in-Err.ensures.outcome (record { read = c.in-Err.ensures.read; put = c.in-Err.ensures.put; said = c.in-Err.ensures.said }) c.report.ensures.reports
+
+pub returns-in-Ok-Solved-clause-due : goal.returns-in-Ok-Solved-clause-due
+returns-in-Ok-Solved-clause-due g c =
+    let laws : ReadsOnce = record { reading = c.reading_laws.ensures.one_reading Specs; refusal = c.reading_laws.ensures.one_fault Specs; right = c.reading_laws.ensures.right Specs } in
+    written laws _ (words_of c.args.words.now) _ _ (_, _) (_, _) (_, _) (_, _) (_, _) _ c.in-Ok-Solved.ensures.outcome
+
+pub returns-in-Ok-Unsolved-clause-due : goal.returns-in-Ok-Unsolved-clause-due
+returns-in-Ok-Unsolved-clause-due g c =
+    let laws : ReadsOnce = record { reading = c.reading_laws.ensures.one_reading Specs; refusal = c.reading_laws.ensures.one_fault Specs; right = c.reading_laws.ensures.right Specs } in
+    written laws _ (words_of c.args.words.now) _ _ (_, _) (_, _) (_, _) (_, _) (_, _) _ c.in-Ok-Unsolved.ensures.outcome

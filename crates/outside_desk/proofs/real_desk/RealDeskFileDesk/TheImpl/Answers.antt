@@ -1,6 +1,6 @@
 use Rattle.std.proofs.Common.{◌≡◌, refl, inl, Option, None, Ok, Err, OnOk}
 use Rattle.outside_desk.specs.Files.{Files}
-use Rattle.outside_desk.proofs.real_desk.RealDeskDesk.TheImpl.Goals as goal
+use Rattle.outside_desk.proofs.real_desk.RealDeskFileDesk.TheImpl.Goals as goal
 
 -- no content is told, so the clauses on content hold
 pub put-tells : goal.put-tells

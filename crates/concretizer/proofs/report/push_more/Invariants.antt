@@ -1,7 +1,0 @@
-use Rattle.std.proofs.Common.{◌≡◌, ◌∷◌, ◌++◌, take}
-use Rattle.std.specs.List.{flat_map}
-use Rattle.std.specs.String.{string_bytes}
-use Rattle.concretizer.proofs.report.push_more.Given as goal
-
-abbrev pub invariant-loop-value : goal.invariant-loop-value
-invariant-loop-value l = string_bytes l.text ≡ string_bytes l.fn.text ++ flat_map (λ value. 44 ∷ value) (take l.value-index l.values)
