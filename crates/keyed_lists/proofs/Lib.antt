@@ -1,0 +1,5 @@
+pub mod GivenLaws
+pub mod KeyedLaws
+pub mod LookupLaws
+pub mod RunLaws
+pub mod TextLaws
