@@ -1,5 +1,5 @@
 -- Lists of what a function gives at keys that rise: they are in order, are looked up as the function tells, and each list in order is one.
-use Rattle.std.proofs.Common.{◌≡◌, refl, sym, ap, subst, ◌∙◌, ℕ, ◌+◌, Bool, ◌&&◌, Option, Some, None, List, [], ◌∷◌, get_or, map, All, Contains, ⊎_elim, sum_by, arith}
+use Rattle.std.proofs.Common.{◌≡◌, refl, sym, ap, subst, ◌∙◌, ℕ, ◌+◌, Bool, ◌&&◌, Option, Some, None, List, [], ◌∷◌, map, All, Contains, ⊎_elim, sum_by, arith}
 use Rattle.std.specs.List.{filter_map, cons_option, list_all}
 use Rattle.std.specs.List.Sorted.{IsStrictlySortedBy}
 use Rattle.std.specs.declared.cmp.Ordering.{Ordering}
@@ -7,13 +7,14 @@ use Rattle.std.specs.declared.cmp.Ordering.TheVariants.{Less, Equal}
 use Rattle.std.specs.Cmp.{IsTotalOrder, tied_itself}
 use Rattle.std.specs.FinMap.{IsAntisymmetric}
 use Rattle.std.proofs.lemmas.Option.{none-some}
-use Rattle.std.proofs.lemmas.List.Elements.{All-contains, All-from_recursion, recursion_from_All, Contains-get_or}
+use Rattle.std.proofs.lemmas.List.Elements.{All-contains}
 use Rattle.std.proofs.lemmas.List.Sums.{sum_by-cons}
 use Rattle.reachability.proofs.CountLaws.{has_first, has_later, first_or_later, image_of}
 use Rattle.keyed_lists.specs.Given.{passes_or_none, adds_or_none}
 use Rattle.keyed_lists.specs.Keyed.{IsInOrder, find_key}
 use Rattle.keyed_lists.specs.Laws.{IsKeyed}
 use Rattle.keyed_lists.proofs.KeyedLaws.{find_none}
+use Rattle.keyed_lists.proofs.RiseLaws.{rises_above, rises_rest, rises_none, rises_more}
 use Rattle.keyed_lists.proofs.LookupLaws.{find_sound, same_lists}
 
 -- ---- what is given
@@ -47,29 +48,6 @@ module _ {K X : Type 0} (given : K → Option X) where
 pub filter_map-agree : {K X : Type 0} (f g : K → Option X) (ks : List K) → ((k : K) → Contains ks k → f k ≡ g k) → filter_map f ks ≡ filter_map g ks
 filter_map-agree f g [] same = refl
 filter_map-agree f g (k ∷ ks) same = rw (same k (has_first k ks), filter_map-agree f g ks (λ j there. same j (has_later k ks j there))) refl
-
--- what holds of each element
-pub all_from : {X : Type 0} (P : X → Type 0) (xs : List X) → ((x : X) → Contains xs x → P x) → All P xs
-all_from P xs each k d lt = each (get_or xs k d) (Contains-get_or xs k d lt)
-
--- ---- keys that rise
-
-module _ {K : Type 0} (R : K → K → Ordering) where
-  pub rises_above : (k : K) (ks : List K) → IsStrictlySortedBy R (k ∷ ks) → (j : K) → Contains ks j → R k j ≡ Less
-  unfolding IsStrictlySortedBy
-  rises_above k ks rising j there = All-contains (λ u. R k u ≡ Less) ks j (All-from_recursion _ ks rising.0) there
-
-  pub rises_rest : (k : K) (ks : List K) → IsStrictlySortedBy R (k ∷ ks) → IsStrictlySortedBy R ks
-  unfolding IsStrictlySortedBy
-  rises_rest k ks rising = rising.1
-
-  pub rises_none : IsStrictlySortedBy R []
-  unfolding IsStrictlySortedBy
-  rises_none = tt
-
-  pub rises_more : (k : K) (ks : List K) → ((j : K) → Contains ks j → R k j ≡ Less) → IsStrictlySortedBy R ks → IsStrictlySortedBy R (k ∷ ks)
-  unfolding IsStrictlySortedBy
-  rises_more k ks above rising = (recursion_from_All (λ j. R k j ≡ Less) ks (all_from (λ j. R k j ≡ Less) ks above), rising)
 
 module _ {X K : Type 0} {R : K → K → Ordering} (o : IsTotalOrder R) (exact : IsAntisymmetric R) (key : X → K) where
   not_tied : (a b : K) → R a b ≡ Less → a ≡ b → ⊥

@@ -1,20 +1,22 @@
 // What holds of all lists in order by a key.
 //
 // `cmp` is a total order of keys that ties only equal ones, and `key` gives an element's key.
-ghost use Rattle.std.specs.Prelude.{◌≡◌, ◌↔◌, ℕ, Bool, List, [], Option, Some, None, All, Contains, sum_by, filter_map, if◌then◌else◌};
+ghost use Rattle.std.specs.Prelude.{◌≡◌, ◌↔◌, ℕ, Bool, List, [], Option, Some, None, All, Contains, IsTrue, sum_by, filter_map, if◌then◌else◌};
 ghost use Rattle.std.specs.List.{list_all};
 ghost use Rattle.std.specs.List.Sorted.{IsStrictlySortedBy};
 ghost use Rattle.std.specs.Ordering.{eq_by_cmp};
 ghost use Rattle.std.specs.declared.cmp.Ordering.{Ordering};
 ghost use Rattle.keyed_lists.specs.Given.{passes_or_none, adds_or_none};
-ghost use Rattle.keyed_lists.specs.Keyed.{IsInOrder, find_key, with_one};
+ghost use Rattle.keyed_lists.specs.Keyed.{IsInOrder, rises, find_key, with_one};
 ghost use Rattle.keyed_lists.specs.Laws.{IsKeyOrder, IsKeyed};
 
 /// What holds of look-ups and of one element more.
 ///
-/// What is found is an element with the key; lists that answer alike are one; one element more keeps
+/// Keys strictly rise where each is below the next. What is found is an element with the key; lists that answer alike are one; one element more keeps
 /// the order and is found at its own key alone.
 pub fn keyed_laws<X, K>()
+    ensures rises { (cmp : K → K → Ordering) → IsKeyOrder cmp → (keys : List K)
+        → IsTrue (rises cmp keys) ↔ IsStrictlySortedBy cmp keys }
     ensures found { (cmp : K → K → Ordering) (key : X → K) → IsKeyOrder cmp → (xs : List X) → IsInOrder cmp key xs
         → (k : K) (x : X) → (find_key cmp key xs k ≡ Some x) ↔ (Contains xs x × (key x ≡ k)) }
     ensures same { (cmp : K → K → Ordering) (key : X → K) → IsKeyOrder cmp → (xs ys : List X)
