@@ -1,8 +1,10 @@
 -- Paths of a graph: they lead from nodes to nodes, and are those between the places of the nodes.
-use Rattle.std.proofs.Common.{◌≡◌, sym, ap, subst, ◌∙◌, ℕ, ◌+◌, ◌<◌, Bool, false, List, [], ◌∷◌, ◌++◌, length, get_or, take, map, ◌↔◌, ⊎_elim, IsTrue}
+use Rattle.std.proofs.Common.{◌≡◌, sym, ap, subst, ◌∙◌, ℕ, ◌+◌, ◌<◌, Bool, false, List, [], ◌∷◌, ◌++◌, length, get_or, take, map, ◌↔◌, ⊎_elim, IsTrue, Decides}
 use Rattle.std.proofs.lemmas.List.{take_more, map-append, length-map}
 use Rattle.std.proofs.lemmas.List.Elements.{All-contains}
-use Rattle.std.specs.Cmp.Lexicographic.{nat_list_cmp_total}
+use Rattle.std.proofs.lemmas.Bool.Decides.{same_from_decides}
+use Rattle.std.specs.Cmp.Lexicographic.{nat_list_cmp_total, bytes_decides}
+use Rattle.std.specs.Str.{bytes_eq}
 use Rattle.variant_values.specs.Texts.{byte_cmp}
 use Rattle.variant_values.proofs.Texts.{ties_are_equal}
 use Rattle.reachability.specs.Paths.{Path}
@@ -10,11 +12,12 @@ use Rattle.reachability.specs.Places.{AreOnce, AreNumbered, AreHeads, MarksReach
 use Rattle.reachability.proofs.CountLaws.{image_of}
 use Rattle.reachability.proofs.PathLaws.{first_arc, last_arc}
 use Rattle.reachability.proofs.HeadLaws.{told_by_marks, zip_push}
+use Rattle.reachability.proofs.SpreadLaws.{reaches_decides}
 use Rattle.keyed_lists.specs.Keyed.{IsPlaceOf}
-use Rattle.keyed_lists.proofs.KeyedLaws.{one_place, key_at}
+use Rattle.keyed_lists.proofs.KeyedLaws.{one_place, key_at, told_false}
 use Rattle.graph_core.specs.declared.node.Edge.{Edge}
 use Rattle.graph_core.specs.Graphs.{Text, Content, IsGraph, HasNode, name_of, ends_of}
-use Rattle.graph_core.specs.Paths.{arcs_of, JoinedIn}
+use Rattle.graph_core.specs.Paths.{arcs_of, JoinedIn, reaches_in}
 
 module _ (g : Content) (graph : IsGraph g) where
   pub joins_nodes : (p q : Text) → JoinedIn g p q → HasNode g p × HasNode g q
@@ -48,3 +51,10 @@ module _ (g : Content) (graph : IsGraph g) where
 pub numbered_more : (keys : List Text) (edges : List Edge) (i : ℕ) (e : Edge) (numbers : List (ℕ × ℕ)) (a b : ℕ) → i < length edges → e ≡ get_or edges i e → AreNumbered keys (map ends_of (take i edges)) numbers → IsAt keys e.parent a → IsAt keys e.child b → AreNumbered keys (map ends_of (take (i + 1) edges)) (numbers ++ (a, b) ∷ [])
 numbered_more keys edges i e numbers a b lt is so_far at_a at_b =
     rw (take_more edges i e lt, ← is, map-append) (zip_push _ (map ends_of (take i edges)) numbers (ends_of e) (a, b) so_far (at_a, at_b))
+
+-- an answer that tells of paths is what is computed
+pub told_path : (g : Content) (p q : Text) (is : Bool) → Decides is (Path (JoinedIn g) p q) → is ≡ reaches_in g p q
+told_path g p q is tells = same_from_decides is (reaches_in g p q) tells (reaches_decides bytes_eq bytes_decides (arcs_of g) p q)
+
+pub no_path : (g : Content) (p q : Text) → (Path (JoinedIn g) p q → ⊥) → false ≡ reaches_in g p q
+no_path g p q none = told_path g p q false (told_false none)

@@ -6,6 +6,7 @@
 //! of its attributes. It must not know recipes, settings, or which graphs are valid.
 #![tactic(auto)]
 
+mod exact;
 mod graph;
 mod node;
 mod paths;

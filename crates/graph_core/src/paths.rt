@@ -1,9 +1,8 @@
 // Paths of a graph.
-ghost use Rattle.std.specs.Prelude.{◌↔◌, map, IfOk, IsTrue};
-ghost use Rattle.reachability.specs.Paths.{Path};
+ghost use Rattle.std.specs.Prelude.{◌≡◌, map, IfOk};
 ghost use Rattle.reachability.specs.Places.{AreNumbered, IsAt};
 ghost use Rattle.graph_core.specs.Graphs.{HasNode, name_of};
-ghost use Rattle.graph_core.specs.Paths.{arcs_of, JoinedIn};
+ghost use Rattle.graph_core.specs.Paths.{arcs_of, reaches_in};
 
 use crate::Graph;
 use reachability::{heads_of, reached};
@@ -13,7 +12,7 @@ use std::alloc::{AllocError, Global};
 ///
 /// Follows each edge once at most, and takes memory for all edges: `Reach` finds all paths at once.
 pub fn reaches(alloc: Global, graph: &Graph, from: &str, to: &str) -> Result<bool, AllocError>
-    ensures { IfOk result (λ is. IsTrue is ↔ Path (JoinedIn graph.now) from.now to.now) }
+    ensures { IfOk result (λ is. is ≡ reaches_in graph.now from.now to.now) }
 {
     let Ok(start) = graph.node_place(from) else {
         return Ok(false);

@@ -1,7 +1,6 @@
 // All paths of a graph at once.
-ghost use Rattle.std.specs.Prelude.{◌≡◌, ◌↔◌, IfOk, IsTrue};
-ghost use Rattle.reachability.specs.Paths.{Path};
-ghost use Rattle.graph_core.specs.Paths.{JoinedIn};
+ghost use Rattle.std.specs.Prelude.{◌≡◌, IfOk};
+ghost use Rattle.graph_core.specs.Paths.{reaches_in};
 
 use crate::Graph;
 use crate::paths::numbered;
@@ -42,7 +41,7 @@ impl<'a> Reach<'a> {
 
     /// Whether a path of one or more edges leads from one node to another.
     pub fn leads(&self, from: &str, to: &str) -> bool
-        ensures { IsTrue result ↔ Path (JoinedIn self.now) from.now to.now }
+        ensures { result ≡ reaches_in self.now from.now to.now }
     {
         let Ok(start) = self.graph.node_place(from) else {
             return false;
