@@ -1,0 +1,4 @@
+pub mod GivenLaws
+pub mod GraphLaws
+pub mod PairLaws
+pub mod PathLaws

@@ -1,0 +1,6 @@
+pub mod GivenLaws
+pub mod KeyedLaws
+pub mod LookupLaws
+pub mod RiseLaws
+pub mod RunLaws
+pub mod TextLaws

@@ -1,0 +1,4 @@
+-- what public contracts say
+pub mod Keyed
+pub mod Given
+pub mod Laws

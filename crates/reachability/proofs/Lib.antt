@@ -1,0 +1,9 @@
+pub mod BitLaws
+pub mod CountLaws
+pub mod HeadLaws
+pub mod PathLaws
+pub mod ReachLaws
+pub mod SpreadLaws
+pub mod TableLaws
+pub mod SearchLaws
+pub mod PartLaws

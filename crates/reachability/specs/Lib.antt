@@ -1,0 +1,5 @@
+pub mod Paths
+pub mod Places
+pub mod Searches
+pub mod Laws
+pub mod Bits
