@@ -1,0 +1,198 @@
+-- The loop of the search.
+use Rattle.std.proofs.Common.{◌≡◌, ℕ, ◌-◌, ◌+◌, ◌*◌, ◌<◌, ◌≤◌, min, Bool, true, false, List, [], ◌∷◌, ◌++◌, length, Option, Some, None, refl, sym, ap, ◌∙◌, subst, arith}
+use Rattle.std.proofs.lemmas.List.{append-nil}
+use Rattle.clause_store.specs.declared.Lit.{Lit}
+use Rattle.clause_store.specs.Lits.{negation, has}
+use Rattle.proof_log.specs.declared.line.Line.TheVariants as line
+use Rattle.proof_log.specs.Lines.{IsOpen, learnt_in}
+use Rattle.proof_log.proofs.Logs.{learnt_in-push}
+use Rattle.proof_log.specs.Usefulness.{IsSettled}
+use Rattle.clause_watch.specs.declared.trail.Placed.{Placed}
+use Rattle.clause_watch.specs.Trails.{lits_of, decisions, upto, next, HasLevels, free_left}
+use Rattle.clause_watch.specs.Watches.{WatchValue, IsWatch, Propagated, with_next, back}
+use Rattle.clause_watch.proofs.Propagated.{free_left-le, free_left-less, Grown-free}
+use Rattle.clause_watch.proofs.Kept.{upto-upto}
+use Rattle.clause_watch.proofs.Undone.{decisions-upto}
+use Rattle.clause_solver.specs.declared.search.Search.{Search}
+use Rattle.clause_solver.specs.declared.outcome.Outcome.{Outcome}
+use Rattle.clause_solver.specs.declared.outcome.Outcome.TheVariants as outcome
+use Rattle.clause_solver.specs.declared.choice.Move.TheVariants as move
+use Rattle.clause_solver.specs.Marks.{AreClear}
+use Rattle.clause_solver.specs.Models.{IsModelOf}
+use Rattle.clause_solver.specs.Solvers.{SolverValue, IsInOrder, IsLogOf, Adds, Answers, IsFalseIn}
+use Rattle.clause_solver.specs.Searches.{value_of, IsSearch, IsAssumed, IsReady, IsStep, IsNext, IsFalseOn, Taught, measure_of}
+use Rattle.clause_solver.proofs.Growing.{search-watch, adds-watch, search-grown, adds-last, Adds-trans}
+use Rattle.clause_watch.proofs.Places.{upto-place, place-upto, get-front}
+use Rattle.clause_solver.proofs.ModelLaws.{false-here, model-meets}
+
+-- the assumed literal as the trail changes
+assumed-upto : (b : ℕ) (ps : List Placed) (a : Option (ℕ × Lit)) → HasLevels 0 ps → IsAssumed ps a → IsAssumed (upto b ps) a
+assumed-upto b ps None levels h = tt
+assumed-upto b ps (Some a) levels h = λ above.
+    let d = decisions-upto b ps levels in
+    subst (λ xs. has (lits_of xs) (negation a.1) ≡ true) (sym (upto-upto 1 b ps (omega (arith, d, above)))) (h (omega (arith, d, above)))
+
+assumed-grown : (ps more : List Placed) (a : Option (ℕ × Lit)) → decisions (ps ++ more) ≡ decisions ps → IsAssumed ps a → IsAssumed (ps ++ more) a
+assumed-grown ps more None e h = tt
+assumed-grown ps more (Some a) e h = λ above.
+    let q = upto-place 1 ps (negation a.1) (h (omega (arith, e, above))) in
+    rw (← q.3) (place-upto 1 (ps ++ more) q.0 q.1 (get-front ps more q.0 q.1 q.2) q.4)
+
+assumed-none : (ps : List Placed) (a : Option (ℕ × Lit)) → decisions ps ≡ 0 → IsAssumed ps a
+assumed-none ps None e = tt
+assumed-none ps (Some a) e = λ above. absurd (omega arith)
+
+order-same : (s t : SolverValue) (a : Option (ℕ × Lit)) → t.given ≡ s.given → t.vars ≡ s.vars → IsInOrder s a → IsInOrder t a
+order-same s t None e f h = tt
+order-same s t (Some a) e f h = (h.0 ∙ ap length (sym e), rw f h.1)
+
+-- one more lesson is worth more than all variables
+lesson-less : (b l v f g : ℕ) → l + 1 ≤ b → g ≤ v → (b + 1 - (l + 1)) * (v + 1) + g < (b + 1 - l) * (v + 1) + f
+lesson-less b l v f g h k =
+    let n : ℕ = b - l in
+    let e : b + 1 - (l + 1) ≡ n = omega arith in
+    let d : b + 1 - l ≡ n + 1 = omega arith in
+    rw (e, d) (omega arith)
+
+-- after a lesson the search goes on
+pub goes-on : (s t : Search) (a : Option (ℕ × Lit)) (budget : ℕ) → IsWatch s.watch.vars s.watch.clauses s.watch.placed → IsReady s a budget → Taught s t → t.learnt ≤ budget → IsStep s t a budget None
+goes-on s t a budget right r h le =
+    let n = h.search.learnt in
+    let m = h.count in (
+      h.adds,
+      record {
+        search = h.search;
+        open_log = h.open_log;
+        in_budget = omega (arith, n, le);
+        in_order = order-same (value_of false s) (value_of false t) a h.adds.given h.adds.vars r.in_order;
+        assumed = subst (λ ps. IsAssumed ps a) (sym h.placed) (assumed-upto h.level s.watch.placed a right.orderly.levels r.assumed);
+      },
+      subst (λ v. (budget + 1 - learnt_in t.log) * (v + 1) + free_left t.watch.placed v < measure_of budget s) (sym h.adds.vars)
+          (subst (λ l. (budget + 1 - l) * (s.watch.vars + 1) + free_left t.watch.placed s.watch.vars < measure_of budget s) (sym m)
+          (lesson-less budget (learnt_in s.log) s.watch.vars (free_left s.watch.placed s.watch.vars) (free_left t.watch.placed s.watch.vars) (omega (arith, n, m, le)) (free_left-le t.watch.placed s.watch.vars))),
+    )
+
+-- or its budget is spent
+pub spends : (s t u : Search) (a : Option (ℕ × Lit)) (budget : ℕ) → IsReady s a budget → Taught s t → budget < t.learnt →
+    u.watch ≡ t.watch → u.log ≡ t.log ++ line.Spent ∷ [] → u.inputs ≡ t.inputs → u.bits ≡ t.bits → u.given.items ≡ t.given.items → u.model.items ≡ t.model.items → u.learnt ≡ t.learnt → u.marks ≡ t.marks → IsStep s u a budget (Some outcome.Spent)
+spends s t u a budget r h lt watch log inputs bits given model learnt marks =
+    let n = h.search.learnt in
+    let m = h.count in
+    let b = r.in_budget in
+    let clauses : u.watch.clauses ≡ t.watch.clauses = ap (λ (w : WatchValue). w.clauses) watch in
+    let vars : u.watch.vars ≡ t.watch.vars = ap (λ (w : WatchValue). w.vars) watch in
+    let count : u.learnt ≡ t.learnt + 0 = omega (arith, learnt) in
+    let len : length u.marks.items ≡ length t.marks.items = rw marks refl in
+    let unmarked : AreClear u.marks.items = rw marks h.search.unmarked in (
+      (
+        Adds-trans (value_of false s) (value_of false t) (value_of false u) None (Some line.Spent) h.adds
+            (adds-last t u None line.Spent None h.search h.open_log clauses vars log inputs bits given model count len unmarked),
+        rw log (let k = learnt_in-push t.log line.Spent in omega (arith, k, n, m, b, lt)),
+      ),
+      search-grown t u None line.Spent None h.search h.open_log clauses vars log inputs bits given model count len unmarked (omega arith) (λ more. tt) tt (λ more. refl),
+    )
+
+-- a decision
+pub decided : (s : Search) (w : WatchValue) (l : Lit) (a : Option (ℕ × Lit)) (budget : ℕ) → IsReady s a budget → IsNext s.watch.placed s.watch.vars a (move.Decide l) → w ≡ with_next s.watch l None → IsStep s (record s { watch = w }) a budget None
+decided s w l a budget r h e =
+    let clauses : w.clauses ≡ s.watch.clauses = ap (λ (v : WatchValue). v.clauses) e in
+    let vars : w.vars ≡ s.watch.vars = ap (λ (v : WatchValue). v.vars) e in
+    let placed : w.placed ≡ s.watch.placed ++ next s.watch.placed l None ∷ [] = ap (λ (v : WatchValue). v.placed) e in (
+      adds-watch s w clauses vars,
+      record {
+        search = search-watch s w clauses vars r.search;
+        open_log = r.open_log;
+        in_budget = r.in_budget;
+        in_order = order-same (value_of false s) (value_of false (record s { watch = w })) a refl vars r.in_order;
+        assumed = subst (λ ps. IsAssumed ps a) (sym placed) h.2;
+      },
+      rw (vars, placed) (let f = free_left-less s.watch.placed (next s.watch.placed l None) s.watch.vars h.0 h.1 in omega (arith, f)),
+    )
+
+-- a model
+false-in : (ps : List Placed) (n : ℕ) (cs : List (List Lit)) (model : List Bool) (a : Option (ℕ × Lit)) → IsWatch n cs ps → IsModelOf ps n model → IsFalseOn ps a → IsFalseIn model a
+false-in ps n cs model None right m h = tt
+false-in ps n cs model (Some a) right m h = false-here ps n model right.orderly m a.1 h
+
+pub finished : (s t : Search) (a : Option (ℕ × Lit)) (budget : ℕ) → IsWatch s.watch.vars s.watch.clauses s.watch.placed → IsReady s a budget → IsSettled (lits_of s.watch.placed) s.watch.clauses → IsNext s.watch.placed s.watch.vars a move.Finish →
+    IsModelOf s.watch.placed s.watch.vars t.model.items → t.watch ≡ s.watch → t.log ≡ s.log → t.inputs ≡ s.inputs → t.bits ≡ s.bits → t.given ≡ s.given → t.learnt ≡ s.learnt → t.marks ≡ s.marks → IsStep s t a budget (Some outcome.Model)
+finished s t a budget right r settled h m watch log inputs bits given learnt marks = (
+  (
+    record {
+      adds = record {
+        input = rw (watch, inputs) refl;
+        vars = rw watch refl;
+        bits = bits;
+        model = refl;
+        given = rw given refl;
+        learnt = [];
+        all_learnt = tt;
+        lines = log ∙ sym (append-nil s.log);
+      };
+      whole = rw watch m.whole;
+      meets = rw watch (model-meets s.watch.placed s.watch.vars t.model.items right.orderly m s.watch.clauses h.0 right.in_range settled);
+      assumed = false-in s.watch.placed s.watch.vars s.watch.clauses t.model.items a right m h.1;
+    },
+    rw log r.in_budget,
+    rw log r.open_log,
+  ),
+  record {
+    log =
+        let v : record (value_of false s) { model = t.model.items } ≡ value_of false t = rw (watch, log, inputs, bits, given) refl in
+        let i = r.search.log in
+        subst IsLogOf v (record { settled = i.settled; sound = i.sound; useful = i.useful; knows = i.knows });
+    inputs = rw (watch, inputs) r.search.inputs;
+    learnt = rw log (learnt ∙ r.search.learnt);
+    marks = rw (watch, marks) r.search.marks;
+    unmarked = rw marks r.search.unmarked;
+  },
+)
+
+-- turns one after another
+pub Answers-after : (a b c : SolverValue) (assumption : Option (ℕ × Lit)) (budget : ℕ) (o : Outcome) → Adds a b None None → Answers b c assumption budget o → Answers a c assumption budget o
+Answers-after a b c assumption budget outcome.Model f h = (record { adds = subst (λ m. Adds a (record c { model = m }) None None) f.model (Adds-trans a b (record c { model = b.model }) None None f h.0.adds); whole = h.0.whole; meets = h.0.meets; assumed = h.0.assumed }, h.1, h.2)
+Answers-after a b c assumption budget outcome.Refuted f h = ((h.0.0, h.0.1, Adds-trans a b c _ (Some h.0.0) f h.0.2), h.1, h.2)
+Answers-after a b c assumption budget outcome.Spent f h = (Adds-trans a b c None (Some line.Spent) f h.0, h.1)
+
+pub IsStep-after : (s t u : Search) (a : Option (ℕ × Lit)) (budget : ℕ) (o : Option Outcome) → Adds (value_of false s) (value_of false t) None None → measure_of budget t ≤ measure_of budget s → IsStep t u a budget o → IsStep s u a budget o
+IsStep-after s t u a budget None f le h = (Adds-trans (value_of false s) (value_of false t) (value_of false u) None None f h.0, h.1, (let l = h.2 in omega (arith, le, l)))
+IsStep-after s t u a budget (Some o) f le h = (Answers-after (value_of false s) (value_of false t) (value_of false u) a budget o f h.0, h.1)
+
+-- propagation
+module _ (s : Search) (w : WatchValue) (a : Option (ℕ × Lit)) (budget : ℕ) (r : IsReady s a budget) (p : Propagated s.watch w) where
+  abbrev pub after : Search
+  after = record s { watch = w }
+
+  vars : w.vars ≡ s.watch.vars
+  vars = p.grown.same_vars
+
+  pub adds-propagated : Adds (value_of false s) (value_of false after) None None
+  adds-propagated = adds-watch s w p.same_clauses vars
+
+  pub ready-propagated : IsReady after a budget
+  ready-propagated = record {
+    search = search-watch s w p.same_clauses vars r.search;
+    open_log = r.open_log;
+    in_budget = r.in_budget;
+    in_order = order-same (value_of false s) (value_of false after) a refl vars r.in_order;
+    assumed = subst (λ ps. IsAssumed ps a) (sym p.grown.is) (assumed-grown s.watch.placed p.grown.more a (ap decisions (sym p.grown.is) ∙ p.grown.same_depth) r.assumed);
+  }
+
+  pub measure-propagated : measure_of budget after ≤ measure_of budget s
+  measure-propagated = rw (vars, p.grown.is) (let f = Grown-free s.watch.clauses s.watch.vars s.watch.placed p.grown.more p.grown.each in omega (arith, f))
+
+-- going back to level 0
+pub started : (s : Search) (w : WatchValue) (a : Option (ℕ × Lit)) (budget : ℕ) → IsSearch s → IsOpen s.log → learnt_in s.log ≤ budget → IsInOrder (value_of false s) a → w ≡ back s.watch 0 → decisions w.placed ≡ min (decisions s.watch.placed) 0 →
+    Adds (value_of false s) (value_of false (record s { watch = w })) None None × IsReady (record s { watch = w }) a budget
+started s w a budget i o b order e d =
+    let clauses : w.clauses ≡ s.watch.clauses = ap (λ (v : WatchValue). v.clauses) e in
+    let vars : w.vars ≡ s.watch.vars = ap (λ (v : WatchValue). v.vars) e in (
+      adds-watch s w clauses vars,
+      record {
+        search = search-watch s w clauses vars i;
+        open_log = o;
+        in_budget = b;
+        in_order = order-same (value_of false s) (value_of false (record s { watch = w })) a refl vars order;
+        assumed = assumed-none w.placed a (omega (arith, d));
+      },
+    )

@@ -1,0 +1,49 @@
+-- A solver at first.
+use Rattle.std.proofs.Common.{◌≡◌, ℕ, zero, suc, false, List, [], ◌∷◌, ◌++◌, length, take, replicate, refl, sym, ap, ◌∙◌, subst, arith}
+use Rattle.std.proofs.lemmas.List.{take_all}
+use Rattle.clause_store.specs.declared.list.Entry.{Entry}
+use Rattle.clause_store.specs.Clauses.{Clauses, clauses_of}
+use Rattle.proof_log.specs.declared.line.Line.{Line}
+use Rattle.proof_log.specs.declared.line.Line.TheVariants as line
+use Rattle.clause_watch.specs.Watches.{WatchValue}
+use Rattle.clause_solver.specs.declared.search.Search.{Search}
+use Rattle.clause_solver.specs.Marks.{AreClear}
+use Rattle.clause_solver.specs.Solvers.{IsLogOf, start_of}
+use Rattle.clause_solver.specs.Searches.{value_of, IsSearch}
+
+length-clauses : (es : List Entry) → length (clauses_of es) ≡ length es
+length-clauses [] = refl
+length-clauses (e ∷ es) = ap suc (length-clauses es)
+
+IsLogOf-start : (s : Clauses) (bits : ℕ) → IsLogOf (start_of s bits)
+IsLogOf-start s bits = record {
+  settled = refl;
+  sound = λ more h. (header s.vars (sym (length-clauses s.entries)) (sym h), tt, tt);
+  useful = λ more. (tt, tt);
+  knows = λ more. refl;
+}
+  where
+    header : (v : ℕ) {a b c d : ℕ} → a ≡ b → c ≡ d → line.Header v a c ≡ line.Header v b d
+    header v e f = rw (e, f) refl
+
+module _ (s : Clauses) (bits : ℕ) (t : Search) (watch : ◌≡◌ {A = WatchValue} t.watch (record { clauses = clauses_of s.entries; placed = []; vars = s.vars })) (log : t.log ≡ line.Header s.vars (length s.entries) bits ∷ []) (inputs : t.inputs ≡ length s.entries) (same : t.bits ≡ bits)
+    (given : t.given.items ≡ []) (learnt : t.learnt ≡ 0) (model : t.model.items ≡ []) where
+  pub value-start : value_of false t ≡ start_of s bits
+  value-start = rw (watch, log, inputs, same, given, model) (let e : take (length s.entries) (clauses_of s.entries) ≡ clauses_of s.entries = take_all (length s.entries) (clauses_of s.entries) (omega (arith, length-clauses s.entries)) in rw e refl)
+
+  pub search-start : length t.marks.items ≡ s.vars → AreClear t.marks.items → IsSearch t
+  search-start marks unmarked = record {
+    log = subst IsLogOf (sym value-start) (IsLogOf-start s bits);
+    inputs = rw (inputs, watch) (omega (arith, length-clauses s.entries));
+    learnt = rw log learnt;
+    marks = rw watch marks;
+    unmarked = unmarked;
+  }
+
+pub header-is : (old new : List Line) (v w n m bits : ℕ) → old ≡ [] → new ≡ old ++ line.Header v n bits ∷ [] → v ≡ w → n ≡ m → new ≡ line.Header w m bits ∷ []
+header-is old new v w n m bits a b e f = b ∙ rw (a, e, f) refl
+
+pub clear-replicate : (n : ℕ) → AreClear (replicate n false)
+clear-replicate zero x = refl
+clear-replicate (suc n) zero = refl
+clear-replicate (suc n) (suc x) = clear-replicate n x

@@ -1,0 +1,42 @@
+-- Marks on variables, as the analysis of a conflict sets them.
+use Rattle.std.specs.Prelude.{◌≡◌, ℕ, ◌+◌, ◌<◌, ◌≤◌, Bool, true, false, not, ◌||◌, ◌&&◌, ◌==◌, List, [], ◌∷◌, Option, Some, None, slice_get, slice_index_or, if◌then◌else◌}
+use Rattle.clause_store.specs.declared.Lit.{Lit}
+use Rattle.clause_store.specs.Lits.{var_of, negation, SameLits}
+use Rattle.clause_store.specs.Clauses.{at_id}
+use Rattle.proof_log.specs.Known.{has_var}
+use Rattle.proof_log.specs.Derivations.{IsResolvent}
+use Rattle.clause_watch.specs.declared.trail.Placed.{Placed}
+
+abbrev pub mark_at : List Bool → ℕ → Bool
+mark_at marks x = slice_index_or marks x false
+
+abbrev pub AreMarked : List Bool → List Bool → List Lit → Type 0
+AreMarked old new ls = (x : ℕ) → mark_at new x ≡ (mark_at old x || has_var ls x)
+
+abbrev pub AreUnmarked : List Bool → List Bool → List Lit → Type 0
+AreUnmarked old new ls = (x : ℕ) → mark_at new x ≡ (mark_at old x && not (has_var ls x))
+
+abbrev pub AreClear : List Bool → Type 0
+AreClear marks = (x : ℕ) → mark_at marks x ≡ false
+
+-- no variable is marked from one place to another
+abbrev pub NoneMarked : (ℕ → Bool) → List Placed → ℕ → ℕ → Type 0
+NoneMarked m ps low high = (k : ℕ) (p : Placed) → low ≤ k → k < high → slice_get ps k ≡ Some p → m (var_of p.lit) ≡ false
+
+abbrev pub IsLastMarked : (ℕ → Bool) → List Placed → ℕ → Option ℕ → Type 0
+IsLastMarked m ps end None = NoneMarked m ps 0 end
+IsLastMarked m ps end (Some j) = (p : Placed) × (slice_get ps j ≡ Some p) × (j < end) × (m (var_of p.lit) ≡ true) × NoneMarked m ps (j + 1) end
+
+-- the clause of the false literals whose variables are marked
+abbrev pub falsified : (ℕ → Bool) → List Placed → List Lit
+falsified m [] = []
+falsified m (p ∷ ps) = if m (var_of p.lit) then negation p.lit ∷ falsified m ps else falsified m ps
+
+-- a literal's mark is taken away, and the other variables of its reason are marked
+abbrev pub marks_after : (ℕ → Bool) → Lit → List Lit → ℕ → Bool
+marks_after m l c x = not (x == var_of l) && (m x || has_var c x)
+
+-- a chain leads from a clause to another, as sets
+abbrev pub Leads : List (List Lit) → List Lit → List ℕ → List Lit → Type 0
+Leads known a [] r = SameLits a r
+Leads known a (id ∷ ids) r = (b : List Lit) × (q : List Lit) × (pivot : Lit) × (at_id known id ≡ Some b) × IsResolvent a b q pivot × Leads known q ids r

@@ -1,0 +1,51 @@
+-- What an assignment meets, entry by entry.
+use Rattle.std.proofs.Common.{◌≡◌, ◌↔◌, zero, suc, Some, None, ap, ℕ, Bool, true, List, [], ◌∷◌, ◌++◌, refl, sym}
+use Rattle.std.specs.Prelude.{slice_get}
+use Rattle.std.proofs.lemmas.Option.{same_Some, none-some}
+use Rattle.clause_store.specs.declared.Label.{Label}
+use Rattle.clause_store.specs.declared.Label.TheVariants.{Structure, Demand}
+use Rattle.clause_store.specs.declared.list.Entry.{Entry}
+use Rattle.clause_store.specs.Clauses.{Meets, AllTrue, clauses_of, counts, at_id}
+
+pub Meets-append : (asked v : ℕ → Bool) (es fs : List Entry) → Meets asked v es → Meets asked v fs → Meets asked v (es ++ fs)
+Meets-append asked v [] fs a b = b
+Meets-append asked v (e ∷ es) fs a b = (a.0, Meets-append asked v es fs a.1 b)
+
+pub Meets-parts : (asked v : ℕ → Bool) (es fs : List Entry) → Meets asked v (es ++ fs) → Meets asked v es × Meets asked v fs
+Meets-parts asked v [] fs m = (tt, m)
+Meets-parts asked v (e ∷ es) fs m = let p = Meets-parts asked v es fs m.1 in ((m.0, p.0), p.1)
+
+-- where everything may be asked for, each clause counts
+counts-all : (label : Label) → counts (λ d. true) label ≡ true
+counts-all Structure = refl
+counts-all (Demand d) = refl
+
+pub Meets-all : (v : ℕ → Bool) (es : List Entry) → Meets (λ d. true) v es ↔ AllTrue v (clauses_of es)
+Meets-all v es = (down es, up es)
+  where
+    down : (es : List Entry) → Meets (λ d. true) v es → AllTrue v (clauses_of es)
+    down [] m = tt
+    down (e ∷ es) m = (rw (counts-all e.label) at m.0, down es m.1)
+
+    up : (es : List Entry) → AllTrue v (clauses_of es) → Meets (λ d. true) v es
+    up [] m = tt
+    up (e ∷ es) m = (rw (counts-all e.label) m.0, up es m.1)
+
+-- an id names a clause where it names its entry
+pub at_id-clause : (es : List Entry) (id : ℕ) (e : Entry) → at_id es id ≡ Some e → at_id (clauses_of es) id ≡ Some e.clause
+at_id-clause es zero e q = absurd (none-some e q)
+at_id-clause es (suc k) e q = go es k q
+  where
+    go : (es : List Entry) (k : ℕ) → slice_get es k ≡ Some e → slice_get (clauses_of es) k ≡ Some e.clause
+    go [] k q = absurd (none-some e q)
+    go (x ∷ es) zero q = ap (λ y. Some (y.clause)) (same_Some x e q)
+    go (x ∷ es) (suc k) q = go es k q
+
+pub at_id-no_clause : (es : List Entry) (id : ℕ) → at_id es id ≡ None → at_id (clauses_of es) id ≡ None
+at_id-no_clause es zero q = refl
+at_id-no_clause es (suc k) q = go es k q
+  where
+    go : (es : List Entry) (k : ℕ) → slice_get es k ≡ None → slice_get (clauses_of es) k ≡ None
+    go [] k q = refl
+    go (x ∷ es) zero q = absurd (none-some x (sym q))
+    go (x ∷ es) (suc k) q = go es k q

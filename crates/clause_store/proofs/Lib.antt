@@ -1,0 +1,6 @@
+pub mod Order
+pub mod Places
+pub mod Range
+pub mod Sets
+pub mod Meaning
+pub mod Entries

@@ -1,0 +1,96 @@
+//! A clause: literals in order of variables, each variable once.
+ghost use Rattle.std.specs.Prelude.{◌≡◌, List, [], ◌∷◌, IfOk, IsTrue, Some, None, false};
+ghost use Rattle.clause_store.specs.Lits.{place_of, with_lit, clause_of, IsClause};
+
+use crate::Lit;
+use smallvec::SmallVec;
+use std::alloc::{AllocError, Global};
+use std::marker::Model;
+
+/// Literals of which one at least is to be true, seen as the list of them.
+///
+/// Up to four literals stand in place; more take one allocation.
+#[derive(Debug, Drop)]
+pub struct Clause {
+    lits: SmallVec<Lit, 4>,
+}
+
+impl Model for Clause {
+    ghost use Rattle.std.specs.Prelude.{List};
+    ghost use Rattle.clause_store.specs.declared.Lit.{Lit};
+    ghost use Rattle.clause_store.specs.Lits.{IsClause};
+
+    ghost Value = { List Lit };
+
+    ghost view = { λ c. c.lits.items };
+
+    ghost invariant = { λ c. IsClause c.lits.items };
+}
+
+impl Clause {
+    /// The clause of these literals, in whatever order and however often they stand there: None
+    /// where a variable stands with both signs, and so one of them is true in any case.
+    ///
+    /// Takes a binary search for each literal, and time for moving those behind it.
+    pub fn new(alloc: Global, lits: &[Lit]) -> Result<Option<Clause>, AllocError>
+        ensures { IfOk result (λ clause. clause ≡ clause_of lits.now) }
+    {
+        let mut kept = SmallVec::new(alloc);
+        for lit in lits {
+            if !put(&mut kept, *lit)? {
+                return Ok(None);
+            }
+        }
+        Ok(Some(Clause { lits: kept }))
+    }
+
+    /// The clause of one literal.
+    pub fn single(alloc: Global, lit: Lit) -> Result<Clause, AllocError>
+        ensures { IfOk result (λ clause. clause ≡ lit ∷ []) }
+    {
+        let mut lits = SmallVec::new(alloc);
+        lits.push(lit)?;
+        Ok(Clause { lits })
+    }
+
+    /// A clause of the same literals.
+    pub fn duplicate(&self, alloc: Global) -> Result<Clause, AllocError>
+        ensures { IfOk result (λ clause. clause ≡ self.now) }
+    {
+        let lits = SmallVec::from_slice(alloc, self.lits.as_slice())?;
+        Ok(Clause { lits })
+    }
+
+    /// The literals, in order of variables.
+    pub fn lits(&self) -> &[Lit]
+        ensures value { result.now ≡ self.now }
+        ensures in_order { IsClause self.now }
+    {
+        self.lits.as_slice()
+    }
+}
+
+// The first place whose variable is not below the literal's.
+fn find_place(lits: &[Lit], lit: Lit) -> usize
+    requires { IsClause lits.now }
+    ensures { result ≡ place_of lits.now lit }
+{
+    lits.partition_point(|other| other.var.0 < lit.var.0)
+}
+
+// Puts a literal in its place, and says whether its variable was not there with the other sign.
+fn put(lits: &mut SmallVec<Lit, 4>, lit: Lit) -> Result<bool, AllocError>
+    requires { IsClause lits.old.items }
+    ensures fits { IfOk result (λ yes. IsTrue yes → with_lit lits.old.items lit ≡ Some lits.new.items) }
+    ensures clashes { IfOk result (λ yes. yes ≡ false → with_lit lits.old.items lit ≡ None) }
+{
+    let at = find_place(lits.as_slice(), lit);
+    if at < lits.len() {
+        let other = lits[at];
+        if other.var.0 == lit.var.0 {
+            return Ok(other.positive == lit.positive);
+        }
+    }
+    lits.insert(at, lit)?;
+    Ok(true)
+}

@@ -1,0 +1,53 @@
+//! The descent: any model first, and then one bit after another.
+
+ghost use Rattle.std.specs.Prelude.{IfOk, OnOk};
+ghost use Rattle.clause_store.specs.Lits.{AllBelow};
+ghost use Rattle.clause_store.specs.Clauses.{clauses_of};
+ghost use Rattle.proof_log.specs.Known.{AllClauses};
+ghost use Rattle.optimum_search.specs.Finding.{IsFound};
+
+use crate::Found;
+use crate::settle::settle;
+use clause_solver::{Outcome, Solver};
+use clause_store::{ClauseList, Lit};
+use plain_data::List;
+use proof_log::Line;
+use std::alloc::{AllocError, Global};
+
+/// A model with the least bits, the first bit counting most.
+pub fn search(
+    alloc: Global,
+    clauses: &ClauseList,
+    bits: &[Lit],
+    budget: u64,
+) -> Result<Found, AllocError>
+    requires in_range { AllBelow clauses.now.vars bits.now }
+    ensures found { IfOk result (IsFound clauses.now bits.now budget) }
+    ensures in_order { OnOk result (AllClauses (clauses_of clauses.now.entries)) }
+{
+    let mut solver = Solver::new(alloc, clauses, bits.len() as u64)?;
+    match solver.solve(None, budget)? {
+        Outcome::Model => {}
+        Outcome::Refuted => {
+            return Ok(Found::Refuted {
+                log: solver.into_log(),
+            });
+        }
+        Outcome::Spent => {
+            return Ok(Found::Spent {
+                log: solver.into_log(),
+            });
+        }
+    }
+    for at in 0..bits.len() {
+        if !settle(&mut solver, bits, at, budget)? {
+            return Ok(Found::Spent {
+                log: solver.into_log(),
+            });
+        }
+    }
+    let model = List::from_vec(Vec::from_slice(alloc, solver.model())?);
+    let mut log = solver.into_log();
+    log.push(Line::End)?;
+    Ok(Found::Optimal { model, log })
+}
