@@ -1,15 +1,19 @@
 # Which file is the build of a program crate from these very sources, and how one is made. Sourced by the launchers at the
 # top and by the scripts of bench/ and tools/, with `top` set to the top of the checkout; it needs bash and coreutils.
 #
-#   launch NAME WORD..    runs NAME with the words; `--where` alone says which file that would be, and runs nothing
-#   find_program NAME     sets `program` to a build of these sources and `why` to how that is known, or is false
-#   ready_program NAME    the same, and proves and builds one where none is there
-#   sources_hash NAME     the hash of all that NAME is made of
+#   launch NAME WORD..          runs NAME with the words; `--where` alone says which file that would be, and runs nothing
+#   find_program NAME           sets `program` to a build of these sources and `why` to how that is known, or is false
+#   ready_program NAME          the same, and proves and builds one where none is there
+#   sources_hash NAME           the hash of all that NAME is made of
+#   release_fault NAME HASH     why the release of NAME is not the build of the sources with that hash: nothing where it is
 #
 # No file is taken by its age. A local build counts where the note beside it names the hash of these sources and the
 # file's SHA-256; the note is written only after a build that ended well and in which no source was touched, and what was
 # built before is removed first. Failing that, the release counts, where release/ names the same two for it. So what runs
 # is the build of these sources, or nothing runs.
+
+# The program crates that are released.
+programs=(spack_concretize)
 
 # A status and the words of a run that ends with it, touches no file, and tells that a file is the program and runs here:
 # a status that neither `rt`, the shell nor the loader gives.
@@ -55,18 +59,23 @@ source_folders() {
   done < <(crate_lines "$1")
 }
 
-# One hash over those lines and over the path and content of each file in those folders.
-sources_hash() (
+# The SHA-256 and path of each file in these folders below the top, crates' out/ aside, in the byte order of the paths.
+file_sums() (
   set -o pipefail
-  cd "$top" || exit 1
-  lines="$(crate_lines "$1")" && [ -n "$lines" ] || exit 1
-  mapfile -t folders < <(source_folders "$1")
-  [ "${#folders[@]}" -gt 0 ] || exit 1
-  sums="$(find "${folders[@]}" \( -type f -o -type l \) -print0 | LC_ALL=C sort -z | xargs -0 sha256sum)" || exit 1
-  printf '%s\n' "$lines" "$sums" | sha256sum | cut -c1-64
+  cd "$top" && find "$@" -regex 'crates/[^/]*/out' -prune -o \( -type f -o -type l \) -print0 |
+    LC_ALL=C sort -z | xargs -0 sha256sum
 )
 
-# Whether a source of the crate was touched since the file $2 was made, also where it was changed back.
+# One hash over those lines, and over the path and content of each file in those folders.
+sources_hash() {
+  local folders sums
+  mapfile -t folders < <(source_folders "$1")
+  [ "${#folders[@]}" -gt 0 ] && sums="$(file_sums "${folders[@]}")" || return
+  printf '%s\n' "$(crate_lines "$1")" "$sums" | sha256sum | cut -c1-64
+}
+
+# Whether a source of the crate was touched since the file $2 was made, also where it was changed back: by the times of
+# status changes, which nobody can set.
 sources_touched() (
   cd "$top" || exit 0
   mapfile -t folders < <(source_folders "$1")
@@ -77,7 +86,6 @@ sources_touched() (
 # Whether the file $1 has the SHA-256 $2 and can be executed.
 is_file() { [ -x "$1" ] && [ "$(sha256_of "$1")" = "$2" ]; }
 
-# Why the release of the crate $1 is not to be run for sources with the hash $2: nothing where it is.
 release_fault() {
   local file="$1-x86_64-linux" key name of=none sum=none status=0 trial
   [ -e "$top/release/$file" ] || { echo "there is no release of it" && return; }
@@ -152,9 +160,7 @@ build_program() (
 
   [ "$status" = "${trial[0]}" ] || fail "the program could not be built: rt run ended with $status; see $folder/out/build.log"
   [ -x "$built" ] || fail "the program could not be built: rt run left no $built; see $folder/out/build.log"
-  if sources_touched "$name" "$begun" || [ "$(sources_hash "$name")" != "$sources" ]; then
-    fail "sources changed while the program was built, so it is not run; call again"
-  fi
+  ! sources_touched "$name" "$begun" || fail "sources changed while the program was built, so it is not run; call again"
   printf '%s %s\n' "$sources" "$(sha256_of "$built")" >"$begun" && mv "$begun" "$built.note"
 )
 
