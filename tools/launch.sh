@@ -133,6 +133,7 @@ build_program() (
     tell "$name: $*"
     exit 70
   }
+  tell "$name: $why"
   [ -x "$rt" ] || fail "there is no rt on the path and no $rt, so the program cannot be built here"
   mkdir -p "$folder/out" || fail "$folder/out cannot be made"
   exec {lock}<"$top"
@@ -143,19 +144,19 @@ build_program() (
   ! find_program "$name" || exit 0
 
   # A run of `rt` in this crate, as of the gate, keeps what it made until it ends.
-  flock "$folder" rm -f "$built" "$built.note" || fail "$built cannot be removed"
+  flock "$folder" rm -f "$built" "$built.note" "$folder/out/begun."* || fail "$built cannot be removed"
   begun="$(mktemp "$folder/out/begun.XXXXXX")" || fail "$folder/out cannot be written"
   trap 'rm -f "$begun"' EXIT
   sources="$(sources_hash "$name")" || fail "the sources cannot be read"
 
-  tell "$name: $why"
   tell "$name: proving and building the program; from nothing this takes some minutes"
   read -r -a trial <<<"$(trial_of "$name")"
   # `rt run` proves each crate in turn, links the program, and runs it.
   (cd "$folder" && exec "$rt" run -- "${trial[@]:1}") {lock}<&- </dev/null 2>&1 |
     tee "$folder/out/build.log" {lock}<&- |
     sed -un -e "s/^rt: chose .* for \(.*\)$/$name: proving the crate \1/p" \
-      -e 's/^checked \(.*\), \([0-9]*\) of \([0-9]*\)$/  \2 of \3: \1/p' -e '/^error\|: error/p' {lock}<&- >&2
+      -e 's/^so far: \([0-9]* of [0-9]* functions\) checked.*/  \1/p' \
+      -e '/^error\|: error\|: no proof\|waiting for/p' {lock}<&- >&2
   status=${PIPESTATUS[0]}
 
   [ "$status" = "${trial[0]}" ] || fail "the program could not be built: rt run ended with $status; see $folder/out/build.log"
