@@ -114,12 +114,11 @@ find_program() {
     program="$built" why="proved and built here, from these sources"
     return
   fi
-  fault="$(release_fault "$name" "$sources" 2>/dev/null)"
-  if [ -z "$fault" ]; then
+  if fault="$(release_fault "$name" "$sources" 2>/dev/null)" && [ -z "$fault" ]; then
     program="$top/release/$name-x86_64-linux" why="the release: the gate's build of these sources"
     return
   fi
-  why="no build of these sources is here, and $fault"
+  why="no build of these sources is here, and ${fault:-its release cannot be judged}"
   return 1
 }
 
