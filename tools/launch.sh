@@ -143,6 +143,7 @@ build_program() (
   ! find_program "$name" || exit 0
 
   # A run of `rt` in this crate, as of the gate, keeps what it made until it ends.
+  flock -n "$folder" true || tell "$name: waiting for a run of rt in this checkout"
   flock "$folder" rm -f "$built" "$built.note" "$folder/out/begun."* || fail "$built cannot be removed"
   begun="$(mktemp "$folder/out/begun.XXXXXX")" || fail "$folder/out cannot be written"
   trap 'rm -f "$begun"' EXIT
