@@ -10,12 +10,13 @@ top="$(cd "$(dirname "${BASH_SOURCE[0]}")/.." && pwd)"
 work="$(mktemp -d)"
 trap 'rm -rf "$work"' EXIT
 
-"$top/spack_concretize" >/dev/null 2>&1 || true # builds it where that is needed
+source "$top/tools/launch.sh"
+ready_program spack_concretize # the build of these sources, or none
 
-TOP="$top" python3 - "$work" <<'PYTHON'
+python3 - "$program" "$work" <<'PYTHON'
 import os, sys, time, subprocess
 
-work = sys.argv[1]
+program, work = sys.argv[1:]
 limit = 1 << 20
 
 
@@ -42,7 +43,6 @@ def folder(name, text):
     return os.path.join(work, name)
 
 
-program = os.path.join(os.environ["TOP"], "crates/spack_concretize/out/spack_concretize")
 times = []
 for name, share in (("quarter", 0.25), ("half", 0.5), ("whole", 1.0)):
     text, count = recipe(share)

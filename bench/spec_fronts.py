@@ -4,7 +4,7 @@
     bench/spec_fronts.py PROGRAM [--random N] [--seed S] [--no-tables]
     bench/spec_fronts.py --show TEXT..
 
-PROGRAM is the built program (`crates/spack_concretize/out/spack_concretize`, which `./spack_concretize` makes).
+PROGRAM is a build of these sources, which `./spack_concretize --where` names once a call has made one.
 It is run once for each text, over a repository without recipes, two at a time. Counts by kind of answer and each
 disagreement are printed; the status is 1 where there is one. With --show the second reading's answers are printed alone.
 

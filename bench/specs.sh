@@ -12,8 +12,9 @@ work="$(mktemp -d)"
 trap 'rm -rf "$work"' EXIT
 
 if [ -z "${PROGRAM:-}" ]; then
-  "$top/spack_concretize" >/dev/null 2>&1 || true # builds it where that is needed
-  PROGRAM="$top/crates/spack_concretize/out/spack_concretize"
+  source "$top/tools/launch.sh"
+  ready_program spack_concretize # the build of these sources, or none
+  PROGRAM="$program"
 fi
 
 python3 - "$PROGRAM" "$work" <<'PYTHON'

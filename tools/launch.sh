@@ -1,0 +1,190 @@
+# Which file is the build of a program crate from these very sources, and how one is made. Sourced by the launchers at the
+# top and by the scripts of bench/ and tools/, with `top` set to the top of the checkout; it needs bash and coreutils.
+#
+#   launch NAME WORD..          runs NAME with the words; `--where` alone says which file that would be, and runs nothing
+#   find_program NAME           sets `program` to a build of these sources and `why` to how that is known, or is false
+#   ready_program NAME          the same, and proves and builds one where none is there
+#   sources_hash NAME           the hash of all that NAME is made of
+#   release_fault NAME HASH     why the release of NAME is not the build of the sources with that hash: nothing where it is
+#
+# No file is taken by its age. A local build counts where the note beside it names the hash of these sources and the
+# file's SHA-256; the note is written only after a build that ended well and in which no source was touched, and what was
+# built before is removed first. Failing that, the release counts, where release/ names the same two for it. So what runs
+# is the build of these sources, or nothing runs.
+
+# The program crates that are released.
+programs=(spack_concretize)
+
+# A status and the words of a run that ends with it, touches no file, and tells that a file is the program and runs here:
+# a status that neither `rt`, the shell nor the loader gives.
+trial_of() {
+  case $1 in
+  spack_concretize) echo 4 concretize r - - l - @ ;;
+  esac
+}
+
+tell() { printf '%s\n' "$*" >&2; }
+
+sha256_of() { sha256sum <"$1" | cut -c1-64; }
+
+# The lines of crates.txt for the crate and for all of the repository that it stands on, in byte order, without comments.
+crate_lines() {
+  local -A lines=()
+  local text words todo=("$1") name
+  while read -r text || [ -n "$text" ]; do
+    text="${text%%#*}"
+    read -r -a words <<<"${text//,/ }"
+    name="${words[0]:-}"
+    [ -z "$name" ] || lines[${name%%:*}]="${words[*]}"
+  done <"$top/crates.txt"
+  while [ "${#todo[@]}" -gt 0 ]; do
+    name="${todo[-1]}"
+    unset 'todo[-1]'
+    [ -n "${lines[$name]:-}" ] || continue
+    printf '%s\n' "${lines[$name]}"
+    read -r -a words <<<"${lines[$name]#*:}"
+    todo+=("${words[@]}")
+    unset "lines[$name]"
+  done | LC_ALL=C sort
+}
+
+# The folders of those crates that a build reads, one a line, by their paths below the top.
+source_folders() {
+  local line name part
+  while read -r line; do
+    name="${line%%[ :]*}"
+    for part in src specs proofs c; do
+      [ ! -d "$top/crates/$name/$part" ] || printf '%s\n' "crates/$name/$part"
+    done
+  done < <(crate_lines "$1")
+}
+
+# The SHA-256 and path of each file in these folders below the top, crates' out/ aside, in the byte order of the paths.
+file_sums() (
+  set -o pipefail
+  cd "$top" && find "$@" -regex 'crates/[^/]*/out' -prune -o \( -type f -o -type l \) -print0 |
+    LC_ALL=C sort -z | xargs -0 sha256sum
+)
+
+# One hash over those lines, and over the path and content of each file in those folders.
+sources_hash() {
+  local folders sums
+  mapfile -t folders < <(source_folders "$1")
+  [ "${#folders[@]}" -gt 0 ] && sums="$(file_sums "${folders[@]}")" || return
+  printf '%s\n' "$(crate_lines "$1")" "$sums" | sha256sum | cut -c1-64
+}
+
+# Whether a source of the crate was touched since the file $2 was made, also where it was changed back: by the times of
+# status changes, which nobody can set.
+sources_touched() (
+  cd "$top" || exit 0
+  mapfile -t folders < <(source_folders "$1")
+  touched="$(find crates.txt "${folders[@]}" -newercm "$2" -print -quit)" || exit 0
+  [ -n "$touched" ]
+)
+
+# Whether the file $1 has the SHA-256 $2 and can be executed.
+is_file() { [ -x "$1" ] && [ "$(sha256_of "$1")" = "$2" ]; }
+
+release_fault() {
+  local file="$1-x86_64-linux" key name of=none sum=none status=0 trial
+  [ -e "$top/release/$file" ] || { echo "there is no release of it" && return; }
+  while read -r key name of; do
+    [ "$key $name" != "sources $1" ] || break
+    of=none
+  done <"$top/release/PROVENANCE" || true
+  [ "$of" = "$2" ] || { echo "release/$file is the build of other sources" && return; }
+  read -r sum name <"$top/release/$file.sha256" || true
+  is_file "$top/release/$file" "$sum" || { echo "release/$file is not the file that release/$file.sha256 names" && return; }
+  read -r -a trial <<<"$(trial_of "$1")"
+  "$top/release/$file" "${trial[@]:1}" </dev/null >/dev/null 2>&1 || status=$?
+  [ "$status" = "${trial[0]}" ] || echo "release/$file does not run on this machine"
+}
+
+find_program() {
+  local name=$1 sources of='' sum='' fault
+  local built="$top/crates/$name/out/$name"
+  program='' why=''
+  sources="$(sources_hash "$name")" || {
+    why="the sources of $name cannot be read"
+    return 1
+  }
+  { read -r of sum <"$built.note"; } 2>/dev/null || true
+  if [ "$of" = "$sources" ] && is_file "$built" "$sum"; then
+    program="$built" why="proved and built here, from these sources"
+    return
+  fi
+  if fault="$(release_fault "$name" "$sources" 2>/dev/null)" && [ -z "$fault" ]; then
+    program="$top/release/$name-x86_64-linux" why="the release: the gate's build of these sources"
+    return
+  fi
+  why="no build of these sources is here, and ${fault:-its release cannot be judged}"
+  return 1
+}
+
+# Proves and builds the program, and notes what it was built from. Two at once take turns, by a lock on the top folder.
+build_program() (
+  name=$1
+  folder="$top/crates/$name"
+  built="$folder/out/$name"
+  rt="$(command -v rt || echo /opt/rattle/bin/rt)"
+  fail() {
+    tell "$name: $*"
+    exit 70
+  }
+  tell "$name: $why"
+  [ -x "$rt" ] || fail "there is no rt on the path and no $rt, so the program cannot be built here"
+  mkdir -p "$folder/out" || fail "$folder/out cannot be made"
+  exec {lock}<"$top"
+  if ! flock -n "$lock"; then
+    tell "$name: waiting for another build in this checkout"
+    flock "$lock" || true
+  fi
+  ! find_program "$name" || exit 0
+
+  # A run of `rt` in this crate, as of the gate, keeps what it made until it ends.
+  flock -n "$folder" true || tell "$name: waiting for a run of rt in this checkout"
+  flock "$folder" rm -f "$built" "$built.note" "$folder/out/begun."* || fail "$built cannot be removed"
+  begun="$(mktemp "$folder/out/begun.XXXXXX")" || fail "$folder/out cannot be written"
+  trap 'rm -f "$begun"' EXIT
+  sources="$(sources_hash "$name")" || fail "the sources cannot be read"
+
+  tell "$name: proving and building the program; from nothing this takes some minutes"
+  read -r -a trial <<<"$(trial_of "$name")"
+  # `rt run` proves each crate in turn, links the program, and runs it.
+  (cd "$folder" && exec "$rt" run -- "${trial[@]:1}") {lock}<&- </dev/null 2>&1 |
+    tee "$folder/out/build.log" {lock}<&- |
+    sed -un -e "s/^rt: chose .* for \(.*\)$/$name: proving the crate \1/p" \
+      -e 's/^so far: \([0-9]* of [0-9]* functions\) checked.*/  \1/p' \
+      -e '/^error\|: error\|: no proof\|waiting for/p' {lock}<&- >&2
+  status=${PIPESTATUS[0]}
+
+  [ "$status" = "${trial[0]}" ] || fail "the program could not be built: rt run ended with $status; see $folder/out/build.log"
+  [ -x "$built" ] || fail "the program could not be built: rt run left no $built; see $folder/out/build.log"
+  ! sources_touched "$name" "$begun" || fail "sources changed while the program was built, so it is not run; call again"
+  printf '%s %s\n' "$sources" "$(sha256_of "$built")" >"$begun" && mv "$begun" "$built.note"
+)
+
+ready_program() {
+  find_program "$1" && return
+  build_program "$1" || return 70
+  find_program "$1" && return
+  tell "$1: sources changed since the program was built, so it is not run; call again"
+  return 70
+}
+
+launch() {
+  local name=$1
+  shift
+  if [ "$*" = --where ]; then
+    find_program "$name" || {
+      tell "$name: $why; a call proves and builds one"
+      exit 70
+    }
+    printf '%s\n' "$program"
+    tell "$name: $why"
+    exit 0
+  fi
+  ready_program "$name" || exit 70
+  exec "$program" "$@"
+}
