@@ -21,6 +21,8 @@ pub mod SameLaws
 pub mod WhiteLaws
 pub mod BadLaws
 pub mod FaultLaws
+pub mod TotalItems
+pub mod TotalText
 pub mod RightLaws
 pub mod AsciiLaws
 pub mod OrderLaws

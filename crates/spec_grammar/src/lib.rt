@@ -33,5 +33,5 @@ pub use read::{
     read_provision_bytes, read_specs, read_specs_bytes,
 };
 pub use signs::is_white;
-pub use theorems::{reading_laws, writing_laws};
+pub use theorems::{reading_is_total, reading_laws, writing_laws};
 pub use write::{write_spec, write_variants};

@@ -1,6 +1,6 @@
 //! What holds of all texts. The bodies are empty: what is proved are the contracts.
 
-ghost use Rattle.std.specs.Prelude.{◌≡◌, ◌≢◌, ℕ, List, [], ◌∷◌, Contains};
+ghost use Rattle.std.specs.Prelude.{◌≡◌, ◌≢◌, ◌⊎◌, ℕ, List, [], ◌∷◌, Contains};
 ghost use Rattle.std.specs.Str.{IsAscii};
 ghost use Rattle.spec_grammar.specs.Reading.{Spells};
 ghost use Rattle.spec_grammar.specs.Faults.{IsFault};
@@ -16,6 +16,13 @@ pub fn reading_laws()
     ensures one_fault { (mode : Mode) (text : List ℕ) (a b : SpecFault) → IsFault mode text a → IsFault mode text b → a ≢ SpecFault.OutOfMemory → b ≢ SpecFault.OutOfMemory → a ≡ b }
     ensures right { (mode : Mode) (text : List ℕ) (specs : List Spec) (fault : SpecFault) → Spells mode text specs → IsFault mode text fault → fault ≡ SpecFault.OutOfMemory }
     ensures ascii { (mode : Mode) (text : List ℕ) (specs : List Spec) → Spells mode text specs → IsAscii text }
+{}
+
+/// Each text spells specs or has a fault other than want of memory; by `reading_laws` it has one of the
+/// two, and one alone. So a text that was refused for want of memory has a reading or another fault too.
+/// Nothing is asked of the text: places have no bound here, and an entry above 255 stands in no item.
+pub fn reading_is_total()
+    ensures total { (mode : Mode) (text : List ℕ) → ((specs : List Spec) × Spells mode text specs) ⊎ ((fault : SpecFault) × IsFault mode text fault × (fault ≢ SpecFault.OutOfMemory)) }
 {}
 
 /// The canonical text of each spec that was read spells that spec alone, in a text of the same kind.
