@@ -1,3 +1,4 @@
+# shellcheck shell=bash
 # Which file is the build of a program crate from these very sources, and how one is made. Sourced by the launchers at the
 # top and by the scripts of bench/ and tools/, with `top` set to the top of the checkout; it needs bash and coreutils.
 #

@@ -1,3 +1,4 @@
+# shellcheck shell=bash
 # What tools/test_launcher and tools/test_launcher_real share: a scratch copy of this checkout, calls in it, and checks of
 # what they did. To be sourced.
 set -uo pipefail
