@@ -1,16 +1,17 @@
 #!/usr/bin/env python3
 """Times the reading of long recipes: a quarter, a half and the whole of 1 MiB (the most that is read) of an ordinary recipe, of
-opening brackets, of quotation marks, of blocks each one space deeper, and of `with` lines inside a method, each one space deeper.
+opening brackets, of quotation marks, of blocks and of `with` lines each one space deeper inside a method, and of `with` lines beside each other
+inside a method.
 
     bench/recipe_times.py              (PROGRAM=FILE bench/recipe_times.py times another build of `recipe_rows`)
 
-The times are of whole runs, of which the least of five counts; the run over an empty file is taken off. The ratios of each
-doubling are printed: the time is to be linear in the length, so they are to be near 2.
+The times are the processor's, of whole runs, of which the least of ten counts; a run over an empty file is taken off. The ratios
+of each doubling are printed: the time is to be linear in the length, so they are to be near 2.
 """
 import os
+import resource
 import subprocess
 import tempfile
-import time
 
 from recipe_tokens import TOP, program
 
@@ -46,10 +47,11 @@ SHAPES = (
 
 def spent(built, path, word):
     best = None
-    for _ in range(5):
-        begun = time.perf_counter()
+    for _ in range(10):
+        begun = resource.getrusage(resource.RUSAGE_CHILDREN)
         answer = subprocess.run([built, word, path], capture_output=True, text=True, check=True).stdout.strip()
-        passed = time.perf_counter() - begun
+        ended = resource.getrusage(resource.RUSAGE_CHILDREN)
+        passed = ended.ru_utime + ended.ru_stime - begun.ru_utime - begun.ru_stime
         best = passed if best is None else min(best, passed)
     return best, answer
 
@@ -70,7 +72,7 @@ def main():
                 best, answer = spent(built, path, "count")
                 times.append(best - base)
                 print("%-17s %8d bytes %8.4f s   %s" % (name, len(data), best - base, answer))
-            print("%-17s ratios %.2f %.2f" % (name, times[1] / times[0], times[2] / times[1]))
+            print("%-17s ratios %.2f %.2f" % (name, times[1] / max(times[0], 1e-4), times[2] / max(times[1], 1e-4)))
 
 
 if __name__ == "__main__":

@@ -8,7 +8,8 @@ The program is `recipe_rows`, which prints the tokens of files; it is built wher
 Python's faults are others; nor where the text has a string prefix that Python does not know, bytes from 128 up in words that
 are no Python names, or signs that Python does not have. Numbers and signs of several bytes, which Python takes as one token,
 are cut as the profile cuts them, and numbers with a name directly behind them are one word. An indentation that is deeper without a `:`, and a tab in an indentation, are faults of the
-profile alone; a line that starts with a joined line end, and a last line of white space alone, are read otherwise.
+profile alone; a line that starts with a joined line end, one with nothing or a comment behind the last join, and a last line of
+white space alone are read otherwise.
 The rows of `crates/recipe_rows/data/tokens.txt` are compared with the second reading too.
 """
 import io
@@ -182,7 +183,7 @@ def made(draw):
 def for_python(data):
     """Whether Python knows all that stands in the text."""
     text = data.decode()
-    if re.search(r"[$?!\v\r\f\t]|^ *\\\n|^ +\Z|\\\n\Z", text, re.M):
+    if re.search(r"[$?!\v\r\f\t]|^ *\\\n|^ +\Z|\\\n *(#|\Z)", text, re.M):
         return False
     for piece in PIECE.finditer(data):
         if piece.lastgroup == "text":

@@ -1,6 +1,7 @@
 //! What the stages answer, as texts.
 
-use recipe_lexer::{LexFault, Token, TokenKind, lex};
+use recipe_lexer::{LexFault, Token, TokenKind};
+use recipe_statements::{Item, StatementFault};
 use std::alloc::{AllocError, Global};
 
 fn push_sign(alloc: Global, out: &mut String, b: u8) -> Result<(), AllocError> {
@@ -28,7 +29,8 @@ fn push_token(alloc: Global, out: &mut String, token: Token) -> Result<(), Alloc
     out.push_str(format!(in alloc; "@{start}-{end} ")?.as_str())
 }
 
-fn fault_text(alloc: Global, fault: LexFault) -> Result<String, AllocError> {
+/// A fault of the first stage, as `OpenString 30`.
+pub(crate) fn lex_fault_text(alloc: Global, fault: LexFault) -> Result<String, AllocError> {
     match fault {
         LexFault::NotUtf8 => String::from_str(alloc, "NotUtf8"),
         LexFault::OpenString(place) => format!(in alloc; "OpenString {place}"),
@@ -38,26 +40,48 @@ fn fault_text(alloc: Global, fault: LexFault) -> Result<String, AllocError> {
     }
 }
 
-/// The tokens of a text, as `Word@0-5 (@7-8`, or its fault, as `OpenString 30`.
-pub(crate) fn tokens_text(alloc: Global, bytes: &[u8]) -> Result<String, AllocError> {
-    let tokens = match lex(alloc, bytes) {
-        Ok(tokens) => tokens,
-        Err(fault) => return fault_text(alloc, fault),
-    };
+/// Tokens, as `Word@0-5 (@7-8`.
+pub(crate) fn tokens_text(alloc: Global, tokens: &[Token]) -> Result<String, AllocError> {
     let mut out = String::new(alloc);
-    for token in tokens.as_slice() {
+    for token in tokens {
         push_token(alloc, &mut out, *token)?;
     }
     Ok(out)
 }
 
-/// How many tokens a text has, or its fault.
-pub(crate) fn count_text(alloc: Global, bytes: &[u8]) -> Result<String, AllocError> {
-    match lex(alloc, bytes) {
-        Ok(tokens) => {
-            let count = tokens.len();
-            format!(in alloc; "{count} tokens")
+fn push_item(alloc: Global, out: &mut String, item: Item) -> Result<(), AllocError> {
+    match item {
+        Item::With { first, last, depth } => {
+            out.push_str(format!(in alloc; "With@{first}-{last}/{depth} ")?.as_str())
         }
-        Err(fault) => fault_text(alloc, fault),
+        Item::Call { first, last, depth } => {
+            out.push_str(format!(in alloc; "Call@{first}-{last}/{depth} ")?.as_str())
+        }
+    }
+}
+
+/// Items, as `With@8-13/0 Call@16-19/1`.
+pub(crate) fn items_text(alloc: Global, items: &[Item]) -> Result<String, AllocError> {
+    if items.is_empty() {
+        return String::from_str(alloc, "none");
+    }
+    let mut out = String::new(alloc);
+    for item in items {
+        push_item(alloc, &mut out, *item)?;
+    }
+    Ok(out)
+}
+
+/// A fault of the second stage, as `Unsupported 30`.
+pub(crate) fn statement_fault_text(
+    alloc: Global,
+    fault: StatementFault,
+) -> Result<String, AllocError> {
+    match fault {
+        StatementFault::Unsupported(place) => format!(in alloc; "Unsupported {place}"),
+        StatementFault::NoClass => String::from_str(alloc, "NoClass"),
+        StatementFault::TwoClasses(place) => format!(in alloc; "TwoClasses {place}"),
+        StatementFault::TooDeep(place) => format!(in alloc; "TooDeep {place}"),
+        StatementFault::OutOfMemory => String::from_str(alloc, "OutOfMemory"),
     }
 }

@@ -4,7 +4,7 @@
 //! for an answer that lies in a file. Other lines are comments. White space in an answer does not count.
 
 use crate::escape::unescaped;
-use crate::show::tokens_text;
+use crate::stage::{Stage, answer};
 use std::{fs, io};
 
 /// What was met so far.
@@ -12,7 +12,9 @@ use std::{fs, io};
 struct Tally {
     /// The answer to the row that waits for the one wanted.
     shown: String,
+    /// How many rows there were.
     rows: u64,
+    /// How many of them differed.
     differ: u64,
 }
 
@@ -31,14 +33,14 @@ fn compare(rt: &HostRuntime, tally: &mut Tally, wanted: &str) -> io::Result<()> 
     println!(rt; "got    {shown}")
 }
 
-fn take_line(rt: &HostRuntime, tally: &mut Tally, line: &str) -> io::Result<()> {
+fn take_line(rt: &HostRuntime, stage: Stage, tally: &mut Tally, line: &str) -> io::Result<()> {
     if let Some(text) = line
         .strip_prefix("text «")
         .and_then(|rest| rest.strip_suffix("»"))
     {
-        tally.shown = tokens_text(rt.alloc(), &unescaped(rt.alloc(), text.as_bytes())?)?;
+        tally.shown = answer(rt.alloc(), stage, &unescaped(rt.alloc(), text.as_bytes())?)?;
     } else if let Some(name) = line.strip_prefix("file ") {
-        tally.shown = tokens_text(rt.alloc(), &fs::read(rt, name)?)?;
+        tally.shown = answer(rt.alloc(), stage, &fs::read(rt, name)?)?;
     } else if let Some(wanted) = line.strip_prefix("want ") {
         return compare(rt, tally, wanted);
     } else if let Some(name) = line.strip_prefix("want_file ") {
@@ -49,7 +51,7 @@ fn take_line(rt: &HostRuntime, tally: &mut Tally, line: &str) -> io::Result<()> 
 }
 
 /// Goes over a table, and prints what differs and how many rows there are.
-pub(crate) fn go_over(rt: &HostRuntime, name: &str) -> io::Result<()> {
+pub(crate) fn go_over(rt: &HostRuntime, stage: Stage, name: &str) -> io::Result<()> {
     let text = fs::read_to_string(rt, name)?;
     let mut tally = Tally {
         shown: String::new(rt.alloc()),
@@ -57,7 +59,7 @@ pub(crate) fn go_over(rt: &HostRuntime, name: &str) -> io::Result<()> {
         differ: 0,
     };
     for line in text.lines() {
-        take_line(rt, &mut tally, line)?;
+        take_line(rt, stage, &mut tally, line)?;
     }
     let Tally { rows, differ, .. } = tally;
     println!(rt; "{name}: {rows} rows, {differ} differ")

@@ -1,0 +1,46 @@
+//! The stages, and what they answer to a text.
+
+use crate::show::{items_text, lex_fault_text, statement_fault_text, tokens_text};
+use plain_data::List;
+use recipe_lexer::{Token, lex};
+use recipe_statements::statements;
+use std::alloc::{AllocError, Global};
+
+/// What is shown of a text.
+#[derive(Clone, Copy)]
+pub(crate) enum Stage {
+    /// Its tokens.
+    Tokens,
+    /// Its items.
+    Items,
+    /// How many tokens and items it has.
+    Count,
+}
+
+fn of_tokens(
+    alloc: Global,
+    stage: Stage,
+    bytes: &[u8],
+    tokens: &List<Token>,
+) -> Result<String, AllocError> {
+    if let Stage::Tokens = stage {
+        return tokens_text(alloc, tokens.as_slice());
+    }
+    let items = match statements(alloc, bytes, tokens.as_slice()) {
+        Ok(items) => items,
+        Err(fault) => return statement_fault_text(alloc, fault),
+    };
+    if let Stage::Items = stage {
+        return items_text(alloc, items.as_slice());
+    }
+    let (many, few) = (tokens.len(), items.len());
+    format!(in alloc; "{many} tokens, {few} items")
+}
+
+/// What a stage answers to a text, or the first fault.
+pub(crate) fn answer(alloc: Global, stage: Stage, bytes: &[u8]) -> Result<String, AllocError> {
+    match lex(alloc, bytes) {
+        Ok(tokens) => of_tokens(alloc, stage, bytes, &tokens),
+        Err(fault) => lex_fault_text(alloc, fault),
+    }
+}
