@@ -1,0 +1,6 @@
+pub mod CellLaws
+pub mod TreeLaws
+pub mod BinaryLaws
+pub mod AddLoops
+pub mod ComparedLaws
+pub mod ChoiceLaws

@@ -1,0 +1,7 @@
+pub mod KeptClauses
+pub mod Composed
+pub mod Plans
+pub mod StepLaws
+pub mod ShapeLaws
+pub mod Loops
+pub mod OneGate
