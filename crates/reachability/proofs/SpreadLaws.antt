@@ -94,22 +94,30 @@ module _ {K : Type 0} (same : K → K → Bool) (exact : (x y : K) → Decides (
   spread-from : (rounds : ℕ) (arcs : List (K × K)) (tails : List K) (q : K) → Contains (spread same rounds arcs tails) q → (p : K) × Contains tails p × Path (HasArc arcs) p q
   unfolding spread
   spread-from zero arcs tails q there = absurd (omega (arith, there.1))
-  spread-from (suc rounds) arcs tails q there = ⊎_elim
+  spread-from (suc rounds) arcs [] q there = absurd (omega (arith, there.1))
+  spread-from (suc rounds) arcs (tail ∷ rest) q there =
+      let tails = tail ∷ rest in
+      let heads = heads_from same arcs tails in
+      ⊎_elim
       (λ here. let w = from_head arcs tails q here in (w.0, w.1, one_arc (HasArc arcs) w.0 q w.2))
       (λ later.
-      let rest = spread-from rounds (arcs_left same arcs tails) (heads_from same arcs tails) q later in
-      let w = from_head arcs tails rest.0 rest.1 in
-      let path = carried (HasArc (arcs_left same arcs tails)) (HasArc arcs) (λ x. x) (from_other arcs tails) rest.0 q rest.2 in
-      (w.0, w.1, arc_before (HasArc arcs) w.0 rest.0 q w.2 path))
-      (Contains-append_cases (heads_from same arcs tails) (spread same rounds (arcs_left same arcs tails) (heads_from same arcs tails)) q there)
+      let behind = spread-from rounds (arcs_left same arcs tails) heads q later in
+      let w = from_head arcs tails behind.0 behind.1 in
+      let path = carried (HasArc (arcs_left same arcs tails)) (HasArc arcs) (λ x. x) (from_other arcs tails) behind.0 q behind.2 in
+      (w.0, w.1, arc_before (HasArc arcs) w.0 behind.0 q w.2 path))
+      (Contains-append_cases heads (spread same rounds (arcs_left same arcs tails) heads) q there)
 
   spread-has : (rounds : ℕ) (arcs : List (K × K)) (tails : List K) → length arcs ≤ rounds → (p q : K) → Contains tails p → Path (HasArc arcs) p q → Contains (spread same rounds arcs tails) q
   unfolding spread
   spread-has zero arcs tails le p q there path = absurd (⊎_elim (λ arc. omega (arith, le, arc.1)) (λ w. omega (arith, le, w.1.1)) (first_arc (HasArc arcs) p q path))
-  spread-has (suc rounds) arcs tails le p q there path = ⊎_elim
-      (λ here. Contains-append_left (heads_from same arcs tails) (spread same rounds (arcs_left same arcs tails) (heads_from same arcs tails)) q here)
-      (λ w. Contains-append_right (heads_from same arcs tails) (spread same rounds (arcs_left same arcs tails) (heads_from same arcs tails)) q
-      (spread-has rounds (arcs_left same arcs tails) (heads_from same arcs tails) (omega (arith, le, fewer arcs tails w.0 w.1)) w.0 q w.1 w.2))
+  spread-has (suc rounds) arcs [] le p q there path = absurd (omega (arith, there.1))
+  spread-has (suc rounds) arcs (tail ∷ rest) le p q there path =
+      let tails = tail ∷ rest in
+      let heads = heads_from same arcs tails in
+      ⊎_elim
+      (λ here. Contains-append_left heads (spread same rounds (arcs_left same arcs tails) heads) q here)
+      (λ w. Contains-append_right heads (spread same rounds (arcs_left same arcs tails) heads) q
+      (spread-has rounds (arcs_left same arcs tails) heads (omega (arith, le, fewer arcs tails w.0 w.1)) w.0 q w.1 w.2))
       (next arcs tails p q there path)
 
   pub reached_has : (arcs : List (K × K)) (p q : K) → Contains (reached same arcs p) q → Path (HasArc arcs) p q

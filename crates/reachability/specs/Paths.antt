@@ -42,12 +42,14 @@ module _ {K : Type 0} where
     arcs_left arcs tails = filter (λ arc. not (among tails arc.0)) arcs
 
     -- where paths from these keys lead to, in as many rounds: each follows the arcs from where the
-    -- last one led to, and no arc is followed twice
+    -- last one led to, and no arc is followed twice; where it led nowhere nothing is left to follow
     unfoldable pub spread : ℕ → List (K × K) → List K → List K
     spread zero arcs tails = []
-    spread (suc rounds) arcs tails = heads_from arcs tails ++ spread rounds (arcs_left arcs tails) (heads_from arcs tails)
+    spread (suc rounds) arcs [] = []
+    spread (suc rounds) arcs (tail ∷ tails) =
+        heads_from arcs (tail ∷ tails) ++ spread rounds (arcs_left arcs (tail ∷ tails)) (heads_from arcs (tail ∷ tails))
 
-    -- where paths from p lead to: a round without an arc is the last one
+    -- where paths from p lead to: a round that leads anywhere follows an arc, so there are no more than arcs
     unfoldable pub reached : List (K × K) → K → List K
     reached arcs p = spread (length arcs) arcs (p ∷ [])
 
