@@ -1,0 +1,16 @@
+use Rattle.std.proofs.Common.{◌≡◌, ◌+◌, ◌*◌, ◌≤◌, false, drop}
+use Rattle.clause_formulas.specs.Statements.{any_of, weight}
+use Rattle.clause_formulas.specs.Built.{assert_on}
+use Rattle.clause_formulas.proofs.claims.+claim.Given as goal
+
+abbrev pub invariant-claim_any-loop-part : goal.invariant-claim_any-loop-part
+invariant-claim_any-loop-part l = record {
+  rest : assert_on l.label l.clauses false (any_of (drop l.part-index l.parts)) ≡ assert_on l.label l.fn.clauses false (any_of l.parts);
+  more : l.fn.clauses.vars ≤ l.clauses.vars;
+}
+
+abbrev pub decreases-claim : goal.decreases-claim
+decreases-claim l = 2 * weight l.formula.now + 1
+
+abbrev pub decreases-claim_any : goal.decreases-claim_any
+decreases-claim_any l = 2 * weight (any_of l.parts.now)

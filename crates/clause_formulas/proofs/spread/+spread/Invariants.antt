@@ -1,0 +1,19 @@
+use Rattle.std.proofs.Common.{◌≡◌, ◌+◌, ◌*◌, drop}
+use Rattle.clause_store.specs.Lits.{AllBelow}
+use Rattle.clause_formulas.specs.Statements.{any_of, weight}
+use Rattle.clause_formulas.specs.Built.{spread_on}
+use Rattle.gate_plans.specs.Growth.{Extends}
+use Rattle.clause_formulas.proofs.spread.+spread.Given as goal
+
+abbrev pub invariant-spread_any-loop-part : goal.invariant-spread_any-loop-part
+invariant-spread_any-loop-part l = record {
+  rest : spread_on l.clauses l.draft (any_of (drop l.part-index l.parts)) ≡ spread_on l.fn.clauses l.fn.draft (any_of l.parts);
+  below : AllBelow l.clauses.vars l.draft.lits;
+  extends : Extends l.fn.clauses l.clauses;
+}
+
+abbrev pub decreases-spread : goal.decreases-spread
+decreases-spread l = 2 * weight l.formula.now + 1
+
+abbrev pub decreases-spread_any : goal.decreases-spread_any
+decreases-spread_any l = 2 * weight (any_of l.parts.now)

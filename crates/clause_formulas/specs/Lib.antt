@@ -1,0 +1,11 @@
+-- what public contracts say
+pub mod Statements
+pub mod Drafts
+pub mod Values
+pub mod Built
+pub mod Rules
+pub mod Rows
+-- what is inside
+pub mod Codes
+pub mod Nodes
+pub mod Sizes

@@ -1,0 +1,29 @@
+-- What a longer list of clauses says of values.
+use Rattle.std.specs.Prelude.{◌≡◌, ℕ, Bool, List, [], ◌∷◌}
+use Rattle.clause_store.specs.Clauses.{Clauses}
+use Rattle.gate_plans.specs.Growth.{MeetsSince, Defines}
+use Rattle.clause_formulas.specs.declared.defined.Defined.{Defined}
+use Rattle.clause_formulas.specs.Statements.{Statement, eval}
+use Rattle.clause_formulas.specs.Drafts.{defined_true, DefinedBelow}
+
+-- a value is true exactly where a fact of the assignment holds
+pub record Means (old new : Clauses) (d : Defined) (f : (ℕ → Bool) → Bool) : Type 0 where
+  pub below : DefinedBelow new.vars d
+  pub value : (asked v : ℕ → Bool) → MeetsSince asked v old new → defined_true v d ≡ f v
+
+-- the new list defines a value that is true exactly where a fact of the assignment holds
+pub record DefinesValue (old new : Clauses) (d : Defined) (f : (ℕ → Bool) → Bool) : Type 0 where
+  pub defines : Defines old new
+  pub means : Means old new d f
+
+-- each value is true exactly where its formula is
+abbrev pub MeanEach : Clauses → Clauses → List Defined → List Statement → Type 0
+MeanEach old new [] [] = Unit {0}
+MeanEach old new [] (f ∷ fs) = ⊥
+MeanEach old new (d ∷ ds) [] = ⊥
+MeanEach old new (d ∷ ds) (f ∷ fs) = Means old new d (λ v. eval v f) × MeanEach old new ds fs
+
+-- the new list defines a value for each formula
+pub record DefinesValues (old new : Clauses) (ds : List Defined) (fs : List Statement) : Type 0 where
+  pub defines : Defines old new
+  pub means : MeanEach old new ds fs

@@ -1,0 +1,74 @@
+//! What is known of a formula.
+ghost use Rattle.std.specs.Prelude.{◌≡◌, OnOk};
+ghost use Rattle.clause_formulas.specs.Drafts.{reverse_of, with_defined, empty};
+
+use clause_store::Lit;
+use std::alloc::{AllocError, Global};
+use std::marker::Model;
+
+/// A formula's value: a constant, or a literal that is true exactly where the formula is.
+#[derive(Clone, Copy)]
+pub enum Defined {
+    Known(bool),
+    By(Lit),
+}
+
+impl Defined {
+    /// True where this one is false.
+    pub fn reversed(self) -> Defined
+        ensures { result ≡ reverse_of self }
+    {
+        match self {
+            Defined::Known(value) => Defined::Known(!value),
+            Defined::By(lit) => Defined::By(lit.negated()),
+        }
+    }
+}
+
+/// A clause in the making: some literal is true, or it always holds.
+#[derive(Drop)]
+pub(crate) struct Draft {
+    lits: Vec<Lit>,
+    always: bool,
+}
+
+impl Model for Draft {
+    ghost use Rattle.clause_formulas.specs.Drafts.{Draft};
+
+    ghost Value = { Draft };
+
+    ghost view = { λ d. record { lits = d.lits.items; always = d.always } };
+}
+
+impl Draft {
+    pub(crate) fn new(alloc: Global) -> Draft
+        ensures { result ≡ empty }
+    {
+        Draft {
+            lits: Vec::new(alloc),
+            always: false,
+        }
+    }
+
+    pub(crate) fn put(&mut self, value: Defined) -> Result<(), AllocError>
+        ensures { OnOk result (self.new ≡ with_defined self.old value) }
+    {
+        match value {
+            Defined::Known(holds) => self.always = self.always || holds,
+            Defined::By(lit) => self.lits.push(lit)?,
+        }
+        Ok(())
+    }
+
+    pub(crate) fn always(&self) -> bool
+        ensures { result ≡ self.now.always }
+    {
+        self.always
+    }
+
+    pub(crate) fn lits(&self) -> &[Lit]
+        ensures { result.now ≡ self.now.lits }
+    {
+        self.lits.as_slice()
+    }
+}

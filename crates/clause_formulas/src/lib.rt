@@ -1,0 +1,23 @@
+//! Formulas over literals as plain data, and the clauses that say them.
+//!
+//! It promises: `define` gives a formula a value, `assert` and `demand` ask for it; each call equals
+//! a computing definition (so that clauses have fixed numbers), and has one law, which says what the
+//! new clauses ask of the old variables. Constants fold, any-ofs in any-ofs flatten, an implication
+//! is one clause, and only what stands under the other sign takes a variable. It stands on
+//! `gate_plans`, whose words of growth it takes over. It must not know what literals mean.
+#![tactic(auto)]
+
+mod claims;
+mod defined;
+mod formula;
+mod range;
+mod spread;
+mod theorems;
+mod values;
+
+pub use claims::{assert, demand, demand_all};
+pub use defined::Defined;
+pub use formula::Formula;
+pub use range::{are_below, is_below};
+pub use theorems::{rule_laws, word_laws, worked_claims, worked_values};
+pub use values::{define, define_all, literal};
