@@ -1,0 +1,4 @@
+pub mod UnaryLaws
+pub mod MergeLoops
+pub mod SpellingLaws
+pub mod TotalLaws

@@ -1,0 +1,125 @@
+// Rows of graphs.
+//
+// The items are put one after another: `NAME` or `NAME@VERSION` is a node, `PARENT>CHILD` an edge,
+// `VIRTUAL=PACKAGE` a provider. Those that were not put are answered, and how many nodes there are.
+// Questions: `nodes`, `edges`, `providers`, `node NAME`, `from NAME`, `provider VIRTUAL`,
+// `reaches FROM TO`, `leads FROM TO` (asked of all paths at once), `copy NAME` (a node and its copy).
+
+use crate::read::{edge_of, node_of};
+use crate::show::{push_bool, push_edge, push_node, push_word};
+use graph_core::{Graph, Reach, reaches};
+use plain_data::{Duplicate, Same, Word};
+use std::alloc::{AllocError, Global};
+use version_order::VersionFault;
+
+/// What the graph of these items answers.
+pub fn answer(
+    alloc: Global,
+    text: &mut String,
+    items: &[&str],
+    questions: &[&str],
+) -> Result<(), AllocError> {
+    let mut graph = Graph::new(alloc);
+    for item in items {
+        if !put(alloc, &mut graph, item)? {
+            text.push_str(item)?;
+            text.push_str(" ")?;
+        }
+    }
+    let count = format!(in alloc; "{}", graph.nodes().len())?;
+    text.push_str(count.as_str())?;
+    let reach = Reach::new(alloc, &graph)?;
+    for question in questions {
+        let words: Vec<&str> = question.split_whitespace().collect(alloc)?;
+        text.push_str(" |")?;
+        ask(alloc, text, &graph, &reach, words.as_slice())?;
+    }
+    Ok(())
+}
+
+// Puts one item; whether it was put.
+fn put(alloc: Global, graph: &mut Graph, item: &str) -> Result<bool, AllocError> {
+    if let Some((parent, child)) = item.split_once('>') {
+        return graph.add_edge(edge_of(alloc, parent, child)?);
+    }
+    if let Some((name, provider)) = item.split_once('=') {
+        return graph.set_provider(Word::new(alloc, name)?, Word::new(alloc, provider)?);
+    }
+    match node_of(alloc, item) {
+        Ok(node) => graph.add_node(node),
+        Err(VersionFault::OutOfMemory) => Err(AllocError),
+        Err(_) => Ok(false),
+    }
+}
+
+fn ask(
+    alloc: Global,
+    text: &mut String,
+    graph: &Graph,
+    reach: &Reach,
+    words: &[&str],
+) -> Result<(), AllocError> {
+    match words {
+        [what] => list(text, graph, what),
+        [what, name] if *what == "copy" => copy(alloc, text, graph, name),
+        [what, name] => look_up(text, graph, what, name),
+        [what, from, to] if *what == "reaches" => {
+            push_bool(text, reaches(alloc, graph, from, to)?)
+        }
+        [what, from, to] if *what == "leads" => push_bool(text, reach.leads(from, to)),
+        _ => push_word(text, "no"),
+    }
+}
+
+fn list(text: &mut String, graph: &Graph, what: &str) -> Result<(), AllocError> {
+    match what {
+        "nodes" => {
+            for node in graph.nodes() {
+                push_node(text, node)?;
+            }
+        }
+        "edges" => {
+            for edge in graph.edges() {
+                push_edge(text, edge)?;
+            }
+        }
+        "providers" => {
+            for (name, provider) in graph.providers() {
+                push_word(text, name.as_str())?;
+                text.push_str("=")?;
+                text.push_str(provider.as_str())?;
+            }
+        }
+        _ => push_word(text, "no")?,
+    }
+    Ok(())
+}
+
+fn look_up(text: &mut String, graph: &Graph, what: &str, name: &str) -> Result<(), AllocError> {
+    match what {
+        "node" => match graph.node(name) {
+            Some(node) => push_node(text, node),
+            None => push_word(text, "none"),
+        },
+        "provider" => push_word(text, graph.provider_of(name).unwrap_or("none")),
+        "from" => {
+            for edge in graph.edges_from(name) {
+                push_edge(text, edge)?;
+            }
+            Ok(())
+        }
+        _ => push_word(text, "no"),
+    }
+}
+
+// A node's copy, and whether it is the same as the node.
+fn copy(alloc: Global, text: &mut String, graph: &Graph, name: &str) -> Result<(), AllocError> {
+    match graph.node(name) {
+        Some(node) => {
+            let copy = node.duplicate(alloc)?;
+            push_node(text, &copy)?;
+            push_bool(text, node.same(&copy))
+        }
+        None => push_word(text, "none"),
+    }
+}
