@@ -1,7 +1,6 @@
-//! Worked rows of whole runs: the tests of the top call, as tables.
+//! Whole runs that only code can show: over steady devices, and with each allocation failing in turn.
 //!
-//! Each test goes over a table of words and files, and of all that a run over them must answer, say and
-//! leave. The answers come from the rules and from other programs, never from what the call answers.
+//! All other whole runs are scenarios, in the data of `replay_scenarios`.
 //! It stands on the top call and the devices. Nothing stands on it.
 #![tactic(auto)]
 
@@ -10,8 +9,4 @@ mod checks;
 #[cfg(test)]
 mod faults;
 #[cfg(test)]
-mod recipes;
-#[cfg(test)]
-mod runs;
-#[cfg(test)]
-mod spec_runs;
+mod steady;
