@@ -1,6 +1,7 @@
 pub mod Causes
 pub mod Files
 pub mod FileMap
+pub mod Listing
 pub mod MemoryDesk
 pub mod MemorySink
 pub mod RealDesk

@@ -3,6 +3,7 @@ ghost use Rattle.std.specs.Prelude.{◌≡◌, ◌≤◌, ◌<◌, ◌^◌, ℕ,
 ghost use Rattle.std.specs.FinMap.{get};
 ghost use Rattle.outside_desk.specs.Causes.{Counts};
 ghost use Rattle.outside_desk.specs.Files.{Files, ReadsAt, with_file, MayHold};
+ghost use Rattle.outside_desk.specs.Listing.{Lists};
 
 use crate::DeskFault;
 use std::alloc::Global;
@@ -48,6 +49,7 @@ pub trait Desk {
     ///
     /// `Missing` where there is none.
     fn list(&mut self, alloc: Global, path: &str) -> Result<Vec<String>, DeskFault>
+        ensures names { IfSome (files self.old) (λ m. Lists m path.now result) }
         ensures same { files self.new ≡ files self.old }
         ensures cause { Counts (faults self.old) (faults self.new) (IsErrOf result DeskFault.Failed) }
         ensures put_faults { put_faults self.new ≡ put_faults self.old };

@@ -3,6 +3,7 @@ ghost use Rattle.std.specs.Prelude.{◌≡◌, [], ◌∷◌, ◌++◌, ◌+◌,
 ghost use Rattle.std.specs.Option.{option_copied};
 ghost use Rattle.std.specs.FinMap as map;
 ghost use Rattle.outside_desk.specs.Files.{ReadsAt};
+ghost use Rattle.outside_desk.specs.Listing.{Lists};
 
 use crate::calls::Calls;
 use crate::file_map::FileMap;
@@ -117,6 +118,7 @@ impl Desk for MemoryDesk {
     }
 
     fn list(&mut self, _: Global, path: &str) -> Result<Vec<String>, DeskFault>
+        ensures names { Lists (desk_state self.old).files path.now result }
         ensures calls { Looks (desk_state self.old) (desk_state self.new) result }
     {
         if self.calls.fails() {

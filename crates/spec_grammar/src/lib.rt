@@ -32,6 +32,6 @@ pub use read::{
     read_condition, read_condition_bytes, read_dependency, read_dependency_bytes,
     read_local_condition_bytes, read_provision, read_provision_bytes, read_specs, read_specs_bytes,
 };
-pub use signs::is_white;
+pub use signs::{is_name, is_name_byte, is_white};
 pub use theorems::{reading_is_total, reading_laws, writing_laws};
 pub use write::{write_spec, write_variants};

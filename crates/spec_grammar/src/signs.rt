@@ -1,9 +1,9 @@
 //! Bytes of names, values and white space.
 
 ghost use Rattle.std.specs.Prelude.{◌≡◌, ◌≤◌, length, IfOk};
-ghost use Rattle.std.specs.List.{prefix_len};
+ghost use Rattle.std.specs.List.{list_all, prefix_len};
 ghost use Rattle.std.specs.Str.{IsUtf8};
-ghost use Rattle.spec_grammar.specs.Signs.{is_white, is_name_byte, is_value_byte, name_length};
+ghost use Rattle.spec_grammar.specs.Signs.{is_white, is_name, is_name_byte, is_value_byte, name_length};
 
 use plain_data::Word;
 use std::alloc::{AllocError, Global};
@@ -16,7 +16,8 @@ pub fn is_white(b: u8) -> bool
     b == b' ' || b == b'\t' || b == b'\n' || b == b'\r'
 }
 
-fn is_name_byte(b: u8) -> bool
+/// Whether the byte may stand in a NAME: a letter, a digit, `_` or `-`.
+pub fn is_name_byte(b: u8) -> bool
     ensures { result ≡ is_name_byte b }
 {
     is_start(b) || b == b'-'
@@ -26,6 +27,22 @@ pub(crate) fn is_value_byte(b: u8) -> bool
     ensures { result ≡ is_value_byte b }
 {
     is_name_byte(b) || b == b'+' || b == b'.' || b == b':' || b == b'/'
+}
+
+fn are_name_bytes(text: &[u8]) -> bool
+    ensures { result ≡ list_all is_name_byte text.now }
+{
+    text.iter().all(|b| is_name_byte(*b))
+}
+
+/// Whether a text is a NAME: a letter, a digit or `_`, and then letters, digits, `_` and `-`.
+pub fn is_name(text: &[u8]) -> bool
+    ensures { result ≡ is_name text.now }
+{
+    match text.split_first() {
+        Some((first, rest)) => is_start(*first) && are_name_bytes(rest),
+        None => false,
+    }
 }
 
 /// How many bytes of white space stand at the front.

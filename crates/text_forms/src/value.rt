@@ -7,8 +7,8 @@ ghost use Rattle.spec_grammar.specs.Meaning.{truth};
 ghost use Rattle.spec_grammar.specs.Signs.{is_value, is_value_byte};
 ghost use Rattle.text_forms.specs.Forms.{value_meaning, plain_meaning};
 
-use crate::name::is_name_byte;
 use json_readers::TextForm;
+use spec_grammar::is_name_byte;
 
 /// VALUE: letters, digits and `_ - + . : /`, one or more. `True` means `true`, `False` means `false`,
 /// and every other value itself.
