@@ -1,5 +1,5 @@
 -- Names in a folder, and the keys of a set of texts.
-use Rattle.std.proofs.Common.{◌≡◌, refl, sym, ap, subst, ◌∙◌, ℕ, ◌+◌, List, [], ◌∷◌, ◌++◌, map, drop, length, Bool, true, false, Option, Some, None, String, option_copied, Vec, if◌then◌else◌, MatchOption}
+use Rattle.std.proofs.Common.{◌≡◌, refl, sym, ap, subst, ◌∙◌, ℕ, List, [], ◌∷◌, map, drop, length, Bool, true, false, Option, Some, None, String, option_copied, Vec, if◌then◌else◌, MatchOption}
 use Rattle.std.specs.Bool.{nat_eq}
 use Rattle.std.specs.List.{starts_with}
 use Rattle.std.specs.Str.Pattern.{FindsTextPrefix, StripsPrefix}
@@ -17,7 +17,7 @@ use Rattle.std.proofs.lemmas.Cmp.{nat_list_cmp_total}
 use Rattle.std.specs.List.Sorted.{IsStrictlySortedBy}
 use Rattle.std.specs.Map.{keys_of}
 use Rattle.std.specs.BTreeMap.{BTreeMap}
-use Rattle.std.specs.FinMap.{FinMap, entries, keys, empty, from_entries, entries-insert, len-entries, len-empty, put}
+use Rattle.std.specs.FinMap.{entries, keys, empty, from_entries, entries-insert, len-entries, len-empty, put}
 use Rattle.std.specs.declared.cmp.Ordering.{Ordering}
 use Rattle.outside_desk.specs.FileMap.{file_of, files_of}
 use Rattle.outside_desk.specs.Listing.{behind, with_name}

@@ -1,4 +1,4 @@
-use Rattle.std.proofs.Common.{◌≡◌, sym, ap, map, []}
+use Rattle.std.proofs.Common.{sym, ap, []}
 use Rattle.std.specs.List.{filter_map}
 use Rattle.outside_desk.specs.Listing.{name_below, with_names, names_in}
 use Rattle.outside_desk.proofs.Listings.{keys_are}
