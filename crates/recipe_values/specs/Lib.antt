@@ -1,0 +1,5 @@
+pub mod Reads
+pub mod Strings
+pub mod Values
+pub mod Brackets
+pub mod Arguments

@@ -1,0 +1,22 @@
+-- What is read: a value, or the place at which something starts that is not read.
+use Rattle.std.specs.Prelude.{◌≡◌, ℕ, Bool, List, [], ◌∷◌, ◌++◌, Result, Ok, Err, if◌then◌else◌}
+use Rattle.recipe_values.specs.declared.fault.ValueFault.{ValueFault}
+use Rattle.recipe_values.specs.declared.fault.ValueFault.TheVariants.{Unsupported, OutOfMemory}
+
+abbrev pub Read : Type 0 → Type 0
+Read A = Result A ℕ
+
+abbrev pub then_do : {A B : Type 0} → Read A → (A → Read B) → Read B
+then_do (Ok a) f = f a
+then_do (Err place) f = Err place
+
+-- one list behind another; the first fault counts
+abbrev pub join : {A : Type 0} → Read (List A) → Read (List A) → Read (List A)
+join (Ok a) (Ok b) = Ok (a ++ b)
+join (Ok a) (Err place) = Err place
+join (Err place) b = Err place
+
+-- the fault of what is not read
+abbrev pub Fails : {A : Type 0} → ValueFault → Read A → Type 0
+Fails (Unsupported place) read = read ≡ Err place
+Fails OutOfMemory read = Unit {0}

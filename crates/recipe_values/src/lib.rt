@@ -1,0 +1,19 @@
+//! The values that the arguments of a directive are.
+//!
+//! What it is: the segments between the commas of a call, their keywords, and the values that they stand for.
+//! What it promises: a segment has exactly the value, or the place of what is no value, that the definitions give.
+//! What it stands on: `recipe_lexer` for tokens, `recipe_statements` for the words among them.
+//! What it must not know: which arguments a directive takes, and what the texts say.
+#![tactic(auto)]
+
+mod fault;
+mod levels;
+mod pile;
+mod segment;
+mod value;
+
+pub use fault::ValueFault;
+pub use levels::{Level, Levels};
+pub use pile::Pile;
+pub use segment::{Atom, Segment};
+pub use value::{Element, Reading, Scalar, Value};
