@@ -1,5 +1,6 @@
 -- Arguments: those that are given by a keyword.
-use Rattle.std.specs.Prelude.{ℕ, ◌==◌, ◌&&◌, Bool, true, false, not, List, [], ◌∷◌, drop, Option, Some, None, if◌then◌else◌}
+use Rattle.std.specs.Prelude.{ℕ, ◌&&◌, Bool, false, not, List, drop, Option, Some, None, if◌then◌else◌}
+use Rattle.std.specs.List.{slice_get}
 use Rattle.recipe_lexer.specs.declared.token.Token.{Token}
 use Rattle.recipe_statements.specs.Lines.{is_word, is_sign}
 use Rattle.recipe_values.specs.declared.segment.Atom.{Atom}
@@ -10,18 +11,21 @@ abbrev pub is_equals : Atom → Bool
 is_equals (Plain t) = is_sign 61 t.kind
 is_equals (Inner place read) = false
 
-abbrev pub begins_with_equals : List Atom → Bool
-begins_with_equals [] = false
-begins_with_equals (a ∷ more) = is_equals a
+abbrev pub is_equals_by : Option Atom → Bool
+is_equals_by None = false
+is_equals_by (Some a) = is_equals a
 
--- a word and `=`; `==` is none
-abbrev pub keyword_by : List Atom → Option Token
-keyword_by (Plain t ∷ a ∷ more) = if is_word t.kind && is_equals a && not (begins_with_equals more) then Some t else None
-keyword_by atoms = None
+abbrev pub is_equals_at : ℕ → List Atom → Bool
+is_equals_at i atoms = is_equals_by (slice_get atoms i)
 
--- the keyword of an argument
+abbrev pub word_by : Option Atom → Option Token
+word_by None = None
+word_by (Some (Plain t)) = if is_word t.kind then Some t else None
+word_by (Some (Inner place read)) = None
+
+-- the keyword of an argument: a word and `=`; `==` is none
 abbrev pub keyword_of : Segment → Option Token
-keyword_of s = keyword_by s.atoms
+keyword_of s = if is_equals_at 1 s.atoms && not (is_equals_at 2 s.atoms) then word_by (slice_get s.atoms 0) else None
 
 -- what stands behind a keyword and its `=`
 abbrev pub without_keyword : Segment → Segment

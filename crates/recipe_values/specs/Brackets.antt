@@ -1,5 +1,5 @@
 -- Brackets, and what stands between the commas in them.
-use Rattle.std.specs.Prelude.{ℕ, ◌==◌, ◌&&◌, ◌||◌, Bool, true, false, not, List, [], ◌∷◌, ◌++◌, Result, Ok, Err, if◌then◌else◌}
+use Rattle.std.specs.Prelude.{ℕ, ◌==◌, ◌&&◌, ◌||◌, Bool, not, List, [], ◌∷◌, length, Ok, Err, if◌then◌else◌}
 use Rattle.recipe_lexer.specs.declared.token.Token.{Token}
 use Rattle.recipe_lexer.specs.declared.token.TokenKind.{TokenKind}
 use Rattle.recipe_lexer.specs.declared.token.TokenKind.TheVariants.{Op}
@@ -52,13 +52,9 @@ many bytes place segments = then_do (elements bytes segments) (λ found. Ok (col
 abbrev pub bracketed : ℕ → Read Reading → Read Reading
 bracketed place read = then_do read (λ r. Ok (record r { place = place }))
 
-abbrev pub is_none : List Segment → Bool
-is_none [] = true
-is_none (s ∷ more) = false
-
 -- where no comma stands in them, round brackets with something in them stand around a value
 abbrev pub is_around : ℕ → Level → Bool
-is_around sign level = sign == 40 && not (is_empty level.here.atoms) && is_none level.behind
+is_around sign level = sign == 40 && not (is_empty level.here.atoms) && length level.behind == 0
 
 -- what brackets stand for that begin with this sign
 unfoldable pub group : List ℕ → ℕ → ℕ → Level → Read Reading

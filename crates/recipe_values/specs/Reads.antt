@@ -1,5 +1,5 @@
 -- What is read: a value, or the place at which something starts that is not read.
-use Rattle.std.specs.Prelude.{◌≡◌, ℕ, Bool, List, [], ◌∷◌, ◌++◌, Result, Ok, Err, if◌then◌else◌}
+use Rattle.std.specs.Prelude.{◌≡◌, ℕ, List, ◌++◌, Result, Ok, Err}
 use Rattle.recipe_values.specs.declared.fault.ValueFault.{ValueFault}
 use Rattle.recipe_values.specs.declared.fault.ValueFault.TheVariants.{Unsupported, OutOfMemory}
 
@@ -20,3 +20,8 @@ join (Err place) b = Err place
 abbrev pub Fails : {A : Type 0} → ValueFault → Read A → Type 0
 Fails (Unsupported place) read = read ≡ Err place
 Fails OutOfMemory read = Unit {0}
+
+-- what a reader that adds to a list answers and leaves
+abbrev pub Gives : {A : Type 0} → Read (Unit {0}) → List A → Read (List A) → Type 0
+Gives (Ok done) new read = read ≡ Ok new
+Gives (Err place) new read = read ≡ Err place

@@ -1,5 +1,5 @@
 -- The texts that strings stand for.
-use Rattle.std.specs.Prelude.{ℕ, ◌+◌, ◌-◌, ◌==◌, ◌||◌, not, Bool, true, false, List, [], ◌∷◌, length, take, drop, Option, Some, None, Result, Ok, Err, if◌then◌else◌}
+use Rattle.std.specs.Prelude.{ℕ, ◌+◌, ◌-◌, ◌==◌, ◌&&◌, ◌||◌, not, Bool, true, false, List, [], ◌∷◌, length, take, drop, Option, Some, None, Ok, Err, if◌then◌else◌}
 use Rattle.std.specs.List.{prefix_len}
 use Rattle.std.specs.Str.{is_utf8}
 use Rattle.recipe_lexer.specs.Layout.{slice}
@@ -23,12 +23,15 @@ abbrev pub escape : ℕ → Option (List ℕ) → Read (List ℕ)
 escape place None = Err place
 escape place (Some text) = Ok text
 
--- the text of bytes that stand at `place`; `taken`: a backslash before them takes the first
+-- what a byte at `place` stands for; `taken`: a backslash before it takes it
+abbrev pub byte_text : ℕ → Bool → ℕ → Read (List ℕ)
+byte_text place true b = escape (place - 1) (escaped b)
+byte_text place false b = if b == 92 then Ok [] else Ok (b ∷ [])
+
+-- the text of bytes that stand at `place`
 unfoldable pub decoded : ℕ → Bool → List ℕ → Read (List ℕ)
 decoded place taken [] = Ok []
-decoded place true (b ∷ rest) = join (escape (place - 1) (escaped b)) (decoded (place + 1) false rest)
-decoded place false (b ∷ rest) =
-    if b == 92 then decoded (place + 1) true rest else join (Ok (b ∷ [])) (decoded (place + 1) false rest)
+decoded place taken (b ∷ rest) = join (byte_text place taken b) (decoded (place + 1) (not taken && b == 92) rest)
 
 -- ---- strings
 

@@ -1,6 +1,6 @@
 -- Values: what stands between two commas, and what it stands for.
-use Rattle.std.specs.Prelude.{ℕ, ◌==◌, ◌&&◌, nat_lt, Bool, true, false, List, [], ◌∷◌, length, Option, Some, None, Result, Ok, Err, if◌then◌else◌, codes}
-use Rattle.std.specs.List.{list_all}
+use Rattle.std.specs.Prelude.{ℕ, ◌==◌, ◌&&◌, nat_lt, Bool, true, false, List, [], ◌∷◌, length, Option, Some, None, Ok, Err, if◌then◌else◌, codes}
+use Rattle.std.specs.List.{list_all, slice_get}
 use Rattle.std.specs.Char.{is_ascii_digit}
 use Rattle.std.specs.Str.{bytes_eq}
 use Rattle.recipe_lexer.specs.declared.token.Token.{Token}
@@ -24,13 +24,13 @@ abbrev pub atom_place : Atom → ℕ
 atom_place (Plain t) = t.start
 atom_place (Inner place read) = place
 
--- the first byte, or that of what stands behind where nothing stands there
-abbrev pub place_by : List Atom → ℕ → ℕ
-place_by [] stop = stop
-place_by (a ∷ more) stop = atom_place a
+abbrev pub place_by : Option Atom → ℕ → ℕ
+place_by None stop = stop
+place_by (Some a) stop = atom_place a
 
+-- the first byte of a segment, or that of what stands behind it where it has nothing
 abbrev pub place_of : Segment → ℕ
-place_of s = place_by s.atoms s.stop
+place_of s = place_by (slice_get s.atoms 0) s.stop
 
 -- ---- single values
 
@@ -51,16 +51,19 @@ word_value place w =
 
 -- a value is read before what stands behind it is looked at, and nothing may stand there
 abbrev pub alone : ℕ → List Atom → Read Reading → Read Reading
-alone place [] read = read
-alone place (a ∷ more) read = then_do read (λ r. Err place)
+alone place behind read = then_do read (λ r. if is_empty behind then Ok r else Err place)
 
 -- ---- strings beside each other
 
--- the texts of atoms, which are to be strings; the value starts at `place`
+-- the text of an atom, which is to be a string; the value starts at `place`
+abbrev pub atom_text : List ℕ → ℕ → Atom → Read (List ℕ)
+atom_text bytes place (Plain t) = if is_text t.kind then string bytes t else Err place
+atom_text bytes place (Inner start read) = Err place
+
+-- the texts of atoms, joined
 unfoldable pub texts : List ℕ → ℕ → List Atom → Read (List ℕ)
 texts bytes place [] = Ok []
-texts bytes place (Plain t ∷ more) = if is_text t.kind then join (string bytes t) (texts bytes place more) else Err place
-texts bytes place (Inner start read ∷ more) = Err place
+texts bytes place (a ∷ more) = join (atom_text bytes place a) (texts bytes place more)
 
 abbrev pub text_value : ℕ → Read (List ℕ) → Read Reading
 text_value place text = then_do text (λ w. Ok (one place (Text w)))

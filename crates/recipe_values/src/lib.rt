@@ -6,12 +6,17 @@
 //! What it must not know: which arguments a directive takes, and what the texts say.
 #![tactic(auto)]
 
+mod brackets;
+mod calls;
 mod fault;
 mod levels;
 mod pile;
 mod segment;
+mod text;
 mod value;
+mod values;
 
+pub use calls::{arguments, keyword_of, place_of, read_text, read_value, without_keyword};
 pub use fault::ValueFault;
 pub use levels::{Level, Levels};
 pub use pile::Pile;

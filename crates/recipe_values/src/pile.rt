@@ -1,7 +1,7 @@
 //! A list that grows and shrinks at its front.
 
-ghost use Rattle.std.specs.Prelude.{◌≡◌, List, [], ◌∷◌, ◌++◌, ◌==◌, length, OnOk, Option};
-ghost use Rattle.std.specs.Option.{option_copied, option_to_list};
+ghost use Rattle.std.specs.Prelude.{◌≡◌, [], ◌∷◌, ◌++◌, ◌==◌, length, drop, OnOk, MatchOption};
+ghost use Rattle.std.specs.Option.{option_copied};
 ghost use Rattle.std.specs.List.{slice_get};
 
 use std::alloc::{AllocError, Global};
@@ -34,9 +34,16 @@ impl<T> Pile<T> {
 
     /// Removes the first element.
     pub fn pop(&mut self) -> Option<T>
-        ensures { self.old ≡ option_to_list result ++ self.new }
+        ensures { MatchOption result ((self.old ≡ []) × (self.new ≡ [])) (λ first. self.old ≡ first ∷ self.new) }
     {
         self.items.pop_front()
+    }
+
+    /// Removes the last element.
+    pub fn pop_last(&mut self) -> Option<T>
+        ensures { MatchOption result ((self.old ≡ []) × (self.new ≡ [])) (λ last. self.old ≡ self.new ++ last ∷ []) }
+    {
+        self.items.pop_back()
     }
 
     /// The element at this index.
@@ -55,11 +62,25 @@ impl<T> Pile<T> {
 }
 
 impl<T: Drop> Pile<T> {
+    /// Drops the first element, if there is one.
+    pub fn skip(&mut self)
+        ensures { self.new ≡ drop 1 self.old }
+    {
+        self.items.pop_front();
+    }
+
     /// Adds an element in front. After an error the list is as it was, without the element.
     pub fn push(&mut self, value: T) -> Result<(), AllocError>
         ensures { OnOk result (self.new ≡ value ∷ self.old) }
     {
         self.items.push_front(value)?;
+        Ok(())
+    }
+    /// Adds an element behind all others. After an error the list is as it was, without the element.
+    pub fn push_last(&mut self, value: T) -> Result<(), AllocError>
+        ensures { OnOk result (self.new ≡ self.old ++ value ∷ []) }
+    {
+        self.items.push_back(value)?;
         Ok(())
     }
 }

@@ -1,0 +1,20 @@
+-- Digits are UTF-8.
+use Rattle.std.proofs.Common.{◌≡◌, ℕ, ◌<◌, true, List, [], ◌∷◌, zero, suc, arith}
+use Rattle.std.specs.Char.{is_ascii_digit}
+use Rattle.std.specs.List.{list_all}
+use Rattle.std.specs.Str.{IsAscii, IsUtf8}
+use Rattle.std.proofs.lemmas.Bool.{and_parts}
+use Rattle.std.proofs.lemmas.Bool.Decides.{nat_tests}
+use Rattle.std.proofs.lemmas.Str.{IsUtf8-from_ascii}
+use Rattle.recipe_values.specs.Values.{is_number}
+
+digit_small : (b : ℕ) → is_ascii_digit b ≡ true → b < 128
+digit_small b e = grind (arith, nat_tests)
+
+digits_ascii : (w : List ℕ) → list_all is_ascii_digit w ≡ true → IsAscii w
+digits_ascii [] e i = omega arith
+digits_ascii (b ∷ w) e zero = digit_small b (and_parts _ _ e).0
+digits_ascii (b ∷ w) e (suc i) = digits_ascii w (and_parts _ _ e).1 i
+
+pub number_utf8 : (w : List ℕ) → is_number w ≡ true → IsUtf8 w
+number_utf8 w e = IsUtf8-from_ascii w (digits_ascii w (and_parts _ _ e).1)
