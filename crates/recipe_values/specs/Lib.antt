@@ -3,3 +3,4 @@ pub mod Strings
 pub mod Values
 pub mod Brackets
 pub mod Arguments
+pub mod Worked

@@ -13,6 +13,7 @@ mod levels;
 mod pile;
 mod segment;
 mod text;
+mod theorems;
 mod value;
 mod values;
 
@@ -21,4 +22,5 @@ pub use fault::ValueFault;
 pub use levels::{Level, Levels};
 pub use pile::Pile;
 pub use segment::{Atom, Segment};
+pub use theorems::{worked_faults, worked_keywords, worked_strings, worked_values};
 pub use value::{Element, Reading, Scalar, Value};
