@@ -25,3 +25,7 @@ Fails OutOfMemory read = Unit {0}
 abbrev pub Gives : {A : Type 0} → Read (Unit {0}) → List A → Read (List A) → Type 0
 Gives (Ok done) new read = read ≡ Ok new
 Gives (Err place) new read = read ≡ Err place
+
+-- what is added to a list
+abbrev pub Adds : {A : Type 0} → Read (Unit {0}) → List A → List A → Read (List A) → Type 0
+Adds read old new part = Gives read new (join (Ok old) part)

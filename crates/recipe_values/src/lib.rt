@@ -1,7 +1,8 @@
 //! The values that the arguments of a directive are.
 //!
-//! What it is: the segments between the commas of a call, their keywords, and the values that they stand for.
-//! What it promises: a segment has exactly the value, or the place of what is no value, that the definitions give.
+//! What it is: the segments between the commas of a call, their keywords, and the values that they are.
+//! What it promises: a segment has exactly the value, or the place of what is no value, that the
+//! definitions give.
 //! What it stands on: `recipe_lexer` for tokens, `recipe_statements` for the words among them.
 //! What it must not know: which arguments a directive takes, and what the texts say.
 #![tactic(auto)]

@@ -3,7 +3,7 @@
 ghost use Rattle.std.specs.Prelude.{◌≡◌, ◌==◌, ◌&&◌, not, ◌<◌, ◌≤◌, ◌+◌, ◌^◌, length, false, Ok, IfOk};
 ghost use Rattle.std.specs.List.{prefix_len};
 ghost use Rattle.recipe_lexer.specs.Pieces.{is_mark, marks, opening};
-ghost use Rattle.recipe_values.specs.Reads.{Gives, join};
+ghost use Rattle.recipe_values.specs.Reads.{Adds};
 ghost use Rattle.recipe_values.specs.Strings.{escaped, escape, byte_text, decoded, prefix, marks_of, inside, string_by, string_in, string, strings, as_text};
 
 use plain_data::Word;
@@ -15,7 +15,8 @@ pub(crate) type Read<T> = Result<T, u64>;
 
 /// Adds what a backslash at `place` and this byte stand for.
 fn add_escape(text: &mut Vec<u8>, place: u64, b: u8) -> Result<Read<()>, AllocError>
-    ensures { IfOk result (λ read. Gives read text.new.items (join (Ok text.old.items) (escape place (escaped b)))) }
+    ensures { IfOk result (λ read.
+        Adds read text.old.items text.new.items (escape place (escaped b))) }
 {
     match b {
         b'\\' | b'"' | b'\'' => text.push(b)?,
@@ -29,7 +30,8 @@ fn add_escape(text: &mut Vec<u8>, place: u64, b: u8) -> Result<Read<()>, AllocEr
 
 /// Adds what a byte at `place` stands for, which a backslash before it may take.
 fn add_byte(text: &mut Vec<u8>, place: u64, taken: bool, b: u8) -> Result<Read<()>, AllocError>
-    ensures { IfOk result (λ read. Gives read text.new.items (join (Ok text.old.items) (byte_text place taken b))) }
+    ensures { IfOk result (λ read.
+        Adds read text.old.items text.new.items (byte_text place taken b)) }
 {
     if taken {
         return add_escape(text, place.saturating_sub(1), b);
@@ -50,7 +52,8 @@ fn takes(taken: bool, b: u8) -> bool
 /// Adds the text of bytes with escapes, which stand at `place`.
 fn add_decoded(text: &mut Vec<u8>, place: u64, bytes: &[u8]) -> Result<Read<()>, AllocError>
     requires { place + length bytes.now < 2 ^ 64 }
-    ensures { IfOk result (λ read. Gives read text.new.items (join (Ok text.old.items) (decoded place false bytes.now))) }
+    ensures { IfOk result (λ read.
+        Adds read text.old.items text.new.items (decoded place false bytes.now)) }
 {
     let mut taken = false;
     for (i, b) in bytes.iter().enumerate() {
@@ -119,7 +122,8 @@ fn add_marked(
     marked: &[u8],
 ) -> Result<Read<()>, AllocError>
     requires { place + length marked.now < 2 ^ 64 }
-    ensures { IfOk result (λ read. Gives read text.new.items (join (Ok text.old.items) (string_by place letters.now marked.now))) }
+    ensures { IfOk result (λ read.
+        Adds read text.old.items text.new.items (string_by place letters.now marked.now)) }
 {
     match letters {
         [] => add_decoded(text, place + marks_of(marked) as u64, inside(marked)),
@@ -134,7 +138,8 @@ fn add_marked(
 /// Adds the text of a string, which stands at `place`.
 fn add_slice(text: &mut Vec<u8>, place: u64, slice: &[u8]) -> Result<Read<()>, AllocError>
     requires { place + length slice.now < 2 ^ 64 }
-    ensures { IfOk result (λ read. Gives read text.new.items (join (Ok text.old.items) (string_in place slice.now))) }
+    ensures { IfOk result (λ read.
+        Adds read text.old.items text.new.items (string_in place slice.now)) }
 {
     let letters = prefix(slice);
     add_marked(text, place, &slice[..letters], &slice[letters..])
@@ -147,7 +152,8 @@ pub(crate) fn add_string(
     bytes: &[u8],
     token: Token,
 ) -> Result<Read<()>, AllocError>
-    ensures { IfOk result (λ read. Gives read text.new.items (join (Ok text.old.items) (string bytes.now token))) }
+    ensures { IfOk result (λ read.
+        Adds read text.old.items text.new.items (string bytes.now token)) }
 {
     add_slice(text, token.start, token.text(bytes))
 }
@@ -158,7 +164,8 @@ pub(crate) fn add_strings(
     bytes: &[u8],
     tokens: &[Token],
 ) -> Result<Read<()>, AllocError>
-    ensures { IfOk result (λ read. Gives read text.new.items (join (Ok text.old.items) (strings bytes.now tokens.now))) }
+    ensures { IfOk result (λ read.
+        Adds read text.old.items text.new.items (strings bytes.now tokens.now)) }
 {
     for token in tokens {
         match add_string(text, bytes, *token)? {

@@ -5,7 +5,7 @@ ghost use Rattle.std.specs.Char.{is_ascii_digit};
 ghost use Rattle.std.specs.List.{list_all};
 ghost use Rattle.std.specs.Str.{bytes_eq};
 ghost use Rattle.recipe_statements.specs.Lines.{word, is_text};
-ghost use Rattle.recipe_values.specs.Reads.{Gives, join};
+ghost use Rattle.recipe_values.specs.Reads.{Adds, join};
 ghost use Rattle.recipe_values.specs.Strings.{string, as_text};
 ghost use Rattle.recipe_values.specs.Values.{one, is_number, word_value, alone, atom_text, texts, text_value, plain_value, value_of};
 
@@ -107,7 +107,8 @@ fn add_atom(
     place: u64,
     atom: &Atom,
 ) -> Result<Read<()>, AllocError>
-    ensures { IfOk result (λ read. Gives read text.new.items (join (Ok text.old.items) (atom_text bytes.now place atom.now))) }
+    ensures { IfOk result (λ read.
+        Adds read text.old.items text.new.items (atom_text bytes.now place atom.now)) }
 {
     match atom {
         Atom::Plain(token) if is_text(token.kind) => add_string(text, bytes, *token),
@@ -122,7 +123,8 @@ fn add_texts(
     place: u64,
     atoms: Pile<Atom>,
 ) -> Result<Read<()>, AllocError>
-    ensures { IfOk result (λ read. Gives read text.new.items (join (Ok text.old.items) (texts bytes.now place atoms))) }
+    ensures { IfOk result (λ read.
+        Adds read text.old.items text.new.items (texts bytes.now place atoms)) }
 {
     let mut left = atoms;
     'atoms: while let Some(atom) = left.pop() {
@@ -141,7 +143,9 @@ fn add_joined(
     token: Token,
     behind: Pile<Atom>,
 ) -> Result<Read<()>, AllocError>
-    ensures { IfOk result (λ read. Gives read text.new.items (join (Ok text.old.items) (join (string bytes.now token) (texts bytes.now token.start behind)))) }
+    ensures { IfOk result (λ read.
+        Adds read text.old.items text.new.items (join (string bytes.now token)
+        (texts bytes.now token.start behind))) }
 {
     match add_string(text, bytes, token)? {
         Ok(()) => {
@@ -159,7 +163,8 @@ fn joined(
     token: Token,
     behind: Pile<Atom>,
 ) -> Result<Read<Word>, AllocError>
-    ensures { IfOk result (λ read. read ≡ as_text token.start (join (string bytes.now token) (texts bytes.now token.start behind))) }
+    ensures { IfOk result (λ read. read ≡ as_text token.start (join (string bytes.now token)
+        (texts bytes.now token.start behind))) }
 {
     let mut text = Vec::new(alloc);
     match add_joined(&mut text, bytes, token, behind)? {
