@@ -201,7 +201,7 @@ def program():
     """The program, built anew where a source is newer."""
     crates = os.path.join(TOP, "crates")
     built = os.path.join(crates, "recipe_rows", "out", "recipe_rows")
-    sources = [os.path.join(crates, crate, "src", name) for crate in ("recipe_rows", "recipe_statements", "recipe_lexer")
+    sources = [os.path.join(crates, crate, "src", name) for crate in ("recipe_rows", "recipe_values", "recipe_statements", "recipe_lexer")
                for name in os.listdir(os.path.join(crates, crate, "src"))]
     if not os.path.exists(built) or os.path.getmtime(built) < max(map(os.path.getmtime, sources)):
         subprocess.run(["rt", "run"], cwd=os.path.join(crates, "recipe_rows"), capture_output=True)

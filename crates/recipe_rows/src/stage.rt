@@ -1,6 +1,7 @@
 //! The stages, and what they answer to a text.
 
 use crate::show::{items_text, lex_fault_text, statement_fault_text, tokens_text};
+use crate::values::values_text;
 use plain_data::List;
 use recipe_lexer::{Token, lex};
 use recipe_statements::statements;
@@ -13,6 +14,8 @@ pub(crate) enum Stage {
     Tokens,
     /// Its items.
     Items,
+    /// The arguments in the brackets that it is.
+    Values,
     /// How many tokens and items it has.
     Count,
 }
@@ -25,6 +28,9 @@ fn of_tokens(
 ) -> Result<String, AllocError> {
     if let Stage::Tokens = stage {
         return tokens_text(alloc, tokens.as_slice());
+    }
+    if let Stage::Values = stage {
+        return values_text(alloc, bytes, tokens.as_slice());
     }
     let items = match statements(alloc, bytes, tokens.as_slice()) {
         Ok(items) => items,
