@@ -176,6 +176,7 @@ part_after mode item draft next took = ap (λ (d : Draft). is_some d.part) (sym 
 
 first_ends : (mode : Mode) → is_some (first_part (needs_name mode)) ≡ may_end mode before.Start
 first_ends mode_is.Condition = refl
+first_ends mode_is.LocalCondition = refl
 first_ends mode = refl
 
 pub bad_end : (mode : Mode) (text : List ℕ) (read : Read) → IsRead mode text read → read.draft.part ≡ None → IsBadAt (HasForm mode) text (length text)

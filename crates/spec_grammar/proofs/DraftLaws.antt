@@ -1,6 +1,6 @@
 -- What is read of specs can be written again.
 use Rattle.std.proofs.Common.{◌≡◌, ℕ, true, false, List, [], ◌∷◌, Option, Some, None, refl, sym, ap, subst, ◌∙◌, Contains, Bool, IfSome, IsSome, is_some, if◌then◌else◌}
-use Rattle.spec_grammar.specs.declared.mode.Mode.TheVariants.{Condition}
+use Rattle.spec_grammar.specs.declared.mode.Mode.TheVariants.{Condition, LocalCondition}
 use Rattle.spec_grammar.proofs.Common.{AllByRecursion, and_parts, All-from_recursion, All-contains, IsName, IsItem, kind_of, before_of, is_some_gap, needs_name, may_nest, may_constrain, may_have_all, may_stand, empty_part, spec_with, nest_in, begin_part, finish, Spells, empty_place, begin}
 use Rattle.spec_grammar.proofs.Common.{Item, Name, Caret, Mode, Before, Part, Spec, Draft}
 use Rattle.spec_grammar.proofs.StepLaws.{all_append, Took, steps_keep, TookOn}
@@ -72,6 +72,7 @@ whole_item mode place gap item draft next form may none h t = whole_on mode plac
 
 first_whole : (mode : Mode) → AreWhole mode (begin mode)
 first_whole Condition = record { specs = tt; top = tt; below = tt; part = (kept_empty Condition None tt, λ needs. absurd cc) }
+first_whole LocalCondition = record { specs = tt; top = tt; below = tt; part = (kept_empty LocalCondition None tt, λ needs. absurd cc) }
 first_whole mode = record { specs = tt; top = tt; below = tt; part = tt }
 
 -- each spec that a text spells

@@ -1,6 +1,6 @@
 -- The canonical text of a spec that was read is read again as it.
 use Rattle.std.proofs.Common.{◌≡◌, ℕ, true, false, List, [], ◌∷◌, ◌++◌, Option, Some, None, refl, sym, ap, subst, ◌∙◌, arith, append_assoc, Contains, ◌==◌, IsSome, codes, append-nil}
-use Rattle.spec_grammar.specs.declared.mode.Mode.TheVariants.{Condition}
+use Rattle.spec_grammar.specs.declared.mode.Mode.TheVariants.{Condition, LocalCondition}
 use Rattle.spec_grammar.proofs.Common.{AllByRecursion, list_all, and_parts, nat_tests, All-from_recursion, IsInByteOrder, is_name_byte, IsName, is_start, IsOver, before_of, last_of, may_constrain, needs_name, empty_part, begin_part, spec_with, nest_in, nest, Spells, begin, part_text, below_text, spec_text, AreNamed, AreInOrder, variant_names}
 use Rattle.spec_grammar.proofs.Common.{Item, Caret, Mode, Part, Spec, Draft}
 use Rattle.spec_grammar.proofs.RunLaws.{two_cons, true_false}
@@ -16,10 +16,12 @@ no_name (Some w) some e = absurd cc
 
 nameless : (mode : Mode) (p : Part) → IsTop mode p → p.name ≡ None → (begin mode ≡ at (begin mode) (empty_part None)) × (needs_name mode ≡ false)
 nameless Condition p h e = (refl, refl)
+nameless LocalCondition p h e = (refl, refl)
 nameless mode p h e = no_name p.name (h.1 refl) e
 
 begins : (mode : Mode) (w : List ℕ) → begin_part w (begin mode) (begin mode).part ≡ at (begin mode) (empty_part (Some w))
 begins Condition w = refl
+begins LocalCondition w = refl
 begins mode w = refl
 
 top_leads : (mode : Mode) (p : Part) → IsTop mode p → Leads mode None (part_text p) (begin mode) (at (begin mode) p)

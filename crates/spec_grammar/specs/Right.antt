@@ -8,7 +8,7 @@ use Rattle.spec_grammar.specs.declared.item.Mark.TheVariants.{Plus, Tilde, Minus
 use Rattle.spec_grammar.specs.declared.item.Kind.{Kind}
 use Rattle.spec_grammar.specs.declared.item.Kind.TheVariants.{Name, Versions, Variant, Compiler, Key, Caret}
 use Rattle.spec_grammar.specs.declared.mode.Mode.{Mode}
-use Rattle.spec_grammar.specs.declared.mode.Mode.TheVariants.{Specs, Condition, Dependency, Provision}
+use Rattle.spec_grammar.specs.declared.mode.Mode.TheVariants.{Specs, Condition, LocalCondition, Dependency, Provision}
 use Rattle.spec_grammar.specs.declared.mode.Before.{Before}
 use Rattle.spec_grammar.specs.declared.mode.Before.TheVariants as before
 
@@ -18,6 +18,7 @@ use Rattle.spec_grammar.specs.declared.mode.Before.TheVariants as before
 abbrev pub needs_name : Mode → Bool
 needs_name Specs = true
 needs_name Condition = false
+needs_name LocalCondition = false
 needs_name Dependency = true
 needs_name Provision = true
 
@@ -25,6 +26,7 @@ needs_name Provision = true
 abbrev pub may_nest : Mode → Bool
 may_nest Specs = true
 may_nest Condition = true
+may_nest LocalCondition = false
 may_nest Dependency = false
 may_nest Provision = false
 
@@ -32,6 +34,7 @@ may_nest Provision = false
 abbrev pub may_repeat : Mode → Bool
 may_repeat Specs = true
 may_repeat Condition = false
+may_repeat LocalCondition = false
 may_repeat Dependency = false
 may_repeat Provision = false
 
@@ -39,6 +42,7 @@ may_repeat Provision = false
 abbrev pub may_have_all : Mode → Bool
 may_have_all Specs = true
 may_have_all Condition = true
+may_have_all LocalCondition = true
 may_have_all Dependency = true
 may_have_all Provision = false
 

@@ -29,8 +29,8 @@ mod write;
 pub use fault::{Form, SpecFault};
 pub use part::{Part, Spec, TargetItem};
 pub use read::{
-    read_condition, read_condition_bytes, read_dependency, read_dependency_bytes, read_provision,
-    read_provision_bytes, read_specs, read_specs_bytes,
+    read_condition, read_condition_bytes, read_dependency, read_dependency_bytes,
+    read_local_condition_bytes, read_provision, read_provision_bytes, read_specs, read_specs_bytes,
 };
 pub use signs::is_white;
 pub use theorems::{reading_is_total, reading_laws, writing_laws};

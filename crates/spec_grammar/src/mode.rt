@@ -12,6 +12,8 @@ pub enum Mode {
     Specs,
     /// A condition, as of `when=`: one spec, whose package need not be named.
     Condition,
+    /// A condition without `^`, as of the `when=` of `provides`.
+    LocalCondition,
     /// One spec without `^`, as of `depends_on`.
     Dependency,
     /// A name with versions, as of `provides`.
@@ -36,7 +38,7 @@ impl Mode {
     pub(crate) fn needs_name(self) -> bool
         ensures { result ≡ needs_name self }
     {
-        !matches!(self, Mode::Condition)
+        !matches!(self, Mode::Condition | Mode::LocalCondition)
     }
 
     /// Whether such a text may have `^`.

@@ -62,6 +62,18 @@ pub fn read_condition_bytes(alloc: Global, text: &[u8]) -> Result<Spec, SpecFaul
     read_one(alloc, Mode::Condition, text)
 }
 
+/// The condition without `^` that the bytes of a text spell, as of the `when=` of `provides`: `@1.10: +mpi`.
+///
+/// # Errors
+///
+/// The fault of the first item that is not right; at a `^`, `NestedDependency`.
+pub fn read_local_condition_bytes(alloc: Global, text: &[u8]) -> Result<Part, SpecFault>
+    ensures found { IfOk result (λ part. Spells Mode.LocalCondition text.now (record { top = part; below = [] } ∷ [])) }
+    ensures fault { IfErr result (λ fault. IsFault Mode.LocalCondition text.now fault) }
+{
+    read_part(alloc, Mode::LocalCondition, text)
+}
+
 /// The one spec without `^` that a text spells, as of `depends_on`: `zlib@1.2: +pic`.
 ///
 /// # Errors
