@@ -1,14 +1,15 @@
 //! Rows of recipes: what the stages of reading make of texts, compared with tables.
 //!
 //! Without words it goes over the tables that lie where it runs, and prints each row that differs and how
-//! many there are. With `tokens FILE..`, `items FILE..` or `values FILE..` it prints what a stage makes of the files instead, a
-//! line each, and with `count FILE..` how many tokens and items each has.
+//! many there are. With `tokens FILE..`, `items FILE..`, `values FILE..` or `recipe FILE..` it prints what a
+//! stage makes of the files instead, a line each, and with `count FILE..` how many tokens and items each has.
 //! The answers in the tables come from the rules, never from what the crates answer.
 //! It stands on the stages that it shows. Nothing stands on it.
 #![tactic(auto)]
 
 mod escape;
 mod show;
+mod show_recipe;
 mod stage;
 mod table;
 mod values;
@@ -22,6 +23,7 @@ fn stage_of(word: &str) -> Stage {
         "tokens" => Stage::Tokens,
         "items" => Stage::Items,
         "values" => Stage::Values,
+        "recipe" => Stage::Recipe,
         _ => Stage::Count,
     }
 }
@@ -37,7 +39,8 @@ fn main(rt: HostRuntime) -> io::Result<()> {
     let Some((word, paths)) = words.split_first() else {
         go_over(&rt, Stage::Tokens, "tokens.txt")?;
         go_over(&rt, Stage::Items, "items.txt")?;
-        return go_over(&rt, Stage::Values, "values.txt");
+        go_over(&rt, Stage::Values, "values.txt")?;
+        return go_over(&rt, Stage::Recipe, "recipes.txt");
     };
     for path in paths {
         print_file(&rt, stage_of(word.as_str()), path.as_str())?;

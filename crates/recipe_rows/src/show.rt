@@ -2,6 +2,7 @@
 
 use recipe_lexer::{LexFault, Token, TokenKind};
 use recipe_statements::{Item, StatementFault};
+use spec_grammar::{Form, SpecFault};
 use std::alloc::{AllocError, Global};
 
 fn push_sign(alloc: Global, out: &mut String, b: u8) -> Result<(), AllocError> {
@@ -83,5 +84,34 @@ pub(crate) fn statement_fault_text(
         StatementFault::TwoClasses(place) => format!(in alloc; "TwoClasses {place}"),
         StatementFault::TooDeep(place) => format!(in alloc; "TooDeep {place}"),
         StatementFault::OutOfMemory => String::from_str(alloc, "OutOfMemory"),
+    }
+}
+
+fn form_text(form: Form) -> &'static str {
+    match form {
+        Form::Propagation => "Propagation",
+        Form::ConcreteAssign => "ConcreteAssign",
+        Form::AnyValue => "AnyValue",
+        Form::Quoted => "Quoted",
+        Form::Flags => "Flags",
+        Form::Reference => "Reference",
+        Form::EdgeAttributes => "EdgeAttributes",
+        Form::Namespace => "Namespace",
+        Form::NestedDependency => "NestedDependency",
+        Form::ProvidesForm => "ProvidesForm",
+    }
+}
+
+/// A fault of a spec, as `Expected 3`.
+pub(crate) fn spec_fault_text(alloc: Global, fault: SpecFault) -> Result<String, AllocError> {
+    match fault {
+        SpecFault::Expected(place) => format!(in alloc; "Expected {place}"),
+        SpecFault::Unsupported(place, form) => {
+            let text = form_text(form);
+            format!(in alloc; "Unsupported {place} {text}")
+        }
+        SpecFault::BadVersion(place) => format!(in alloc; "BadVersion {place}"),
+        SpecFault::TwiceSet(place) => format!(in alloc; "TwiceSet {place}"),
+        SpecFault::OutOfMemory => String::from_str(alloc, "OutOfMemory"),
     }
 }

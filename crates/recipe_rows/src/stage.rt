@@ -2,8 +2,10 @@
 
 use crate::show::{items_text, lex_fault_text, statement_fault_text, tokens_text};
 use crate::values::values_text;
+use crate::show_recipe::{recipe_fault_text, recipe_text};
 use plain_data::List;
 use recipe_lexer::{Token, lex};
+use recipe_reader::read_recipe;
 use recipe_statements::statements;
 use std::alloc::{AllocError, Global};
 
@@ -16,6 +18,8 @@ pub(crate) enum Stage {
     Items,
     /// The arguments in the brackets that it is.
     Values,
+    /// Its recipe.
+    Recipe,
     /// How many tokens and items it has.
     Count,
 }
@@ -43,8 +47,18 @@ fn of_tokens(
     format!(in alloc; "{many} tokens, {few} items")
 }
 
+fn of_recipe(alloc: Global, bytes: &[u8]) -> Result<String, AllocError> {
+    match read_recipe(alloc, "x", bytes) {
+        Ok(recipe) => recipe_text(alloc, recipe),
+        Err(fault) => recipe_fault_text(alloc, fault),
+    }
+}
+
 /// What a stage answers to a text, or the first fault.
 pub(crate) fn answer(alloc: Global, stage: Stage, bytes: &[u8]) -> Result<String, AllocError> {
+    if let Stage::Recipe = stage {
+        return of_recipe(alloc, bytes);
+    }
     match lex(alloc, bytes) {
         Ok(tokens) => of_tokens(alloc, stage, bytes, &tokens),
         Err(fault) => lex_fault_text(alloc, fault),

@@ -1,0 +1,25 @@
+-- Recipes of files, one after the other.
+use Rattle.std.specs.Prelude.{◌≡◌, ℕ, List, map, take, Option, Some, Result, Ok, Err}
+use Rattle.std.specs.List.{slice_get}
+use Rattle.conditions.specs.declared.recipe.Recipe.{Recipe}
+use Rattle.recipe_reader.specs.declared.fault.RecipeFault.{RecipeFault}
+use Rattle.recipe_reader.specs.declared.fault.RecipeFault.TheVariants as fault
+use Rattle.recipe_reader.specs.declared.files.RecipeFile.{RecipeFile}
+use Rattle.recipe_reader.specs.Results.{Step}
+use Rattle.recipe_reader.specs.Recipes.{recipe_of}
+
+abbrev pub recipe_in_file : RecipeFile → Step Recipe
+recipe_in_file file = recipe_of file.name file.bytes.items
+
+-- the file at this place has the fault, and each file before it has a recipe
+pub record IsFirstFault (place : ℕ) (e : RecipeFault) (files : List RecipeFile) : Type 0 where
+  pub recipes : List Recipe
+  pub before : map recipe_in_file (take place files) ≡ map Ok recipes
+  pub file : RecipeFile
+  pub is : slice_get files place ≡ Some file
+  pub faulty : recipe_in_file file ≡ Err e
+
+-- the place beside want of memory is any
+abbrev pub FailsAt : ℕ → RecipeFault → List RecipeFile → Type 0
+FailsAt place fault.OutOfMemory files = Unit {0}
+FailsAt place e files = IsFirstFault place e files

@@ -1,0 +1,109 @@
+//! The calls of this crate.
+
+ghost use Rattle.std.specs.Prelude.{◌≡◌, ◌<◌, ◌≤◌, ◌+◌, ◌^◌, Ok, IfOk, IfErr};
+ghost use Rattle.recipe_lexer.specs.Layout.{tokens};
+ghost use Rattle.recipe_statements.specs.Statements.{items};
+ghost use Rattle.recipe_reader.specs.Results.{Is, Gives, Fails};
+ghost use Rattle.recipe_reader.specs.Recipes.{count, read_items, start, lex_step, statement_step, recipe_of};
+
+use crate::fault::{lex_fault, statement_fault};
+use crate::item::item;
+use crate::names::Names;
+use crate::{RecipeFault, State};
+use conditions::Recipe;
+use plain_data::{List, Word};
+use recipe_lexer::{Token, lex};
+use recipe_statements::{Item, statements};
+use std::alloc::{AllocError, Global};
+
+fn tokens_of(alloc: Global, bytes: &[u8]) -> Result<List<Token>, RecipeFault>
+    ensures { Is result (lex_step (tokens bytes.now)) }
+{
+    match lex(alloc, bytes) {
+        Ok(tokens) => Ok(tokens),
+        Err(fault) => Err(lex_fault(fault)),
+    }
+}
+
+fn items_of(alloc: Global, bytes: &[u8], tokens: &[Token]) -> Result<List<Item>, RecipeFault>
+    ensures { Is result (statement_step (items bytes.now tokens.now)) }
+{
+    match statements(alloc, bytes, tokens) {
+        Ok(items) => Ok(items),
+        Err(fault) => Err(statement_fault(fault)),
+    }
+}
+
+/// Nothing was read yet.
+fn start(alloc: Global, name: &str) -> Result<State, AllocError>
+    ensures { IfOk result (λ state. state ≡ start name.now) }
+{
+    Ok(State {
+        heads: List::new(alloc),
+        declared: Names::new(alloc),
+        recipe: Recipe {
+            name: Word::new(alloc, name)?,
+            versions: List::new(alloc),
+            variants: List::new(alloc),
+            depends: List::new(alloc),
+            provides: List::new(alloc),
+            conflicts: List::new(alloc),
+            requirements: List::new(alloc),
+        },
+    })
+}
+
+/// Counts the calls.
+fn count(one: Item, number: u64) -> u64
+    requires { number + 1 < 2 ^ 64 }
+    ensures value { result ≡ count one number }
+    ensures room { result ≤ number + 1 }
+{
+    match one {
+        Item::With { .. } => number,
+        Item::Call { .. } => number + 1,
+    }
+}
+
+/// All items.
+fn read_items(
+    alloc: Global,
+    bytes: &[u8],
+    tokens: &[Token],
+    items: &[Item],
+    state: &mut State,
+) -> Result<(), RecipeFault>
+    ensures { Gives result state.new (read_items bytes.now tokens.now 0 items.now state.old) }
+{
+    let mut number = 0u64;
+    for (i, one) in items.iter().enumerate() {
+        match item(alloc, bytes, tokens, number, *one, state) {
+            Ok(()) => number = count(*one, number),
+            Err(fault) => return Err(fault),
+        }
+    }
+    Ok(())
+}
+
+/// The recipe of a file with these bytes, whose package has this name.
+///
+/// # Errors
+///
+/// The first fault of the tokens, else of the statements, else of the arguments and directives in their order.
+#[tactic(auto, unfolding(crate::specs::Recipes::recipe_of))]
+pub fn read_recipe(alloc: Global, name: &str, bytes: &[u8]) -> Result<Recipe, RecipeFault>
+    ensures found { IfOk result (λ recipe. recipe_of name.now bytes.now ≡ Ok recipe) }
+    ensures fault { IfErr result (λ fault. Fails fault (recipe_of name.now bytes.now)) }
+{
+    let tokens = tokens_of(alloc, bytes)?;
+    let items = items_of(alloc, bytes, tokens.as_slice())?;
+    let mut state = start(alloc, name)?;
+    read_items(
+        alloc,
+        bytes,
+        tokens.as_slice(),
+        items.as_slice(),
+        &mut state,
+    )?;
+    Ok(state.recipe)
+}
