@@ -1,0 +1,18 @@
+-- Sums and counts grow.
+use Rattle.std.proofs.Common.{◌≡◌, ℕ, zero, suc, ◌≤◌, Bool, true, false, cond, inl, inr, arith}
+use Rattle.std.proofs.lemmas.Bool.{cases_lt}
+use Rattle.level_encoding.specs.Counts.{total, count}
+
+pub count-bound : (f : ℕ → Bool) (n : ℕ) → count f n ≤ n
+unfolding count total
+count-bound f zero = omega arith
+count-bound f (suc n) = omega (arith, count-bound f n, small (f n))
+  where
+    small : (b : Bool) → cond b 1 0 ≤ 1
+    small true = omega arith
+    small false = omega arith
+
+pub total-le : (f : ℕ → ℕ) (i n : ℕ) → i ≤ n → total f i ≤ total f n
+unfolding total
+total-le f i zero h = let e : i ≡ 0 = omega arith in rw e (omega arith)
+total-le f i (suc n) h = elim (cases_lt i (suc n)) [ inl lt ↦ omega (arith, total-le f i n (omega arith)) | inr ge ↦ let e : i ≡ suc n = omega arith in rw e (omega arith) ]

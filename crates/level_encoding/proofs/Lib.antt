@@ -1,0 +1,15 @@
+pub mod Lists
+pub mod Reached
+pub mod CountLaws
+pub mod FormulaLaws
+pub mod Digits
+pub mod Choices
+pub mod ArcLaws
+pub mod Room
+pub mod RowLaws
+pub mod Range
+pub mod AssertedLaws
+pub mod RuleLaws
+pub mod Sound
+pub mod Complete
+pub mod Told

@@ -1,0 +1,34 @@
+//! Formulas are asserted one after the other.
+ghost use Rattle.std.specs.Prelude.{◌≡◌, ◌+◌, ◌≤◌, OnOk};
+ghost use Rattle.level_encoding.specs.Asserted.{assert_all, with_vars};
+ghost use Rattle.level_encoding.specs.Laws.{AllSaidBelow};
+
+use clause_formulas::{Formula, assert};
+use clause_store::{ClauseList, Label};
+use std::alloc::{AllocError, Global};
+
+/// Makes so many variables.
+pub(crate) fn add_vars(clauses: &mut ClauseList, count: u64) -> Result<(), AllocError>
+    ensures { OnOk result (clauses.new ≡ with_vars clauses.old (clauses.old.vars + count)) }
+{
+    for _i in 0..count {
+        clauses.new_var()?;
+    }
+    Ok(())
+}
+
+/// Asserts each formula of a list.
+pub(crate) fn assert_each(
+    alloc: Global,
+    clauses: &mut ClauseList,
+    formulas: &[Formula],
+) -> Result<(), AllocError>
+    requires { AllSaidBelow clauses.old.vars formulas.now }
+    ensures built { OnOk result (clauses.new ≡ assert_all clauses.old formulas.now) }
+    ensures more { OnOk result (clauses.old.vars ≤ clauses.new.vars) }
+{
+    for formula in formulas {
+        assert(alloc, clauses, formula, Label::Structure)?;
+    }
+    Ok(())
+}
