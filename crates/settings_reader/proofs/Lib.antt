@@ -1,0 +1,5 @@
+pub mod Telling
+pub mod Each
+pub mod Items
+pub mod One
+pub mod OneFile

@@ -1,0 +1,80 @@
+-- Each relation of reading holds for one outcome at most.
+use Rattle.std.proofs.Common.{◌≡◌, ◌≢◌, sym, ap, ◌∙◌, subst, ℕ, List, [], ◌∷◌, Option, Some, None, Result, Ok, Err}
+use Rattle.serde_json.specs.Data.{Data}
+use Rattle.version_order.specs.Items.{Reads}
+use Rattle.version_order.specs.declared.item.Item.{Item}
+use Rattle.spec_grammar.specs.Reading.{Spells}
+use Rattle.spec_grammar.specs.Faults.{IsFault}
+use Rattle.spec_grammar.specs.declared.mode.Mode.TheVariants.{Specs}
+use Rattle.spec_grammar.specs.declared.part.Spec.{Spec}
+use Rattle.spec_grammar.specs.declared.fault.SpecFault.{SpecFault}
+use Rattle.spec_grammar.specs.declared.fault.SpecFault.TheVariants as spec
+use Rattle.json_readers.specs.Faults.{Reading}
+use Rattle.settings_reader.specs.Told.{Outcome, Told, Then, Goes, Below, raised, said, done}
+use Rattle.settings_reader.specs.Parsed.{AreEach, IsOptional}
+use Rattle.settings_reader.specs.Versions.{IsSet, IsSetIn}
+use Rattle.settings_reader.specs.Externals.{IsReadAs, IsDescribed, described_of}
+
+abbrev pub IsOne : {T : Type 0} → Told T → Type 0
+IsOne told = (a b : Outcome _) → told a → told b → a ≡ b
+
+-- ---- steps
+
+pub said_one : {T : Type 0} (read : Reading T) → IsOne (said read)
+said_one read a b h k = h ∙ sym k
+
+pub done_one : {T : Type 0} (x : T) → IsOne (done x)
+done_one x a b h k = h ∙ sym k
+
+pub below_one : {T : Type 0} (key : List ℕ) (told : Told T) → IsOne told → IsOne (Below key told)
+below_one key told one a b h k = h.is ∙ ap (raised key) (one h.inner k.inner h.right k.right) ∙ sym k.is
+
+goes_one : {A B : Type 0} (step : Outcome A) (next : A → Told B) → ((x : A) → IsOne (next x)) → (a b : Outcome B) → Goes step next a → Goes step next b → a ≡ b
+goes_one (Ok x) next one a b h k = one x a b h k
+goes_one (Err m) next one a b h k = h ∙ sym k
+
+pub then_one : {A B : Type 0} (first : Told A) (next : A → Told B) → IsOne first → ((x : A) → IsOne (next x)) → IsOne (Then first next)
+then_one first next first_one next_one a b h k =
+    let P : Outcome _ → Type 0 = λ step. Goes step next a in
+    goes_one k.step next next_one a b (subst P (first_one h.step k.step h.told k.told) h.goes) k.goes
+
+-- ---- lists
+
+pub each_one : {T : Type 0} (tells : List ℕ → Data → Told T) → ((key : List ℕ) (d : Data) → IsOne (tells key d)) → (vs : List (List ℕ × Data)) → IsOne (AreEach tells vs)
+each_one tells one [] = done_one []
+each_one tells one (v ∷ vs) =
+    then_one (Below v.0 (tells v.0 v.1)) _ (below_one v.0 (tells v.0 v.1) (one v.0 v.1)) (λ x. then_one (AreEach tells vs) _ (each_one tells one vs) (λ xs. done_one (x ∷ xs)))
+
+pub optional_one : {T : Type 0} (tells : Data → Told (List T)) → ((d : Data) → IsOne (tells d)) → (found : Option Data) → IsOne (IsOptional tells found)
+optional_one tells one None = done_one []
+optional_one tells one (Some d) = one d
+
+-- ---- texts of a grammar
+
+pub record ReadsSetsOnce : Type 0 where
+  pub once : (text : List ℕ) (a b : List Item) → Reads text a → Reads text b → a ≡ b
+
+set_one : ReadsSetsOnce → (text : List ℕ) → IsOne (IsSet text)
+set_one laws text (Ok a) (Ok b) h k = ap Ok (laws.once text a b h.0 k.0)
+set_one laws text (Ok a) (Err m) h k = absurd (k.1 a h)
+set_one laws text (Err m) (Ok b) h k = absurd (h.1 b k)
+set_one laws text (Err m) (Err n) h k = ap Err (h.0 ∙ sym k.0)
+
+pub set_in_one : ReadsSetsOnce → (text : Option (List ℕ)) → IsOne (IsSetIn text)
+set_in_one laws None a b h k = h ∙ sym k
+set_in_one laws (Some text) a b h k = set_one laws text a b h k
+
+pub record ReadsSpecsOnce : Type 0 where
+  pub once : (text : List ℕ) (a b : List Spec) → Spells Specs text a → Spells Specs text b → a ≡ b
+  pub one_fault : (text : List ℕ) (a b : SpecFault) → IsFault Specs text a → IsFault Specs text b → a ≢ spec.OutOfMemory → b ≢ spec.OutOfMemory → a ≡ b
+  pub right : (text : List ℕ) (specs : List Spec) (fault : SpecFault) → Spells Specs text specs → IsFault Specs text fault → fault ≡ spec.OutOfMemory
+
+read_one : ReadsSpecsOnce → (text : List ℕ) (a b : Result (List Spec) SpecFault) → IsReadAs text a → IsReadAs text b → a ≡ b
+read_one laws text (Ok a) (Ok b) h k = ap Ok (laws.once text a b h k)
+read_one laws text (Ok a) (Err f) h k = absurd (k.1 (laws.right text a f h k.0))
+read_one laws text (Err f) (Ok b) h k = absurd (h.1 (laws.right text b f k h.0))
+read_one laws text (Err f) (Err e) h k = ap Err (laws.one_fault text f e h.0 k.0 h.1 k.1)
+
+pub described_one : ReadsSpecsOnce → (name platform text : List ℕ) → IsOne (IsDescribed name platform text)
+described_one laws name platform text a b h k =
+    h.is ∙ ap (described_of name platform) (read_one laws text h.read k.read h.right k.right) ∙ sym k.is

@@ -1,0 +1,98 @@
+-- A file says one thing at most.
+use Rattle.std.proofs.Common.{◌≡◌, ◌≢◌, sym, ap, ◌∙◌, subst, ℕ, List, Some, Result, Ok, Err, codes, inl, inr}
+use Rattle.std.specs.Option.{unwrap_or}
+use Rattle.serde_json.specs.Data.{Data, Members}
+use Rattle.serde_json.specs.Find.{as_array, as_str, get_member}
+use Rattle.json_readers.specs.Json.{IsJson}
+use Rattle.json_readers.specs.Faults.{given}
+use Rattle.json_readers.specs.Maps.{named}
+use Rattle.json_readers.specs.Objects.{known, may, need}
+use Rattle.json_readers.specs.Texts.{text_of, truth_value}
+use Rattle.text_forms.specs.Forms.{name_meaning}
+use Rattle.settings_reader.specs.Told.{Outcome, Told, Below, said}
+use Rattle.settings_reader.specs.Parsed.{IsList, IsListAt, IsOptional, items_at, members_of}
+use Rattle.settings_reader.specs.Versions.{IsVersionSet}
+use Rattle.settings_reader.specs.Externals as external_spec
+use Rattle.settings_reader.specs.Externals.{IsDescribed, IsExternal}
+use Rattle.settings_reader.specs.Packages as package_spec
+use Rattle.settings_reader.specs.Packages.{AreEntries, ArePackages, ArePackagesAt, IsPackage}
+use Rattle.settings_reader.specs.Order.{head_of, tail_of}
+use Rattle.settings_reader.specs.Settings as settings
+use Rattle.settings_reader.specs.Settings.{IsSettings, IsTable}
+use Rattle.settings_reader.specs.Files.{IsFirstFault, IsFileFault, IsOfFile, with_pointer}
+use Rattle.site_settings.specs.declared.settings.Settings.{Settings}
+use Rattle.settings_reader.specs.declared.fault.SettingsFault.{SettingsFault}
+use Rattle.settings_reader.specs.declared.fault.SettingsFault.TheVariants as fault
+use Rattle.settings_reader.proofs.One.{IsOne, ReadsSetsOnce, ReadsSpecsOnce, said_one, done_one, below_one, then_one, each_one, optional_one, set_in_one, described_one}
+
+list_one : {T : Type 0} (tells : Data → Told T) → ((d : Data) → IsOne (tells d)) → (d : Data) → IsOne (IsList tells d)
+list_one tells one d = then_one (said (given (as_array d))) _ (said_one (given (as_array d))) (λ ds. each_one (λ key. tells) (λ key. one) (items_at 0 ds))
+
+list_at_one : {T : Type 0} (tells : Data → Told T) → ((d : Data) → IsOne (tells d)) → (key : List ℕ) (ms : Members) → IsOne (IsListAt tells key ms)
+list_at_one tells one key ms = below_one key (IsOptional (IsList tells) (get_member key ms)) (optional_one (IsList tells) (list_one tells one) (get_member key ms))
+
+external_one : ReadsSpecsOnce → (name platform : List ℕ) (d : Data) → IsOne (IsExternal name platform d)
+external_one laws name platform d =
+    then_one (said (known external_spec.keys d)) _ (said_one (known external_spec.keys d)) (λ ms.
+    then_one (said (need (text_of Some) (codes "spec") ms)) _ (said_one (need (text_of Some) (codes "spec") ms)) (λ text.
+    then_one (Below (codes "spec") (IsDescribed name platform text)) _ (below_one (codes "spec") (IsDescribed name platform text) (described_one laws name platform text)) (λ d.
+    then_one (said (need (text_of Some) (codes "prefix") ms)) _ (said_one (need (text_of Some) (codes "prefix") ms)) (λ prefix. done_one _))))
+
+package_one : ReadsSetsOnce → ReadsSpecsOnce → (name platform : List ℕ) (d : Data) → IsOne (IsPackage name platform d)
+package_one sets specs name platform d =
+    then_one (said (known package_spec.keys d)) _ (said_one (known package_spec.keys d)) (λ ms.
+    then_one (IsListAt IsVersionSet (codes "versions") ms) _ (list_at_one IsVersionSet (λ v. set_in_one sets (as_str v)) (codes "versions") ms) (λ versions.
+    then_one (said (may truth_value (codes "buildable") ms)) _ (said_one (may truth_value (codes "buildable") ms)) (λ buildable.
+    then_one (IsListAt (IsExternal name platform) (codes "externals") ms) _ (list_at_one (IsExternal name platform) (external_one specs name platform) (codes "externals") ms) (λ externals. done_one _))))
+
+packages_one : ReadsSetsOnce → ReadsSpecsOnce → (platform : List ℕ) (d : Data) → IsOne (ArePackages platform d)
+packages_one sets specs platform d = then_one (said (named name_meaning d)) _ (said_one (named name_meaning d)) (λ ms. each_one _ (λ name. package_one sets specs name platform) (members_of ms))
+
+pub settings_one : ReadsSetsOnce → ReadsSpecsOnce → (d : Data) → IsOne (IsSettings d)
+settings_one sets specs d =
+    then_one (said (known settings.keys d)) _ (said_one (known settings.keys d)) (λ ms.
+    then_one (said (head_of ms)) _ (said_one (head_of ms)) (λ head.
+    then_one (IsTable head.targets) _ (λ a b h k. h ∙ sym k) (λ targets.
+    then_one (said (tail_of ms)) _ (said_one (tail_of ms)) (λ tail.
+    then_one (ArePackagesAt head.platform ms) _ (below_one (codes "packages") _ (optional_one (ArePackages head.platform) (packages_one sets specs head.platform) (get_member (codes "packages") ms))) (λ packages. done_one _)))))
+
+-- ---- files
+
+json_one : (bytes : List ℕ) (d e : Data) → IsJson bytes d → IsJson bytes e → d ≡ e
+json_one bytes d e h k = ap (λ o. unwrap_or o d) (sym h.1 ∙ k.1)
+
+abbrev ok_or : {T E : Type 0} → T → Result T E → T
+ok_or x (Ok y) = y
+ok_or x (Err e) = x
+
+abbrev err_or : {T E : Type 0} → E → Result T E → E
+err_or e (Ok x) = e
+err_or e (Err f) = f
+
+-- the same value has one outcome
+same_one : ReadsSetsOnce → ReadsSpecsOnce → (d e : Data) (a b : Outcome Settings) → d ≡ e → IsSettings d a → IsSettings e b → a ≡ b
+same_one sets specs d e a b is h k = let P : Data → Type 0 = λ v. IsSettings v a in settings_one sets specs e a b (subst P is h) k
+
+pub file_one : ReadsSetsOnce → ReadsSpecsOnce → (bytes : List ℕ) (a b : Settings) → IsOfFile bytes a → IsOfFile bytes b → a ≡ b
+file_one sets specs bytes a b h k = ap (ok_or a) (same_one sets specs h.0 k.0 (Ok a) (Ok b) (json_one bytes h.0 k.0 h.1 k.1) h.2 k.2)
+
+first_one : ReadsSetsOnce → ReadsSpecsOnce → (d e : Data) (f g : SettingsFault) → d ≡ e → IsFirstFault d f → IsFirstFault e g → f ≡ g
+first_one sets specs d e f g is h k =
+    h.is ∙ ap (λ m. with_pointer m.what m.at) (ap (err_or h.misread) (same_one sets specs d e (Err h.misread) (Err k.misread) is h.first k.first)) ∙ sym k.is
+
+pub fault_one : ReadsSetsOnce → ReadsSpecsOnce → (bytes : List ℕ) (f g : SettingsFault) → IsFileFault bytes f → IsFileFault bytes g → f ≢ fault.OutOfMemory → g ≢ fault.OutOfMemory → f ≡ g
+fault_one sets specs bytes f g (inl h) k nf ng = absurd (nf h)
+fault_one sets specs bytes f g (inr h) (inl k) nf ng = absurd (ng k)
+fault_one sets specs bytes f g (inr (inl h)) (inr (inl k)) nf ng = h.0 ∙ sym k.0
+fault_one sets specs bytes f g (inr (inl h)) (inr (inr k)) nf ng = absurd (h.1 k.0 k.1)
+fault_one sets specs bytes f g (inr (inr h)) (inr (inl k)) nf ng = absurd (k.1 h.0 h.1)
+fault_one sets specs bytes f g (inr (inr h)) (inr (inr k)) nf ng = first_one sets specs h.0 k.0 f g (json_one bytes h.0 k.0 h.1 k.1) h.2 k.2
+
+ok_is_not_err : {T E : Type 0} (x : T) (e : E) → Ok x ≡ Err e → ⊥
+ok_is_not_err x e h = cc
+
+pub right_one : ReadsSetsOnce → ReadsSpecsOnce → (bytes : List ℕ) (settings : Settings) (f : SettingsFault) → IsOfFile bytes settings → IsFileFault bytes f → f ≡ fault.OutOfMemory
+right_one sets specs bytes settings f h (inl k) = k
+right_one sets specs bytes settings f h (inr (inl k)) = absurd (k.1 h.0 h.1)
+right_one sets specs bytes settings f h (inr (inr k)) =
+    absurd (ok_is_not_err settings k.2.misread (same_one sets specs h.0 k.0 (Ok settings) (Err k.2.misread) (json_one bytes h.0 k.0 h.1 k.1) h.2 k.2.first))
