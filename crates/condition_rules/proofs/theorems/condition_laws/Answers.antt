@@ -1,0 +1,24 @@
+use Rattle.std.proofs.Common.{◌≡◌, refl, Bool, true, false, ◌&&◌, List, [], Some, IsPermutation}
+use Rattle.graph_core.specs.Graphs.{Text, Content, node_of}
+use Rattle.graph_core.specs.declared.node.Node.{Node}
+use Rattle.condition_rules.specs.Worlds.{World}
+use Rattle.condition_rules.specs.Meets.{meets}
+use Rattle.condition_rules.specs.Holds.{holds, all_hold}
+use Rattle.spec_grammar.specs.declared.part.Spec.{Spec}
+use Rattle.condition_rules.proofs.theorems.condition_laws.Goals as goal
+
+with_true : (b : Bool) → b && true ≡ b
+with_true true = refl
+with_true false = refl
+
+alone : (world : World) (spec : Spec) (graph : Content) (name : Text) (node : Node) → spec.below ≡ [] → node_of graph name ≡ Some node → holds world spec graph name ≡ meets world spec.top node
+unfolding holds
+alone world spec graph name node none at = rw (none, at) (with_true (meets world spec.top node))
+
+any_order : (world : World) (specs others : List Spec) (graph : Content) (name : Text) → IsPermutation specs others
+    → all_hold world (record { specs = specs }) graph name ≡ all_hold world (record { specs = others }) graph name
+unfolding all_hold
+any_order world specs others graph name moved = ?
+
+pub returns : goal.returns
+returns c = record { alone = alone; any_order = any_order }
