@@ -1,0 +1,13 @@
+//! Installed packages as data.
+//!
+//! What it is: `Record`, an installed package, and `Database`, a list of them.
+//! What it promises: what a `Database` is seen as.
+//! What it stands on: `graph_core` for compilers and kinds of dependencies, `spec_hash`.
+//! What it must not know: recipes, settings, and which graphs are valid.
+#![tactic(auto)]
+
+mod database;
+mod record;
+
+pub use database::Database;
+pub use record::Record;
