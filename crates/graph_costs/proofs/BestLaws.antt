@@ -1,5 +1,5 @@
 -- Best graphs have one vector, and the budget changes no answer.
-use Rattle.std.proofs.Common.{◌≡◌, refl, sym, ap, ◌∙◌, true, false, ℕ, List}
+use Rattle.std.proofs.Common.{◌≡◌, refl, sym, ap, ◌∙◌, false, ℕ, List}
 use Rattle.std.specs.Ordering.{is_lt, nat_cmp, ordering_reverse}
 use Rattle.std.specs.declared.cmp.Ordering.{Ordering}
 use Rattle.std.specs.declared.cmp.Ordering.TheVariants.{Less, Equal, Greater}
@@ -7,7 +7,6 @@ use Rattle.std.specs.Cmp.Lexicographic.{slice_cmp, nat_list_cmp_total, texts_tie
 use Rattle.graph_core.specs.Graphs.{Content}
 use Rattle.problem.specs.Nodes.{IsWellFormed}
 use Rattle.problem.specs.Problems.{with_budget, entry_of, Problem}
-use Rattle.graph_rules.specs.Valid.{valid}
 use Rattle.graph_costs.specs.Weights.{version_weight, is_deprecated}
 use Rattle.graph_costs.specs.Costs.{other_values, unused_defaults, provider_weights, criteria, vector}
 use Rattle.graph_costs.specs.Optimal.{IsOptimal}

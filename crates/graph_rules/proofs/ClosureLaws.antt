@@ -1,5 +1,5 @@
 -- Every node of a graph that keeps the rules which are always asked has a name of each closed list.
-use Rattle.std.proofs.Common.{◌≡◌, refl, sym, ap, subst, ◌∙◌, Bool, true, false, ◌&&◌, ◌||◌, ℕ, zero, suc, List, [], ◌∷◌, ◌++◌, length, cond, Option, Some, None, find, inl, inr, slice_get}
+use Rattle.std.proofs.Common.{◌≡◌, refl, sym, ap, subst, ◌∙◌, Bool, true, false, ◌||◌, ℕ, List, [], ◌∷◌, ◌++◌, cond, Option, Some, None, inl, inr, slice_get}
 use Rattle.std.specs.List.{list_all, list_any, filter, filter_map, cons_option, flat_map}
 use Rattle.std.specs.Option.{option_map, option_and_then, is_some}
 use Rattle.std.specs.Str.{bytes_eq}
@@ -21,7 +21,7 @@ use Rattle.graph_core.specs.declared.node.Edge.{Edge}
 use Rattle.graph_core.specs.declared.node.Kinds.{Kinds}
 use Rattle.graph_core.specs.declared.node.Origin.{Origin}
 use Rattle.graph_core.specs.declared.node.Origin.TheVariants.{Built, External, Installed}
-use Rattle.graph_rules.proofs.Lists.{In, In-among, In-contains, contains-In, list_all-each, find-in, In-left, In-right, In-map, In-flat_map, from_map, from_filter, bytes_eq-same, bytes_eq-itself}
+use Rattle.graph_rules.proofs.Lists.{In, In-among, In-contains, contains-In, list_all-each, find-in, In-left, In-right, In-map, In-flat_map, from_filter, bytes_eq-same, bytes_eq-itself}
 use Rattle.keyed_lists.proofs.TextLaws.{texts_decide}
 use Rattle.condition_rules.specs.Worlds.{recipe_of, rows}
 use Rattle.virtuals.specs.Virtuals.{is_virtual}

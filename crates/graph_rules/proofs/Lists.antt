@@ -1,5 +1,5 @@
 -- Elements of lists: of a test of all, a search, a map; and look-ups by a name.
-use Rattle.std.proofs.Common.{◌≡◌, refl, sym, ap, subst, ◌∙◌, Bool, true, false, ◌&&◌, List, [], ◌∷◌, ◌++◌, map, Some, None, find, cond, ◌⊎◌, inl, inr, ⊎_elim, Contains, ℕ, arith}
+use Rattle.std.proofs.Common.{◌≡◌, refl, sym, ap, subst, ◌∙◌, Bool, true, false, List, [], ◌∷◌, ◌++◌, map, Some, None, find, cond, ◌⊎◌, inl, inr, ⊎_elim, Contains, ℕ, arith}
 use Rattle.std.specs.List.{list_all, filter, flat_map}
 use Rattle.std.specs.Str.{bytes_eq}
 use Rattle.std.specs.Cmp.{tied_itself}

@@ -10,7 +10,7 @@ use Rattle.condition_rules.specs.Words.{if_written, implies}
 use Rattle.problem.specs.Nodes.{is_built}
 use Rattle.graph_core.specs.declared.node.Node.{Node}
 use Rattle.keyed_lists.proofs.TextLaws.{texts_decide}
-use Rattle.graph_rules.proofs.Lists.{In, list_all-each, list_all-from, find-in, node-itself, In-left, In-right, In-map, In-flat_map, bytes_eq-same}
+use Rattle.graph_rules.proofs.Lists.{In, list_all-each, list_all-from, find-in, node-itself, In-left, In-right, In-map, In-flat_map}
 use Rattle.condition_rules.specs.Worlds.{recipe_of, rows}
 use Rattle.conditions.specs.declared.recipe.Recipe.{Recipe}
 use Rattle.problem.specs.Problems.{recipe_at, depends_at, conflicts_at, requirements_at, Problem}

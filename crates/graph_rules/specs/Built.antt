@@ -1,5 +1,5 @@
 -- The rules of a node to build, apart from directives: each is said of one node.
-use Rattle.std.specs.Prelude.{Bool, ◌&&◌, ◌==◌, nat_lt, ℕ, List, [], map, filter, length, is_some}
+use Rattle.std.specs.Prelude.{Bool, ◌&&◌, List, [], map, filter, length, is_some}
 use Rattle.std.specs.List.{list_any, list_all}
 use Rattle.std.specs.Str.{bytes_eq}
 use Rattle.std.specs.Cmp.Lexicographic.{pointwise}

@@ -1,5 +1,5 @@
 -- Valid graphs.
-use Rattle.std.specs.Prelude.{Bool, ◌&&◌, ◌==◌, ℕ, List, [], ◌∷◌, ◌++◌, slice_get}
+use Rattle.std.specs.Prelude.{Bool, ◌&&◌, ◌==◌, ℕ, List, [], ◌∷◌, slice_get}
 use Rattle.std.specs.List.{list_all}
 use Rattle.condition_rules.specs.Words.{if_written, implies}
 use Rattle.graph_core.specs.Graphs.{Content, node_of}

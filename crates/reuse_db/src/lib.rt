@@ -6,8 +6,12 @@
 //! What it must not know: recipes, settings, and which graphs are valid.
 #![tactic(auto)]
 
+mod canonical;
 mod database;
+mod fault;
 mod record;
 
+pub use canonical::canonical;
 pub use database::Database;
+pub use fault::DbFault;
 pub use record::Record;

@@ -1,13 +1,13 @@
 -- Graphs that break one rule, each a valid graph or problem with one change.
-use Rattle.std.specs.Prelude.{Bool, true, false, not, List, [], ◌∷◌, ◌++◌, map, filter, codes, Some, None}
+use Rattle.std.specs.Prelude.{true, false, not, List, [], ◌∷◌, ◌++◌, filter, codes, Some, None}
 use Rattle.version_order.specs.declared.item.Item.TheVariants.{Range}
-use Rattle.graph_core.specs.Graphs.{Text, Content}
+use Rattle.graph_core.specs.Graphs.{Content}
 use Rattle.graph_core.specs.declared.node.Node.{Node}
 use Rattle.problem.specs.Problems.{Problem}
 use Rattle.graph_rules.specs.Valid.{keeps, all_rules}
 use Rattle.graph_rules.specs.declared.rule.Rule.{Rule}
-use Rattle.rule_rows.specs.Build.{named, at, always, version, to_build_and_link, to_link, recipe, compiler, standard, built, is_on, edge, with_roots}
-use Rattle.rule_rows.specs.Rows.{hdf5, mpi_of, realistic, realistic_graph, single, beside}
+use Rattle.rule_rows.specs.Build.{named, at, always, version, to_build_and_link, to_link, recipe, compiler, built, is_on, edge, with_roots}
+use Rattle.rule_rows.specs.Rows.{hdf5, mpi_of, realistic, realistic_graph, beside}
 
 -- the rules that the graph breaks, in their order
 abbrev pub broken_rules : Problem → Content → List Rule

@@ -1,5 +1,5 @@
 -- Pairs of texts in order: the run of one first text.
-use Rattle.std.proofs.Common.{◌≡◌, refl, sym, ap, ◌∙◌, ℕ, suc, ◌+◌, ◌||◌, Bool, true, false, cond, not, ◌==◌, List, [], ◌∷◌, length, filter, get_or, arith}
+use Rattle.std.proofs.Common.{◌≡◌, refl, ℕ, suc, ◌+◌, ◌||◌, Bool, true, false, cond, not, ◌==◌, List, [], ◌∷◌, length, filter, get_or, arith}
 use Rattle.std.proofs.lemmas.List.Elements.{filter_agree}
 use Rattle.std.proofs.lemmas.List.Sorted.{searchable_from_sorted}
 use Rattle.std.proofs.lemmas.Map.Keys.{Less-from_sorted}

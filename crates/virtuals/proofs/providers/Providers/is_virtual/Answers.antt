@@ -1,4 +1,4 @@
-use Rattle.std.proofs.Common.{◌∙◌, ap, not, length, ◌==◌}
+use Rattle.std.proofs.Common.{◌∙◌, ap, not}
 use Rattle.std.specs.Str.{bytes_eq}
 use Rattle.graph_core.specs.Graphs.{Text}
 use Rattle.virtuals.proofs.PairLaws.{some_kept}
