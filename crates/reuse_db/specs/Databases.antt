@@ -1,5 +1,5 @@
 -- Databases: records, and their faults.
-use Rattle.std.specs.Prelude.{◌≡◌, ℕ, ◌<◌, Bool, true, not, ◌&&◌, ◌||◌, List, [], ◌∷◌, map, find, take, length, Contains, Option, Some, None, option_map}
+use Rattle.std.specs.Prelude.{◌≡◌, ℕ, ◌<◌, Bool, not, ◌&&◌, ◌||◌, List, [], ◌∷◌, map, find, take, length, Contains, Option, Some, None}
 use Rattle.std.specs.List.{HoldsAt, list_any}
 use Rattle.std.specs.Str.{bytes_eq}
 use Rattle.graph_core.specs.Graphs.{Text}
@@ -44,6 +44,23 @@ lost_or entry (Some d) later = Some (entry.hash, d.0)
 abbrev pub dangling : List Text → List Record → Option (Text × Text)
 dangling hashes [] = None
 dangling hashes (entry ∷ more) = lost_or entry (find (is_lost hashes) entry.dependencies) (dangling hashes more)
+
+-- what a search for differing hashes finds, and one for hashes that stand twice
+abbrev pub IsHashFault : List Record → DbFault → Type 0
+IsHashFault records NotJson = ⊥
+IsHashFault records (WrongKind pointer) = ⊥
+IsHashFault records (HashDiffers written computed) = (entry : Record) × (differing records ≡ Some entry) × (written ≡ entry.hash) × (computed ≡ right_hash entry)
+IsHashFault records (TwiceHash hash) = ⊥
+IsHashFault records (Dangling parent child) = ⊥
+IsHashFault records OutOfMemory = Unit {0}
+
+abbrev pub IsTwiceFault : List Record → DbFault → Type 0
+IsTwiceFault records NotJson = ⊥
+IsTwiceFault records (WrongKind pointer) = ⊥
+IsTwiceFault records (HashDiffers written computed) = ⊥
+IsTwiceFault records (TwiceHash hash) = IsFirstTwice records hash
+IsTwiceFault records (Dangling parent child) = ⊥
+IsTwiceFault records OutOfMemory = Unit {0}
 
 -- the fault of records: the first kind that exists, at its first place
 abbrev pub IsDatabaseFault : List Record → DbFault → Type 0

@@ -6,12 +6,13 @@
 //! What it must not know: recipes, settings, and which graphs are valid.
 #![tactic(auto)]
 
-mod canonical;
 mod database;
 mod fault;
+mod places;
 mod record;
+mod text;
 
-pub use canonical::canonical;
 pub use database::Database;
 pub use fault::DbFault;
 pub use record::Record;
+pub use text::canonical;

@@ -140,16 +140,13 @@ fn values_in(alloc: Global, map: Map<String, Value>) -> Result<Vec<Value>, Alloc
     ensures { IfOk result (λ values. items_view values.items ≡ values_of (members_view map.entries)) }
 {
     let mut values = Vec::new(alloc);
-    for (_, value) in map {
+    for value in map.into_values() {
         values.push(value)?;
     }
     Ok(values)
 }
 
-fn dependencies_value(
-    alloc: Global,
-    dependencies: &[(Hash, Kinds)],
-) -> Result<Value, AllocError>
+fn dependencies_value(alloc: Global, dependencies: &[(Hash, Kinds)]) -> Result<Value, AllocError>
     ensures { IfOk result (λ value. view value ≡ array (values_of (dependency_members dependencies.now))) }
 {
     let map = dependencies_by_hash(alloc, dependencies)?;
