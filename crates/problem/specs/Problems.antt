@@ -28,6 +28,9 @@ pub record Problem : Type 0 where
   -- the requested specs
   pub roots : List Spec
 
+abbrev pub problem_of : List Recipe → Settings → List Record → List Spec → Problem
+problem_of recipes settings database roots = record { recipes = recipes; settings = settings; database = database; roots = roots }
+
 -- what conditions are read against
 abbrev pub world_of : Problem → World
 world_of problem = record { platform = problem.settings.platform; targets = problem.settings.targets; recipes = problem.recipes }

@@ -1,5 +1,5 @@
 -- Which roots are refused.
-use Rattle.std.specs.Prelude.{List, [], ◌∷◌, Option, Some, None, option_map, if◌then◌else◌}
+use Rattle.std.specs.Prelude.{◌≡◌, List, [], ◌∷◌, Option, Some, None, option_map, if◌then◌else◌}
 use Rattle.std.specs.Option.{option_or}
 use Rattle.std.specs.Str.{bytes_eq}
 use Rattle.spec_grammar.specs.declared.part.Part.{Part}
@@ -9,16 +9,17 @@ use Rattle.virtuals.specs.Virtuals.{is_virtual}
 use Rattle.problem.specs.Problems.{Problem}
 use Rattle.problem.specs.Closure.{is_known}
 use Rattle.problem.specs.declared.fault.ProblemFault.{ProblemFault}
-use Rattle.problem.specs.declared.fault.ProblemFault.TheVariants.{UnknownRoot, VirtualRoot, WrongPlatform}
+use Rattle.problem.specs.declared.fault.ProblemFault.TheVariants.{UnknownRoot, VirtualRoot, WrongPlatform, OutOfMemory}
 
--- the first platform of these parts that is not the settings'
+-- a platform that is written and is not this one
+abbrev pub other_than : Text → Option Text → Option Text
+other_than platform None = None
+other_than platform (Some p) = if bytes_eq p platform then None else Some p
+
+-- the first platform of these parts that is not this one
 abbrev pub wrong_platform : Text → List Part → Option Text
 wrong_platform platform [] = None
 wrong_platform platform (part ∷ more) = option_or (other_than platform part.platform) (wrong_platform platform more)
-  where
-    other_than : Text → Option Text → Option Text
-    other_than platform None = None
-    other_than platform (Some p) = if bytes_eq p platform then None else Some p
 
 -- what is wrong with a name as that of a root
 abbrev pub name_fault : Problem → Option Text → Option ProblemFault
@@ -38,3 +39,10 @@ first_fault problem (spec ∷ more) = option_or (root_fault problem spec) (first
 -- the fault of the first root that has one
 unfoldable pub roots_fault : Problem → Option ProblemFault
 roots_fault problem = first_fault problem problem.roots
+
+-- why roots are refused: what is wrong with the first that is
+abbrev pub IsProblemFault : Problem → ProblemFault → Type 0
+IsProblemFault problem (UnknownRoot name) = roots_fault problem ≡ Some (UnknownRoot name)
+IsProblemFault problem (VirtualRoot name) = roots_fault problem ≡ Some (VirtualRoot name)
+IsProblemFault problem (WrongPlatform platform) = roots_fault problem ≡ Some (WrongPlatform platform)
+IsProblemFault problem OutOfMemory = Unit {0}

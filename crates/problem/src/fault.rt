@@ -1,6 +1,9 @@
 // Why requested specs are refused.
+ghost use Rattle.std.specs.Prelude.{◌≡◌};
+ghost use Rattle.problem.specs.declared.fault.ProblemFault.TheVariants.{OutOfMemory};
 
 use plain_data::Word;
+use std::alloc::AllocError;
 use thiserror::Error;
 
 /// Why requested specs are refused: the first root that has a fault, and there the first of these.
@@ -17,4 +20,12 @@ pub enum ProblemFault {
     WrongPlatform(Word),
     #[error("out of memory")]
     OutOfMemory,
+}
+
+impl From<AllocError> for ProblemFault {
+    ghost from_gives = { λ _ fault. fault ≡ OutOfMemory };
+
+    fn from(_: AllocError) -> ProblemFault {
+        ProblemFault::OutOfMemory
+    }
 }
