@@ -15,11 +15,13 @@ use version_order::laws;
 /// A version's weight is its row's place, from 0, in the sort of the declared versions, and the number of
 /// these where it is not declared.
 pub fn weights_are_places()
-    ensures place { (problem : Problem) (name version : Text) (sorted : List VersionRow) (place : ℕ) (row : VersionRow)
-        → IsPermutation (versions_at problem name) sorted → IsStrictlySortedBy (row_cmp (listed_in (entry_of problem name))) sorted
-        → find (λ r. bytes_eq r.version version) (versions_at problem name) ≡ Some row → slice_get sorted place ≡ Some row
-        → version_weight problem name version ≡ place }
-    ensures not_declared { (problem : Problem) (name version : Text) → find (λ r. bytes_eq r.version version) (versions_at problem name) ≡ None
+    ensures place { (problem : Problem) (name version : Text) (sorted : List VersionRow) (place : ℕ)
+        (row : VersionRow) → IsPermutation (versions_at problem name) sorted
+        → IsStrictlySortedBy (row_cmp (listed_in (entry_of problem name))) sorted
+        → find (λ r. bytes_eq r.version version) (versions_at problem name) ≡ Some row
+        → slice_get sorted place ≡ Some row → version_weight problem name version ≡ place }
+    ensures not_declared { (problem : Problem) (name version : Text)
+        → find (λ r. bytes_eq r.version version) (versions_at problem name) ≡ None
         → version_weight problem name version ≡ length (versions_at problem name) }
 {
     laws();
@@ -27,6 +29,8 @@ pub fn weights_are_places()
 
 /// Best graphs have one vector, and the budget changes no vector.
 pub fn vector_laws()
-    ensures one_vector { (problem : Problem) (a b : Content) → IsWellFormed a → IsWellFormed b → IsOptimal problem a → IsOptimal problem b → vector problem a ≡ vector problem b }
-    ensures budget { (problem : Problem) (budget : ℕ) (graph : Content) → vector (with_budget budget problem) graph ≡ vector problem graph }
+    ensures one_vector { (problem : Problem) (a b : Content) → IsWellFormed a → IsWellFormed b
+        → IsOptimal problem a → IsOptimal problem b → vector problem a ≡ vector problem b }
+    ensures budget { (problem : Problem) (budget : ℕ) (graph : Content)
+        → vector (with_budget budget problem) graph ≡ vector problem graph }
 {}
