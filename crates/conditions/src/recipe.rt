@@ -5,6 +5,7 @@
 //! `provides` may give several rows, which share it.
 
 use graph_core::Kinds;
+use keyed_lists::Keyed;
 use plain_data::{List, Word};
 use spec_grammar::{Part, Spec};
 use variant_values::{ValueSet, VariantKind};
@@ -90,6 +91,15 @@ pub struct Recipe {
     pub provides: List<ProvideRow>,
     pub conflicts: List<ConflictRow>,
     pub requirements: List<RequireRow>,
+}
+
+/// Recipes stand in lists in byte order of their names.
+impl Keyed for Recipe {
+    ghost key_of = { λ recipe. recipe.name };
+
+    fn key(&self) -> &str {
+        self.name.as_str()
+    }
 }
 
 /// A value that may be lent to threads, and handed back by them.

@@ -1,0 +1,5 @@
+-- what public contracts say
+pub mod Words
+pub mod Worlds
+pub mod Meets
+pub mod Holds

@@ -1,0 +1,223 @@
+// What specs and conditions mean at a node of a graph.
+ghost use Rattle.std.specs.Prelude.{◌≡◌, ◌&&◌, IfOk, option_and_then};
+ghost use Rattle.std.specs.List.{list_all};
+ghost use Rattle.std.specs.Option.{option_copied};
+ghost use Rattle.graph_core.specs.Graphs.{node_of, provider_of};
+ghost use Rattle.graph_core.specs.Paths.{reaches_in};
+ghost use Rattle.condition_rules.specs.Words.{is_some_and, find_last};
+ghost use Rattle.condition_rules.specs.Meets.{meets};
+ghost use Rattle.condition_rules.specs.Holds.{asked_node, suits, holds_below, holds, all_hold, is_governed_by, governing};
+
+use crate::at_node::{meets, meets_rest, provides};
+use crate::{Paths, World};
+use conditions::{Condition, VariantRow};
+use graph_core::{Graph, Node};
+use spec_grammar::{Part, Spec};
+use std::alloc::{AllocError, Global};
+use version_order::VersionSet;
+
+fn provider_node<'a>(graph: &'a Graph, name: &str) -> Option<&'a Node>
+    ensures { option_copied result ≡ option_and_then (node_of graph.now) (provider_of graph.now name.now) }
+{
+    match graph.provider_of(name) {
+        Some(package) => graph.node(package),
+        None => None,
+    }
+}
+
+/// The node that a name asks for: that of the package, or the provider of the virtual.
+#[tactic(auto, unfolding(crate::specs::Holds::asked_node))]
+pub fn asked_node<'a>(world: &World, graph: &'a Graph, name: &str) -> Option<&'a Node>
+    ensures { option_copied result ≡ asked_node world.now graph.now name.now }
+{
+    if world.is_virtual(name) {
+        provider_node(graph, name)
+    } else {
+        graph.node(name)
+    }
+}
+
+fn set_of(set: &Option<VersionSet>) -> Option<&VersionSet>
+    ensures { option_copied result ≡ set.now }
+{
+    match set {
+        Some(set) => Some(set),
+        None => None,
+    }
+}
+
+/// Whether a part of this name holds at the node that the name asks for.
+#[tactic(auto, unfolding(crate::specs::Holds::suits))]
+pub fn suits(world: &World, part: &Part, name: &str, node: &Node) -> bool
+    ensures { result ≡ suits world.now part.now name.now node.now }
+{
+    if world.is_virtual(name) {
+        provides(world, node, name, set_of(&part.versions)) && meets_rest(world, part, node)
+    } else {
+        meets(world, part, node)
+    }
+}
+
+fn is_below<P: Paths>(
+    alloc: Global,
+    world: &World,
+    graph: &P,
+    from: &str,
+    part: &Part,
+    name: &str,
+) -> Result<bool, AllocError>
+    ensures { IfOk result (λ answer. answer ≡ is_some_and (asked_node world.now (P.graph_of graph.now) name.now) (λ node. suits world.now part.now name.now node && reaches_in (P.graph_of graph.now) from.now node.name)) }
+{
+    match asked_node(world, graph.graph(), name) {
+        Some(node) => Ok(
+            suits(world, part, name, node) && graph.leads(alloc, from, node.name.as_str())?,
+        ),
+        None => Ok(false),
+    }
+}
+
+/// Whether a part after `^` holds at a node.
+fn holds_below<P: Paths>(
+    alloc: Global,
+    world: &World,
+    graph: &P,
+    from: &str,
+    part: &Part,
+) -> Result<bool, AllocError>
+    ensures { IfOk result (λ answer. answer ≡ holds_below world.now (P.graph_of graph.now) from.now part.now) }
+{
+    match &part.name {
+        Some(name) => is_below(alloc, world, graph, from, part, name.as_str()),
+        None => Ok(false),
+    }
+}
+
+fn all_below<P: Paths>(
+    alloc: Global,
+    world: &World,
+    graph: &P,
+    from: &str,
+    parts: &[Part],
+) -> Result<bool, AllocError>
+    ensures { IfOk result (λ answer. answer ≡ list_all (holds_below world.now (P.graph_of graph.now) from.now) parts.now) }
+{
+    for part in parts {
+        if !holds_below(alloc, world, graph, from, part)? {
+            return Ok(false);
+        }
+    }
+    Ok(true)
+}
+
+fn top_holds<P: Paths>(world: &World, part: &Part, graph: &P, name: &str) -> bool
+    ensures { result ≡ is_some_and (node_of (P.graph_of graph.now) name.now) (meets world.now part.now) }
+{
+    match graph.graph().node(name) {
+        Some(node) => meets(world, part, node),
+        None => false,
+    }
+}
+
+/// Whether a spec holds at a node; at a name that is no node it does not.
+#[tactic(auto, unfolding(crate::specs::Holds::holds))]
+pub fn holds<P: Paths>(
+    alloc: Global,
+    world: &World,
+    spec: &Spec,
+    graph: &P,
+    name: &str,
+) -> Result<bool, AllocError>
+    ensures { IfOk result (λ answer. answer ≡ holds world.now spec.now (P.graph_of graph.now) name.now) }
+{
+    if !top_holds(world, &spec.top, graph, name) {
+        return Ok(false);
+    }
+    all_below(alloc, world, graph, name, spec.below.as_slice())
+}
+
+fn each_holds<P: Paths>(
+    alloc: Global,
+    world: &World,
+    specs: &[Spec],
+    graph: &P,
+    name: &str,
+) -> Result<bool, AllocError>
+    ensures { IfOk result (λ answer. answer ≡ list_all (λ spec. holds world.now spec (P.graph_of graph.now) name.now) specs.now) }
+{
+    for spec in specs {
+        if !holds(alloc, world, spec, graph, name)? {
+            return Ok(false);
+        }
+    }
+    Ok(true)
+}
+
+/// Whether all specs of a condition hold at a node.
+#[tactic(auto, unfolding(crate::specs::Holds::all_hold))]
+pub fn all_hold<P: Paths>(
+    alloc: Global,
+    world: &World,
+    condition: &Condition,
+    graph: &P,
+    name: &str,
+) -> Result<bool, AllocError>
+    ensures { IfOk result (λ answer. answer ≡ all_hold world.now condition.now (P.graph_of graph.now) name.now) }
+{
+    each_holds(alloc, world, condition.specs.as_slice(), graph, name)
+}
+
+fn is_governed_by<P: Paths>(
+    alloc: Global,
+    world: &World,
+    graph: &P,
+    name: &str,
+    variant: &str,
+    row: &VariantRow,
+) -> Result<bool, AllocError>
+    ensures { IfOk result (λ answer. answer ≡ is_governed_by world.now (P.graph_of graph.now) name.now variant.now row.now) }
+{
+    Ok(row.name.as_str() == variant && all_hold(alloc, world, &row.when, graph, name)?)
+}
+
+fn last_governing<'a, P: Paths>(
+    alloc: Global,
+    world: &World,
+    graph: &P,
+    name: &str,
+    variant: &str,
+    rows: &'a [VariantRow],
+) -> Result<Option<&'a VariantRow>, AllocError>
+    ensures { IfOk result (λ last. option_copied last ≡ find_last (is_governed_by world.now (P.graph_of graph.now) name.now variant.now) rows.now) }
+{
+    let mut last = None;
+    for row in rows {
+        if is_governed_by(alloc, world, graph, name, variant, row)? {
+            last = Some(row);
+        }
+    }
+    Ok(last)
+}
+
+/// The last definition of a variant whose condition holds at a node.
+#[tactic(auto, unfolding(crate::specs::Holds::governing))]
+pub fn governing<'a, P: Paths>(
+    alloc: Global,
+    world: &World<'a>,
+    graph: &P,
+    name: &str,
+    variant: &str,
+) -> Result<Option<&'a VariantRow>, AllocError>
+    ensures { IfOk result (λ last. option_copied last ≡ governing world.now (P.graph_of graph.now) name.now variant.now) }
+{
+    match world.recipe(name) {
+        Some(recipe) => last_governing(
+            alloc,
+            world,
+            graph,
+            name,
+            variant,
+            recipe.variants.as_slice(),
+        ),
+        None => Ok(None),
+    }
+}

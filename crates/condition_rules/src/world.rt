@@ -1,0 +1,81 @@
+// What conditions are read against.
+ghost use Rattle.std.specs.Prelude.{◌≡◌};
+ghost use Rattle.std.specs.Option.{option_copied};
+ghost use Rattle.virtuals.specs.Virtuals.{AreInOrder, AreProviders, is_virtual};
+ghost use Rattle.condition_rules.specs.Worlds.{recipe_of};
+
+use conditions::Recipe;
+use keyed_lists::find;
+use std::marker::Model;
+use target_table::TargetTable;
+use virtuals::Providers;
+
+/// The machine's platform, the targets, and the recipes in byte order of names, each name once.
+#[derive(Drop)]
+pub struct World<'a> {
+    platform: &'a str,
+    targets: &'a TargetTable,
+    recipes: &'a [Recipe],
+    providers: &'a Providers,
+}
+
+impl<'a> Model for World<'a> {
+    ghost use Rattle.virtuals.specs.Virtuals.{AreInOrder, AreProviders};
+    ghost use Rattle.condition_rules.specs.Worlds.{World};
+
+    ghost Value = { World };
+
+    ghost view = { λ w. record { platform = w.platform.now; targets = w.targets.now; recipes = w.recipes.now } };
+
+    ghost invariant = { λ w. record { order : AreInOrder w.recipes.now; providers : AreProviders w.recipes.now w.providers.now } };
+}
+
+impl<'a> World<'a> {
+    /// The world of these recipes, and of what they provide.
+    pub fn new(
+        platform: &'a str,
+        targets: &'a TargetTable,
+        recipes: &'a [Recipe],
+        providers: &'a Providers,
+    ) -> World<'a>
+        requires order { AreInOrder recipes.now }
+        requires providers { AreProviders recipes.now providers.now }
+        ensures { result ≡ record { platform = platform.now; targets = targets.now; recipes = recipes.now } }
+    {
+        World {
+            platform,
+            targets,
+            recipes,
+            providers,
+        }
+    }
+
+    /// The machine's platform.
+    pub fn platform(&self) -> &'a str
+        ensures { result.now ≡ self.now.platform }
+    {
+        self.platform
+    }
+
+    /// The targets.
+    pub fn targets(&self) -> &'a TargetTable
+        ensures { result.now ≡ self.now.targets }
+    {
+        self.targets
+    }
+
+    /// The recipe of a package.
+    #[tactic(auto, unfolding(crate::specs::Worlds::recipe_of))]
+    pub fn recipe(&self, name: &str) -> Option<&'a Recipe>
+        ensures { option_copied result ≡ recipe_of self.now name.now }
+    {
+        find(self.recipes, name)
+    }
+
+    /// Whether some recipe provides the name.
+    pub fn is_virtual(&self, name: &str) -> bool
+        ensures { result ≡ is_virtual self.now.recipes name.now }
+    {
+        self.providers.is_virtual(name)
+    }
+}

@@ -1,0 +1,4 @@
+-- what public contracts say
+pub mod Weights
+pub mod Costs
+pub mod Optimal

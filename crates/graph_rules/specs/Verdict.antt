@@ -1,0 +1,94 @@
+-- The first broken rule, and where it is broken.
+use Rattle.std.specs.Prelude.{Bool, ℕ, ◌+◌, not, List, [], ◌∷◌, map, filter, flat_map, Option, Some, None, unwrap_or, if◌then◌else◌}
+use Rattle.std.specs.Ordering.{ordering_then, nat_cmp, is_lt}
+use Rattle.variant_values.specs.Texts.{byte_cmp}
+use Rattle.spec_grammar.specs.declared.part.Spec.{Spec}
+use Rattle.graph_core.specs.Graphs.{Text, Content}
+use Rattle.condition_rules.specs.Words.{implies}
+use Rattle.problem.specs.Nodes.{is_built}
+use Rattle.graph_core.specs.declared.node.Node.{Node}
+use Rattle.problem.specs.Problems.{depends_at, conflicts_at, requirements_at, Problem}
+use Rattle.graph_rules.specs.Built.{keeps_buildable, keeps_version, keeps_variant, keeps_compiler, keeps_machine, keeps_extra_edge}
+use Rattle.graph_rules.specs.Directives.{keeps_root, keeps_edge, keeps_constraint, keeps_conflict, keeps_requirement}
+use Rattle.graph_rules.specs.Kept.{keeps_kept}
+use Rattle.graph_rules.specs.Whole.{keeps_provider, keeps_used, keeps_no_cycle, keeps_reachable}
+use Rattle.graph_rules.specs.Valid.{all_rules}
+use Rattle.graph_rules.specs.declared.rule.Rule.{Rule}
+use Rattle.graph_rules.specs.declared.rule.Rule.TheVariants as rules
+use Rattle.graph_rules.specs.declared.rule.Verdict.{Verdict}
+use Rattle.graph_rules.specs.declared.rule.Verdict.TheVariants as verdicts
+
+-- a name, and the number of a directive or root there, or 0
+abbrev pub Place : Type 0
+Place = Text × ℕ
+
+-- ---- where a rule is broken
+
+abbrev pub broken_roots : Problem → Content → ℕ → List Spec → List Place
+broken_roots problem graph place [] = []
+broken_roots problem graph place (spec ∷ more) =
+    let later = broken_roots problem graph (place + 1) more in
+    if keeps_root problem graph spec then later else (unwrap_or spec.top.name [], place) ∷ later
+
+abbrev pub broken_nodes : (Node → Bool) → Content → List Place
+broken_nodes test graph = map (λ node. (node.name, 0)) (filter (λ node. not (test node)) graph.nodes)
+
+abbrev pub broken_builds : (Node → Bool) → Content → List Place
+broken_builds test graph = broken_nodes (λ node. implies (is_built node) (test node)) graph
+
+abbrev pub broken_rows : {R : Type 0} → (Text → List R) → (R → ℕ) → (Node → R → Bool) → Content → List Place
+broken_rows rows_at number test graph =
+    flat_map (λ node. map (λ row. (node.name, number row)) (filter (λ row. not (implies (is_built node) (test node row))) (rows_at node.name))) graph.nodes
+
+abbrev pub broken_providers : ((Text × Text) → Bool) → Content → List Place
+broken_providers test graph = map (λ p. (p.0, 0)) (filter (λ p. not (test p)) graph.providers)
+
+-- all places where the rule is broken
+unfoldable pub breaks : Rule → Problem → Content → List Place
+breaks rules.Root problem graph = broken_roots problem graph 0 problem.roots
+breaks rules.Buildable problem graph = broken_builds (keeps_buildable problem) graph
+breaks rules.Version problem graph = broken_builds (keeps_version problem) graph
+breaks rules.Variant problem graph = broken_builds (keeps_variant problem graph) graph
+breaks rules.Compiler problem graph = broken_builds (keeps_compiler problem) graph
+breaks rules.Machine problem graph = broken_builds (keeps_machine problem) graph
+breaks rules.Edge problem graph = broken_rows (depends_at problem) (λ row. row.number) (keeps_edge problem graph) graph
+breaks rules.ExtraEdge problem graph = broken_builds (keeps_extra_edge problem graph) graph
+breaks rules.Constraint problem graph = broken_rows (depends_at problem) (λ row. row.number) (keeps_constraint problem graph) graph
+breaks rules.Conflict problem graph = broken_rows (conflicts_at problem) (λ row. row.number) (keeps_conflict problem graph) graph
+breaks rules.Requirement problem graph = broken_rows (requirements_at problem) (λ row. row.number) (keeps_requirement problem graph) graph
+breaks rules.Kept problem graph = broken_nodes (keeps_kept problem graph) graph
+breaks rules.Provider problem graph = broken_providers (keeps_provider problem graph) graph
+breaks rules.UnusedProvider problem graph = broken_providers (keeps_used problem graph) graph
+breaks rules.Cycle problem graph = broken_nodes (keeps_no_cycle graph) graph
+breaks rules.Unreachable problem graph = broken_nodes (keeps_reachable problem graph) graph
+
+-- ---- the first
+
+abbrev pub is_before : Place → Place → Bool
+is_before a b = is_lt (ordering_then (byte_cmp a.0 b.0) (nat_cmp a.1 b.1))
+
+abbrev pub lesser : Place → Option Place → Place
+lesser p None = p
+lesser p (Some q) = if is_before q p then q else p
+
+-- the least name, and there the least number
+abbrev pub least : List Place → Option Place
+least [] = None
+least (p ∷ more) = Some (lesser p (least more))
+
+-- the lesser of two that may not be there
+abbrev pub lesser_of : Option Place → Option Place → Option Place
+lesser_of None b = b
+lesser_of (Some p) b = Some (lesser p b)
+
+abbrev pub broken_or : Rule → Option Place → Verdict → Verdict
+broken_or rule None later = later
+broken_or rule (Some p) later = verdicts.Broken rule p.0 p.1
+
+abbrev pub first_broken : List Rule → Problem → Content → Verdict
+first_broken [] problem graph = verdicts.Valid
+first_broken (rule ∷ more) problem graph = broken_or rule (least (breaks rule problem graph)) (first_broken more problem graph)
+
+-- the first broken rule, and its least place; or that none is broken
+unfoldable pub verdict : Problem → Content → Verdict
+verdict problem graph = first_broken all_rules problem graph

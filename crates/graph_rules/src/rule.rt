@@ -1,0 +1,39 @@
+// The rules of a valid graph.
+
+use plain_data::Word;
+
+/// The rules, in the order in which a broken one is named.
+#[derive(Debug, Clone, Copy, PartialEq, Eq)]
+pub enum Rule {
+    Root,
+    Buildable,
+    Version,
+    Variant,
+    Compiler,
+    Machine,
+    Edge,
+    ExtraEdge,
+    Constraint,
+    Conflict,
+    Requirement,
+    Kept,
+    Provider,
+    UnusedProvider,
+    Cycle,
+    Unreachable,
+}
+
+/// What is said of a graph.
+#[derive(Debug, Drop)]
+pub enum Verdict {
+    /// No rule is broken.
+    Valid,
+    /// The first broken rule, there the least node by bytes, and there the least number of a directive. The number
+    /// is 0 for a rule without directives and the root's place for `Rule::Root`. For `Rule::Provider` and
+    /// `Rule::UnusedProvider` the node is the virtual.
+    Broken {
+        rule: Rule,
+        node: Word,
+        directive: u64,
+    },
+}

@@ -1,0 +1,29 @@
+-- Words on nodes and kinds.
+use Rattle.std.specs.Prelude.{Bool, true, false, ◌&&◌, ◌||◌, All}
+use Rattle.std.specs.Str.{bytes_eq}
+use Rattle.variant_values.specs.Texts.{IsInByteOrder}
+use Rattle.graph_core.specs.Graphs.{Text, Content, IsGraph}
+use Rattle.graph_core.specs.declared.node.Node.{Node}
+use Rattle.graph_core.specs.declared.node.Kinds.{Kinds}
+use Rattle.graph_core.specs.declared.node.Origin.TheVariants.{Built, External, Installed}
+use Rattle.condition_rules.specs.Words.{implies}
+
+-- the node is to be built
+abbrev pub is_built : Node → Bool
+is_built node = elim node.origin [ Built ↦ true | External place ↦ false | Installed hash ↦ false ]
+
+-- the node is the installed one of this hash
+abbrev pub is_installed : Text → Node → Bool
+is_installed hash node = elim node.origin [ Built ↦ false | External place ↦ false | Installed h ↦ bytes_eq h hash ]
+
+abbrev pub has_kind : Kinds → Bool
+has_kind kinds = kinds.build || kinds.link || kinds.run
+
+-- all kinds that are wanted are there
+abbrev pub covers : Kinds → Kinds → Bool
+covers kinds wanted = implies wanted.build kinds.build && implies wanted.link kinds.link && implies wanted.run kinds.run
+
+-- what a value of type `Graph` is: a graph in which the values of each variant are a set
+pub record IsWellFormed (graph : Content) : Type 0 where
+  pub is_graph : IsGraph graph
+  pub values : All (λ node. All (λ v. IsInByteOrder v.1) node.variants) graph.nodes

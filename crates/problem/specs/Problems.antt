@@ -1,0 +1,93 @@
+-- A problem, and what is looked up in it.
+use Rattle.std.specs.Prelude.{Bool, true, ◌&&◌, ℕ, List, [], find, Option, Some, None, option_and_then}
+use Rattle.std.specs.Str.{bytes_eq}
+use Rattle.graph_core.specs.Graphs.{Text, Content}
+use Rattle.graph_core.specs.declared.node.Node.{Node}
+use Rattle.graph_core.specs.declared.node.Compiler.{Compiler}
+use Rattle.condition_rules.specs.Worlds.{World, recipe_of, rows}
+use Rattle.condition_rules.specs.Holds.{asked_node, all_hold}
+use Rattle.spec_grammar.specs.declared.part.Spec.{Spec}
+use Rattle.site_settings.specs.declared.settings.Settings.{Settings}
+use Rattle.conditions.specs.declared.recipe.Condition.{Condition}
+use Rattle.conditions.specs.declared.recipe.Recipe.{Recipe}
+use Rattle.conditions.specs.declared.recipe.VersionRow.{VersionRow}
+use Rattle.conditions.specs.declared.recipe.VariantRow.{VariantRow}
+use Rattle.conditions.specs.declared.recipe.DependRow.{DependRow}
+use Rattle.conditions.specs.declared.recipe.ConflictRow.{ConflictRow}
+use Rattle.conditions.specs.declared.recipe.RequireRow.{RequireRow}
+use Rattle.site_settings.specs.declared.settings.PackageEntry.{PackageEntry}
+use Rattle.site_settings.specs.declared.settings.ExternalEntry.{ExternalEntry}
+use Rattle.reuse_db.specs.declared.record.Record.{Record}
+
+-- all that decides which graphs are valid and what they cost
+pub record Problem : Type 0 where
+  -- in byte order of names, each name once
+  pub recipes : List Recipe
+  pub settings : Settings
+  pub database : List Record
+  -- the requested specs
+  pub roots : List Spec
+
+abbrev pub problem_of : List Recipe → Settings → List Record → List Spec → Problem
+problem_of recipes settings database roots = record { recipes = recipes; settings = settings; database = database; roots = roots }
+
+-- what conditions are read against
+abbrev pub world_of : Problem → World
+world_of problem = record { platform = problem.settings.platform; targets = problem.settings.targets; recipes = problem.recipes }
+
+-- ---- recipes
+
+abbrev pub recipe_at : Problem → Text → Option Recipe
+recipe_at problem name = recipe_of (world_of problem) name
+
+abbrev pub versions_at : Problem → Text → List VersionRow
+versions_at problem name = rows (λ recipe. recipe.versions) (recipe_at problem name)
+
+abbrev pub variants_at : Problem → Text → List VariantRow
+variants_at problem name = rows (λ recipe. recipe.variants) (recipe_at problem name)
+
+abbrev pub depends_at : Problem → Text → List DependRow
+depends_at problem name = rows (λ recipe. recipe.depends) (recipe_at problem name)
+
+abbrev pub conflicts_at : Problem → Text → List ConflictRow
+conflicts_at problem name = rows (λ recipe. recipe.conflicts) (recipe_at problem name)
+
+abbrev pub requirements_at : Problem → Text → List RequireRow
+requirements_at problem name = rows (λ recipe. recipe.requirements) (recipe_at problem name)
+
+-- ---- settings
+
+unfoldable pub entry_of : Problem → Text → Option PackageEntry
+entry_of problem name = find (λ entry. bytes_eq entry.name name) problem.settings.packages
+
+abbrev pub externals_in : Option PackageEntry → List ExternalEntry
+externals_in None = []
+externals_in (Some entry) = entry.externals
+
+abbrev pub is_buildable_in : Option PackageEntry → Bool
+is_buildable_in None = true
+is_buildable_in (Some entry) = entry.buildable
+
+abbrev pub same_compiler : Compiler → Compiler → Bool
+same_compiler a b = bytes_eq a.name b.name && bytes_eq a.version b.version
+
+-- ---- records
+
+unfoldable pub record_at : Problem → Text → Option Record
+record_at problem hash = find (λ entry. bytes_eq entry.hash hash) problem.database
+
+-- ---- directives at a node
+
+-- the condition of a directive holds at the node
+abbrev pub applies : Problem → Content → Condition → Node → Bool
+applies problem graph when node = all_hold (world_of problem) when graph node.name
+
+-- the node that a `depends_on` asks for
+abbrev pub asked_by : Problem → Content → DependRow → Option Node
+asked_by problem graph row = option_and_then (asked_node (world_of problem) graph) row.part.name
+
+-- ---- the budget
+
+-- the same problem with another budget
+abbrev pub with_budget : ℕ → Problem → Problem
+with_budget budget problem = record problem { settings = record problem.settings { conflict_budget = budget } }

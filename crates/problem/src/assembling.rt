@@ -1,0 +1,120 @@
+// Putting a problem together.
+ghost use Rattle.std.specs.Prelude.{◌≡◌, true, None, IfOk, IfErr, OnOk, option_map, ◌∷◌};
+ghost use Rattle.virtuals.specs.Virtuals.{AreInOrder};
+ghost use Rattle.problem.specs.Assembled.{is_assembled};
+ghost use Rattle.problem.specs.Problems.{problem_of};
+ghost use Rattle.problem.specs.Roots.{IsProblemFault, name_fault, root_fault, first_fault, roots_fault, wrong_platform};
+ghost use Rattle.problem.specs.declared.fault.ProblemFault.TheVariants.{WrongPlatform};
+
+use crate::demands::demands_of;
+use crate::known::is_known;
+use crate::platforms::wrong_platform;
+use crate::{Problem, ProblemFault};
+use conditions::Recipe;
+use plain_data::{Duplicate, List, Word};
+use reuse_db::Database;
+use site_settings::Settings;
+use spec_grammar::Spec;
+use std::alloc::{AllocError, Global};
+use virtuals::Providers;
+
+/// The problem of these parts; takes them whatever it answers.
+///
+/// It looks at the requested specs in order, and at each for what `ProblemFault` names, in its order.
+pub fn assemble(
+    alloc: Global,
+    recipes: List<Recipe>,
+    settings: Settings,
+    database: Database,
+    roots: List<Spec>,
+) -> Result<Problem, ProblemFault>
+    requires order { AreInOrder recipes }
+    requires right { is_assembled (problem_of recipes settings database roots) ≡ true }
+    ensures problem { IfOk result (λ problem. problem ≡ problem_of recipes settings database roots) }
+    ensures known { OnOk result (roots_fault (problem_of recipes settings database roots) ≡ None) }
+    ensures fault { IfErr result (IsProblemFault (problem_of recipes settings database roots)) }
+{
+    let providers = Providers::of_recipes(alloc, recipes.as_slice())?;
+    let demands = demands_of(alloc, roots.len(), recipes.as_slice())?;
+    let problem = Problem {
+        recipes,
+        settings,
+        database,
+        roots,
+        providers,
+        demands,
+    };
+    match refused(alloc, &problem)? {
+        Some(fault) => Err(fault),
+        None => Ok(problem),
+    }
+}
+
+// The fault of the first root that has one.
+#[tactic(auto, unfolding(crate::specs::Roots::roots_fault))]
+fn refused(alloc: Global, problem: &Problem) -> Result<Option<ProblemFault>, AllocError>
+    ensures { IfOk result (λ fault. fault ≡ roots_fault problem.now) }
+{
+    first_of(alloc, problem, problem.roots())
+}
+
+fn first_of(
+    alloc: Global,
+    problem: &Problem,
+    roots: &[Spec],
+) -> Result<Option<ProblemFault>, AllocError>
+    ensures { IfOk result (λ fault. fault ≡ first_fault problem.now roots.now) }
+{
+    for spec in roots {
+        let fault = fault_of(alloc, problem, spec)?;
+        if fault.is_some() {
+            return Ok(fault);
+        }
+    }
+    Ok(None)
+}
+
+fn fault_of(
+    alloc: Global,
+    problem: &Problem,
+    spec: &Spec,
+) -> Result<Option<ProblemFault>, AllocError>
+    ensures { IfOk result (λ fault. fault ≡ root_fault problem.now spec.now) }
+{
+    match name_fault(alloc, problem, &spec.top.name)? {
+        Some(fault) => Ok(Some(fault)),
+        None => platform_fault(alloc, problem.settings().platform.as_str(), spec),
+    }
+}
+
+fn name_fault(
+    alloc: Global,
+    problem: &Problem,
+    name: &Option<Word>,
+) -> Result<Option<ProblemFault>, AllocError>
+    ensures { IfOk result (λ fault. fault ≡ name_fault problem.now name.now) }
+{
+    let Some(name) = name else {
+        return Ok(None);
+    };
+    if problem.world().is_virtual(name.as_str()) {
+        return Ok(Some(ProblemFault::VirtualRoot(name.duplicate(alloc)?)));
+    }
+    if is_known(problem, name.as_str()) {
+        return Ok(None);
+    }
+    Ok(Some(ProblemFault::UnknownRoot(name.duplicate(alloc)?)))
+}
+
+fn platform_fault(
+    alloc: Global,
+    platform: &str,
+    spec: &Spec,
+) -> Result<Option<ProblemFault>, AllocError>
+    ensures { IfOk result (λ fault. fault ≡ option_map WrongPlatform (wrong_platform platform.now (spec.now.top ∷ spec.now.below))) }
+{
+    match wrong_platform(platform, spec) {
+        Some(word) => Ok(Some(ProblemFault::WrongPlatform(word.duplicate(alloc)?))),
+        None => Ok(None),
+    }
+}

@@ -1,0 +1,93 @@
+// What may be demanded of a graph, as a list.
+ghost use Rattle.std.specs.Prelude.{◌≡◌, ◌++◌, map, IfOk, OnOk};
+ghost use Rattle.std.specs.List.{range_with_len};
+ghost use Rattle.problem.specs.Demands.{numbers_of, directives_of};
+ghost use Rattle.problem.specs.declared.demand.Demand.TheVariants.{Root, Directive};
+
+use crate::Demand;
+use conditions::{ConflictRow, DependRow, Recipe, RequireRow};
+use plain_data::{Duplicate, List, Word};
+use std::alloc::{AllocError, Global};
+
+/// The roots in order, and then the directives of all recipes by package and number.
+pub fn demands_of(
+    alloc: Global,
+    roots: usize,
+    recipes: &[Recipe],
+) -> Result<List<Demand>, AllocError>
+    ensures { IfOk result (λ list. list ≡ map Root (range_with_len 0 roots) ++ directives_of recipes.now) }
+{
+    let mut list = roots_of(alloc, roots)?;
+    for recipe in recipes {
+        let numbers = numbers_of(alloc, recipe)?;
+        add_directives(alloc, &mut list, &recipe.name, numbers.as_slice())?;
+    }
+    Ok(list)
+}
+
+fn roots_of(alloc: Global, roots: usize) -> Result<List<Demand>, AllocError>
+    ensures { IfOk result (λ list. list ≡ map Root (range_with_len 0 roots)) }
+{
+    let mut list = List::new(alloc);
+    for place in 0..roots {
+        list.push(Demand::Root(place as u64))?;
+    }
+    Ok(list)
+}
+
+fn add_directives(
+    alloc: Global,
+    list: &mut List<Demand>,
+    name: &Word,
+    numbers: &[u64],
+) -> Result<(), AllocError>
+    ensures { OnOk result (list.new ≡ list.old ++ map (Directive name.now) numbers.now) }
+{
+    for number in numbers {
+        list.push(Demand::Directive {
+            package: name.duplicate(alloc)?,
+            number: *number,
+        })?;
+    }
+    Ok(())
+}
+
+// The numbers of a recipe's directives that may be demanded, rising.
+fn numbers_of(alloc: Global, recipe: &Recipe) -> Result<Vec<u64>, AllocError>
+    ensures { IfOk result (λ numbers. numbers.items ≡ numbers_of recipe.now) }
+{
+    let mut numbers = Vec::new(alloc);
+    add_depends(&mut numbers, recipe.depends.as_slice())?;
+    add_conflicts(&mut numbers, recipe.conflicts.as_slice())?;
+    add_requirements(&mut numbers, recipe.requirements.as_slice())?;
+    numbers.sort_unstable();
+    numbers.dedup();
+    Ok(numbers)
+}
+
+fn add_depends(numbers: &mut Vec<u64>, rows: &[DependRow]) -> Result<(), AllocError>
+    ensures { OnOk result (numbers.new.items ≡ numbers.old.items ++ map (λ row. row.number) rows.now) }
+{
+    for row in rows {
+        numbers.push(row.number)?;
+    }
+    Ok(())
+}
+
+fn add_conflicts(numbers: &mut Vec<u64>, rows: &[ConflictRow]) -> Result<(), AllocError>
+    ensures { OnOk result (numbers.new.items ≡ numbers.old.items ++ map (λ row. row.number) rows.now) }
+{
+    for row in rows {
+        numbers.push(row.number)?;
+    }
+    Ok(())
+}
+
+fn add_requirements(numbers: &mut Vec<u64>, rows: &[RequireRow]) -> Result<(), AllocError>
+    ensures { OnOk result (numbers.new.items ≡ numbers.old.items ++ map (λ row. row.number) rows.now) }
+{
+    for row in rows {
+        numbers.push(row.number)?;
+    }
+    Ok(())
+}

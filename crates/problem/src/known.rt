@@ -1,0 +1,58 @@
+// Names that are known.
+ghost use Rattle.std.specs.Prelude.{◌≡◌, find};
+ghost use Rattle.std.specs.List.{list_any};
+ghost use Rattle.std.specs.Option.{option_copied};
+ghost use Rattle.std.specs.Str.{bytes_eq};
+ghost use Rattle.problem.specs.Closure.{is_known, is_some_list};
+ghost use Rattle.problem.specs.Problems.{entry_of, externals_in};
+
+use crate::Problem;
+use reuse_db::Record;
+use site_settings::{ExternalEntry, PackageEntry};
+
+/// What the settings say of a package.
+#[tactic(auto, unfolding(crate::specs::Problems::entry_of))]
+pub fn entry_of<'a>(problem: &'a Problem, name: &str) -> Option<&'a PackageEntry>
+    ensures { option_copied result ≡ entry_of problem.now name.now }
+{
+    let settings = problem.settings();
+    settings
+        .packages
+        .as_slice()
+        .iter()
+        .find(|entry| entry.name.as_str() == name)
+}
+
+fn is_some_list(entries: &[ExternalEntry]) -> bool
+    ensures { result ≡ is_some_list entries.now }
+{
+    match entries {
+        [] => false,
+        [_, ..] => true,
+    }
+}
+
+fn has_external(problem: &Problem, name: &str) -> bool
+    ensures { result ≡ is_some_list (externals_in (entry_of problem.now name.now)) }
+{
+    match entry_of(problem, name) {
+        Some(entry) => is_some_list(entry.externals.as_slice()),
+        None => false,
+    }
+}
+
+fn has_record(records: &[Record], name: &str) -> bool
+    ensures { result ≡ list_any (λ entry. bytes_eq entry.name name.now) records.now }
+{
+    records.iter().any(|entry| entry.name.as_str() == name)
+}
+
+/// Whether a recipe, an external or a record has the name.
+#[tactic(auto, unfolding(crate::specs::Closure::is_known))]
+pub fn is_known(problem: &Problem, name: &str) -> bool
+    ensures { result ≡ is_known problem.now name.now }
+{
+    problem.world().recipe(name).is_some()
+        || has_external(problem, name)
+        || has_record(problem.database().records(), name)
+}

@@ -1,0 +1,5 @@
+-- what public contracts say
+pub mod Canonical
+pub mod Databases
+-- inside
+pub mod Places

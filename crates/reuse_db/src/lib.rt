@@ -1,0 +1,18 @@
+//! Installed packages as data.
+//!
+//! What it is: `Record`, an installed package, and `Database`, a list of them.
+//! What it promises: what a `Database` is seen as.
+//! What it stands on: `graph_core` for compilers and kinds of dependencies, `spec_hash`.
+//! What it must not know: recipes, settings, and which graphs are valid.
+#![tactic(auto)]
+
+mod database;
+mod fault;
+mod places;
+mod record;
+mod text;
+
+pub use database::Database;
+pub use fault::DbFault;
+pub use record::Record;
+pub use text::canonical;

@@ -1,0 +1,4 @@
+-- what public contracts say
+pub mod Virtuals
+-- inside
+pub mod Pairs

@@ -1,0 +1,15 @@
+//! Virtuals: names that recipes provide, each with the packages that may provide it.
+//!
+//! What it is: `Providers`, a table that is asked in a search in a sorted list.
+//! What it promises: it has just the pairs that the recipes say, and no memory is needed to ask it.
+//! What it stands on: `conditions` for recipes, `keyed_lists` for lists in order.
+//! What it must not know: graphs, and whether a condition of a `provides` holds.
+#![tactic(auto)]
+
+mod clash;
+mod providers;
+mod theorems;
+
+pub use clash::ProvidersFault;
+pub use providers::Providers;
+pub use theorems::virtual_laws;
