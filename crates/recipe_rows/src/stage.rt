@@ -1,8 +1,8 @@
 //! The stages, and what they answer to a text.
 
 use crate::show::{items_text, lex_fault_text, statement_fault_text, tokens_text};
-use crate::values::values_text;
 use crate::show_recipe::{recipe_fault_text, recipe_text};
+use crate::values::values_text;
 use plain_data::List;
 use recipe_lexer::{Token, lex};
 use recipe_reader::read_recipe;
