@@ -1,5 +1,5 @@
 -- The condition of a directive is taken out of its arguments before they add their rows.
-use Rattle.std.proofs.Common.{◌≡◌, ◌∙◌, ℕ, List, ◌++◌, refl, sym, ap, subst}
+use Rattle.std.proofs.Common.{◌≡◌, ◌∙◌, ℕ, List, ◌++◌, refl, ap, subst}
 use Rattle.std.specs.Prelude.{Result, Ok, Option, Some, None}
 use Rattle.std.specs.Option.{option_to_list}
 use Rattle.spec_grammar.specs.declared.part.Spec.{Spec}
@@ -11,7 +11,7 @@ use Rattle.recipe_reader.specs.declared.given.Given.{Given}
 use Rattle.recipe_reader.specs.declared.given.Options.{Options}
 use Rattle.recipe_reader.specs.declared.state.Head.{Head}
 use Rattle.recipe_reader.specs.declared.state.State.{State}
-use Rattle.recipe_reader.specs.Results.{Step, Gives, then_do}
+use Rattle.recipe_reader.specs.Results.{Step, Gives}
 use Rattle.recipe_values.specs.declared.segment.Segment.{Segment}
 use Rattle.recipe_reader.specs.Arguments.{arguments}
 use Rattle.recipe_reader.specs.Rows.{add_version, add_variant, into, add}

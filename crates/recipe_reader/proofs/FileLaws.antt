@@ -1,13 +1,13 @@
 -- The first file that has a fault.
 use Rattle.std.proofs.Common.{◌≡◌, ℕ, ◌<◌, List, [], ◌∷◌, length, take, map, get_or, sym, ap, zero, suc, arith}
-use Rattle.std.specs.Prelude.{Result, Ok, Err, Option, Some}
+use Rattle.std.specs.Prelude.{Ok, Some}
 use Rattle.std.specs.List.{slice_get}
 use Rattle.conditions.specs.declared.recipe.Recipe.{Recipe}
 use Rattle.recipe_reader.specs.declared.fault.RecipeFault.{RecipeFault}
 use Rattle.recipe_reader.specs.declared.fault.RecipeFault.TheVariants as fault
 use Rattle.recipe_reader.specs.declared.files.RecipeFile.{RecipeFile}
-use Rattle.recipe_reader.specs.Results.{Step, Fails}
-use Rattle.recipe_reader.specs.Files.{recipe_in_file, IsFirstFault, FailsAt}
+use Rattle.recipe_reader.specs.Results.{Fails}
+use Rattle.recipe_reader.specs.Files.{recipe_in_file, FailsAt}
 
 slice_at : {X : Type 0} (xs : List X) (i : ℕ) (x : X) → i < length xs → x ≡ get_or xs i x → slice_get xs i ≡ Some x
 slice_at [] i x h is = absurd (omega (arith, h))

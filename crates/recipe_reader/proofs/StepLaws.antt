@@ -1,6 +1,6 @@
 -- Steps one after the other, and the loops that take them.
-use Rattle.std.proofs.Common.{◌≡◌, ◌≢◌, ◌∙◌, ℕ, ◌+◌, ◌<◌, ◌≤◌, Bool, true, false, cond, List, [], ◌∷◌, length, drop, get_or, refl, sym, ap, subst, zero, suc, arith, add-one}
-use Rattle.std.specs.Prelude.{Result, Ok, Err, Option, Some, None}
+use Rattle.std.proofs.Common.{◌≡◌, ◌≢◌, ◌∙◌, ℕ, ◌+◌, ◌<◌, ◌≤◌, false, List, [], ◌∷◌, length, drop, get_or, refl, sym, ap, zero, suc, arith, add-one}
+use Rattle.std.specs.Prelude.{Ok, Err, Some}
 use Rattle.recipe_lexer.specs.declared.token.Token.{Token}
 use Rattle.recipe_statements.specs.declared.item.Item.{Item}
 use Rattle.recipe_values.specs.declared.value.Element.{Element}

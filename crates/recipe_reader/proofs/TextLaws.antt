@@ -1,5 +1,5 @@
 -- The answers of the grammar, and what its readers answer.
-use Rattle.std.proofs.Common.{◌≡◌, ◌≢◌, ◌⊎◌, ℕ, Bool, true, false, List, [], ◌∷◌, refl, sym, ap, ◌∙◌, subst, inl, inr}
+use Rattle.std.proofs.Common.{◌≡◌, ◌≢◌, ℕ, List, [], ◌∷◌, refl, sym, ap, inl, inr}
 use Rattle.std.specs.Prelude.{Result, Ok, Err}
 use Rattle.spec_grammar.specs.Reading.{Spells}
 use Rattle.spec_grammar.specs.Faults.{IsFault}
@@ -10,9 +10,8 @@ use Rattle.spec_grammar.specs.declared.part.Part.{Part}
 use Rattle.spec_grammar.specs.declared.part.Spec.{Spec}
 use Rattle.spec_grammar.specs.declared.fault.SpecFault.{SpecFault}
 use Rattle.spec_grammar.specs.declared.fault.SpecFault.TheVariants as spec
-use Rattle.recipe_reader.specs.declared.fault.RecipeFault.TheVariants as fault
-use Rattle.recipe_reader.specs.Results.{Step, Fails, text_fault}
-use Rattle.recipe_reader.specs.Texts.{IsAnswer, IsSaid, said, answer, in_text, one_by, spec_of, part_of}
+use Rattle.recipe_reader.specs.Results.{Fails, text_fault}
+use Rattle.recipe_reader.specs.Texts.{IsAnswer, IsSaid, said, answer, spec_of, part_of}
 
 abbrev Answer : Type 0
 Answer = Result (List Spec) SpecFault

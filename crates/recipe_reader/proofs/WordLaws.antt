@@ -1,10 +1,10 @@
 -- Words and sets of them.
-use Rattle.std.proofs.Common.{◌≡◌, ◌∙◌, ℕ, Bool, true, false, cond, List, [], ◌∷◌, map, refl, sym, ap}
-use Rattle.std.specs.Prelude.{Result, Ok, Err, Contains, All}
+use Rattle.std.proofs.Common.{◌≡◌, ◌∙◌, ℕ, Bool, true, false, cond, List, map, refl, sym, ap}
+use Rattle.std.specs.Prelude.{Err, Contains, All}
 use Rattle.std.specs.Bool.{Decides}
 use Rattle.std.specs.Str.{IsUtf8, is_utf8, bytes_eq}
 use Rattle.std.specs.Cmp.Lexicographic.{nat_list_eq_equiv}
-use Rattle.std.specs.List.{list_all, list_any, slice_split}
+use Rattle.std.specs.List.{list_any}
 use Rattle.std.proofs.lemmas.Str.{IsUtf8-from_is_utf8, is_utf8-from_IsUtf8}
 use Rattle.std.proofs.lemmas.Slice.Eq.{bytes_eq-Decides}
 use Rattle.std.proofs.lemmas.List.Sums.{AllPass-from_list_all, list_all-from_AllPass}
@@ -13,7 +13,6 @@ use Rattle.std.proofs.lemmas.Simd.{map-map}
 use Rattle.variant_values.specs.Texts.{Texts}
 use Rattle.spec_grammar.specs.Meaning.{truth}
 use Rattle.recipe_reader.specs.declared.fault.RecipeFault.TheVariants as fault
-use Rattle.recipe_reader.specs.Results.{Step}
 use Rattle.recipe_reader.specs.Arguments.{once, note}
 use Rattle.recipe_reader.specs.Variants.{has_all}
 

@@ -1,5 +1,5 @@
 -- Recipes of files, one after the other.
-use Rattle.std.specs.Prelude.{◌≡◌, ℕ, List, map, take, Option, Some, Result, Ok, Err}
+use Rattle.std.specs.Prelude.{◌≡◌, ℕ, List, map, take, Some, Ok, Err}
 use Rattle.std.specs.List.{slice_get}
 use Rattle.conditions.specs.declared.recipe.Recipe.{Recipe}
 use Rattle.recipe_reader.specs.declared.fault.RecipeFault.{RecipeFault}

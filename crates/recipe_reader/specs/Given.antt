@@ -1,5 +1,5 @@
 -- What positional values say.
-use Rattle.std.specs.Prelude.{◌≡◌, ℕ, nat_lt, Bool, true, false, List, [], ◌∷◌, ◌++◌, length, Option, Some, None, is_some, Result, Ok, Err, if◌then◌else◌}
+use Rattle.std.specs.Prelude.{ℕ, nat_lt, Bool, false, List, [], ◌∷◌, ◌++◌, length, Option, Some, None, is_some, Result, Ok, Err, if◌then◌else◌}
 use Rattle.spec_grammar.specs.Signs.{is_name}
 use Rattle.spec_grammar.specs.declared.mode.Mode.TheVariants.{Dependency, Provision}
 use Rattle.spec_grammar.specs.declared.part.Part.{Part}
@@ -7,7 +7,7 @@ use Rattle.spec_grammar.specs.declared.part.Spec.{Spec}
 use Rattle.recipe_values.specs.Values.{value_of, place_of}
 use Rattle.recipe_values.specs.declared.value.Scalar.TheVariants.{Text, Number}
 use Rattle.recipe_values.specs.declared.value.Value.{Value}
-use Rattle.recipe_values.specs.declared.value.Value.TheVariants.{One, Many}
+use Rattle.recipe_values.specs.declared.value.Value.TheVariants.{One}
 use Rattle.recipe_values.specs.declared.value.Reading.{Reading}
 use Rattle.recipe_values.specs.declared.segment.Segment.{Segment}
 use Rattle.recipe_reader.specs.declared.fault.RecipeFault.TheVariants as fault

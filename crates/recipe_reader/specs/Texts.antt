@@ -1,18 +1,18 @@
 -- What the texts in arguments are read as.
-use Rattle.std.specs.Prelude.{◌≡◌, ◌≢◌, ◌⊎◌, ℕ, Bool, true, false, List, [], ◌∷◌, Option, Some, None, Result, Ok, Err, if◌then◌else◌}
+use Rattle.std.specs.Prelude.{◌≢◌, ◌⊎◌, ℕ, Bool, true, false, List, [], ◌∷◌, Result, Ok, Err, if◌then◌else◌}
 use Rattle.std.proofs.Common.{inl, inr}
 use Rattle.version_order.specs.Signs.{is_version}
 use Rattle.spec_grammar.specs.Reading.{Spells}
 use Rattle.spec_grammar.specs.Faults.{IsFault}
 use Rattle.spec_grammar.proofs.TotalText.{reading_total}
 use Rattle.spec_grammar.specs.declared.mode.Mode.{Mode}
-use Rattle.spec_grammar.specs.declared.mode.Mode.TheVariants.{Condition, LocalCondition, Dependency, Provision}
+use Rattle.spec_grammar.specs.declared.mode.Mode.TheVariants.{Condition, LocalCondition}
 use Rattle.spec_grammar.specs.declared.part.Part.{Part}
 use Rattle.spec_grammar.specs.declared.part.Spec.{Spec}
 use Rattle.spec_grammar.specs.declared.fault.SpecFault.{SpecFault}
 use Rattle.spec_grammar.specs.declared.fault.SpecFault.TheVariants as spec
 use Rattle.recipe_reader.specs.declared.fault.RecipeFault.TheVariants as fault
-use Rattle.recipe_reader.specs.Results.{Step, then_do}
+use Rattle.recipe_reader.specs.Results.{Step}
 
 -- ---- answers of the grammar
 
