@@ -3,20 +3,21 @@ use Rattle.std.proofs.Common.{◌≡◌, ℕ, List, Option, Some, None, Result, 
 use Rattle.std.specs.Prelude.{IfSome}
 use Rattle.outside_desk.specs.Causes.{Counts, Rose}
 use Rattle.outside_desk.specs.Files.{Files}
-use Rattle.concretizer.specs.Problems.{Problem, Poses}
-use Rattle.concretizer.specs.Refusals.{status_of, line_of}
-use Rattle.concretizer.specs.Stops.{stop_status, stop_line}
+use Rattle.run_problem.specs.declared.problem.Problem.{Problem}
+use Rattle.run_problem.specs.Problems.{Poses}
+use Rattle.run_answers.specs.Refusals.{status_of, line_of}
+use Rattle.run_answers.specs.Stops.{stop_status, stop_line}
 use Rattle.concretizer.specs.Attempts.{Attempts, StopsAtOnce, FailsToRead, FailsToPut, FailsToSay}
 use Rattle.concretizer.specs.Headline.{IsRefused, IsRefusalStatus, Settles, Reports, IsAnsweredBy, Spoken, Says}
-use Rattle.concretizer.specs.declared.answer.Answer.{Answer}
-use Rattle.concretizer.specs.declared.refusal.Refusal.{Refusal}
-use Rattle.concretizer.specs.declared.status.Status.{Status}
-use Rattle.concretizer.specs.declared.status.Status.TheVariants as statuses
-use Rattle.concretizer.specs.declared.stop.ReadStop.TheVariants.{Refused, Fault, NoMemory}
-use Rattle.concretizer.specs.declared.stop.WriteStop.TheVariants as writes
-use Rattle.concretizer.specs.declared.stop.Stop.{Stop}
-use Rattle.concretizer.specs.declared.stop.Stop.TheVariants.{Read, Write}
-use Rattle.concretizer.proofs.Stages.{ReadsOnce, one_posed}
+use Rattle.run_output.specs.declared.answer.Answer.{Answer}
+use Rattle.run_answers.specs.declared.refusal.Refusal.{Refusal}
+use Rattle.run_answers.specs.declared.status.Status.{Status}
+use Rattle.run_answers.specs.declared.status.Status.TheVariants as statuses
+use Rattle.run_answers.specs.declared.stop.ReadStop.TheVariants.{Refused, Fault, NoMemory}
+use Rattle.run_answers.specs.declared.stop.WriteStop.TheVariants as writes
+use Rattle.run_answers.specs.declared.stop.Stop.{Stop}
+use Rattle.run_answers.specs.declared.stop.Stop.TheVariants.{Read, Write}
+use Rattle.run_problem.proofs.Asked.{ReadsOnce, one_posed}
 
 -- ---- words that are refused
 

@@ -1,9 +1,3 @@
-pub mod BestOf
-pub mod Changes
-pub mod Distinct
 pub mod Ends
-pub mod Floats
 pub mod Left
-pub mod Lines
-pub mod Places
 pub mod Stages

@@ -1,19 +1,23 @@
 -- What reading the problem and writing its answer leave.
 use Rattle.std.specs.Prelude.{◌≡◌, ℕ, List, Option, Some, None, Result, Ok, Err}
 use Rattle.outside_desk.specs.Files.{Files}
-use Rattle.concretizer.specs.Words.{command_of, lock_path}
-use Rattle.concretizer.specs.Requests.{Asks}
-use Rattle.concretizer.specs.Problems.{Problem, path_of, Poses}
-use Rattle.concretizer.specs.Answers.{Writes}
-use Rattle.concretizer.specs.declared.request.Request.{Request}
-use Rattle.concretizer.specs.declared.answer.Answer.{Answer}
-use Rattle.concretizer.specs.declared.refusal.Refusal.{Refusal}
-use Rattle.concretizer.specs.declared.refusal.Refusal.TheVariants.{Usage}
-use Rattle.concretizer.specs.declared.stop.ReadStop.TheVariants as reads
-use Rattle.concretizer.specs.declared.stop.WriteStop.{WriteStop}
-use Rattle.concretizer.specs.declared.stop.WriteStop.TheVariants as writes
-use Rattle.concretizer.specs.declared.stop.Stop.{Stop}
-use Rattle.concretizer.specs.declared.stop.Stop.TheVariants.{Read, Write}
+use Rattle.run_words.specs.Words.{Command, command_of, lock_path}
+use Rattle.run_answers.specs.Stages.{Is}
+use Rattle.run_words.specs.Orders.{order_of}
+use Rattle.recipe_files.specs.Paths.{IsReadPath}
+use Rattle.run_problem.specs.Wants.{Wants}
+use Rattle.run_problem.specs.declared.problem.Problem.{Problem}
+use Rattle.run_problem.specs.Problems.{Poses}
+use Rattle.run_output.specs.Answers.{Writes}
+use Rattle.run_problem.specs.declared.wanted.Wanted.{Wanted}
+use Rattle.run_output.specs.declared.answer.Answer.{Answer}
+use Rattle.run_answers.specs.declared.refusal.Refusal.{Refusal}
+use Rattle.run_answers.specs.declared.refusal.Refusal.TheVariants.{Usage}
+use Rattle.run_answers.specs.declared.stop.ReadStop.TheVariants as reads
+use Rattle.run_answers.specs.declared.stop.WriteStop.{WriteStop}
+use Rattle.run_answers.specs.declared.stop.WriteStop.TheVariants as writes
+use Rattle.run_answers.specs.declared.stop.Stop.{Stop}
+use Rattle.run_answers.specs.declared.stop.Stop.TheVariants.{Read, Write}
 
 -- ---- for a desk that tells its files
 
@@ -37,13 +41,26 @@ Attempts files words after out_before out_after (Err (Write stop)) = IsWritten f
 
 -- ---- for any desk
 
+-- the words are a command whose specs want something
+pub record IsAsked (words : List (List ℕ)) : Type 0 where
+  pub command : Command
+  pub ordered : Is (order_of words) (Ok command)
+  pub wanted : Wanted
+  pub wants : Wants command.spec (Ok wanted)
+
+-- the words are a command that reads a file or folder at the path
+pub record IsRead (words : List (List ℕ)) (path : List ℕ) : Type 0 where
+  pub command : Command
+  pub ordered : Is (order_of words) (Ok command)
+  pub inside : IsReadPath command.repo path
+
 -- what the words say of how an attempt ended
 abbrev pub Follows : List (List ℕ) → Result Answer Stop → Type 0
-Follows words (Ok answer) = (r : Request) × Asks words (Ok r)
+Follows words (Ok answer) = IsAsked words
 Follows words (Err (Read (reads.Refused Usage))) = command_of words ≡ None
-Follows words (Err (Read (reads.Fault path))) = (r : Request) × Asks words (Ok r) × (path ≡ path_of r)
-Follows words (Err (Write (writes.Put path))) = (r : Request) × Asks words (Ok r) × (path ≡ r.lock)
-Follows words (Err (Write writes.Output)) = (r : Request) × Asks words (Ok r)
+Follows words (Err (Read (reads.Fault path))) = IsRead words path
+Follows words (Err (Write (writes.Put path))) = IsAsked words × (path ≡ lock_path words)
+Follows words (Err (Write writes.Output)) = IsAsked words
 Follows words other = Unit {0}
 
 -- the words alone were refused, or memory ran out over them

@@ -5,16 +5,16 @@
 use Rattle.std.specs.Prelude.{◌≡◌, ◌⊎◌, ℕ, List, Option, Some, Ok, Err, IfSome}
 use Rattle.outside_desk.specs.Causes.{Rose}
 use Rattle.outside_desk.specs.Files.{Files, and_said}
-use Rattle.concretizer.specs.Words.{lock_path}
-use Rattle.concretizer.specs.Requests.{Asks}
-use Rattle.concretizer.specs.Problems.{Problem, path_of, Poses}
-use Rattle.concretizer.specs.Refusals.{status_of, line_of}
-use Rattle.concretizer.specs.Stops.{read_fault_line, write_fault_line, output_fault_line}
-use Rattle.concretizer.specs.Answers.{IsSolved, IsUnsolved, IsUnsaid, HoldsFront}
-use Rattle.concretizer.specs.declared.request.Request.{Request}
-use Rattle.concretizer.specs.declared.refusal.Refusal.{Refusal}
-use Rattle.concretizer.specs.declared.status.Status.{Status}
-use Rattle.concretizer.specs.declared.status.Status.TheVariants as statuses
+use Rattle.run_words.specs.Words.{lock_path}
+use Rattle.run_problem.specs.declared.problem.Problem.{Problem}
+use Rattle.run_problem.specs.Problems.{Poses}
+use Rattle.run_answers.specs.Refusals.{status_of, line_of}
+use Rattle.run_answers.specs.Stops.{read_fault_line, write_fault_line, output_fault_line}
+use Rattle.run_output.specs.Answers.{IsSolved, IsUnsolved, IsUnsaid, HoldsFront}
+use Rattle.concretizer.specs.Attempts.{IsAsked, IsRead}
+use Rattle.run_answers.specs.declared.refusal.Refusal.{Refusal}
+use Rattle.run_answers.specs.declared.status.Status.{Status}
+use Rattle.run_answers.specs.declared.status.Status.TheVariants as statuses
 
 -- what a sink tells of what was said, before and after
 abbrev pub Spoken : Type 0
@@ -52,22 +52,21 @@ pub record IsRefused (files : Files) (words : List (List ℕ)) (answer : Status)
   pub output : IsSilent out
   pub errors : Says err (line_of refusal)
 
--- ReadFault: the desk failed to read the recipe, and that was said
+-- ReadFault: the desk failed to read the folder or a recipe, and that was said
 pub record IsReadFault (words : List (List ℕ)) (faults : ℕ × ℕ) (files : Option Files × Option Files) (out err : Spoken) : Type 0 where
-  pub request : Request
-  pub asked : Asks words (Ok request)
+  pub path : List ℕ
+  pub read : IsRead words path
   pub rose : Rose faults.0 faults.1
   pub unchanged : files.1 ≡ files.0
   pub output : IsSilent out
-  pub errors : Says err (read_fault_line (path_of request))
+  pub errors : Says err (read_fault_line path)
 
 -- WriteFault where the desk failed to put the lock file, and that was said, and nothing else
 pub record IsPutFault (words : List (List ℕ)) (faults : ℕ × ℕ) (out err : Spoken) : Type 0 where
-  pub request : Request
-  pub asked : Asks words (Ok request)
+  pub asked : IsAsked words
   pub rose : Rose faults.0 faults.1
   pub output : IsSilent out
-  pub errors : Says err (write_fault_line request.lock)
+  pub errors : Says err (write_fault_line (lock_path words))
 
 -- what a fault of the sink of the answer leaves: the lock file whole, or no file changed where no declared
 -- version is wanted

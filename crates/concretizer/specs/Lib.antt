@@ -1,15 +1,2 @@
-pub mod Lines
-pub mod Words
-pub mod Refusals
-pub mod Recipe
-pub mod Requests
-pub mod Problems
-pub mod Stops
-pub mod Weights
-pub mod Lock
-pub mod Report
-pub mod Answers
-pub mod Changes
 pub mod Attempts
 pub mod Headline
-pub mod Exits

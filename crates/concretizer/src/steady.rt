@@ -1,15 +1,16 @@
 //! Runs over devices that never fail.
 
 ghost use Rattle.std.specs.Prelude.{◌≡◌, ◌≢◌, Ok, Err, Some};
-ghost use Rattle.concretizer.specs.Words.{words_of};
-ghost use Rattle.concretizer.specs.Problems.{Problem, Poses};
+ghost use Rattle.run_words.specs.Words.{words_of};
+ghost use Rattle.run_problem.specs.declared.problem.Problem.{Problem};
+ghost use Rattle.run_problem.specs.Problems.{Poses};
 ghost use Rattle.concretizer.specs.Headline.{IsDone, IsUnsatisfiable, IsRefused, Settles, IsRefusalStatus, IsAnsweredBy};
-ghost use Rattle.concretizer.specs.Refusals.{status_of};
-ghost use Rattle.concretizer.specs.declared.refusal.Refusal.{Refusal};
+ghost use Rattle.run_answers.specs.Refusals.{status_of};
+ghost use Rattle.run_answers.specs.declared.refusal.Refusal.{Refusal};
 
-use crate::status::Status;
 use crate::top::run;
 use outside_desk::{SteadyDesk, SteadySink};
+use run_answers::Status;
 use std::alloc::Global;
 use std::thread::Threads;
 

@@ -2,22 +2,23 @@
 
 ghost use Rattle.std.specs.Prelude.{◌≡◌, ◌≢◌, ◌⊎◌, ◌≤◌, None, Ok, Err, IfSome};
 ghost use Rattle.outside_desk.specs.Causes.{Counts, Rose};
-ghost use Rattle.concretizer.specs.Words.{words_of, command_of, lock_path};
-ghost use Rattle.concretizer.specs.Requests.{Asks};
-ghost use Rattle.concretizer.specs.Problems.{Problem, Poses};
-ghost use Rattle.concretizer.specs.Refusals.{status_of, line_of};
-ghost use Rattle.concretizer.specs.Stops.{stop_status, stop_line};
+ghost use Rattle.run_words.specs.Words.{words_of, command_of, lock_path};
+ghost use Rattle.run_answers.specs.Stages.{Is};
+ghost use Rattle.run_words.specs.Orders.{order_of};
+ghost use Rattle.run_problem.specs.declared.problem.Problem.{Problem};
+ghost use Rattle.run_problem.specs.Problems.{Poses};
+ghost use Rattle.run_answers.specs.Refusals.{status_of, line_of};
+ghost use Rattle.run_answers.specs.Stops.{stop_status, stop_line};
 ghost use Rattle.concretizer.specs.Headline.{IsDone, IsUnsatisfiable, IsRefused, IsReadFault, IsPutFault, IsOutputFault, Keeps, Settles, IsRefusalStatus, Reports, IsAnsweredBy};
-ghost use Rattle.concretizer.specs.declared.refusal.Refusal.{Refusal};
-ghost use Rattle.concretizer.specs.Changes.{ChangesOnly};
+ghost use Rattle.run_answers.specs.declared.refusal.Refusal.{Refusal};
+ghost use Rattle.run_output.specs.Changes.{ChangesOnly};
 ghost use Rattle.concretizer.specs.Attempts.{Attempts, Follows, StopsAtOnce, FailsToRead, FailsToPut, FailsToSay};
 
-use crate::answer::{Answer, write_answer};
-use crate::problem::read_problem;
-use crate::request::read_request;
-use crate::status::Status;
-use crate::stop::Stop;
 use outside_desk::{Desk, Sink, SinkFault};
+use run_answers::{Status, Stop};
+use run_output::{Answer, write_answer};
+use run_problem::read_problem;
+use run_words::read_order;
 use spec_grammar::reading_laws;
 use std::alloc::Global;
 use std::thread::Threads;
@@ -31,7 +32,7 @@ fn attempt<D: Desk, O: Sink>(
 ) -> Result<Answer, Stop>
     ensures outcome { IfSome (D.files desk.old) (λ files. Attempts files (words_of words.now) (D.files desk.new) (O.said out.old) (O.said out.new) result) }
     ensures follows { Follows (words_of words.now) result }
-    ensures at_once { (refusal : Refusal) → Asks (words_of words.now) (Err refusal) → StopsAtOnce refusal result
+    ensures at_once { (refusal : Refusal) → Is (order_of (words_of words.now)) (Err refusal) → StopsAtOnce refusal result
         × (D.files desk.new ≡ D.files desk.old) × (D.faults desk.new ≡ D.faults desk.old) × (O.said out.new ≡ O.said out.old) }
     ensures unread { FailsToRead result → (D.files desk.new ≡ D.files desk.old) × (O.said out.new ≡ O.said out.old) }
     ensures unsaid { FailsToPut result → O.said out.new ≡ O.said out.old }
@@ -41,9 +42,9 @@ fn attempt<D: Desk, O: Sink>(
     ensures put { Counts (D.put_faults desk.old) (D.put_faults desk.new) (FailsToPut result) }
     ensures said { Counts (O.faults out.old) (O.faults out.new) (FailsToSay result) }
 {
-    let request = read_request(alloc, words)?;
-    let problem = read_problem(alloc, desk, &request)?;
-    let answer = write_answer(alloc, &problem, request.lock.as_str(), desk, out);
+    let command = read_order(alloc, words)?;
+    let problem = read_problem(alloc, desk, &command)?;
+    let answer = write_answer(alloc, &problem, command.lock, desk, out);
     drop(problem);
     Ok(answer?)
 }
@@ -66,7 +67,7 @@ fn report<E: Sink>(alloc: Global, err: &mut E, stop: &Stop) -> Status
 /// Does what the words ask for: `concretize REPO SETTINGS DATABASE LOCK CERT SPEC`.
 ///
 /// The words are those behind the program's name. SPEC names one package with its versions, as
-/// `zlib@1.2:`. A run reads the package's recipe from `REPO/packages/NAME/package.py`, puts the lock
+/// `zlib@1.2:`. A run reads all recipes of the repository, `REPO/packages/NAME/package.py`, puts the lock
 /// file of the best version in the set at LOCK, and says its node and its cost vector on `out`; `err`
 /// gets one line where the run stops before that.
 pub fn run<R: Threads + Sync, D: Desk, O: Sink, E: Sink>(
@@ -77,9 +78,9 @@ pub fn run<R: Threads + Sync, D: Desk, O: Sink, E: Sink>(
     out: &mut O,
     err: &mut E,
 ) -> Status
-    // Words that are refused are answered so whatever the desk tells, and only words are Usage. No call on
+    // Words that are no command that is built are answered so whatever the desk tells, and only words are Usage. No call on
     // the desk failed, no file changed and nothing was said but the refusal.
-    ensures words { (refusal : Refusal) → Asks (words_of words.now) (Err refusal) → (D.files desk.new ≡ D.files desk.old)
+    ensures words { (refusal : Refusal) → Is (order_of (words_of words.now)) (Err refusal) → (D.files desk.new ≡ D.files desk.old)
         × (D.faults desk.new ≡ D.faults desk.old) × (O.said out.new ≡ O.said out.old)
         × Reports (status_of refusal) (line_of refusal) (E.said err.old, E.said err.new) (E.faults err.old, E.faults err.new) result }
     ensures usage { result ≡ Status.Usage → command_of (words_of words.now) ≡ None }

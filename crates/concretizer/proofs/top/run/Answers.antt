@@ -1,6 +1,6 @@
 use Rattle.spec_grammar.specs.declared.mode.Mode.TheVariants.{Specs}
-use Rattle.concretizer.specs.Words.{words_of}
-use Rattle.concretizer.proofs.Stages.{ReadsOnce}
+use Rattle.run_words.specs.Words.{words_of}
+use Rattle.run_problem.proofs.Asked.{ReadsOnce}
 use Rattle.concretizer.proofs.Ends.{reports_words, refused, settles, due, written}
 use Rattle.concretizer.proofs.top.run.Goals as goal
 

@@ -1,0 +1,28 @@
+use Rattle.std.proofs.Common.{refl}
+use Rattle.std.specs.Fmt.{digits}
+use Rattle.report_texts.specs.FaultTexts.{spec_fault_text, lex_fault_text, recipe_fault_text}
+use Rattle.report_texts.proofs.worked.worked_fault_texts.Goals as goal
+
+pub returns-clause-expected : goal.returns-clause-expected
+unfolding digits spec_fault_text lex_fault_text recipe_fault_text
+returns-clause-expected c = refl
+
+pub returns-clause-form : goal.returns-clause-form
+unfolding digits spec_fault_text lex_fault_text recipe_fault_text
+returns-clause-form c = refl
+
+pub returns-clause-string : goal.returns-clause-string
+unfolding digits spec_fault_text lex_fault_text recipe_fault_text
+returns-clause-string c = refl
+
+pub returns-clause-file : goal.returns-clause-file
+unfolding digits spec_fault_text lex_fault_text recipe_fault_text
+returns-clause-file c = refl
+
+pub returns-clause-inner : goal.returns-clause-inner
+unfolding digits spec_fault_text lex_fault_text recipe_fault_text
+returns-clause-inner c = refl
+
+pub returns-clause-class : goal.returns-clause-class
+unfolding digits spec_fault_text lex_fault_text recipe_fault_text
+returns-clause-class c = refl

@@ -1,0 +1,64 @@
+-- The texts of faults: the name and the fields in order, with one space between.
+use Rattle.std.specs.Prelude.{ℕ, List, [], ◌∷◌, ◌++◌, codes, decimal}
+use Rattle.spec_grammar.specs.declared.fault.Form.{Form}
+use Rattle.spec_grammar.specs.declared.fault.Form.TheVariants.{Propagation, ConcreteAssign, AnyValue, Quoted, Flags, Reference, EdgeAttributes, Namespace, NestedDependency, ProvidesForm}
+use Rattle.spec_grammar.specs.declared.fault.SpecFault.{SpecFault}
+use Rattle.spec_grammar.specs.declared.fault.SpecFault.TheVariants as spec
+use Rattle.recipe_lexer.specs.declared.token.LexFault.{LexFault}
+use Rattle.recipe_lexer.specs.declared.token.LexFault.TheVariants as lex
+use Rattle.recipe_reader.specs.declared.fault.RecipeFault.{RecipeFault}
+use Rattle.recipe_reader.specs.declared.fault.RecipeFault.TheVariants as recipe
+use Rattle.report_texts.specs.Lines.{joined}
+
+-- ---- specs
+
+abbrev pub form_name : Form → List ℕ
+form_name Propagation = codes "Propagation"
+form_name ConcreteAssign = codes "ConcreteAssign"
+form_name AnyValue = codes "AnyValue"
+form_name Quoted = codes "Quoted"
+form_name Flags = codes "Flags"
+form_name Reference = codes "Reference"
+form_name EdgeAttributes = codes "EdgeAttributes"
+form_name Namespace = codes "Namespace"
+form_name NestedDependency = codes "NestedDependency"
+form_name ProvidesForm = codes "ProvidesForm"
+
+-- a name with a place
+abbrev pub at_place : List ℕ → ℕ → List ℕ
+at_place name place = joined (name ∷ codes " " ∷ decimal place ∷ [])
+
+unfoldable pub spec_fault_text : SpecFault → List ℕ
+spec_fault_text (spec.Expected place) = at_place (codes "Expected") place
+spec_fault_text (spec.Unsupported place form) = joined (codes "Unsupported " ∷ decimal place ∷ codes " " ∷ form_name form ∷ [])
+spec_fault_text (spec.BadVersion place) = at_place (codes "BadVersion") place
+spec_fault_text (spec.TwiceSet place) = at_place (codes "TwiceSet") place
+spec_fault_text spec.OutOfMemory = codes "OutOfMemory"
+
+-- ---- recipes
+
+unfoldable pub lex_fault_text : LexFault → List ℕ
+lex_fault_text lex.NotUtf8 = codes "NotUtf8"
+lex_fault_text (lex.OpenString place) = at_place (codes "OpenString") place
+lex_fault_text (lex.OpenBracket place) = at_place (codes "OpenBracket") place
+lex_fault_text (lex.BadIndent place) = at_place (codes "BadIndent") place
+lex_fault_text lex.OutOfMemory = codes "OutOfMemory"
+
+abbrev pub in_tokens : LexFault → List ℕ
+in_tokens fault = codes "Lex " ++ lex_fault_text fault
+
+-- the text whose first string is at a place has the fault
+abbrev pub in_text : ℕ → SpecFault → List ℕ
+in_text place fault = codes "Spec " ++ (decimal place ++ (codes " " ++ spec_fault_text fault))
+
+unfoldable pub recipe_fault_text : RecipeFault → List ℕ
+recipe_fault_text (recipe.Lex fault) = in_tokens fault
+recipe_fault_text (recipe.Unsupported place) = at_place (codes "Unsupported") place
+recipe_fault_text recipe.NoClass = codes "NoClass"
+recipe_fault_text (recipe.TwoClasses place) = at_place (codes "TwoClasses") place
+recipe_fault_text (recipe.TooDeep place) = at_place (codes "TooDeep") place
+recipe_fault_text (recipe.Spec place fault) = in_text place fault
+recipe_fault_text (recipe.BadArgument place) = at_place (codes "BadArgument") place
+recipe_fault_text (recipe.BadDefault place) = at_place (codes "BadDefault") place
+recipe_fault_text (recipe.TwiceVersion place) = at_place (codes "TwiceVersion") place
+recipe_fault_text recipe.OutOfMemory = codes "OutOfMemory"

@@ -1,0 +1,16 @@
+//! The texts of faults, as a run says them.
+//!
+//! What it is: a function for each type of fault whose text a run says.
+//! What it promises: a fault's text is its name and its fields in order, with one space between them; a fault
+//! inside another one is written so too.
+//! What it stands on: the crates whose faults it writes.
+//! What it must not know: which input had the fault, and what is said around it.
+#![tactic(auto)]
+
+mod recipe_faults;
+mod spec_faults;
+mod worked;
+
+pub use recipe_faults::recipe_fault_text;
+pub use spec_faults::spec_fault_text;
+pub use worked::worked_fault_texts;

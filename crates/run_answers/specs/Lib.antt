@@ -1,0 +1,4 @@
+pub mod Exits
+pub mod Refusals
+pub mod Stages
+pub mod Stops

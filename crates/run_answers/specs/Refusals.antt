@@ -1,0 +1,64 @@
+-- What is answered and said where input is refused.
+use Rattle.std.specs.Prelude.{ℕ, List, [], ◌∷◌, codes}
+use Rattle.spec_grammar.specs.declared.fault.SpecFault.{SpecFault}
+use Rattle.recipe_reader.specs.declared.fault.RecipeFault.{RecipeFault}
+use Rattle.report_texts.specs.FaultTexts.{spec_fault_text, recipe_fault_text}
+use Rattle.report_texts.specs.Lines.{line}
+use Rattle.run_answers.specs.declared.refusal.NotBuilt.{NotBuilt}
+use Rattle.run_answers.specs.declared.refusal.NotBuilt.TheVariants as forms
+use Rattle.run_answers.specs.declared.refusal.Refusal.{Refusal}
+use Rattle.run_answers.specs.declared.refusal.Refusal.TheVariants as refusals
+use Rattle.run_answers.specs.declared.status.Status.{Status}
+use Rattle.run_answers.specs.declared.status.Status.TheVariants as statuses
+
+abbrev pub status_of : Refusal → Status
+status_of refusals.Usage = statuses.Usage
+status_of (refusals.NotBuilt what) = statuses.BadInput
+status_of (refusals.MissingInput path) = statuses.BadInput
+status_of refusals.TooManyRecipes = statuses.TooLarge
+status_of (refusals.RecipeTooLarge name) = statuses.TooLarge
+status_of refusals.RecipesTooLarge = statuses.TooLarge
+status_of (refusals.BadRecipe name fault) = statuses.BadInput
+status_of refusals.SpecsTooLarge = statuses.TooLarge
+status_of (refusals.BadSpecs e) = statuses.BadInput
+status_of refusals.TooManyRoots = statuses.TooLarge
+status_of (refusals.UnknownRoot name) = statuses.BadInput
+
+unfoldable pub missing_line : List ℕ → List ℕ
+missing_line path = line (codes "bad input: missing " ∷ path ∷ [])
+
+unfoldable pub bad_recipe_line : List ℕ → RecipeFault → List ℕ
+bad_recipe_line name fault = line (codes "bad input: recipe " ∷ name ∷ codes ": " ∷ recipe_fault_text fault ∷ [])
+
+unfoldable pub bad_specs_line : SpecFault → List ℕ
+bad_specs_line fault = line (codes "bad input: specs: " ∷ spec_fault_text fault ∷ [])
+
+unfoldable pub unknown_line : List ℕ → List ℕ
+unknown_line name = line (codes "bad input: specs: UnknownRoot " ∷ name ∷ [])
+
+unfoldable pub too_large_line : List ℕ → List ℕ
+too_large_line name = line (codes "too large: recipe " ∷ name ∷ [])
+
+unfoldable pub recipe_line : List ℕ → List ℕ
+recipe_line name = line (codes "bad input: not built recipe " ∷ name ∷ [])
+
+unfoldable pub not_built_line : NotBuilt → List ℕ
+not_built_line forms.Settings = line (codes "bad input: not built settings" ∷ [])
+not_built_line forms.Database = line (codes "bad input: not built database" ∷ [])
+not_built_line forms.Certificate = line (codes "bad input: not built certificate" ∷ [])
+not_built_line forms.Specs = line (codes "bad input: not built specs" ∷ [])
+not_built_line (forms.Recipe name) = recipe_line name
+
+-- the line that is said
+unfoldable pub line_of : Refusal → List ℕ
+line_of refusals.Usage = line (codes "usage: spack_concretize COMMAND ARGUMENT..." ∷ [])
+line_of (refusals.NotBuilt what) = not_built_line what
+line_of (refusals.MissingInput path) = missing_line path
+line_of refusals.TooManyRecipes = line (codes "too large: recipes" ∷ [])
+line_of (refusals.RecipeTooLarge name) = too_large_line name
+line_of refusals.RecipesTooLarge = line (codes "too large: recipe bytes" ∷ [])
+line_of (refusals.BadRecipe name fault) = bad_recipe_line name fault
+line_of refusals.SpecsTooLarge = line (codes "too large: specs" ∷ [])
+line_of (refusals.BadSpecs fault) = bad_specs_line fault
+line_of refusals.TooManyRoots = line (codes "too large: roots" ∷ [])
+line_of (refusals.UnknownRoot name) = unknown_line name

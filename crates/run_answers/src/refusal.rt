@@ -1,0 +1,147 @@
+//! Why input is refused, and what is said of it.
+
+ghost use Rattle.std.specs.Prelude.{◌≡◌, IfOk};
+ghost use Rattle.std.specs.String.{string_bytes};
+ghost use Rattle.run_answers.specs.Refusals.{status_of};
+ghost use Rattle.run_answers.specs.Refusals as lines;
+
+use crate::status::Status;
+use plain_data::Word;
+use recipe_reader::RecipeFault;
+use report_texts::{recipe_fault_text, spec_fault_text};
+use spec_grammar::SpecFault;
+use std::alloc::{AllocError, Global};
+
+/// A form of input that is not built yet.
+#[derive(Debug, Drop)]
+pub enum NotBuilt {
+    Settings,
+    Database,
+    Certificate,
+    Specs,
+    /// The recipe of the package with this name.
+    Recipe(Word),
+}
+
+/// Why input is refused.
+#[derive(Debug, Drop)]
+pub enum Refusal {
+    /// The words are no command.
+    Usage,
+    NotBuilt(NotBuilt),
+    /// There is no file or folder at the path, which is to be read.
+    MissingInput(Word),
+    /// There are more than 16,384 recipes.
+    TooManyRecipes,
+    /// The recipe of the package with the name is longer than 1 MiB.
+    RecipeTooLarge(Word),
+    /// The recipes are longer than 256 MiB together.
+    RecipesTooLarge,
+    /// The recipe of the package with the name has the fault.
+    BadRecipe(Word, RecipeFault),
+    /// The text of the specs is longer than 64 KiB.
+    SpecsTooLarge,
+    /// The text is no specs.
+    BadSpecs(SpecFault),
+    /// There are more than 64 specs.
+    TooManyRoots,
+    /// No recipe has the name.
+    UnknownRoot(Word),
+}
+
+impl Refusal {
+    pub fn status(&self) -> Status
+        ensures { result ≡ status_of self.now }
+    {
+        match self {
+            Refusal::Usage => Status::Usage,
+            Refusal::NotBuilt(_)
+            | Refusal::MissingInput(_)
+            | Refusal::BadRecipe(_, _)
+            | Refusal::BadSpecs(_)
+            | Refusal::UnknownRoot(_) => Status::BadInput,
+            Refusal::TooManyRecipes
+            | Refusal::RecipeTooLarge(_)
+            | Refusal::RecipesTooLarge
+            | Refusal::SpecsTooLarge
+            | Refusal::TooManyRoots => Status::TooLarge,
+        }
+    }
+
+    /// The line that is said of it.
+    #[tactic(auto, unfolding(crate::specs::Refusals::line_of))]
+    pub fn line(&self, alloc: Global) -> Result<String, AllocError>
+        ensures { IfOk result (λ line. string_bytes line ≡ lines.line_of self.now) }
+    {
+        match self {
+            Refusal::Usage => { format!(in alloc; "usage: spack_concretize COMMAND ARGUMENT...\n") }
+            Refusal::NotBuilt(what) => not_built_line(alloc, what),
+            Refusal::MissingInput(path) => missing_line(alloc, path.as_str()),
+            Refusal::TooManyRecipes => format!(in alloc; "too large: recipes\n"),
+            Refusal::RecipeTooLarge(name) => too_large_line(alloc, name.as_str()),
+            Refusal::RecipesTooLarge => format!(in alloc; "too large: recipe bytes\n"),
+            Refusal::BadRecipe(name, fault) => bad_recipe_line(alloc, name.as_str(), *fault),
+            Refusal::SpecsTooLarge => format!(in alloc; "too large: specs\n"),
+            Refusal::BadSpecs(fault) => bad_specs_line(alloc, *fault),
+            Refusal::TooManyRoots => format!(in alloc; "too large: roots\n"),
+            Refusal::UnknownRoot(name) => unknown_line(alloc, name.as_str()),
+        }
+    }
+}
+
+#[tactic(auto, unfolding(crate::specs::Refusals::not_built_line))]
+fn not_built_line(alloc: Global, what: &NotBuilt) -> Result<String, AllocError>
+    ensures { IfOk result (λ line. string_bytes line ≡ lines.not_built_line what.now) }
+{
+    match what {
+        NotBuilt::Settings => format!(in alloc; "bad input: not built settings\n"),
+        NotBuilt::Database => format!(in alloc; "bad input: not built database\n"),
+        NotBuilt::Certificate => format!(in alloc; "bad input: not built certificate\n"),
+        NotBuilt::Specs => format!(in alloc; "bad input: not built specs\n"),
+        NotBuilt::Recipe(name) => recipe_line(alloc, name.as_str()),
+    }
+}
+
+#[tactic(auto, unfolding(crate::specs::Refusals::recipe_line))]
+fn recipe_line(alloc: Global, name: &str) -> Result<String, AllocError>
+    ensures { IfOk result (λ line. string_bytes line ≡ lines.recipe_line name.now) }
+{
+    format!(in alloc; "bad input: not built recipe {name}\n")
+}
+
+#[tactic(auto, unfolding(crate::specs::Refusals::missing_line))]
+fn missing_line(alloc: Global, path: &str) -> Result<String, AllocError>
+    ensures { IfOk result (λ line. string_bytes line ≡ lines.missing_line path.now) }
+{
+    format!(in alloc; "bad input: missing {path}\n")
+}
+
+#[tactic(auto, unfolding(crate::specs::Refusals::bad_recipe_line))]
+fn bad_recipe_line(alloc: Global, name: &str, fault: RecipeFault) -> Result<String, AllocError>
+    ensures { IfOk result (λ line. string_bytes line ≡ lines.bad_recipe_line name.now fault) }
+{
+    let fault = recipe_fault_text(alloc, fault)?;
+    format!(in alloc; "bad input: recipe {name}: {fault}\n")
+}
+
+#[tactic(auto, unfolding(crate::specs::Refusals::bad_specs_line))]
+fn bad_specs_line(alloc: Global, fault: SpecFault) -> Result<String, AllocError>
+    ensures { IfOk result (λ line. string_bytes line ≡ lines.bad_specs_line fault) }
+{
+    let fault = spec_fault_text(alloc, fault)?;
+    format!(in alloc; "bad input: specs: {fault}\n")
+}
+
+#[tactic(auto, unfolding(crate::specs::Refusals::unknown_line))]
+fn unknown_line(alloc: Global, name: &str) -> Result<String, AllocError>
+    ensures { IfOk result (λ line. string_bytes line ≡ lines.unknown_line name.now) }
+{
+    format!(in alloc; "bad input: specs: UnknownRoot {name}\n")
+}
+
+#[tactic(auto, unfolding(crate::specs::Refusals::too_large_line))]
+fn too_large_line(alloc: Global, name: &str) -> Result<String, AllocError>
+    ensures { IfOk result (λ line. string_bytes line ≡ lines.too_large_line name.now) }
+{
+    format!(in alloc; "too large: recipe {name}\n")
+}

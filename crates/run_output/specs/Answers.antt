@@ -1,0 +1,109 @@
+-- What a run leaves of its answer: the lock file and what was said.
+use Rattle.std.specs.Prelude.{◌≡◌, ◌⊎◌, ℕ, List, [], ◌∷◌, replicate, slice_set, Option, Some, Result, Ok, Err, codes}
+use Rattle.outside_desk.specs.Files.{Files, with_file, and_said, MayHold}
+use Rattle.report_texts.specs.Lines.{line}
+use Rattle.run_output.specs.Weights.{weight_of, IsBest, HasNone}
+use Rattle.run_output.specs.Lock.{node_hash, lock_text}
+use Rattle.run_output.specs.Report.{report_text}
+use Rattle.run_output.specs.declared.node.BuiltNode.{BuiltNode}
+use Rattle.run_output.specs.declared.node.Compiler.{Compiler}
+use Rattle.run_output.specs.declared.node.Root.{Root}
+use Rattle.run_problem.specs.declared.wanted.Wanted.{Wanted}
+use Rattle.run_problem.specs.declared.problem.Problem.{Problem}
+use Rattle.run_output.specs.declared.answer.Answer.{Answer}
+use Rattle.run_output.specs.declared.answer.Answer.TheVariants as answers
+use Rattle.run_answers.specs.declared.stop.WriteStop.{WriteStop}
+use Rattle.run_answers.specs.declared.stop.WriteStop.TheVariants as writes
+
+-- ---- the graph of one package
+
+-- the first compiler, OS and target of the standard settings
+abbrev pub standard_compiler : Compiler
+standard_compiler = record { name = codes "gcc"; version = codes "12.3.0" }
+
+-- the node that a version of a package becomes
+unfoldable pub node_of : List ℕ → List ℕ → BuiltNode
+node_of name version = record {
+  name = name;
+  version = version;
+  variants = [];
+  compiler = Some standard_compiler;
+  os = codes "ubuntu22.04";
+  target = codes "x86_64";
+}
+
+-- the root: the node, and the canonical text of the spec that asked for it
+abbrev pub root_of : List ℕ → BuiltNode → Root
+root_of text node = record { hash = node_hash node; spec = text }
+
+-- the lock file of one node
+abbrev pub lock_by : List ℕ → BuiltNode → List ℕ
+lock_by text node = lock_text (node ∷ []) (root_of text node ∷ [])
+
+-- the lock file of a version
+abbrev pub lock_of : Wanted → List ℕ → List ℕ
+lock_of wanted version = lock_by wanted.text (node_of wanted.name version)
+
+-- its cost vector: of the 31 numbers the second is the version weight of the roots, and the sixteenth the number of builds
+abbrev pub cost_of : ℕ → List ℕ
+cost_of weight = slice_set (slice_set (replicate 31 0) 1 weight) 15 1
+
+-- what is said of it
+abbrev pub report_of : Problem → List ℕ → List ℕ
+report_of problem version = report_text (node_of problem.wanted.name version ∷ []) (cost_of (weight_of problem.declared version))
+
+-- ---- answers, where the lock file is to stand at `path`
+
+-- there is a graph: the lock file is that of a best version, and its lines were said
+pub record IsSolved (path : List ℕ) (problem : Problem) (before after : Option Files) (out_before out_after : Option (List ℕ)) : Type 0 where
+  pub version : List ℕ
+  pub best : IsBest problem.wanted.versions problem.declared version
+  pub lock : after ≡ with_file before path (lock_of problem.wanted version)
+  pub out : out_after ≡ and_said out_before (report_of problem version)
+
+unfoldable pub unsatisfiable_line : List ℕ
+unsatisfiable_line = line (codes "unsatisfiable" ∷ [])
+
+-- there is none, since no declared version is wanted
+pub record IsUnsolved (problem : Problem) (before after : Option Files) (out_before out_after : Option (List ℕ)) : Type 0 where
+  pub none : HasNone problem.wanted.versions problem.declared
+  pub files : after ≡ before
+  pub out : out_after ≡ and_said out_before unsatisfiable_line
+
+-- the put failed: the lock file is as it was or holds a front of its text, and nothing was said
+pub record IsHalfPut (path : List ℕ) (problem : Problem) (before after : Option Files) (out_before out_after : Option (List ℕ)) : Type 0 where
+  pub version : List ℕ
+  pub best : IsBest problem.wanted.versions problem.declared version
+  pub lock : MayHold before after path (lock_of problem.wanted version)
+  pub out : out_after ≡ out_before
+
+-- the lock file is whole
+pub record IsLocked (path : List ℕ) (problem : Problem) (before after : Option Files) : Type 0 where
+  pub version : List ℕ
+  pub best : IsBest problem.wanted.versions problem.declared version
+  pub lock : after ≡ with_file before path (lock_of problem.wanted version)
+
+-- the sink failed: the lock file is whole, or no declared version is wanted and no file changed
+abbrev pub IsUnsaid : List ℕ → Problem → Option Files → Option Files → Type 0
+IsUnsaid path problem before after = IsLocked path problem before after ⊎ (HasNone problem.wanted.versions problem.declared × (after ≡ before))
+
+-- the lock file is as it was or holds a front of its text, the whole of it among them
+pub record HoldsFront (path : List ℕ) (problem : Problem) (before after : Option Files) : Type 0 where
+  pub version : List ℕ
+  pub best : IsBest problem.wanted.versions problem.declared version
+  pub held : MayHold before after path (lock_of problem.wanted version)
+
+-- what a put of the lock file leaves
+abbrev pub Puts : List ℕ → List ℕ → Option Files → Option Files → Result (Unit {0}) WriteStop → Type 0
+Puts path text before after (Ok done) = after ≡ with_file before path text
+Puts path text before after (Err (writes.Put at)) = (at ≡ path) × MayHold before after path text
+Puts path text before after (Err writes.Output) = ⊥
+Puts path text before after (Err writes.NoMemory) = Unit {0}
+
+-- what writing leaves
+abbrev pub Writes : List ℕ → Problem → Option Files → Option Files → Option (List ℕ) → Option (List ℕ) → Result Answer WriteStop → Type 0
+Writes path problem before after out_before out_after (Ok answers.Solved) = IsSolved path problem before after out_before out_after
+Writes path problem before after out_before out_after (Ok answers.Unsolved) = IsUnsolved problem before after out_before out_after
+Writes path problem before after out_before out_after (Err (writes.Put at)) = (at ≡ path) × IsHalfPut path problem before after out_before out_after
+Writes path problem before after out_before out_after (Err writes.Output) = IsUnsaid path problem before after
+Writes path problem before after out_before out_after (Err writes.NoMemory) = Unit {0}

@@ -1,0 +1,5 @@
+pub mod Weights
+pub mod Lock
+pub mod Report
+pub mod Changes
+pub mod Answers

@@ -1,0 +1,89 @@
+//! What is said of a graph.
+
+ghost use Rattle.std.specs.Prelude.{◌≡◌, ◌++◌, ◌∷◌, IfOk, OnOk, decimal};
+ghost use Rattle.run_output.specs.Report.{compiler_text, label_text, machine_text, node_line, vector_line, report_text};
+
+use crate::node::{BuiltNode, Compiler};
+use spec_grammar::write_variants;
+use std::alloc::{AllocError, Global};
+
+// Each of these appends a text to `out`, or some of it after an error.
+
+#[tactic(auto, unfolding(crate::specs::Report::compiler_text))]
+fn write_compiler(compiler: &Option<Compiler>, out: &mut Vec<u8>) -> Result<(), AllocError>
+    ensures { OnOk result (out.new.items ≡ out.old.items ++ compiler_text compiler.now) }
+{
+    match compiler {
+        None => Ok(()),
+        Some(compiler) => {
+            out.extend_from_slice(b" %")?;
+            out.extend_from_slice(compiler.name.as_str().as_bytes())?;
+            out.extend_from_slice(b"@=")?;
+            out.extend_from_slice(compiler.version.text().as_bytes())
+        }
+    }
+}
+
+#[tactic(auto, unfolding(crate::specs::Report::label_text))]
+fn write_label(node: &BuiltNode, out: &mut Vec<u8>) -> Result<(), AllocError>
+    ensures { OnOk result (out.new.items ≡ out.old.items ++ label_text node.now) }
+{
+    out.extend_from_slice(node.name.as_str().as_bytes())?;
+    out.extend_from_slice(b"@=")?;
+    out.extend_from_slice(node.version.text().as_bytes())
+}
+
+#[tactic(auto, unfolding(crate::specs::Report::machine_text))]
+fn write_machine(node: &BuiltNode, out: &mut Vec<u8>) -> Result<(), AllocError>
+    ensures { OnOk result (out.new.items ≡ out.old.items ++ machine_text node.now) }
+{
+    out.extend_from_slice(b" os=")?;
+    out.extend_from_slice(node.os.as_str().as_bytes())?;
+    out.extend_from_slice(b" target=")?;
+    out.extend_from_slice(node.target.as_str().as_bytes())?;
+    out.extend_from_slice(b" built\n")
+}
+
+#[tactic(auto, unfolding(crate::specs::Report::node_line))]
+fn write_node(node: &BuiltNode, out: &mut Vec<u8>) -> Result<(), AllocError>
+    ensures { OnOk result (out.new.items ≡ out.old.items ++ node_line node.now) }
+{
+    write_label(node, out)?;
+    write_variants(node.variants.as_slice(), out)?;
+    write_compiler(&node.compiler, out)?;
+    write_machine(node, out)
+}
+
+fn write_number(alloc: Global, number: u64, out: &mut Vec<u8>) -> Result<(), AllocError>
+    ensures { OnOk result (out.new.items ≡ out.old.items ++ 32 ∷ decimal number) }
+{
+    let text = format!(in alloc; " {number}")?;
+    out.extend_from_slice(text.as_bytes())
+}
+
+#[tactic(auto, unfolding(crate::specs::Report::vector_line))]
+fn write_vector(alloc: Global, numbers: &[u64], out: &mut Vec<u8>) -> Result<(), AllocError>
+    ensures { OnOk result (out.new.items ≡ out.old.items ++ vector_line numbers.now) }
+{
+    out.extend_from_slice(b"vector")?;
+    for number in numbers {
+        write_number(alloc, *number, out)?;
+    }
+    out.extend_from_slice(b"\n")
+}
+
+/// A line for each node, and the line of the cost vector.
+pub fn report_text(
+    alloc: Global,
+    nodes: &[BuiltNode],
+    numbers: &[u64],
+) -> Result<Vec<u8>, AllocError>
+    ensures { IfOk result (λ text. text.items ≡ report_text nodes.now numbers.now) }
+{
+    let mut text = Vec::new(alloc);
+    for node in nodes {
+        write_node(node, &mut text)?;
+    }
+    write_vector(alloc, numbers, &mut text)?;
+    Ok(text)
+}

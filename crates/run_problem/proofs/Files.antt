@@ -1,0 +1,54 @@
+-- The recipes of files, by what reading them answered.
+use Rattle.std.proofs.Common.{◌≡◌, refl, sym, ap, ◌∙◌, ℕ, zero, suc, List, [], ◌∷◌, map, take, Option, Some, None, Result, Ok, Err}
+use Rattle.std.specs.List.{slice_get}
+use Rattle.std.specs.Prelude.{get_or}
+use Rattle.std.proofs.lemmas.Option.{get_or_from_slice_get}
+use Rattle.conditions.specs.declared.recipe.Recipe.{Recipe}
+use Rattle.recipe_reader.specs.Files.{recipe_in_file, IsFirstFault}
+use Rattle.recipe_reader.specs.declared.fault.RecipeFault.{RecipeFault}
+use Rattle.recipe_reader.specs.declared.files.RecipeFile.{RecipeFile}
+use Rattle.run_answers.specs.declared.refusal.Refusal.{Refusal}
+use Rattle.run_answers.specs.declared.refusal.Refusal.TheVariants as refusals
+use Rattle.recipe_files.specs.Sources.{source_of}
+use Rattle.run_problem.specs.Recipes.{or_bad, recipes_of}
+
+abbrev Read : Type 0
+Read = Result Recipe RecipeFault
+
+heads : {A : Type 0} (x y : A) (xs ys : List A) → (let T : Type 0 = List A in let a : T = x ∷ xs in let b : T = y ∷ ys in a ≡ b) → x ≡ y
+heads x y xs ys e = cc
+
+tails : {A : Type 0} (x y : A) (xs ys : List A) → (let T : Type 0 = List A in let a : T = x ∷ xs in let b : T = y ∷ ys in a ≡ b) → xs ≡ ys
+tails x y xs ys e = cc
+
+pub all_read : (files : List RecipeFile) (recipes : List Recipe) → map recipe_in_file files ≡ map Ok recipes → recipes_of (map source_of files) ≡ Ok recipes
+all_read [] [] e = refl
+all_read [] (r ∷ recipes) e = absurd cc
+all_read (f ∷ files) [] e = absurd cc
+all_read (f ∷ files) (r ∷ recipes) e =
+    rw (heads (recipe_in_file f) (Ok r) (map recipe_in_file files) (map Ok recipes) e, all_read files recipes (tails (recipe_in_file f) (Ok r) (map recipe_in_file files) (map Ok recipes) e)) refl
+
+at_front : (f : RecipeFile) (files : List RecipeFile) (e : RecipeFault) → recipe_in_file f ≡ Err e → recipes_of (map source_of (f ∷ files)) ≡ Err (refusals.BadRecipe f.name e)
+at_front f files e h = rw h refl
+
+some_same : {A : Type 0} (x y : A) → (let T : Type 0 = Option A in let a : T = Some x in let b : T = Some y in a ≡ b) → x ≡ y
+some_same x y e = cc
+
+bad_at : (place : ℕ) (files : List RecipeFile) (recipes : List Recipe) (file : RecipeFile) (e : RecipeFault)
+    → map recipe_in_file (take place files) ≡ map Ok recipes → slice_get files place ≡ Some file → recipe_in_file file ≡ Err e
+    → recipes_of (map source_of files) ≡ Err (refusals.BadRecipe file.name e)
+bad_at place [] recipes file e before is faulty = absurd cc
+bad_at zero (f ∷ files) recipes file e before is faulty =
+    rw (← some_same f file is) (at_front f files e (ap recipe_in_file (some_same f file is) ∙ faulty))
+bad_at (suc place) (f ∷ files) [] file e before is faulty = absurd cc
+bad_at (suc place) (f ∷ files) (r ∷ recipes) file e before is faulty =
+    rw (
+      heads (recipe_in_file f) (Ok r) (map recipe_in_file (take place files)) (map Ok recipes) before,
+      bad_at place files recipes file e (tails (recipe_in_file f) (Ok r) (map recipe_in_file (take place files)) (map Ok recipes) before) is faulty,
+    ) refl
+
+-- the file at this place is the one with the fault
+pub first_bad : (place : ℕ) (e : RecipeFault) (files : List RecipeFile) (file : RecipeFile) → IsFirstFault place e files → file ≡ get_or files place file → recipes_of (map source_of files) ≡ Err (refusals.BadRecipe file.name e)
+first_bad place e files file first is =
+    let same : file ≡ first.file = is ∙ get_or_from_slice_get files place first.file file first.is in
+    rw same (bad_at place files first.recipes first.file e first.before first.is first.faulty)

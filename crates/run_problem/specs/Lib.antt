@@ -1,0 +1,3 @@
+pub mod Wants
+pub mod Recipes
+pub mod Problems

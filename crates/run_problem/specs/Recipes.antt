@@ -1,0 +1,32 @@
+-- The recipes of a repository, or the refusal that is due first.
+use Rattle.std.specs.Prelude.{ℕ, List, [], ◌∷◌, Result, Ok, Err}
+use Rattle.outside_desk.specs.Files.{Files}
+use Rattle.conditions.specs.declared.recipe.Recipe.{Recipe}
+use Rattle.recipe_reader.specs.Recipes.{recipe_of}
+use Rattle.recipe_reader.specs.declared.fault.RecipeFault.{RecipeFault}
+use Rattle.run_answers.specs.Stages.{◌>>=◌}
+use Rattle.run_answers.specs.declared.refusal.Refusal.{Refusal}
+use Rattle.run_answers.specs.declared.refusal.Refusal.TheVariants as refusals
+use Rattle.recipe_files.specs.Sources.{Source, pile_of}
+
+abbrev pub or_bad : List ℕ → Result Recipe RecipeFault → Result Recipe Refusal
+or_bad name (Ok recipe) = Ok recipe
+or_bad name (Err fault) = Err (refusals.BadRecipe name fault)
+
+-- the recipe of a file, or its fault with the name of its package
+abbrev pub recipe_in : Source → Result Recipe Refusal
+recipe_in source = or_bad source.0 (recipe_of source.0 source.1)
+
+-- the recipes of files, or the fault of the first file that has one
+abbrev pub recipes_of : List Source → Result (List Recipe) Refusal
+recipes_of [] = Ok []
+recipes_of (source ∷ sources) = do
+  recipe ← recipe_in source
+  recipes ← recipes_of sources
+  Ok (recipe ∷ recipes)
+
+-- the recipes of the repository: all files are read before any is parsed
+unfoldable pub recipes_at : Files → List ℕ → Result (List Recipe) Refusal
+recipes_at files repo = do
+  pile ← pile_of files repo
+  recipes_of pile.files

@@ -1,0 +1,84 @@
+//! The words of the command line.
+
+ghost use Rattle.std.specs.Prelude.{◌≡◌, ◌∷◌, ◌++◌, IfOk};
+ghost use Rattle.std.specs.String.{string_bytes};
+ghost use Rattle.run_words.specs.Words.{words_of, joined_words, command_of, is_blank, is_same};
+
+use spec_grammar::is_white;
+use std::alloc::{AllocError, Global};
+use std::marker::Model;
+
+/// The words of `concretize REPO SETTINGS DATABASE LOCK CERT SPEC`.
+#[derive(Debug, Drop)]
+pub struct Command<'a> {
+    pub repo: &'a str,
+    pub settings: &'a str,
+    pub database: &'a str,
+    pub lock: &'a str,
+    pub cert: &'a str,
+    /// The words of the spec, joined by one space.
+    pub spec: String,
+}
+
+impl<'a> Model for Command<'a> {
+    ghost use Rattle.std.specs.String.{string_bytes};
+    ghost use Rattle.run_words.specs.Words.{Command};
+
+    ghost Value = { Command };
+
+    ghost view = { λ c. record { repo = c.repo.now; settings = c.settings.now; database = c.database.now; lock = c.lock.now; cert = c.cert.now; spec = string_bytes c.spec } };
+}
+
+/// Words joined by one space.
+fn join_words(alloc: Global, first: &str, more: &[String]) -> Result<String, AllocError>
+    ensures { IfOk result (λ text. string_bytes text ≡ joined_words first.now (words_of more.now)) }
+{
+    let mut text = String::from_str(alloc, first)?;
+    for word in more {
+        text.push(' ')?;
+        text.push_str(word.as_str())?;
+    }
+    Ok(text)
+}
+
+fn is_blank(text: &[u8]) -> bool
+    ensures { result ≡ is_blank text.now }
+{
+    text.iter().all(|b| is_white(*b))
+}
+
+/// Whether two texts are the same.
+#[tactic(auto, unfolding(crate::specs::Words::is_same))]
+pub fn is_same(a: &str, b: &str) -> bool
+    ensures { result ≡ is_same a.now b.now }
+{
+    a == b
+}
+
+/// The command that the words are; `None` where they are none.
+pub fn read_command<'a>(
+    alloc: Global,
+    words: &'a [String],
+) -> Result<Option<Command<'a>>, AllocError>
+    ensures { IfOk result (λ command. command ≡ command_of (words_of words.now)) }
+{
+    let [verb, repo, settings, database, lock, cert, first, more @ ..] = words else {
+        return Ok(None);
+    };
+    let spec = join_words(alloc, first.as_str(), more)?;
+    if !is_same(verb.as_str(), "concretize")
+        || is_same(lock.as_str(), "-")
+        || is_same(lock.as_str(), cert.as_str())
+        || is_blank(spec.as_bytes())
+    {
+        return Ok(None);
+    }
+    Ok(Some(Command {
+        repo: repo.as_str(),
+        settings: settings.as_str(),
+        database: database.as_str(),
+        lock: lock.as_str(),
+        cert: cert.as_str(),
+        spec,
+    }))
+}
