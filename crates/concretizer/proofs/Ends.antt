@@ -17,7 +17,10 @@ use Rattle.run_answers.specs.declared.stop.ReadStop.TheVariants.{Refused, Fault,
 use Rattle.run_answers.specs.declared.stop.WriteStop.TheVariants as writes
 use Rattle.run_answers.specs.declared.stop.Stop.{Stop}
 use Rattle.run_answers.specs.declared.stop.Stop.TheVariants.{Read, Write}
-use Rattle.run_problem.proofs.Asked.{ReadsOnce, one_posed}
+
+-- words name one problem at most, or are due one refusal
+abbrev pub PosesOnce : Type 0
+PosesOnce = (files : Files) (words : List (List ℕ)) (a b : Result Problem Refusal) → Poses files words a → Poses files words b → a ≡ b
 
 -- ---- words that are refused
 
@@ -87,18 +90,18 @@ pub record AreCounted (stop : Stop) (reads puts says : ℕ × ℕ) : Type 0 wher
   pub put : Counts puts.0 puts.1 (FailsToPut (Err stop))
   pub said : Counts says.0 says.1 (FailsToSay (Err stop))
 
-settles_here : ReadsOnce → (files : Files) (words : List (List ℕ)) (stop : Stop) (after : Option Files) (out err : Spoken) (reads puts says errs : ℕ × ℕ) (result : Status)
+settles_here : PosesOnce → (files : Files) (words : List (List ℕ)) (stop : Stop) (after : Option Files) (out err : Spoken) (reads puts says errs : ℕ × ℕ) (result : Status)
     → Attempts files words after out.0 out.1 (Err stop) → AreCounted stop reads puts says → Reports (stop_status stop) (stop_line stop) err errs result
     → (problem : Problem) → Poses files words (Ok problem) → AreStill reads puts says errs → Settles result
 settles_here laws files words (Read (Refused refusal)) after out err reads puts says errs result left counts reports problem poses still =
-    absurd (let same : (let T : Type 0 = Result Problem Refusal in let l : T = Ok problem in let r : T = Err refusal in l ≡ r) = one_posed laws files words (Ok problem) (Err refusal) poses left.0 in cc)
+    absurd (let same : (let T : Type 0 = Result Problem Refusal in let l : T = Ok problem in let r : T = Err refusal in l ≡ r) = laws files words (Ok problem) (Err refusal) poses left.0 in cc)
 settles_here laws files words (Read (Fault path)) after out err reads puts says errs result left counts reports problem poses still = absurd (still.read (counts.read.cause tt))
 settles_here laws files words (Read NoMemory) after out err reads puts says errs result left counts reports problem poses still = settles_none _ err errs result reports still.err
 settles_here laws files words (Write (writes.Put path)) after out err reads puts says errs result left counts reports problem poses still = absurd (still.put (counts.put.cause tt))
 settles_here laws files words (Write writes.Output) after out err reads puts says errs result left counts reports problem poses still = absurd (still.said (counts.said.cause tt))
 settles_here laws files words (Write writes.NoMemory) after out err reads puts says errs result left counts reports problem poses still = settles_none _ err errs result reports still.err
 
-pub settles : ReadsOnce → (before : Option Files) (words : List (List ℕ)) (stop : Stop) (after : Option Files) (out err : Spoken) (reads puts says errs : ℕ × ℕ) (result : Status)
+pub settles : PosesOnce → (before : Option Files) (words : List (List ℕ)) (stop : Stop) (after : Option Files) (out err : Spoken) (reads puts says errs : ℕ × ℕ) (result : Status)
     → IfSome before (λ files. Attempts files words after out.0 out.1 (Err stop)) → AreCounted stop reads puts says → Reports (stop_status stop) (stop_line stop) err errs result
     → IfSome before (λ files. (problem : Problem) → Poses files words (Ok problem) → ¬ Rose reads.0 reads.1 → ¬ Rose puts.0 puts.1 → ¬ Rose says.0 says.1 → ¬ Rose errs.0 errs.1 → Settles result)
 settles laws None words stop after out err reads puts says errs result left counts reports = tt
@@ -121,17 +124,17 @@ none_reported status line said faults result (inl (is, line_said)) still = inr i
 none_reported status line said faults result (inr (inl (is, rose))) still = absurd (still rose)
 none_reported status line said faults result (inr (inr is)) still = inr is
 
-not_both : {A : Type 0} → ReadsOnce → (files : Files) (words : List (List ℕ)) (problem : Problem) (refusal : Refusal)
+not_both : {A : Type 0} → PosesOnce → (files : Files) (words : List (List ℕ)) (problem : Problem) (refusal : Refusal)
     → Poses files words (Ok problem) → Poses files words (Err refusal) → A
 not_both laws files words problem refusal p q =
-    absurd (let same : (let T : Type 0 = Result Problem Refusal in let l : T = Ok problem in let r : T = Err refusal in l ≡ r) = one_posed laws files words (Ok problem) (Err refusal) p q in cc)
+    absurd (let same : (let T : Type 0 = Result Problem Refusal in let l : T = Ok problem in let r : T = Err refusal in l ≡ r) = laws files words (Ok problem) (Err refusal) p q in cc)
 
-same_refusal : ReadsOnce → (files : Files) (words : List (List ℕ)) (a b : Refusal)
+same_refusal : PosesOnce → (files : Files) (words : List (List ℕ)) (a b : Refusal)
     → Poses files words (Err a) → Poses files words (Err b) → a ≡ b
 same_refusal laws files words a b p q =
-    let same : (let T : Type 0 = Result Problem Refusal in let l : T = Err a in let r : T = Err b in l ≡ r) = one_posed laws files words (Err a) (Err b) p q in cc
+    let same : (let T : Type 0 = Result Problem Refusal in let l : T = Err a in let r : T = Err b in l ≡ r) = laws files words (Err a) (Err b) p q in cc
 
-due_here : ReadsOnce → (files : Files) (words : List (List ℕ)) (stop : Stop) (after : Option Files) (out err : Spoken) (reads puts says errs : ℕ × ℕ) (result : Status)
+due_here : PosesOnce → (files : Files) (words : List (List ℕ)) (stop : Stop) (after : Option Files) (out err : Spoken) (reads puts says errs : ℕ × ℕ) (result : Status)
     → Attempts files words after out.0 out.1 (Err stop) → AreCounted stop reads puts says → Reports (stop_status stop) (stop_line stop) err errs result
     → (refusal : Refusal) → Poses files words (Err refusal) → AreStill reads puts says errs → IsAnsweredBy (status_of refusal) result
 due_here laws files words (Read (Refused given)) after out err reads puts says errs result left counts reports refusal poses still =
@@ -144,7 +147,7 @@ due_here laws files words (Write writes.Output) after out err reads puts says er
 due_here laws files words (Write writes.NoMemory) after out err reads puts says errs result left counts reports refusal poses still = none_reported (status_of refusal) _ err errs result reports still.err
 
 -- a refusal is due where an attempt stopped
-pub due : ReadsOnce → (before : Option Files) (words : List (List ℕ)) (stop : Stop) (after : Option Files) (out err : Spoken) (reads puts says errs : ℕ × ℕ) (result : Status)
+pub due : PosesOnce → (before : Option Files) (words : List (List ℕ)) (stop : Stop) (after : Option Files) (out err : Spoken) (reads puts says errs : ℕ × ℕ) (result : Status)
     → IfSome before (λ files. Attempts files words after out.0 out.1 (Err stop)) → AreCounted stop reads puts says → Reports (stop_status stop) (stop_line stop) err errs result
     → IfSome before (λ files. (refusal : Refusal) → Poses files words (Err refusal) → ¬ Rose reads.0 reads.1 → ¬ Rose puts.0 puts.1 → ¬ Rose says.0 says.1 → ¬ Rose errs.0 errs.1 → IsAnsweredBy (status_of refusal) result)
 due laws None words stop after out err reads puts says errs result left counts reports = tt
@@ -152,7 +155,7 @@ due laws (Some files) words stop after out err reads puts says errs result left 
     due_here laws files words stop after out err reads puts says errs result left counts reports refusal poses (record { read = read; put = put; said = said; err = late })
 
 -- no refusal is due where an answer was written
-pub written : ReadsOnce → (before : Option Files) (words : List (List ℕ)) (answer : Answer) (after : Option Files) (out : Spoken) (reads puts says errs : ℕ × ℕ) (result : Status)
+pub written : PosesOnce → (before : Option Files) (words : List (List ℕ)) (answer : Answer) (after : Option Files) (out : Spoken) (reads puts says errs : ℕ × ℕ) (result : Status)
     → IfSome before (λ files. Attempts files words after out.0 out.1 (Ok answer))
     → IfSome before (λ files. (refusal : Refusal) → Poses files words (Err refusal) → ¬ Rose reads.0 reads.1 → ¬ Rose puts.0 puts.1 → ¬ Rose says.0 says.1 → ¬ Rose errs.0 errs.1 → IsAnsweredBy (status_of refusal) result)
 written laws None words answer after out reads puts says errs result left = tt

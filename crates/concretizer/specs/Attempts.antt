@@ -4,10 +4,9 @@ use Rattle.outside_desk.specs.Files.{Files}
 use Rattle.run_words.specs.Words.{Command, command_of, lock_path}
 use Rattle.run_answers.specs.Stages.{Is}
 use Rattle.run_words.specs.Orders.{order_of}
-use Rattle.recipe_files.specs.Paths.{IsReadPath}
 use Rattle.run_problem.specs.Wants.{Wants}
 use Rattle.run_problem.specs.declared.problem.Problem.{Problem}
-use Rattle.run_problem.specs.Problems.{Poses}
+use Rattle.run_problem.specs.Problems.{IsInputPath, Poses}
 use Rattle.run_output.specs.Answers.{Writes}
 use Rattle.run_problem.specs.declared.wanted.Wanted.{Wanted}
 use Rattle.run_output.specs.declared.answer.Answer.{Answer}
@@ -52,7 +51,7 @@ pub record IsAsked (words : List (List ℕ)) : Type 0 where
 pub record IsRead (words : List (List ℕ)) (path : List ℕ) : Type 0 where
   pub command : Command
   pub ordered : Is (order_of words) (Ok command)
-  pub inside : IsReadPath command.repo path
+  pub inside : IsInputPath command path
 
 -- what the words say of how an attempt ended
 abbrev pub Follows : List (List ℕ) → Result Answer Stop → Type 0

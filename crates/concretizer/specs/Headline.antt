@@ -52,7 +52,7 @@ pub record IsRefused (files : Files) (words : List (List ℕ)) (answer : Status)
   pub output : IsSilent out
   pub errors : Says err (line_of refusal)
 
--- ReadFault: the desk failed to read the folder or a recipe, and that was said
+-- ReadFault: the desk failed to read the settings, the folder of packages or a recipe, and that was said
 pub record IsReadFault (words : List (List ℕ)) (faults : ℕ × ℕ) (files : Option Files × Option Files) (out err : Spoken) : Type 0 where
   pub path : List ℕ
   pub read : IsRead words path

@@ -17,9 +17,8 @@ ghost use Rattle.concretizer.specs.Attempts.{Attempts, Follows, StopsAtOnce, Fai
 use outside_desk::{Desk, Sink, SinkFault};
 use run_answers::{Status, Stop};
 use run_output::{Answer, write_answer};
-use run_problem::read_problem;
+use run_problem::{problem_laws, read_problem};
 use run_words::read_order;
-use spec_grammar::reading_laws;
 use std::alloc::Global;
 use std::thread::Threads;
 
@@ -67,9 +66,9 @@ fn report<E: Sink>(alloc: Global, err: &mut E, stop: &Stop) -> Status
 /// Does what the words ask for: `concretize REPO SETTINGS DATABASE LOCK CERT SPEC`.
 ///
 /// The words are those behind the program's name. SPEC names one package with its versions, as
-/// `zlib@1.2:`. A run reads all recipes of the repository, `REPO/packages/NAME/package.py`, puts the lock
-/// file of the best version in the set at LOCK, and says its node and its cost vector on `out`; `err`
-/// gets one line where the run stops before that.
+/// `zlib@1.2:`. A run reads the settings and all recipes of the repository, `REPO/packages/NAME/package.py`,
+/// puts the lock file of the best version in the set at LOCK, and says its node and its cost vector on `out`;
+/// `err` gets one line where the run stops before that.
 pub fn run<R: Threads + Sync, D: Desk, O: Sink, E: Sink>(
     _rt: &R,
     alloc: Global,
@@ -78,7 +77,7 @@ pub fn run<R: Threads + Sync, D: Desk, O: Sink, E: Sink>(
     out: &mut O,
     err: &mut E,
 ) -> Status
-    // Words that are no command that is built are answered so whatever the desk tells, and only words are Usage. No call on
+    // Words that are no command are answered so whatever the desk tells, and only words are Usage. No call on
     // the desk failed, no file changed and nothing was said but the refusal.
     ensures words { (refusal : Refusal) → Is (order_of (words_of words.now)) (Err refusal) → (D.files desk.new ≡ D.files desk.old)
         × (D.faults desk.new ≡ D.faults desk.old) × (O.said out.new ≡ O.said out.old)
@@ -123,7 +122,7 @@ pub fn run<R: Threads + Sync, D: Desk, O: Sink, E: Sink>(
     ensures decided { result ≢ Status.Undecided }
     ensures trusted { result ≢ Status.Refused }
 {
-    reading_laws();
+    problem_laws();
     match attempt(alloc, words, desk, out) {
         Ok(Answer::Solved) => Status::Done,
         Ok(Answer::Unsolved) => Status::Unsatisfiable,

@@ -10,6 +10,8 @@
 mod paths;
 mod read;
 mod sources;
+mod theorems;
 
 pub use read::read_sources;
 pub use sources::Sources;
+pub use theorems::source_laws;

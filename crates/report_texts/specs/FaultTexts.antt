@@ -4,6 +4,10 @@ use Rattle.spec_grammar.specs.declared.fault.Form.{Form}
 use Rattle.spec_grammar.specs.declared.fault.Form.TheVariants.{Propagation, ConcreteAssign, AnyValue, Quoted, Flags, Reference, EdgeAttributes, Namespace, NestedDependency, ProvidesForm}
 use Rattle.spec_grammar.specs.declared.fault.SpecFault.{SpecFault}
 use Rattle.spec_grammar.specs.declared.fault.SpecFault.TheVariants as spec
+use Rattle.target_table.specs.declared.fault.TargetFault.{TargetFault}
+use Rattle.target_table.specs.declared.fault.TargetFault.TheVariants as target
+use Rattle.settings_reader.specs.declared.fault.SettingsFault.{SettingsFault}
+use Rattle.settings_reader.specs.declared.fault.SettingsFault.TheVariants as settings
 use Rattle.recipe_lexer.specs.declared.token.LexFault.{LexFault}
 use Rattle.recipe_lexer.specs.declared.token.LexFault.TheVariants as lex
 use Rattle.recipe_reader.specs.declared.fault.RecipeFault.{RecipeFault}
@@ -34,6 +38,36 @@ spec_fault_text (spec.Unsupported place form) = joined (codes "Unsupported " ∷
 spec_fault_text (spec.BadVersion place) = at_place (codes "BadVersion") place
 spec_fault_text (spec.TwiceSet place) = at_place (codes "TwiceSet") place
 spec_fault_text spec.OutOfMemory = codes "OutOfMemory"
+
+-- ---- settings
+
+unfoldable pub target_fault_text : TargetFault → List ℕ
+target_fault_text (target.TwiceNamed place) = at_place (codes "TwiceNamed") place
+target_fault_text (target.UnknownParent place) = at_place (codes "UnknownParent") place
+target_fault_text target.CyclicTargets = codes "CyclicTargets"
+target_fault_text target.OutOfMemory = codes "OutOfMemory"
+
+abbrev pub in_targets : TargetFault → List ℕ
+in_targets fault = codes "Targets " ++ target_fault_text fault
+
+-- a name with a pointer
+abbrev pub at_pointer : List ℕ → List ℕ → List ℕ
+at_pointer name pointer = name ++ (codes " " ++ pointer)
+
+-- the text at a pointer has the fault
+abbrev pub in_spec : List ℕ → SpecFault → List ℕ
+in_spec pointer fault = codes "Spec " ++ (pointer ++ (codes " " ++ spec_fault_text fault))
+
+unfoldable pub settings_fault_text : SettingsFault → List ℕ
+settings_fault_text settings.NotJson = codes "NotJson"
+settings_fault_text (settings.UnknownKey at) = at_pointer (codes "UnknownKey") at
+settings_fault_text (settings.WrongKind at) = at_pointer (codes "WrongKind") at
+settings_fault_text (settings.Empty at) = at_pointer (codes "Empty") at
+settings_fault_text (settings.TwiceNamed at) = at_pointer (codes "TwiceNamed") at
+settings_fault_text (settings.Targets fault) = in_targets fault
+settings_fault_text (settings.Spec at fault) = in_spec at fault
+settings_fault_text (settings.BadExternal at) = at_pointer (codes "BadExternal") at
+settings_fault_text settings.OutOfMemory = codes "OutOfMemory"
 
 -- ---- recipes
 

@@ -8,9 +8,11 @@
 #![tactic(auto)]
 
 mod recipe_faults;
+mod settings_faults;
 mod spec_faults;
 mod worked;
 
 pub use recipe_faults::recipe_fault_text;
+pub use settings_faults::settings_fault_text;
 pub use spec_faults::spec_fault_text;
 pub use worked::worked_fault_texts;

@@ -1,9 +1,8 @@
 -- Stages of reading, one after the other.
-use Rattle.std.proofs.Common.{◌≡◌, ◌≢◌, ℕ, zero, List, [], ◌∷◌, length, arith, Option, None, refl, sym, ap, ◌∙◌, subst, Result, Ok, Err, Some, inl, inr}
+use Rattle.std.proofs.Common.{◌≡◌, refl, sym, ap, ◌∙◌, subst, Result, Ok, Err, inl, inr}
 use Rattle.std.specs.Result.{IsErrAnd}
-use Rattle.std.specs.Prelude.{Contains, IfOk, nat_le, ◌^◌}
-use Rattle.run_answers.specs.Stages.{Is, Then, ◌>>=◌, or_refuse}
-use Rattle.run_answers.specs.Stops.{Gives, GivesOnly}
+use Rattle.run_answers.specs.Stages.{Is, Then, ◌>>=◌}
+use Rattle.run_answers.specs.Stops.{Gives}
 use Rattle.run_answers.specs.declared.refusal.Refusal.{Refusal}
 use Rattle.run_answers.specs.declared.stop.ReadStop.{ReadStop}
 use Rattle.run_answers.specs.declared.stop.ReadStop.TheVariants.{Refused, Fault, NoMemory}
@@ -31,15 +30,21 @@ then_gives first next x (Err NoMemory) h g = tt
 abbrev pub IsOne : {A : Type 0} → (Result A Refusal → Type 0) → Type 0
 IsOne {A} R = (a b : Result A Refusal) → R a → R b → a ≡ b
 
+-- a computation gives one answer
 pub one_is : {A : Type 0} (given : Result A Refusal) → IsOne (Is given)
 one_is given a b x y = x ∙ sym y
 
+-- an answer is one value, and no refusal; a refusal is one
 pub ok_same : {A : Type 0} (x y : A) → (let T : Type 0 = Result A Refusal in let a : T = Ok x in let b : T = Ok y in a ≡ b) → x ≡ y
 ok_same x y e = cc
 
 pub ok_not_err : {A B : Type 0} (x : A) (e : Refusal) → (let T : Type 0 = Result A Refusal in let a : T = Ok x in let b : T = Err e in a ≡ b) → B
 ok_not_err x e same = absurd cc
 
+pub err_same : {A : Type 0} (a b : Refusal) → (let T : Type 0 = Result A Refusal in let l : T = Err a in let r : T = Err b in l ≡ r) → a ≡ b
+err_same a b e = cc
+
+-- and so do two stages of which each has one answer
 pub one_then : {A B : Type 0} (first : Result A Refusal → Type 0) (next : A → Result B Refusal → Type 0) → IsOne first → ((x : A) → IsOne (next x)) → IsOne (Then first next)
 one_then first next f n (Ok a) (Ok b) (x, p, q) (y, r, s) = n y (Ok a) (Ok b) (subst (λ z. next z (Ok a)) (ok_same x y (f (Ok x) (Ok y) p r)) q) s
 one_then first next f n (Ok a) (Err b) (x, p, q) (inl r) = ok_not_err x b (f (Ok x) (Err b) p r)
@@ -51,22 +56,9 @@ one_then first next f n (Err a) (Err b) (inl p) (inr (y, r, s)) = ok_not_err y a
 one_then first next f n (Err a) (Err b) (inr (x, p, q)) (inl r) = ok_not_err x b (f (Ok x) (Err b) p r)
 one_then first next f n (Err a) (Err b) (inr (x, p, q)) (inr (y, r, s)) = n y (Err a) (Err b) (subst (λ z. next z (Err a)) (ok_same x y (f (Ok x) (Ok y) p r)) q) s
 
-pub gives_only : {T : Type 0} (R : Result T Refusal → Type 0) → IsOne R → (result : Result T ReadStop) → Gives result R → (asked : Result T Refusal) → R asked → GivesOnly result asked
-gives_only R one (Ok x) g asked h = one asked (Ok x) h g
-gives_only R one (Err (Refused refusal)) g asked h = one asked (Err refusal) h g
-gives_only R one (Err (Fault path)) g asked h = tt
-gives_only R one (Err NoMemory) g asked h = tt
-
 -- ---- computations
 
 -- a chain of stages that answers
 pub then_ok : {A B : Type 0} (first : Result A Refusal) (next : A → Result B Refusal) (y : B) → (first >>= next) ≡ Ok y → (x : A) × (first ≡ Ok x) × (next x ≡ Ok y)
 then_ok (Ok x) next y e = (x, refl, e)
 then_ok (Err refusal) next y e = ok_not_err y refusal (sym e)
-
-pub there : {A : Type 0} (refusal : Refusal) (o : Option A) (x : A) → or_refuse refusal o ≡ Ok x → o ≡ Some x
-there refusal None x e = ok_not_err x refusal (sym e)
-there refusal (Some y) x e = ap Some (ok_same y x e)
-
-pub err_same : {A : Type 0} (a b : Refusal) → (let T : Type 0 = Result A Refusal in let l : T = Err a in let r : T = Err b in l ≡ r) → a ≡ b
-err_same a b e = cc

@@ -1,8 +1,9 @@
 -- What is answered and said where input is refused.
 use Rattle.std.specs.Prelude.{ℕ, List, [], ◌∷◌, codes}
 use Rattle.spec_grammar.specs.declared.fault.SpecFault.{SpecFault}
+use Rattle.settings_reader.specs.declared.fault.SettingsFault.{SettingsFault}
 use Rattle.recipe_reader.specs.declared.fault.RecipeFault.{RecipeFault}
-use Rattle.report_texts.specs.FaultTexts.{spec_fault_text, recipe_fault_text}
+use Rattle.report_texts.specs.FaultTexts.{spec_fault_text, settings_fault_text, recipe_fault_text}
 use Rattle.report_texts.specs.Lines.{line}
 use Rattle.run_answers.specs.declared.refusal.NotBuilt.{NotBuilt}
 use Rattle.run_answers.specs.declared.refusal.NotBuilt.TheVariants as forms
@@ -15,6 +16,8 @@ abbrev pub status_of : Refusal → Status
 status_of refusals.Usage = statuses.Usage
 status_of (refusals.NotBuilt what) = statuses.BadInput
 status_of (refusals.MissingInput path) = statuses.BadInput
+status_of refusals.SettingsTooLarge = statuses.TooLarge
+status_of (refusals.BadSettings fault) = statuses.BadInput
 status_of refusals.TooManyRecipes = statuses.TooLarge
 status_of (refusals.RecipeTooLarge name) = statuses.TooLarge
 status_of refusals.RecipesTooLarge = statuses.TooLarge
@@ -26,6 +29,9 @@ status_of (refusals.UnknownRoot name) = statuses.BadInput
 
 unfoldable pub missing_line : List ℕ → List ℕ
 missing_line path = line (codes "bad input: missing " ∷ path ∷ [])
+
+unfoldable pub bad_settings_line : SettingsFault → List ℕ
+bad_settings_line fault = line (codes "bad input: settings: " ∷ settings_fault_text fault ∷ [])
 
 unfoldable pub bad_recipe_line : List ℕ → RecipeFault → List ℕ
 bad_recipe_line name fault = line (codes "bad input: recipe " ∷ name ∷ codes ": " ∷ recipe_fault_text fault ∷ [])
@@ -54,6 +60,8 @@ unfoldable pub line_of : Refusal → List ℕ
 line_of refusals.Usage = line (codes "usage: spack_concretize COMMAND ARGUMENT..." ∷ [])
 line_of (refusals.NotBuilt what) = not_built_line what
 line_of (refusals.MissingInput path) = missing_line path
+line_of refusals.SettingsTooLarge = line (codes "too large: settings" ∷ [])
+line_of (refusals.BadSettings fault) = bad_settings_line fault
 line_of refusals.TooManyRecipes = line (codes "too large: recipes" ∷ [])
 line_of (refusals.RecipeTooLarge name) = too_large_line name
 line_of refusals.RecipesTooLarge = line (codes "too large: recipe bytes" ∷ [])

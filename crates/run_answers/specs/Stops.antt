@@ -20,18 +20,6 @@ Gives (Err (reads.Refused refusal)) Reads = Reads (Err refusal)
 Gives (Err (reads.Fault path)) Reads = Unit {0}
 Gives (Err reads.NoMemory) Reads = Unit {0}
 
--- reading gives nothing but what the call returned
-abbrev pub GivesOnly : {T : Type 0} → Result T ReadStop → Result T Refusal → Type 0
-GivesOnly (Ok x) read = read ≡ Ok x
-GivesOnly (Err (reads.Refused refusal)) read = read ≡ Err refusal
-GivesOnly (Err (reads.Fault path)) read = Unit {0}
-GivesOnly (Err reads.NoMemory) read = Unit {0}
-
--- a device fails only while the file at the path is read
-abbrev pub FailsAt : {T : Type 0} → List ℕ → Result T ReadStop → Type 0
-FailsAt path (Err (reads.Fault at)) = at ≡ path
-FailsAt path other = Unit {0}
-
 -- a reading that a device made fail
 abbrev pub EndsInReadFault : {T : Type 0} → Result T ReadStop → Type 0
 EndsInReadFault (Err (reads.Fault path)) = Unit {0}

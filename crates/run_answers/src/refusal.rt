@@ -8,7 +8,8 @@ ghost use Rattle.run_answers.specs.Refusals as lines;
 use crate::status::Status;
 use plain_data::Word;
 use recipe_reader::RecipeFault;
-use report_texts::{recipe_fault_text, spec_fault_text};
+use report_texts::{recipe_fault_text, settings_fault_text, spec_fault_text};
+use settings_reader::SettingsFault;
 use spec_grammar::SpecFault;
 use std::alloc::{AllocError, Global};
 
@@ -31,6 +32,10 @@ pub enum Refusal {
     NotBuilt(NotBuilt),
     /// There is no file or folder at the path, which is to be read.
     MissingInput(Word),
+    /// The settings are longer than 16 MiB.
+    SettingsTooLarge,
+    /// The settings have the fault.
+    BadSettings(SettingsFault),
     /// There are more than 16,384 recipes.
     TooManyRecipes,
     /// The recipe of the package with the name is longer than 1 MiB.
@@ -57,10 +62,12 @@ impl Refusal {
             Refusal::Usage => Status::Usage,
             Refusal::NotBuilt(_)
             | Refusal::MissingInput(_)
+            | Refusal::BadSettings(_)
             | Refusal::BadRecipe(_, _)
             | Refusal::BadSpecs(_)
             | Refusal::UnknownRoot(_) => Status::BadInput,
-            Refusal::TooManyRecipes
+            Refusal::SettingsTooLarge
+            | Refusal::TooManyRecipes
             | Refusal::RecipeTooLarge(_)
             | Refusal::RecipesTooLarge
             | Refusal::SpecsTooLarge
@@ -77,6 +84,8 @@ impl Refusal {
             Refusal::Usage => { format!(in alloc; "usage: spack_concretize COMMAND ARGUMENT...\n") }
             Refusal::NotBuilt(what) => not_built_line(alloc, what),
             Refusal::MissingInput(path) => missing_line(alloc, path.as_str()),
+            Refusal::SettingsTooLarge => format!(in alloc; "too large: settings\n"),
+            Refusal::BadSettings(fault) => bad_settings_line(alloc, fault),
             Refusal::TooManyRecipes => format!(in alloc; "too large: recipes\n"),
             Refusal::RecipeTooLarge(name) => too_large_line(alloc, name.as_str()),
             Refusal::RecipesTooLarge => format!(in alloc; "too large: recipe bytes\n"),
@@ -114,6 +123,14 @@ fn missing_line(alloc: Global, path: &str) -> Result<String, AllocError>
     ensures { IfOk result (λ line. string_bytes line ≡ lines.missing_line path.now) }
 {
     format!(in alloc; "bad input: missing {path}\n")
+}
+
+#[tactic(auto, unfolding(crate::specs::Refusals::bad_settings_line))]
+fn bad_settings_line(alloc: Global, fault: &SettingsFault) -> Result<String, AllocError>
+    ensures { IfOk result (λ line. string_bytes line ≡ lines.bad_settings_line fault.now) }
+{
+    let fault = settings_fault_text(alloc, fault)?;
+    format!(in alloc; "bad input: settings: {fault}\n")
 }
 
 #[tactic(auto, unfolding(crate::specs::Refusals::bad_recipe_line))]

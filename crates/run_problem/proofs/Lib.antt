@@ -1,2 +1,5 @@
 pub mod Asked
 pub mod Files
+pub mod Inputs
+pub mod Named
+pub mod Staged

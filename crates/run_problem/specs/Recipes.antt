@@ -1,13 +1,12 @@
--- The recipes of a repository, or the refusal that is due first.
+-- The recipes of files, or the refusal that is due first.
 use Rattle.std.specs.Prelude.{ℕ, List, [], ◌∷◌, Result, Ok, Err}
-use Rattle.outside_desk.specs.Files.{Files}
 use Rattle.conditions.specs.declared.recipe.Recipe.{Recipe}
 use Rattle.recipe_reader.specs.Recipes.{recipe_of}
 use Rattle.recipe_reader.specs.declared.fault.RecipeFault.{RecipeFault}
 use Rattle.run_answers.specs.Stages.{◌>>=◌}
 use Rattle.run_answers.specs.declared.refusal.Refusal.{Refusal}
 use Rattle.run_answers.specs.declared.refusal.Refusal.TheVariants as refusals
-use Rattle.recipe_files.specs.Sources.{Source, pile_of}
+use Rattle.recipe_files.specs.Sources.{Source}
 
 abbrev pub or_bad : List ℕ → Result Recipe RecipeFault → Result Recipe Refusal
 or_bad name (Ok recipe) = Ok recipe
@@ -24,9 +23,3 @@ recipes_of (source ∷ sources) = do
   recipe ← recipe_in source
   recipes ← recipes_of sources
   Ok (recipe ∷ recipes)
-
--- the recipes of the repository: all files are read before any is parsed
-unfoldable pub recipes_at : Files → List ℕ → Result (List Recipe) Refusal
-recipes_at files repo = do
-  pile ← pile_of files repo
-  recipes_of pile.files

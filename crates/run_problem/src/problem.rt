@@ -1,22 +1,20 @@
-//! What a run reads.
+//! The problem of a package that is wanted.
 
-ghost use Rattle.std.specs.Prelude.{◌≡◌, map, IfOk, IfSome, MatchOption, Ok};
-ghost use Rattle.std.specs.List.{list_all};
+ghost use Rattle.std.specs.Prelude.{◌≡◌, map, option_map, IfOk};
+ghost use Rattle.std.specs.List.{find, list_all};
+ghost use Rattle.std.specs.Str.{bytes_eq};
 ghost use Rattle.std.specs.Option.{option_copied};
-ghost use Rattle.outside_desk.specs.Causes.{Counts};
 ghost use Rattle.run_answers.specs.Stages.{Is};
 ghost use Rattle.run_answers.specs.Stops.{Gives, EndsInReadFault, EndsInUsage};
-ghost use Rattle.recipe_files.specs.Paths.{FailsInside};
-ghost use Rattle.run_problem.specs.Wants.{Wants};
-ghost use Rattle.run_problem.specs.Problems.{recipe_named, is_plain_row, is_plain, declared_by, problem_by, Named};
+ghost use Rattle.recipe_files.specs.Sources.{source_of};
+ghost use Rattle.run_problem.specs.Problems.{recipe_named, source_named, directives_at, is_count, is_plain_row, is_plain, declared_by, problem_by};
 
-use crate::recipes::read_repository;
-use crate::wanted::{Wanted, read_wanted};
+use crate::wanted::Wanted;
 use conditions::{Recipe, VersionRow};
-use outside_desk::Desk;
+use directive_count::count_directives;
 use plain_data::{Duplicate, List};
+use recipe_reader::RecipeFile;
 use run_answers::{NotBuilt, ReadStop, Refusal};
-use run_words::Command;
 use std::alloc::{AllocError, Global};
 use version_order::Version;
 
@@ -44,17 +42,51 @@ fn are_plain(rows: &[VersionRow]) -> bool
     rows.iter().all(|row| !(row.preferred || row.deprecated))
 }
 
-/// Whether a recipe declares nothing but such versions.
-#[tactic(auto, unfolding(crate::specs::Problems::is_plain))]
-fn is_plain(recipe: &Recipe) -> bool
-    ensures { result ≡ is_plain recipe.now }
+fn first_named<'a>(files: &'a [RecipeFile], name: &str) -> Option<&'a RecipeFile>
+    ensures { option_copied result ≡ find (λ file. bytes_eq file.name name.now) files.now }
 {
-    recipe.variants.as_slice().is_empty()
-        && recipe.depends.as_slice().is_empty()
-        && recipe.provides.as_slice().is_empty()
-        && recipe.conflicts.as_slice().is_empty()
-        && recipe.requirements.as_slice().is_empty()
-        && are_plain(recipe.versions.as_slice())
+    files.iter().find(|file| file.name.as_str() == name)
+}
+
+/// The file of a package.
+fn file_named<'a>(files: &'a [RecipeFile], name: &str) -> Option<&'a RecipeFile>
+    ensures { option_map source_of (option_copied result) ≡ source_named (map source_of files.now) name.now }
+{
+    first_named(files, name)
+}
+
+/// How many directives the file of a package has.
+#[tactic(auto, unfolding(crate::specs::Problems::directives_at))]
+fn directives_at(
+    alloc: Global,
+    files: &[RecipeFile],
+    name: &str,
+) -> Result<Option<u64>, AllocError>
+    ensures { IfOk result (λ count. count ≡ directives_at (map source_of files.now) name.now) }
+{
+    match file_named(files, name) {
+        Some(file) => count_directives(alloc, file.bytes.as_slice()),
+        None => Ok(None),
+    }
+}
+
+fn is_count(number: u64, count: Option<u64>) -> bool
+    ensures { result ≡ is_count number count }
+{
+    match count {
+        Some(count) => count == number,
+        None => false,
+    }
+}
+
+/// Whether the file of a recipe has no directive but such versions.
+#[tactic(auto, unfolding(crate::specs::Problems::is_plain))]
+fn is_plain(alloc: Global, files: &[RecipeFile], recipe: &Recipe) -> Result<bool, AllocError>
+    ensures { IfOk result (λ plain. plain ≡ is_plain (map source_of files.now) recipe.now) }
+{
+    let versions = recipe.versions.as_slice();
+    let count = directives_at(alloc, files, recipe.name.as_str())?;
+    Ok(is_count(versions.len() as u64, count) && are_plain(versions))
 }
 
 /// The versions that a recipe declares.
@@ -69,10 +101,15 @@ fn declared_by(alloc: Global, recipe: &Recipe) -> Result<List<Version>, AllocErr
     Ok(versions)
 }
 
-/// The problem of a package that is wanted, over recipes.
+/// The problem of a package that is wanted, over recipes and their files.
 #[tactic(auto, unfolding(crate::specs::Problems::problem_by))]
-fn problem_by(alloc: Global, recipes: &[Recipe], wanted: Wanted) -> Result<Problem, ReadStop>
-    ensures read { Gives result (Is (problem_by recipes.now wanted)) }
+pub fn problem_by(
+    alloc: Global,
+    files: &[RecipeFile],
+    recipes: &[Recipe],
+    wanted: Wanted,
+) -> Result<Problem, ReadStop>
+    ensures read { Gives result (Is (problem_by (map source_of files.now) recipes.now wanted)) }
     ensures wanted { IfOk result (λ problem. problem.wanted ≡ wanted) }
     ensures no_usage { EndsInUsage result → ⊥ }
     ensures no_fault { EndsInReadFault result → ⊥ }
@@ -80,28 +117,9 @@ fn problem_by(alloc: Global, recipes: &[Recipe], wanted: Wanted) -> Result<Probl
     let Some(recipe) = recipe_named(recipes, wanted.name.as_str()) else {
         return Err(ReadStop::Refused(Refusal::UnknownRoot(wanted.name)));
     };
-    if !is_plain(recipe) {
+    if !is_plain(alloc, files, recipe)? {
         return Err(ReadStop::Refused(Refusal::NotBuilt(NotBuilt::Recipe(wanted.name))));
     }
     let declared = declared_by(alloc, recipe)?;
     Ok(Problem { wanted, declared })
-}
-
-/// The problem that a command names over the desk's files.
-pub fn read_problem<D: Desk>(
-    alloc: Global,
-    desk: &mut D,
-    command: &Command<'_>,
-) -> Result<Problem, ReadStop>
-    ensures read { IfSome (D.files desk.old) (λ files. Gives result (Named files command.now)) }
-    ensures wanted { IfOk result (λ problem. Wants command.now.spec (Ok problem.wanted)) }
-    ensures path { FailsInside command.now.repo result }
-    ensures no_usage { EndsInUsage result → ⊥ }
-    ensures same { D.files desk.new ≡ D.files desk.old }
-    ensures cause { Counts (D.faults desk.old) (D.faults desk.new) (EndsInReadFault result) }
-    ensures put_faults { D.put_faults desk.new ≡ D.put_faults desk.old }
-{
-    let recipes = read_repository(alloc, desk, command.repo)?;
-    let wanted = read_wanted(alloc, command.spec.as_str())?;
-    problem_by(alloc, recipes.as_slice(), wanted)
 }

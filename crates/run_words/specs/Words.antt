@@ -21,6 +21,10 @@ is_blank text = list_all is_white text
 unfoldable pub is_same : List ℕ → List ℕ → Bool
 is_same a b = bytes_eq a b
 
+-- `-` is no path
+unfoldable pub is_dash : List ℕ → Bool
+is_dash path = bytes_eq path (codes "-")
+
 -- the words behind `concretize`, of which those of the spec are joined
 pub record Command : Type 0 where
   pub repo : List ℕ
@@ -32,7 +36,7 @@ pub record Command : Type 0 where
 
 -- whether the words, of which there are enough, are no `concretize` command
 abbrev pub is_wrong : List ℕ → Command → Bool
-is_wrong verb c = not (is_same verb (codes "concretize")) || is_same c.lock (codes "-") || is_same c.lock c.cert || is_blank c.spec
+is_wrong verb c = not (is_same verb (codes "concretize")) || is_dash c.lock || is_same c.lock c.cert || is_blank c.spec
 
 abbrev pub unless_wrong : List ℕ → Command → Option Command
 unless_wrong verb c = if is_wrong verb c then None else Some c

@@ -2,7 +2,7 @@
 
 ghost use Rattle.std.specs.Prelude.{◌≡◌, ◌∷◌, ◌++◌, IfOk};
 ghost use Rattle.std.specs.String.{string_bytes};
-ghost use Rattle.run_words.specs.Words.{words_of, joined_words, command_of, is_blank, is_same};
+ghost use Rattle.run_words.specs.Words.{words_of, joined_words, command_of, is_blank, is_same, is_dash};
 
 use spec_grammar::is_white;
 use std::alloc::{AllocError, Global};
@@ -47,12 +47,19 @@ fn is_blank(text: &[u8]) -> bool
     text.iter().all(|b| is_white(*b))
 }
 
-/// Whether two texts are the same.
 #[tactic(auto, unfolding(crate::specs::Words::is_same))]
-pub fn is_same(a: &str, b: &str) -> bool
+fn is_same(a: &str, b: &str) -> bool
     ensures { result ≡ is_same a.now b.now }
 {
     a == b
+}
+
+/// Whether a path is written `-`, which stands for none.
+#[tactic(auto, unfolding(crate::specs::Words::is_dash))]
+pub fn is_dash(path: &str) -> bool
+    ensures { result ≡ is_dash path.now }
+{
+    path == "-"
 }
 
 /// The command that the words are; `None` where they are none.
@@ -67,7 +74,7 @@ pub fn read_command<'a>(
     };
     let spec = join_words(alloc, first.as_str(), more)?;
     if !is_same(verb.as_str(), "concretize")
-        || is_same(lock.as_str(), "-")
+        || is_dash(lock.as_str())
         || is_same(lock.as_str(), cert.as_str())
         || is_blank(spec.as_bytes())
     {

@@ -1,7 +1,7 @@
 //! The words of a command line.
 //!
-//! What it is: `read_order`, the command that the words are.
-//! What it promises: exactly the command, or the refusal that the words alone are due, in its order.
+//! What it is: `read_order`, the command that the words are, and `not_built`, what of it is not built yet.
+//! What it promises: exactly the command, or that the words are none.
 //! What it stands on: `run_answers` for refusals.
 //! What it must not know: files, and what stands in the text of the specs.
 #![tactic(auto)]
@@ -9,5 +9,5 @@
 mod command;
 mod order;
 
-pub use command::Command;
-pub use order::read_order;
+pub use command::{Command, is_dash};
+pub use order::{not_built, read_order};

@@ -1,4 +1,4 @@
-//! The command that the words are, if it is built so far.
+//! The command that the words are, and what of it is not built yet.
 
 ghost use Rattle.std.specs.Prelude.{◌≡◌, None, IfOk};
 ghost use Rattle.run_answers.specs.Stages.{Is};
@@ -6,19 +6,19 @@ ghost use Rattle.run_answers.specs.Stops.{Gives, EndsInReadFault, EndsInUsage};
 ghost use Rattle.run_words.specs.Words.{words_of, command_of, lock_path};
 ghost use Rattle.run_words.specs.Orders.{not_built_of, order_of};
 
-use crate::command::{Command, is_same, read_command};
+use crate::command::{Command, is_dash, read_command};
 use run_answers::{NotBuilt, ReadStop, Refusal};
 use std::alloc::Global;
 
 /// The first form of the command that is not built yet.
-fn not_built(command: &Command<'_>) -> Option<NotBuilt>
+pub fn not_built(command: &Command<'_>) -> Option<NotBuilt>
     ensures { result ≡ not_built_of command.now }
 {
-    if !is_same(command.settings, "-") {
+    if !is_dash(command.settings) {
         Some(NotBuilt::Settings)
-    } else if !is_same(command.database, "-") {
+    } else if !is_dash(command.database) {
         Some(NotBuilt::Database)
-    } else if !is_same(command.cert, "-") {
+    } else if !is_dash(command.cert) {
         Some(NotBuilt::Certificate)
     } else {
         None
@@ -36,8 +36,5 @@ pub fn read_order<'a>(alloc: Global, words: &'a [String]) -> Result<Command<'a>,
     let Some(command) = read_command(alloc, words)? else {
         return Err(ReadStop::Refused(Refusal::Usage));
     };
-    if let Some(what) = not_built(&command) {
-        return Err(ReadStop::Refused(Refusal::NotBuilt(what)));
-    }
     Ok(command)
 }

@@ -1,6 +1,4 @@
-use Rattle.spec_grammar.specs.declared.mode.Mode.TheVariants.{Specs}
 use Rattle.run_words.specs.Words.{words_of}
-use Rattle.run_problem.proofs.Asked.{ReadsOnce}
 use Rattle.concretizer.proofs.Ends.{reports_words, refused, settles, due, written}
 use Rattle.concretizer.proofs.top.run.Goals as goal
 
@@ -21,20 +19,16 @@ returns-in-Err-clause-refused g c = λ refuses.
 
 pub returns-in-Err-clause-complete : goal.returns-in-Err-clause-complete
 returns-in-Err-clause-complete g c =
-    let laws : ReadsOnce = record { reading = c.reading_laws.ensures.one_reading Specs; refusal = c.reading_laws.ensures.one_fault Specs; right = c.reading_laws.ensures.right Specs } in
-    settles laws _ (words_of c.args.words.now) c.in-Err.stop _ (_, _) (_, _) (_, _) (_, _) (_, _) (_, _) _ c.in-Err.ensures.outcome (record { read = c.in-Err.ensures.read; put = c.in-Err.ensures.put; said = c.in-Err.ensures.said }) c.report.ensures.reports
+    settles c.problem_laws.ensures.one _ (words_of c.args.words.now) c.in-Err.stop _ (_, _) (_, _) (_, _) (_, _) (_, _) (_, _) _ c.in-Err.ensures.outcome (record { read = c.in-Err.ensures.read; put = c.in-Err.ensures.put; said = c.in-Err.ensures.said }) c.report.ensures.reports
 
 pub returns-in-Err-clause-due : goal.returns-in-Err-clause-due
 returns-in-Err-clause-due g c =
-    let laws : ReadsOnce = record { reading = c.reading_laws.ensures.one_reading Specs; refusal = c.reading_laws.ensures.one_fault Specs; right = c.reading_laws.ensures.right Specs } in
-    due laws _ (words_of c.args.words.now) c.in-Err.stop _ (_, _) (_, _) (_, _) (_, _) (_, _) (_, _) _ c.in-Err.ensures.outcome (record { read = c.in-Err.ensures.read; put = c.in-Err.ensures.put; said = c.in-Err.ensures.said }) c.report.ensures.reports
+    due c.problem_laws.ensures.one _ (words_of c.args.words.now) c.in-Err.stop _ (_, _) (_, _) (_, _) (_, _) (_, _) (_, _) _ c.in-Err.ensures.outcome (record { read = c.in-Err.ensures.read; put = c.in-Err.ensures.put; said = c.in-Err.ensures.said }) c.report.ensures.reports
 
 pub returns-in-Ok-Solved-clause-due : goal.returns-in-Ok-Solved-clause-due
 returns-in-Ok-Solved-clause-due g c =
-    let laws : ReadsOnce = record { reading = c.reading_laws.ensures.one_reading Specs; refusal = c.reading_laws.ensures.one_fault Specs; right = c.reading_laws.ensures.right Specs } in
-    written laws _ (words_of c.args.words.now) _ _ (_, _) (_, _) (_, _) (_, _) (_, _) _ c.in-Ok-Solved.ensures.outcome
+    written c.problem_laws.ensures.one _ (words_of c.args.words.now) _ _ (_, _) (_, _) (_, _) (_, _) (_, _) _ c.in-Ok-Solved.ensures.outcome
 
 pub returns-in-Ok-Unsolved-clause-due : goal.returns-in-Ok-Unsolved-clause-due
 returns-in-Ok-Unsolved-clause-due g c =
-    let laws : ReadsOnce = record { reading = c.reading_laws.ensures.one_reading Specs; refusal = c.reading_laws.ensures.one_fault Specs; right = c.reading_laws.ensures.right Specs } in
-    written laws _ (words_of c.args.words.now) _ _ (_, _) (_, _) (_, _) (_, _) (_, _) _ c.in-Ok-Unsolved.ensures.outcome
+    written c.problem_laws.ensures.one _ (words_of c.args.words.now) _ _ (_, _) (_, _) (_, _) (_, _) (_, _) _ c.in-Ok-Unsolved.ensures.outcome

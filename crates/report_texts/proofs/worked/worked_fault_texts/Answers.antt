@@ -1,6 +1,6 @@
 use Rattle.std.proofs.Common.{refl}
 use Rattle.std.specs.Fmt.{digits}
-use Rattle.report_texts.specs.FaultTexts.{spec_fault_text, lex_fault_text, recipe_fault_text}
+use Rattle.report_texts.specs.FaultTexts.{spec_fault_text, target_fault_text, settings_fault_text, lex_fault_text, recipe_fault_text}
 use Rattle.report_texts.proofs.worked.worked_fault_texts.Goals as goal
 
 pub returns-clause-expected : goal.returns-clause-expected
@@ -26,3 +26,15 @@ returns-clause-inner c = refl
 pub returns-clause-class : goal.returns-clause-class
 unfolding digits spec_fault_text lex_fault_text recipe_fault_text
 returns-clause-class c = refl
+
+pub returns-clause-key : goal.returns-clause-key
+unfolding settings_fault_text
+returns-clause-key c = refl
+
+pub returns-clause-targets : goal.returns-clause-targets
+unfolding digits settings_fault_text target_fault_text
+returns-clause-targets c = refl
+
+pub returns-clause-text : goal.returns-clause-text
+unfolding digits settings_fault_text spec_fault_text
+returns-clause-text c = refl

@@ -1,0 +1,75 @@
+//! The reading of settings.
+
+ghost use Rattle.std.specs.Prelude.{◌≡◌, false, IfSome};
+ghost use Rattle.outside_desk.specs.Causes.{Counts};
+ghost use Rattle.run_answers.specs.Stops.{Gives, EndsInReadFault, EndsInUsage};
+ghost use Rattle.run_words.specs.Words.{is_dash};
+ghost use Rattle.run_settings.specs.Sites.{bytes_at, GivesBytes, SettingsIn, SettingsAt, FailsThere};
+
+use outside_desk::{Desk, ReadFault, read_whole};
+use plain_data::Word;
+use run_answers::{ReadStop, Refusal};
+use run_words::is_dash;
+use settings_reader::{SettingsFault, read_settings};
+use site_settings::Settings;
+use std::alloc::Global;
+
+/// The most bytes of a file of settings: 16 MiB.
+const SETTINGS_LIMIT: u64 = 1 << 24;
+
+/// The bytes of the file at a path.
+#[tactic(auto, unfolding(crate::specs::Sites::bytes_at))]
+fn read_bytes<D: Desk>(alloc: Global, desk: &mut D, path: &str) -> Result<Vec<u8>, ReadStop>
+    requires { is_dash path.now ≡ false }
+    ensures read { IfSome (D.files desk.old) (λ files. GivesBytes (bytes_at files path.now) result) }
+    ensures path { FailsThere path.now result }
+    ensures no_usage { EndsInUsage result → ⊥ }
+    ensures same { D.files desk.new ≡ D.files desk.old }
+    ensures cause { Counts (D.faults desk.old) (D.faults desk.new) (EndsInReadFault result) }
+    ensures put_faults { D.put_faults desk.new ≡ D.put_faults desk.old }
+{
+    match read_whole(alloc, desk, path, SETTINGS_LIMIT) {
+        Ok(bytes) => Ok(bytes),
+        Err(ReadFault::TooLong) => Err(ReadStop::Refused(Refusal::SettingsTooLarge)),
+        Err(ReadFault::Missing) => {
+            let path = Word::new(alloc, path)?;
+            Err(ReadStop::Refused(Refusal::MissingInput(path)))
+        }
+        Err(ReadFault::Failed) => Err(ReadStop::Fault(Word::new(alloc, path)?)),
+        Err(ReadFault::OutOfMemory) => Err(ReadStop::NoMemory),
+    }
+}
+
+/// The settings that the bytes of a file say.
+fn settings_in(alloc: Global, bytes: &[u8]) -> Result<Settings, ReadStop>
+    ensures read { Gives result (SettingsIn bytes.now) }
+    ensures no_usage { EndsInUsage result → ⊥ }
+    ensures no_fault { EndsInReadFault result → ⊥ }
+{
+    match read_settings(alloc, bytes) {
+        Ok(settings) => Ok(settings),
+        Err(SettingsFault::OutOfMemory) => Err(ReadStop::NoMemory),
+        Err(fault) => Err(ReadStop::Refused(Refusal::BadSettings(fault))),
+    }
+}
+
+/// The settings that a path names: those of the file there, or the standard ones where the path is `-`.
+///
+/// # Errors
+///
+/// `MissingInput` where there is no such file, `SettingsTooLarge` beyond 16 MiB, `BadSettings` with the first
+/// fault of the text. `Fault` where the desk failed, with the path.
+pub fn read_site<D: Desk>(alloc: Global, desk: &mut D, path: &str) -> Result<Settings, ReadStop>
+    ensures read { IfSome (D.files desk.old) (λ files. Gives result (SettingsAt files path.now)) }
+    ensures path { FailsThere path.now result }
+    ensures no_usage { EndsInUsage result → ⊥ }
+    ensures same { D.files desk.new ≡ D.files desk.old }
+    ensures cause { Counts (D.faults desk.old) (D.faults desk.new) (EndsInReadFault result) }
+    ensures put_faults { D.put_faults desk.new ≡ D.put_faults desk.old }
+{
+    if is_dash(path) {
+        return Ok(Settings::standard(alloc)?);
+    }
+    let bytes = read_bytes(alloc, desk, path)?;
+    settings_in(alloc, bytes.as_slice())
+}
