@@ -22,6 +22,26 @@ made() { # FILE: a file of the program, from the standard input
     cat >"$work/crates/clause_load/$1"
 }
 
+invariant() { # FUNCTION LOOP FACT MODULE.NAME..: what holds at each turn of a loop
+    local function="$1" loop="$2" fact="$3" word
+    shift 3
+    {
+        for word in "$@"; do
+            case "${word%%.*}" in
+                Common) echo "use Rattle.std.proofs.Common.{${word#*.}}" ;;
+                List) echo "use Rattle.std.specs.List.{${word#*.}}" ;;
+                Lits) echo "use Rattle.clause_store.specs.Lits.{${word#*.}}" ;;
+                Trees) echo "use Rattle.clause_circuits.specs.Trees.{${word#*.}}" ;;
+                *) echo "use Rattle.criteria_totals.specs.${word%%.*}.{${word#*.}}" ;;
+            esac
+        done
+        echo "use Rattle.clause_load.proofs.${function//\//.}.Given as goal"
+        echo
+        echo "abbrev pub invariant-loop-$loop : goal.invariant-loop-$loop"
+        echo "invariant-loop-$loop l = $fact"
+    } | made "proofs/$function/Invariants.antt"
+}
+
 if [ -z "${PROGRAM:-}" ]; then
     cp "$top/HANDLES" "$work/"
     mkdir -p "$work/crates"
@@ -357,66 +377,20 @@ fn later_of(parent: u64, step: u64, numbers: u64) -> u64
 PART
     made specs/Lib.antt </dev/null
     made proofs/Lib.antt </dev/null
-    made proofs/loads/all_below/Invariants.antt <<'PART'
-use Rattle.std.proofs.Common.{drop}
-use Rattle.criteria_totals.specs.Totals.{AllTermsBelow}
-use Rattle.clause_load.proofs.loads.all_below.Given as goal
-
-abbrev pub invariant-loop-terms : goal.invariant-loop-terms
-invariant-loop-terms l = AllTermsBelow l.vars (drop l.terms-index l.lists) → AllTermsBelow l.vars l.lists
-PART
-    made proofs/loads/all_small/Invariants.antt <<'PART'
-use Rattle.std.proofs.Common.{drop}
-use Rattle.criteria_totals.specs.Totals.{tops}
-use Rattle.criteria_totals.specs.Spellings.{AllSmall}
-use Rattle.clause_load.proofs.loads.all_small.Given as goal
-
-abbrev pub invariant-loop-terms : goal.invariant-loop-terms
-invariant-loop-terms l = AllSmall (tops (drop l.terms-index l.lists)) → AllSmall (tops l.lists)
-PART
-    made proofs/loads/are_below/Invariants.antt <<'PART'
-use Rattle.std.proofs.Common.{drop}
-use Rattle.clause_circuits.specs.Trees.{TermsBelow}
-use Rattle.clause_load.proofs.loads.are_below.Given as goal
-
-abbrev pub invariant-loop-term : goal.invariant-loop-term
-invariant-loop-term l = TermsBelow l.vars (drop l.term-index l.terms) → TermsBelow l.vars l.terms
-PART
-    made proofs/loads/are_small/Invariants.antt <<'PART'
-use Rattle.std.proofs.Common.{◌≡◌, ◌+◌, ◌^◌, drop}
-use Rattle.clause_circuits.specs.Trees.{total}
-use Rattle.clause_load.proofs.loads.are_small.Given as goal
-
-abbrev pub invariant-loop-term : goal.invariant-loop-term
-invariant-loop-term l = l.left + total l.terms + 1 ≡ 2 ^ 63 + total (drop l.term-index l.terms)
-PART
-    made proofs/networks/arcs_of/Invariants.antt <<'PART'
-use Rattle.std.proofs.Common.{◌<◌}
-use Rattle.std.specs.List.{All}
-use Rattle.clause_store.specs.Lits.{var_of}
-use Rattle.clause_load.proofs.networks.arcs_of.Given as goal
-
-abbrev pub invariant-loop-k : goal.invariant-loop-k
-invariant-loop-k l = All (λ a. (a.parent < l.numbers) × (a.child < l.numbers)) l.arcs.items × All (λ a. var_of a.lit < l.vars) l.arcs.items
-PART
-    made proofs/networks/asked_of/Invariants.antt <<'PART'
-use Rattle.std.proofs.Common.{◌<◌}
-use Rattle.std.specs.List.{All}
-use Rattle.clause_store.specs.Lits.{var_of}
-use Rattle.clause_load.proofs.networks.asked_of.Given as goal
-
-abbrev pub invariant-loop-k : goal.invariant-loop-k
-invariant-loop-k l = All (λ pair. (pair.0 < l.numbers) × (pair.1 < l.numbers)) l.pairs.items
-PART
-    made proofs/networks/nodes_of/Invariants.antt <<'PART'
-use Rattle.std.proofs.Common.{◌<◌}
-use Rattle.std.specs.List.{All}
-use Rattle.clause_store.specs.Lits.{var_of}
-use Rattle.clause_load.proofs.networks.nodes_of.Given as goal
-
-abbrev pub invariant-loop-i : goal.invariant-loop-i
-invariant-loop-i l = All (λ x. var_of x < l.vars) l.nodes.items
-PART
+    invariant loads/all_below terms 'AllTermsBelow l.vars (drop l.terms-index l.lists) → AllTermsBelow l.vars l.lists' \
+        Common.drop Totals.AllTermsBelow
+    invariant loads/all_small terms 'AllSmall (tops (drop l.terms-index l.lists)) → AllSmall (tops l.lists)' \
+        Common.drop Totals.tops Spellings.AllSmall
+    invariant loads/are_below term 'TermsBelow l.vars (drop l.term-index l.terms) → TermsBelow l.vars l.terms' \
+        Common.drop Trees.TermsBelow
+    invariant loads/are_small term 'l.left + total l.terms + 1 ≡ 2 ^ 63 + total (drop l.term-index l.terms)' \
+        Common.◌≡◌ Common.◌+◌ Common.◌^◌ Common.drop Trees.total
+    invariant networks/arcs_of k \
+        'All (λ a. (a.parent < l.numbers) × (a.child < l.numbers)) l.arcs.items × All (λ a. var_of a.lit < l.vars) l.arcs.items' \
+        Common.◌'<'◌ List.All Lits.var_of
+    invariant networks/asked_of k 'All (λ pair. (pair.0 < l.numbers) × (pair.1 < l.numbers)) l.pairs.items' \
+        Common.◌'<'◌ List.All
+    invariant networks/nodes_of i 'All (λ x. var_of x < l.vars) l.nodes.items' Common.◌'<'◌ List.All Lits.var_of
     (cd "$work/crates/clause_load" && "$rt" run </dev/null) >"$work/log" 2>&1 || { tail -20 "$work/log" >&2; exit 1; }
     PROGRAM="$work/crates/clause_load/out/clause_load"
 fi

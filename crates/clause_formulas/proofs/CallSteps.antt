@@ -14,7 +14,7 @@ use Rattle.gate_plans.specs.Growth.{Says, where_asked}
 use Rattle.clause_formulas.specs.Values.{DefinesValue, DefinesValues}
 use Rattle.gate_plans.specs.Gates.{labelled, option_list, kept_clauses}
 use Rattle.clause_formulas.specs.Built.{Grown, or_on}
-use Rattle.clause_formulas.specs.Built.{spread_on, named_on, define_on, literal_on, define_all_on, with_draft, assert_on, demand_on, demand_all_on, demands_true}
+use Rattle.clause_formulas.specs.Built.{spread_on, ask_on, named_on, define_on, literal_on, define_all_on, with_draft, assert_on, demand_on, demand_all_on, demands_true}
 use Rattle.clause_formulas.proofs.Laws.{define_is, literal_is, define_all_is, assert_is, demand_is, demand_all_is}
 
 -- a draft's clause
@@ -63,9 +63,9 @@ pub define_all_at : (s t : Clauses) (fs : List Statement) (ds : List Defined) �
 define_all_at s t fs ds b q = let P : Grown (List Defined) → Type 0 = λ m. DefinesValues s m.list m.answer fs in subst P q (define_all_is s fs b)
 
 -- clauses that make a formula true
-pub assert-any : (s t u : Clauses) (label : Label) (d e : Draft) (fs : List Statement) → d ≡ empty → spread_on s d (any_of fs) ≡ record { list = t; answer = e } → u ≡ with_draft t label e → assert_on label s true (any_of fs) ≡ u
-assert-any s t u label d e [] q r p = ap (λ (m : Grown Draft). with_draft m.list label m.answer) (ap (λ k. spread_on s k never) (sym q) ∙ r) ∙ sym p
-assert-any s t u label d e (f ∷ fs) q r p = ap (λ (m : Grown Draft). with_draft m.list label m.answer) (ap (λ k. spread_on s k (or f (any_of fs))) (sym q) ∙ r) ∙ sym p
+pub assert-any : (s t u : Clauses) (label : Label) (d e : Draft) (fs : List Statement) → d ≡ empty → ask_on s d (any_of fs) ≡ record { list = t; answer = e } → u ≡ with_draft t label e → assert_on label s true (any_of fs) ≡ u
+assert-any s t u label d e [] q r p = ap (λ (m : Grown Draft). with_draft m.list label m.answer) (ap (λ k. ask_on s k never) (sym q) ∙ r) ∙ sym p
+assert-any s t u label d e (f ∷ fs) q r p = ap (λ (m : Grown Draft). with_draft m.list label m.answer) (ap (λ k. ask_on s k (or f (any_of fs))) (sym q) ∙ r) ∙ sym p
 
 pub assert-more : (s t : Clauses) (label : Label) (sign : Bool) (f : Statement) → SaidBelow s.vars f → assert_on label s sign f ≡ t → s.vars ≤ t.vars
 assert-more s t label sign f b q = subst (λ u. s.vars ≤ u.vars) q (assert_is label f sign s b).grows.more

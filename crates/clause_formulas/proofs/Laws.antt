@@ -21,6 +21,8 @@ use Rattle.gate_plans.proofs.Composed.{Grows-from, since-from, Says-then, Says-a
 use Rattle.clause_formulas.proofs.ValueLaws.{Means-later, Means-earlier}
 use Rattle.clause_formulas.proofs.ValueLaws.{or_is}
 use Rattle.clause_formulas.proofs.DraftLaws.{eval-agree, SaidBelow-le, or-false, or-assoc, with_defined-true, with_defined-below, reverse-true, reverse-below}
+use Rattle.clause_formulas.proofs.SpreadLaws.{Spreads, spread_is, named_is, same_value, draft_says, or-true}
+use Rattle.clause_formulas.proofs.AskLaws.{asked_says}
 
 -- definitions one after the other
 MeanEach-later : (a b c : Clauses) (ds : List Defined) (fs : List Statement) → Grows a b → Grows b c → MeanEach b c ds fs → MeanEach a c ds fs
@@ -28,67 +30,6 @@ MeanEach-later a b c [] [] g h m = tt
 MeanEach-later a b c [] (f ∷ fs) g h m = elim m [ ]
 MeanEach-later a b c (d ∷ ds) [] g h m = elim m [ ]
 MeanEach-later a b c (d ∷ ds) (f ∷ fs) g h m = (Means-earlier a b c d (λ v. eval v f) g h m.0, MeanEach-later a b c ds fs g h m.1)
-
-DefinesValue-as : (s t : Clauses) (x : Defined) (f g : (ℕ → Bool) → Bool) → DefinesValue s t x f → ((v : ℕ → Bool) → f v ≡ g v) → DefinesValue s t x g
-DefinesValue-as s t x f g d e = record {
-  defines = d.defines;
-  means = record { below = d.means.below; value = λ asked v m. d.means.value asked v m ∙ e v };
-}
-
-same_value : (s : Clauses) (x : Defined) (f : (ℕ → Bool) → Bool) → DefinedBelow s.vars x → ((v : ℕ → Bool) → defined_true v x ≡ f v) → DefinesValue s s x f
-same_value s x f b e = record { defines = Defines-refl s; means = record { below = b; value = λ asked v m. e v } }
-
-by_clause_is : (s : Clauses) (ls : List Lit) (o : Option (List Lit)) → AllBelow s.vars ls → clause_of ls ≡ o → DefinesValue s (by_clause s o).list (by_clause s o).answer (λ v. clause_true v ls)
-by_clause_is s ls None b e = same_value s (Known true) (λ v. clause_true v ls) tt (λ v. sym (clause_of-None v ls e))
-by_clause_is s ls (Some []) b e = same_value s (Known false) (λ v. clause_true v ls) tt (λ v. clause_of-Some v ls [] e)
-by_clause_is s ls (Some (l ∷ [])) b e =
-    same_value s (By l) (λ v. clause_true v ls) (AllBelow-clause_of s.vars ls (l ∷ []) b e).0 (λ v. sym (or-false (lit_true v l)) ∙ clause_of-Some v ls (l ∷ []) e)
-by_clause_is s ls (Some (l ∷ k ∷ c)) b e =
-    DefinesValue-as s _ _ (λ v. clause_true v (l ∷ k ∷ c)) (λ v. clause_true v ls) (or_is s (l ∷ k ∷ c) (AllBelow-clause_of s.vars ls (l ∷ k ∷ c) b e)) (λ v. clause_of-Some v ls (l ∷ k ∷ c) e)
-
-named_parts : (s : Clauses) (ls : List Lit) (always : Bool) → AllBelow s.vars ls → DefinesValue s (named_on s (record { lits = ls; always = always })).list (named_on s (record { lits = ls; always = always })).answer (λ v. always || clause_true v ls)
-unfolding named_on
-named_parts s ls true b = same_value s (Known true) (λ v. true) tt (λ v. refl)
-named_parts s ls false b = by_clause_is s ls (clause_of ls) b refl
-
-pub named_is : (s : Clauses) (d : Draft) → AllBelow s.vars d.lits → DefinesValue s (named_on s d).list (named_on s d).answer (λ v. draft_true v d)
-named_is s d b = named_parts s d.lits d.always b
-
--- a draft got the literals that make a formula true
-pub record Spreads (s : Clauses) (d : Draft) (t : Clauses) (e : Draft) (f : Statement) : Type 0 where
-  pub defines : Defines s t
-  pub below : AllBelow t.vars e.lits
-  pub says : (asked v : ℕ → Bool) → MeetsSince asked v s t → draft_true v e ≡ (draft_true v d || eval v f)
-
-Spreads-or : (s t u : Clauses) (d e k : Draft) (f g : Statement) → Spreads s d t e f → Spreads t e u k g → Spreads s d u k (or f g)
-Spreads-or s t u d e k f g a b = record {
-  defines = Defines-trans s t u a.defines b.defines;
-  below = b.below;
-  says = λ asked v m.
-      let p = MeetsSince-parts asked v s t u a.defines.says.grows b.defines.says.grows m in
-      b.says asked v p.1 ∙ ap (λ x. x || eval v g) (a.says asked v p.0) ∙ or-assoc (draft_true v d) (eval v f) (eval v g);
-}
-
-Spreads-no : (s t u : Clauses) (d e : Draft) (x : Defined) (f : Statement) → AllBelow s.vars d.lits → Spreads s empty t e f → DefinesValue t u x (λ v. draft_true v e) → Spreads s d u (with_defined d (reverse_of x)) (no f)
-Spreads-no s t u d e x f h a b = record {
-  defines = Defines-trans s t u a.defines b.defines;
-  below = with_defined-below u.vars d (reverse_of x) (AllBelow-le s.vars u.vars d.lits (omega (arith, a.defines.says.grows.more, b.defines.says.grows.more)) h) (reverse-below u.vars x b.means.below);
-  says = λ asked v m.
-      let p = MeetsSince-parts asked v s t u a.defines.says.grows b.defines.says.grows m in
-      with_defined-true v d (reverse_of x) ∙ ap (λ y. draft_true v d || y) (reverse-true v x ∙ ap not (b.means.value asked v p.1 ∙ a.says asked v p.0));
-}
-
-pub spread_is : (f : Statement) (s : Clauses) (d : Draft) → AllBelow s.vars d.lits → SaidBelow s.vars f → Spreads s d (spread_on s d f).list (spread_on s d f).answer f
-spread_is (atom l) s d h b = record { defines = Defines-refl s; below = with_defined-below s.vars d (By l) h b; says = λ asked v m. with_defined-true v d (By l) }
-spread_is never s d h b = record { defines = Defines-refl s; below = h; says = λ asked v m. sym (or-false (draft_true v d)) }
-spread_is (or f g) s d h b =
-    let m = spread_on s d f in
-    let x = spread_is f s d h b.0 in
-    Spreads-or s m.list _ d m.answer _ f g x (spread_is g m.list m.answer x.below (SaidBelow-le s.vars m.list.vars g x.defines.says.grows.more b.1))
-spread_is (no f) s d h b =
-    let m = spread_on s empty f in
-    let x = spread_is f s empty tt b in
-    Spreads-no s m.list _ d m.answer _ f h x (named_is m.list m.answer x.below)
 
 gate-join : (s t u : Clauses) (e : Draft) (x : Defined) (f : Statement) → Spreads s empty t e f → DefinesValue t u x (λ v. draft_true v e) → DefinesValue s u x (λ v. eval v f)
 gate-join s t u e x f a b = record {
@@ -108,25 +49,6 @@ define_is s f b =
     let m = spread_on s empty f in
     let x = spread_is f s empty tt b in
     gate-join s m.list _ m.answer _ f x (named_is m.list m.answer x.below)
-
-kept_says : (s : Clauses) (label : Label) (ls : List Lit) → AllBelow s.vars ls → Says s (with_kept s label ls) (where_asked label (λ v. clause_true v ls))
-kept_says s label ls b = record {
-  grows = Grows-from s (with_kept s label ls) (map (labelled label) (kept_clauses ls)) refl (omega arith) (labelled-in_range s.vars label (kept_clauses ls) (kept-below s.vars ls b));
-  only = λ asked v m. kept-true asked v label ls (rw (since-from s (with_kept s label ls) (map (labelled label) (kept_clauses ls)) refl) at m);
-  each = λ asked v h. (v, (λ k l. refl), rw (since-from s (with_kept s label ls) (map (labelled label) (kept_clauses ls)) refl) (true-kept asked v label ls h));
-}
-
-or-true : (a : Bool) → (a || true) ≡ true
-or-true true = refl
-or-true false = refl
-
-draft_parts : (s : Clauses) (label : Label) (ls : List Lit) (always : Bool) → AllBelow s.vars ls → Says s (with_draft s label (record { lits = ls; always = always })) (where_asked label (λ v. always || clause_true v ls))
-unfolding with_draft
-draft_parts s label ls true b = Says-as s s (λ asked v. true) (where_asked label (λ v. true)) (Extends-refl s) (λ asked v. sym (or-true (not (counts asked label))))
-draft_parts s label ls false b = kept_says s label ls b
-
-pub draft_says : (s : Clauses) (label : Label) (d : Draft) → AllBelow s.vars d.lits → Says s (with_draft s label d) (where_asked label (λ v. draft_true v d))
-draft_says s label d b = draft_parts s label d.lits d.always b
 
 -- a rule over what a definition made
 Says-defined : (s t u : Clauses) (label : Label) (p : (ℕ → Bool) → Bool) (f : Statement) → SaidBelow s.vars f → Extends s t → ((asked v : ℕ → Bool) → MeetsSince asked v s t → p v ≡ eval v f) → Says t u (where_asked label p) → Says s u (where_asked label (λ v. eval v f))
@@ -169,9 +91,7 @@ assert_is label (atom l) false s b = Says-as s _ _ _ (draft_says s label (with_d
 assert_is label never true s b = draft_says s label empty tt
 assert_is label never false s b = Says-as s s (λ asked v. true) _ (Extends-refl s) (λ asked v. sym (or-true (not (counts asked label))))
 assert_is label (or f g) true s b =
-    let m = spread_on s empty (or f g) in
-    let x = spread_is (or f g) s empty tt b in
-    Says-defined s m.list _ label (λ v. draft_true v m.answer) (or f g) b x.defines.says x.says (draft_says m.list label m.answer x.below)
+    asked_says s label (or f g) b
 assert_is label (or f g) false s b =
     let t = assert_on label s false f in
     let x = assert_is label f false s b.0 in

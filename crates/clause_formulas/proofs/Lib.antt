@@ -1,5 +1,7 @@
 pub mod DraftLaws
 pub mod ValueLaws
+pub mod SpreadLaws
+pub mod AskLaws
 pub mod Laws
 pub mod SpreadSteps
 pub mod CallSteps

@@ -10,7 +10,7 @@ use Rattle.clause_formulas.specs.declared.defined.Defined.TheVariants.{Known, By
 use Rattle.clause_formulas.specs.Statements.{Statement, atom, never, or, no, eval}
 use Rattle.clause_formulas.specs.Drafts.{Draft, empty, with_defined, reverse_of}
 use Rattle.gate_plans.specs.Gates.{kept_clauses, labelled, lit_of, with_gates}
-use Rattle.gate_plans.specs.Shapes.{any_of as some_of}
+use Rattle.gate_plans.specs.Shapes.{any_of as some_of, with_cover}
 
 -- a longer list, and what was answered
 pub record Grown (A : Type 0) : Type 0 where
@@ -48,6 +48,30 @@ spread_on s d (no f) =
     let n = named_on m.list m.answer in
     record { list = n.list; answer = with_defined d (reverse_of n.answer) }
 
+-- a literal that is true where some literal is, and may be true elsewhere
+unfoldable pub cover_on : Clauses → List Lit → Grown Lit
+cover_on s ls = record { list = with_cover s ls; answer = lit_of s.vars }
+
+abbrev pub by_cover : Clauses → Option (List Lit) → Grown Defined
+by_cover s None = record { list = s; answer = Known true }
+by_cover s (Some []) = record { list = s; answer = Known false }
+by_cover s (Some (l ∷ [])) = record { list = s; answer = By l }
+by_cover s (Some (l ∷ k ∷ c)) = by_gate (cover_on s (l ∷ k ∷ c))
+
+-- a value that is true where a draft is, and may be true elsewhere
+unfoldable pub covered_on : Clauses → Draft → Grown Defined
+covered_on s d = if d.always then record { list = s; answer = Known true } else by_cover s (clause_of d.lits)
+
+-- a draft with literals of which none is true unless a formula is: of what stands under the other sign, one side is enough
+abbrev pub ask_on : Clauses → Draft → Statement → Grown Draft
+ask_on s d (atom l) = record { list = s; answer = with_defined d (By l) }
+ask_on s d never = record { list = s; answer = d }
+ask_on s d (or f g) = let m = ask_on s d f in ask_on m.list m.answer g
+ask_on s d (no f) =
+    let m = spread_on s empty f in
+    let n = covered_on m.list m.answer in
+    record { list = n.list; answer = with_defined d (reverse_of n.answer) }
+
 unfoldable pub define_on : Clauses → Statement → Grown Defined
 define_on s f = let m = spread_on s empty f in named_on m.list m.answer
 
@@ -67,7 +91,7 @@ assert_on label s false never = s
 assert_on label s false (or f g) = assert_on label (assert_on label s false f) false g
 assert_on label s true (atom l) = with_draft s label (with_defined empty (By l))
 assert_on label s true never = with_draft s label empty
-assert_on label s true (or f g) = let m = spread_on s empty (or f g) in with_draft m.list label m.answer
+assert_on label s true (or f g) = let m = ask_on s empty (or f g) in with_draft m.list label m.answer
 
 -- a formula's value, and the clause of this value alone
 unfoldable pub demand_on : Clauses → Statement → ℕ → Clauses

@@ -1,7 +1,7 @@
 -- What a longer list of clauses says of values.
-use Rattle.std.specs.Prelude.{◌≡◌, ℕ, Bool, List, [], ◌∷◌}
+use Rattle.std.specs.Prelude.{◌≡◌, ℕ, Bool, true, List, [], ◌∷◌}
 use Rattle.clause_store.specs.Clauses.{Clauses}
-use Rattle.gate_plans.specs.Growth.{MeetsSince, Defines}
+use Rattle.gate_plans.specs.Growth.{Agree, Grows, MeetsSince, Defines}
 use Rattle.clause_formulas.specs.declared.defined.Defined.{Defined}
 use Rattle.clause_formulas.specs.Statements.{Statement, eval}
 use Rattle.clause_formulas.specs.Drafts.{defined_true, DefinedBelow}
@@ -27,3 +27,11 @@ MeanEach old new (d ∷ ds) (f ∷ fs) = Means old new d (λ v. eval v f) × Mea
 pub record DefinesValues (old new : Clauses) (ds : List Defined) (fs : List Statement) : Type 0 where
   pub defines : Defines old new
   pub means : MeanEach old new ds fs
+
+-- a value is true wherever a fact of the assignment holds; each assignment of the old variables extends to one where it is true
+-- nowhere else
+pub record CoversValue (old new : Clauses) (d : Defined) (f : (ℕ → Bool) → Bool) : Type 0 where
+  pub grows : Grows old new
+  pub below : DefinedBelow new.vars d
+  pub covers : (asked v : ℕ → Bool) → MeetsSince asked v old new → f v ≡ true → defined_true v d ≡ true
+  pub each : (asked v : ℕ → Bool) → (w : ℕ → Bool) × Agree old.vars v w × MeetsSince asked w old new × (defined_true w d ≡ f w)

@@ -6,9 +6,9 @@ ghost use Rattle.gate_plans.specs.Growth.{Says, where_asked};
 ghost use Rattle.clause_formulas.specs.Statements.{SaidBelow, any_of, eval};
 ghost use Rattle.clause_formulas.specs.Built.{with_draft, assert_on, demand_on, demand_all_on, demands_true};
 
+use crate::asked::ask_any;
 use crate::defined::{Defined, Draft};
 use crate::formula::{Formula, Node};
-use crate::spread::spread_any;
 use crate::values::define;
 use clause_store::{Clause, ClauseList, Label};
 use std::alloc::{AllocError, Global};
@@ -101,7 +101,7 @@ fn claim_any(
 {
     if sign {
         let mut draft = Draft::new(alloc);
-        spread_any(alloc, clauses, &mut draft, parts)?;
+        ask_any(alloc, clauses, &mut draft, parts)?;
         return add_draft(alloc, clauses, &draft, label);
     }
     for part in parts {

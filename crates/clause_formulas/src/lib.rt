@@ -7,6 +7,7 @@
 //! `gate_plans`, whose words of growth it takes over. It must not know what literals mean.
 #![tactic(auto)]
 
+mod asked;
 mod claims;
 mod defined;
 mod formula;

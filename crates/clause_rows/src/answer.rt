@@ -34,8 +34,10 @@ pub fn text_of(
     }
     let vars = format!(in alloc; "; {} ; ", clauses.vars())?;
     text.push_str(vars.as_str())?;
-    for entry in clauses.entries() {
-        push_entry(alloc, &mut text, entry)?;
+    for place in 0..clauses.len() {
+        if let Some(entry) = clauses.entry(alloc, place + 1)? {
+            push_entry(alloc, &mut text, &entry)?;
+        }
     }
     Ok(text)
 }

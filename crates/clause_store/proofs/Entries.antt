@@ -1,7 +1,9 @@
 -- What an assignment meets, entry by entry.
-use Rattle.std.proofs.Common.{◌≡◌, ◌↔◌, zero, suc, Some, None, ap, ℕ, Bool, true, List, [], ◌∷◌, ◌++◌, refl, sym}
+use Rattle.std.proofs.Common.{◌≡◌, ◌↔◌, zero, suc, ◌<◌, ◌≤◌, Option, Some, None, ap, ℕ, Bool, true, List, [], ◌∷◌, ◌++◌, length, refl, sym, arith}
 use Rattle.std.specs.Prelude.{slice_get}
+use Rattle.std.specs.Option.{option_map}
 use Rattle.std.proofs.lemmas.Option.{same_Some, none-some}
+use Rattle.clause_store.specs.declared.Lit.{Lit}
 use Rattle.clause_store.specs.declared.Label.{Label}
 use Rattle.clause_store.specs.declared.Label.TheVariants.{Structure, Demand}
 use Rattle.clause_store.specs.declared.list.Entry.{Entry}
@@ -48,4 +50,39 @@ at_id-no_clause es (suc k) q = go es k q
     go : (es : List Entry) (k : ℕ) → slice_get es k ≡ None → slice_get (clauses_of es) k ≡ None
     go [] k q = refl
     go (x ∷ es) zero q = absurd (none-some x (sym q))
+    go (x ∷ es) (suc k) q = go es k q
+
+pub at_id-beyond : (es : List Entry) (id : ℕ) → length es < id → at_id es id ≡ None
+at_id-beyond es zero h = refl
+at_id-beyond es (suc k) h = go es k (omega (arith, h))
+  where
+    go : (es : List Entry) (k : ℕ) → length es ≤ k → slice_get es k ≡ None
+    go [] k h = refl
+    go (x ∷ es) zero h = absurd (omega (arith, h))
+    go (x ∷ es) (suc k) h = go es k (omega (arith, h))
+
+-- a clause and a label of one id are its entry
+pub at_id-both : (es : List Entry) (id : ℕ) (c : List Lit) (l : Label) → at_id (clauses_of es) id ≡ Some c → option_map (λ (e : Entry). e.label) (at_id es id) ≡ Some l → at_id es id ≡ Some (record { clause = c; label = l })
+at_id-both es zero c l p q = absurd (none-some c p)
+at_id-both es (suc k) c l p q = go es k p q
+  where
+    go : (es : List Entry) (k : ℕ) → slice_get (clauses_of es) k ≡ Some c → option_map (λ (e : Entry). e.label) (slice_get es k) ≡ Some l → slice_get es k ≡ Some (record { clause = c; label = l })
+    go [] k p q = absurd (none-some c p)
+    go (x ∷ es) zero p q = rw (← same_Some x.clause c p, ← same_Some x.label l q) refl
+    go (x ∷ es) (suc k) p q = go es k p q
+
+pub at_id-no_label : (es : List Entry) (id : ℕ) → option_map (λ (e : Entry). e.label) (at_id es id) ≡ None → at_id es id ≡ None
+at_id-no_label es id q = go (at_id es id) q
+  where
+    go : (o : Option Entry) → option_map (λ (e : Entry). e.label) o ≡ None → o ≡ None
+    go None q = refl
+    go (Some e) q = absurd (none-some e.label (sym q))
+
+pub at_id-no_entry : (es : List Entry) (id : ℕ) → at_id (clauses_of es) id ≡ None → at_id es id ≡ None
+at_id-no_entry es zero q = refl
+at_id-no_entry es (suc k) q = go es k q
+  where
+    go : (es : List Entry) (k : ℕ) → slice_get (clauses_of es) k ≡ None → slice_get es k ≡ None
+    go [] k q = refl
+    go (x ∷ es) zero q = absurd (none-some x.clause (sym q))
     go (x ∷ es) (suc k) q = go es k q

@@ -4,3 +4,5 @@ pub mod Range
 pub mod Sets
 pub mod Meaning
 pub mod Entries
+pub mod Kept
+pub mod Labels

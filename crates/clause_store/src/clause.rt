@@ -1,8 +1,10 @@
 //! A clause: literals in order of variables, each variable once.
 ghost use Rattle.std.specs.Prelude.{◌≡◌, List, [], ◌∷◌, IfOk, IsTrue, Some, None, false};
 ghost use Rattle.clause_store.specs.Lits.{place_of, with_lit, clause_of, IsClause};
+ghost use Rattle.clause_store.specs.Kept.{lits_of_codes};
 
 use crate::Lit;
+use crate::codes::lit_of_code;
 use smallvec::SmallVec;
 use std::alloc::{AllocError, Global};
 use std::marker::Model;
@@ -61,6 +63,15 @@ impl Clause {
         Ok(Clause { lits })
     }
 
+    /// The clause with these codes.
+    pub(crate) fn of_codes(alloc: Global, codes: &[u64]) -> Result<Clause, AllocError>
+        requires { IsClause (lits_of_codes codes.now) }
+        ensures { IfOk result (λ clause. clause ≡ lits_of_codes codes.now) }
+    {
+        let lits = decoded(alloc, codes)?;
+        Ok(Clause { lits })
+    }
+
     /// The literals, in order of variables.
     pub fn lits(&self) -> &[Lit]
         ensures value { result.now ≡ self.now }
@@ -68,6 +79,17 @@ impl Clause {
     {
         self.lits.as_slice()
     }
+}
+
+// The literals with these codes.
+fn decoded(alloc: Global, codes: &[u64]) -> Result<SmallVec<Lit, 4>, AllocError>
+    ensures { IfOk result (λ lits. lits.items ≡ lits_of_codes codes.now) }
+{
+    let mut lits = SmallVec::new(alloc);
+    for code in codes {
+        lits.push(lit_of_code(*code))?;
+    }
+    Ok(lits)
 }
 
 // The first place whose variable is not below the literal's.

@@ -1,10 +1,13 @@
 //! A growing list of labelled clauses.
-ghost use Rattle.std.specs.Prelude.{◌≡◌, ◌^◌, ◌<◌, [], Some, None, length, IfOk, OnOk, OnErr, IfSome, IfNone};
+ghost use Rattle.std.specs.Prelude.{◌≡◌, ◌+◌, ◌^◌, ◌<◌, ◌≤◌, [], Some, None, length, slice_range, IfOk, OnOk, OnErr, IfSome, IfNone};
 ghost use Rattle.std.specs.Option.{option_map};
-ghost use Rattle.clause_store.specs.Lits.{AllBelow};
+ghost use Rattle.clause_store.specs.Lits.{AllBelow, IsClause};
 ghost use Rattle.clause_store.specs.Clauses.{with_var, with_clause, clauses_of, at_id, AllInRange};
+ghost use Rattle.clause_store.specs.Kept.{IsCut, start_of, part_of, lits_of_codes};
 
 use crate::clause::Clause;
+use crate::codes::{push_codes, push_within};
+use crate::demands::{Demanded, label_at, note};
 use crate::{Label, Var};
 use std::alloc::{AllocError, Global};
 use std::marker::Model;
@@ -19,23 +22,29 @@ pub struct Entry {
 /// Labelled clauses with ids from 1, over the variables made so far.
 ///
 /// It only grows: `new_var` and `add` come in any order, and no clause is taken back or changed.
+/// A clause takes eight bytes, and eight for each literal.
 #[derive(Debug, Drop)]
 pub struct ClauseList {
-    // The clauses, in order of ids.
-    entries: Vec<Entry>,
+    // The literals as numbers, clause after clause in order of ids.
+    codes: Vec<u64>,
+    // Where the literals of each clause end.
+    ends: Vec<usize>,
+    // The clauses that are not of the structure, in the same order.
+    demands: Vec<Demanded>,
     // One element for each variable: places in a kept list never overflow.
     made: Vec<bool>,
 }
 
 impl Model for ClauseList {
-    ghost use Rattle.clause_store.specs.Clauses.{Clauses, AllInRange};
+    ghost use Rattle.clause_store.specs.Clauses.{Clauses};
+    ghost use Rattle.clause_store.specs.Kept.{entries_of, IsKept};
     ghost use Rattle.std.specs.Prelude.{vec_len};
 
     ghost Value = { Clauses };
 
-    ghost view = { λ a. record { entries = a.entries.items; vars = vec_len a.made } };
+    ghost view = { λ a. record { entries = entries_of a.demands.items a.codes.items a.ends.items; vars = vec_len a.made } };
 
-    ghost invariant = { λ a. AllInRange (vec_len a.made) a.entries.items };
+    ghost invariant = { λ a. IsKept (vec_len a.made) a.demands.items a.codes.items a.ends.items };
 }
 
 impl ClauseList {
@@ -44,7 +53,9 @@ impl ClauseList {
         ensures { result ≡ record { entries = []; vars = 0 } }
     {
         ClauseList {
-            entries: Vec::new(alloc),
+            codes: Vec::new(alloc),
+            ends: Vec::new(alloc),
+            demands: Vec::new(alloc),
             made: Vec::new(alloc),
         }
     }
@@ -61,22 +72,29 @@ impl ClauseList {
     }
 
     /// One more clause over the variables made so far; its id is the new length. After an error
-    /// the list is as it was. The clause is moved and not copied.
+    /// the list is as it was.
     pub fn add(&mut self, clause: Clause, label: Label) -> Result<u64, AllocError>
         requires { AllBelow self.old.vars clause }
         ensures id { IfOk result (λ id. id ≡ length self.new.entries) }
         ensures ok { OnOk result (self.new ≡ with_clause self.old clause label) }
         ensures err { OnErr result (self.new ≡ self.old) }
     {
-        self.entries.push(Entry { clause, label })?;
-        Ok(self.entries.len() as u64)
+        let lits = clause.lits();
+        // What may fail comes first.
+        self.codes.reserve(lits.len())?;
+        self.ends.reserve(1)?;
+        note(&mut self.demands, self.ends.len(), label)?;
+        push_codes(&mut self.codes, lits);
+        let end = self.codes.len();
+        push_within(&mut self.ends, end);
+        Ok(self.ends.len() as u64)
     }
 
     /// How many clauses there are: the last id.
     pub fn len(&self) -> u64
         ensures { result ≡ length self.now.entries }
     {
-        self.entries.len() as u64
+        self.ends.len() as u64
     }
 
     /// How many variables there are: those below it. Clauses are over these alone.
@@ -88,22 +106,13 @@ impl ClauseList {
         self.made.len() as u64
     }
 
-    /// The clauses with their labels, in order of ids.
-    pub fn entries(&self) -> &[Entry]
-        ensures value { result.now ≡ self.now.entries }
-        ensures in_range { AllInRange self.now.vars self.now.entries }
+    /// A copy of the clause with this id: None where the id is 0 or above `len`.
+    pub fn get(&self, alloc: Global, id: u64) -> Result<Option<Clause>, AllocError>
+        ensures { IfOk result (λ clause. clause ≡ at_id (clauses_of self.now.entries) id) }
     {
-        self.entries.as_slice()
-    }
-
-    /// The clause with this id: None where the id is 0 or above `len`.
-    pub fn get(&self, id: u64) -> Option<&Clause>
-        ensures some { IfSome result (λ c. at_id (clauses_of self.now.entries) id ≡ Some c.now) }
-        ensures none { IfNone result (at_id (clauses_of self.now.entries) id ≡ None) }
-    {
-        match self.entry(id) {
-            Some(entry) => Some(&entry.clause),
-            None => None,
+        match self.codes(id) {
+            Some(codes) => Ok(Some(Clause::of_codes(alloc, codes)?)),
+            None => Ok(None),
         }
     }
 
@@ -111,17 +120,73 @@ impl ClauseList {
     pub fn label(&self, id: u64) -> Option<Label>
         ensures { result ≡ option_map (λ e. e.label) (at_id self.now.entries id) }
     {
-        Some(self.entry(id)?.label)
+        match self.place(id) {
+            Some(place) => Some(label_at(self.demands.as_slice(), place)),
+            None => None,
+        }
     }
 
-    // The entry with this id.
-    fn entry(&self, id: u64) -> Option<&Entry>
-        ensures some { IfSome result (λ e. at_id self.now.entries id ≡ Some e.now) }
+    /// A copy of the clause with this id, and its label: None where the id is 0 or above `len`.
+    pub fn entry(&self, alloc: Global, id: u64) -> Result<Option<Entry>, AllocError>
+        ensures { IfOk result (λ entry. entry ≡ at_id self.now.entries id) }
+    {
+        let Some(label) = self.label(id) else {
+            return Ok(None);
+        };
+        match self.get(alloc, id)? {
+            Some(clause) => Ok(Some(Entry { clause, label })),
+            None => Ok(None),
+        }
+    }
+
+    // The literals of the clause with this id.
+    fn codes(&self, id: u64) -> Option<&[u64]>
+        ensures some { IfSome result (λ codes. at_id (clauses_of self.now.entries) id ≡ Some (lits_of_codes codes.now)) }
+        ensures in_order { IfSome result (λ codes. IsClause (lits_of_codes codes.now)) }
+        ensures none { IfNone result (at_id (clauses_of self.now.entries) id ≡ None) }
+    {
+        match self.place(id) {
+            Some(place) => Some(part(self.codes.as_slice(), self.ends.as_slice(), place)),
+            None => None,
+        }
+    }
+
+    // The place of the clause with this id.
+    fn place(&self, id: u64) -> Option<usize>
+        ensures some { IfSome result (λ place. (id ≡ place + 1) × (place < length self.now.entries)) }
         ensures none { IfNone result (at_id self.now.entries id ≡ None) }
     {
         if id == 0 {
             return None;
         }
-        self.entries.get(id as usize - 1)
+        if id > self.len() {
+            return None;
+        }
+        Some(id as usize - 1)
     }
+}
+
+// The codes of the clause at a place.
+fn part<'a>(codes: &'a [u64], ends: &[usize], place: usize) -> &'a [u64]
+    requires cut { IsCut 0 ends.now (length codes.now) }
+    requires place { place < length ends.now }
+    ensures { result.now ≡ part_of codes.now ends.now place }
+{
+    between(codes, start_of(ends, place), ends[place])
+}
+
+fn between(codes: &[u64], start: usize, end: usize) -> &[u64]
+    requires order { start ≤ end }
+    requires within { end ≤ length codes.now }
+    ensures { result.now ≡ slice_range codes.now start end }
+{
+    &codes[start..end]
+}
+
+// Where the clause at a place begins.
+fn start_of(ends: &[usize], place: usize) -> usize
+    requires { place < length ends.now }
+    ensures { result ≡ start_of 0 ends.now place }
+{
+    if place == 0 { 0 } else { ends[place - 1] }
 }

@@ -65,8 +65,11 @@ impl Watch {
             trail,
             alloc,
         };
-        for entry in list.entries() {
-            watch.add(&entry.clause)?;
+        for place in 0..list.len() {
+            match list.get(alloc, place + 1)? {
+                Some(clause) => watch.add(&clause)?,
+                None => {}
+            }
         }
         Ok(watch)
     }

@@ -65,7 +65,7 @@ MeetsSince-parts asked v a b c g h m = Meets-parts asked v (since a b) (since b 
 pub MeetsSince-join : (asked v : ℕ → Bool) (a b c : Clauses) → Grows a b → Grows b c → MeetsSince asked v a b → MeetsSince asked v b c → MeetsSince asked v a c
 MeetsSince-join asked v a b c g h m n = rw (since-parts a b c g h) (Meets-append asked v (since a b) (since b c) m n)
 
-Agree-trans : (m n : ℕ) (u v w : ℕ → Bool) → m ≤ n → Agree m u v → Agree n v w → Agree m u w
+pub Agree-trans : (m n : ℕ) (u v w : ℕ → Bool) → m ≤ n → Agree m u v → Agree n v w → Agree m u w
 Agree-trans m n u v w h a b k l = a k l ∙ b k (omega arith)
 
 -- two rules one after the other, where the second speaks of what the first defined

@@ -5,3 +5,4 @@ pub mod StepLaws
 pub mod ShapeLaws
 pub mod Loops
 pub mod OneGate
+pub mod Cover

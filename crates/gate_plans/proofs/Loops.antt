@@ -8,6 +8,8 @@ use Rattle.clause_store.specs.declared.Label.TheVariants.{Structure}
 use Rattle.clause_store.proofs.Entries.{Meets-parts}
 use Rattle.gate_plans.specs.Growth.{Grows, Extends, Defines}
 use Rattle.gate_plans.specs.Gates.{Sides, Planned, kept_clauses, clauses_from, headed, labelled, with_defined, with_gates, Partial, InOrder, IsSound, AllClausesBelow, gate_rules, lit_of}
+use Rattle.gate_plans.specs.Shapes.{any_of, cover_rules}
+use Rattle.clause_store.specs.Lits.{negation}
 use Rattle.gate_plans.proofs.KeptClauses.{labelled-in_range, AllClausesBelow-take}
 use Rattle.gate_plans.proofs.Composed.{since, since-from, whole, Grows-from, Grows-trans}
 use Rattle.gate_plans.proofs.Plans.{step-below, gates-grow, plan_defines}
@@ -88,3 +90,8 @@ module _ (p : Planned) (s : Clauses) (gs : List Sides) (sound : IsSound p) (firs
 
 pub rules-at : (cs : List (List Lit)) (x y : Lit) (g h : Sides) → cs ≡ clauses_from (gate_rules x g) → x ≡ y → g ≡ h → cs ≡ clauses_from (gate_rules y h)
 rules-at cs x y g h e f k = e ∙ rw (f, k) refl
+
+-- one side of the gate for some literal, and the other
+pub any-rules : (x y : Lit) (ls : List Lit) (cs ds : List (List Lit)) → cs ≡ clauses_from (cover_rules x ls) → y ≡ negation x → ds ≡ cs ++ kept_clauses (y ∷ ls) → ds ≡ clauses_from (gate_rules x (any_of ls))
+any-rules x y ls cs ds e f g =
+    g ∙ rw (e, f) (sym (clauses_from-append (cover_rules x ls) ((negation x ∷ ls) ∷ []) ∙ ap (λ es. clauses_from (cover_rules x ls) ++ es) (append-nil (kept_clauses (negation x ∷ ls)))))

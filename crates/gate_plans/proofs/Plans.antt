@@ -25,7 +25,7 @@ rules_true-append v (c ∷ cs) ds = rw (rules_true-append v cs ds) (and-turn (cl
     and-turn true b c = refl
     and-turn false b c = refl
 
-headed-true : (v : ℕ → Bool) (x : Lit) (cs : List (List Lit)) → rules_true v (headed x cs) ≡ (lit_true v x || rules_true v cs)
+pub headed-true : (v : ℕ → Bool) (x : Lit) (cs : List (List Lit)) → rules_true v (headed x cs) ≡ (lit_true v x || rules_true v cs)
 headed-true v x [] = sym (or-true (lit_true v x))
   where
     or-true : (a : Bool) → (a || true) ≡ true

@@ -40,6 +40,14 @@ pub record DefinesLit (old new : Clauses) (l : Lit) (f : (ℕ → Bool) → Bool
   pub below : var_of l < new.vars
   pub means : (asked v : ℕ → Bool) → MeetsSince asked v old new → lit_true v l ≡ f v
 
+-- the new list has a literal that is true wherever a fact of the assignment holds; each assignment of the old variables extends to
+-- one where it is true nowhere else
+pub record CoversLit (old new : Clauses) (l : Lit) (f : (ℕ → Bool) → Bool) : Type 0 where
+  pub grows : Grows old new
+  pub below : var_of l < new.vars
+  pub covers : (asked v : ℕ → Bool) → MeetsSince asked v old new → f v ≡ true → lit_true v l ≡ true
+  pub each : (asked v : ℕ → Bool) → (w : ℕ → Bool) × Agree old.vars v w × MeetsSince asked w old new × (lit_true w l ≡ f w)
+
 -- a rule for the clauses with a label: it holds where they are asked for
 abbrev pub where_asked : Label → ((ℕ → Bool) → Bool) → (ℕ → Bool) → (ℕ → Bool) → Bool
 where_asked label f asked v = not (counts asked label) || f v

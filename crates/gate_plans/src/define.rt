@@ -1,12 +1,12 @@
 //! The clauses of a plan, and of one gate.
 ghost use Rattle.std.specs.Prelude.{◌≡◌, ◌+◌, [], ◌∷◌, IfOk, OnOk};
 ghost use Rattle.clause_store.specs.Lits.{AllBelow, clause_true};
-ghost use Rattle.gate_plans.specs.Growth.{Extends, DefinesLit};
+ghost use Rattle.gate_plans.specs.Growth.{Extends, DefinesLit, CoversLit};
 ghost use Rattle.gate_plans.specs.Gates.{AllClausesBelow, with_defined, Partial, lit_of, with_gates, IsSound};
-ghost use Rattle.gate_plans.specs.Shapes.{any_of};
+ghost use Rattle.gate_plans.specs.Shapes.{any_of, with_cover};
 
 use crate::plan::Plan;
-use crate::rules::{rules_of, rules_of_any};
+use crate::rules::{rules_of, rules_of_any, rules_of_cover};
 use clause_store::{Clause, ClauseList, Label, Lit, Var};
 use std::alloc::{AllocError, Global};
 
@@ -36,6 +36,26 @@ pub fn define_any(alloc: Global, clauses: &mut ClauseList, lits: &[Lit]) -> Resu
 {
     let lit = next_lit(clauses);
     let rules = rules_of_any(alloc, lit, lits)?;
+    define(clauses, rules)?;
+    Ok(lit)
+}
+
+/// A literal that is true where some literal of the list is, and may be true elsewhere: one side of
+/// `define_any`, for where its being false is all that counts. After want of memory the list may
+/// have grown by some of its clauses.
+pub fn define_cover(
+    alloc: Global,
+    clauses: &mut ClauseList,
+    lits: &[Lit],
+) -> Result<Lit, AllocError>
+    requires { AllBelow clauses.old.vars lits.now }
+    ensures lit { IfOk result (λ lit. lit ≡ lit_of clauses.old.vars) }
+    ensures built { OnOk result (clauses.new ≡ with_cover clauses.old lits.now) }
+    ensures gate { IfOk result (λ lit. CoversLit clauses.old clauses.new lit (λ v. clause_true v lits.now)) }
+    ensures extends { Extends clauses.old clauses.new }
+{
+    let lit = next_lit(clauses);
+    let rules = rules_of_cover(alloc, lit, lits)?;
     define(clauses, rules)?;
     Ok(lit)
 }

@@ -11,6 +11,6 @@ mod gate;
 mod plan;
 mod rules;
 
-pub use define::{define_any, define_plan};
+pub use define::{define_any, define_cover, define_plan};
 pub use gate::{Gate, Lits};
 pub use plan::Plan;

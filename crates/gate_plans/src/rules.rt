@@ -2,7 +2,7 @@
 ghost use Rattle.std.specs.Prelude.{◌≡◌, [], ◌∷◌, ◌++◌, map, IfOk, OnOk};
 ghost use Rattle.clause_store.specs.Lits.{negation};
 ghost use Rattle.gate_plans.specs.Gates.{kept_clauses, clauses_from, headed, gate_rules};
-ghost use Rattle.gate_plans.specs.Shapes.{both, differ, odd, most, all_of, any_of, singles};
+ghost use Rattle.gate_plans.specs.Shapes.{both, differ, odd, most, all_of, any_of, singles, cover_rules};
 
 use crate::gate::{Gate, Lits, Shape};
 use clause_store::{Clause, Lit};
@@ -95,11 +95,19 @@ fn rules_of_all(alloc: Global, x: Lit, lits: &[Lit]) -> Result<Vec<Clause>, Allo
 pub(crate) fn rules_of_any(alloc: Global, x: Lit, lits: &[Lit]) -> Result<Vec<Clause>, AllocError>
     ensures { IfOk result (λ rules. rules.items ≡ clauses_from (gate_rules x (any_of lits.now))) }
 {
+    let mut rules = rules_of_cover(alloc, x, lits)?;
+    push_headed(alloc, &mut rules, x.negated(), lits)?;
+    Ok(rules)
+}
+
+/// The clauses of its one side: the literal is true where some literal of the list is.
+pub(crate) fn rules_of_cover(alloc: Global, x: Lit, lits: &[Lit]) -> Result<Vec<Clause>, AllocError>
+    ensures { IfOk result (λ rules. rules.items ≡ clauses_from (cover_rules x lits.now)) }
+{
     let mut rules = Vec::with_capacity(alloc, lits.len() + 1)?;
     for lit in lits {
         push_rule(alloc, &mut rules, &[x, lit.negated()])?;
     }
-    push_headed(alloc, &mut rules, x.negated(), lits)?;
     Ok(rules)
 }
 

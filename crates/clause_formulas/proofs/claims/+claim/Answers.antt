@@ -3,17 +3,17 @@ use Rattle.std.proofs.lemmas.Grind.{common_steps}
 use Rattle.std.proofs.lemmas.Result.{on_ok_weaker}
 use Rattle.clause_formulas.specs.Statements.{any_of}
 use Rattle.clause_formulas.specs.Built.{assert_on}
-use Rattle.clause_formulas.proofs.SpreadSteps.{spread-below, weight-at, SaidBelow-at}
+use Rattle.clause_formulas.proofs.SpreadSteps.{ask-below, weight-at, SaidBelow-at}
 use Rattle.clause_formulas.proofs.CallSteps.{assert-any, assert-more}
 use Rattle.clause_formulas.proofs.claims.+claim.Goals as goal
 
 pub claim_any-add_draft-requires : goal.claim_any-add_draft-requires
-claim_any-add_draft-requires t c = spread-below c.args.clauses.now _ c.new-draft.result _ (any_of c.args.parts.now) c.new-draft.ensures c.requires c.in_ok-spread_any.ensures.built
+claim_any-add_draft-requires t c = ask-below c.args.clauses.now _ c.new-draft.result _ (any_of c.args.parts.now) c.new-draft.ensures c.requires c.in_ok-ask_any.ensures
 
 pub claim_any-returns-then-sign : goal.claim_any-returns-then-sign
 claim_any-returns-then-sign t c =
     on_ok_weaker c.add_draft.result (λ e. ap (λ b. assert_on c.args.label c.args.clauses.now b (any_of c.args.parts.now)) c.if-sign.true
-    ∙ assert-any c.args.clauses.now _ _ c.args.label c.new-draft.result _ c.args.parts.now c.new-draft.ensures c.in_ok-spread_any.ensures.built e) c.add_draft.ensures
+    ∙ assert-any c.args.clauses.now _ _ c.args.label c.new-draft.result _ c.args.parts.now c.new-draft.ensures c.in_ok-ask_any.ensures e) c.add_draft.ensures
 
 pub claim_any-claim-requires : goal.claim_any-claim-requires
 claim_any-claim-requires t c =

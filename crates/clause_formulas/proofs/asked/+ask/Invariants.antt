@@ -1,0 +1,18 @@
+use Rattle.std.proofs.Common.{◌≡◌, ◌+◌, ◌*◌, ◌≤◌, drop}
+use Rattle.clause_store.specs.Lits.{AllBelow}
+use Rattle.clause_formulas.specs.Statements.{any_of, weight}
+use Rattle.clause_formulas.specs.Built.{ask_on}
+use Rattle.clause_formulas.proofs.asked.+ask.Given as goal
+
+abbrev pub invariant-ask_any-loop-part : goal.invariant-ask_any-loop-part
+invariant-ask_any-loop-part l = record {
+  rest : ask_on l.clauses l.draft (any_of (drop l.part-index l.parts)) ≡ ask_on l.fn.clauses l.fn.draft (any_of l.parts);
+  below : AllBelow l.clauses.vars l.draft.lits;
+  more : l.fn.clauses.vars ≤ l.clauses.vars;
+}
+
+abbrev pub decreases-ask : goal.decreases-ask
+decreases-ask l = 2 * weight l.formula.now + 1
+
+abbrev pub decreases-ask_any : goal.decreases-ask_any
+decreases-ask_any l = 2 * weight (any_of l.parts.now)
