@@ -1,0 +1,2 @@
+-- what public contracts of the layers above say
+pub mod Right

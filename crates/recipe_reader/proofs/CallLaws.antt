@@ -5,15 +5,14 @@ use Rattle.std.specs.Option.{option_to_list}
 use Rattle.spec_grammar.specs.declared.part.Spec.{Spec}
 use Rattle.conditions.specs.declared.recipe.Condition.{Condition}
 use Rattle.recipe_reader.specs.declared.fault.RecipeFault.{RecipeFault}
-use Rattle.recipe_reader.specs.declared.directive.Directive.{Directive}
-use Rattle.recipe_reader.specs.declared.directive.Directive.TheVariants as directive
-use Rattle.recipe_reader.specs.declared.given.Given.{Given}
-use Rattle.recipe_reader.specs.declared.given.Options.{Options}
+use Rattle.directive_arguments.specs.declared.directive.Directive.{Directive}
+use Rattle.directive_arguments.specs.declared.directive.Directive.TheVariants as directive
+use Rattle.directive_arguments.specs.declared.given.Given.{Given}
+use Rattle.directive_arguments.specs.declared.given.Options.{Options}
 use Rattle.recipe_reader.specs.declared.state.Head.{Head}
 use Rattle.recipe_reader.specs.declared.state.State.{State}
-use Rattle.recipe_reader.specs.Results.{Step, Gives}
+use Rattle.recipe_reader.specs.Results.{Step, Gives, arguments_at}
 use Rattle.recipe_values.specs.declared.segment.Segment.{Segment}
-use Rattle.recipe_reader.specs.Arguments.{arguments}
 use Rattle.recipe_reader.specs.Rows.{add_version, add_variant, into, add}
 use Rattle.recipe_reader.specs.Recipes.{when_in, when_of, may_stand, call}
 
@@ -49,7 +48,7 @@ specs_by a b o p specs e f h =
 
 -- a directive that may stand there, with its arguments
 pub called : {X : Type 0} (bytes : List ℕ) (d : Directive) (place number : ℕ) (segments : List Segment) (other around : Option Head) (s : State) (p : ℕ) (g : Given) (r : Result X RecipeFault) (new : State)
-    → other ≡ around → may_stand d other place ≡ Ok p → arguments bytes d segments ≡ Ok g
+    → other ≡ around → may_stand d other place ≡ Ok p → arguments_at bytes d segments ≡ Ok g
     → Gives r new (add d place number g (when_of around g) s) → Gives r new (call bytes d place number segments around s)
 unfolding call
 called bytes d place number segments other around s p g r new same stands args given =

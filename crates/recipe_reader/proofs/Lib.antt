@@ -1,6 +1,8 @@
-pub mod TextLaws
 pub mod StepLaws
-pub mod WordLaws
-pub mod KeptLaws
 pub mod CallLaws
+pub mod NumberLaws
+pub mod VersionLaws
+pub mod HeadLaws
+pub mod RowLaws
+pub mod KeptLaws
 pub mod FileLaws

@@ -1,43 +1,24 @@
 -- What every recipe that was read has.
-use Rattle.std.specs.Prelude.{◌≡◌, ◌≢◌, ◌<◌, true, false, List, [], ◌∷◌, ◌++◌, length, map}
-use Rattle.std.specs.List.{list_any, AllByRecursion}
-use Rattle.std.specs.Str.{bytes_eq}
-use Rattle.variant_values.specs.Texts.{Texts}
-use Rattle.variant_values.specs.declared.kind.VariantKind.{VariantKind}
-use Rattle.variant_values.specs.declared.kind.VariantKind.TheVariants as variant
-use Rattle.spec_grammar.specs.declared.part.Spec.{Spec}
-use Rattle.conditions.specs.declared.recipe.VersionRow.{VersionRow}
-use Rattle.conditions.specs.declared.recipe.VariantRow.{VariantRow}
-use Rattle.conditions.specs.declared.recipe.ProvideRow.{ProvideRow}
+use Rattle.std.specs.Prelude.{◌≡◌, ℕ, nat_le, ◌&&◌, Bool, true, List, [], ◌∷◌, map}
+use Rattle.std.specs.List.{list_all}
+use Rattle.std.specs.Ordering.{nat_cmp}
+use Rattle.keyed_lists.specs.Keyed.{rises}
+use Rattle.spec_grammar.specs.Signs.{is_name}
+use Rattle.conditions.specs.Right.{is_right_recipe}
 use Rattle.conditions.specs.declared.recipe.Recipe.{Recipe}
-use Rattle.recipe_reader.specs.Variants.{has_all}
 
--- each of the texts is none of those before it
-abbrev pub AreNew : Texts → Texts → Type 0
-AreNew before [] = Unit {0}
-AreNew before (w ∷ more) = (list_any (bytes_eq w) before ≡ false) × AreNew (before ++ w ∷ []) more
+-- each number is at most the next
+abbrev pub climbs : List ℕ → Bool
+climbs [] = true
+climbs (k ∷ []) = true
+climbs (k ∷ j ∷ more) = nat_le k j && climbs (j ∷ more)
 
-abbrev pub texts_of : List VersionRow → Texts
-texts_of rows = map (λ row. row.version) rows
-
--- one value is the default at least, no other than the values that are allowed, and one alone unless Multi
-pub record IsDefault (kind : VariantKind) (values default : Texts) : Type 0 where
-  pub some : 0 < length default
-  pub allowed : has_all values default ≡ true
-  pub one : (kind ≢ variant.Multi) → length default ≡ 1
-
-abbrev pub IsDefaulted : VariantRow → Type 0
-IsDefaulted row = IsDefault row.kind row.values row.default
-
--- no `^`
-abbrev pub IsLocal : Spec → Type 0
-IsLocal s = s.below ≡ []
-
-abbrev pub IsLocalRow : ProvideRow → Type 0
-IsLocalRow row = AllByRecursion IsLocal row.when.specs
-
--- version texts stand once, defaults are right, and conditions of `provides` have no `^`
+-- besides what is right, versions and variants stand in the order of their numbers, and so do the rows of
+-- `provides`, which share the number of their directive; variants and virtuals have a NAME
 pub record IsKept (recipe : Recipe) : Type 0 where
-  pub versions : AreNew [] (texts_of recipe.versions)
-  pub defaults : AllByRecursion IsDefaulted recipe.variants
-  pub local : AllByRecursion IsLocalRow recipe.provides
+  pub right : is_right_recipe recipe ≡ true
+  pub versions : rises nat_cmp (map (λ row. row.number) recipe.versions) ≡ true
+  pub variants : rises nat_cmp (map (λ row. row.number) recipe.variants) ≡ true
+  pub provides : climbs (map (λ row. row.number) recipe.provides) ≡ true
+  pub variant_names : list_all (λ row. is_name row.name) recipe.variants ≡ true
+  pub virtual_names : list_all (λ row. is_name row.name) recipe.provides ≡ true

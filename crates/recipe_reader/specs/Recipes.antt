@@ -5,12 +5,10 @@ use Rattle.std.specs.Option.{option_to_list}
 use Rattle.spec_grammar.specs.declared.part.Spec.{Spec}
 use Rattle.recipe_lexer.specs.Layout.{tokens}
 use Rattle.recipe_lexer.specs.declared.token.Token.{Token}
-use Rattle.recipe_lexer.specs.declared.token.LexFault.{LexFault}
 use Rattle.recipe_statements.specs.Lines.{word}
 use Rattle.recipe_statements.specs.Statements.{items}
 use Rattle.recipe_statements.specs.declared.item.Item.{Item}
 use Rattle.recipe_statements.specs.declared.item.Item.TheVariants.{With, Call}
-use Rattle.recipe_statements.specs.declared.item.StatementFault.{StatementFault}
 use Rattle.recipe_values.specs.Strings.{text_of, start_of}
 use Rattle.recipe_values.specs.Brackets.{arguments_of}
 use Rattle.recipe_values.specs.declared.segment.Segment.{Segment}
@@ -18,16 +16,14 @@ use Rattle.conditions.specs.declared.recipe.Condition.{Condition}
 use Rattle.conditions.specs.declared.recipe.Recipe.{Recipe}
 use Rattle.recipe_reader.specs.declared.fault.RecipeFault.{RecipeFault}
 use Rattle.recipe_reader.specs.declared.fault.RecipeFault.TheVariants as fault
-use Rattle.recipe_reader.specs.declared.given.Given.{Given}
-use Rattle.recipe_reader.specs.declared.directive.Directive.{Directive}
-use Rattle.recipe_reader.specs.declared.directive.Directive.TheVariants as directive
+use Rattle.directive_arguments.specs.declared.given.Given.{Given}
+use Rattle.directive_arguments.specs.declared.directive.Directive.{Directive}
+use Rattle.directive_arguments.specs.declared.directive.Directive.TheVariants as directive
 use Rattle.recipe_reader.specs.declared.state.Head.{Head}
 use Rattle.recipe_reader.specs.declared.state.State.{State}
-use Rattle.recipe_reader.specs.Results.{Step, then_do, lex_fault, statement_fault}
-use Rattle.recipe_reader.specs.Table.{directive_of}
-use Rattle.recipe_reader.specs.Texts.{condition}
-use Rattle.recipe_reader.specs.Given.{as_step}
-use Rattle.recipe_reader.specs.Arguments.{arguments}
+use Rattle.directive_arguments.specs.Results.{then_do}
+use Rattle.recipe_reader.specs.Results.{Step, lex_step, statement_step, condition_at, as_step, arguments_at}
+use Rattle.directive_arguments.specs.Table.{directive_of}
 use Rattle.recipe_reader.specs.Rows.{add}
 
 -- ---- the tokens of an item, from one place of the list up to another
@@ -63,7 +59,7 @@ nested_of place (Err e) = e
 nested_of place (Ok s) = fault.Unsupported place
 
 abbrev pub own_fault : Spec → ℕ → List ℕ → Option RecipeFault
-own_fault s place text = if length s.below == 0 then None else Some (nested_of place (condition true place text))
+own_fault s place text = if length s.below == 0 then None else Some (nested_of place (condition_at true place text))
 
 -- the outermost fault counts
 abbrev pub first_fault : Option RecipeFault → Option RecipeFault → Option RecipeFault
@@ -73,7 +69,7 @@ first_fault (Some e) own = Some e
 -- the head with this text, whose first string is at `place`, in those around it
 abbrev pub head : Option Head → ℕ → List ℕ → Step Head
 head around place text =
-    then_do (condition false place text) (λ s. Ok (record {
+    then_do (condition_at false place text) (λ s. Ok (record {
       when = record { specs = when_in around ++ s ∷ [] };
       nested = first_fault (nested_in around) (own_fault s place text);
     }))
@@ -108,7 +104,7 @@ may_stand d around place = Ok place
 unfoldable pub call : List ℕ → Directive → ℕ → ℕ → List Segment → Option Head → State → Step State
 call bytes d place number segments around s =
     then_do (may_stand d around place) (λ p.
-    then_do (arguments bytes d segments) (λ g.
+    then_do (arguments_at bytes d segments) (λ g.
     add d place number g (when_of around g) s))
 
 -- each call that is an item is one of a directive
@@ -143,14 +139,6 @@ empty_recipe name = record
 
 abbrev pub start : List ℕ → State
 start name = record { heads = []; declared = []; recipe = empty_recipe name }
-
-abbrev pub lex_step : Result (List Token) LexFault → Step (List Token)
-lex_step (Ok found) = Ok found
-lex_step (Err e) = Err (lex_fault e)
-
-abbrev pub statement_step : Result (List Item) StatementFault → Step (List Item)
-statement_step (Ok found) = Ok found
-statement_step (Err e) = Err (statement_fault e)
 
 abbrev pub recipe_in : Step State → Step Recipe
 recipe_in (Ok s) = Ok s.recipe

@@ -1,29 +1,24 @@
--- Steps one after the other: the first fault counts.
-use Rattle.std.specs.Prelude.{◌≡◌, ℕ, Bool, List, [], ◌∷◌, Result, Ok, Err, if◌then◌else◌}
-use Rattle.spec_grammar.specs.declared.fault.SpecFault.{SpecFault}
-use Rattle.spec_grammar.specs.declared.fault.SpecFault.TheVariants as spec
+-- Steps of reading a file, and the faults of the stages below.
+use Rattle.std.specs.Prelude.{◌≡◌, ℕ, Bool, List, Result, Ok, Err}
+use Rattle.spec_grammar.specs.declared.part.Spec.{Spec}
+use Rattle.recipe_lexer.specs.declared.token.Token.{Token}
+use Rattle.recipe_statements.specs.declared.item.Item.{Item}
 use Rattle.recipe_lexer.specs.declared.token.LexFault.{LexFault}
 use Rattle.recipe_lexer.specs.declared.token.LexFault.TheVariants as lex
 use Rattle.recipe_statements.specs.declared.item.StatementFault.{StatementFault}
 use Rattle.recipe_statements.specs.declared.item.StatementFault.TheVariants as statement
+use Rattle.recipe_values.specs.declared.segment.Segment.{Segment}
+use Rattle.directive_arguments.specs.declared.fault.ArgumentFault.{ArgumentFault}
+use Rattle.directive_arguments.specs.declared.fault.ArgumentFault.TheVariants as argument
+use Rattle.directive_arguments.specs.declared.directive.Directive.{Directive}
+use Rattle.directive_arguments.specs.declared.given.Given.{Given}
+use Rattle.directive_arguments.specs.Texts.{condition}
+use Rattle.directive_arguments.specs.Arguments.{arguments}
 use Rattle.recipe_reader.specs.declared.fault.RecipeFault.{RecipeFault}
 use Rattle.recipe_reader.specs.declared.fault.RecipeFault.TheVariants as fault
 
 abbrev pub Step : Type 0 → Type 0
 Step A = Result A RecipeFault
-
-abbrev pub then_do : {A B : Type 0} → Step A → (A → Step B) → Step B
-then_do (Ok a) f = f a
-then_do (Err e) f = Err e
-
--- a step for each of them in their order
-abbrev pub steps : {X S : Type 0} → (X → S → Step S) → List X → S → Step S
-steps f [] s = Ok s
-steps f (x ∷ more) s = then_do (f x s) (steps f more)
-
--- what is asked for, or else a fault
-abbrev pub ask : {A : Type 0} → Bool → RecipeFault → A → Step A
-ask asked e a = if asked then Ok a else Err e
 
 -- ---- faults of the stages below
 
@@ -38,10 +33,38 @@ statement_fault (statement.TwoClasses p) = fault.TwoClasses p
 statement_fault (statement.TooDeep p) = fault.TooDeep p
 statement_fault statement.OutOfMemory = fault.OutOfMemory
 
--- the text whose first string is at `place` has the fault
-abbrev pub text_fault : ℕ → SpecFault → RecipeFault
-text_fault place spec.OutOfMemory = fault.OutOfMemory
-text_fault place e = fault.Spec place e
+abbrev pub argument_fault : ArgumentFault → RecipeFault
+argument_fault (argument.Unsupported p) = fault.Unsupported p
+argument_fault (argument.Spec p e) = fault.Spec p e
+argument_fault (argument.BadArgument p) = fault.BadArgument p
+argument_fault argument.OutOfMemory = fault.OutOfMemory
+
+-- ---- their steps
+
+abbrev pub lex_step : Result (List Token) LexFault → Step (List Token)
+lex_step (Ok found) = Ok found
+lex_step (Err e) = Err (lex_fault e)
+
+abbrev pub statement_step : Result (List Item) StatementFault → Step (List Item)
+statement_step (Ok found) = Ok found
+statement_step (Err e) = Err (statement_fault e)
+
+abbrev pub argument_step : {A : Type 0} → Result A ArgumentFault → Step A
+argument_step (Ok a) = Ok a
+argument_step (Err e) = Err (argument_fault e)
+
+-- the condition that a text is
+abbrev pub condition_at : Bool → ℕ → List ℕ → Step Spec
+condition_at local place text = argument_step (condition local place text)
+
+-- what the arguments of a directive say
+abbrev pub arguments_at : List ℕ → Directive → List Segment → Step Given
+arguments_at bytes d segments = argument_step (arguments bytes d segments)
+
+-- the strings that are no text are not read
+abbrev pub as_step : {A : Type 0} → Result A ℕ → Step A
+as_step (Ok a) = Ok a
+as_step (Err place) = Err (fault.Unsupported place)
 
 -- ---- what a call answers
 

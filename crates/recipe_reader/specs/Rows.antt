@@ -9,14 +9,15 @@ use Rattle.conditions.specs.declared.recipe.Condition.{Condition}
 use Rattle.conditions.specs.declared.recipe.ProvideRow.{ProvideRow}
 use Rattle.conditions.specs.declared.recipe.Recipe.{Recipe}
 use Rattle.recipe_reader.specs.declared.fault.RecipeFault.TheVariants as fault
-use Rattle.recipe_reader.specs.declared.given.Given.{Given}
-use Rattle.recipe_reader.specs.declared.given.Options.{Options}
-use Rattle.recipe_reader.specs.declared.directive.Directive.{Directive}
-use Rattle.recipe_reader.specs.declared.directive.Directive.TheVariants as directive
+use Rattle.directive_arguments.specs.declared.given.Given.{Given}
+use Rattle.directive_arguments.specs.declared.given.Options.{Options}
+use Rattle.directive_arguments.specs.declared.directive.Directive.{Directive}
+use Rattle.directive_arguments.specs.declared.directive.Directive.TheVariants as directive
 use Rattle.recipe_reader.specs.declared.state.State.{State}
-use Rattle.recipe_reader.specs.declared.variant.Shape.{Shape}
-use Rattle.recipe_reader.specs.Results.{Step, then_do}
-use Rattle.recipe_reader.specs.Variants.{shape}
+use Rattle.directive_arguments.specs.declared.variant.Shape.{Shape}
+use Rattle.directive_arguments.specs.Results.{then_do}
+use Rattle.recipe_reader.specs.Results.{Step}
+use Rattle.directive_arguments.specs.Variants.{shape}
 
 -- ---- version
 

@@ -2,8 +2,9 @@
 
 ghost use Rattle.std.specs.Prelude.{◌≡◌};
 ghost use Rattle.recipe_reader.specs.declared.fault.RecipeFault.TheVariants.{OutOfMemory};
-ghost use Rattle.recipe_reader.specs.Results.{lex_fault, statement_fault, text_fault};
+ghost use Rattle.recipe_reader.specs.Results.{lex_fault, statement_fault, argument_fault};
 
+use directive_arguments::ArgumentFault;
 use recipe_lexer::LexFault;
 use recipe_statements::StatementFault;
 use spec_grammar::SpecFault;
@@ -65,6 +66,14 @@ impl<T: Drop> From<AllocFailed<T>> for RecipeFault {
     }
 }
 
+/// A value that may be lent to threads, and handed back by them.
+fn crosses<T: Send + Sync>() {}
+
+/// Faults do.
+fn faults_cross() {
+    crosses::<RecipeFault>();
+}
+
 /// The fault of a file that has no tokens.
 pub(crate) fn lex_fault(fault: LexFault) -> RecipeFault
     ensures { result ≡ lex_fault fault }
@@ -88,12 +97,14 @@ pub(crate) fn statement_fault(fault: StatementFault) -> RecipeFault
     }
 }
 
-/// The fault of a text whose first string is at this place.
-pub(crate) fn text_fault(place: u64, fault: SpecFault) -> RecipeFault
-    ensures { result ≡ text_fault place fault }
+/// The fault of the arguments of a directive, or of a condition.
+pub(crate) fn argument_fault(fault: ArgumentFault) -> RecipeFault
+    ensures { result ≡ argument_fault fault }
 {
     match fault {
-        SpecFault::OutOfMemory => RecipeFault::OutOfMemory,
-        _ => RecipeFault::Spec(place, fault),
+        ArgumentFault::Unsupported(place) => RecipeFault::Unsupported(place),
+        ArgumentFault::Spec(place, fault) => RecipeFault::Spec(place, fault),
+        ArgumentFault::BadArgument(place) => RecipeFault::BadArgument(place),
+        ArgumentFault::OutOfMemory => RecipeFault::OutOfMemory,
     }
 }

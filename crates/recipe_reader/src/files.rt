@@ -1,6 +1,8 @@
 //! Recipes of files, one after the other.
 
-ghost use Rattle.std.specs.Prelude.{◌≡◌, map, Ok, IfOk, IfErr};
+ghost use Rattle.std.specs.Prelude.{◌≡◌, true, map, Ok, IfOk, IfErr};
+ghost use Rattle.std.specs.List.{list_all};
+ghost use Rattle.conditions.specs.Right.{is_right_recipe};
 ghost use Rattle.recipe_reader.specs.Results.{Is};
 ghost use Rattle.recipe_reader.specs.Files.{recipe_in_file, FailsAt};
 
@@ -22,12 +24,7 @@ fn read_file(alloc: Global, file: &RecipeFile) -> Result<Recipe, RecipeFault>
     read_recipe(alloc, file.name.as_str(), &file.bytes)
 }
 
-/// The recipes of files in their order.
-///
-/// # Errors
-///
-/// The place of the first file that has a fault, from 0, and its fault. The place beside want of memory is any.
-pub fn read_recipes(alloc: Global, files: &[RecipeFile]) -> Result<List<Recipe>, (u64, RecipeFault)>
+fn read_all(alloc: Global, files: &[RecipeFile]) -> Result<List<Recipe>, (u64, RecipeFault)>
     ensures found { IfOk result (λ recipes. map recipe_in_file files.now ≡ map Ok recipes) }
     ensures fault { IfErr result (λ fault. FailsAt fault.0 fault.1 files.now) }
 {
@@ -42,4 +39,21 @@ pub fn read_recipes(alloc: Global, files: &[RecipeFile]) -> Result<List<Recipe>,
         }
     }
     Ok(recipes)
+}
+
+/// The recipes of files in their order. Each is right, and has the name of its file.
+///
+/// # Errors
+///
+/// The place of the first file that has a fault, from 0, and its fault. The place beside want of memory is any.
+pub fn read_recipes(alloc: Global, files: &[RecipeFile]) -> Result<List<Recipe>, (u64, RecipeFault)>
+    ensures found { IfOk result (λ recipes. map recipe_in_file files.now ≡ map Ok recipes) }
+    ensures right { IfOk result (λ recipes. list_all is_right_recipe recipes ≡ true) }
+    ensures names { IfOk result (λ recipes. map (λ recipe. recipe.name) recipes ≡ map (λ file. file.name) files.now) }
+    ensures fault { IfErr result (λ fault. FailsAt fault.0 fault.1 files.now) }
+{
+    match read_all(alloc, files) {
+        Ok(recipes) => Ok(recipes),
+        Err(fault) => Err(fault),
+    }
 }

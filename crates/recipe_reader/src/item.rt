@@ -2,19 +2,18 @@
 
 ghost use Rattle.std.specs.Prelude.{◌≡◌, ◌++◌, [], ◌∷◌, true, take, drop, IfOk, OnOk};
 ghost use Rattle.std.specs.Option.{option_copied, option_to_list};
-ghost use Rattle.recipe_reader.specs.Results.{Is, Gives, then_do};
-ghost use Rattle.recipe_reader.specs.Texts.{condition};
+ghost use Rattle.directive_arguments.specs.Results.{then_do};
+ghost use Rattle.recipe_reader.specs.Results.{Is, Gives, as_step};
 ghost use Rattle.recipe_values.specs.Strings.{text_of, start_of};
-ghost use Rattle.recipe_reader.specs.Given.{as_step};
 ghost use Rattle.recipe_reader.specs.Rows.{add};
-ghost use Rattle.recipe_reader.specs.Recipes.{between, byte_at, first_word, innermost, when_in, nested_in, own_fault, first_fault, head, enter, with_head, when_of, unless, may_stand, call, call_by, item};
+ghost use Rattle.recipe_reader.specs.Recipes.{innermost, when_in, nested_in, own_fault, first_fault, head, enter, with_head, when_of, unless, may_stand, call, call_by, item};
 
-use crate::argument::{arguments, word};
 use crate::row::add;
-use crate::table::directive_of;
-use crate::text::condition;
-use crate::{Directive, Given, Head, RecipeFault, State};
+use crate::stage::{arguments, condition};
+use crate::tokens::{first_word, from, start_of, up_to};
+use crate::{Head, RecipeFault, State};
 use conditions::Condition;
+use directive_arguments::{Directive, Given, directive_of};
 use plain_data::{Duplicate, List};
 use recipe_lexer::Token;
 use recipe_statements::Item;
@@ -22,49 +21,6 @@ use recipe_values::{Pile, Segment, ValueFault, read_text};
 use spec_grammar::Spec;
 use std::alloc::{AllocError, Global};
 use std::mem;
-
-/// The tokens from a place of the list on.
-fn from(tokens: &[Token], first: u64) -> &[Token]
-    ensures { result.now ≡ drop first tokens.now }
-{
-    let first = first as usize;
-    if first < tokens.len() {
-        &tokens[first..]
-    } else {
-        &[]
-    }
-}
-
-/// The tokens up to a place of the list.
-fn up_to(tokens: &[Token], stop: u64) -> &[Token]
-    ensures { result.now ≡ take stop tokens.now }
-{
-    let stop = stop as usize;
-    if stop < tokens.len() {
-        &tokens[..stop]
-    } else {
-        tokens
-    }
-}
-
-/// The byte at which the first of some tokens starts.
-fn start_of(tokens: &[Token]) -> u64
-    ensures { result ≡ start_of tokens.now }
-{
-    match tokens {
-        [] => 0,
-        [t, ..] => t.start,
-    }
-}
-
-fn first_word<'a>(bytes: &'a [u8], tokens: &[Token]) -> &'a [u8]
-    ensures { result.now ≡ first_word bytes.now tokens.now }
-{
-    match tokens {
-        [] => &[],
-        [t, ..] => word(bytes, *t),
-    }
-}
 
 /// The innermost of the first heads, so many as a depth says.
 fn innermost(heads: &List<Head>, depth: u64) -> Option<&Head>

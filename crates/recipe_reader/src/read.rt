@@ -1,38 +1,19 @@
 //! The calls of this crate.
 
-ghost use Rattle.std.specs.Prelude.{◌≡◌, ◌<◌, ◌≤◌, ◌+◌, ◌^◌, Ok, IfOk, IfErr};
-ghost use Rattle.recipe_lexer.specs.Layout.{tokens};
-ghost use Rattle.recipe_statements.specs.Statements.{items};
+ghost use Rattle.std.specs.Prelude.{◌≡◌, true, ◌<◌, ◌≤◌, ◌+◌, ◌^◌, Ok, IfOk, IfErr};
+ghost use Rattle.conditions.specs.Right.{is_right_recipe};
 ghost use Rattle.recipe_reader.specs.Results.{Is, Gives, Fails};
-ghost use Rattle.recipe_reader.specs.Recipes.{count, read_items, start, lex_step, statement_step, recipe_of};
+ghost use Rattle.recipe_reader.specs.Recipes.{count, read_items, start, recipe_of};
 
-use crate::fault::{lex_fault, statement_fault};
 use crate::item::item;
-use crate::names::Names;
+use crate::stage::{items_of, tokens_of};
 use crate::{RecipeFault, State};
 use conditions::Recipe;
+use directive_arguments::Names;
 use plain_data::{List, Word};
-use recipe_lexer::{Token, lex};
-use recipe_statements::{Item, statements};
+use recipe_lexer::Token;
+use recipe_statements::Item;
 use std::alloc::{AllocError, Global};
-
-fn tokens_of(alloc: Global, bytes: &[u8]) -> Result<List<Token>, RecipeFault>
-    ensures { Is result (lex_step (tokens bytes.now)) }
-{
-    match lex(alloc, bytes) {
-        Ok(tokens) => Ok(tokens),
-        Err(fault) => Err(lex_fault(fault)),
-    }
-}
-
-fn items_of(alloc: Global, bytes: &[u8], tokens: &[Token]) -> Result<List<Item>, RecipeFault>
-    ensures { Is result (statement_step (items bytes.now tokens.now)) }
-{
-    match statements(alloc, bytes, tokens) {
-        Ok(items) => Ok(items),
-        Err(fault) => Err(statement_fault(fault)),
-    }
-}
 
 /// Nothing was read yet.
 fn start(alloc: Global, name: &str) -> Result<State, AllocError>
@@ -85,15 +66,10 @@ fn read_items(
     Ok(())
 }
 
-/// The recipe of a file with these bytes, whose package has this name.
-///
-/// # Errors
-///
-/// The first fault of the tokens, else of the statements, else of the arguments and directives in their order.
+/// What a file is read as.
 #[tactic(auto, unfolding(crate::specs::Recipes::recipe_of))]
-pub fn read_recipe(alloc: Global, name: &str, bytes: &[u8]) -> Result<Recipe, RecipeFault>
-    ensures found { IfOk result (λ recipe. recipe_of name.now bytes.now ≡ Ok recipe) }
-    ensures fault { IfErr result (λ fault. Fails fault (recipe_of name.now bytes.now)) }
+fn read_file(alloc: Global, name: &str, bytes: &[u8]) -> Result<Recipe, RecipeFault>
+    ensures { Is result (recipe_of name.now bytes.now) }
 {
     let tokens = tokens_of(alloc, bytes)?;
     let items = items_of(alloc, bytes, tokens.as_slice())?;
@@ -106,4 +82,20 @@ pub fn read_recipe(alloc: Global, name: &str, bytes: &[u8]) -> Result<Recipe, Re
         &mut state,
     )?;
     Ok(state.recipe)
+}
+
+/// The recipe of a file with these bytes, whose package has this name. It is right.
+///
+/// # Errors
+///
+/// The first fault of the tokens, else of the statements, else of the arguments and directives in their order.
+pub fn read_recipe(alloc: Global, name: &str, bytes: &[u8]) -> Result<Recipe, RecipeFault>
+    ensures found { IfOk result (λ recipe. recipe_of name.now bytes.now ≡ Ok recipe) }
+    ensures right { IfOk result (λ recipe. is_right_recipe recipe ≡ true) }
+    ensures fault { IfErr result (λ fault. Fails fault (recipe_of name.now bytes.now)) }
+{
+    match read_file(alloc, name, bytes) {
+        Ok(recipe) => Ok(recipe),
+        Err(fault) => Err(fault),
+    }
 }

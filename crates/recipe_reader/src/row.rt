@@ -2,15 +2,12 @@
 
 ghost use Rattle.std.specs.Prelude.{◌≡◌, ◌++◌, map, [], ◌∷◌, IfOk, OnOk};
 ghost use Rattle.recipe_reader.specs.Results.{Gives};
-ghost use Rattle.recipe_reader.specs.Rows.{add_version, with_variant, add_variant, has_kind, is_language, names_language, is_bare, is_passed_over, add_depends, name_in, provided, add_provides, add_conflict, add_requirement, add};
+ghost use Rattle.recipe_reader.specs.Rows.{add_version, with_variant, add_variant, name_in, provided, add_provides, add_conflict, add_requirement, add};
 
-use crate::table::is;
-use crate::variant::shape_with;
-use crate::{Directive, Given, Options, RecipeFault, Shape, State};
-use conditions::{
-    Condition, ConflictRow, DependRow, ProvideRow, Recipe, RequireRow, VariantRow, VersionRow,
-};
-use graph_core::Kinds;
+use crate::depends::add_depends;
+use crate::{RecipeFault, State};
+use conditions::{Condition, ConflictRow, ProvideRow, Recipe, RequireRow, VariantRow, VersionRow};
+use directive_arguments::{Directive, Given, Options, Shape, shape_with};
 use plain_data::{Duplicate, List, Word};
 use spec_grammar::{Part, Spec};
 use std::alloc::{AllocError, Global};
@@ -83,73 +80,6 @@ fn add_variant(
     let values = options.values.take();
     let shape = shape_with(alloc, &options.default, options.multi, values)?;
     with_variant(place, number, name, shape, when, recipe)
-}
-
-/// Whether a dependency is needed for anything but tests.
-fn has_kind(kinds: Kinds) -> bool
-    ensures { result ≡ has_kind kinds }
-{
-    kinds.build || kinds.link || kinds.run
-}
-
-/// The languages of compilers.
-fn is_language(name: &[u8]) -> bool
-    ensures { result ≡ is_language name.now }
-{
-    is(name, b"c") || is(name, b"cxx") || is(name, b"fortran")
-}
-
-fn names_language(name: &Option<Word>) -> bool
-    ensures { result ≡ names_language name.now }
-{
-    match name {
-        None => false,
-        Some(word) => is_language(word.as_str().as_bytes()),
-    }
-}
-
-/// Whether nothing is asked but the name.
-fn is_bare(part: &Part) -> bool
-    ensures { result ≡ is_bare part.now }
-{
-    !part.versions.is_some()
-        && part.variants.is_empty()
-        && !part.compiler.is_some()
-        && !part.platform.is_some()
-        && !part.os.is_some()
-        && !part.targets.is_some()
-}
-
-/// Whether a dependency leaves no row.
-fn is_passed_over(kinds: Kinds, part: &Part) -> bool
-    ensures { result ≡ is_passed_over kinds part.now }
-{
-    !has_kind(kinds) || (is_bare(part) && names_language(&part.name))
-}
-
-fn add_depends(
-    place: u64,
-    number: u64,
-    part: Option<Part>,
-    kinds: Kinds,
-    when: Condition,
-    recipe: &mut Recipe,
-) -> Result<(), RecipeFault>
-    ensures { Gives result recipe.new (add_depends place number part kinds when recipe.old) }
-{
-    let Some(part) = part else {
-        return Err(RecipeFault::BadArgument(place));
-    };
-    if is_passed_over(kinds, &part) {
-        return Ok(());
-    }
-    recipe.depends.push(DependRow {
-        part,
-        kinds,
-        when,
-        number,
-    })?;
-    Ok(())
 }
 
 fn name_in(alloc: Global, name: &Option<Word>) -> Result<Word, AllocError>

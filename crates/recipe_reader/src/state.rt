@@ -1,8 +1,8 @@
 //! What was read of a file.
 
 use crate::RecipeFault;
-use crate::names::Names;
 use conditions::{Condition, Recipe};
+use directive_arguments::Names;
 use plain_data::List;
 
 /// A `with when` block that is open.

@@ -1,6 +1,8 @@
-use Rattle.recipe_reader.proofs.FileLaws.{first_fault}
+use Rattle.recipe_reader.proofs.FileLaws.{all_right, all_named}
 use Rattle.recipe_reader.proofs.files.read_recipes.Goals as goal
 
-pub returns-in-Err-clause-fault : goal.returns-in-Err-clause-fault
-returns-in-Err-clause-fault c =
-    first_fault c.loop-i.i c.in-Err.fault c.index-files-i.result c.args.files.now c.loop-i.recipes c.loop-i-test.true c.index-files-i.is c.loop-i.invariant c.in-Err.ensures
+pub returns-in-Ok-clause-right : goal.returns-in-Ok-clause-right
+returns-in-Ok-clause-right c = all_right c.args.files.now c.in-Ok.recipes c.in-Ok.ensures.found
+
+pub returns-in-Ok-clause-names : goal.returns-in-Ok-clause-names
+returns-in-Ok-clause-names c = all_named c.args.files.now c.in-Ok.recipes c.in-Ok.ensures.found

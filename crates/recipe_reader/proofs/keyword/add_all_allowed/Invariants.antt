@@ -1,7 +1,0 @@
-use Rattle.std.proofs.Common.{◌≡◌, drop}
-use Rattle.recipe_reader.specs.Results.{steps}
-use Rattle.recipe_reader.specs.Keywords.{element_allowed}
-use Rattle.recipe_reader.proofs.keyword.add_all_allowed.Given as goal
-
-abbrev pub invariant-loop-element : goal.invariant-loop-element
-invariant-loop-element l = steps element_allowed (drop l.element-index l.elements) l.texts.items ≡ steps element_allowed l.elements l.fn.texts.items

@@ -1,6 +1,0 @@
-use Rattle.std.proofs.Common.{◌∙◌}
-use Rattle.recipe_reader.proofs.WordLaws.{map_of}
-use Rattle.recipe_reader.proofs.variant.cut_texts.Goals as goal
-
-pub returns : goal.returns
-returns c = c.in_ok-texts.ensures ∙ map_of (λ piece. piece.now) _ _ c.in_ok-cut.ensures

@@ -1,6 +1,0 @@
-use Rattle.std.proofs.Common.{◌≡◌, map, take}
-use Rattle.spec_grammar.specs.Meaning.{truth}
-use Rattle.recipe_reader.proofs.variant.truths.Given as goal
-
-abbrev pub invariant-loop-piece : goal.invariant-loop-piece
-invariant-loop-piece l = l.texts.items ≡ map (λ piece. truth piece.now) (take l.piece-index l.pieces.items)
