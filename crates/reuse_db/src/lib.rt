@@ -15,4 +15,4 @@ mod text;
 pub use database::Database;
 pub use fault::DbFault;
 pub use record::Record;
-pub use text::canonical;
+pub use text::{canonical, record_value};

@@ -19,7 +19,8 @@ pub fn canonical(alloc: Global, entry: &Record) -> Result<Vec<u8>, AllocError>
     record_value(alloc, entry)?.to_vec(alloc)
 }
 
-fn record_value(alloc: Global, entry: &Record) -> Result<Value, AllocError>
+/// The JSON object of a record without its hash, of which the canonical text is the compact text.
+pub fn record_value(alloc: Global, entry: &Record) -> Result<Value, AllocError>
     ensures { IfOk result (λ value. view value ≡ record_data entry.now) }
 {
     let compiler = compiler_value(alloc, &entry.compiler)?;

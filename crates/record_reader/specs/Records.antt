@@ -1,0 +1,97 @@
+-- What a record's object says. Its keys go in byte order, missing and unknown ones among them, and each fault is a wrong kind.
+use Rattle.std.specs.Prelude.{ℕ, List, [], ◌∷◌, codes, Option, Some, None, Ok}
+use Rattle.variant_values.specs.Texts.{with_texts}
+use Rattle.serde_json.specs.Data.{Data, Members}
+use Rattle.json_readers.specs.Faults.{Reading, ◌>>=◌}
+use Rattle.json_readers.specs.Texts.{text_of}
+use Rattle.json_readers.specs.Sets.{set_of, filled_by}
+use Rattle.json_readers.specs.Maps.{map_of}
+use Rattle.json_readers.specs.Objects.{members_of, first_odd, field, none_odd, null_or}
+use Rattle.text_forms.specs.Forms.{name_meaning, value_meaning, version_in}
+use Rattle.graph_core.specs.Graphs.{Text}
+use Rattle.graph_core.specs.declared.node.Compiler.{Compiler}
+use Rattle.graph_core.specs.declared.node.Kinds.{Kinds}
+use Rattle.reuse_db.specs.declared.record.Record.{Record}
+use Rattle.record_reader.specs.Texts.{hash_meaning, kind_meaning, kinds_by}
+use Rattle.record_reader.specs.declared.record.Front.{Front}
+use Rattle.record_reader.specs.declared.record.Middle.{Middle}
+
+-- ---- values
+
+-- a non-empty list of kinds without repeats
+unfoldable pub kinds_at : Data → Reading Kinds
+kinds_at d = do
+  texts ← filled_by (set_of kind_meaning None (text_of kind_meaning)) d
+  Ok (kinds_by texts)
+
+-- a non-empty list of values without repeats, as a set
+unfoldable pub values_at : Data → Reading (List Text)
+values_at d = do
+  texts ← filled_by (set_of value_meaning None (text_of value_meaning)) d
+  Ok (with_texts [] texts)
+
+unfoldable pub compiler_at : Data → Reading Compiler
+compiler_at d = do
+  ms ← members_of d
+  let odd = first_odd (codes "name" ∷ codes "version" ∷ []) ms in do
+    name ← field (text_of name_meaning) odd (codes "name") ms
+    version ← field (text_of version_in) odd (codes "version") ms
+    _ ← none_odd odd
+    Ok (record { name = name; version = version })
+
+unfoldable pub dependency_at : Data → Reading (Text × Kinds)
+dependency_at d = do
+  ms ← members_of d
+  let odd = first_odd (codes "hash" ∷ codes "kinds" ∷ []) ms in do
+    hash ← field (text_of hash_meaning) odd (codes "hash") ms
+    kinds ← field kinds_at odd (codes "kinds") ms
+    _ ← none_odd odd
+    Ok (hash, kinds)
+
+-- ---- the keys, in three runs: a lock file has keys of its own between them
+
+unfoldable pub front_at : Option Text → Members → Reading Front
+front_at odd ms = do
+  compiler ← field (null_or compiler_at) odd (codes "compiler") ms
+  dependencies ← field (set_of Some (Some (codes "hash")) dependency_at) odd (codes "dependencies") ms
+  Ok (record { compiler = compiler; dependencies = dependencies })
+
+unfoldable pub middle_at : Option Text → Members → Reading Middle
+middle_at odd ms = do
+  external ← field (null_or (text_of Some)) odd (codes "external") ms
+  hash ← field (text_of hash_meaning) odd (codes "hash") ms
+  name ← field (text_of name_meaning) odd (codes "name") ms
+  Ok (record { external = external; hash = hash; name = name })
+
+unfoldable pub back_at : Front → Middle → Option Text → Members → Reading Record
+back_at front middle odd ms = do
+  os ← field (text_of value_meaning) odd (codes "os") ms
+  target ← field (text_of value_meaning) odd (codes "target") ms
+  variants ← field (map_of name_meaning values_at) odd (codes "variants") ms
+  version ← field (text_of version_in) odd (codes "version") ms
+  _ ← none_odd odd
+  Ok (record {
+    hash = middle.hash;
+    name = middle.name;
+    version = version;
+    variants = variants;
+    compiler = front.compiler;
+    os = os;
+    target = target;
+    external = middle.external;
+    dependencies = front.dependencies;
+  })
+
+-- ---- the whole
+
+abbrev pub keys : List Text
+keys = codes "compiler" ∷ codes "dependencies" ∷ codes "external" ∷ codes "hash" ∷ codes "name" ∷ codes "os" ∷ codes "target" ∷ codes "variants" ∷ codes "version" ∷ []
+
+-- an object with just these keys
+unfoldable pub record_at : Data → Reading Record
+record_at d = do
+  ms ← members_of d
+  let odd = first_odd keys ms in do
+    front ← front_at odd ms
+    middle ← middle_at odd ms
+    back_at front middle odd ms
