@@ -1,0 +1,4 @@
+pub mod Floats
+pub mod HashLaws
+pub mod KnownLaws
+pub mod TestLaws
