@@ -39,7 +39,7 @@ compilers-same a b h =
     let version = bytes_eq-same a.version b.version parts.1 in
     λ i. record { name = name i; version = version i }
 
-variants-same : (a b : Variants) → same_variants a b ≡ true → a ≡ b
+pub variants-same : (a b : Variants) → same_variants a b ≡ true → a ≡ b
 variants-same = lists-same _ (λ v w h.
     let parts = and_parts (bytes_eq v.0 w.0) (pointwise bytes_eq v.1 w.1) h in
     let name = bytes_eq-same v.0 w.0 parts.0 in

@@ -66,7 +66,7 @@ lesser-assoc : (p q r : Place) → lesser (lesser p (Some q)) (Some r) ≡ lesse
 unfolding place_cmp first_of before
 lesser-assoc p q r = first_of-assoc place_total p q r
 
-lesser_of-assoc : (a b c : Option Place) → lesser_of (lesser_of a b) c ≡ lesser_of a (lesser_of b c)
+pub lesser_of-assoc : (a b c : Option Place) → lesser_of (lesser_of a b) c ≡ lesser_of a (lesser_of b c)
 lesser_of-assoc None b c = refl
 lesser_of-assoc (Some p) None c = refl
 lesser_of-assoc (Some p) (Some q) None = refl

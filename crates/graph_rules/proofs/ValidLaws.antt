@@ -28,7 +28,7 @@ pub implied : (a b : Bool) → implies a b ≡ true → a ≡ true → b ≡ tru
 implied true b h is = h
 implied false b h is = absurd cc
 
-implies-from : (a b : Bool) → (a ≡ true → b ≡ true) → implies a b ≡ true
+pub implies-from : (a b : Bool) → (a ≡ true → b ≡ true) → implies a b ≡ true
 implies-from true b h = h refl
 implies-from false b h = refl
 
@@ -92,7 +92,7 @@ row-of field (Some recipe) row there = (recipe, refl, there)
 
 -- ---- a valid graph keeps each demand
 
-stands : (rule : Rule) → In rule all_rules
+pub stands : (rule : Rule) → In rule all_rules
 stands rules.Root = slice_get-in all_rules 0 rules.Root refl
 stands rules.Buildable = slice_get-in all_rules 1 rules.Buildable refl
 stands rules.Version = slice_get-in all_rules 2 rules.Version refl

@@ -9,7 +9,7 @@ use Rattle.problem.specs.Nodes.{is_built}
 use Rattle.graph_core.specs.declared.node.Node.{Node}
 use Rattle.graph_rules.specs.Directives.{keeps_root}
 use Rattle.graph_rules.specs.Valid.{keeps, keeps_all, all_rules, valid}
-use Rattle.graph_rules.specs.Verdict.{Place, breaks, broken_roots, least, broken_or, first_broken, verdict}
+use Rattle.graph_rules.specs.Verdict.{Place, Asked, all_asked, breaks_of, breaks, broken_roots, least, broken_or, first_broken, verdict_of, verdict}
 use Rattle.problem.specs.Problems.{Problem}
 use Rattle.graph_rules.specs.declared.rule.Rule.{Rule}
 use Rattle.graph_rules.specs.declared.rule.Rule.TheVariants as rules
@@ -38,7 +38,7 @@ premise_of_each true test rows = refl
 premise_of_each false test [] = refl
 premise_of_each false test (row ∷ rows) = premise_of_each false test rows
 
-failing_rows : {R : Type 0} (rows_at : Text → List R) (number : R → ℕ) (test : Node → R → Bool) (nodes : List Node)
+pub failing_rows : {R : Type 0} (rows_at : Text → List R) (number : R → ℕ) (test : Node → R → Bool) (nodes : List Node)
     → list_all (λ node. implies (is_built node) (list_all (test node) (rows_at node.name))) nodes
     ≡ is_empty {X = Place} (flat_map (λ node. map (λ row. (node.name, number row)) (filter (λ row. not (implies (is_built node) (test node row))) (rows_at node.name))) nodes)
 failing_rows rows_at number test [] = refl
@@ -46,17 +46,17 @@ failing_rows rows_at number test (node ∷ nodes) =
     let here = premise_of_each (is_built node) (test node) (rows_at node.name) ∙ failing (λ row. implies (is_built node) (test node row)) (λ row. let p : Place = (node.name, number row) in p) (rows_at node.name) in
     rw (here, failing_rows rows_at number test nodes) (sym (both_empty _ _))
 
-failing_roots : (problem : Problem) (graph : Content) (place : ℕ) (specs : List Spec) → list_all (keeps_root problem graph) specs ≡ is_empty (broken_roots problem graph place specs)
-failing_roots problem graph place [] = refl
-failing_roots problem graph place (spec ∷ specs) =
-    let rest = failing_roots problem graph (place + 1) specs in
-    elim (keeps_root problem graph spec) as (λ b. (b && list_all (keeps_root problem graph) specs) ≡ is_empty (cond b (broken_roots problem graph (place + 1) specs) ((unwrap_or spec.top.name [], place) ∷ broken_roots problem graph (place + 1) specs))) [ true ↦ rest | false ↦ refl ]
+failing_roots : (test : Spec → Bool) (place : ℕ) (specs : List Spec) → list_all test specs ≡ is_empty (broken_roots (λ place spec. test spec) place specs)
+failing_roots test place [] = refl
+failing_roots test place (spec ∷ specs) =
+    let rest = failing_roots test (place + 1) specs in
+    elim (test spec) as (λ b. (b && list_all test specs) ≡ is_empty (cond b (broken_roots (λ place spec. test spec) (place + 1) specs) ((unwrap_or spec.top.name [], place) ∷ broken_roots (λ place spec. test spec) (place + 1) specs))) [ true ↦ rest | false ↦ refl ]
 
 -- ---- the rules
 
 pub keeps-breaks : (rule : Rule) (problem : Problem) (graph : Content) → keeps rule problem graph ≡ is_empty (breaks rule problem graph)
-unfolding keeps breaks
-keeps-breaks rules.Root problem graph = failing_roots problem graph 0 problem.roots
+unfolding keeps breaks_of
+keeps-breaks rules.Root problem graph = failing_roots (keeps_root problem graph) 0 problem.roots
 keeps-breaks rules.Buildable problem graph = failing _ _ graph.nodes
 keeps-breaks rules.Version problem graph = failing _ _ graph.nodes
 keeps-breaks rules.Variant problem graph = failing _ _ graph.nodes
@@ -75,29 +75,29 @@ keeps-breaks rules.Unreachable problem graph = failing _ _ graph.nodes
 
 -- ---- the verdict
 
-abbrev is_valid : Verdict → Bool
+abbrev pub is_valid : Verdict → Bool
 is_valid verdicts.Valid = true
 is_valid (verdicts.Broken rule name number) = false
 
-step : (rule : Rule) (places : List Place) (later : Verdict) → is_valid (broken_or rule (least places) later) ≡ (is_empty places && is_valid later)
+pub step : (rule : Rule) (places : List Place) (later : Verdict) → is_valid (broken_or rule (least places) later) ≡ (is_empty places && is_valid later)
 step rule [] later = refl
 step rule (p ∷ ps) later = refl
 
-none_broken : (asked : List Rule) (problem : Problem) (graph : Content) → is_valid (first_broken asked problem graph) ≡ keeps_all asked problem graph
+none_broken : (asked : List Rule) (problem : Problem) (graph : Content) → is_valid (first_broken all_asked asked problem graph) ≡ keeps_all asked problem graph
 none_broken [] problem graph = refl
 none_broken (rule ∷ more) problem graph =
-    step rule (breaks rule problem graph) (first_broken more problem graph)
+    step rule (breaks rule problem graph) (first_broken all_asked more problem graph)
     ∙ rw (sym (keeps-breaks rule problem graph), none_broken more problem graph) refl
 
-is_valid-from : (v : Verdict) → is_valid v ≡ true → v ≡ verdicts.Valid
+pub is_valid-from : (v : Verdict) → is_valid v ≡ true → v ≡ verdicts.Valid
 is_valid-from verdicts.Valid h = refl
 is_valid-from (verdicts.Broken rule name number) h = absurd cc
 
 pub valid-verdict : (problem : Problem) (graph : Content) → (valid problem graph ≡ true) ↔ (verdict problem graph ≡ verdicts.Valid)
-unfolding valid verdict
+unfolding valid verdict_of
 valid-verdict problem graph =
     let same = none_broken all_rules problem graph in
-    (λ v. is_valid-from (first_broken all_rules problem graph) (same ∙ v), λ e. sym same ∙ ap is_valid e)
+    (λ v. is_valid-from (first_broken all_asked all_rules problem graph) (same ∙ v), λ e. sym same ∙ ap is_valid e)
 
 is_empty-from : {X : Type 0} (xs : List X) → is_empty xs ≡ true → xs ≡ []
 is_empty-from [] h = refl

@@ -1,0 +1,17 @@
+-- Tests of those that pass another test.
+use Rattle.std.proofs.Common.{◌≡◌, refl, ap, Bool, true, false, ◌&&◌, ◌||◌, List, [], ◌∷◌, cond}
+use Rattle.std.specs.List.{list_all, list_any, filter}
+use Rattle.condition_rules.specs.Words.{implies}
+
+module _ {X : Type 0} (p test : X → Bool) where
+  pub all-filter : (xs : List X) → list_all (λ x. implies (p x) (test x)) xs ≡ list_all test (filter p xs)
+  all-filter [] = refl
+  all-filter (x ∷ xs) =
+      let rest = all-filter xs in
+      elim (p x) as (λ b. (implies b (test x) && list_all (λ y. implies (p y) (test y)) xs) ≡ list_all test (cond b (x ∷ filter p xs) (filter p xs))) [ true ↦ ap (λ b. test x && b) rest | false ↦ rest ]
+
+  pub any-filter : (xs : List X) → list_any (λ x. p x && test x) xs ≡ list_any test (filter p xs)
+  any-filter [] = refl
+  any-filter (x ∷ xs) =
+      let rest = any-filter xs in
+      elim (p x) as (λ b. ((b && test x) || list_any (λ y. p y && test y) xs) ≡ list_any test (cond b (x ∷ filter p xs) (filter p xs))) [ true ↦ ap (λ b. test x || b) rest | false ↦ rest ]

@@ -1,0 +1,2 @@
+pub mod VariantLists
+pub mod Filters

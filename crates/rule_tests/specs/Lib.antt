@@ -1,0 +1,3 @@
+-- inside
+pub mod Kinds
+pub mod Records
