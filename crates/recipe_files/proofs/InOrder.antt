@@ -57,7 +57,7 @@ unfolding with_file
 with_file_names pile name bytes next is =
     let more : Pile = record { files = pile.files ++ (name, bytes) ∷ []; total = pile.total + length bytes } in
     let same : more ≡ next = chosen (nat_le (2 ^ 14) (length pile.files)) (nat_lt (2 ^ 20) (length bytes)) (nat_lt (2 ^ 28) (pile.total + length bytes))
-        refusals.TooManyRecipes (refusals.RecipeTooLarge name) refusals.RecipesTooLarge more next is in
+    refusals.TooManyRecipes (refusals.RecipeTooLarge name) refusals.RecipesTooLarge more next is in
     ap names_of (sym same) ∙ map-append (λ (source : Source). source.0) pile.files ((name, bytes) ∷ [])
 
 -- an entry more, of which the name comes next

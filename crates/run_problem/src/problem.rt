@@ -57,11 +57,7 @@ fn file_named<'a>(files: &'a [RecipeFile], name: &str) -> Option<&'a RecipeFile>
 
 /// How many directives the file of a package has.
 #[tactic(auto, unfolding(crate::specs::Problems::directives_at))]
-fn directives_at(
-    alloc: Global,
-    files: &[RecipeFile],
-    name: &str,
-) -> Result<Option<u64>, AllocError>
+fn directives_at(alloc: Global, files: &[RecipeFile], name: &str) -> Result<Option<u64>, AllocError>
     ensures { IfOk result (λ count. count ≡ directives_at (map source_of files.now) name.now) }
 {
     match file_named(files, name) {
