@@ -6,8 +6,8 @@
 #
 # Each line is the best of three runs, in processor seconds; the times of a doubling are to have a ratio near 2 (n log n).
 # A formula of a million nodes is to take less than a second, totals of 31 lists of 5,000 terms less than half of one, and
-# levels of 1,024 numbers and 30,000 arcs with 50 targets less than one and 200 MB. The last does not hold of memory where all
-# numbers are in one component: each arc and target takes four clauses of 96 bytes.
+# levels of 1,024 numbers and 30,000 arcs with 50 targets less than one and 200 MB. Where all numbers are in one component, each
+# arc and target takes three clauses of eight literals in all: 88 bytes, 132 MB of 1,500,000 such pairs.
 #
 # It proves the crates below where nothing of them is kept, so its first run takes some minutes.
 set -euo pipefail
