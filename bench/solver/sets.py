@@ -2,6 +2,7 @@
 """Rows for `solver_rows`: sets.py KIND COUNT SEED [SIZE].
 
 small     random clauses over 4 to 12 variables, with bits and the budgets 0, 1, 5, 100 (brute force tells the answer)
+tight     random 3-clauses over 8 to 16 variables near the ratio where few models are left, with bits and the same budgets
 threesat  3-SAT of SIZE variables at ratio 4.26, without bits
 pigeons   pigeon holes: one pigeon more than 2 to SIZE holes
 bits      random clauses over SIZE variables, about SIZE/10 bits
@@ -26,6 +27,13 @@ def small(rng, _):
     n = rng.randint(4, 12)
     clauses = [clause_of(rng, n, rng.choice([1, 2, 2, 3, 3, 3, 4])) for _ in range(rng.randint(n, 5 * n))]
     bits = [rng.choice([1, -1]) * rng.randint(1, n) for _ in range(rng.randint(0, 8))]
+    return row(rng.choice([0, 1, 5, 100]), n, bits, clauses)
+
+
+def tight(rng, _):
+    n = rng.randint(8, 16)
+    clauses = [clause_of(rng, n, 3) for _ in range(round(rng.uniform(2.5, 4.2) * n))]
+    bits = [rng.choice([1, -1]) * v for v in rng.sample(range(1, n + 1), n // 2)]
     return row(rng.choice([0, 1, 5, 100]), n, bits, clauses)
 
 
