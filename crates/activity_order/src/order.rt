@@ -42,9 +42,7 @@ impl Model for Order {
 
     ghost view = { λ o. record { vars = length o.heap.items; waiting = o.waiting } };
 
-    ghost invariant = {
-        λ o. IsOrder o.heap.items o.places.items o.waiting (length o.activities.items) (length o.phases.items)
-    };
+    ghost invariant = { λ o. IsOrder o.heap.items o.places.items o.waiting (length o.activities.items) (length o.phases.items) };
 }
 
 impl Order {

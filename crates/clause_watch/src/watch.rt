@@ -54,10 +54,8 @@ impl Model for Watch {
 
     ghost view = { λ w. record { clauses = w.clauses.items; placed = w.trail.placed; vars = w.trail.vars } };
 
-    ghost invariant = {
-        λ w. IsWatch w.trail.vars w.clauses.items w.trail.placed
-            × IsTended w.trail.vars w.clauses.items w.trail.placed w.queue
-    };
+    ghost invariant = { λ w. IsWatch w.trail.vars w.clauses.items w.trail.placed
+        × IsTended w.trail.vars w.clauses.items w.trail.placed w.queue };
 }
 
 impl Watch {
