@@ -3,10 +3,10 @@
 
 Each row is a problem of `sets.py`, each answer ends with a line `--`. Every log is checked: ids, bits in order, exactly one
 pivot a step, containment, no learnt clause that an input or earlier learnt one equals, and of a spent log the count and that
-unit propagation does not give a learnt clause. Every model is checked. Up to 14 variables all assignments are tried for the
+unit propagation does not give a learnt clause. Every model is checked. Up to 16 variables all assignments are tried for the
 least bits; else, with --sat, a SAT solver (minisat or cadical) is asked for each bit in turn.
 """
-import itertools, subprocess, sys, tempfile
+import subprocess, sys, tempfile
 
 
 def parse(words):
@@ -23,35 +23,64 @@ def parse(words):
     return bits, clauses
 
 
-def propagated(known, units):
-    """What unit propagation gives, or None where a clause is false."""
-    value, changed = set(units), True
-    while changed:
-        changed = False
-        for clause in known:
-            if any(l in value for l in clause):
+class Units:
+    """Unit propagation over clauses that grow, by the places of each literal."""
+
+    def __init__(self, clauses):
+        self.clauses, self.places, self.single, self.empty = [], {}, [], False
+        for clause in clauses:
+            self.add(clause)
+
+    def add(self, clause):
+        for l in clause:
+            self.places.setdefault(l, []).append(len(self.clauses))
+        if len(clause) == 1:
+            self.single.extend(clause)
+        self.empty = self.empty or not clause
+        self.clauses.append(clause)
+
+    def follow(self, value, queue):
+        """Adds what follows from the literals of a queue, and says whether no clause is false."""
+        while queue:
+            l = queue.pop()
+            if -l in value:
+                return False
+            if l in value:
                 continue
-            free = [l for l in clause if -l not in value]
-            if not free:
-                return None
-            if len(free) == 1:
-                value.add(free[0])
-                changed = True
-    return value
+            value.add(l)
+            for place in self.places.get(-l, ()):
+                free = None
+                for k in self.clauses[place]:
+                    if k in value or (free is not None and -k not in value and k != free):
+                        break
+                    if -k not in value:
+                        free = k
+                else:
+                    if free is None:
+                        return False
+                    queue.append(free)
+        return True
 
-
-def is_useful(known, clause):
-    for x in clause:
-        value = propagated(known, [-l for l in clause if l != x])
-        if value is not None and x not in value and -x not in value:
-            return True
-    return False
+    def is_useful(self, clause):
+        """Whether for some literal the negations of the others give it no value, and no false clause."""
+        start = set()
+        if self.empty or not self.follow(start, list(self.single)):
+            return False
+        for x in clause:
+            value = set(start)
+            if self.follow(value, [-l for l in clause if l != x]) and x not in value and -x not in value:
+                return True
+        return False
 
 
 class Log:
     def __init__(self, variables, bits, clauses):
         self.variables, self.bits, self.known, self.values = variables, bits, list(clauses), []
-        self.rivals, self.learnt, self.end, self.useful = set(clauses), 0, None, True
+        self.rivals, self.learnt, self.end, self.units = set(clauses), 0, None, Units(clauses)
+
+    def know(self, clause):
+        self.known.append(clause)
+        self.units.add(clause)
 
     def derive(self, chain, stated):
         assert chain and all(1 <= i <= len(self.known) for i in chain), "ids"
@@ -77,16 +106,16 @@ class Log:
             self.derive(numbers[zero + 1:-1], clause)
             assert clause not in self.rivals, "not new"
             if check_useful:
-                assert is_useful(self.known, clause), "not useful"
+                assert self.units.is_useful(clause), "not useful"
             self.rivals.add(clause)
-            self.known.append(clause)
+            self.know(clause)
             self.learnt += 1
         elif kind in "zo":
             assert numbers[1] == len(self.values), "bit"
             lit = self.bits[numbers[1]]
             if kind == "o":
                 self.derive(numbers[2:-1], frozenset([lit]))
-            self.known.append(frozenset([lit if kind == "o" else -lit]))
+            self.know(frozenset([lit if kind == "o" else -lit]))
             self.values.append(kind == "o")
         else:
             self.end = kind
@@ -95,11 +124,31 @@ class Log:
 
 
 def least_by_force(variables, bits, clauses):
-    best = None
-    for v in itertools.product([False, True], repeat=variables):
-        if all(any(v[abs(l) - 1] == (l > 0) for l in c) for c in clauses):
-            here = [v[abs(l) - 1] == (l > 0) for l in bits]
-            best = here if best is None or here < best else best
+    """Over all assignments at once: a number has one binary digit for each of them."""
+    size = 1 << variables
+    everywhere = (1 << size) - 1
+    column = {}
+    for v in range(1, variables + 1):
+        run = 1 << (v - 1)
+        period = ((1 << run) - 1) << run
+        width = 2 * run
+        while width < size:
+            period |= period << width
+            width *= 2
+        column[v], column[-v] = period, everywhere & ~period
+    left = everywhere
+    for clause in clauses:
+        held = 0
+        for l in clause:
+            held |= column[l]
+        left &= held
+    if not left:
+        return None
+    best = []
+    for l in bits:
+        zero = left & column[-l]
+        best.append(not zero)
+        left = zero or left
     return best
 
 
@@ -127,10 +176,10 @@ def check(words, answer, solver):
     bits, clauses = parse(words[3:])
     first, log = answer[0].split(), Log(variables, bits, clauses)
     assert answer[1] == f"p 1 {variables} {len(clauses)} {len(bits)}", "header"
-    kept = first[0] == "spent" or len(clauses) < 400
+    kept = first[0] == "spent" or len(clauses) + len(answer) < 1500
     for line in answer[2:]:
         log.line(line.split(), kept)
-    if variables <= 14:
+    if variables <= 16:
         best = least_by_force(variables, bits, clauses)
     elif solver:
         best = least_by_solver(solver, variables, bits, clauses)

@@ -1,13 +1,17 @@
 #!/bin/sh
 # The outside checks of the search crates: run.sh [SOLVER]. Builds the proved program `solver_rows` and asks it for
-# 2,000 small sets (all assignments tried), 3-SAT, pigeon holes and sets with bits (beside SOLVER, minisat by default);
-# `check_logs.py` checks each answer and each line of each log.
+# 4,000 small sets (all assignments tried), 3-SAT of 50 to 150 variables, pigeon holes to 7 and sets with bits (beside
+# SOLVER, minisat by default: `apt-get install minisat`, or cadical); `check_logs.py` checks each answer, each line of each
+# log and each model. PROGRAM=FILE takes a build that is there.
 set -e
 here=$(cd "$(dirname "$0")" && pwd)
 solver=${1:-minisat}
 out=$(mktemp -d)
-(cd "$here/../../crates/solver_rows" && rt run < /dev/null > /dev/null)
-program="$here/../../crates/solver_rows/out/solver_rows"
+program=${PROGRAM:-}
+if [ -z "$program" ]; then
+    (cd "$here/../../crates/solver_rows" && rt run < /dev/null > /dev/null)
+    program="$here/../../crates/solver_rows/out/solver_rows"
+fi
 check() {
     name=$1
     shift
@@ -19,9 +23,14 @@ check() {
     python3 "$here/check_logs.py" "$out/$name.rows" "$out/$name.answers" --sat "$solver"
 }
 check small small 2000 1
-check threesat50 threesat 60 2 50
-check threesat75 threesat 20 3 75
-check pigeons pigeons 10 4 6
-check bits40 bits 60 5 40
-check bits80 bits 20 6 80
+check tight tight 2000 8
+check threesat50 threesat 400 2 50
+check threesat75 threesat 200 3 75
+check threesat100 threesat 80 4 100
+check threesat125 threesat 20 5 125
+check threesat150 threesat 10 6 150
+check pigeons pigeons 6 4 7
+check bits40 bits 300 5 40
+check bits80 bits 60 6 80
+check bits120 bits 20 7 120
 rm -r "$out"

@@ -1,11 +1,13 @@
 #!/usr/bin/env python3
-"""Rows for `solver_rows`: sets.py KIND COUNT SEED [SIZE].
+"""Rows for `solver_rows`: sets.py KIND COUNT SEED [SIZE [VERSIONS]].
 
 small     random clauses over 4 to 12 variables, with bits and the budgets 0, 1, 5, 100 (brute force tells the answer)
+tight     random 3-clauses over 8 to 16 variables near the ratio where few models are left, with bits and the same budgets
 threesat  3-SAT of SIZE variables at ratio 4.26, without bits
 pigeons   pigeon holes: one pigeon more than 2 to SIZE holes
 bits      random clauses over SIZE variables, about SIZE/10 bits
-chains    SIZE packages: each depends on some of the next ones, has versions, and its weights are bits
+chains    SIZE packages of VERSIONS (4) versions: each depends on some of the next ones, and the bits are the packages that are
+          there and then the versions that are not the newest, of the first packages first, up to 2,000
 """
 import random, sys
 
@@ -26,6 +28,13 @@ def small(rng, _):
     n = rng.randint(4, 12)
     clauses = [clause_of(rng, n, rng.choice([1, 2, 2, 3, 3, 3, 4])) for _ in range(rng.randint(n, 5 * n))]
     bits = [rng.choice([1, -1]) * rng.randint(1, n) for _ in range(rng.randint(0, 8))]
+    return row(rng.choice([0, 1, 5, 100]), n, bits, clauses)
+
+
+def tight(rng, _):
+    n = rng.randint(8, 16)
+    clauses = [clause_of(rng, n, 3) for _ in range(round(rng.uniform(2.5, 4.2) * n))]
+    bits = [rng.choice([1, -1]) * v for v in rng.sample(range(1, n + 1), n // 2)]
     return row(rng.choice([0, 1, 5, 100]), n, bits, clauses)
 
 
@@ -51,7 +60,7 @@ def bits(rng, size):
 
 
 def chains(rng, size):
-    versions, n = 4, size or 100
+    versions, n = int(sys.argv[5]) if len(sys.argv) > 5 else 4, size or 100
     there = lambda p: p * (versions + 1) + 1
     version = lambda p, k: p * (versions + 1) + 2 + k
     clauses = [[there(0)]]
@@ -65,7 +74,7 @@ def chains(rng, size):
             clauses.append([-version(p, rng.randint(0, versions - 1))] + [version(q, k) for k in range(low, versions)])
             clauses.append([-version(p, 0), -version(q, rng.randint(0, versions - 1))])
     weights = [there(p) for p in range(n)] + [version(p, k) for k in range(versions - 1, 0, -1) for p in range(n)]
-    return row(10**9, n * (versions + 1), weights, clauses)
+    return row(10**9, n * (versions + 1), weights[:2000], clauses)
 
 
 kind, count, seed = sys.argv[1], int(sys.argv[2]), int(sys.argv[3])

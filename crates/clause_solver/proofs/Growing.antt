@@ -9,6 +9,7 @@ use Rattle.proof_log.specs.Logs.{LineHolds}
 use Rattle.proof_log.proofs.Logs.{learnt_in-push, AllLines-append, all-learnt}
 use Rattle.proof_log.proofs.GrowingLaws.{IsGrowing-push}
 use Rattle.clause_watch.specs.Watches.{WatchValue}
+use Rattle.activity_order.specs.Orders.{OrderValue}
 use Rattle.clause_solver.specs.declared.search.Search.{Search}
 use Rattle.clause_solver.specs.Marks.{AreClear}
 use Rattle.clause_solver.specs.Solvers.{SolverValue, IsLogOf, Adds}
@@ -77,6 +78,10 @@ search-watch s w e f i =
       marks = rw f i.marks;
       unmarked = i.unmarked;
     }
+
+-- nor does the order of the variables
+pub search-turn : (s : Search) (w : WatchValue) (o : OrderValue) → w.clauses ≡ s.watch.clauses → w.vars ≡ s.watch.vars → IsSearch s → IsSearch (record s { watch = w; order = o })
+search-turn s w o e f i = let k = search-watch s w e f i in record { log = k.log; inputs = k.inputs; learnt = k.learnt; marks = k.marks; unmarked = k.unmarked }
 
 pub adds-watch : (s : Search) (w : WatchValue) → w.clauses ≡ s.watch.clauses → w.vars ≡ s.watch.vars → Adds (value_of false s) (value_of false (record s { watch = w })) None None
 adds-watch s w e f = record { input = ap (take s.inputs) e; vars = f; bits = refl; model = refl; given = refl; learnt = []; all_learnt = tt; lines = sym (append-nil s.log) }

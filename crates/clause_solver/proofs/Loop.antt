@@ -13,6 +13,7 @@ use Rattle.clause_watch.specs.Watches.{WatchValue, IsWatch, Propagated, with_nex
 use Rattle.clause_watch.proofs.Propagated.{free_left-le, free_left-less, Grown-free}
 use Rattle.clause_watch.proofs.Kept.{upto-upto}
 use Rattle.clause_watch.proofs.Undone.{decisions-upto}
+use Rattle.activity_order.specs.Orders.{OrderValue}
 use Rattle.clause_solver.specs.declared.search.Search.{Search}
 use Rattle.clause_solver.specs.declared.outcome.Outcome.{Outcome}
 use Rattle.clause_solver.specs.declared.outcome.Outcome.TheVariants as outcome
@@ -21,7 +22,7 @@ use Rattle.clause_solver.specs.Marks.{AreClear}
 use Rattle.clause_solver.specs.Models.{IsModelOf}
 use Rattle.clause_solver.specs.Solvers.{SolverValue, IsInOrder, IsLogOf, Adds, Answers, IsFalseIn}
 use Rattle.clause_solver.specs.Searches.{value_of, IsSearch, IsAssumed, IsReady, IsStep, IsNext, IsFalseOn, Taught, measure_of}
-use Rattle.clause_solver.proofs.Growing.{search-watch, adds-watch, search-grown, adds-last, Adds-trans}
+use Rattle.clause_solver.proofs.Growing.{search-watch, search-turn, adds-watch, search-grown, adds-last, Adds-trans}
 use Rattle.clause_watch.proofs.Places.{upto-place, place-upto, get-front}
 use Rattle.clause_solver.proofs.ModelLaws.{false-here, model-meets}
 
@@ -93,17 +94,17 @@ spends s t u a budget r h lt watch log inputs bits given model learnt marks =
     )
 
 -- a decision
-pub decided : (s : Search) (w : WatchValue) (l : Lit) (a : Option (ℕ × Lit)) (budget : ℕ) → IsReady s a budget → IsNext s.watch.placed s.watch.vars a (move.Decide l) → w ≡ with_next s.watch l None → IsStep s (record s { watch = w }) a budget None
-decided s w l a budget r h e =
+pub decided : (s : Search) (w : WatchValue) (o : OrderValue) (l : Lit) (a : Option (ℕ × Lit)) (budget : ℕ) → IsReady s a budget → IsNext s.watch.placed s.watch.vars a (move.Decide l) → w ≡ with_next s.watch l None → IsStep s (record s { watch = w; order = o }) a budget None
+decided s w o l a budget r h e =
     let clauses : w.clauses ≡ s.watch.clauses = ap (λ (v : WatchValue). v.clauses) e in
     let vars : w.vars ≡ s.watch.vars = ap (λ (v : WatchValue). v.vars) e in
     let placed : w.placed ≡ s.watch.placed ++ next s.watch.placed l None ∷ [] = ap (λ (v : WatchValue). v.placed) e in (
       adds-watch s w clauses vars,
       record {
-        search = search-watch s w clauses vars r.search;
+        search = search-turn s w o clauses vars r.search;
         open_log = r.open_log;
         in_budget = r.in_budget;
-        in_order = order-same (value_of false s) (value_of false (record s { watch = w })) a refl vars r.in_order;
+        in_order = order-same (value_of false s) (value_of false (record s { watch = w; order = o })) a refl vars r.in_order;
         assumed = subst (λ ps. IsAssumed ps a) (sym placed) h.2;
       },
       rw (vars, placed) (let f = free_left-less s.watch.placed (next s.watch.placed l None) s.watch.vars h.0 h.1 in omega (arith, f)),
@@ -182,17 +183,17 @@ module _ (s : Search) (w : WatchValue) (a : Option (ℕ × Lit)) (budget : ℕ) 
   measure-propagated = rw (vars, p.grown.is) (let f = Grown-free s.watch.clauses s.watch.vars s.watch.placed p.grown.more p.grown.each in omega (arith, f))
 
 -- going back to level 0
-pub started : (s : Search) (w : WatchValue) (a : Option (ℕ × Lit)) (budget : ℕ) → IsSearch s → IsOpen s.log → learnt_in s.log ≤ budget → IsInOrder (value_of false s) a → w ≡ back s.watch 0 → decisions w.placed ≡ min (decisions s.watch.placed) 0 →
-    Adds (value_of false s) (value_of false (record s { watch = w })) None None × IsReady (record s { watch = w }) a budget
-started s w a budget i o b order e d =
+pub started : (s : Search) (w : WatchValue) (o : OrderValue) (a : Option (ℕ × Lit)) (budget : ℕ) → IsSearch s → IsOpen s.log → learnt_in s.log ≤ budget → IsInOrder (value_of false s) a → w ≡ back s.watch 0 → decisions w.placed ≡ min (decisions s.watch.placed) 0 →
+    Adds (value_of false s) (value_of false (record s { watch = w; order = o })) None None × IsReady (record s { watch = w; order = o }) a budget
+started s w o a budget i p b order e d =
     let clauses : w.clauses ≡ s.watch.clauses = ap (λ (v : WatchValue). v.clauses) e in
     let vars : w.vars ≡ s.watch.vars = ap (λ (v : WatchValue). v.vars) e in (
       adds-watch s w clauses vars,
       record {
-        search = search-watch s w clauses vars i;
-        open_log = o;
+        search = search-turn s w o clauses vars i;
+        open_log = p;
         in_budget = b;
-        in_order = order-same (value_of false s) (value_of false (record s { watch = w })) a refl vars order;
+        in_order = order-same (value_of false s) (value_of false (record s { watch = w; order = o })) a refl vars order;
         assumed = assumed-none w.placed a (omega (arith, d));
       },
     )

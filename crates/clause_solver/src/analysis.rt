@@ -10,6 +10,7 @@ ghost use Rattle.clause_solver.specs.Marks.{mark_at, AreClear, falsified};
 ghost use Rattle.clause_solver.specs.Lessons.{IsKnown, Resolves, IsTop, GoesBack, DerivesRest, IsBackLevel, IsLesson};
 
 use crate::marks::{clear, last_marked, mark_all, unmark_all};
+use activity_order::Order;
 use clause_store::{Clause, Lit};
 use clause_watch::Watch;
 use plain_data::List;
@@ -19,6 +20,7 @@ use std::alloc::{AllocError, Global};
 fn resolve(
     watch: &Watch,
     marks: &mut [bool],
+    order: &mut Order,
     chain: &mut List<u64>,
     lit: Lit,
     id: u64,
@@ -31,7 +33,7 @@ fn resolve(
     ensures chain { OnOk result (chain.new ≡ chain.old ++ id ∷ []) }
 {
     chain.push(id)?;
-    mark_all(marks, watch.clause(id).lits());
+    mark_all(marks, order, watch.clause(id).lits());
     marks[lit.var.0 as usize] = false;
     Ok(())
 }
@@ -40,6 +42,7 @@ fn resolve(
 fn resolve_back(
     watch: &Watch,
     marks: &mut [bool],
+    order: &mut Order,
     chain: &mut List<u64>,
     start: usize,
 ) -> Result<usize, AllocError>
@@ -58,7 +61,7 @@ fn resolve_back(
             return Ok(at);
         }
         let Some(id) = p.reason else { unreachable!() };
-        resolve(watch, marks, chain, p.lit, id)?;
+        resolve(watch, marks, order, chain, p.lit, id)?;
         let Some(next) = last_marked(marks, watch, at) else {
             unreachable!()
         };
@@ -73,6 +76,7 @@ pub fn refute(
     alloc: Global,
     watch: &Watch,
     marks: &mut [bool],
+    order: &mut Order,
     id: u64,
     end: usize,
 ) -> Result<List<u64>, AllocError>
@@ -86,13 +90,13 @@ pub fn refute(
 {
     let mut chain = List::new(alloc);
     chain.push(id)?;
-    mark_all(marks, watch.clause(id).lits());
+    mark_all(marks, order, watch.clause(id).lits());
     let mut at = end;
     while let Some(before) = last_marked(marks, watch, at) {
         let p = watch.at(before);
         at = before;
         if let Some(reason) = p.reason {
-            resolve(watch, marks, &mut chain, p.lit, reason)?;
+            resolve(watch, marks, order, &mut chain, p.lit, reason)?;
         }
     }
     clear(marks);
@@ -147,6 +151,7 @@ pub fn learn(
     alloc: Global,
     watch: &Watch,
     marks: &mut [bool],
+    order: &mut Order,
     conflict: u64,
 ) -> Result<Lesson, AllocError>
     requires right { IsWatch watch.now.vars watch.now.clauses watch.now.placed }
@@ -159,11 +164,11 @@ pub fn learn(
 {
     let mut chain = List::new(alloc);
     chain.push(conflict)?;
-    mark_all(marks, watch.clause(conflict).lits());
+    mark_all(marks, order, watch.clause(conflict).lits());
     let Some(start) = last_marked(marks, watch, watch.trail().len()) else {
         unreachable!()
     };
-    let at = resolve_back(watch, marks, &mut chain, start)?;
+    let at = resolve_back(watch, marks, order, &mut chain, start)?;
     let level = back_level(marks, watch, at);
     let lits = marked_lits(alloc, marks, watch, at + 1)?;
     let Some(clause) = Clause::new(alloc, lits.as_slice())? else {

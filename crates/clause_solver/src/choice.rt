@@ -1,28 +1,53 @@
 //! Which literal is decided next. No proof rests on the choice: any variable without value will do.
-ghost use Rattle.std.specs.Prelude.{◌≡◌, ℕ, ◌<◌, IfSome, IfNone, IfOk, false, true, length, unwrap_or};
+ghost use Rattle.std.specs.Prelude.{◌≡◌, ℕ, ◌<◌, min, IfSome, IfNone, IfOk, false, true, length, unwrap_or};
 ghost use Rattle.clause_store.specs.Lits.{var_of};
 ghost use Rattle.proof_log.specs.Known.{has_var};
 ghost use Rattle.clause_watch.specs.Trails.{lits_of, value_in, decisions};
+ghost use Rattle.clause_watch.specs.Watches.{back};
 ghost use Rattle.clause_solver.specs.Marks.{mark_at};
 ghost use Rattle.clause_solver.specs.Models.{HaveValues, IsModelOf};
 ghost use Rattle.clause_solver.specs.Searches.{IsOver, IsAssumed, IsNext, OnlyLeaves, stated};
 
+use activity_order::Order;
 use clause_store::{Lit, Var};
 use clause_watch::Watch;
 use std::alloc::{AllocError, Global};
 
-/// A variable without value, with its value in the last model, and false before the first one.
-pub fn choose(watch: &Watch, last: &[bool]) -> Option<Lit>
+/// The most active variable of those that wait and have no value. Those before it wait no longer.
+fn active(watch: &Watch, order: &mut Order) -> Option<usize>
+    ensures in_range { IfSome result (λ x. x < watch.now.vars) }
+    ensures free { IfSome result (λ x. has_var (lits_of watch.now.placed) x ≡ false) }
+{
+    while let Some(x) = order.next() {
+        if x < watch.vars() {
+            match watch.value(Var(x as u64)) {
+                Some(_) => {}
+                None => return Some(x),
+            }
+        }
+    }
+    None
+}
+
+/// A variable without value, with its last one: the most active of those that wait, or else the lowest.
+pub fn choose(watch: &Watch, order: &mut Order) -> Option<Lit>
     ensures in_range { IfSome result (λ l. var_of l < watch.now.vars) }
     ensures free { IfSome result (λ l. has_var (lits_of watch.now.placed) (var_of l) ≡ false) }
     ensures none { IfNone result (HaveValues watch.now.placed watch.now.vars) }
 {
+    if let Some(x) = active(watch, order) {
+        let positive = order.phase(x);
+        return Some(Lit {
+            var: Var(x as u64),
+            positive,
+        });
+    }
     for x in 0..watch.vars() {
         let var = Var(x as u64);
         match watch.value(var) {
             Some(_) => {}
             None => {
-                let positive = last.get(x).copied().unwrap_or(false);
+                let positive = order.phase(x);
                 return Some(Lit { var, positive });
             }
         }
@@ -38,7 +63,7 @@ pub enum Move {
 }
 
 /// The assumed literal is decided first, at false.
-pub fn next(watch: &Watch, last: &[bool], assumption: Option<(u64, Lit)>) -> Move
+pub fn next(watch: &Watch, order: &mut Order, assumption: Option<(u64, Lit)>) -> Move
     requires in_range { IsOver watch.now.vars assumption }
     requires assumed { IsAssumed watch.now.placed assumption }
     ensures { IsNext watch.now.placed watch.now.vars assumption result }
@@ -54,7 +79,7 @@ pub fn next(watch: &Watch, last: &[bool], assumption: Option<(u64, Lit)>) -> Mov
             }
         }
     }
-    match choose(watch, last) {
+    match choose(watch, order) {
         Some(lit) => Move::Decide(lit),
         None => Move::Finish,
     }
@@ -75,6 +100,28 @@ pub fn is_closing(watch: &Watch, assumption: Option<(u64, Lit)>) -> bool
         Some((_, lit)) => depth == 1 && watch.reason(lit.var).is_none(),
         None => false,
     }
+}
+
+/// The variables whose level is above the given one wait again.
+fn release_above(watch: &Watch, order: &mut Order, level: u64) {
+    let mut at = watch.trail().len();
+    while at > 0 {
+        at -= 1;
+        let last = watch.at(at);
+        if last.level <= level {
+            return;
+        }
+        order.release(last.lit.var.0 as usize, last.lit.positive);
+    }
+}
+
+/// Goes back to a level.
+pub fn go_back(watch: &mut Watch, order: &mut Order, level: u64)
+    ensures kept { watch.new ≡ back watch.old level }
+    ensures depth { decisions watch.new.placed ≡ min (decisions watch.old.placed) level }
+{
+    release_above(watch, order, level);
+    watch.undo(level);
 }
 
 /// The values of all variables.

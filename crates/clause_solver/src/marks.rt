@@ -4,17 +4,37 @@ ghost use Rattle.clause_store.specs.Lits.{AllBelow};
 ghost use Rattle.clause_watch.specs.Watches.{IsWatch};
 ghost use Rattle.clause_solver.specs.Marks.{mark_at, AreMarked, AreUnmarked, AreClear, IsLastMarked};
 
+use activity_order::Order;
 use clause_store::Lit;
 use clause_watch::Watch;
 
+/// Touches the variables of a clause that have no mark.
+fn touch_all(order: &mut Order, marks: &[bool], lits: &[Lit]) {
+    for lit in lits {
+        let var = lit.var.0 as usize;
+        if let Some(false) = marks.get(var) {
+            order.touch(var);
+        }
+    }
+}
+
 /// Marks the variables of a clause.
-pub fn mark_all(marks: &mut [bool], lits: &[Lit])
+fn set_all(marks: &mut [bool], lits: &[Lit])
     requires { AllBelow (length marks.old) lits.now }
     ensures { AreMarked marks.old marks.new lits.now }
 {
     for lit in lits {
         marks[lit.var.0 as usize] = true;
     }
+}
+
+/// Marks the variables of a clause; those that had no mark are touched.
+pub fn mark_all(marks: &mut [bool], order: &mut Order, lits: &[Lit])
+    requires { AllBelow (length marks.old) lits.now }
+    ensures { AreMarked marks.old marks.new lits.now }
+{
+    touch_all(order, marks, lits);
+    set_all(marks, lits);
 }
 
 /// Takes the marks of a clause's variables away.

@@ -15,7 +15,8 @@ ghost use Rattle.proof_log.specs.Usefulness.{IsSettled};
 
 use crate::Outcome;
 use crate::analysis::{Lesson, learn, refute};
-use crate::choice::{Move, is_closing, next, values_of};
+use crate::choice::{Move, go_back, is_closing, next, values_of};
+use activity_order::Order;
 use clause_store::{Clause, Lit, Var};
 use clause_watch::Watch;
 use proof_log::{Line, Log};
@@ -39,6 +40,8 @@ pub struct Search {
     pub model: Vec<bool>,
     /// The marks of the analysis, none between two calls.
     pub marks: Vec<bool>,
+    /// Which variable is decided next.
+    pub order: Order,
 }
 
 impl Search {
@@ -55,8 +58,15 @@ impl Search {
             clause,
             chain,
             level,
-        } = learn(self.alloc, &self.watch, self.marks.as_mut_slice(), conflict)?;
-        self.watch.undo(level);
+        } = learn(
+            self.alloc,
+            &self.watch,
+            self.marks.as_mut_slice(),
+            &mut self.order,
+            conflict,
+        )?;
+        self.order.fade();
+        go_back(&mut self.watch, &mut self.order, level);
         let id = self.watch.next_id();
         self.watch.add(&clause)?;
         self.log.push(Line::Learnt { id, clause, chain })?;
@@ -81,14 +91,21 @@ impl Search {
         requires refutes { Rests self.old.watch id end assumption }
         ensures { OnOk result (IsClosed self.old self.new assumption) }
     {
-        let chain = refute(self.alloc, &self.watch, self.marks.as_mut_slice(), id, end)?;
+        let chain = refute(
+            self.alloc,
+            &self.watch,
+            self.marks.as_mut_slice(),
+            &mut self.order,
+            id,
+            end,
+        )?;
         match assumption {
             None => {
                 self.log.push(Line::Unsat { chain })?;
                 Ok(())
             }
             Some((bit, lit)) => {
-                self.watch.undo(0);
+                go_back(&mut self.watch, &mut self.order, 0);
                 let id = self.watch.next_id();
                 let clause = Clause::single(self.alloc, lit)?;
                 self.watch.add(&clause)?;
@@ -154,7 +171,7 @@ impl Search {
         requires settled { IsSettled (lits_of self.old.watch.placed) self.old.watch.clauses }
         ensures { IfOk result (IsStep self.old self.new assumption budget) }
     {
-        match next(&self.watch, self.model.as_slice(), assumption) {
+        match next(&self.watch, &mut self.order, assumption) {
             Move::Decide(lit) => {
                 self.watch.decide(lit)?;
                 Ok(None)
@@ -198,7 +215,7 @@ impl Search {
         requires in_order { IsInOrder (value_of false self.old) assumption }
         ensures { IfOk result (λ o. IsStep self.old self.new assumption budget (Some o)) }
     {
-        self.watch.undo(0);
+        go_back(&mut self.watch, &mut self.order, 0);
         loop {
             if let Some(outcome) = self.step(assumption, budget)? {
                 return Ok(outcome);
@@ -214,7 +231,7 @@ impl Search {
         requires in_range { var_of lit < self.old.watch.vars }
         ensures { OnOk result (IsFixed self.old self.new bit lit) }
     {
-        self.watch.undo(0);
+        go_back(&mut self.watch, &mut self.order, 0);
         let id = self.watch.next_id();
         let clause = Clause::single(self.alloc, lit.negated())?;
         self.watch.add(&clause)?;
@@ -239,6 +256,7 @@ impl Search {
             learnt: _,
             model: _,
             marks: _,
+            order: _,
         } = self;
         log
     }

@@ -7,6 +7,7 @@ ghost use Rattle.clause_solver.specs.Solvers.{IsLogOf, Answers, Fixes, IsInOrder
 
 use crate::Outcome;
 use crate::search::Search;
+use activity_order::Order;
 use clause_store::{ClauseList, Lit};
 use clause_watch::Watch;
 use proof_log::{Line, Log};
@@ -55,6 +56,7 @@ impl Solver {
     {
         let watch = Watch::new(alloc, clauses)?;
         let marks = vec![in alloc; false; watch.vars()]?;
+        let order = Order::new(alloc, watch.vars())?;
         let mut log = Log::new(alloc);
         log.push(Line::Header {
             vars: clauses.vars(),
@@ -72,6 +74,7 @@ impl Solver {
                 learnt: 0,
                 model: Vec::new(alloc),
                 marks,
+                order,
             },
             failed: false,
         })

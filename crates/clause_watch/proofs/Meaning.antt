@@ -1,30 +1,19 @@
 -- What the statuses say of the trail.
-use Rattle.std.proofs.Common.{◌≡◌, ◌≢◌, ℕ, ◌+◌, ◌<◌, Bool, true, false, not, eqb, List, [], ◌∷◌, ◌++◌, length, get_or, take, drop, Option, Some, None, ◌⊎◌, inl, inr, refl, sym, ap, ◌∙◌, subst, arith}
+use Rattle.std.proofs.Common.{◌≡◌, ◌≢◌, ℕ, Bool, true, false, not, eqb, List, [], ◌∷◌, Option, Some, None, ◌⊎◌, inl, inr, refl, sym, ap, ◌∙◌, arith}
 use Rattle.std.specs.Bool.{beq}
 use Rattle.std.specs.Option.{option_map}
 use Rattle.std.proofs.lemmas.Bool.{cases_Bool, or_cases, or_from, or_left, or_right, false≢true}
-use Rattle.std.proofs.lemmas.List.{take_more, drop_more}
 use Rattle.std.proofs.lemmas.Option.{none-some, same_Some}
 use Rattle.clause_store.specs.declared.Lit.{Lit}
 use Rattle.clause_store.specs.Lits.{var_of, negation, has, lit_eq, AllAbove, IsClause}
-use Rattle.proof_log.specs.Known.{AllClauses, has_var, AllOver}
+use Rattle.proof_log.specs.Known.{has_var}
 use Rattle.clause_store.proofs.Sets.{same_lit, lit_eq-refl}
 use Rattle.clause_watch.specs.declared.trail.Placed.{Placed}
-use Rattle.clause_watch.specs.declared.scan.Status.TheVariants.{Open, False}
-use Rattle.clause_watch.specs.declared.scan.Status.TheVariants as status
-use Rattle.proof_log.specs.Usefulness.{TrueLit, FreePair, IsSettled}
+use Rattle.clause_watch.specs.declared.status.Status.TheVariants.{Open, False}
+use Rattle.clause_watch.specs.declared.status.Status.TheVariants as status
+use Rattle.proof_log.specs.Usefulness.{TrueLit, FreePair}
 use Rattle.clause_watch.specs.Trails.{lits_of, placed_of, state_in}
-use Rattle.clause_watch.specs.Statuses.{status_of, status_step, AllOpen}
-
-AllOpen-push : (values : List Placed) (cs : List (List Lit)) (c : List Lit) → AllOpen values cs → status_of values None c ≡ Open → AllOpen values (cs ++ c ∷ [])
-AllOpen-push values [] c a e = (e, tt)
-AllOpen-push values (d ∷ cs) c a e = (a.0, AllOpen-push values cs c a.1 e)
-
-pub AllOpen-more : (values : List Placed) (cs : List (List Lit)) (i : ℕ) (c : List Lit) → i < length cs → c ≡ get_or cs i c → AllOpen values (take i cs) → status_of values None c ≡ Open → AllOpen values (take (i + 1) cs)
-AllOpen-more values cs i c h e a o = subst (AllOpen values) (ap (λ d. take i cs ++ d ∷ []) e ∙ sym (take_more cs i c h)) (AllOpen-push values (take i cs) c a o)
-
-pub AllOver-next : (n i : ℕ) (cs : List (List Lit)) (d : List Lit) → i < length cs → AllOver n (drop i cs) → AllOver n (drop (i + 1) cs)
-AllOver-next n i cs d h b = (subst (AllOver n) (drop_more cs i d h) b).1
+use Rattle.clause_watch.specs.Statuses.{status_of, status_step}
 
 -- the value of a variable by the trail
 abbrev pub value : Option Placed → Option Bool
@@ -204,6 +193,6 @@ module _ (ps : List Placed) where
         | inr y ↦ ih r m y
       ]
 
-  pub settled-from : (cs : List (List Lit)) → AllClauses cs → AllOpen ps cs → IsSettled (lits_of ps) cs
-  settled-from [] i o = tt
-  settled-from (c ∷ cs) i o = (open-none c c (λ l h. h) i.0 o.0, settled-from cs i.1 o.1)
+  -- an open clause has a true literal or two without value
+  pub open-fine : (c : List Lit) → IsClause c → status_of ps None c ≡ Open → TrueLit (lits_of ps) c ⊎ FreePair (lits_of ps) c
+  open-fine c i e = open-none c c (λ l h. h) i e

@@ -6,7 +6,9 @@
 //! clauses. It must not know how a search decides, nor what it learns.
 #![tactic(auto)]
 
-mod scan;
+mod occurrences;
+mod queue;
+mod status;
 mod trail;
 mod watch;
 

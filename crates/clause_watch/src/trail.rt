@@ -93,6 +93,13 @@ impl Trail {
         self.values.len()
     }
 
+    /// How many literals there are.
+    pub fn len(&self) -> usize
+        ensures { result ≡ length self.now.placed }
+    {
+        self.lits.len()
+    }
+
     /// The literals in order.
     pub fn lits(&self) -> &[Lit]
         ensures { result.now ≡ lits_of self.now.placed }

@@ -9,7 +9,7 @@ ghost use Rattle.clause_watch.specs.Trails.{lits_of, decisions, value_in, placed
 ghost use Rattle.clause_watch.specs.Reasons.{NamesFalse};
 ghost use Rattle.clause_watch.specs.Watches.{IsWatch, IsAddable, with_known, with_next, back, Propagated};
 
-use crate::scan::propagate;
+use crate::queue::Queue;
 use crate::trail::{Placed, Trail};
 use clause_store::{Clause, ClauseList, Lit, Var};
 use std::alloc::{AllocError, Global};
@@ -40,18 +40,22 @@ pub struct Watch {
     clauses: Vec<Clause>,
     /// The true literals.
     trail: Trail,
+    /// Which clauses are to be looked at.
+    queue: Queue,
     /// Where copies of added clauses are made.
     alloc: Global,
 }
 
 impl Model for Watch {
     ghost use Rattle.clause_watch.specs.Watches.{WatchValue, IsWatch};
+    ghost use Rattle.clause_watch.specs.Waking.{IsTended};
 
     ghost Value = { WatchValue };
 
     ghost view = { λ w. record { clauses = w.clauses.items; placed = w.trail.placed; vars = w.trail.vars } };
 
-    ghost invariant = { λ w. IsWatch w.trail.vars w.clauses.items w.trail.placed };
+    ghost invariant = { λ w. IsWatch w.trail.vars w.clauses.items w.trail.placed
+        × IsTended w.trail.vars w.clauses.items w.trail.placed w.queue };
 }
 
 impl Watch {
@@ -62,6 +66,7 @@ impl Watch {
         let trail = Trail::new(alloc, list.vars() as usize)?;
         let mut watch = Watch {
             clauses: Vec::new(alloc),
+            queue: Queue::new(alloc, trail.vars())?,
             trail,
             alloc,
         };
@@ -78,7 +83,7 @@ impl Watch {
         ensures ok { OnOk result (self.new ≡ with_known self.old clause.now) }
         ensures err { OnErr result (self.new ≡ self.old) }
     {
-        let _ = clause.lits();
+        self.queue.lists.add(clause.lits(), self.clauses.len())?;
         let copy = clause.duplicate(self.alloc)?;
         self.clauses.push(copy)?;
         Ok(())
@@ -102,7 +107,7 @@ impl Watch {
         ensures conflict { IfOk result (λ o. IfSome o (NamesFalse self.new.placed self.new.clauses)) }
         ensures grown { Propagated self.old self.new }
     {
-        propagate(&mut self.trail, self.clauses.as_slice())
+        self.queue.run(&mut self.trail, self.clauses.as_slice())
     }
 
     /// Keeps the literals whose level is not above the given one.
@@ -112,6 +117,7 @@ impl Watch {
         ensures settled { level < decisions self.old.placed → IsSettled (lits_of self.new.placed) self.new.clauses }
     {
         self.trail.undo(level);
+        self.queue.back(self.trail.len());
     }
 
     /// The value of a variable, if it has one.

@@ -1,4 +1,8 @@
 //! `solve BUDGET VARS BITS.. 0 CLAUSES..`: the calls of a solver, one by one.
+ghost use Rattle.std.specs.Prelude.{◌≡◌, ◌<◌, ◌≤◌, length};
+ghost use Rattle.clause_store.specs.Lits.{var_of};
+ghost use Rattle.proof_log.specs.Lines.{IsOpen, learnt_in};
+
 use crate::input::{are_below, clauses_of, lits_of, number_of};
 use crate::output::{push_line, push_log, push_model};
 use clause_solver::{Outcome, Solver};
@@ -21,14 +25,31 @@ pub fn answer(
     let first = solver.solve(None, budget)?;
     say(alloc, &mut text, &solver, first)?;
     if first == Outcome::Model && !bits.is_empty() && bits[0].var.0 < clauses.vars() {
-        let second = solver.solve(Some((0, bits[0])), budget)?;
-        say(alloc, &mut text, &solver, second)?;
-        if second == Outcome::Model {
-            solver.fix(0, bits[0])?;
-        }
+        assume(alloc, &mut text, &mut solver, bits[0], budget)?;
     }
     push_log(alloc, &mut text, solver.log().lines())?;
     Ok(text)
+}
+
+/// What `solve` answers for the first bit assumed to be 0, and after a model `fix` of that bit.
+fn assume(
+    alloc: Global,
+    text: &mut Vec<u8>,
+    solver: &mut Solver,
+    lit: Lit,
+    budget: u64,
+) -> Result<(), AllocError>
+    requires open_log { IsOpen solver.old.lines }
+    requires in_budget { learnt_in solver.old.lines ≤ budget }
+    requires none { 0 ≡ length solver.old.given }
+    requires in_range { var_of lit < solver.old.vars }
+{
+    let second = solver.solve(Some((0, lit)), budget)?;
+    say(alloc, text, solver, second)?;
+    match second {
+        Outcome::Model => solver.fix(0, lit),
+        Outcome::Refuted | Outcome::Spent => Ok(()),
+    }
 }
 
 /// The answer, how many clauses were learnt, and the model.

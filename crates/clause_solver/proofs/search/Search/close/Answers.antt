@@ -10,7 +10,7 @@ use Rattle.clause_solver.specs.Marks.{AreClear}
 use Rattle.clause_solver.proofs.search.Search.close.Goals as goal
 
 pub add-requires-clause-settled : goal.add-requires-clause-settled
-add-requires-clause-settled c = inl (omega (arith, c.undo.ensures.depth))
+add-requires-clause-settled c = inl (omega (arith, c.go_back.ensures.depth))
 
 pub returns-in_ok-push-in-None : goal.returns-in_ok-push-in-None
 returns-in_ok-push-in-None c =
@@ -28,11 +28,11 @@ returns-in_ok-push-in-Some-2 c =
     let e = refilled s.marks.len c.refute.new.marks s.marks.items (omega (arith, s.marks.ok.0)) n in
     let d = subst (λ a. IsDerived s.watch.clauses c.in_ok-chain.chain (stated a)) c.in-Some.is (c.requires.refutes c.in_ok-chain.chain c.in_ok-chain.ensures.chain) in
     let o = subst (IsInOrder (value_of false s)) c.in-Some.is c.requires.in_order in
-    let a = ap (λ (w : WatchValue). w.clauses) c.undo.ensures.kept in
+    let a = ap (λ (w : WatchValue). w.clauses) c.go_back.ensures.kept in
     let b = ap (λ (w : WatchValue). w.clauses) c.in_ok-add-in-Some.ensures.ok in
     subst (IsClosed s _) (sym c.in-Some.is)
     (closed-bit s _ c.in-Some.bit c.next_id-id.result c.in-Some.lit c.in_ok-chain.chain c.requires.search c.requires.open_log o.0
     (c.next_id-id.ensures ∙ ap (λ cs. length cs + 1) a) d
     (b ∙ ap (λ cs. cs ++ c.in_ok-clause-in-Some.clause ∷ []) a ∙ ap (λ k. s.watch.clauses ++ k ∷ []) c.in_ok-clause-in-Some.ensures)
-    (ap (λ (w : WatchValue). w.vars) c.in_ok-add-in-Some.ensures.ok ∙ ap (λ (w : WatchValue). w.vars) c.undo.ensures.kept)
+    (ap (λ (w : WatchValue). w.vars) c.in_ok-add-in-Some.ensures.ok ∙ ap (λ (w : WatchValue). w.vars) c.go_back.ensures.kept)
     c.in_ok-push-in-Some.ensures.ok refl refl c.in_ok-push-in-Some-2.ensures.items refl refl (ap length e ∙ n) (subst AreClear (sym e) c.in_ok-chain.ensures.unmarked))

@@ -7,7 +7,7 @@ use Rattle.clause_solver.specs.Marks.{AreClear}
 use Rattle.clause_solver.proofs.search.Search.teach.Goals as goal
 
 pub add-requires-clause-settled : goal.add-requires-clause-settled
-add-requires-clause-settled c = lesson-addable c.args.self.now.watch c.undo.new.self c.in_ok-clause.field-0 c.in_ok-clause.ensures.lesson c.undo.ensures.kept c.undo.ensures.depth
+add-requires-clause-settled c = lesson-addable c.args.self.now.watch c.go_back.new.watch c.in_ok-clause.field-0 c.in_ok-clause.ensures.lesson c.go_back.ensures.kept c.go_back.ensures.depth
 
 pub overflow_add-self : goal.overflow_add-self
 overflow_add-self c =
@@ -20,7 +20,7 @@ overflow_add-self c =
 pub returns : goal.returns
 returns c =
     let s = c.args.self.now in
-    let a = c.undo.ensures.kept in
+    let a = c.go_back.ensures.kept in
     let l = c.in_ok-clause.field-0 in
     let n : length c.learn.new.marks ≡ length s.marks.items = c.learn.auto.marks ∙ ap length c.as_mut_slice.ensures.value in
     let e = refilled s.marks.len c.learn.new.marks s.marks.items (omega (arith, s.marks.ok.0)) n in
