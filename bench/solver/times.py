@@ -1,14 +1,21 @@
 #!/usr/bin/env python3
-"""Times beside minisat: times.py PROGRAM KIND COUNT SEED SIZE..: seconds, and learnt clauses beside minisat's conflicts."""
-import os, re, subprocess, sys, tempfile, time
+"""Times beside minisat: times.py PROGRAM KIND COUNT SEED SIZE..: processor seconds, and learnt clauses beside minisat's
+conflicts. `perf record PROGRAM < ROWS` and `perf report` tell the share of the analysis."""
+import os, re, resource, subprocess, sys, tempfile
+
+
+def spent():
+    """Processor seconds of the programs that ended."""
+    return resource.getrusage(resource.RUSAGE_CHILDREN).ru_utime
+
 
 program, kind, count, seed = sys.argv[1:5]
 here = os.path.dirname(os.path.abspath(__file__))
 for size in sys.argv[5:]:
     rows = subprocess.run([sys.executable, f"{here}/sets.py", kind, count, seed, size], capture_output=True, text=True).stdout
-    start = time.time()
+    start = spent()
     answers = subprocess.run([program], input=rows, capture_output=True, text=True).stdout
-    ours = time.time() - start
+    ours = spent() - start
     learnt = len(re.findall(r"^l ", answers, re.M))
     theirs, conflicts = 0.0, 0
     for row in rows.splitlines():
@@ -24,8 +31,8 @@ for size in sys.argv[5:]:
         with tempfile.NamedTemporaryFile("w", suffix=".cnf") as f:
             f.write(f"p cnf {words[0]} {len(clauses)}\n" + "".join(" ".join(map(str, c)) + " 0\n" for c in clauses))
             f.flush()
-            start = time.time()
+            start = spent()
             said = subprocess.run(["minisat", f.name], capture_output=True, text=True).stdout
-            theirs += time.time() - start
+            theirs += spent() - start
             conflicts += int(re.search(r"conflicts\s*: (\d+)", said).group(1))
     print(f"{kind} {size} x{count}: {ours:.2f} s, {learnt} learnt; minisat {theirs:.2f} s, {conflicts} conflicts")
