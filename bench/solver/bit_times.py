@@ -2,15 +2,9 @@
 """Where the time of a search for the least bits goes: bit_times.py PROGRAM SEED SIZE VERSIONS [PARTS].
 
 Asks for the first bits of a set of chains (`sets.py`), an eighth (1/PARTS) more each time. The search for the first bits does
-<<<<<<< HEAD
-the same whatever bits follow, so the differences are the time of each part; the log tells what was learnt for it.
-"""
-import os, subprocess, sys, time
-=======
 the same whatever bits follow, so the differences are the processor time of each part; the log tells what was learnt for it.
 """
 import os, resource, subprocess, sys
->>>>>>> 50ab08b5a061df8c61a66585cde7f04cf3d0a046
 
 program, seed, size, versions = sys.argv[1:5]
 parts = int(sys.argv[5]) if len(sys.argv) > 5 else 8
@@ -22,26 +16,17 @@ bits, rest = words[3:end], words[end:]
 print(f"{words[2]} variables, {rest.count('0') - 1} clauses, {len(bits)} bits")
 
 
-<<<<<<< HEAD
-=======
 def used():
     return resource.getrusage(resource.RUSAGE_CHILDREN).ru_utime
 
 
->>>>>>> 50ab08b5a061df8c61a66585cde7f04cf3d0a046
 def searched(count):
     row = " ".join(words[:3] + bits[:count] + rest) + "\n"
     best = None
     for _ in range(3):
-<<<<<<< HEAD
-        start = time.time()
-        answer = subprocess.run([program], input=row, capture_output=True, text=True).stdout
-        spent = time.time() - start
-=======
         start = used()
         answer = subprocess.run([program], input=row, capture_output=True, text=True).stdout
         spent = used() - start
->>>>>>> 50ab08b5a061df8c61a66585cde7f04cf3d0a046
         best = spent if best is None else min(best, spent)
     return best, [line[0] for line in answer.split("\n")[1:] if line]
 
