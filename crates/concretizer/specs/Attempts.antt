@@ -6,7 +6,8 @@ use Rattle.run_answers.specs.Stages.{Is}
 use Rattle.run_words.specs.Orders.{order_of}
 use Rattle.run_problem.specs.Wants.{Wants}
 use Rattle.run_problem.specs.declared.problem.Problem.{Problem}
-use Rattle.run_problem.specs.Problems.{IsInputPath, Poses}
+use Rattle.run_input.specs.Inputs.{IsInputPath}
+use Rattle.run_problem.specs.Problems.{Poses}
 use Rattle.run_output.specs.Answers.{Writes}
 use Rattle.run_problem.specs.declared.wanted.Wanted.{Wanted}
 use Rattle.run_output.specs.declared.answer.Answer.{Answer}

@@ -1,7 +1,7 @@
 -- Names in a folder, and the keys of a set of texts.
 use Rattle.std.proofs.Common.{◌≡◌, refl, sym, ap, subst, ◌∙◌, ℕ, List, [], ◌∷◌, map, drop, length, Bool, true, false, Option, Some, None, String, option_copied, Vec, if◌then◌else◌, MatchOption}
 use Rattle.std.specs.Bool.{nat_eq}
-use Rattle.std.specs.List.{starts_with}
+use Rattle.std.specs.List.{starts_with, AllByRecursion}
 use Rattle.std.specs.Str.Pattern.{FindsTextPrefix, StripsPrefix}
 use Rattle.std.proofs.Common.{Bor}
 use Rattle.std.specs.String.{string_bytes}
@@ -20,7 +20,7 @@ use Rattle.std.specs.BTreeMap.{BTreeMap}
 use Rattle.std.specs.FinMap.{entries, keys, empty, from_entries, entries-insert, len-entries, len-empty, put}
 use Rattle.std.specs.declared.cmp.Ordering.{Ordering}
 use Rattle.outside_desk.specs.FileMap.{file_of, files_of}
-use Rattle.outside_desk.specs.Listing.{behind, with_name}
+use Rattle.outside_desk.specs.Listing.{behind, with_name, AreInOrder}
 
 chosen : (b : Bool) (t : Bool) (x : List ℕ) → b ≡ t → (if b then Some x else None) ≡ (if t then Some x else None)
 chosen b t x e = ap (λ c. if c then Some x else None) e
@@ -34,6 +34,17 @@ strip_is front text (Some x) (k, is, same, len) =
 -- texts by their bytes
 abbrev pub text_order : String Global → String Global → Ordering
 text_order a b = slice_cmp nat_cmp (string_bytes a) (string_bytes b)
+
+texts_above : (name : String Global) (names : List (String Global))
+    → AllByRecursion (λ n. text_order name n ≡ Less) names → AllByRecursion (λ n. slice_cmp nat_cmp (string_bytes name) n ≡ Less) (map string_bytes names)
+texts_above name [] above = tt
+texts_above name (n ∷ names) above = (above.0, texts_above name names above.1)
+
+-- the texts of a set are in order
+pub texts_rise : (names : List (String Global)) → IsStrictlySortedBy text_order names → AreInOrder (map string_bytes names)
+unfolding IsStrictlySortedBy
+texts_rise [] rise = tt
+texts_rise (name ∷ names) rise = (texts_above name names rise.0, texts_rise names rise.1)
 
 -- a set of texts by their bytes
 pub inserted : (names : List (String Global)) (name : String Global) → map string_bytes (insert_key text_order names name) ≡ with_name (map string_bytes names) (string_bytes name)

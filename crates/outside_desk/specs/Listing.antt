@@ -3,6 +3,7 @@ use Rattle.std.specs.Prelude.{◌≡◌, ◌≢◌, ℕ, ◌==◌, List, [], ◌
 use Rattle.std.specs.List.{filter_map, starts_with, before_first}
 use Rattle.std.specs.Option.{option_map, option_and_then}
 use Rattle.std.specs.Ordering.{nat_cmp}
+use Rattle.std.specs.List.Sorted.{IsStrictlySortedBy}
 use Rattle.std.specs.Cmp.Lexicographic.{slice_cmp}
 use Rattle.std.specs.Bool.{nat_eq}
 use Rattle.std.specs.String.{string_bytes}
@@ -36,6 +37,10 @@ with_names names (name ∷ more) = with_names (with_name names name) more
 -- the names in a folder, in byte order and each once
 unfoldable pub names_in : Files → List ℕ → List (List ℕ)
 names_in files folder = with_names [] (filter_map (name_below folder) (keys files))
+
+-- names in byte order, each once
+abbrev pub AreInOrder : List (List ℕ) → Type 0
+AreInOrder names = IsStrictlySortedBy (slice_cmp nat_cmp) names
 
 -- what a listing answers
 abbrev pub Lists : Files → List ℕ → Result (Vec (String Global) Global) DeskFault → Type 0

@@ -1,9 +1,10 @@
 // The trait of a desk, which holds files by their paths.
-ghost use Rattle.std.specs.Prelude.{◌≡◌, ◌≤◌, ◌<◌, ◌^◌, ℕ, Option, length, IfOk, IfSome, OnOk, IsErrOf};
+ghost use Rattle.std.specs.Prelude.{◌≡◌, ◌≤◌, ◌<◌, ◌^◌, ℕ, Option, length, map, IfOk, IfSome, OnOk, IsErrOf};
 ghost use Rattle.std.specs.FinMap.{get};
+ghost use Rattle.std.specs.String.{string_bytes};
 ghost use Rattle.outside_desk.specs.Causes.{Counts};
 ghost use Rattle.outside_desk.specs.Files.{Files, ReadsAt, with_file, MayHold};
-ghost use Rattle.outside_desk.specs.Listing.{Lists};
+ghost use Rattle.outside_desk.specs.Listing.{Lists, AreInOrder};
 
 use crate::DeskFault;
 use std::alloc::Global;
@@ -50,6 +51,7 @@ pub trait Desk {
     /// `Missing` where there is none.
     fn list(&mut self, alloc: Global, path: &str) -> Result<Vec<String>, DeskFault>
         ensures names { IfSome (files self.old) (λ m. Lists m path.now result) }
+        ensures order { IfOk result (λ names. AreInOrder (map string_bytes names.items)) }
         ensures same { files self.new ≡ files self.old }
         ensures cause { Counts (faults self.old) (faults self.new) (IsErrOf result DeskFault.Failed) }
         ensures put_faults { put_faults self.new ≡ put_faults self.old };

@@ -1,7 +1,7 @@
 // Files in memory, seen as a finite map.
 ghost use Rattle.std.specs.Prelude.{◌≡◌, map as map_list, IfOk, OnOk, OnErr, IsErrOf};
 ghost use Rattle.std.specs.String.{string_bytes};
-ghost use Rattle.outside_desk.specs.Listing.{Lists, names_in};
+ghost use Rattle.outside_desk.specs.Listing.{Lists, AreInOrder, names_in};
 ghost use Rattle.std.specs.Option.{option_copied};
 ghost use Rattle.std.specs.FinMap as map;
 
@@ -61,6 +61,7 @@ impl FileMap {
     /// The names in a folder, or `Missing` where it has none.
     pub fn list(&self, folder: &str) -> Result<Vec<String>, DeskFault>
         ensures lists { Lists self.now folder.now result }
+        ensures order { IfOk result (λ names. AreInOrder (map_list string_bytes names.items)) }
         ensures no_fault { IsErrOf result DeskFault.Failed → ⊥ }
     {
         let names = self.names_below(folder)?;
@@ -72,7 +73,8 @@ impl FileMap {
 
     /// The names in a folder.
     fn names_below(&self, folder: &str) -> Result<Vec<String>, AllocError>
-        ensures { IfOk result (λ names. map_list string_bytes names.items ≡ names_in self.now folder.now) }
+        ensures names { IfOk result (λ names. map_list string_bytes names.items ≡ names_in self.now folder.now) }
+        ensures order { IfOk result (λ names. AreInOrder (map_list string_bytes names.items)) }
     {
         let mut names = Names::new(self.alloc);
         for path in self.entries.keys() {

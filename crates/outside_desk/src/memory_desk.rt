@@ -1,9 +1,10 @@
 // A desk in memory whose calls fail by a list.
-ghost use Rattle.std.specs.Prelude.{◌≡◌, [], ◌∷◌, ◌++◌, ◌+◌, ◌-◌, ◌^◌, ◌<◌, ℕ, min, Some, OnOk, OnErr, IsErrOf};
+ghost use Rattle.std.specs.Prelude.{◌≡◌, [], ◌∷◌, ◌++◌, ◌+◌, ◌-◌, ◌^◌, ◌<◌, ℕ, min, map as map_list, Some, IfOk, OnOk, OnErr, IsErrOf};
 ghost use Rattle.std.specs.Option.{option_copied};
 ghost use Rattle.std.specs.FinMap as map;
+ghost use Rattle.std.specs.String.{string_bytes};
 ghost use Rattle.outside_desk.specs.Files.{ReadsAt};
-ghost use Rattle.outside_desk.specs.Listing.{Lists};
+ghost use Rattle.outside_desk.specs.Listing.{Lists, AreInOrder};
 
 use crate::calls::Calls;
 use crate::file_map::FileMap;
@@ -119,6 +120,7 @@ impl Desk for MemoryDesk {
 
     fn list(&mut self, _: Global, path: &str) -> Result<Vec<String>, DeskFault>
         ensures names { Lists (desk_state self.old).files path.now result }
+        ensures order { IfOk result (λ names. AreInOrder (map_list string_bytes names.items)) }
         ensures calls { Looks (desk_state self.old) (desk_state self.new) result }
     {
         if self.calls.fails() {

@@ -2,7 +2,7 @@
 ghost use Rattle.std.specs.Prelude.{◌≡◌, ◌++◌, ◌∷◌, [], map, IfOk, OnOk};
 ghost use Rattle.std.specs.Option.{option_copied};
 ghost use Rattle.std.specs.String.{string_bytes};
-ghost use Rattle.outside_desk.specs.Listing.{behind, first_part, name_below, with_name};
+ghost use Rattle.outside_desk.specs.Listing.{behind, first_part, name_below, with_name, AreInOrder};
 
 use std::alloc::{AllocError, Global};
 use std::collections::BTreeSet;
@@ -41,8 +41,10 @@ impl Names {
         Ok(())
     }
 
+    #[tactic(auto, using(crate::proofs::Listings::texts_rise))]
     pub fn into_list(self) -> Result<Vec<String>, AllocError>
-        ensures { IfOk result (λ list. map string_bytes list.items ≡ self) }
+        ensures names { IfOk result (λ list. map string_bytes list.items ≡ self) }
+        ensures order { IfOk result (λ list. AreInOrder (map string_bytes list.items)) }
     {
         self.set.into_iter().collect(self.alloc)
     }

@@ -1,8 +1,10 @@
 //! The desk of the machine, which tells no content.
 
-ghost use Rattle.std.specs.Prelude.{◌≡◌, ◌≤◌, ◌<◌, ◌^◌, ℕ, None, IfOk, IsErrOf, length};
+ghost use Rattle.std.specs.Prelude.{◌≡◌, ◌≤◌, ◌<◌, ◌^◌, ℕ, None, map, IfOk, IsErrOf, length};
 ghost use Rattle.std.specs.Io.{ReadsAtMost};
+ghost use Rattle.std.specs.String.{string_bytes};
 ghost use Rattle.outside_desk.specs.Causes.{CountsEach};
+ghost use Rattle.outside_desk.specs.Listing.{AreInOrder};
 
 use crate::real_files::{fault_of, list_folder, open_regular, put_file, read_piece};
 use crate::{Desk, DeskFault};
@@ -149,6 +151,7 @@ impl<'a, R: Files> Desk for RealDesk<'a, R, R::File> {
     }
 
     fn list(&mut self, alloc: Global, path: &str) -> Result<Vec<String>, DeskFault>
+        ensures order { IfOk result (λ names. AreInOrder (map string_bytes names.items)) }
         ensures faults { CountsEach (real_faults self.old) (real_faults self.new) (IsErrOf result DeskFault.Failed) }
         ensures put_faults { real_put_faults self.new ≡ real_put_faults self.old }
     {

@@ -1,9 +1,11 @@
 //! Files and folders of the machine: the trusted edge, which tells no content.
 
-ghost use Rattle.std.specs.Prelude.{◌≡◌, IsErrOf, OnOk, OnErr};
+ghost use Rattle.std.specs.Prelude.{◌≡◌, map, IfOk, IsErrOf, OnOk, OnErr};
 ghost use Rattle.std.specs.Io.{ReadsAtMost};
 ghost use Rattle.std.specs.Io.KnownBytes.{Appends};
 ghost use Rattle.std.specs.IoError.{error_kind};
+ghost use Rattle.std.specs.String.{string_bytes};
+ghost use Rattle.outside_desk.specs.Listing.{AreInOrder};
 ghost use Rattle.outside_desk.specs.RealFiles.{fault_of_kind, open_fault_of_kind, AppendsPart};
 
 use crate::DeskFault;
@@ -115,7 +117,9 @@ pub fn put_file<R: Files>(rt: &R, path: &str, bytes: &[u8]) -> Result<(), DeskFa
 }
 
 /// The names in a folder that are texts, sorted by their bytes.
-pub fn list_folder<R: Files>(alloc: Global, rt: &R, path: &str) -> Result<Vec<String>, Error> {
+pub fn list_folder<R: Files>(alloc: Global, rt: &R, path: &str) -> Result<Vec<String>, Error>
+    ensures order { IfOk result (λ names. AreInOrder (map string_bytes names.items)) }
+{
     let mut folder_path = String::from_str(alloc, path)?;
     folder_path.push('/')?;
     let mut folder = rt.open_dir(folder_path.as_str())?;

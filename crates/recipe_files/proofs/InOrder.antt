@@ -16,13 +16,10 @@ use Rattle.run_answers.specs.declared.refusal.Refusal.{Refusal}
 use Rattle.run_answers.specs.declared.refusal.Refusal.TheVariants as refusals
 use Rattle.run_answers.proofs.StageLaws.{ok_same, ok_not_err, then_ok}
 use Rattle.recipe_files.specs.Paths.{packages_path}
-use Rattle.recipe_files.specs.Sources.{Source, Pile, no_files, with_file, recipe_at, with_entry, with_entries, pile_by, pile_of}
+use Rattle.recipe_files.specs.Sources.{Source, Pile, names_of, no_files, with_file, recipe_at, with_entry, with_entries, pile_by, pile_of}
 
 abbrev Names : Type 0
 Names = List (List ℕ)
-
-abbrev names_of : Pile → Names
-names_of pile = map (λ (source : Source). source.0) pile.files
 
 -- ---- the names in a folder
 
@@ -61,7 +58,7 @@ with_file_names pile name bytes next is =
     ap names_of (sym same) ∙ map-append (λ (source : Source). source.0) pile.files ((name, bytes) ∷ [])
 
 -- an entry more, of which the name comes next
-entry_rises : (pile : Pile) (name : List ℕ) (names : Names) (found : Option (List ℕ)) (next : Pile)
+pub entry_rises : (pile : Pile) (name : List ℕ) (names : Names) (found : Option (List ℕ)) (next : Pile)
     → with_entry pile name found ≡ Ok next → IsInByteOrder (names_of pile ++ name ∷ names) → IsInByteOrder (names_of next ++ names)
 entry_rises pile name names None next is ordered =
     subst (λ (p : Pile). IsInByteOrder (names_of p ++ names)) (ok_same pile next is) (without (names_of pile) name names ordered)

@@ -1,5 +1,5 @@
 -- The recipe files of a repository, or the refusal that is due first.
-use Rattle.std.specs.Prelude.{◌≡◌, ℕ, ◌+◌, ◌^◌, nat_lt, nat_le, List, [], ◌∷◌, ◌++◌, length, Option, Some, None, Result, Ok, Err, if◌then◌else◌}
+use Rattle.std.specs.Prelude.{◌≡◌, ℕ, ◌+◌, ◌^◌, nat_lt, nat_le, List, [], ◌∷◌, ◌++◌, map, length, Option, Some, None, Result, Ok, Err, if◌then◌else◌}
 use Rattle.std.specs.FinMap.{get}
 use Rattle.outside_desk.specs.Files.{Files}
 use Rattle.outside_desk.specs.Listing.{names_in}
@@ -23,6 +23,10 @@ source_of file = (file.name, file.bytes.items)
 pub record Pile : Type 0 where
   pub files : List Source
   pub total : ℕ
+
+-- the names of their packages
+abbrev pub names_of : Pile → List (List ℕ)
+names_of pile = map (λ (source : Source). source.0) pile.files
 
 abbrev pub no_files : Pile
 no_files = record { files = []; total = 0 }

@@ -1,12 +1,14 @@
 //! The reading of a repository.
 
-ghost use Rattle.std.specs.Prelude.{◌≡◌, map, IfSome};
+ghost use Rattle.std.specs.Prelude.{◌≡◌, ◌∷◌, ◌++◌, ℕ, List, map, IfOk, IfSome, OnOk};
 ghost use Rattle.std.specs.String.{string_bytes};
 ghost use Rattle.outside_desk.specs.Causes.{Counts};
+ghost use Rattle.outside_desk.specs.Listing.{AreInOrder};
+ghost use Rattle.variant_values.specs.Texts.{IsInByteOrder};
 ghost use Rattle.run_answers.specs.Stages.{Is};
 ghost use Rattle.run_answers.specs.Stops.{Gives, EndsInReadFault, EndsInUsage};
 ghost use Rattle.recipe_files.specs.Paths.{FailsInside};
-ghost use Rattle.recipe_files.specs.Sources.{Leaves, no_files, recipe_at, with_entry, with_entries, pile_of};
+ghost use Rattle.recipe_files.specs.Sources.{Leaves, names_of, no_files, recipe_at, with_entry, with_entries, pile_of};
 
 use crate::paths::{packages_path, recipe_path};
 use crate::sources::{FILE_LIMIT, Sources};
@@ -17,7 +19,7 @@ use spec_grammar::is_name;
 use std::alloc::Global;
 
 /// Reads an entry of the folder: it is a recipe where its name is a NAME and its file is there.
-#[tactic(auto, unfolding(crate::specs::Sources::recipe_at), using(crate::proofs::Ends::inside, crate::proofs::Ends::counts))]
+#[tactic(auto, unfolding(crate::specs::Sources::recipe_at), using(crate::proofs::Ends::inside, crate::proofs::Ends::counts, crate::proofs::InOrder::entry_rises))]
 fn read_entry<D: Desk>(
     alloc: Global,
     desk: &mut D,
@@ -26,6 +28,7 @@ fn read_entry<D: Desk>(
     sources: &mut Sources,
 ) -> Result<(), ReadStop>
     ensures left { IfSome (D.files desk.old) (λ files. Leaves (with_entry sources.old name.now (recipe_at files repo.now name.now)) sources.new result) }
+    ensures order { (names : List (List ℕ)) → IsInByteOrder (names_of sources.old ++ name.now ∷ names) → OnOk result (IsInByteOrder (names_of sources.new ++ names)) }
     ensures path { FailsInside repo.now result }
     ensures no_usage { EndsInUsage result → ⊥ }
     ensures same { D.files desk.new ≡ D.files desk.old }
@@ -52,7 +55,9 @@ fn read_entries<D: Desk>(
     repo: &str,
     names: &[String],
 ) -> Result<Sources, ReadStop>
+    requires { AreInOrder (map string_bytes names.now) }
     ensures read { IfSome (D.files desk.old) (λ files. Gives result (Is (with_entries files repo.now no_files (map string_bytes names.now)))) }
+    ensures order { IfOk result (λ sources. IsInByteOrder (names_of sources)) }
     ensures path { FailsInside repo.now result }
     ensures no_usage { EndsInUsage result → ⊥ }
     ensures same { D.files desk.new ≡ D.files desk.old }
@@ -79,6 +84,7 @@ fn read_entries<D: Desk>(
 #[tactic(auto, unfolding(crate::specs::Sources::pile_of))]
 pub fn read_sources<D: Desk>(alloc: Global, desk: &mut D, repo: &str) -> Result<Sources, ReadStop>
     ensures read { IfSome (D.files desk.old) (λ files. Gives result (Is (pile_of files repo.now))) }
+    ensures order { IfOk result (λ sources. IsInByteOrder (names_of sources)) }
     ensures path { FailsInside repo.now result }
     ensures no_usage { EndsInUsage result → ⊥ }
     ensures same { D.files desk.new ≡ D.files desk.old }

@@ -1,12 +1,12 @@
 //! What holds of the recipe files of any repository.
 
-ghost use Rattle.std.specs.Prelude.{◌≡◌, ℕ, List, Ok, map};
+ghost use Rattle.std.specs.Prelude.{◌≡◌, ℕ, List, Ok};
 ghost use Rattle.outside_desk.specs.Files.{Files};
 ghost use Rattle.variant_values.specs.Texts.{IsInByteOrder};
-ghost use Rattle.recipe_files.specs.Sources.{Pile, pile_of};
+ghost use Rattle.recipe_files.specs.Sources.{Pile, names_of, pile_of};
 
 /// The files are in byte order of the packages' names, each name once.
 pub fn source_laws()
     ensures in_order { (files : Files) (repo : List ℕ) (pile : Pile) → pile_of files repo ≡ Ok pile
-        → IsInByteOrder (map (λ source. source.0) pile.files) }
+        → IsInByteOrder (names_of pile) }
 {}

@@ -22,10 +22,13 @@ status_of refusals.TooManyRecipes = statuses.TooLarge
 status_of (refusals.RecipeTooLarge name) = statuses.TooLarge
 status_of refusals.RecipesTooLarge = statuses.TooLarge
 status_of (refusals.BadRecipe name fault) = statuses.BadInput
+status_of (refusals.NameClash name) = statuses.BadInput
 status_of refusals.SpecsTooLarge = statuses.TooLarge
 status_of (refusals.BadSpecs e) = statuses.BadInput
 status_of refusals.TooManyRoots = statuses.TooLarge
 status_of (refusals.UnknownRoot name) = statuses.BadInput
+status_of (refusals.VirtualRoot name) = statuses.BadInput
+status_of (refusals.WrongPlatform platform) = statuses.BadInput
 
 unfoldable pub missing_line : List ℕ → List ℕ
 missing_line path = line (codes "bad input: missing " ∷ path ∷ [])
@@ -41,6 +44,15 @@ bad_specs_line fault = line (codes "bad input: specs: " ∷ spec_fault_text faul
 
 unfoldable pub unknown_line : List ℕ → List ℕ
 unknown_line name = line (codes "bad input: specs: UnknownRoot " ∷ name ∷ [])
+
+unfoldable pub clash_line : List ℕ → List ℕ
+clash_line name = line (codes "bad input: names: NameClash " ∷ name ∷ [])
+
+unfoldable pub virtual_line : List ℕ → List ℕ
+virtual_line name = line (codes "bad input: specs: VirtualRoot " ∷ name ∷ [])
+
+unfoldable pub platform_line : List ℕ → List ℕ
+platform_line platform = line (codes "bad input: specs: WrongPlatform " ∷ platform ∷ [])
 
 unfoldable pub too_large_line : List ℕ → List ℕ
 too_large_line name = line (codes "too large: recipe " ∷ name ∷ [])
@@ -66,7 +78,10 @@ line_of refusals.TooManyRecipes = line (codes "too large: recipes" ∷ [])
 line_of (refusals.RecipeTooLarge name) = too_large_line name
 line_of refusals.RecipesTooLarge = line (codes "too large: recipe bytes" ∷ [])
 line_of (refusals.BadRecipe name fault) = bad_recipe_line name fault
+line_of (refusals.NameClash name) = clash_line name
 line_of refusals.SpecsTooLarge = line (codes "too large: specs" ∷ [])
 line_of (refusals.BadSpecs fault) = bad_specs_line fault
 line_of refusals.TooManyRoots = line (codes "too large: roots" ∷ [])
 line_of (refusals.UnknownRoot name) = unknown_line name
+line_of (refusals.VirtualRoot name) = virtual_line name
+line_of (refusals.WrongPlatform platform) = platform_line platform

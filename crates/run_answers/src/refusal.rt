@@ -44,14 +44,20 @@ pub enum Refusal {
     RecipesTooLarge,
     /// The recipe of the package with the name has the fault.
     BadRecipe(Word, RecipeFault),
+    /// The package with the name is provided by some recipe.
+    NameClash(Word),
     /// The text of the specs is longer than 64 KiB.
     SpecsTooLarge,
     /// The text is no specs.
     BadSpecs(SpecFault),
     /// There are more than 64 specs.
     TooManyRoots,
-    /// No recipe has the name.
+    /// No recipe, external or record has the name.
     UnknownRoot(Word),
+    /// Some recipe provides the name.
+    VirtualRoot(Word),
+    /// A spec asks for this platform, which is not the machine's.
+    WrongPlatform(Word),
 }
 
 impl Refusal {
@@ -64,8 +70,11 @@ impl Refusal {
             | Refusal::MissingInput(_)
             | Refusal::BadSettings(_)
             | Refusal::BadRecipe(_, _)
+            | Refusal::NameClash(_)
             | Refusal::BadSpecs(_)
-            | Refusal::UnknownRoot(_) => Status::BadInput,
+            | Refusal::UnknownRoot(_)
+            | Refusal::VirtualRoot(_)
+            | Refusal::WrongPlatform(_) => Status::BadInput,
             Refusal::SettingsTooLarge
             | Refusal::TooManyRecipes
             | Refusal::RecipeTooLarge(_)
@@ -90,10 +99,13 @@ impl Refusal {
             Refusal::RecipeTooLarge(name) => too_large_line(alloc, name.as_str()),
             Refusal::RecipesTooLarge => format!(in alloc; "too large: recipe bytes\n"),
             Refusal::BadRecipe(name, fault) => bad_recipe_line(alloc, name.as_str(), *fault),
+            Refusal::NameClash(name) => clash_line(alloc, name.as_str()),
             Refusal::SpecsTooLarge => format!(in alloc; "too large: specs\n"),
             Refusal::BadSpecs(fault) => bad_specs_line(alloc, *fault),
             Refusal::TooManyRoots => format!(in alloc; "too large: roots\n"),
             Refusal::UnknownRoot(name) => unknown_line(alloc, name.as_str()),
+            Refusal::VirtualRoot(name) => virtual_line(alloc, name.as_str()),
+            Refusal::WrongPlatform(name) => platform_line(alloc, name.as_str()),
         }
     }
 }
@@ -154,6 +166,27 @@ fn unknown_line(alloc: Global, name: &str) -> Result<String, AllocError>
     ensures { IfOk result (λ line. string_bytes line ≡ lines.unknown_line name.now) }
 {
     format!(in alloc; "bad input: specs: UnknownRoot {name}\n")
+}
+
+#[tactic(auto, unfolding(crate::specs::Refusals::clash_line))]
+fn clash_line(alloc: Global, name: &str) -> Result<String, AllocError>
+    ensures { IfOk result (λ line. string_bytes line ≡ lines.clash_line name.now) }
+{
+    format!(in alloc; "bad input: names: NameClash {name}\n")
+}
+
+#[tactic(auto, unfolding(crate::specs::Refusals::virtual_line))]
+fn virtual_line(alloc: Global, name: &str) -> Result<String, AllocError>
+    ensures { IfOk result (λ line. string_bytes line ≡ lines.virtual_line name.now) }
+{
+    format!(in alloc; "bad input: specs: VirtualRoot {name}\n")
+}
+
+#[tactic(auto, unfolding(crate::specs::Refusals::platform_line))]
+fn platform_line(alloc: Global, platform: &str) -> Result<String, AllocError>
+    ensures { IfOk result (λ line. string_bytes line ≡ lines.platform_line platform.now) }
+{
+    format!(in alloc; "bad input: specs: WrongPlatform {platform}\n")
 }
 
 #[tactic(auto, unfolding(crate::specs::Refusals::too_large_line))]

@@ -1,5 +1,3 @@
-pub mod Asked
-pub mod Files
-pub mod Inputs
 pub mod Named
-pub mod Staged
+pub mod Once
+pub mod Roots

@@ -1,20 +1,18 @@
-//! What a run reads: the problem that the words name over the files of a desk, or the first refusal.
+//! What `concretize` is to solve: the problem of one package that the words name over the files of a desk.
 //!
 //! What it is: `read_problem` of a command over a desk.
 //! What it promises: exactly the problem or the refusal that is due first, whatever the desk; a device's
 //! fault only where its count rose.
-//! What it stands on: `run_words` for the command, `run_settings` for the settings, `recipe_files` and
-//! `recipe_reader` for the repository, `spec_grammar` for the specs.
+//! What it stands on: `run_input` for what is read, `directive_count` for what the rows of a recipe do not tell.
 //! What it must not know: how a problem is solved, and what is written.
 #![tactic(auto)]
 
 mod problem;
-mod recipes;
-mod stages;
+mod reading;
 mod theorems;
 mod wanted;
 
 pub use problem::Problem;
-pub use stages::read_problem;
+pub use reading::read_problem;
 pub use theorems::problem_laws;
 pub use wanted::Wanted;

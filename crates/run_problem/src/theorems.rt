@@ -6,14 +6,12 @@ ghost use Rattle.run_answers.specs.declared.refusal.Refusal.{Refusal};
 ghost use Rattle.run_problem.specs.declared.problem.Problem.{Problem};
 ghost use Rattle.run_problem.specs.Problems.{Poses};
 
-use run_settings::site_laws;
-use spec_grammar::reading_laws;
+use run_input::input_laws;
 
 /// Words name one problem at most over files, or are due one refusal at most.
 pub fn problem_laws()
     ensures one { (files : Files) (words : List (List ℕ)) (a b : Result Problem Refusal) → Poses files words a
         → Poses files words b → a ≡ b }
 {
-    reading_laws();
-    site_laws();
+    input_laws();
 }

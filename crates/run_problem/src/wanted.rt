@@ -1,23 +1,18 @@
-//! What the specs of a run want.
+//! What the roots of a run want.
 
-ghost use Rattle.std.specs.Prelude.{◌≡◌, IfOk, IsSome};
+ghost use Rattle.std.specs.Prelude.{◌≡◌, [], ◌∷◌, true, All, IfOk};
 ghost use Rattle.std.specs.Str.{IsUtf8};
 ghost use Rattle.spec_grammar.specs.Canonical.{spec_text};
-ghost use Rattle.run_answers.specs.Stages.{Is, Then};
+ghost use Rattle.run_answers.specs.Stages.{Is};
 ghost use Rattle.run_answers.specs.Stops.{Gives, EndsInReadFault, EndsInUsage};
-ghost use Rattle.run_problem.specs.Wants.{SpecsOf, Wants, asks_versions, is_simple, only, wanted_by, wanted_of};
+ghost use Rattle.run_input.specs.Roots.{are_named};
+ghost use Rattle.run_problem.specs.Wants.{wanted_by, wanted_of};
 
-use plain_data::{List, Word};
+use plain_data::{Duplicate, Word};
 use run_answers::{NotBuilt, ReadStop, Refusal};
-use spec_grammar::{Part, Spec, SpecFault, read_specs, reading_laws, write_spec, writing_laws};
+use spec_grammar::{Spec, write_spec};
 use std::alloc::{AllocError, Global};
 use version_order::VersionSet;
-
-/// The most bytes that the text of the specs has: 64 KiB.
-const SPECS_LIMIT: usize = 1 << 16;
-
-/// The most specs.
-const ROOTS_LIMIT: usize = 64;
 
 /// A package that is wanted.
 #[derive(Debug, Drop)]
@@ -27,37 +22,6 @@ pub struct Wanted {
     pub versions: Option<VersionSet>,
     /// The canonical text of the spec that asks for it.
     pub text: Word,
-}
-
-/// The specs that a text spells.
-fn specs_of(alloc: Global, text: &str) -> Result<List<Spec>, ReadStop>
-    ensures read { Gives result (SpecsOf text.now) }
-    ensures no_usage { EndsInUsage result → ⊥ }
-    ensures no_fault { EndsInReadFault result → ⊥ }
-{
-    match read_specs(alloc, text) {
-        Ok(specs) => Ok(specs),
-        Err(SpecFault::OutOfMemory) => Err(ReadStop::NoMemory),
-        Err(fault) => Err(ReadStop::Refused(Refusal::BadSpecs(fault))),
-    }
-}
-
-/// Whether nothing but versions is asked of a package.
-fn asks_versions(part: &Part) -> bool
-    ensures { result ≡ asks_versions part.now }
-{
-    part.variants.as_slice().is_empty()
-        && part.compiler.is_none()
-        && part.platform.is_none()
-        && part.os.is_none()
-        && part.targets.is_none()
-}
-
-/// Nor of packages that it depends on.
-fn is_simple(spec: &Spec) -> bool
-    ensures { result ≡ is_simple spec.now }
-{
-    spec.below.as_slice().is_empty() && asks_versions(&spec.top)
 }
 
 /// The canonical text of a spec.
@@ -73,17 +37,16 @@ fn canonical_text(alloc: Global, spec: &Spec) -> Result<Word, AllocError>
 }
 
 /// What a spec wants.
-fn wanted_by(alloc: Global, spec: Spec) -> Result<Wanted, AllocError>
-    requires named { IsSome spec.top.name }
-    requires text { IsUtf8 (spec_text spec) }
-    ensures { IfOk result (λ wanted. wanted ≡ wanted_by spec) }
+fn wanted_by(alloc: Global, spec: &Spec) -> Result<Wanted, AllocError>
+    requires named { are_named (spec.now ∷ []) ≡ true }
+    requires text { IsUtf8 (spec_text spec.now) }
+    ensures { IfOk result (λ wanted. wanted ≡ wanted_by spec.now) }
 {
-    let text = canonical_text(alloc, &spec)?;
-    let Spec { top, .. } = spec;
-    let Part { name, versions, .. } = top;
-    match name {
+    let text = canonical_text(alloc, spec)?;
+    let versions = spec.top.versions.duplicate(alloc)?;
+    match &spec.top.name {
         Some(name) => Ok(Wanted {
-            name,
+            name: name.duplicate(alloc)?,
             versions,
             text,
         }),
@@ -91,47 +54,17 @@ fn wanted_by(alloc: Global, spec: Spec) -> Result<Wanted, AllocError>
     }
 }
 
-/// The one spec of a list.
-fn only(specs: List<Spec>) -> Option<Spec>
-    ensures { result ≡ only specs }
-{
-    if specs.as_slice().len() == 1 {
-        specs.into_vec().pop()
-    } else {
-        None
-    }
-}
-
-/// What the specs that a text spells want, which is not too long.
+/// What the roots want.
 #[tactic(auto, unfolding(crate::specs::Wants::wanted_of))]
-fn wanted_of(alloc: Global, text: &str) -> Result<Wanted, ReadStop>
-    ensures read { Gives result (Then (SpecsOf text.now) (λ specs. Is (wanted_of specs))) }
+pub fn wanted_of(alloc: Global, roots: &[Spec]) -> Result<Wanted, ReadStop>
+    requires named { are_named roots.now ≡ true }
+    requires texts { All (λ spec. IsUtf8 (spec_text spec)) roots.now }
+    ensures read { Gives result (Is (wanted_of roots.now)) }
     ensures no_usage { EndsInUsage result → ⊥ }
     ensures no_fault { EndsInReadFault result → ⊥ }
 {
-    reading_laws();
-    writing_laws();
-    let specs = specs_of(alloc, text)?;
-    if specs.as_slice().len() > ROOTS_LIMIT {
-        return Err(ReadStop::Refused(Refusal::TooManyRoots));
+    match roots {
+        [spec] => Ok(wanted_by(alloc, spec)?),
+        _ => Err(ReadStop::Refused(Refusal::NotBuilt(NotBuilt::Specs))),
     }
-    let Some(spec) = only(specs) else {
-        return Err(ReadStop::Refused(Refusal::NotBuilt(NotBuilt::Specs)));
-    };
-    if !is_simple(&spec) {
-        return Err(ReadStop::Refused(Refusal::NotBuilt(NotBuilt::Specs)));
-    }
-    Ok(wanted_by(alloc, spec)?)
-}
-
-/// What the text of the specs wants.
-pub fn read_wanted(alloc: Global, text: &str) -> Result<Wanted, ReadStop>
-    ensures read { Gives result (Wants text.now) }
-    ensures no_usage { EndsInUsage result → ⊥ }
-    ensures no_fault { EndsInReadFault result → ⊥ }
-{
-    if text.len() > SPECS_LIMIT {
-        return Err(ReadStop::Refused(Refusal::SpecsTooLarge));
-    }
-    wanted_of(alloc, text)
 }

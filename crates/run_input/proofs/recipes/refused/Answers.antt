@@ -1,5 +1,5 @@
-use Rattle.run_problem.proofs.Files.{first_bad}
-use Rattle.run_problem.proofs.recipes.refused.Goals as goal
+use Rattle.run_input.proofs.Files.{first_bad}
+use Rattle.run_input.proofs.recipes.refused.Goals as goal
 
 pub returns-clause-refusal : goal.returns-clause-refusal
 returns-clause-refusal c =

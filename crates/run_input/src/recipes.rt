@@ -1,18 +1,23 @@
-//! The recipes of files.
+//! The recipes of files, and that their names are not provided.
 
-ghost use Rattle.std.specs.Prelude.{◌≡◌, ◌≢◌, map, Err, IfOk};
+ghost use Rattle.std.specs.Prelude.{◌≡◌, ◌≢◌, true, map, Err, IfOk};
+ghost use Rattle.std.specs.List.{list_all};
+ghost use Rattle.conditions.specs.Right.{is_right_recipe};
+ghost use Rattle.virtuals.specs.Virtuals.{name_of};
 ghost use Rattle.recipe_reader.specs.Files.{FailsAt, IsFirstFault};
 ghost use Rattle.run_answers.specs.declared.refusal.Refusal.{Refusal};
 ghost use Rattle.run_answers.specs.Stages.{Is};
 ghost use Rattle.run_answers.specs.Stops.{Gives, EndsInReadFault, EndsInUsage};
 ghost use Rattle.recipe_files.specs.Sources.{source_of};
-ghost use Rattle.run_problem.specs.Recipes.{recipes_of};
+ghost use Rattle.run_input.specs.Recipes.{recipes_of};
+ghost use Rattle.run_input.specs.Inputs.{apart_of};
 
 use conditions::Recipe;
 use plain_data::{Duplicate, List};
 use recipe_reader::{RecipeFault, RecipeFile, read_recipes};
 use run_answers::{ReadStop, Refusal};
 use std::alloc::{AllocError, Global};
+use virtuals::{Providers, ProvidersFault};
 
 /// The refusal for the first file that has a fault.
 #[tactic(auto, using(crate::proofs::Files::first_bad))]
@@ -41,6 +46,7 @@ fn stop_at(
 ) -> Result<List<Recipe>, ReadStop>
     requires { FailsAt place fault files.now }
     ensures read { Gives result (Is (recipes_of (map source_of files.now))) }
+    ensures stops { IfOk result (λ _. ⊥) }
     ensures no_usage { EndsInUsage result → ⊥ }
     ensures no_fault { EndsInReadFault result → ⊥ }
 {
@@ -51,14 +57,30 @@ fn stop_at(
 }
 
 /// The recipes of files, one of each and in their order.
-#[tactic(auto, using(crate::proofs::Files::all_read))]
+#[tactic(auto, using(crate::proofs::Files::all_read, crate::proofs::Files::named_alike))]
 pub fn recipes_of(alloc: Global, files: &[RecipeFile]) -> Result<List<Recipe>, ReadStop>
     ensures read { Gives result (Is (recipes_of (map source_of files.now))) }
+    ensures right { IfOk result (λ recipes. list_all is_right_recipe recipes ≡ true) }
+    ensures names { IfOk result (λ recipes. map name_of recipes ≡ map (λ source. source.0) (map source_of files.now)) }
     ensures no_usage { EndsInUsage result → ⊥ }
     ensures no_fault { EndsInReadFault result → ⊥ }
 {
     match read_recipes(alloc, files) {
         Ok(recipes) => Ok(recipes),
         Err((place, fault)) => stop_at(alloc, files, place, fault),
+    }
+}
+
+/// Refuses a recipe whose name some recipe provides.
+#[tactic(auto, unfolding(crate::specs::Inputs::apart_of))]
+pub fn check_apart(alloc: Global, recipes: &[Recipe]) -> Result<(), ReadStop>
+    ensures read { Gives result (Is (apart_of recipes.now)) }
+    ensures no_usage { EndsInUsage result → ⊥ }
+    ensures no_fault { EndsInReadFault result → ⊥ }
+{
+    match Providers::new(alloc, recipes) {
+        Ok(_) => Ok(()),
+        Err(ProvidersFault::NameClash(name)) => Err(ReadStop::Refused(Refusal::NameClash(name))),
+        Err(ProvidersFault::OutOfMemory) => Err(ReadStop::NoMemory),
     }
 }

@@ -5,7 +5,7 @@ use Rattle.run_answers.specs.declared.stop.ReadStop.TheVariants.{Refused, Fault,
 use Rattle.run_words.specs.Words.{Command}
 use Rattle.run_settings.specs.Sites.{FailsThere}
 use Rattle.recipe_files.specs.Paths.{FailsInside}
-use Rattle.run_problem.specs.Problems.{FailsAtInput}
+use Rattle.run_input.specs.Inputs.{FailsAtInput}
 
 -- over the settings
 pub of_settings : (A B : Type 0) (command : Command) (stop : ReadStop) → FailsThere {A = A} command.settings (Err stop) → FailsAtInput {A = B} command (Err stop)

@@ -9,8 +9,8 @@ use Rattle.recipe_reader.specs.declared.fault.RecipeFault.{RecipeFault}
 use Rattle.recipe_reader.specs.declared.files.RecipeFile.{RecipeFile}
 use Rattle.run_answers.specs.declared.refusal.Refusal.{Refusal}
 use Rattle.run_answers.specs.declared.refusal.Refusal.TheVariants as refusals
-use Rattle.recipe_files.specs.Sources.{source_of}
-use Rattle.run_problem.specs.Recipes.{or_bad, recipes_of}
+use Rattle.recipe_files.specs.Sources.{Source, source_of}
+use Rattle.run_input.specs.Recipes.{or_bad, recipes_of}
 
 abbrev Read : Type 0
 Read = Result Recipe RecipeFault
@@ -52,3 +52,12 @@ pub first_bad : (place : ℕ) (e : RecipeFault) (files : List RecipeFile) (file 
 first_bad place e files file first is =
     let same : file ≡ first.file = is ∙ get_or_from_slice_get files place first.file file first.is in
     rw same (bad_at place files first.recipes first.file e first.before first.is first.faulty)
+
+sources_named : (files : List RecipeFile) → map (λ (file : RecipeFile). file.name) files ≡ map (λ (source : Source). source.0) (map source_of files)
+sources_named [] = refl
+sources_named (f ∷ files) = ap (λ names. f.name ∷ names) (sources_named files)
+
+-- recipes have the names of their files
+pub named_alike : (files : List RecipeFile) (recipes : List Recipe) → map (λ (recipe : Recipe). recipe.name) recipes ≡ map (λ (file : RecipeFile). file.name) files
+    → map (λ (recipe : Recipe). recipe.name) recipes ≡ map (λ (source : Source). source.0) (map source_of files)
+named_alike files recipes e = e ∙ sources_named files

@@ -1,0 +1,5 @@
+pub mod Files
+pub mod Named
+pub mod Once
+pub mod Paths
+pub mod Staged

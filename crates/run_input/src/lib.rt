@@ -1,0 +1,19 @@
+//! What a run reads before the command's own work.
+//!
+//! What it is: `read_input` of a command over a desk: the recipe files, and the problem that they pose with the
+//! settings and the specs.
+//! What it promises: exactly this or the refusal that is due first, whatever the desk; a device's fault only
+//! where its count rose.
+//! What it stands on: `run_words` for the command, `run_settings` for the settings, `recipe_files` and
+//! `recipe_reader` for the repository, `virtuals` for names that clash, `spec_grammar` for the specs, `problem`.
+//! What it must not know: what a command does with it.
+#![tactic(auto)]
+
+mod input;
+mod recipes;
+mod repository;
+mod roots;
+mod theorems;
+
+pub use input::{Input, read_input};
+pub use theorems::input_laws;
