@@ -12,6 +12,10 @@ use Rattle.recipe_lexer.specs.declared.token.LexFault.{LexFault}
 use Rattle.recipe_lexer.specs.declared.token.LexFault.TheVariants as lex
 use Rattle.recipe_reader.specs.declared.fault.RecipeFault.{RecipeFault}
 use Rattle.recipe_reader.specs.declared.fault.RecipeFault.TheVariants as recipe
+use Rattle.lockfile.specs.declared.fault.LockFault.{LockFault}
+use Rattle.lockfile.specs.declared.fault.LockFault.TheVariants as lock
+use Rattle.graph_rules.specs.declared.rule.Rule.{Rule}
+use Rattle.graph_rules.specs.declared.rule.Rule.TheVariants as rules
 use Rattle.report_texts.specs.Lines.{joined}
 
 -- ---- specs
@@ -96,3 +100,37 @@ recipe_fault_text (recipe.BadArgument place) = at_place (codes "BadArgument") pl
 recipe_fault_text (recipe.BadDefault place) = at_place (codes "BadDefault") place
 recipe_fault_text (recipe.TwiceVersion place) = at_place (codes "TwiceVersion") place
 recipe_fault_text recipe.OutOfMemory = codes "OutOfMemory"
+
+-- ---- lock files
+
+-- a name with two hashes
+abbrev pub two_hashes : List ℕ → List ℕ → List ℕ → List ℕ
+two_hashes name first second = name ++ (codes " " ++ (first ++ (codes " " ++ second)))
+
+unfoldable pub lock_fault_text : LockFault → List ℕ
+lock_fault_text lock.NotJson = codes "NotJson"
+lock_fault_text (lock.WrongKind at) = at_pointer (codes "WrongKind") at
+lock_fault_text (lock.TwiceNamed name) = at_pointer (codes "TwiceNamed") name
+lock_fault_text (lock.HashDiffers written computed) = two_hashes (codes "HashDiffers") written computed
+lock_fault_text (lock.Dangling parent child) = two_hashes (codes "Dangling") parent child
+lock_fault_text lock.OutOfMemory = codes "OutOfMemory"
+
+-- ---- rules of valid graphs
+
+abbrev pub rule_name : Rule → List ℕ
+rule_name rules.Root = codes "Root"
+rule_name rules.Buildable = codes "Buildable"
+rule_name rules.Version = codes "Version"
+rule_name rules.Variant = codes "Variant"
+rule_name rules.Compiler = codes "Compiler"
+rule_name rules.Machine = codes "Machine"
+rule_name rules.Edge = codes "Edge"
+rule_name rules.ExtraEdge = codes "ExtraEdge"
+rule_name rules.Constraint = codes "Constraint"
+rule_name rules.Conflict = codes "Conflict"
+rule_name rules.Requirement = codes "Requirement"
+rule_name rules.Kept = codes "Kept"
+rule_name rules.Provider = codes "Provider"
+rule_name rules.UnusedProvider = codes "UnusedProvider"
+rule_name rules.Cycle = codes "Cycle"
+rule_name rules.Unreachable = codes "Unreachable"

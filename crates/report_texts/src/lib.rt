@@ -7,11 +7,13 @@
 //! What it must not know: which input had the fault, and what is said around it.
 #![tactic(auto)]
 
+mod lock_faults;
 mod recipe_faults;
 mod settings_faults;
 mod spec_faults;
 mod worked;
 
+pub use lock_faults::{lock_fault_text, rule_name};
 pub use recipe_faults::recipe_fault_text;
 pub use settings_faults::settings_fault_text;
 pub use spec_faults::spec_fault_text;

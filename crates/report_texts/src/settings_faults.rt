@@ -29,8 +29,8 @@ fn in_targets(alloc: Global, fault: TargetFault) -> Result<String, AllocError>
     format!(in alloc; "Targets {inner}")
 }
 
-/// A name with a pointer.
-fn at_pointer(alloc: Global, name: &str, pointer: &str) -> Result<String, AllocError>
+/// A name with a pointer, or another text.
+pub(crate) fn at_pointer(alloc: Global, name: &str, pointer: &str) -> Result<String, AllocError>
     ensures { IfOk result (λ text. string_bytes text ≡ texts.at_pointer name.now pointer.now) }
 {
     format!(in alloc; "{name} {pointer}")

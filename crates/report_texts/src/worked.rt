@@ -7,7 +7,8 @@ ghost use Rattle.target_table.specs.declared.fault.TargetFault.TheVariants as ta
 ghost use Rattle.settings_reader.specs.declared.fault.SettingsFault.TheVariants as settings;
 ghost use Rattle.recipe_lexer.specs.declared.token.LexFault.TheVariants as lex;
 ghost use Rattle.recipe_reader.specs.declared.fault.RecipeFault.TheVariants as recipe;
-ghost use Rattle.report_texts.specs.FaultTexts.{spec_fault_text, settings_fault_text, recipe_fault_text};
+ghost use Rattle.report_texts.specs.FaultTexts.{spec_fault_text, settings_fault_text, recipe_fault_text, lock_fault_text};
+ghost use Rattle.lockfile.specs.declared.fault.LockFault.TheVariants as lock;
 
 /// Faults and their texts.
 pub fn worked_fault_texts()
@@ -25,5 +26,6 @@ pub fn worked_fault_texts()
         ≡ codes "Targets UnknownParent 1" }
     ensures text { settings_fault_text (settings.Spec (codes "/packages/a") (spec.Expected 2))
         ≡ codes "Spec /packages/a Expected 2" }
+    ensures names { lock_fault_text (lock.TwiceNamed (codes "zlib")) ≡ codes "TwiceNamed zlib" }
     ensures class { recipe_fault_text recipe.NoClass ≡ codes "NoClass" }
 {}

@@ -1,9 +1,12 @@
 -- What is answered and said where input is refused.
-use Rattle.std.specs.Prelude.{ℕ, List, [], ◌∷◌, codes}
+use Rattle.std.specs.Prelude.{ℕ, List, [], ◌∷◌, codes, decimal}
 use Rattle.spec_grammar.specs.declared.fault.SpecFault.{SpecFault}
 use Rattle.settings_reader.specs.declared.fault.SettingsFault.{SettingsFault}
 use Rattle.recipe_reader.specs.declared.fault.RecipeFault.{RecipeFault}
-use Rattle.report_texts.specs.FaultTexts.{spec_fault_text, settings_fault_text, recipe_fault_text}
+use Rattle.lockfile.specs.declared.fault.LockFault.{LockFault}
+use Rattle.lockfile.specs.declared.fault.LockFault.TheVariants as faults
+use Rattle.graph_rules.specs.declared.rule.Rule.{Rule}
+use Rattle.report_texts.specs.FaultTexts.{spec_fault_text, settings_fault_text, recipe_fault_text, lock_fault_text, rule_name}
 use Rattle.report_texts.specs.Lines.{line}
 use Rattle.run_answers.specs.declared.refusal.NotBuilt.{NotBuilt}
 use Rattle.run_answers.specs.declared.refusal.NotBuilt.TheVariants as forms
@@ -11,6 +14,15 @@ use Rattle.run_answers.specs.declared.refusal.Refusal.{Refusal}
 use Rattle.run_answers.specs.declared.refusal.Refusal.TheVariants as refusals
 use Rattle.run_answers.specs.declared.status.Status.{Status}
 use Rattle.run_answers.specs.declared.status.Status.TheVariants as statuses
+
+-- what a fault of a lock file is answered by: it is no lock file at all, or one that is refused
+abbrev pub lock_status : LockFault → Status
+lock_status faults.NotJson = statuses.BadInput
+lock_status (faults.WrongKind at) = statuses.BadInput
+lock_status (faults.TwiceNamed name) = statuses.Refused
+lock_status (faults.HashDiffers written computed) = statuses.Refused
+lock_status (faults.Dangling parent child) = statuses.Refused
+lock_status faults.OutOfMemory = statuses.BadInput
 
 abbrev pub status_of : Refusal → Status
 status_of refusals.Usage = statuses.Usage
@@ -29,6 +41,9 @@ status_of refusals.TooManyRoots = statuses.TooLarge
 status_of (refusals.UnknownRoot name) = statuses.BadInput
 status_of (refusals.VirtualRoot name) = statuses.BadInput
 status_of (refusals.WrongPlatform platform) = statuses.BadInput
+status_of (refusals.BadLock fault) = lock_status fault
+status_of refusals.OtherRoots = statuses.Refused
+status_of (refusals.BrokenRule rule node number) = statuses.Refused
 
 unfoldable pub missing_line : List ℕ → List ℕ
 missing_line path = line (codes "bad input: missing " ∷ path ∷ [])
@@ -53,6 +68,20 @@ virtual_line name = line (codes "bad input: specs: VirtualRoot " ∷ name ∷ []
 
 unfoldable pub platform_line : List ℕ → List ℕ
 platform_line platform = line (codes "bad input: specs: WrongPlatform " ∷ platform ∷ [])
+
+abbrev pub lock_front : LockFault → List ℕ
+lock_front faults.NotJson = codes "bad input: lock: "
+lock_front (faults.WrongKind at) = codes "bad input: lock: "
+lock_front (faults.TwiceNamed name) = codes "refused: lock "
+lock_front (faults.HashDiffers written computed) = codes "refused: lock "
+lock_front (faults.Dangling parent child) = codes "refused: lock "
+lock_front faults.OutOfMemory = codes "bad input: lock: "
+
+unfoldable pub bad_lock_line : LockFault → List ℕ
+bad_lock_line fault = line (lock_front fault ∷ lock_fault_text fault ∷ [])
+
+unfoldable pub broken_line : Rule → List ℕ → ℕ → List ℕ
+broken_line rule node number = line (codes "refused: graph " ∷ rule_name rule ∷ codes " " ∷ node ∷ codes " " ∷ decimal number ∷ [])
 
 unfoldable pub too_large_line : List ℕ → List ℕ
 too_large_line name = line (codes "too large: recipe " ∷ name ∷ [])
@@ -85,3 +114,6 @@ line_of refusals.TooManyRoots = line (codes "too large: roots" ∷ [])
 line_of (refusals.UnknownRoot name) = unknown_line name
 line_of (refusals.VirtualRoot name) = virtual_line name
 line_of (refusals.WrongPlatform platform) = platform_line platform
+line_of (refusals.BadLock fault) = bad_lock_line fault
+line_of refusals.OtherRoots = line (codes "refused: roots" ∷ [])
+line_of (refusals.BrokenRule rule node number) = broken_line rule node number

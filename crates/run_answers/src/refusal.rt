@@ -6,9 +6,13 @@ ghost use Rattle.run_answers.specs.Refusals.{status_of};
 ghost use Rattle.run_answers.specs.Refusals as lines;
 
 use crate::status::Status;
+use graph_rules::Rule;
+use lockfile::LockFault;
 use plain_data::Word;
 use recipe_reader::RecipeFault;
-use report_texts::{recipe_fault_text, settings_fault_text, spec_fault_text};
+use report_texts::{
+    lock_fault_text, recipe_fault_text, rule_name, settings_fault_text, spec_fault_text,
+};
 use settings_reader::SettingsFault;
 use spec_grammar::SpecFault;
 use std::alloc::{AllocError, Global};
@@ -58,6 +62,12 @@ pub enum Refusal {
     VirtualRoot(Word),
     /// A spec asks for this platform, which is not the machine's.
     WrongPlatform(Word),
+    /// The lock file has the fault.
+    BadLock(LockFault),
+    /// The roots of the lock file are not those that are asked for, with the hashes of their nodes.
+    OtherRoots,
+    /// The graph of the lock file breaks the rule, at the node and there at the number of a directive.
+    BrokenRule(Rule, Word, u64),
 }
 
 impl Refusal {
@@ -81,6 +91,8 @@ impl Refusal {
             | Refusal::RecipesTooLarge
             | Refusal::SpecsTooLarge
             | Refusal::TooManyRoots => Status::TooLarge,
+            Refusal::BadLock(fault) => lock_status(fault),
+            Refusal::OtherRoots | Refusal::BrokenRule(_, _, _) => Status::Refused,
         }
     }
 
@@ -106,6 +118,11 @@ impl Refusal {
             Refusal::UnknownRoot(name) => unknown_line(alloc, name.as_str()),
             Refusal::VirtualRoot(name) => virtual_line(alloc, name.as_str()),
             Refusal::WrongPlatform(name) => platform_line(alloc, name.as_str()),
+            Refusal::BadLock(fault) => bad_lock_line(alloc, fault),
+            Refusal::OtherRoots => format!(in alloc; "refused: roots\n"),
+            Refusal::BrokenRule(rule, node, number) => {
+                broken_line(alloc, *rule, node.as_str(), *number)
+            }
         }
     }
 }
@@ -194,4 +211,46 @@ fn too_large_line(alloc: Global, name: &str) -> Result<String, AllocError>
     ensures { IfOk result (λ line. string_bytes line ≡ lines.too_large_line name.now) }
 {
     format!(in alloc; "too large: recipe {name}\n")
+}
+
+/// What a fault of a lock file is answered by: it is no lock file at all, or one that is refused.
+fn lock_status(fault: &LockFault) -> Status
+    ensures { result ≡ lines.lock_status fault.now }
+{
+    match fault {
+        LockFault::NotJson | LockFault::WrongKind(_) | LockFault::OutOfMemory => Status::BadInput,
+        LockFault::TwiceNamed(_)
+        | LockFault::HashDiffers { .. }
+        | LockFault::Dangling { .. } => Status::Refused,
+    }
+}
+
+fn lock_front(fault: &LockFault) -> &'static str
+    ensures { result.now ≡ lines.lock_front fault.now }
+{
+    match fault {
+        LockFault::NotJson | LockFault::WrongKind(_) | LockFault::OutOfMemory => {
+            "bad input: lock: "
+        }
+        LockFault::TwiceNamed(_)
+        | LockFault::HashDiffers { .. }
+        | LockFault::Dangling { .. } => "refused: lock ",
+    }
+}
+
+#[tactic(auto, unfolding(crate::specs::Refusals::bad_lock_line))]
+fn bad_lock_line(alloc: Global, fault: &LockFault) -> Result<String, AllocError>
+    ensures { IfOk result (λ line. string_bytes line ≡ lines.bad_lock_line fault.now) }
+{
+    let front = lock_front(fault);
+    let fault = lock_fault_text(alloc, fault)?;
+    format!(in alloc; "{front}{fault}\n")
+}
+
+#[tactic(auto, unfolding(crate::specs::Refusals::broken_line))]
+fn broken_line(alloc: Global, rule: Rule, node: &str, number: u64) -> Result<String, AllocError>
+    ensures { IfOk result (λ line. string_bytes line ≡ lines.broken_line rule node.now number) }
+{
+    let rule = rule_name(rule);
+    format!(in alloc; "refused: graph {rule} {node} {number}\n")
 }
