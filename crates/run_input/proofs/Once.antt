@@ -15,6 +15,7 @@ use Rattle.site_settings.specs.declared.settings.Settings.{Settings}
 use Rattle.run_settings.specs.Sites.{SettingsAt}
 use Rattle.recipe_files.specs.Sources.{Source, pile_of}
 use Rattle.run_words.specs.Words.{Command}
+use Rattle.run_words.specs.declared.command.Work.{Work}
 use Rattle.run_input.specs.Recipes.{recipes_of}
 use Rattle.run_input.specs.Roots.{SpecsOf, RootsOf, short, roots_of}
 use Rattle.run_input.specs.Inputs.{apart_of, Requested, Over, parts_of, OverPile, InRepository, built_of, IfBuilt, posed_by, input_of, InputBy, Reads}
@@ -32,23 +33,23 @@ one_specs laws text (Ok a) (Err b) p (e, is, other, same) = absurd (other (laws.
 one_specs laws text (Err a) (Ok b) (e, is, other, same) q = absurd (other (laws.right text b e q is))
 one_specs laws text (Err a) (Err b) (e, is, other, same) (f, as_well, not, too) = ap Err (same ∙ ap refusals.BadSpecs (laws.refusal text e f is as_well other not) ∙ sym too)
 
-one_roots : ReadsOnce → (text : List ℕ) → IsOne (RootsOf text)
-one_roots laws text =
-    one_then (Is (short text)) (λ done. Then (SpecsOf text) (λ specs. Is (roots_of specs))) (one_is (short text))
-    (λ done. one_then (SpecsOf text) (λ specs. Is (roots_of specs)) (one_specs laws text) (λ specs. one_is (roots_of specs)))
+one_roots : ReadsOnce → (work : Work) (text : List ℕ) → IsOne (RootsOf work text)
+one_roots laws work text =
+    one_then (Is (short text)) (λ done. Then (SpecsOf text) (λ specs. Is (roots_of work specs))) (one_is (short text))
+    (λ done. one_then (SpecsOf text) (λ specs. Is (roots_of work specs)) (one_specs laws text) (λ specs. one_is (roots_of work specs)))
 
-one_requested : ReadsOnce → (recipes : List Recipe) (spec : List ℕ) → IsOne (Requested recipes spec)
-one_requested laws recipes spec = one_then (Is (apart_of recipes)) (λ done. RootsOf spec) (one_is (apart_of recipes)) (λ done. one_roots laws spec)
+one_requested : ReadsOnce → (recipes : List Recipe) (work : Work) (spec : List ℕ) → IsOne (Requested recipes work spec)
+one_requested laws recipes work spec = one_then (Is (apart_of recipes)) (λ done. RootsOf work spec) (one_is (apart_of recipes)) (λ done. one_roots laws work spec)
 
-one_over : ReadsOnce → (sources : List Source) (spec : List ℕ) → IsOne (Over sources spec)
-one_over laws sources spec =
-    one_then (Is (recipes_of sources)) (λ recipes. Then (Requested recipes spec) (λ roots. Is (Ok (recipes, roots)))) (one_is (recipes_of sources))
-    (λ recipes. one_then (Requested recipes spec) (λ roots. Is (Ok (recipes, roots))) (one_requested laws recipes spec) (λ roots. one_is (Ok (recipes, roots))))
+one_over : ReadsOnce → (sources : List Source) (work : Work) (spec : List ℕ) → IsOne (Over sources work spec)
+one_over laws sources work spec =
+    one_then (Is (recipes_of sources)) (λ recipes. Then (Requested recipes work spec) (λ roots. Is (Ok (recipes, roots)))) (one_is (recipes_of sources))
+    (λ recipes. one_then (Requested recipes work spec) (λ roots. Is (Ok (recipes, roots))) (one_requested laws recipes work spec) (λ roots. one_is (Ok (recipes, roots))))
 
 one_in_repository : ReadsOnce → (files : Files) (command : Command) → IsOne (InRepository files command)
 one_in_repository laws files command =
-    one_then (Is (pile_of files command.repo)) (λ pile. OverPile pile command.spec) (one_is (pile_of files command.repo))
-    (λ pile. one_then (Over pile.files command.spec) (λ read. Is (Ok (parts_of pile read))) (one_over laws pile.files command.spec) (λ read. one_is (Ok (parts_of pile read))))
+    one_then (Is (pile_of files command.repo)) (λ pile. OverPile pile command.work command.spec) (one_is (pile_of files command.repo))
+    (λ pile. one_then (Over pile.files command.work command.spec) (λ read. Is (Ok (parts_of pile read))) (one_over laws pile.files command.work command.spec) (λ read. one_is (Ok (parts_of pile read))))
 
 one_if_built : ReadsOnce → (files : Files) (command : Command) → IsOne (IfBuilt files command)
 one_if_built laws files command =

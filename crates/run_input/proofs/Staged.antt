@@ -12,7 +12,7 @@ use Rattle.run_input.specs.declared.repository.Parts.{Parts}
 use Rattle.run_input.specs.Inputs.{OverPile, InRepository}
 
 pub in_repository : (before : Option Files) (command : Command) (pile : Pile) (result : Result Parts ReadStop)
-    → IfSome before (λ files. Gives {T = Pile} (Ok pile) (Is (pile_of files command.repo))) → Gives result (OverPile pile command.spec)
+    → IfSome before (λ files. Gives {T = Pile} (Ok pile) (Is (pile_of files command.repo))) → Gives result (OverPile pile command.work command.spec)
     → IfSome before (λ files. Gives result (InRepository files command))
 in_repository None command pile result read over = tt
-in_repository (Some files) command pile result read over = then_gives (Is (pile_of files command.repo)) (λ p. OverPile p command.spec) pile result read over
+in_repository (Some files) command pile result read over = then_gives (Is (pile_of files command.repo)) (λ p. OverPile p command.work command.spec) pile result read over

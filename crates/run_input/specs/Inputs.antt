@@ -16,6 +16,7 @@ use Rattle.run_answers.specs.declared.stop.ReadStop.{ReadStop}
 use Rattle.run_answers.specs.declared.stop.ReadStop.TheVariants as reads
 use Rattle.run_words.specs.Words.{Command}
 use Rattle.run_words.specs.Orders.{not_built_of}
+use Rattle.run_words.specs.declared.command.Work.{Work}
 use Rattle.run_settings.specs.Sites.{SettingsAt, IsSettingsPath}
 use Rattle.recipe_files.specs.Paths.{IsReadPath}
 use Rattle.recipe_files.specs.Sources.{Source, Pile, pile_of}
@@ -31,23 +32,23 @@ unfoldable pub apart_of : List Recipe → Result (Unit {0}) Refusal
 apart_of recipes = refuse_some (λ recipe. refusals.NameClash recipe.name) (clash recipes)
 
 -- the clash of names, and then the specs
-abbrev pub Requested : List Recipe → List ℕ → Result (List Spec) Refusal → Type 0
-Requested recipes spec = Then (Is (apart_of recipes)) (λ done. RootsOf spec)
+abbrev pub Requested : List Recipe → Work → List ℕ → Result (List Spec) Refusal → Type 0
+Requested recipes work spec = Then (Is (apart_of recipes)) (λ done. RootsOf work spec)
 
 -- the parsing of all files, and then what is requested
-abbrev pub Over : List Source → List ℕ → Result (List Recipe × List Spec) Refusal → Type 0
-Over sources spec = Then (Is (recipes_of sources)) (λ recipes. Then (Requested recipes spec) (λ roots. Is (Ok (recipes, roots))))
+abbrev pub Over : List Source → Work → List ℕ → Result (List Recipe × List Spec) Refusal → Type 0
+Over sources work spec = Then (Is (recipes_of sources)) (λ recipes. Then (Requested recipes work spec) (λ roots. Is (Ok (recipes, roots))))
 
 abbrev pub parts_of : Pile → List Recipe × List Spec → Parts
 parts_of pile read = record { sources = pile; recipes = read.0; roots = read.1 }
 
 -- what is read over a pile of files, with the pile
-abbrev pub OverPile : Pile → List ℕ → Result Parts Refusal → Type 0
-OverPile pile spec = Then (Over pile.files spec) (λ read. Is (Ok (parts_of pile read)))
+abbrev pub OverPile : Pile → Work → List ℕ → Result Parts Refusal → Type 0
+OverPile pile work spec = Then (Over pile.files work spec) (λ read. Is (Ok (parts_of pile read)))
 
 -- the reading of all files, and then their parsing
 abbrev pub InRepository : Files → Command → Result Parts Refusal → Type 0
-InRepository files command = Then (Is (pile_of files command.repo)) (λ pile. OverPile pile command.spec)
+InRepository files command = Then (Is (pile_of files command.repo)) (λ pile. OverPile pile command.work command.spec)
 
 -- nothing of a command that is not built yet
 unfoldable pub built_of : Command → Result (Unit {0}) Refusal

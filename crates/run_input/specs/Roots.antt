@@ -12,6 +12,8 @@ use Rattle.run_answers.specs.Stages.{Is, Then, ◌>>=◌, check}
 use Rattle.run_answers.specs.declared.refusal.NotBuilt.TheVariants as forms
 use Rattle.run_answers.specs.declared.refusal.Refusal.{Refusal}
 use Rattle.run_answers.specs.declared.refusal.Refusal.TheVariants as refusals
+use Rattle.run_words.specs.declared.command.Work.{Work}
+use Rattle.run_words.specs.declared.command.Work.TheVariants as works
 
 -- the specs that a text spells, or its fault
 abbrev pub SpecsOf : List ℕ → Result (List Spec) Refusal → Type 0
@@ -36,15 +38,20 @@ are_simple [] = false
 are_simple (spec ∷ []) = is_simple spec
 are_simple (spec ∷ other ∷ more) = false
 
+-- `concretize` is built for such specs alone
+abbrev pub are_built : Work → List Spec → Bool
+are_built works.Concretize specs = are_simple specs
+are_built works.Judge specs = true
+
 -- each spec has a name
 abbrev pub are_named : List Spec → Bool
 are_named specs = list_all (λ spec. is_some spec.top.name) specs
 
 -- at most 64 specs, of a form that is built
-unfoldable pub roots_of : List Spec → Result (List Spec) Refusal
-roots_of specs = do
+unfoldable pub roots_of : Work → List Spec → Result (List Spec) Refusal
+roots_of work specs = do
   few ← check refusals.TooManyRoots (nat_le (length specs) 64)
-  simple ← check (refusals.NotBuilt forms.Specs) (are_simple specs)
+  simple ← check (refusals.NotBuilt forms.Specs) (are_built work specs)
   Ok specs
 
 -- a text of specs has at most 64 KiB
@@ -52,5 +59,5 @@ abbrev pub short : List ℕ → Result (Unit {0}) Refusal
 short text = check refusals.SpecsTooLarge (nat_le (length text) (2 ^ 16))
 
 -- the roots that the text of the specs asks for
-abbrev pub RootsOf : List ℕ → Result (List Spec) Refusal → Type 0
-RootsOf text = Then (Is (short text)) (λ done. Then (SpecsOf text) (λ specs. Is (roots_of specs)))
+abbrev pub RootsOf : Work → List ℕ → Result (List Spec) Refusal → Type 0
+RootsOf work text = Then (Is (short text)) (λ done. Then (SpecsOf text) (λ specs. Is (roots_of work specs)))

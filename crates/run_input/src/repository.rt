@@ -22,7 +22,7 @@ use plain_data::List;
 use recipe_files::{Sources, read_sources};
 use recipe_reader::RecipeFile;
 use run_answers::{ReadStop, Refusal};
-use run_words::{Command, not_built};
+use run_words::{Command, Work, not_built};
 use spec_grammar::Spec;
 use std::alloc::Global;
 
@@ -38,51 +38,58 @@ pub struct Parts {
 fn read_requested(
     alloc: Global,
     recipes: &[Recipe],
+    work: Work,
     spec: &str,
 ) -> Result<List<Spec>, ReadStop>
-    ensures read { Gives result (Requested recipes.now spec.now) }
-    ensures roots { IfOk result (λ roots. RootsOf spec.now (Ok roots)) }
+    ensures read { Gives result (Requested recipes.now work spec.now) }
+    ensures roots { IfOk result (λ roots. RootsOf work spec.now (Ok roots)) }
     ensures named { IfOk result (λ roots. are_named roots ≡ true) }
     ensures no_usage { EndsInUsage result → ⊥ }
     ensures no_fault { EndsInReadFault result → ⊥ }
 {
     check_apart(alloc, recipes)?;
-    read_roots(alloc, spec)
+    read_roots(alloc, work, spec)
 }
 
 /// The parsing of all files, and then what is requested.
 fn read_over(
     alloc: Global,
     files: &[RecipeFile],
+    work: Work,
     spec: &str,
 ) -> Result<(List<Recipe>, List<Spec>), ReadStop>
-    ensures read { Gives result (Over (map source_of files.now) spec.now) }
+    ensures read { Gives result (Over (map source_of files.now) work spec.now) }
     ensures right { IfOk result (λ read. list_all is_right_recipe read.0 ≡ true) }
     ensures names { IfOk result (λ read. map virtuals.name_of read.0 ≡ map (λ source. source.0) (map source_of files.now)) }
-    ensures roots { IfOk result (λ read. RootsOf spec.now (Ok read.1)) }
+    ensures roots { IfOk result (λ read. RootsOf work spec.now (Ok read.1)) }
     ensures named { IfOk result (λ read. are_named read.1 ≡ true) }
     ensures no_usage { EndsInUsage result → ⊥ }
     ensures no_fault { EndsInReadFault result → ⊥ }
 {
     let recipes = recipes_of(alloc, files)?;
-    match read_requested(alloc, recipes.as_slice(), spec) {
+    match read_requested(alloc, recipes.as_slice(), work, spec) {
         Ok(roots) => Ok((recipes, roots)),
         Err(stop) => Err(stop),
     }
 }
 
 /// What is read over a pile of files, with the pile.
-fn read_pile(alloc: Global, sources: Sources, spec: &str) -> Result<Parts, ReadStop>
+fn read_pile(
+    alloc: Global,
+    sources: Sources,
+    work: Work,
+    spec: &str,
+) -> Result<Parts, ReadStop>
     requires { IsInByteOrder (names_of sources) }
-    ensures read { Gives result (OverPile sources spec.now) }
+    ensures read { Gives result (OverPile sources work spec.now) }
     ensures order { IfOk result (λ parts. AreInOrder parts.recipes) }
     ensures right { IfOk result (λ parts. list_all is_right_recipe parts.recipes ≡ true) }
-    ensures roots { IfOk result (λ parts. RootsOf spec.now (Ok parts.roots)) }
+    ensures roots { IfOk result (λ parts. RootsOf work spec.now (Ok parts.roots)) }
     ensures named { IfOk result (λ parts. are_named parts.roots ≡ true) }
     ensures no_usage { EndsInUsage result → ⊥ }
     ensures no_fault { EndsInReadFault result → ⊥ }
 {
-    match read_over(alloc, sources.as_slice(), spec) {
+    match read_over(alloc, sources.as_slice(), work, spec) {
         Ok((recipes, roots)) => Ok(Parts {
             sources,
             recipes,
@@ -101,7 +108,7 @@ fn read_repository<D: Desk>(
     ensures read { IfSome (D.files desk.old) (λ files. Gives result (InRepository files command.now)) }
     ensures order { IfOk result (λ parts. AreInOrder parts.recipes) }
     ensures right { IfOk result (λ parts. list_all is_right_recipe parts.recipes ≡ true) }
-    ensures roots { IfOk result (λ parts. RootsOf command.now.spec (Ok parts.roots)) }
+    ensures roots { IfOk result (λ parts. RootsOf command.now.work command.now.spec (Ok parts.roots)) }
     ensures named { IfOk result (λ parts. are_named parts.roots ≡ true) }
     ensures path { FailsInside command.now.repo result }
     ensures no_usage { EndsInUsage result → ⊥ }
@@ -110,7 +117,7 @@ fn read_repository<D: Desk>(
     ensures put_faults { D.put_faults desk.new ≡ D.put_faults desk.old }
 {
     let sources = read_sources(alloc, desk, command.repo)?;
-    read_pile(alloc, sources, command.spec.as_str())
+    read_pile(alloc, sources, command.work, command.spec.as_str())
 }
 
 /// Refuses what is not built yet.
@@ -135,7 +142,7 @@ pub fn read_built<D: Desk>(
     ensures read { IfSome (D.files desk.old) (λ files. Gives result (IfBuilt files command.now)) }
     ensures order { IfOk result (λ parts. AreInOrder parts.recipes) }
     ensures right { IfOk result (λ parts. list_all is_right_recipe parts.recipes ≡ true) }
-    ensures roots { IfOk result (λ parts. RootsOf command.now.spec (Ok parts.roots)) }
+    ensures roots { IfOk result (λ parts. RootsOf command.now.work command.now.spec (Ok parts.roots)) }
     ensures named { IfOk result (λ parts. are_named parts.roots ≡ true) }
     ensures path { FailsInside command.now.repo result }
     ensures no_usage { EndsInUsage result → ⊥ }

@@ -3,11 +3,12 @@
 ghost use Rattle.std.specs.Prelude.{◌≡◌, true, IfOk};
 ghost use Rattle.run_answers.specs.Stages.{Is, Then};
 ghost use Rattle.run_answers.specs.Stops.{Gives, EndsInReadFault, EndsInUsage};
-ghost use Rattle.run_input.specs.Roots.{SpecsOf, RootsOf, are_named, are_simple, asks_versions, is_simple, roots_of};
+ghost use Rattle.run_input.specs.Roots.{SpecsOf, RootsOf, are_built, are_named, are_simple, asks_versions, is_simple, roots_of};
 
 use plain_data::List;
 use run_answers::{NotBuilt, ReadStop, Refusal};
 use spec_grammar::{Part, Spec, SpecFault, read_specs, writing_laws};
+use run_words::Work;
 use std::alloc::Global;
 
 /// The most bytes that the text of the specs has: 64 KiB.
@@ -60,10 +61,20 @@ fn are_simple(specs: &[Spec]) -> bool
     }
 }
 
+/// Whether the work is built for the specs.
+fn are_built(work: Work, specs: &[Spec]) -> bool
+    ensures { result ≡ are_built work specs.now }
+{
+    match work {
+        Work::Concretize => are_simple(specs),
+        Work::Judge => true,
+    }
+}
+
 /// Refuses more than 64 specs, and what is not built yet.
 #[tactic(auto, unfolding(crate::specs::Roots::roots_of))]
-fn checked(specs: List<Spec>) -> Result<List<Spec>, ReadStop>
-    ensures read { Gives result (Is (roots_of specs)) }
+fn checked(work: Work, specs: List<Spec>) -> Result<List<Spec>, ReadStop>
+    ensures read { Gives result (Is (roots_of work specs)) }
     ensures same { IfOk result (λ roots. roots ≡ specs) }
     ensures no_usage { EndsInUsage result → ⊥ }
     ensures no_fault { EndsInReadFault result → ⊥ }
@@ -71,26 +82,26 @@ fn checked(specs: List<Spec>) -> Result<List<Spec>, ReadStop>
     if specs.as_slice().len() > ROOTS_LIMIT {
         return Err(ReadStop::Refused(Refusal::TooManyRoots));
     }
-    if !are_simple(specs.as_slice()) {
+    if !are_built(work, specs.as_slice()) {
         return Err(ReadStop::Refused(Refusal::NotBuilt(NotBuilt::Specs)));
     }
     Ok(specs)
 }
 
 /// The roots that a text asks for, which is not too long.
-fn roots_in(alloc: Global, text: &str) -> Result<List<Spec>, ReadStop>
-    ensures read { Gives result (Then (SpecsOf text.now) (λ specs. Is (roots_of specs))) }
+fn roots_in(alloc: Global, work: Work, text: &str) -> Result<List<Spec>, ReadStop>
+    ensures read { Gives result (Then (SpecsOf text.now) (λ specs. Is (roots_of work specs))) }
     ensures named { IfOk result (λ roots. are_named roots ≡ true) }
     ensures no_usage { EndsInUsage result → ⊥ }
     ensures no_fault { EndsInReadFault result → ⊥ }
 {
     let specs = specs_of(alloc, text)?;
-    checked(specs)
+    checked(work, specs)
 }
 
 /// The roots that the text of the specs asks for.
-pub fn read_roots(alloc: Global, text: &str) -> Result<List<Spec>, ReadStop>
-    ensures read { Gives result (RootsOf text.now) }
+pub fn read_roots(alloc: Global, work: Work, text: &str) -> Result<List<Spec>, ReadStop>
+    ensures read { Gives result (RootsOf work text.now) }
     ensures named { IfOk result (λ roots. are_named roots ≡ true) }
     ensures no_usage { EndsInUsage result → ⊥ }
     ensures no_fault { EndsInReadFault result → ⊥ }
@@ -98,5 +109,5 @@ pub fn read_roots(alloc: Global, text: &str) -> Result<List<Spec>, ReadStop>
     if text.len() > SPECS_LIMIT {
         return Err(ReadStop::Refused(Refusal::SpecsTooLarge));
     }
-    roots_in(alloc, text)
+    roots_in(alloc, work, text)
 }

@@ -2,19 +2,31 @@
 
 ghost use Rattle.std.specs.Prelude.{◌≡◌, ◌∷◌, ◌++◌, IfOk};
 ghost use Rattle.std.specs.String.{string_bytes};
-ghost use Rattle.run_words.specs.Words.{words_of, joined_words, command_of, is_blank, is_same, is_dash};
+ghost use Rattle.run_words.specs.Words.{words_of, joined_words, concretize_of, judge_of, command_of, unless_wrong, is_wrong, is_blank, is_same, is_dash};
 
 use spec_grammar::is_white;
 use std::alloc::{AllocError, Global};
 use std::marker::Model;
 
-/// The words of `concretize REPO SETTINGS DATABASE LOCK CERT SPEC`.
+/// What a command does with what it reads.
+#[derive(Clone, Copy, Debug, PartialEq, Eq)]
+pub enum Work {
+    /// Finds the best graph.
+    Concretize,
+    /// Judges the graph of a lock file.
+    Judge,
+}
+
+/// The words of `concretize REPO SETTINGS DATABASE LOCK CERT SPEC` or of
+/// `judge REPO SETTINGS DATABASE LOCK SPEC`.
 #[derive(Debug, Drop)]
 pub struct Command<'a> {
+    pub work: Work,
     pub repo: &'a str,
     pub settings: &'a str,
     pub database: &'a str,
     pub lock: &'a str,
+    /// `-` where there is none.
     pub cert: &'a str,
     /// The words of the spec, joined by one space.
     pub spec: String,
@@ -26,7 +38,7 @@ impl<'a> Model for Command<'a> {
 
     ghost Value = { Command };
 
-    ghost view = { λ c. record { repo = c.repo.now; settings = c.settings.now; database = c.database.now; lock = c.lock.now; cert = c.cert.now; spec = string_bytes c.spec } };
+    ghost view = { λ c. record { work = c.work; repo = c.repo.now; settings = c.settings.now; database = c.database.now; lock = c.lock.now; cert = c.cert.now; spec = string_bytes c.spec } };
 }
 
 /// Words joined by one space.
@@ -62,25 +74,39 @@ pub fn is_dash(path: &str) -> bool
     path == "-"
 }
 
-/// The command that the words are; `None` where they are none.
-pub fn read_command<'a>(
+/// Whether a command has no lock file, one file for both, or no spec.
+fn is_wrong(command: &Command<'_>) -> bool
+    ensures { result ≡ is_wrong command.now }
+{
+    is_dash(command.lock)
+        || is_same(command.lock, command.cert)
+        || is_blank(command.spec.as_bytes())
+}
+
+/// The command, unless it is wrong.
+fn unless_wrong<'a>(command: Command<'a>) -> Option<Command<'a>>
+    ensures { result ≡ unless_wrong command }
+{
+    if is_wrong(&command) {
+        None
+    } else {
+        Some(command)
+    }
+}
+
+/// The command that the words behind `concretize` make.
+fn read_concretize<'a>(
     alloc: Global,
     words: &'a [String],
 ) -> Result<Option<Command<'a>>, AllocError>
-    ensures { IfOk result (λ command. command ≡ command_of (words_of words.now)) }
+    ensures { IfOk result (λ command. command ≡ concretize_of (words_of words.now)) }
 {
-    let [verb, repo, settings, database, lock, cert, first, more @ ..] = words else {
+    let [repo, settings, database, lock, cert, first, more @ ..] = words else {
         return Ok(None);
     };
     let spec = join_words(alloc, first.as_str(), more)?;
-    if !is_same(verb.as_str(), "concretize")
-        || is_dash(lock.as_str())
-        || is_same(lock.as_str(), cert.as_str())
-        || is_blank(spec.as_bytes())
-    {
-        return Ok(None);
-    }
-    Ok(Some(Command {
+    Ok(unless_wrong(Command {
+        work: Work::Concretize,
         repo: repo.as_str(),
         settings: settings.as_str(),
         database: database.as_str(),
@@ -88,4 +114,42 @@ pub fn read_command<'a>(
         cert: cert.as_str(),
         spec,
     }))
+}
+
+/// The command that the words behind `judge` make.
+fn read_judge<'a>(alloc: Global, words: &'a [String]) -> Result<Option<Command<'a>>, AllocError>
+    ensures { IfOk result (λ command. command ≡ judge_of (words_of words.now)) }
+{
+    let [repo, settings, database, lock, first, more @ ..] = words else {
+        return Ok(None);
+    };
+    let spec = join_words(alloc, first.as_str(), more)?;
+    Ok(unless_wrong(Command {
+        work: Work::Judge,
+        repo: repo.as_str(),
+        settings: settings.as_str(),
+        database: database.as_str(),
+        lock: lock.as_str(),
+        cert: "-",
+        spec,
+    }))
+}
+
+/// The command that the words are; `None` where they are none.
+pub fn read_command<'a>(
+    alloc: Global,
+    words: &'a [String],
+) -> Result<Option<Command<'a>>, AllocError>
+    ensures { IfOk result (λ command. command ≡ command_of (words_of words.now)) }
+{
+    let [verb, more @ ..] = words else {
+        return Ok(None);
+    };
+    if is_same(verb.as_str(), "concretize") {
+        read_concretize(alloc, more)
+    } else if is_same(verb.as_str(), "judge") {
+        read_judge(alloc, more)
+    } else {
+        Ok(None)
+    }
 }

@@ -9,5 +9,5 @@
 mod command;
 mod order;
 
-pub use command::{Command, is_dash};
+pub use command::{Command, Work, is_dash};
 pub use order::{not_built, read_order};
