@@ -62,6 +62,8 @@ pub enum Refusal {
     VirtualRoot(Word),
     /// A spec asks for this platform, which is not the machine's.
     WrongPlatform(Word),
+    /// The lock file has 2^63 bytes or more.
+    LockTooLarge,
     /// The lock file has the fault.
     BadLock(LockFault),
     /// The roots of the lock file are not those that are asked for, with the hashes of their nodes.
@@ -90,7 +92,8 @@ impl Refusal {
             | Refusal::RecipeTooLarge(_)
             | Refusal::RecipesTooLarge
             | Refusal::SpecsTooLarge
-            | Refusal::TooManyRoots => Status::TooLarge,
+            | Refusal::TooManyRoots
+            | Refusal::LockTooLarge => Status::TooLarge,
             Refusal::BadLock(fault) => lock_status(fault),
             Refusal::OtherRoots | Refusal::BrokenRule(_, _, _) => Status::Refused,
         }
@@ -118,6 +121,7 @@ impl Refusal {
             Refusal::UnknownRoot(name) => unknown_line(alloc, name.as_str()),
             Refusal::VirtualRoot(name) => virtual_line(alloc, name.as_str()),
             Refusal::WrongPlatform(name) => platform_line(alloc, name.as_str()),
+            Refusal::LockTooLarge => format!(in alloc; "too large: lock\n"),
             Refusal::BadLock(fault) => bad_lock_line(alloc, fault),
             Refusal::OtherRoots => format!(in alloc; "refused: roots\n"),
             Refusal::BrokenRule(rule, node, number) => {

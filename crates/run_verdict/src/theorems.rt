@@ -1,0 +1,17 @@
+//! What holds of the verdict on any lock file.
+
+ghost use Rattle.std.specs.Prelude.{◌≡◌, ℕ, List, Result};
+ghost use Rattle.outside_desk.specs.Files.{Files};
+ghost use Rattle.problem.specs.Problems.{Problem};
+ghost use Rattle.run_answers.specs.declared.refusal.Refusal.{Refusal};
+ghost use Rattle.run_verdict.specs.Verdicts.{Judges};
+
+use lockfile::lock_laws;
+
+/// Of a lock file one thing is said at most, or one refusal is due at most.
+pub fn verdict_laws()
+    ensures one { (files : Files) (path : List ℕ) (problem : Problem) (a b : Result (List ℕ) Refusal)
+        → Judges files path problem a → Judges files path problem b → a ≡ b }
+{
+    lock_laws();
+}
