@@ -68,17 +68,14 @@ pub fn are_roots_of(
 ) -> Result<bool, AllocError>
     ensures { IfOk result (λ are. are ≡ are_roots_of hashes.now specs.now roots.now) }
 {
-    let (mut specs, mut roots) = (specs, roots);
-    loop {
-        match (specs, roots) {
-            ([], []) => return Ok(true),
-            ([spec, more @ ..], [root, others @ ..]) => {
-                if !is_root_of(alloc, hashes, spec, root)? {
-                    return Ok(false);
-                }
-                (specs, roots) = (more, others);
+    match (specs, roots) {
+        ([], []) => Ok(true),
+        ([spec, specs @ ..], [root, roots @ ..]) => {
+            if !is_root_of(alloc, hashes, spec, root)? {
+                return Ok(false);
             }
-            _ => return Ok(false),
+            are_roots_of(alloc, hashes, specs, roots)
         }
+        _ => Ok(false),
     }
 }
