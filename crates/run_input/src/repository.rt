@@ -35,11 +35,7 @@ pub struct Parts {
 }
 
 /// The clash of names, and then the specs.
-fn read_requested(
-    alloc: Global,
-    recipes: &[Recipe],
-    spec: &str,
-) -> Result<List<Spec>, ReadStop>
+fn read_requested(alloc: Global, recipes: &[Recipe], spec: &str) -> Result<List<Spec>, ReadStop>
     ensures read { Gives result (Requested recipes.now spec.now) }
     ensures roots { IfOk result (λ roots. RootsOf spec.now (Ok roots)) }
     ensures named { IfOk result (λ roots. are_named roots ≡ true) }
