@@ -41,11 +41,7 @@ fn clash_text(alloc: Global, recipes: &[Recipe]) -> Result<String, AllocError> {
     }
 }
 
-fn possible_text(
-    alloc: Global,
-    providers: &Providers,
-    name: &str,
-) -> Result<String, AllocError> {
+fn possible_text(alloc: Global, providers: &Providers, name: &str) -> Result<String, AllocError> {
     let mut text = text_of(alloc, "of")?;
     for pair in providers.possible(name) {
         text.push_str(" ")?;

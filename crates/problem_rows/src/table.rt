@@ -61,7 +61,12 @@ fn take_line(rt: &HostRuntime, tally: &mut Tally, line: &str) -> io::Result<()> 
     } else if let Some(items) = line.strip_prefix("graph ") {
         tally.graph = String::from(alloc, items)?;
     } else if let Some(question) = line.strip_prefix("ask ") {
-        tally.shown = answer(alloc, tally.files.as_slice(), tally.graph.as_str(), question)?;
+        tally.shown = answer(
+            alloc,
+            tally.files.as_slice(),
+            tally.graph.as_str(),
+            question,
+        )?;
     }
     Ok(())
 }

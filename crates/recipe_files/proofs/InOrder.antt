@@ -1,6 +1,6 @@
 -- The files of a pile are in byte order of their packages' names.
 use Rattle.std.proofs.Common.{◌≡◌, refl, sym, ap, subst, ◌∙◌, ℕ, Bool, true, false, List, [], ◌∷◌, ◌++◌, map, Option, Some, None, Result, Ok, Err, if◌then◌else◌}
-use Rattle.std.specs.Prelude.{◌+◌, ◌^◌, nat_le, nat_lt, length}
+use Rattle.std.specs.Prelude.{◌+◌, ◌^◌, nat_le, nat_lt, length, OnOk}
 use Rattle.std.specs.List.Sorted.{IsStrictlySortedBy}
 use Rattle.std.proofs.lemmas.List.{map-append, append_assoc, append-nil}
 use Rattle.std.proofs.lemmas.Cmp.{nat_list_cmp_total}
@@ -14,9 +14,10 @@ use Rattle.variant_values.proofs.Keys.{IsStrictlySortedBy-insert_key}
 use Rattle.run_answers.specs.Stages.{◌>>=◌}
 use Rattle.run_answers.specs.declared.refusal.Refusal.{Refusal}
 use Rattle.run_answers.specs.declared.refusal.Refusal.TheVariants as refusals
+use Rattle.run_answers.specs.declared.stop.ReadStop.{ReadStop}
 use Rattle.run_answers.proofs.StageLaws.{ok_same, ok_not_err, then_ok}
 use Rattle.recipe_files.specs.Paths.{packages_path}
-use Rattle.recipe_files.specs.Sources.{Source, Pile, names_of, no_files, with_file, recipe_at, with_entry, with_entries, pile_by, pile_of}
+use Rattle.recipe_files.specs.Sources.{Source, Pile, Leaves, names_of, no_files, with_file, recipe_at, with_entry, with_entries, pile_by, pile_of}
 
 abbrev Names : Type 0
 Names = List (List ℕ)
@@ -37,7 +38,8 @@ all_without : (P : List ℕ → Type 0) (xs : Names) (name : List ℕ) (ys : Nam
 all_without P [] name ys h = h.1
 all_without P (x ∷ xs) name ys h = (h.0, all_without P xs name ys h.1)
 
-without : (xs : Names) (name : List ℕ) (ys : Names) → IsInByteOrder (xs ++ name ∷ ys) → IsInByteOrder (xs ++ ys)
+-- a name that is passed over
+pub without : (xs : Names) (name : List ℕ) (ys : Names) → IsInByteOrder (xs ++ name ∷ ys) → IsInByteOrder (xs ++ ys)
 unfolding IsStrictlySortedBy
 without [] name ys h = h.1
 without (x ∷ xs) name ys h = (all_without (λ y. byte_cmp x y ≡ Less) xs name ys h.0, without xs name ys h.1)
@@ -58,12 +60,23 @@ with_file_names pile name bytes next is =
     ap names_of (sym same) ∙ map-append (λ (source : Source). source.0) pile.files ((name, bytes) ∷ [])
 
 -- an entry more, of which the name comes next
-pub entry_rises : (pile : Pile) (name : List ℕ) (names : Names) (found : Option (List ℕ)) (next : Pile)
+entry_rises : (pile : Pile) (name : List ℕ) (names : Names) (found : Option (List ℕ)) (next : Pile)
     → with_entry pile name found ≡ Ok next → IsInByteOrder (names_of pile ++ name ∷ names) → IsInByteOrder (names_of next ++ names)
 entry_rises pile name names None next is ordered =
     subst (λ (p : Pile). IsInByteOrder (names_of p ++ names)) (ok_same pile next is) (without (names_of pile) name names ordered)
 entry_rises pile name names (Some bytes) next is ordered =
     rw (with_file_names pile name bytes next is) (rw (append_assoc (names_of pile) (name ∷ []) names) ordered)
+
+-- a file more
+pub file_rises : (pile : Pile) (name bytes : List ℕ) (names : Names) (after : Pile) (result : Result (Unit {0}) ReadStop)
+    → Leaves (with_file pile name bytes) after result → IsInByteOrder (names_of pile ++ name ∷ names) → OnOk result (IsInByteOrder (names_of after ++ names))
+file_rises pile name bytes names after (Ok done) left ordered = entry_rises pile name names (Some bytes) after left ordered
+file_rises pile name bytes names after (Err stop) left ordered = tt
+
+-- nothing that was refused
+pub never : {A : Type 0} (P : Type 0) (result : Result A ReadStop) → OnOk result ⊥ → OnOk result P
+never P (Ok x) none = absurd none
+never P (Err stop) none = tt
 
 entries_rise : (files : Files) (repo : List ℕ) (pile : Pile) (names : Names) (last : Pile)
     → with_entries files repo pile names ≡ Ok last → IsInByteOrder (names_of pile ++ names) → IsInByteOrder (names_of last)

@@ -19,7 +19,7 @@ use spec_grammar::is_name;
 use std::alloc::Global;
 
 /// Reads an entry of the folder: it is a recipe where its name is a NAME and its file is there.
-#[tactic(auto, unfolding(crate::specs::Sources::recipe_at), using(crate::proofs::Ends::inside, crate::proofs::Ends::counts, crate::proofs::InOrder::entry_rises))]
+#[tactic(auto, unfolding(crate::specs::Sources::recipe_at), using(crate::proofs::Ends::inside, crate::proofs::Ends::counts))]
 fn read_entry<D: Desk>(
     alloc: Global,
     desk: &mut D,

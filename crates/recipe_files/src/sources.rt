@@ -86,6 +86,7 @@ impl Sources {
     #[tactic(auto, unfolding(crate::specs::Sources::with_file))]
     pub(crate) fn refuse(&self, alloc: Global, name: &str) -> Result<(), ReadStop>
         ensures left { (bytes : List ℕ) → 2 ^ 20 < length bytes → Leaves (with_file self.now name.now bytes) self.now result }
+        ensures stops { OnOk result ⊥ }
         ensures no_fault { EndsInReadFault result → ⊥ }
         ensures no_usage { EndsInUsage result → ⊥ }
     {

@@ -1,19 +1,15 @@
--- The problem that the words name over the files, or the first refusal.
+-- The problem of one package over what was read, or why it is not built yet.
 use Rattle.std.specs.Prelude.{ℕ, ◌==◌, List, length, Bool, false, not, ◌||◌, ◌&&◌, map, Option, Some, None, option_and_then, Result, Ok, Err}
 use Rattle.std.specs.List.{list_all, find}
 use Rattle.std.specs.Str.{bytes_eq}
-use Rattle.outside_desk.specs.Files.{Files}
 use Rattle.conditions.specs.declared.recipe.Recipe.{Recipe}
 use Rattle.conditions.specs.declared.recipe.VersionRow.{VersionRow}
 use Rattle.directive_count.specs.Counts.{directives_of}
-use Rattle.run_answers.specs.Stages.{Is, Then, ◌>>=◌, or_refuse, check}
+use Rattle.run_answers.specs.Stages.{◌>>=◌, or_refuse, check}
 use Rattle.run_answers.specs.declared.refusal.NotBuilt.TheVariants as forms
 use Rattle.run_answers.specs.declared.refusal.Refusal.{Refusal}
 use Rattle.run_answers.specs.declared.refusal.Refusal.TheVariants as refusals
-use Rattle.run_words.specs.Words.{Command}
-use Rattle.run_words.specs.Orders.{order_of}
 use Rattle.recipe_files.specs.Sources.{Source}
-use Rattle.run_input.specs.Inputs.{Reads}
 use Rattle.run_input.specs.declared.input.Input.{Input}
 use Rattle.run_problem.specs.Wants.{wanted_of}
 use Rattle.run_problem.specs.declared.problem.Problem.{Problem}
@@ -62,13 +58,3 @@ unfoldable pub problem_in : Input → Result Problem Refusal
 problem_in input = do
   wanted ← wanted_of input.problem.roots
   problem_by input.sources.files input.problem.recipes wanted
-
--- ---- the stages
-
--- the problem that a command names over the files
-abbrev pub Named : Files → Command → Result Problem Refusal → Type 0
-Named files command = Then (Reads files command) (λ input. Is (problem_in input))
-
--- the problem that the words name over the files
-abbrev pub Poses : Files → List (List ℕ) → Result Problem Refusal → Type 0
-Poses files words = Then (Is (order_of words)) (Named files)

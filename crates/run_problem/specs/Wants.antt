@@ -2,11 +2,10 @@
 use Rattle.std.specs.Prelude.{ℕ, List, [], ◌∷◌, Option, Some, None, Result, Ok}
 use Rattle.spec_grammar.specs.Canonical.{word_text, spec_text}
 use Rattle.spec_grammar.specs.declared.part.Spec.{Spec}
-use Rattle.run_answers.specs.Stages.{Is, Then, ◌>>=◌, or_refuse}
+use Rattle.run_answers.specs.Stages.{◌>>=◌, or_refuse}
 use Rattle.run_answers.specs.declared.refusal.NotBuilt.TheVariants as forms
 use Rattle.run_answers.specs.declared.refusal.Refusal.{Refusal}
 use Rattle.run_answers.specs.declared.refusal.Refusal.TheVariants as refusals
-use Rattle.run_input.specs.Roots.{RootsOf}
 use Rattle.run_problem.specs.declared.wanted.Wanted.{Wanted}
 
 abbrev pub wanted_by : Spec → Wanted
@@ -23,7 +22,3 @@ unfoldable pub wanted_of : List Spec → Result Wanted Refusal
 wanted_of roots = do
   spec ← or_refuse (refusals.NotBuilt forms.Specs) (only roots)
   Ok (wanted_by spec)
-
--- what the text of the specs wants
-abbrev pub Wants : List ℕ → Result Wanted Refusal → Type 0
-Wants text = Then (RootsOf text) (λ roots. Is (wanted_of roots))

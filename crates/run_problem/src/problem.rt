@@ -1,20 +1,22 @@
 //! The problem of a package that is wanted.
 
-ghost use Rattle.std.specs.Prelude.{◌≡◌, map, option_map, IfOk};
+ghost use Rattle.std.specs.Prelude.{◌≡◌, map, option_map, All, IfOk};
 ghost use Rattle.std.specs.List.{find, list_all};
-ghost use Rattle.std.specs.Str.{bytes_eq};
+ghost use Rattle.std.specs.Str.{bytes_eq, IsUtf8};
+ghost use Rattle.spec_grammar.specs.Canonical.{spec_text};
 ghost use Rattle.std.specs.Option.{option_copied};
 ghost use Rattle.run_answers.specs.Stages.{Is};
 ghost use Rattle.run_answers.specs.Stops.{Gives, EndsInReadFault, EndsInUsage};
 ghost use Rattle.recipe_files.specs.Sources.{source_of};
-ghost use Rattle.run_problem.specs.Problems.{recipe_named, source_named, directives_at, is_count, is_plain_row, is_plain, declared_by, problem_by};
+ghost use Rattle.run_problem.specs.Problems.{recipe_named, source_named, directives_at, is_count, is_plain_row, is_plain, declared_by, problem_by, problem_in};
 
-use crate::wanted::Wanted;
+use crate::wanted::{Wanted, wanted_of};
 use conditions::{Recipe, VersionRow};
 use directive_count::count_directives;
 use plain_data::{Duplicate, List};
 use recipe_reader::RecipeFile;
 use run_answers::{NotBuilt, ReadStop, Refusal};
+use run_input::Input;
 use std::alloc::{AllocError, Global};
 use version_order::Version;
 
@@ -99,7 +101,7 @@ fn declared_by(alloc: Global, recipe: &Recipe) -> Result<List<Version>, AllocErr
 
 /// The problem of a package that is wanted, over recipes and their files.
 #[tactic(auto, unfolding(crate::specs::Problems::problem_by))]
-pub fn problem_by(
+fn problem_by(
     alloc: Global,
     files: &[RecipeFile],
     recipes: &[Recipe],
@@ -118,4 +120,22 @@ pub fn problem_by(
     }
     let declared = declared_by(alloc, recipe)?;
     Ok(Problem { wanted, declared })
+}
+
+/// The problem of what was read.
+///
+/// # Errors
+///
+/// `NotBuilt` where more than the versions of one package are asked for, or where its recipe has more than plain
+/// versions; `UnknownRoot` where it has none.
+#[tactic(auto, unfolding(crate::specs::Problems::problem_in), using(crate::proofs::Roots::named_roots))]
+pub fn problem_in(alloc: Global, input: &Input) -> Result<Problem, ReadStop>
+    requires { All (λ spec. IsUtf8 (spec_text spec)) input.now.problem.roots }
+    ensures read { Gives result (Is (problem_in input.now)) }
+    ensures no_usage { EndsInUsage result → ⊥ }
+    ensures no_fault { EndsInReadFault result → ⊥ }
+{
+    let recipes = input.problem.recipes();
+    let wanted = wanted_of(alloc, input.problem.roots())?;
+    problem_by(alloc, input.sources.as_slice(), recipes, wanted)
 }
