@@ -35,7 +35,6 @@ pub struct Parts {
 }
 
 /// The clash of names, and then the specs.
-<<<<<<< HEAD
 fn read_requested(
     alloc: Global,
     recipes: &[Recipe],
@@ -44,11 +43,6 @@ fn read_requested(
 ) -> Result<List<Spec>, ReadStop>
     ensures read { Gives result (Requested recipes.now work spec.now) }
     ensures roots { IfOk result (λ roots. RootsOf work spec.now (Ok roots)) }
-=======
-fn read_requested(alloc: Global, recipes: &[Recipe], spec: &str) -> Result<List<Spec>, ReadStop>
-    ensures read { Gives result (Requested recipes.now spec.now) }
-    ensures roots { IfOk result (λ roots. RootsOf spec.now (Ok roots)) }
->>>>>>> bf85fa801f20ad5c18a5de29ca26d0ff14ae03c5
     ensures named { IfOk result (λ roots. are_named roots ≡ true) }
     ensures no_usage { EndsInUsage result → ⊥ }
     ensures no_fault { EndsInReadFault result → ⊥ }
