@@ -3,8 +3,8 @@ use Rattle.std.proofs.Common.{◌≡◌, ℕ, List, Option, Some, None, Result, 
 use Rattle.std.specs.Prelude.{IfSome}
 use Rattle.outside_desk.specs.Causes.{Counts, Rose}
 use Rattle.outside_desk.specs.Files.{Files}
-use Rattle.run_problem.specs.declared.problem.Problem.{Problem}
-use Rattle.run_problem.specs.Problems.{Poses}
+use Rattle.run_task.specs.declared.task.Task.{Task}
+use Rattle.run_task.specs.Tasks.{Poses}
 use Rattle.run_answers.specs.Refusals.{status_of, line_of}
 use Rattle.run_answers.specs.Stops.{stop_status, stop_line}
 use Rattle.concretizer.specs.Attempts.{Attempts, StopsAtOnce, FailsToRead, FailsToPut, FailsToSay}
@@ -20,7 +20,7 @@ use Rattle.run_answers.specs.declared.stop.Stop.TheVariants.{Read, Write}
 
 -- words name one problem at most, or are due one refusal
 abbrev pub PosesOnce : Type 0
-PosesOnce = (files : Files) (words : List (List ℕ)) (a b : Result Problem Refusal) → Poses files words a → Poses files words b → a ≡ b
+PosesOnce = (files : Files) (words : List (List ℕ)) (a b : Result Task Refusal) → Poses files words a → Poses files words b → a ≡ b
 
 -- ---- words that are refused
 
@@ -92,21 +92,21 @@ pub record AreCounted (stop : Stop) (reads puts says : ℕ × ℕ) : Type 0 wher
 
 settles_here : PosesOnce → (files : Files) (words : List (List ℕ)) (stop : Stop) (after : Option Files) (out err : Spoken) (reads puts says errs : ℕ × ℕ) (result : Status)
     → Attempts files words after out.0 out.1 (Err stop) → AreCounted stop reads puts says → Reports (stop_status stop) (stop_line stop) err errs result
-    → (problem : Problem) → Poses files words (Ok problem) → AreStill reads puts says errs → Settles result
-settles_here laws files words (Read (Refused refusal)) after out err reads puts says errs result left counts reports problem poses still =
-    absurd (let same : (let T : Type 0 = Result Problem Refusal in let l : T = Ok problem in let r : T = Err refusal in l ≡ r) = laws files words (Ok problem) (Err refusal) poses left.0 in cc)
-settles_here laws files words (Read (Fault path)) after out err reads puts says errs result left counts reports problem poses still = absurd (still.read (counts.read.cause tt))
-settles_here laws files words (Read NoMemory) after out err reads puts says errs result left counts reports problem poses still = settles_none _ err errs result reports still.err
-settles_here laws files words (Write (writes.Put path)) after out err reads puts says errs result left counts reports problem poses still = absurd (still.put (counts.put.cause tt))
-settles_here laws files words (Write writes.Output) after out err reads puts says errs result left counts reports problem poses still = absurd (still.said (counts.said.cause tt))
-settles_here laws files words (Write writes.NoMemory) after out err reads puts says errs result left counts reports problem poses still = settles_none _ err errs result reports still.err
+    → (task : Task) → Poses files words (Ok task) → AreStill reads puts says errs → Settles result
+settles_here laws files words (Read (Refused refusal)) after out err reads puts says errs result left counts reports task poses still =
+    absurd (let same : (let T : Type 0 = Result Task Refusal in let l : T = Ok task in let r : T = Err refusal in l ≡ r) = laws files words (Ok task) (Err refusal) poses left.0 in cc)
+settles_here laws files words (Read (Fault path)) after out err reads puts says errs result left counts reports task poses still = absurd (still.read (counts.read.cause tt))
+settles_here laws files words (Read NoMemory) after out err reads puts says errs result left counts reports task poses still = settles_none _ err errs result reports still.err
+settles_here laws files words (Write (writes.Put path)) after out err reads puts says errs result left counts reports task poses still = absurd (still.put (counts.put.cause tt))
+settles_here laws files words (Write writes.Output) after out err reads puts says errs result left counts reports task poses still = absurd (still.said (counts.said.cause tt))
+settles_here laws files words (Write writes.NoMemory) after out err reads puts says errs result left counts reports task poses still = settles_none _ err errs result reports still.err
 
 pub settles : PosesOnce → (before : Option Files) (words : List (List ℕ)) (stop : Stop) (after : Option Files) (out err : Spoken) (reads puts says errs : ℕ × ℕ) (result : Status)
     → IfSome before (λ files. Attempts files words after out.0 out.1 (Err stop)) → AreCounted stop reads puts says → Reports (stop_status stop) (stop_line stop) err errs result
-    → IfSome before (λ files. (problem : Problem) → Poses files words (Ok problem) → ¬ Rose reads.0 reads.1 → ¬ Rose puts.0 puts.1 → ¬ Rose says.0 says.1 → ¬ Rose errs.0 errs.1 → Settles result)
+    → IfSome before (λ files. (task : Task) → Poses files words (Ok task) → ¬ Rose reads.0 reads.1 → ¬ Rose puts.0 puts.1 → ¬ Rose says.0 says.1 → ¬ Rose errs.0 errs.1 → Settles result)
 settles laws None words stop after out err reads puts says errs result left counts reports = tt
-settles laws (Some files) words stop after out err reads puts says errs result left counts reports = λ problem poses read put said late.
-    settles_here laws files words stop after out err reads puts says errs result left counts reports problem poses (record { read = read; put = put; said = said; err = late })
+settles laws (Some files) words stop after out err reads puts says errs result left counts reports = λ task poses read put said late.
+    settles_here laws files words stop after out err reads puts says errs result left counts reports task poses (record { read = read; put = put; said = said; err = late })
 
 -- ---- input that is refused
 
@@ -124,15 +124,15 @@ none_reported status line said faults result (inl (is, line_said)) still = inr i
 none_reported status line said faults result (inr (inl (is, rose))) still = absurd (still rose)
 none_reported status line said faults result (inr (inr is)) still = inr is
 
-not_both : {A : Type 0} → PosesOnce → (files : Files) (words : List (List ℕ)) (problem : Problem) (refusal : Refusal)
-    → Poses files words (Ok problem) → Poses files words (Err refusal) → A
-not_both laws files words problem refusal p q =
-    absurd (let same : (let T : Type 0 = Result Problem Refusal in let l : T = Ok problem in let r : T = Err refusal in l ≡ r) = laws files words (Ok problem) (Err refusal) p q in cc)
+not_both : {A : Type 0} → PosesOnce → (files : Files) (words : List (List ℕ)) (task : Task) (refusal : Refusal)
+    → Poses files words (Ok task) → Poses files words (Err refusal) → A
+not_both laws files words task refusal p q =
+    absurd (let same : (let T : Type 0 = Result Task Refusal in let l : T = Ok task in let r : T = Err refusal in l ≡ r) = laws files words (Ok task) (Err refusal) p q in cc)
 
 same_refusal : PosesOnce → (files : Files) (words : List (List ℕ)) (a b : Refusal)
     → Poses files words (Err a) → Poses files words (Err b) → a ≡ b
 same_refusal laws files words a b p q =
-    let same : (let T : Type 0 = Result Problem Refusal in let l : T = Err a in let r : T = Err b in l ≡ r) = laws files words (Err a) (Err b) p q in cc
+    let same : (let T : Type 0 = Result Task Refusal in let l : T = Err a in let r : T = Err b in l ≡ r) = laws files words (Err a) (Err b) p q in cc
 
 due_here : PosesOnce → (files : Files) (words : List (List ℕ)) (stop : Stop) (after : Option Files) (out err : Spoken) (reads puts says errs : ℕ × ℕ) (result : Status)
     → Attempts files words after out.0 out.1 (Err stop) → AreCounted stop reads puts says → Reports (stop_status stop) (stop_line stop) err errs result
@@ -160,4 +160,4 @@ pub written : PosesOnce → (before : Option Files) (words : List (List ℕ)) (a
     → IfSome before (λ files. (refusal : Refusal) → Poses files words (Err refusal) → ¬ Rose reads.0 reads.1 → ¬ Rose puts.0 puts.1 → ¬ Rose says.0 says.1 → ¬ Rose errs.0 errs.1 → IsAnsweredBy (status_of refusal) result)
 written laws None words answer after out reads puts says errs result left = tt
 written laws (Some files) words answer after out reads puts says errs result left = λ refusal poses read put said late.
-    not_both laws files words left.problem refusal left.read poses
+    not_both laws files words left.task refusal left.read poses

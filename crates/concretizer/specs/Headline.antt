@@ -6,12 +6,12 @@ use Rattle.std.specs.Prelude.{◌≡◌, ◌⊎◌, ℕ, List, Option, Some, Ok,
 use Rattle.outside_desk.specs.Causes.{Rose}
 use Rattle.outside_desk.specs.Files.{Files, and_said}
 use Rattle.run_words.specs.Words.{lock_path}
-use Rattle.run_problem.specs.declared.problem.Problem.{Problem}
-use Rattle.run_problem.specs.Problems.{Poses}
+use Rattle.run_task.specs.declared.task.Task.{Task}
+use Rattle.run_task.specs.Tasks.{Poses}
 use Rattle.run_answers.specs.Refusals.{status_of, line_of}
 use Rattle.run_answers.specs.Stops.{read_fault_line, write_fault_line, output_fault_line}
-use Rattle.run_output.specs.Answers.{IsSolved, IsUnsolved, IsUnsaid, HoldsFront}
-use Rattle.concretizer.specs.Attempts.{IsAsked, IsRead}
+use Rattle.run_output.specs.Answers.{IsFinished, HasNoGraph, IsUntold, KeepsFront}
+use Rattle.concretizer.specs.Attempts.{IsLocking, IsRead}
 use Rattle.run_answers.specs.declared.refusal.Refusal.{Refusal}
 use Rattle.run_answers.specs.declared.status.Status.{Status}
 use Rattle.run_answers.specs.declared.status.Status.TheVariants as statuses
@@ -28,22 +28,23 @@ IsSilent said = said.1 ≡ said.0
 abbrev pub Says : Spoken → List ℕ → Type 0
 Says said line = said.1 ≡ and_said said.0 line
 
--- Done: the lock file is that of the best wanted version that the recipe declares, every other file is as
--- at entry, its lines were said, and nothing else was
+-- Done, by `concretize`: the lock file is that of the best wanted version that the recipe declares, every other
+-- file is as at entry, its lines were said, and nothing else was. By `judge`: the graph of the lock file is valid,
+-- that and its cost vector were said, and no file changed
 pub record IsDone (files : Files) (words : List (List ℕ)) (after : Option Files) (out err : Spoken) : Type 0 where
-  pub problem : Problem
-  pub read : Poses files words (Ok problem)
-  pub solved : IsSolved (lock_path words) problem (Some files) after out.0 out.1
+  pub task : Task
+  pub read : Poses files words (Ok task)
+  pub finished : IsFinished (lock_path words) task (Some files) after out.0 out.1
   pub errors : IsSilent err
 
--- Unsatisfiable: the recipe declares no version that is wanted, and no file changed
+-- Unsatisfiable, by `concretize` alone: the recipe declares no version that is wanted, and no file changed
 pub record IsUnsatisfiable (files : Files) (words : List (List ℕ)) (after : Option Files) (out err : Spoken) : Type 0 where
-  pub problem : Problem
-  pub read : Poses files words (Ok problem)
-  pub unsolved : IsUnsolved problem (Some files) after out.0 out.1
+  pub task : Task
+  pub read : Poses files words (Ok task)
+  pub none : HasNoGraph task (Some files) after out.0 out.1
   pub errors : IsSilent err
 
--- Usage, BadInput and TooLarge: reading refuses, in its order; no file changed, and the refusal was said
+-- Usage, BadInput, TooLarge and Refused: reading refuses, in its order; no file changed, and the refusal was said
 pub record IsRefused (files : Files) (words : List (List ℕ)) (answer : Status) (after : Option Files) (out err : Spoken) : Type 0 where
   pub refusal : Refusal
   pub read : Poses files words (Err refusal)
@@ -52,7 +53,8 @@ pub record IsRefused (files : Files) (words : List (List ℕ)) (answer : Status)
   pub output : IsSilent out
   pub errors : Says err (line_of refusal)
 
--- ReadFault: the desk failed to read the settings, the folder of packages or a recipe, and that was said
+-- ReadFault: the desk failed to read the settings, the folder of packages, a recipe or, by `judge`, the lock file,
+-- and that was said
 pub record IsReadFault (words : List (List ℕ)) (faults : ℕ × ℕ) (files : Option Files × Option Files) (out err : Spoken) : Type 0 where
   pub path : List ℕ
   pub read : IsRead words path
@@ -63,15 +65,15 @@ pub record IsReadFault (words : List (List ℕ)) (faults : ℕ × ℕ) (files : 
 
 -- WriteFault where the desk failed to put the lock file, and that was said, and nothing else
 pub record IsPutFault (words : List (List ℕ)) (faults : ℕ × ℕ) (out err : Spoken) : Type 0 where
-  pub asked : IsAsked words
+  pub asked : IsLocking words
   pub rose : Rose faults.0 faults.1
   pub output : IsSilent out
   pub errors : Says err (write_fault_line (lock_path words))
 
 -- what a fault of the sink of the answer leaves: the lock file whole, or no file changed where no declared
--- version is wanted
+-- version is wanted, nor by `judge`
 abbrev pub Leaves : Files → List (List ℕ) → Option Files → Type 0
-Leaves files words after = (problem : Problem) × Poses files words (Ok problem) × IsUnsaid (lock_path words) problem (Some files) after
+Leaves files words after = (task : Task) × Poses files words (Ok task) × IsUntold (lock_path words) task (Some files) after
 
 -- WriteFault where the sink of the answer failed, and that was said
 pub record IsOutputFault (words : List (List ℕ)) (files : Option Files × Option Files) (faults : ℕ × ℕ) (err : Spoken) : Type 0 where
@@ -79,15 +81,15 @@ pub record IsOutputFault (words : List (List ℕ)) (files : Option Files × Opti
   pub rose : Rose faults.0 faults.1
   pub errors : Says err output_fault_line
 
--- Whatever the answer: the files are as at entry, or reading gave a problem and the file at its lock path
+-- Whatever the answer: the files are as at entry, or reading gave a problem to solve and the file at its lock path
 -- is as it was or holds a front of the lock file of a best version
-pub record IsLocking (files : Files) (words : List (List ℕ)) (after : Option Files) : Type 0 where
-  pub problem : Problem
-  pub read : Poses files words (Ok problem)
-  pub held : HoldsFront (lock_path words) problem (Some files) after
+pub record HasPut (files : Files) (words : List (List ℕ)) (after : Option Files) : Type 0 where
+  pub task : Task
+  pub read : Poses files words (Ok task)
+  pub held : KeepsFront (lock_path words) task (Some files) after
 
 abbrev pub Keeps : Files → List (List ℕ) → Option Files → Type 0
-Keeps files words after = (after ≡ Some files) ⊎ IsLocking files words after
+Keeps files words after = (after ≡ Some files) ⊎ HasPut files words after
 
 -- the answers of input that nothing refuses, where no device fails
 abbrev pub Settles : Status → Type 0
@@ -101,6 +103,7 @@ abbrev pub IsRefusalStatus : Status → Type 0
 IsRefusalStatus statuses.Usage = Unit {0}
 IsRefusalStatus statuses.BadInput = Unit {0}
 IsRefusalStatus statuses.TooLarge = Unit {0}
+IsRefusalStatus statuses.Refused = Unit {0}
 IsRefusalStatus other = ⊥
 
 -- a refusal is answered so, or memory ran out

@@ -2,8 +2,8 @@
 
 ghost use Rattle.std.specs.Prelude.{◌≡◌, ◌≢◌, Ok, Err, Some};
 ghost use Rattle.run_words.specs.Words.{words_of};
-ghost use Rattle.run_problem.specs.declared.problem.Problem.{Problem};
-ghost use Rattle.run_problem.specs.Problems.{Poses};
+ghost use Rattle.run_task.specs.declared.task.Task.{Task};
+ghost use Rattle.run_task.specs.Tasks.{Poses};
 ghost use Rattle.concretizer.specs.Headline.{IsDone, IsUnsatisfiable, IsRefused, Settles, IsRefusalStatus, IsAnsweredBy};
 ghost use Rattle.run_answers.specs.Refusals.{status_of};
 ghost use Rattle.run_answers.specs.declared.refusal.Refusal.{Refusal};
@@ -29,7 +29,7 @@ pub fn run_steady<R: Threads + Sync>(
     ensures refused { IsRefusalStatus result → IsRefused desk.old (words_of words.now) result (Some desk.new) (Some out.old, Some out.new) (Some err.old, Some err.new) }
     ensures no_read_fault { result ≢ Status.ReadFault }
     ensures no_write_fault { result ≢ Status.WriteFault }
-    ensures complete { (problem : Problem) → Poses desk.old (words_of words.now) (Ok problem) → Settles result }
+    ensures complete { (task : Task) → Poses desk.old (words_of words.now) (Ok task) → Settles result }
     ensures due { (refusal : Refusal) → Poses desk.old (words_of words.now) (Err refusal) → IsAnsweredBy (status_of refusal) result }
 {
     run(rt, alloc, words, desk, out, err)

@@ -5,8 +5,8 @@ ghost use Rattle.outside_desk.specs.Causes.{Counts, Rose};
 ghost use Rattle.run_words.specs.Words.{words_of, command_of, lock_path};
 ghost use Rattle.run_answers.specs.Stages.{Is};
 ghost use Rattle.run_words.specs.Orders.{order_of};
-ghost use Rattle.run_problem.specs.declared.problem.Problem.{Problem};
-ghost use Rattle.run_problem.specs.Problems.{Poses};
+ghost use Rattle.run_task.specs.declared.task.Task.{Task};
+ghost use Rattle.run_task.specs.Tasks.{Poses};
 ghost use Rattle.run_answers.specs.Refusals.{status_of, line_of};
 ghost use Rattle.run_answers.specs.Stops.{stop_status, stop_line};
 ghost use Rattle.concretizer.specs.Headline.{IsDone, IsUnsatisfiable, IsRefused, IsReadFault, IsPutFault, IsOutputFault, Keeps, Settles, IsRefusalStatus, Reports, IsAnsweredBy};
@@ -17,12 +17,12 @@ ghost use Rattle.concretizer.specs.Attempts.{Attempts, Follows, StopsAtOnce, Fai
 use outside_desk::{Desk, Sink, SinkFault};
 use run_answers::{Status, Stop};
 use run_output::{Answer, write_answer};
-use run_problem::{problem_laws, read_problem};
+use run_task::{read_task, task_laws};
 use run_words::read_order;
 use std::alloc::Global;
 use std::thread::Threads;
 
-/// Reads the problem that the words name, and writes its answer.
+/// Reads the task that the words name, and writes its answer.
 fn attempt<D: Desk, O: Sink>(
     alloc: Global,
     words: &[String],
@@ -42,9 +42,9 @@ fn attempt<D: Desk, O: Sink>(
     ensures said { Counts (O.faults out.old) (O.faults out.new) (FailsToSay result) }
 {
     let command = read_order(alloc, words)?;
-    let problem = read_problem(alloc, desk, &command)?;
-    let answer = write_answer(alloc, &problem, command.lock, desk, out);
-    drop(problem);
+    let task = read_task(alloc, desk, &command)?;
+    let answer = write_answer(alloc, &task, command.lock, desk, out);
+    drop(task);
     Ok(answer?)
 }
 
@@ -63,12 +63,14 @@ fn report<E: Sink>(alloc: Global, err: &mut E, stop: &Stop) -> Status
     }
 }
 
-/// Does what the words ask for: `concretize REPO SETTINGS DATABASE LOCK CERT SPEC`.
+/// Does what the words ask for: `concretize REPO SETTINGS DATABASE LOCK CERT SPEC` or
+/// `judge REPO SETTINGS DATABASE LOCK SPEC`.
 ///
-/// The words are those behind the program's name. SPEC names one package with its versions, as
-/// `zlib@1.2:`. A run reads the settings and all recipes of the repository, `REPO/packages/NAME/package.py`,
-/// puts the lock file of the best version in the set at LOCK, and says its node and its cost vector on `out`;
-/// `err` gets one line where the run stops before that.
+/// The words are those behind the program's name. A run reads the settings and all recipes of the repository,
+/// `REPO/packages/NAME/package.py`. For `concretize` SPEC names one package with its versions, as `zlib@1.2:`; the lock
+/// file of the best version in the set is put at LOCK, and its node and its cost vector are said on `out`. For `judge`
+/// SPEC is one spec or more; where LOCK holds a valid graph of them, `out` gets `valid` and the cost vector. `err` gets
+/// one line where the run stops before that.
 pub fn run<R: Threads + Sync, D: Desk, O: Sink, E: Sink>(
     _rt: &R,
     alloc: Global,
@@ -105,7 +107,7 @@ pub fn run<R: Threads + Sync, D: Desk, O: Sink, E: Sink>(
     ensures held { IfSome (D.files desk.old) (λ files. Keeps files (words_of words.now) (D.files desk.new)) }
 
     // Input that nothing refuses is answered, where no device fails.
-    ensures complete { IfSome (D.files desk.old) (λ files. (problem : Problem) → Poses files (words_of words.now) (Ok problem)
+    ensures complete { IfSome (D.files desk.old) (λ files. (task : Task) → Poses files (words_of words.now) (Ok task)
         → ¬ Rose (D.faults desk.old) (D.faults desk.new) → ¬ Rose (D.put_faults desk.old) (D.put_faults desk.new)
         → ¬ Rose (O.faults out.old) (O.faults out.new) → ¬ Rose (E.faults err.old) (E.faults err.new) → Settles result) }
 
@@ -118,11 +120,10 @@ pub fn run<R: Threads + Sync, D: Desk, O: Sink, E: Sink>(
     ensures counts { (D.faults desk.old ≤ D.faults desk.new) × (D.put_faults desk.old ≤ D.put_faults desk.new)
         × (O.faults out.old ≤ O.faults out.new) × (E.faults err.old ≤ E.faults err.new) }
 
-    // These answers do not come yet.
+    // This answer does not come yet.
     ensures decided { result ≢ Status.Undecided }
-    ensures trusted { result ≢ Status.Refused }
 {
-    problem_laws();
+    task_laws();
     match attempt(alloc, words, desk, out) {
         Ok(Answer::Solved) => Status::Done,
         Ok(Answer::Unsolved) => Status::Unsatisfiable,

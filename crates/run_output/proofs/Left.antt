@@ -5,13 +5,14 @@ use Rattle.outside_desk.specs.Files.{Files}
 use Rattle.run_answers.specs.declared.stop.WriteStop.{WriteStop}
 use Rattle.run_answers.specs.declared.stop.WriteStop.TheVariants.{Put, Output, NoMemory}
 use Rattle.run_problem.specs.declared.problem.Problem.{Problem}
+use Rattle.run_task.specs.declared.task.Task.TheVariants as tasks
 use Rattle.run_output.specs.Weights.{IsBest}
 use Rattle.run_output.specs.Answers.{lock_of, Puts, Writes}
 use Rattle.run_output.specs.declared.answer.Answer.{Answer}
 
 pub half_put : (path : List ℕ) (problem : Problem) (version text : List ℕ) (before after : Option Files) (said : Option (List ℕ)) (stop : WriteStop)
     → IsBest problem.wanted.versions problem.declared version → text ≡ lock_of problem.wanted version
-    → Puts path text before after (Err stop) → Writes path problem before after said said (Err stop)
+    → Puts path text before after (Err stop) → Writes path (tasks.Solve problem) before after said said (Err stop)
 half_put path problem version text before after said (Put at) best is_text (is_at, held) =
     (is_at, record { version = version; best = best; lock = rw (← is_text) held; out = refl })
 half_put path problem version text before after said Output best is_text left = absurd left

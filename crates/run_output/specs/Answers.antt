@@ -1,15 +1,17 @@
 -- What a run leaves of its answer: the lock file and what was said.
-use Rattle.std.specs.Prelude.{◌≡◌, ◌⊎◌, ℕ, List, [], ◌∷◌, replicate, slice_set, Option, Some, Result, Ok, Err, codes}
+use Rattle.std.specs.Prelude.{◌≡◌, ◌⊎◌, ℕ, List, [], ◌∷◌, ◌++◌, replicate, slice_set, Option, Some, Result, Ok, Err, codes}
 use Rattle.outside_desk.specs.Files.{Files, with_file, and_said, MayHold}
 use Rattle.report_texts.specs.Lines.{line}
 use Rattle.run_output.specs.Weights.{weight_of, IsBest, HasNone}
 use Rattle.run_output.specs.Lock.{node_hash, lock_text}
-use Rattle.run_output.specs.Report.{report_text}
+use Rattle.run_output.specs.Report.{report_text, vector_line}
 use Rattle.run_output.specs.declared.node.BuiltNode.{BuiltNode}
 use Rattle.run_output.specs.declared.node.Compiler.{Compiler}
 use Rattle.run_output.specs.declared.node.Root.{Root}
 use Rattle.run_problem.specs.declared.wanted.Wanted.{Wanted}
 use Rattle.run_problem.specs.declared.problem.Problem.{Problem}
+use Rattle.run_task.specs.declared.task.Task.{Task}
+use Rattle.run_task.specs.declared.task.Task.TheVariants as tasks
 use Rattle.run_output.specs.declared.answer.Answer.{Answer}
 use Rattle.run_output.specs.declared.answer.Answer.TheVariants as answers
 use Rattle.run_answers.specs.declared.stop.WriteStop.{WriteStop}
@@ -100,10 +102,48 @@ Puts path text before after (Err (writes.Put at)) = (at ≡ path) × MayHold bef
 Puts path text before after (Err writes.Output) = ⊥
 Puts path text before after (Err writes.NoMemory) = Unit {0}
 
+-- ---- verdicts
+
+-- what is said of a lock file whose graph is valid
+unfoldable pub verdict_text : List ℕ → List ℕ
+verdict_text numbers = codes "valid\n" ++ vector_line numbers
+
+-- that was said, and no file changed
+pub record IsJudged (numbers : List ℕ) (before after : Option Files) (out_before out_after : Option (List ℕ)) : Type 0 where
+  pub files : after ≡ before
+  pub out : out_after ≡ and_said out_before (verdict_text numbers)
+
+-- ---- what writing leaves, by the task
+
+-- what was asked for is done
+abbrev pub IsFinished : List ℕ → Task → Option Files → Option Files → Option (List ℕ) → Option (List ℕ) → Type 0
+IsFinished path (tasks.Solve problem) before after out_before out_after = IsSolved path problem before after out_before out_after
+IsFinished path (tasks.Report numbers) before after out_before out_after = IsJudged numbers before after out_before out_after
+
+-- the put of a lock file failed, of which `judge` makes none
+abbrev pub IsHalfDone : List ℕ → Task → Option Files → Option Files → Option (List ℕ) → Option (List ℕ) → Type 0
+IsHalfDone path (tasks.Solve problem) before after out_before out_after = IsHalfPut path problem before after out_before out_after
+IsHalfDone path (tasks.Report numbers) before after out_before out_after = ⊥
+
+-- the sink failed
+abbrev pub IsUntold : List ℕ → Task → Option Files → Option Files → Type 0
+IsUntold path (tasks.Solve problem) before after = IsUnsaid path problem before after
+IsUntold path (tasks.Report numbers) before after = after ≡ before
+
+-- there is no graph
+abbrev pub HasNoGraph : Task → Option Files → Option Files → Option (List ℕ) → Option (List ℕ) → Type 0
+HasNoGraph (tasks.Solve problem) before after out_before out_after = IsUnsolved problem before after out_before out_after
+HasNoGraph (tasks.Report numbers) before after out_before out_after = ⊥
+
 -- what writing leaves
-abbrev pub Writes : List ℕ → Problem → Option Files → Option Files → Option (List ℕ) → Option (List ℕ) → Result Answer WriteStop → Type 0
-Writes path problem before after out_before out_after (Ok answers.Solved) = IsSolved path problem before after out_before out_after
-Writes path problem before after out_before out_after (Ok answers.Unsolved) = IsUnsolved problem before after out_before out_after
-Writes path problem before after out_before out_after (Err (writes.Put at)) = (at ≡ path) × IsHalfPut path problem before after out_before out_after
-Writes path problem before after out_before out_after (Err writes.Output) = IsUnsaid path problem before after
-Writes path problem before after out_before out_after (Err writes.NoMemory) = Unit {0}
+abbrev pub Writes : List ℕ → Task → Option Files → Option Files → Option (List ℕ) → Option (List ℕ) → Result Answer WriteStop → Type 0
+Writes path task before after out_before out_after (Ok answers.Solved) = IsFinished path task before after out_before out_after
+Writes path task before after out_before out_after (Ok answers.Unsolved) = HasNoGraph task before after out_before out_after
+Writes path task before after out_before out_after (Err (writes.Put at)) = (at ≡ path) × IsHalfDone path task before after out_before out_after
+Writes path task before after out_before out_after (Err writes.Output) = IsUntold path task before after
+Writes path task before after out_before out_after (Err writes.NoMemory) = Unit {0}
+
+-- the lock file holds a front of its text, which `judge` writes nothing of
+abbrev pub KeepsFront : List ℕ → Task → Option Files → Option Files → Type 0
+KeepsFront path (tasks.Solve problem) before after = HoldsFront path problem before after
+KeepsFront path (tasks.Report numbers) before after = ⊥

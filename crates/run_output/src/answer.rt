@@ -4,19 +4,21 @@ ghost use Rattle.std.specs.Prelude.{◌≡◌, ◌⊎◌, IfOk, IfSome, OnOk};
 ghost use Rattle.std.specs.String.{string_bytes};
 ghost use Rattle.outside_desk.specs.Causes.{Counts};
 ghost use Rattle.outside_desk.specs.Files.{and_said, MayHold};
-ghost use Rattle.run_output.specs.Answers.{standard_compiler, node_of, lock_by, lock_of, cost_of, report_of, unsatisfiable_line, HoldsFront, Puts, Writes};
+ghost use Rattle.run_output.specs.Answers.{standard_compiler, node_of, lock_by, lock_of, cost_of, report_of, unsatisfiable_line, HoldsFront, KeepsFront, Puts, Writes, verdict_text};
+ghost use Rattle.run_task.specs.declared.task.Task.TheVariants as tasks;
 ghost use Rattle.run_output.specs.Changes.{ChangesOnly};
 ghost use Rattle.run_answers.specs.Stops.{EndsInPutFault, EndsInOutputFault};
 ghost use Rattle.run_output.specs.Weights.{IsBest};
 
 use crate::lock::{lock_text, node_hash};
 use crate::node::{BuiltNode, Compiler, Root};
-use crate::report::report_text;
+use crate::report::{report_text, write_vector};
 use crate::weight::{best_of, weight_of};
 use outside_desk::{Desk, DeskFault, Sink, SinkFault};
 use plain_data::{Duplicate, List, Word};
 use run_answers::WriteStop;
 use run_problem::Problem;
+use run_task::Task;
 use std::alloc::{AllocError, Global};
 use std::slice;
 use version_order::Version;
@@ -155,7 +157,7 @@ fn write_solved<D: Desk, O: Sink>(
     out: &mut O,
 ) -> Result<Answer, WriteStop>
     requires { IsBest problem.now.wanted.versions problem.now.declared best.now }
-    ensures left { Writes lock.now problem.now (D.files desk.old) (D.files desk.new) (O.said out.old) (O.said out.new) result }
+    ensures left { Writes lock.now (tasks.Solve problem.now) (D.files desk.old) (D.files desk.new) (O.said out.old) (O.said out.new) result }
     ensures held { (D.files desk.new ≡ D.files desk.old) ⊎ HoldsFront lock.now problem.now (D.files desk.old) (D.files desk.new) }
     ensures others { IfSome (D.files desk.old) (λ files. ChangesOnly lock.now files (D.files desk.new)) }
     ensures faults { D.faults desk.new ≡ D.faults desk.old }
@@ -169,14 +171,14 @@ fn write_solved<D: Desk, O: Sink>(
 }
 
 /// Writes the answer of a problem.
-pub fn write_answer<D: Desk, O: Sink>(
+fn write_best<D: Desk, O: Sink>(
     alloc: Global,
     problem: &Problem,
     lock: &str,
     desk: &mut D,
     out: &mut O,
 ) -> Result<Answer, WriteStop>
-    ensures left { Writes lock.now problem.now (D.files desk.old) (D.files desk.new) (O.said out.old) (O.said out.new) result }
+    ensures left { Writes lock.now (tasks.Solve problem.now) (D.files desk.old) (D.files desk.new) (O.said out.old) (O.said out.new) result }
     ensures held { (D.files desk.new ≡ D.files desk.old) ⊎ HoldsFront lock.now problem.now (D.files desk.old) (D.files desk.new) }
     ensures others { IfSome (D.files desk.old) (λ files. ChangesOnly lock.now files (D.files desk.new)) }
     ensures faults { D.faults desk.new ≡ D.faults desk.old }
@@ -189,5 +191,52 @@ pub fn write_answer<D: Desk, O: Sink>(
             say(alloc, out, unsatisfiable_text().as_bytes())?;
             Ok(Answer::Unsolved)
         }
+    }
+}
+
+/// What is said of a lock file whose graph is valid.
+#[tactic(auto, unfolding(crate::specs::Answers::verdict_text))]
+fn verdict_text(alloc: Global, numbers: &[u64]) -> Result<Vec<u8>, AllocError>
+    ensures { IfOk result (λ text. text.items ≡ verdict_text numbers.now) }
+{
+    let mut text = Vec::from_slice(alloc, b"valid\n")?;
+    write_vector(alloc, numbers, &mut text)?;
+    Ok(text)
+}
+
+/// Says what is said of a lock file.
+fn write_verdict<O: Sink>(
+    alloc: Global,
+    numbers: &[u64],
+    out: &mut O,
+) -> Result<Answer, WriteStop>
+    ensures said { OnOk result (O.said out.new ≡ and_said (O.said out.old) (verdict_text numbers.now)) }
+    ensures solved { IfOk result (λ answer. answer ≡ Answer.Solved) }
+    ensures cause { Counts (O.faults out.old) (O.faults out.new) (EndsInOutputFault result) }
+    ensures no_put { EndsInPutFault result → ⊥ }
+{
+    let text = verdict_text(alloc, numbers)?;
+    say(alloc, out, text.as_slice())?;
+    Ok(Answer::Solved)
+}
+
+/// Writes the answer of a task.
+pub fn write_answer<D: Desk, O: Sink>(
+    alloc: Global,
+    task: &Task,
+    lock: &str,
+    desk: &mut D,
+    out: &mut O,
+) -> Result<Answer, WriteStop>
+    ensures left { Writes lock.now task.now (D.files desk.old) (D.files desk.new) (O.said out.old) (O.said out.new) result }
+    ensures held { (D.files desk.new ≡ D.files desk.old) ⊎ KeepsFront lock.now task.now (D.files desk.old) (D.files desk.new) }
+    ensures others { IfSome (D.files desk.old) (λ files. ChangesOnly lock.now files (D.files desk.new)) }
+    ensures faults { D.faults desk.new ≡ D.faults desk.old }
+    ensures put { Counts (D.put_faults desk.old) (D.put_faults desk.new) (EndsInPutFault result) }
+    ensures said { Counts (O.faults out.old) (O.faults out.new) (EndsInOutputFault result) }
+{
+    match task {
+        Task::Solve(problem) => write_best(alloc, problem, lock, desk, out),
+        Task::Report(numbers) => write_verdict(alloc, numbers, out),
     }
 }

@@ -9,13 +9,13 @@ pub returns-in_err-command-clause-at_once : goal.returns-in_err-command-clause-a
 returns-in_err-command-clause-at_once g c = λ refusal refused.
     (stops_at_once (words_of c.args.words.now) c.in_err-command.field-0.0 c.from_residual.result c.from_residual.ensures.1 c.in_err-command.ensures.read c.in_err-command.ensures.no_fault refusal refused, refl, refl, refl)
 
-pub returns-in_err-problem-clause-at_once : goal.returns-in_err-problem-clause-at_once
-returns-in_err-problem-clause-at_once g c = λ refusal refused. not_refused (words_of c.args.words.now) c.in_ok-command.command c.in_ok-command.ensures.read refusal refused
+pub returns-in_err-task-clause-at_once : goal.returns-in_err-task-clause-at_once
+returns-in_err-task-clause-at_once g c = λ refusal refused. not_refused (words_of c.args.words.now) c.in_ok-command.command c.in_ok-command.ensures.read refusal refused
 
 pub returns-in_err-answer-clause-outcome : goal.returns-in_err-answer-clause-outcome
 returns-in_err-answer-clause-outcome g c =
-    stopped (words_of c.args.words.now) c.in_ok-command.command _ c.in_ok-problem.problem c.in_err-answer.field-0.0 c.from_residual-in_err-answer.result _ _ _ _ _
-    c.from_residual-in_err-answer.ensures.1 c.in_ok-command.ensures.read c.in_ok-problem.ensures.read c.in_ok-problem.ensures.same (ap (λ (k : Command). k.lock) c.command.view_is ∙ c.in_ok-command.ensures.lock) c.in_err-answer.ensures.left
+    stopped (words_of c.args.words.now) c.in_ok-command.command _ c.in_ok-task.task c.in_err-answer.field-0.0 c.from_residual-in_err-answer.result _ _ _ _ _
+    c.from_residual-in_err-answer.ensures.1 c.in_ok-command.ensures.read c.in_ok-task.ensures.read c.in_ok-task.ensures.same (ap (λ (k : Command). k.lock) c.command.view_is ∙ c.in_ok-command.ensures.lock) c.in_err-answer.ensures.left
 
 pub returns-in_err-answer-clause-at_once : goal.returns-in_err-answer-clause-at_once
 returns-in_err-answer-clause-at_once g c = λ refusal refused. not_refused (words_of c.args.words.now) c.in_ok-command.command c.in_ok-command.ensures.read refusal refused
@@ -25,10 +25,10 @@ returns-clause-at_once g c = λ refusal refused. not_refused (words_of c.args.wo
 
 pub returns-in_err-answer-clause-follows : goal.returns-in_err-answer-clause-follows
 returns-in_err-answer-clause-follows g c =
-    let asked : IsAsked (words_of c.args.words.now) = record { command = c.in_ok-command.command; ordered = c.in_ok-command.ensures.read; wanted = c.in_ok-problem.problem.wanted; wants = c.in_ok-problem.ensures.wanted } in
-    follows (words_of c.args.words.now) _ c.in_ok-problem.problem c.in_err-answer.field-0.0 c.from_residual-in_err-answer.result _ _ _ _
-    c.from_residual-in_err-answer.ensures.1 asked (ap (λ (k : Command). k.lock) c.command.view_is ∙ c.in_ok-command.ensures.lock) c.in_err-answer.ensures.left
+    let asked : IsAsked (words_of c.args.words.now) = record { command = c.in_ok-command.command; ordered = c.in_ok-command.ensures.read; roots = c.in_ok-task.ensures.roots.0; asks = c.in_ok-task.ensures.roots.1 } in
+    follows (words_of c.args.words.now) _ c.in_ok-task.task c.in_err-answer.field-0.0 c.from_residual-in_err-answer.result _ _ _ _
+    c.from_residual-in_err-answer.ensures.1 asked c.in_ok-task.ensures.work (ap (λ (k : Command). k.lock) c.command.view_is ∙ c.in_ok-command.ensures.lock) c.in_err-answer.ensures.left
 
 pub returns-clause-follows : goal.returns-clause-follows
 returns-clause-follows g c =
-    record { command = c.in_ok-command.command; ordered = c.in_ok-command.ensures.read; wanted = c.in_ok-problem.problem.wanted; wants = c.in_ok-problem.ensures.wanted }
+    record { command = c.in_ok-command.command; ordered = c.in_ok-command.ensures.read; roots = c.in_ok-task.ensures.roots.0; asks = c.in_ok-task.ensures.roots.1 }

@@ -19,16 +19,16 @@ returns-in-Err-clause-refused g c = λ refuses.
 
 pub returns-in-Err-clause-complete : goal.returns-in-Err-clause-complete
 returns-in-Err-clause-complete g c =
-    settles c.problem_laws.ensures.one _ (words_of c.args.words.now) c.in-Err.stop _ (_, _) (_, _) (_, _) (_, _) (_, _) (_, _) _ c.in-Err.ensures.outcome (record { read = c.in-Err.ensures.read; put = c.in-Err.ensures.put; said = c.in-Err.ensures.said }) c.report.ensures.reports
+    settles c.task_laws.ensures.one _ (words_of c.args.words.now) c.in-Err.stop _ (_, _) (_, _) (_, _) (_, _) (_, _) (_, _) _ c.in-Err.ensures.outcome (record { read = c.in-Err.ensures.read; put = c.in-Err.ensures.put; said = c.in-Err.ensures.said }) c.report.ensures.reports
 
 pub returns-in-Err-clause-due : goal.returns-in-Err-clause-due
 returns-in-Err-clause-due g c =
-    due c.problem_laws.ensures.one _ (words_of c.args.words.now) c.in-Err.stop _ (_, _) (_, _) (_, _) (_, _) (_, _) (_, _) _ c.in-Err.ensures.outcome (record { read = c.in-Err.ensures.read; put = c.in-Err.ensures.put; said = c.in-Err.ensures.said }) c.report.ensures.reports
+    due c.task_laws.ensures.one _ (words_of c.args.words.now) c.in-Err.stop _ (_, _) (_, _) (_, _) (_, _) (_, _) (_, _) _ c.in-Err.ensures.outcome (record { read = c.in-Err.ensures.read; put = c.in-Err.ensures.put; said = c.in-Err.ensures.said }) c.report.ensures.reports
 
 pub returns-in-Ok-Solved-clause-due : goal.returns-in-Ok-Solved-clause-due
 returns-in-Ok-Solved-clause-due g c =
-    written c.problem_laws.ensures.one _ (words_of c.args.words.now) _ _ (_, _) (_, _) (_, _) (_, _) (_, _) _ c.in-Ok-Solved.ensures.outcome
+    written c.task_laws.ensures.one _ (words_of c.args.words.now) _ _ (_, _) (_, _) (_, _) (_, _) (_, _) _ c.in-Ok-Solved.ensures.outcome
 
 pub returns-in-Ok-Unsolved-clause-due : goal.returns-in-Ok-Unsolved-clause-due
 returns-in-Ok-Unsolved-clause-due g c =
-    written c.problem_laws.ensures.one _ (words_of c.args.words.now) _ _ (_, _) (_, _) (_, _) (_, _) (_, _) _ c.in-Ok-Unsolved.ensures.outcome
+    written c.task_laws.ensures.one _ (words_of c.args.words.now) _ _ (_, _) (_, _) (_, _) (_, _) (_, _) _ c.in-Ok-Unsolved.ensures.outcome
