@@ -24,7 +24,7 @@ use std::alloc::{AllocError, Global};
 use virtuals::{Providers, ProvidersFault};
 
 fn text_of(alloc: Global, text: &str) -> Result<String, AllocError> {
-    String::from(alloc, text)
+    String::from_str(alloc, text)
 }
 
 fn truth(alloc: Global, is: bool) -> Result<String, AllocError> {

@@ -24,7 +24,7 @@ fn push_demand(alloc: Global, text: &mut String, demand: &Demand) -> Result<(), 
 }
 
 fn demands_text(alloc: Global, problem: &Problem) -> Result<String, AllocError> {
-    let mut text = String::from(alloc, "demands")?;
+    let mut text = String::from_str(alloc, "demands")?;
     for id in 0..problem.demands() {
         if let Some(demand) = problem.demand(id) {
             push_demand(alloc, &mut text, demand)?;
@@ -85,6 +85,6 @@ pub(crate) fn problem_text(
     match read_specs(alloc, texts) {
         Ok(roots) if are_named(roots.as_slice()) => assembled_text(alloc, recipes, roots),
         Err(SpecFault::OutOfMemory) => Err(AllocError),
-        _ => String::from(alloc, "no specs"),
+        _ => String::from_str(alloc, "no specs"),
     }
 }

@@ -59,7 +59,7 @@ fn take_line(rt: &HostRuntime, tally: &mut Tally, line: &str) -> io::Result<()> 
         let (name, statements) = recipe.split_once(": ").unwrap_or((recipe, "pass"));
         tally.files.push(file_of(alloc, name, statements)?)?;
     } else if let Some(items) = line.strip_prefix("graph ") {
-        tally.graph = String::from(alloc, items)?;
+        tally.graph = String::from_str(alloc, items)?;
     } else if let Some(question) = line.strip_prefix("ask ") {
         tally.shown = answer(
             alloc,
