@@ -15,7 +15,7 @@ use Rattle.run_words.specs.Orders.{order_of}
 use Rattle.run_task.specs.declared.task.Task.{Task}
 use Rattle.run_task.specs.Tasks.{Named, IsOf}
 use Rattle.run_task.specs.declared.task.Task.TheVariants as tasks
-use Rattle.run_problem.specs.declared.problem.Problem.{Problem}
+use Rattle.run_problem.specs.declared.package.Problem.{Problem}
 use Rattle.run_words.specs.declared.command.Work.{Work}
 use Rattle.run_words.specs.declared.command.Work.TheVariants as works
 use Rattle.run_output.specs.Answers.{Writes}

@@ -9,7 +9,7 @@ use Rattle.run_output.specs.declared.node.BuiltNode.{BuiltNode}
 use Rattle.run_output.specs.declared.node.Compiler.{Compiler}
 use Rattle.run_output.specs.declared.node.Root.{Root}
 use Rattle.run_problem.specs.declared.wanted.Wanted.{Wanted}
-use Rattle.run_problem.specs.declared.problem.Problem.{Problem}
+use Rattle.run_problem.specs.declared.package.Problem.{Problem}
 use Rattle.run_task.specs.declared.task.Task.{Task}
 use Rattle.run_task.specs.declared.task.Task.TheVariants as tasks
 use Rattle.run_output.specs.declared.answer.Answer.{Answer}

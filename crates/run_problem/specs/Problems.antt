@@ -12,7 +12,7 @@ use Rattle.run_answers.specs.declared.refusal.Refusal.TheVariants as refusals
 use Rattle.recipe_files.specs.Sources.{Source}
 use Rattle.run_input.specs.declared.input.Input.{Input}
 use Rattle.run_problem.specs.Wants.{wanted_of}
-use Rattle.run_problem.specs.declared.problem.Problem.{Problem}
+use Rattle.run_problem.specs.declared.package.Problem.{Problem}
 use Rattle.run_problem.specs.declared.wanted.Wanted.{Wanted}
 
 -- ---- the recipe of the root

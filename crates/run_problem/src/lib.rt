@@ -6,8 +6,8 @@
 //! What it must not know: desks, how a problem is solved, and what is written.
 #![tactic(auto)]
 
-mod problem;
+mod package;
 mod wanted;
 
-pub use problem::{Problem, problem_in};
+pub use package::{Problem, problem_in};
 pub use wanted::Wanted;
