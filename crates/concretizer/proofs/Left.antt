@@ -12,7 +12,7 @@ use Rattle.run_answers.specs.declared.stop.Stop.TheVariants.{Write}
 use Rattle.run_words.specs.Words.{lock_path}
 use Rattle.run_words.specs.Words.{Command}
 use Rattle.run_words.specs.Orders.{order_of}
-use Rattle.run_problem.specs.declared.problem.Problem.{Problem}
+use Rattle.run_problem.specs.declared.package.Problem.{Problem}
 use Rattle.run_problem.specs.Problems.{Named, Poses}
 use Rattle.run_output.specs.Answers.{Writes}
 use Rattle.run_output.specs.declared.answer.Answer.{Answer}

@@ -5,7 +5,7 @@ use Rattle.run_words.specs.Words.{Command, command_of, lock_path}
 use Rattle.run_answers.specs.Stages.{Is}
 use Rattle.run_words.specs.Orders.{order_of}
 use Rattle.run_problem.specs.Wants.{Wants}
-use Rattle.run_problem.specs.declared.problem.Problem.{Problem}
+use Rattle.run_problem.specs.declared.package.Problem.{Problem}
 use Rattle.run_input.specs.Inputs.{IsInputPath}
 use Rattle.run_problem.specs.Problems.{Poses}
 use Rattle.run_output.specs.Answers.{Writes}

@@ -2,7 +2,7 @@
 
 ghost use Rattle.std.specs.Prelude.{◌≡◌, ◌≢◌, Ok, Err, Some};
 ghost use Rattle.run_words.specs.Words.{words_of};
-ghost use Rattle.run_problem.specs.declared.problem.Problem.{Problem};
+ghost use Rattle.run_problem.specs.declared.package.Problem.{Problem};
 ghost use Rattle.run_problem.specs.Problems.{Poses};
 ghost use Rattle.concretizer.specs.Headline.{IsDone, IsUnsatisfiable, IsRefused, Settles, IsRefusalStatus, IsAnsweredBy};
 ghost use Rattle.run_answers.specs.Refusals.{status_of};

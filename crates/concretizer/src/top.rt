@@ -5,7 +5,7 @@ ghost use Rattle.outside_desk.specs.Causes.{Counts, Rose};
 ghost use Rattle.run_words.specs.Words.{words_of, command_of, lock_path};
 ghost use Rattle.run_answers.specs.Stages.{Is};
 ghost use Rattle.run_words.specs.Orders.{order_of};
-ghost use Rattle.run_problem.specs.declared.problem.Problem.{Problem};
+ghost use Rattle.run_problem.specs.declared.package.Problem.{Problem};
 ghost use Rattle.run_problem.specs.Problems.{Poses};
 ghost use Rattle.run_answers.specs.Refusals.{status_of, line_of};
 ghost use Rattle.run_answers.specs.Stops.{stop_status, stop_line};

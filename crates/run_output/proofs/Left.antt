@@ -4,7 +4,7 @@ use Rattle.std.specs.Result.{IsErrAnd}
 use Rattle.outside_desk.specs.Files.{Files}
 use Rattle.run_answers.specs.declared.stop.WriteStop.{WriteStop}
 use Rattle.run_answers.specs.declared.stop.WriteStop.TheVariants.{Put, Output, NoMemory}
-use Rattle.run_problem.specs.declared.problem.Problem.{Problem}
+use Rattle.run_problem.specs.declared.package.Problem.{Problem}
 use Rattle.run_output.specs.Weights.{IsBest}
 use Rattle.run_output.specs.Answers.{lock_of, Puts, Writes}
 use Rattle.run_output.specs.declared.answer.Answer.{Answer}

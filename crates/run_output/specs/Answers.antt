@@ -9,7 +9,7 @@ use Rattle.run_output.specs.declared.node.BuiltNode.{BuiltNode}
 use Rattle.run_output.specs.declared.node.Compiler.{Compiler}
 use Rattle.run_output.specs.declared.node.Root.{Root}
 use Rattle.run_problem.specs.declared.wanted.Wanted.{Wanted}
-use Rattle.run_problem.specs.declared.problem.Problem.{Problem}
+use Rattle.run_problem.specs.declared.package.Problem.{Problem}
 use Rattle.run_output.specs.declared.answer.Answer.{Answer}
 use Rattle.run_output.specs.declared.answer.Answer.TheVariants as answers
 use Rattle.run_answers.specs.declared.stop.WriteStop.{WriteStop}

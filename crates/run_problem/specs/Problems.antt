@@ -16,7 +16,7 @@ use Rattle.recipe_files.specs.Sources.{Source}
 use Rattle.run_input.specs.Inputs.{Reads}
 use Rattle.run_input.specs.declared.input.Input.{Input}
 use Rattle.run_problem.specs.Wants.{wanted_of}
-use Rattle.run_problem.specs.declared.problem.Problem.{Problem}
+use Rattle.run_problem.specs.declared.package.Problem.{Problem}
 use Rattle.run_problem.specs.declared.wanted.Wanted.{Wanted}
 
 -- ---- the recipe of the root

@@ -7,12 +7,12 @@
 //! What it must not know: how a problem is solved, and what is written.
 #![tactic(auto)]
 
-mod problem;
+mod package;
 mod reading;
 mod theorems;
 mod wanted;
 
-pub use problem::Problem;
+pub use package::Problem;
 pub use reading::read_problem;
 pub use theorems::problem_laws;
 pub use wanted::Wanted;

@@ -10,7 +10,7 @@ ghost use Rattle.run_input.specs.Inputs.{FailsAtInput};
 ghost use Rattle.run_problem.specs.Wants.{wanted_of, Wants};
 ghost use Rattle.run_problem.specs.Problems.{problem_in, Named};
 
-use crate::problem::{Problem, problem_by};
+use crate::package::{Problem, problem_by};
 use crate::wanted::wanted_of;
 use outside_desk::Desk;
 use run_answers::ReadStop;

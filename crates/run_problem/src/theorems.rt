@@ -3,7 +3,7 @@
 ghost use Rattle.std.specs.Prelude.{◌≡◌, ℕ, List, Result};
 ghost use Rattle.outside_desk.specs.Files.{Files};
 ghost use Rattle.run_answers.specs.declared.refusal.Refusal.{Refusal};
-ghost use Rattle.run_problem.specs.declared.problem.Problem.{Problem};
+ghost use Rattle.run_problem.specs.declared.package.Problem.{Problem};
 ghost use Rattle.run_problem.specs.Problems.{Poses};
 
 use run_input::input_laws;

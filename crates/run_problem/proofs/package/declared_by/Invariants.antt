@@ -1,5 +1,5 @@
 use Rattle.std.proofs.Common.{◌≡◌, map, take}
-use Rattle.run_problem.proofs.problem.declared_by.Given as goal
+use Rattle.run_problem.proofs.package.declared_by.Given as goal
 
 -- the versions of the rows so far
 abbrev pub invariant-loop-row : goal.invariant-loop-row

@@ -3,7 +3,7 @@ use Rattle.std.specs.Prelude.{option_map}
 use Rattle.recipe_files.specs.Sources.{source_of}
 use Rattle.run_problem.specs.Problems.{source_named}
 use Rattle.run_problem.proofs.Named.{found}
-use Rattle.run_problem.proofs.problem.file_named.Goals as goal
+use Rattle.run_problem.proofs.package.file_named.Goals as goal
 
 pub returns : goal.returns
 unfolding source_named
