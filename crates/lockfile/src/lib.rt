@@ -15,9 +15,11 @@ mod graph;
 mod lock;
 mod names;
 mod node;
+mod theorems;
 
 pub use fault::LockFault;
 pub use file::File;
 pub use lock::{Lock, read_lock};
 pub use lock_writer::{can_be_written, node_hashes, write_lock};
 pub use node::LockedNode;
+pub use theorems::lock_laws;

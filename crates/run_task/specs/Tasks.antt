@@ -1,5 +1,5 @@
 -- What a run is to answer, or the refusal that is due first.
-use Rattle.std.specs.Prelude.{◌≡◌, ◌⊎◌, ◌×◌, ℕ, List, Result, Ok, Err}
+use Rattle.std.specs.Prelude.{◌≡◌, ◌⊎◌, ℕ, List, Result, Ok, Err}
 use Rattle.outside_desk.specs.Files.{Files}
 use Rattle.run_answers.specs.Stages.{Is, Then}
 use Rattle.run_answers.specs.declared.refusal.Refusal.{Refusal}
