@@ -1,5 +1,5 @@
 -- A command names one input at most.
-use Rattle.std.proofs.Common.{◌≡◌, ◌≢◌, ℕ, List, ap, sym, ◌∙◌, Result, Ok, Err, ◌×◌}
+use Rattle.std.proofs.Common.{◌≡◌, ◌≢◌, ℕ, List, ap, sym, ◌∙◌, Result, Ok, Err}
 use Rattle.spec_grammar.specs.Reading.{Spells}
 use Rattle.spec_grammar.specs.Faults.{IsFault}
 use Rattle.spec_grammar.specs.declared.mode.Mode.TheVariants.{Specs}
