@@ -1,3 +1,4 @@
 pub mod Adding
 pub mod EdgeLaws
 pub mod ReadLaws
+pub mod OneLaws

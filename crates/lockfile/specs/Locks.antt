@@ -4,7 +4,7 @@ use Rattle.serde_json.specs.Data.{Data}
 use Rattle.json_readers.specs.Json.{IsJson}
 use Rattle.variant_values.specs.Texts.{byte_cmp}
 use Rattle.keyed_lists.specs.Keyed.{IsInOrder, find_key}
-use Rattle.graph_core.specs.Graphs.{Text, Content, node_of, name_of, ends_of, virtual_of, pair_cmp}
+use Rattle.graph_core.specs.Graphs.{Text, Content, IsGraph, node_of, name_of, ends_of, virtual_of, pair_cmp}
 use Rattle.graph_core.specs.declared.node.Node.{Node}
 use Rattle.reuse_db.specs.declared.record.Record.{Record}
 use Rattle.lockfile.specs.Children.{all_edges}
@@ -32,6 +32,7 @@ graph_nodes nodes = map graph_node nodes
 
 -- a graph, each of whose look-ups finds the first of the file with that key
 pub record IsGraphOf (file : File) (g : Content) : Type 0 where
+  pub whole : IsGraph g
   pub nodes : (name : Text) → node_of g name ≡ find_key byte_cmp name_of (graph_nodes file.nodes) name
   pub edges : (ends : Text × Text) → find_key pair_cmp ends_of g.edges ends ≡ find_key pair_cmp ends_of (all_edges file.nodes file.nodes) ends
   pub providers : (name : Text) → find_key byte_cmp virtual_of g.providers name ≡ find_key byte_cmp virtual_of file.providers name
