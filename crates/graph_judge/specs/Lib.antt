@@ -1,3 +1,0 @@
--- inside
-pub mod Asked
-pub mod Places
