@@ -1,6 +1,6 @@
 -- The roots that were read.
 use Rattle.std.proofs.Common.{◌≡◌, sym, true, false, Bool, ◌&&◌, ℕ, List, [], ◌∷◌, Result, Ok}
-use Rattle.std.specs.Prelude.{All, Contains}
+use Rattle.std.specs.Prelude.{All, Contains, nat_le, length}
 use Rattle.std.specs.Str.{IsUtf8, IsAscii}
 use Rattle.std.proofs.lemmas.Str.{IsUtf8-from_ascii}
 use Rattle.std.proofs.lemmas.List.Elements.{All-weaker, All-contains_itself}
@@ -9,8 +9,12 @@ use Rattle.spec_grammar.specs.Canonical.{spec_text}
 use Rattle.spec_grammar.specs.declared.mode.Mode.{Mode}
 use Rattle.spec_grammar.specs.declared.mode.Mode.TheVariants.{Specs}
 use Rattle.spec_grammar.specs.declared.part.Spec.{Spec}
-use Rattle.run_answers.proofs.StageLaws.{ok_same, then_ok}
-use Rattle.run_input.specs.Roots.{RootsOf, roots_of, are_named}
+use Rattle.run_answers.specs.Stages.{◌>>=◌, check}
+use Rattle.run_answers.specs.declared.refusal.NotBuilt.TheVariants as forms
+use Rattle.run_answers.specs.declared.refusal.Refusal.{Refusal}
+use Rattle.run_answers.specs.declared.refusal.Refusal.TheVariants as refusals
+use Rattle.run_answers.proofs.StageLaws.{ok_same, ok_not_err}
+use Rattle.run_input.specs.Roots.{RootsOf, roots_of, are_named, are_simple}
 use Rattle.problem.specs.Problems.{Problem}
 use Rattle.problem.specs.Assembled.{is_assembled}
 use Rattle.run_problem.specs.Wants.{wanted_of, Wants}
@@ -25,16 +29,18 @@ pub named_roots : (problem : Problem) → is_assembled problem ≡ true → are_
 unfolding is_assembled
 named_roots problem right = second _ _ right
 
+checked : (few simple : Bool) (many other : Refusal) (specs roots : List Spec) → (check many few >>= λ f. check other simple >>= λ s. Ok specs) ≡ Ok roots → specs ≡ roots
+checked true true many other specs roots e = ok_same specs roots e
+checked true false many other specs roots e = ok_not_err roots other (sym e)
+checked false simple many other specs roots e = ok_not_err roots many (sym e)
+
 same_roots : (specs roots : List Spec) → roots_of specs ≡ Ok roots → specs ≡ roots
 unfolding roots_of
-same_roots specs roots e =
-    let few = then_ok _ _ roots e in
-    let simple = then_ok _ _ roots few.2 in
-    ok_same specs roots simple.2
+same_roots specs roots e = checked (nat_le (length specs) 64) (are_simple specs) refusals.TooManyRoots (refusals.NotBuilt forms.Specs) specs roots e
 
 -- the text spells them
 pub roots_spelled : (text : List ℕ) (roots : List Spec) → RootsOf text (Ok roots) → Spells Specs text roots
-roots_spelled text roots (done, short, specs, spells, is) = rw (← same_roots specs roots (sym is)) spells
+roots_spelled text roots (done, short, read) = rw (← same_roots read.0 roots (sym read.2)) read.1
 
 -- their canonical texts are texts
 pub texts_of : ((mode : Mode) (text : List ℕ) (specs : List Spec) (spec : Spec) → Spells mode text specs → Contains specs spec → Spells mode (spec_text spec) (spec ∷ []))
