@@ -1,0 +1,4 @@
+-- what public contracts say
+pub mod Asked
+-- inside
+pub mod Places
