@@ -16,7 +16,8 @@ use Rattle.conditions.specs.declared.recipe.Recipe.{Recipe}
 use Rattle.problem.specs.Problems.{recipe_at, depends_at, conflicts_at, requirements_at, Problem}
 use Rattle.graph_rules.specs.Directives.{keeps_root, keeps_edge, keeps_constraint, keeps_conflict, keeps_requirement}
 use Rattle.graph_rules.specs.Valid.{keeps, keeps_all, each_built, structure_rules, all_rules, valid, valid_for, keeps_demand, keeps_directive}
-use Rattle.problem.specs.Demands.{demands, numbers_of}
+use Rattle.conditions.specs.Right.{numbers_of}
+use Rattle.problem.specs.Demands.{demands}
 use Rattle.graph_rules.specs.declared.rule.Rule.{Rule}
 use Rattle.graph_rules.specs.declared.rule.Rule.TheVariants as rules
 use Rattle.problem.specs.declared.demand.Demand.{Demand}

@@ -13,7 +13,7 @@ use Rattle.graph_core.specs.declared.node.Kinds.{Kinds}
 use Rattle.condition_rules.specs.Holds.{governing}
 use Rattle.conditions.specs.declared.recipe.VariantRow.{VariantRow}
 use Rattle.conditions.specs.declared.recipe.DependRow.{DependRow}
-use Rattle.problem.specs.Assembled.{is_count_of}
+use Rattle.conditions.specs.Right.{is_count_of}
 use Rattle.problem.specs.Problems.{world_of, recipe_at, versions_at, variants_at, depends_at, entry_of, is_buildable_in, same_compiler, applies, asked_by, Problem}
 use Rattle.site_settings.specs.declared.settings.CompilerEntry.{CompilerEntry}
 

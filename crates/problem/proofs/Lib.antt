@@ -1,1 +1,2 @@
+pub mod AssembledLaws
 pub mod NumberLaws

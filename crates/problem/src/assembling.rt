@@ -1,7 +1,8 @@
 // Putting a problem together.
-ghost use Rattle.std.specs.Prelude.{◌≡◌, true, None, IfOk, IfErr, OnOk, option_map, ◌∷◌};
+ghost use Rattle.std.specs.Prelude.{◌≡◌, true, None, is_some, IfOk, IfErr, OnOk, option_map, ◌∷◌};
+ghost use Rattle.std.specs.List.{list_all};
+ghost use Rattle.conditions.specs.Right.{is_right_recipe};
 ghost use Rattle.virtuals.specs.Virtuals.{AreInOrder};
-ghost use Rattle.problem.specs.Assembled.{is_assembled};
 ghost use Rattle.problem.specs.Problems.{problem_of};
 ghost use Rattle.problem.specs.Roots.{IsProblemFault, name_fault, root_fault, first_fault, roots_fault, wrong_platform};
 ghost use Rattle.problem.specs.declared.fault.ProblemFault.TheVariants.{WrongPlatform};
@@ -29,7 +30,8 @@ pub fn assemble(
     roots: List<Spec>,
 ) -> Result<Problem, ProblemFault>
     requires order { AreInOrder recipes }
-    requires right { is_assembled (problem_of recipes settings database roots) ≡ true }
+    requires right { list_all is_right_recipe recipes ≡ true }
+    requires named { list_all (λ spec. is_some spec.top.name) roots ≡ true }
     ensures problem { IfOk result (λ problem. problem ≡ problem_of recipes settings database roots) }
     ensures known { OnOk result (roots_fault (problem_of recipes settings database roots) ≡ None) }
     ensures fault { IfErr result (IsProblemFault (problem_of recipes settings database roots)) }

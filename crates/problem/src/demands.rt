@@ -1,7 +1,8 @@
 // What may be demanded of a graph, as a list.
 ghost use Rattle.std.specs.Prelude.{◌≡◌, ◌++◌, map, IfOk, OnOk};
 ghost use Rattle.std.specs.List.{range_with_len};
-ghost use Rattle.problem.specs.Demands.{numbers_of, directives_of};
+ghost use Rattle.conditions.specs.Right.{numbers_of};
+ghost use Rattle.problem.specs.Demands.{directives_of};
 ghost use Rattle.problem.specs.declared.demand.Demand.TheVariants.{Root, Directive};
 
 use crate::Demand;

@@ -13,7 +13,8 @@ use Rattle.condition_rules.specs.Meets.{meets_rest, meets, provides}
 use Rattle.condition_rules.specs.Holds.{asked_node, suits, holds, all_hold, governing}
 use Rattle.problem.specs.Problems.{entry_of, record_at}
 use Rattle.problem.specs.Demands.{demands}
-use Rattle.problem.specs.Assembled.{is_right_recipe, is_assembled}
+use Rattle.conditions.specs.Right.{is_right_recipe}
+use Rattle.problem.specs.Assembled.{is_assembled}
 use Rattle.problem.specs.Closure.{is_known, next_names, is_closed}
 use Rattle.problem.specs.Roots.{roots_fault}
 use Rattle.graph_rules.specs.Built.{keeps_buildable, keeps_version, keeps_variant, keeps_compiler, keeps_machine, keeps_extra_edge}

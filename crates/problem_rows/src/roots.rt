@@ -1,0 +1,90 @@
+//! Problems of requested specs.
+
+ghost use Rattle.std.specs.Prelude.{◌≡◌, true, is_some};
+ghost use Rattle.std.specs.List.{list_all};
+ghost use Rattle.conditions.specs.Right.{is_right_recipe};
+ghost use Rattle.virtuals.specs.Virtuals.{AreInOrder};
+
+use conditions::Recipe;
+use plain_data::List;
+use problem::{Demand, Problem, ProblemFault, assemble};
+use reuse_db::Database;
+use site_settings::Settings;
+use spec_grammar::{Spec, SpecFault, read_specs};
+use std::alloc::{AllocError, Global};
+
+fn push_demand(alloc: Global, text: &mut String, demand: &Demand) -> Result<(), AllocError> {
+    match demand {
+        Demand::Root(place) => text.push_str(format!(in alloc; " {place}")?.as_str()),
+        Demand::Directive { package, number } => {
+            let name = package.as_str();
+            text.push_str(format!(in alloc; " {name}/{number}")?.as_str())
+        }
+    }
+}
+
+fn demands_text(alloc: Global, problem: &Problem) -> Result<String, AllocError> {
+    let mut text = String::from(alloc, "demands")?;
+    for id in 0..problem.demands() {
+        if let Some(demand) = problem.demand(id) {
+            push_demand(alloc, &mut text, demand)?;
+        }
+    }
+    Ok(text)
+}
+
+fn fault_text(alloc: Global, fault: ProblemFault) -> Result<String, AllocError> {
+    match fault {
+        ProblemFault::UnknownRoot(name) => {
+            let name = name.as_str();
+            format!(in alloc; "unknown {name}")
+        }
+        ProblemFault::VirtualRoot(name) => {
+            let name = name.as_str();
+            format!(in alloc; "virtual {name}")
+        }
+        ProblemFault::WrongPlatform(word) => {
+            let word = word.as_str();
+            format!(in alloc; "platform {word}")
+        }
+        ProblemFault::OutOfMemory => Err(AllocError),
+    }
+}
+
+fn assembled_text(
+    alloc: Global,
+    recipes: List<Recipe>,
+    roots: List<Spec>,
+) -> Result<String, AllocError>
+    requires order { AreInOrder recipes }
+    requires right { list_all is_right_recipe recipes ≡ true }
+    requires named { list_all (λ spec. is_some spec.top.name) roots ≡ true }
+{
+    let settings = Settings::standard(alloc)?;
+    match assemble(alloc, recipes, settings, Database::empty(alloc), roots) {
+        Ok(problem) => demands_text(alloc, &problem),
+        Err(fault) => fault_text(alloc, fault),
+    }
+}
+
+fn are_named(roots: &[Spec]) -> bool
+    ensures { result ≡ list_all (λ spec. is_some spec.top.name) roots.now }
+{
+    roots.iter().all(|spec| spec.top.name.is_some())
+}
+
+/// The demands where specs are requested of these recipes, or why they are refused.
+pub(crate) fn problem_text(
+    alloc: Global,
+    recipes: List<Recipe>,
+    texts: &str,
+) -> Result<String, AllocError>
+    requires order { AreInOrder recipes }
+    requires right { list_all is_right_recipe recipes ≡ true }
+{
+    match read_specs(alloc, texts) {
+        Ok(roots) if are_named(roots.as_slice()) => assembled_text(alloc, recipes, roots),
+        Err(SpecFault::OutOfMemory) => Err(AllocError),
+        _ => String::from(alloc, "no specs"),
+    }
+}
