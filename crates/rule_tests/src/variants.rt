@@ -4,7 +4,7 @@ ghost use Rattle.std.specs.List.{list_all};
 ghost use Rattle.std.specs.Str.{bytes_eq};
 ghost use Rattle.std.specs.Cmp.Lexicographic.{pointwise};
 ghost use Rattle.condition_rules.specs.Words.{includes};
-ghost use Rattle.problem.specs.Assembled.{is_count_of};
+ghost use Rattle.conditions.specs.Right.{is_count_of};
 ghost use Rattle.problem.specs.Problems.{applies};
 ghost use Rattle.graph_rules.specs.Built.{governed, allows, is_allowed, has_governed, keeps_variant};
 
