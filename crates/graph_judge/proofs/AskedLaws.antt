@@ -1,7 +1,7 @@
 -- What is asked of some roots and directives: the verdict is that no rule is broken exactly where the graph is valid
 -- for these demands.
-use Rattle.std.proofs.Common.{◌≡◌, refl, sym, ap, subst, ◌∙◌, Bool, true, false, ◌&&◌, ◌||◌, ◌==◌, not, ℕ, ◌+◌, zero, suc, List, [], ◌∷◌, ◌++◌, map, cond, ◌↔◌, Option, Some, None, inl, inr, arith, slice_get}
-use Rattle.std.specs.List.{list_all, list_any, filter, flat_map}
+use Rattle.std.proofs.Common.{◌≡◌, refl, sym, ap, subst, ◌∙◌, Bool, true, false, ◌&&◌, ◌||◌, ◌==◌, ℕ, ◌+◌, zero, suc, List, [], ◌∷◌, cond, ◌↔◌, Option, Some, None, inl, inr, arith, slice_get}
+use Rattle.std.specs.List.{list_all, list_any}
 use Rattle.std.specs.Option.{unwrap_or}
 use Rattle.std.specs.Str.{bytes_eq}
 use Rattle.std.proofs.lemmas.Bool.{and_parts, and_from, eq-eqb, eqb-true, or_cases}
@@ -16,10 +16,9 @@ use Rattle.problem.specs.declared.demand.Demand.{Demand}
 use Rattle.problem.specs.declared.demand.Demand.TheVariants as demand
 use Rattle.graph_rules.specs.Directives.{keeps_root, keeps_edge, keeps_constraint, keeps_conflict, keeps_requirement}
 use Rattle.graph_rules.specs.Valid.{keeps, keeps_all, structure_rules, all_rules, valid_for, keeps_demand, keeps_directive}
-use Rattle.graph_rules.specs.Verdict.{Place, Asked, same_demand, is_among, keeps_asked_root, keeps_asked_row, breaks_of, broken_roots, broken_rows, first_broken, least, broken_or, verdict_of, verdict_for}
+use Rattle.graph_rules.specs.Verdict.{Asked, same_demand, is_among, keeps_asked_root, keeps_asked_row, breaks_of, broken_roots, broken_rows, first_broken, verdict_of, verdict_for}
 use Rattle.graph_rules.specs.declared.rule.Rule.{Rule}
 use Rattle.graph_rules.specs.declared.rule.Rule.TheVariants as rules
-use Rattle.graph_rules.specs.declared.rule.Verdict.{Verdict}
 use Rattle.graph_rules.specs.declared.rule.Verdict.TheVariants as verdicts
 use Rattle.graph_rules.proofs.Lists.{In, list_all-each, list_all-from, find-in, node-itself, bytes_eq-same, bytes_eq-itself}
 use Rattle.graph_rules.proofs.ValidLaws.{implied, implies-from, slice_get-in, stands}

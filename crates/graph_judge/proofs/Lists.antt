@@ -1,5 +1,5 @@
 -- Lists of places, element by element.
-use Rattle.std.proofs.Common.{◌≡◌, refl, sym, ap, ◌∙◌, Bool, true, false, not, ℕ, ◌+◌, ◌<◌, suc, arith, length, get_or, drop, drop-cons, append_assoc, List, [], ◌∷◌, ◌++◌, map, cond, Option, Some, None, slice_get}
+use Rattle.std.proofs.Common.{◌≡◌, refl, sym, ap, ◌∙◌, Bool, true, false, not, ℕ, ◌+◌, ◌<◌, suc, arith, length, get_or, drop, drop-cons, append_assoc, List, [], ◌∷◌, ◌++◌, map, cond, Option, Some, None}
 use Rattle.std.specs.List.{filter, flat_map, filter_map, list_any}
 use Rattle.std.specs.Option.{unwrap_or}
 use Rattle.spec_grammar.specs.declared.part.Spec.{Spec}

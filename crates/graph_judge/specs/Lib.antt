@@ -1,4 +1,3 @@
--- what public contracts say
-pub mod Asked
 -- inside
+pub mod Asked
 pub mod Places

@@ -1,9 +1,9 @@
 // The first broken rule.
-ghost use Rattle.std.specs.Prelude.{◌≡◌, ◌↔◌, true, IfOk};
+ghost use Rattle.std.specs.Prelude.{◌≡◌, ◌↔◌, true, IfOk, filter_map, slice_get};
+ghost use Rattle.problem.specs.Demands.{demands};
 ghost use Rattle.graph_rules.specs.Valid.{valid, valid_for};
 ghost use Rattle.graph_rules.specs.Verdict.{breaks_of, first_broken, least, verdict, verdict_of, verdict_for};
 ghost use Rattle.graph_rules.specs.declared.rule.Verdict.{Verdict};
-ghost use Rattle.graph_judge.specs.Asked.{asked_of};
 ghost use Rattle.graph_judge.specs.Places.{found_of};
 
 use crate::demanded::{All, Demanded, Listed};
@@ -141,8 +141,10 @@ pub fn judge_for(
     graph: &Graph,
     ids: &[u64],
 ) -> Result<Verdict, AllocError>
-    ensures first { IfOk result (λ said. said ≡ verdict_for (asked_of problem.now ids.now) problem.now graph.now) }
-    ensures valid { IfOk result (λ said. (said ≡ Verdict.Valid) ↔ (valid_for (asked_of problem.now ids.now) problem.now graph.now ≡ true)) }
+    ensures first { let asked = filter_map (slice_get (demands problem.now)) ids.now in
+        IfOk result (λ said. said ≡ verdict_for asked problem.now graph.now) }
+    ensures valid { let asked = filter_map (slice_get (demands problem.now)) ids.now in
+        IfOk result (λ said. (said ≡ Verdict.Valid) ↔ (valid_for asked problem.now graph.now ≡ true)) }
 {
     let _nodes = graph.nodes();
     let said = verdict_of(alloc, problem, graph, &Listed { problem, ids })?;

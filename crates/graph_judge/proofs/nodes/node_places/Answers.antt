@@ -1,7 +1,7 @@
-use Rattle.std.proofs.Common.{◌∙◌, ◌++◌}
+use Rattle.std.proofs.Common.{◌∙◌}
 use Rattle.graph_core.specs.declared.node.Node.{Node}
 use Rattle.graph_rules.specs.Verdict.{Place}
-use Rattle.graph_judge.specs.Places.{keeps_at, nodes_places}
+use Rattle.graph_judge.specs.Places.{keeps_at}
 use Rattle.graph_judge.proofs.Lists.{flat_unless}
 use Rattle.graph_judge.proofs.nodes.node_places.Goals as goal
 

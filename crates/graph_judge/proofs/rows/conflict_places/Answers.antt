@@ -2,7 +2,6 @@ use Rattle.std.proofs.Common.{◌∙◌}
 use Rattle.conditions.specs.declared.recipe.ConflictRow.{ConflictRow}
 use Rattle.problem.specs.Problems.{conflicts_at}
 use Rattle.graph_rules.specs.Directives.{keeps_conflict}
-use Rattle.graph_judge.specs.Places.{keeps_row}
 use Rattle.graph_judge.proofs.Lists.{rows_flat}
 use Rattle.graph_judge.proofs.rows.conflict_places.Goals as goal
 

@@ -1,7 +1,7 @@
 use Rattle.std.proofs.Common.{◌∙◌}
 use Rattle.conditions.specs.declared.recipe.DependRow.{DependRow}
 use Rattle.problem.specs.Problems.{depends_at}
-use Rattle.graph_judge.specs.Places.{depend_test, keeps_row}
+use Rattle.graph_judge.specs.Places.{depend_test}
 use Rattle.graph_judge.proofs.Lists.{rows_flat}
 use Rattle.graph_judge.proofs.rows.depend_places.Goals as goal
 

@@ -2,7 +2,6 @@ use Rattle.std.proofs.Common.{◌∙◌}
 use Rattle.conditions.specs.declared.recipe.RequireRow.{RequireRow}
 use Rattle.problem.specs.Problems.{requirements_at}
 use Rattle.graph_rules.specs.Directives.{keeps_requirement}
-use Rattle.graph_judge.specs.Places.{keeps_row}
 use Rattle.graph_judge.proofs.Lists.{rows_flat}
 use Rattle.graph_judge.proofs.rows.requirement_places.Goals as goal
 
