@@ -24,7 +24,7 @@ module _ (n : ℕ) (ps : List Placed) (o : IsOrderly n ps) where
       let m = level-most 0 ps k p o.levels e in
       subst (λ xs. placed_of xs (var_of p.lit) ≡ Some p) (upto-whole 0 (decisions ps) ps o.levels (omega arith)) (placed_of-upto (decisions ps) ps k p o.apart e (omega (arith, m)))
 
-  place-there : (x : ℕ) (p : Placed) → placed_of ps x ≡ Some p → (k : ℕ) × (slice_get ps k ≡ Some p) × (var_of p.lit ≡ x)
+  pub place-there : (x : ℕ) (p : Placed) → placed_of ps x ≡ Some p → (k : ℕ) × (slice_get ps k ≡ Some p) × (var_of p.lit ≡ x)
   place-there x p e =
       let l = has_var-lit (lits_of ps) x (placed-has ps x p e) in
       let q = has-place ps l.0 l.1 in

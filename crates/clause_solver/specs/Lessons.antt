@@ -46,6 +46,14 @@ pub record GoesBack (w : WatchValue) (old new : List Bool) (chain longer : List 
 abbrev pub LeadsBack : WatchValue → List Bool → List Bool → List ℕ → List ℕ → Type 0
 LeadsBack w old new chain longer = (at : ℕ) × GoesBack w old new chain longer at
 
+-- what leads back still does after some more steps
+abbrev pub KeepsBack : WatchValue → List Bool → List Bool → List ℕ → List ℕ → Type 0
+KeepsBack w before after chain longer = (old : List Bool) (first : List ℕ) → LeadsBack w old before first chain → LeadsBack w old after first longer
+
+-- the clause of the id gives the literal's variable its value at level 0
+abbrev pub IsLowReason : List Placed → Lit → ℕ → Type 0
+IsLowReason ps l id = (k : ℕ) × (p : Placed) × (slice_get ps k ≡ Some p) × (var_of p.lit ≡ var_of l) × (p.level ≡ 0) × (p.reason ≡ Some id)
+
 -- a trail that agrees below a place; what has no reason there, or stands from there on, has its negation in a clause
 abbrev pub Leaves : ℕ → List Placed → List Lit → Type 0
 Leaves end ps stated = (k : ℕ) (p : Placed) → slice_get ps k ≡ Some p → (k < end → p.reason ≡ None) → has stated (negation p.lit) ≡ true

@@ -1,13 +1,13 @@
 //! What a false clause teaches: a clause with one literal of the last level, or the end of the search.
 //!
 //! Both walk the trail back and resolve with reasons, by marks. They know of the watch only what it promises.
-ghost use Rattle.std.specs.Prelude.{◌≡◌, ℕ, ◌+◌, ◌<◌, ◌≤◌, [], ◌∷◌, ◌++◌, length, IfOk, OnOk, Some};
+ghost use Rattle.std.specs.Prelude.{◌≡◌, ℕ, ◌+◌, ◌<◌, ◌≤◌, [], ◌∷◌, ◌++◌, length, IfOk, IfSome, OnOk, Some};
 ghost use Rattle.clause_store.specs.Lits.{var_of, AllBelow};
 ghost use Rattle.clause_watch.specs.Trails.{decisions};
 ghost use Rattle.clause_watch.specs.Reasons.{NamesFalse};
 ghost use Rattle.clause_watch.specs.Watches.{IsWatch};
 ghost use Rattle.clause_solver.specs.Marks.{AreClear};
-ghost use Rattle.clause_solver.specs.Lessons.{IsKnown, Resolves, IsTop, LeadsBack, DerivesRest, IsLevelBelow, IsBackLevel, IsLesson};
+ghost use Rattle.clause_solver.specs.Lessons.{IsKnown, Resolves, IsTop, LeadsBack, KeepsBack, IsLowReason, DerivesRest, IsLevelBelow, IsBackLevel, IsLesson};
 
 use crate::marks::{Marks, last_marked};
 use activity_order::Order;
@@ -68,6 +68,80 @@ fn resolve_back(
         };
         at = next;
     }
+}
+
+/// The clause that gives a literal's variable its value at level 0.
+fn low_reason(watch: &Watch, lit: Lit) -> Option<u64>
+    requires right { IsWatch watch.now.vars watch.now.clauses watch.now.placed }
+    requires lit { var_of lit < watch.now.vars }
+    ensures { IfSome result (IsLowReason watch.now.placed lit) }
+{
+    let Some(level) = watch.level(lit.var) else {
+        return None;
+    };
+    if level > 0 {
+        return None;
+    }
+    let Some(id) = watch.reason(lit.var) else {
+        return None;
+    };
+    Some(id)
+}
+
+/// Whether a clause has one literal.
+fn is_single(watch: &Watch, id: u64) -> bool
+    requires known { IsKnown watch.now.clauses id }
+{
+    watch.clause(id).lits().len() == 1
+}
+
+/// Resolves a marked literal away where a clause of one literal makes it false at level 0.
+fn drop_low(
+    watch: &Watch,
+    marks: &mut Marks,
+    order: &mut Order,
+    chain: &mut List<u64>,
+    lit: Lit,
+) -> Result<(), AllocError>
+    requires right { IsWatch watch.now.vars watch.now.clauses watch.now.placed }
+    requires in_range { length marks.old ≡ watch.now.vars }
+    requires lit { var_of lit < watch.now.vars }
+    requires above { 0 < decisions watch.now.placed }
+    ensures back { OnOk result (KeepsBack watch.now marks.old marks.new chain.old chain.new) }
+    ensures same { length marks.new ≡ length marks.old }
+{
+    if !marks.has(lit.var.0 as usize) {
+        return Ok(());
+    }
+    let Some(id) = low_reason(watch, lit) else {
+        return Ok(());
+    };
+    if !is_single(watch, id) {
+        return Ok(());
+    }
+    resolve(watch, marks, order, chain, lit, id)?;
+    Ok(())
+}
+
+/// The same for each of some literals.
+fn drop_all(
+    watch: &Watch,
+    marks: &mut Marks,
+    order: &mut Order,
+    chain: &mut List<u64>,
+    lits: &[Lit],
+) -> Result<(), AllocError>
+    requires right { IsWatch watch.now.vars watch.now.clauses watch.now.placed }
+    requires in_range { length marks.old ≡ watch.now.vars }
+    requires lits { AllBelow watch.now.vars lits.now }
+    requires above { 0 < decisions watch.now.placed }
+    ensures back { OnOk result (KeepsBack watch.now marks.old marks.new chain.old chain.new) }
+    ensures same { length marks.new ≡ length marks.old }
+{
+    for lit in lits {
+        drop_low(watch, marks, order, chain, *lit)?;
+    }
+    Ok(())
 }
 
 /// A chain of ids that begins with a false clause, and leads to the negations of decided literals.
@@ -166,6 +240,8 @@ pub fn learn(
         unreachable!()
     };
     resolve_back(watch, marks, order, &mut chain, start)?;
+    let marked = marks.false_lits(alloc, watch)?;
+    drop_all(watch, marks, order, &mut chain, marked.as_slice())?;
     let lits = marks.false_lits(alloc, watch)?;
     let level = back_level(watch, lits.as_slice());
     let Some(clause) = Clause::new(alloc, lits.as_slice())? else {
