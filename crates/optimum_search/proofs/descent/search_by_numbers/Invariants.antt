@@ -1,6 +1,6 @@
 use Rattle.clause_store.specs.Clauses.{clauses_of}
 use Rattle.optimum_search.specs.Finding.{IsSearching, IsOver}
-use Rattle.optimum_search.proofs.descent.search.Given as goal
+use Rattle.optimum_search.proofs.descent.search_by_numbers.Given as goal
 
 abbrev pub invariant-loop-at : goal.invariant-loop-at
 invariant-loop-at l = record {
