@@ -1,5 +1,5 @@
 -- Tables of numbers under a bound.
-use Rattle.std.proofs.Common.{◌≡◌, ℕ, zero, suc, ◌<◌, List, [], ◌∷◌, ◌++◌, length, get_or, set, sym, ◌∙◌, subst, arith}
+use Rattle.std.proofs.Common.{◌≡◌, ℕ, zero, suc, ◌<◌, Bool, List, [], ◌∷◌, ◌++◌, length, get_or, set, sym, ◌∙◌, subst, arith}
 use Rattle.std.proofs.lemmas.List.{length-set}
 use Rattle.activity_order.specs.Orders.{OrderValue}
 use Rattle.activity_order.specs.Heaps.{AllUnder, IsOrder}
@@ -42,7 +42,7 @@ order-whole heap places vars activities phases n h m p a f = record {
 }
 
 -- what stands in the tables is under the bound
-module _ (o : OrderValue) (heap places : List ℕ) (w a p i x y : ℕ) (view : ◌≡◌ {A = OrderValue} (record { vars = length heap; waiting = w }) o) (is : IsOrder heap places w a p) (h : i < length heap) where
+module _ (o : OrderValue) (heap places : List ℕ) (w a p i x y : ℕ) (last : List Bool) (view : ◌≡◌ {A = OrderValue} (record { vars = length heap; waiting = w; phases = last }) o) (is : IsOrder heap places w a p) (h : i < length heap) where
   pub heap-at : x ≡ get_or heap i y → x < o.vars
   heap-at e = subst (λ (v : OrderValue). x < v.vars) view (rw e (under-get (length heap) heap i y h is.heap_under))
 

@@ -1,11 +1,12 @@
 -- An order of variables as callers see it.
-use Rattle.std.specs.Prelude.{ℕ}
+use Rattle.std.specs.Prelude.{ℕ, Bool, false, List, replicate}
 
--- how many variables there are, and how many of them wait
+-- how many variables there are, how many of them wait, and the last value of each
 pub record OrderValue : Type 0 where
   pub vars : ℕ
   pub waiting : ℕ
+  pub phases : List Bool
 
--- all variables wait
+-- all variables wait, and none had a value
 abbrev pub whole : ℕ → OrderValue
-whole vars = record { vars = vars; waiting = vars }
+whole vars = record { vars = vars; waiting = vars; phases = replicate vars false }

@@ -1,5 +1,5 @@
 //! A binary heap of the variables that wait, by activity.
-ghost use Rattle.std.specs.Prelude.{◌≡◌, ◌+◌, ◌<◌, ◌≤◌, length, IfOk, IfSome, IfNone};
+ghost use Rattle.std.specs.Prelude.{◌≡◌, ◌+◌, ◌<◌, ◌≤◌, length, false, slice_set, slice_index_or, IfOk, IfSome, IfNone};
 ghost use Rattle.activity_order.specs.Heaps.{AllUnder};
 ghost use Rattle.activity_order.specs.Orders.{whole};
 
@@ -40,7 +40,7 @@ impl Model for Order {
 
     ghost use Rattle.activity_order.specs.Heaps.{IsOrder};
 
-    ghost view = { λ o. record { vars = length o.heap.items; waiting = o.waiting } };
+    ghost view = { λ o. record { vars = length o.heap.items; waiting = o.waiting; phases = o.phases.items } };
 
     ghost invariant = { λ o. IsOrder o.heap.items o.places.items o.waiting (length o.activities.items) (length o.phases.items) };
 }
@@ -180,6 +180,7 @@ impl Order {
     pub fn release(&mut self, var: usize, value: bool)
         ensures vars { self.new.vars ≡ self.old.vars }
         ensures waiting { self.old.waiting ≤ self.new.waiting }
+        ensures phases { self.new.phases ≡ slice_set self.old.phases var value }
     {
         if var >= self.heap.len() {
             return;
@@ -232,10 +233,13 @@ impl Order {
     }
 
     /// The last value of a variable; false before the first, and for one that is not there.
-    pub fn phase(&self, var: usize) -> bool {
-        match self.phases.get(var) {
-            Some(value) => *value,
-            None => false,
+    pub fn phase(&self, var: usize) -> bool
+        ensures { result ≡ slice_index_or self.now.phases var false }
+    {
+        if var < self.phases.len() {
+            self.phases[var]
+        } else {
+            false
         }
     }
 }

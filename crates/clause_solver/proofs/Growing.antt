@@ -25,7 +25,7 @@ longer cs (Some c) = omega (arith, length-append cs (c ∷ []))
 
 module _ (s t : Search) (lit : Option Lit) (l : Line) (c : Option (List Lit)) (i : IsSearch s) (open_log : IsOpen s.log)
     (clauses : t.watch.clauses ≡ with_added s.watch.clauses c) (vars : t.watch.vars ≡ s.watch.vars) (log : t.log ≡ s.log ++ l ∷ []) (inputs : t.inputs ≡ s.inputs) (bits : t.bits ≡ s.bits)
-    (given : t.given.items ≡ with_added s.given.items lit) (model : t.model.items ≡ s.model.items) (count : t.learnt ≡ s.learnt + learnt_count l) (marks : length t.marks.items ≡ length s.marks.items) (unmarked : AreClear t.marks.items) where
+    (given : t.given.items ≡ with_added s.given.items lit) (model : t.model.items ≡ s.model.items) (count : t.learnt ≡ s.learnt + learnt_count l) (marks : length t.marks ≡ length s.marks) (unmarked : AreClear t.marks) where
   -- the solver's invariant after one more line
   pub search-grown : length (with_added s.given.items lit) ≡ length s.given.items + settles l →
       ((more : List Lit) → LineHolds (with_added s.given.items lit ++ more) s.watch.clauses (length s.given.items) l) → OfLearnt (IsUseful s.watch.clauses) l →

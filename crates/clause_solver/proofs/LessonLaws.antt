@@ -1,12 +1,11 @@
 -- What the marks leave is a lesson.
-use Rattle.std.proofs.Common.{◌≡◌, ◌≢◌, ℕ, zero, suc, ◌-◌, ◌+◌, ◌<◌, ◌≤◌, Bool, true, false, cond, leb, ◌||◌, List, [], ◌∷◌, ◌++◌, length, take, Some, None, ◌⊎◌, inl, inr, refl, sym, ap, ◌∙◌, subst, arith, add-one}
+use Rattle.std.proofs.Common.{◌≡◌, ◌≢◌, ℕ, zero, suc, ◌-◌, ◌<◌, ◌≤◌, Bool, true, false, leb, ◌||◌, List, [], ◌∷◌, length, Some, None, ◌⊎◌, inl, inr, refl, sym, ap, ◌∙◌, subst, arith}
 use Rattle.std.specs.Prelude.{slice_get}
 use Rattle.std.specs.Option.{option_map}
 use Rattle.std.proofs.lemmas.Bool.{cases_Bool, cases_lt, or_left, or_right, false≢true, eq-eqb, ne_eqb, le-leb}
-use Rattle.std.proofs.lemmas.List.{append-nil}
 use Rattle.std.proofs.lemmas.Option.{none-some, same_Some}
 use Rattle.clause_store.specs.declared.Lit.{Lit}
-use Rattle.clause_store.specs.Lits.{var_of, negation, has, lit_eq, clause_of, AllBelow}
+use Rattle.clause_store.specs.Lits.{var_of, negation, has, lit_eq, clause_of, AllBelow, SameLits}
 use Rattle.clause_store.specs.Clauses.{at_id}
 use Rattle.proof_log.specs.Known.{has_var}
 use Rattle.proof_log.specs.Derivations.{IsDerived}
@@ -20,7 +19,7 @@ use Rattle.clause_watch.specs.Trails.{lits_of, decisions, upto, placed_of, AreAp
 use Rattle.clause_watch.specs.Reasons.{IsFalse}
 use Rattle.clause_watch.specs.Watches.{WatchValue, IsWatch, IsAddable}
 use Rattle.clause_watch.proofs.Undone.{decisions-upto}
-use Rattle.clause_solver.specs.Marks.{mark_at, AreMarked, AreUnmarked, AreClear, NoneMarked, IsLastMarked, falsified}
+use Rattle.clause_solver.specs.Marks.{mark_at, AreMarked, AreClear, NoneMarked, IsLastMarked, falsified}
 use Rattle.clause_solver.specs.Lessons.{IsTop, GoesBack, IsBackLevel}
 use Rattle.clause_watch.proofs.Places.{has-place, place-has, place-below, place-within, places-apart, places-same, levels-rise, level-most, consistent-from, place-upto, upto-place, has_var-lit, settled-at}
 use Rattle.clause_solver.proofs.Resolving.{falsified-parts, falsified-from, marks-derive}
@@ -80,23 +79,6 @@ module _ (w : WatchValue) (right : IsWatch w.vars w.clauses w.placed) (above : 0
         ];
       }
 
--- nothing is marked above the place, so its front gives all
-falsified-cut : (m : ℕ → Bool) (ps : List Placed) (k : ℕ) → NoneMarked m ps k (length ps) → falsified m ps ≡ falsified m (take k ps)
-falsified-cut m [] zero h = refl
-falsified-cut m [] (suc k) h = refl
-falsified-cut m (p ∷ ps) zero h = rw (h 0 p (omega arith) (omega arith) refl) (falsified-cut m ps zero (λ j q a b e. h (suc j) q (omega arith) (omega arith) e))
-falsified-cut m (p ∷ ps) (suc k) h =
-    let ih = falsified-cut m ps k (λ j q a b e. h (suc j) q (omega arith) (omega arith) e) in
-    ap (λ xs. cond (m (var_of p.lit)) (negation p.lit ∷ xs) xs) ih
-
-pub falsified-push : (m : ℕ → Bool) (ps : List Placed) (p : Placed) → falsified m (ps ++ p ∷ []) ≡ falsified m ps ++ falsified m (p ∷ [])
-falsified-push m [] p = refl
-falsified-push m (q ∷ ps) p =
-    elim (cases_Bool (m (var_of q.lit))) [
-      | inl t ↦ rw t (ap (λ xs. negation q.lit ∷ xs) (falsified-push m ps p))
-      | inr f ↦ rw f (falsified-push m ps p)
-    ]
-
 AllBelow-from : (n : ℕ) (c : List Lit) → ((l : Lit) → has c l ≡ true → var_of l < n) → AllBelow n c
 AllBelow-from n [] f = tt
 AllBelow-from n (l ∷ c) f = (f l (or_left (lit_eq l l) (has c l) (lit_eq-refl l)), AllBelow-from n c (λ k h. f k (or_right (lit_eq l k) (has c k) h)))
@@ -131,63 +113,44 @@ module _ (w : WatchValue) (right : IsWatch w.vars w.clauses w.placed) (above : 0
   consistent : IsConsistent (lits_of w.placed)
   consistent = consistent-from w.placed right.orderly.apart
 
-  lits : List Lit
-  lits = falsified (mark_at new) w.placed
+  module _ (front : List Lit) (e : SameLits front (falsified (mark_at new) w.placed)) where
+    one-sign : OneSign front
+    one-sign l k h j q =
+        let a = falsified-parts (mark_at new) w.placed l (sym (e l) ∙ h) in
+        let b = falsified-parts (mark_at new) w.placed k (sym (e k) ∙ j) in
+        elim (same_or_opposite l k q) [
+          | inl s ↦ s
+          | inr s ↦ absurd (consistent (negation l) a.1 (ap (λ x. has (lits_of w.placed) (negation x)) (sym s) ∙ b.1))
+        ]
 
-  cut : lits ≡ falsified (mark_at new) (take (at + 1) w.placed)
-  unfolding lits
-  cut = falsified-cut (mark_at new) w.placed (at + 1) g.back.top.above
+    pub lits-below : AllBelow w.vars front
+    lits-below = AllBelow-from w.vars front (λ l h. let r = has-place w.placed (negation l) (falsified-parts (mark_at new) w.placed l (sym (e l) ∙ h)).1 in subst (λ (x : Lit). var_of x < w.vars) r.3 (place-below w.vars w.placed r.0 r.1 right.orderly.in_table r.2))
 
-  one-sign : OneSign lits
-  unfolding lits
-  one-sign l k h j e =
-      let a = falsified-parts (mark_at new) w.placed l h in
-      let b = falsified-parts (mark_at new) w.placed k j in
-      elim (same_or_opposite l k e) [
-        | inl q ↦ q
-        | inr q ↦ absurd (consistent (negation l) a.1 (ap (λ x. has (lits_of w.placed) (negation x)) (sym q) ∙ b.1))
-      ]
+    pub clause-some : clause_of front ≡ None → ⊥
+    clause-some n = false≢true (union-clash [] front one-sign n).2
 
-  pub clause-some : (front : List Lit) → front ≡ falsified (mark_at new) (take (at + 1) w.placed) → clause_of front ≡ None → ⊥
-  clause-some front e n = false≢true (union-clash [] lits one-sign (ap clause_of (cut ∙ sym e) ∙ n)).2
-
-  module _ (front clause : List Lit) (e : front ≡ falsified (mark_at new) (take (at + 1) w.placed)) (made : clause_of front ≡ Some clause) where
-    stands : (l : Lit) → has clause l ≡ has lits l
-    stands l = has-with_lits [] lits clause l (ap clause_of (cut ∙ sym e) ∙ made) ∙ or-false (has lits l)
+  module _ (front clause : List Lit) (e : SameLits front (falsified (mark_at new) w.placed)) (made : clause_of front ≡ Some clause) where
+    stands : (l : Lit) → has clause l ≡ has (falsified (mark_at new) w.placed) l
+    stands l = has-with_lits [] front clause l made ∙ or-false (has front l) ∙ e l
       where
         or-false : (b : Bool) → (b || false) ≡ b
         or-false true = refl
         or-false false = refl
 
     parts : (l : Lit) → has clause l ≡ true → (mark_at new (var_of l) ≡ true) × (has (lits_of w.placed) (negation l) ≡ true)
-    unfolding lits
     parts l h = falsified-parts (mark_at new) w.placed l (sym (stands l) ∙ h)
 
     from : (k : ℕ) (q : Placed) → slice_get w.placed k ≡ Some q → mark_at new (var_of q.lit) ≡ true → has clause (negation q.lit) ≡ true
-    unfolding lits
     from k q f t = stands (negation q.lit) ∙ falsified-from (mark_at new) w.placed (negation q.lit) t (ap (has (lits_of w.placed)) (negation-twice q.lit) ∙ place-has w.placed k q f)
 
-    -- all marks are gone once those of the clause are
-    pub all-clear : (last : List Bool) → AreUnmarked new last clause → AreClear last
-    all-clear last u x =
-        u x ∙ elim (cases_Bool (mark_at new x)) [
-          | inr f ↦ rw f refl
-          | inl t ↦
-              let l = has_var-lit (lits_of w.placed) x (g.back.top.within x t) in
-              let q = has-place w.placed l.0 l.1 in
-              let v : var_of q.1.lit ≡ x = ap var_of q.3 ∙ l.2 in
-              let h : has_var clause x ≡ true = subst (λ n. has_var clause n ≡ true) v (has-var clause (negation q.1.lit) (from q.0 q.1 q.2 (ap (mark_at new) v ∙ t))) in
-              rw (t, h) refl
-        ]
-
-    module _ (c : List Lit) (known : at_id w.clauses conflict ≡ Some c) (false-here : IsFalse w.placed c) (start : (x : ℕ) → mark_at old x ≡ has_var c x) (level : ℕ) (b : IsBackLevel (mark_at new) w.placed at level) where
+    module _ (c : List Lit) (known : at_id w.clauses conflict ≡ Some c) (false-here : IsFalse w.placed c) (start : (x : ℕ) → mark_at old x ≡ has_var c x) (level : ℕ) (b : IsBackLevel w.placed front level) where
       abbrev p : Placed
       p = g.back.top.place
 
       below : level < decisions w.placed
       below = elim b.attained [
         | inl z ↦ omega (arith, z, above)
-        | inr q ↦ let a = g.alone q.0 q.1 q.2 q.3 q.4 in let l = q.5 in omega (arith, a, l)
+        | inr q ↦ q.5
       ]
 
       free : has_var (lits_of (upto level w.placed)) (var_of p.lit) ≡ false
@@ -210,7 +173,10 @@ module _ (w : WatchValue) (right : IsWatch w.vars w.clauses w.placed) (above : 0
           let q = has-place w.placed (negation l) a.1 in
           let t : mark_at new (var_of q.1.lit) ≡ true = ap (λ (x : Lit). mark_at new (var_of x)) q.3 ∙ a.0 in
           elim (cases_lt q.0 at) [
-            | inl lo ↦ rw (← q.3) (place-upto level w.placed q.0 q.1 q.2 (b.bound q.0 q.1 lo q.2 t))
+            | inl lo ↦
+                let v : var_of l ≡ var_of q.1.lit = ap var_of (sym q.3) in
+                let there : has_var front (var_of q.1.lit) ≡ true = ap (has_var front) (sym v) ∙ has-var front l (e l ∙ sym (stands l) ∙ h) in
+                rw (← q.3) (place-upto level w.placed q.0 q.1 q.2 (b.bound q.0 q.1 q.2 there (g.alone q.0 q.1 lo q.2 t)))
             | inr ge ↦ elim (cases_lt at q.0) [
               | inl hi ↦ absurd (false≢true (sym (g.back.top.above q.0 q.1 (omega arith) (place-within w.placed q.0 q.1 q.2) q.2) ∙ t))
               | inr le ↦
@@ -224,7 +190,6 @@ module _ (w : WatchValue) (right : IsWatch w.vars w.clauses w.placed) (above : 0
       has-first = from at p g.back.top.here g.back.top.marked
 
       pub lesson : (chain : List ℕ) → chain ≡ longer → AllBelow w.vars clause × IsDerived w.clauses chain clause × IsUseful w.clauses clause × (level < decisions w.placed) × ((level ≡ 0) ⊎ IsAddable (upto level w.placed) clause)
-      unfolding lits
       lesson chain q = (
         AllBelow-from w.vars clause (λ l h. let r = has-place w.placed (negation l) (parts l h).1 in subst (λ (x : Lit). var_of x < w.vars) r.3 (place-below w.vars w.placed r.0 r.1 right.orderly.in_table r.2)),
         subst (λ xs. IsDerived w.clauses xs clause) (sym (q ∙ g.back.grown)) (marks-derive w.clauses w.placed (mark_at old) (mark_at new) conflict c clause g.back.ids known consistent false-here start g.back.leads (λ l h. stands l ∙ h)),
@@ -245,51 +210,20 @@ module _ (w : WatchValue) (right : IsWatch w.vars w.clauses w.placed) (above : 0
           | inl z ↦ inl z
           | inr r ↦
               let d : decisions (upto level w.placed) ≡ level = let m = decisions-upto level w.placed right.orderly.levels in omega (arith, m, below) in
-              let le : r.1.level ≤ level = let l = r.5 in omega (arith, l) in
+              let le : r.1.level ≤ level = let l = r.4 in omega (arith, l) in
+              let k = has_var-lit front (var_of r.1.lit) r.3 in
+              let t : mark_at new (var_of r.1.lit) ≡ true = ap (mark_at new) (sym k.2) ∙ (falsified-parts (mark_at new) w.placed k.0 (sym (e k.0) ∙ k.1)).0 in
               inr (record {
                 free = negation p.lit;
                 has_free = has-first;
                 is_free = free;
                 others = others;
                 last = negation r.1.lit;
-                has_last = from r.0 r.1 r.3 r.4;
-                last_level = ap (option_map (λ (x : Placed). x.level)) (placed_of-upto level w.placed r.0 r.1 right.orderly.apart r.3 le) ∙ ap Some (r.5 ∙ sym d);
+                has_last = from r.0 r.1 r.2 t;
+                last_level = ap (option_map (λ (x : Placed). x.level)) (placed_of-upto level w.placed r.0 r.1 right.orderly.apart r.2 le) ∙ ap Some (r.4 ∙ sym d);
               })
         ],
       )
-
--- the level to go back to
-pub back-none : (m : ℕ → Bool) (ps : List Placed) (at : ℕ) → NoneMarked m ps 0 at → IsBackLevel m ps at 0
-back-none m ps at n = record { bound = λ k p lt e t. absurd (false≢true (sym (n k p (omega arith) lt e) ∙ t)); attained = inl refl }
-
-pub back-some : (w : WatchValue) (right : IsWatch w.vars w.clauses w.placed) (m : ℕ → Bool) (at before : ℕ) (p : Placed) → IsLastMarked m w.placed at (Some before) → slice_get w.placed before ≡ Some p → IsBackLevel m w.placed at p.level
-back-some w right m at before p last f =
-    let same : last.0 ≡ p = same_Some last.0 p (sym last.1 ∙ f) in record {
-      bound = λ k q lt e t.
-          elim (cases_lt k before) [
-            | inl lo ↦ let r = levels-rise 0 w.placed k before q p right.orderly.levels lo e f in omega (arith, r)
-            | inr ge ↦ elim (cases_lt before k) [
-              | inl hi ↦ absurd (false≢true (sym (last.4 k q (omega arith) lt e) ∙ t))
-              | inr le ↦ let y : k ≡ before = omega arith in let n : q.level ≡ p.level = ap (λ (x : Placed). x.level) (same_Some q p (sym e ∙ ap (slice_get w.placed) y ∙ f)) in omega (arith, n)
-            ]
-          ];
-      attained = inr (before, p, last.2, f, subst (λ (x : Placed). m (var_of x.lit) ≡ true) same last.3, refl);
-    }
-
--- one more marked literal
-take-place-more : (ps : List Placed) (i : ℕ) (p : Placed) → slice_get ps i ≡ Some p → take (suc i) ps ≡ take i ps ++ p ∷ []
-take-place-more [] i p e = absurd (none-some p e)
-take-place-more (q ∷ ps) zero p e = ap (λ x. x ∷ []) (same_Some q p e)
-take-place-more (q ∷ ps) (suc i) p e = ap (λ xs. q ∷ xs) (take-place-more ps i p e)
-
-falsified-next : (m : ℕ → Bool) (ps : List Placed) (i : ℕ) (p : Placed) → slice_get ps i ≡ Some p → falsified m (take (i + 1) ps) ≡ falsified m (take i ps) ++ falsified m (p ∷ [])
-falsified-next m ps i p e = rw add-one (ap (falsified m) (take-place-more ps i p e) ∙ falsified-push m (take i ps) p)
-
-pub falsified-marked : (m : ℕ → Bool) (ps : List Placed) (i : ℕ) (p : Placed) (old new : List Lit) → slice_get ps i ≡ Some p → m (var_of p.lit) ≡ true → old ≡ falsified m (take i ps) → new ≡ old ++ negation p.lit ∷ [] → new ≡ falsified m (take (i + 1) ps)
-falsified-marked m ps i p old new e t a b = b ∙ ap (λ xs. xs ++ negation p.lit ∷ []) a ∙ sym (falsified-next m ps i p e ∙ rw t refl)
-
-pub falsified-passed : (m : ℕ → Bool) (ps : List Placed) (i : ℕ) (p : Placed) (old : List Lit) → slice_get ps i ≡ Some p → m (var_of p.lit) ≡ false → old ≡ falsified m (take i ps) → old ≡ falsified m (take (i + 1) ps)
-falsified-passed m ps i p old e f a = a ∙ sym (falsified-next m ps i p e ∙ rw f (append-nil (falsified m (take i ps))))
 
 pub length-lits : (ps : List Placed) (ls : List Lit) → ls ≡ lits_of ps → length ls ≡ length ps
 length-lits ps ls e = ap length e ∙ go ps

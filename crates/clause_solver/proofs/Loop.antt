@@ -83,8 +83,8 @@ spends s t u a budget r h lt watch log inputs bits given model learnt marks =
     let clauses : u.watch.clauses ≡ t.watch.clauses = ap (λ (w : WatchValue). w.clauses) watch in
     let vars : u.watch.vars ≡ t.watch.vars = ap (λ (w : WatchValue). w.vars) watch in
     let count : u.learnt ≡ t.learnt + 0 = omega (arith, learnt) in
-    let len : length u.marks.items ≡ length t.marks.items = rw marks refl in
-    let unmarked : AreClear u.marks.items = rw marks h.search.unmarked in (
+    let len : length u.marks ≡ length t.marks = rw marks refl in
+    let unmarked : AreClear u.marks = rw marks h.search.unmarked in (
       (
         Adds-trans (value_of false s) (value_of false t) (value_of false u) None (Some line.Spent) h.adds
             (adds-last t u None line.Spent None h.search h.open_log clauses vars log inputs bits given model count len unmarked),

@@ -1,5 +1,5 @@
 -- Marks on a table.
-use Rattle.std.proofs.Common.{◌≡◌, ℕ, ◌+◌, ◌<◌, ◌≤◌, Bool, true, false, not, ◌&&◌, ◌||◌, eqb, List, [], ◌∷◌, ◌++◌, length, get_or, take, drop, set, Some, inl, inr, refl, sym, ap, ◌∙◌, subst, arith}
+use Rattle.std.proofs.Common.{◌≡◌, ℕ, zero, suc, ◌+◌, ◌<◌, ◌≤◌, Bool, true, false, ◌||◌, eqb, List, [], ◌∷◌, ◌++◌, length, get_or, take, drop, set, replicate, Some, inl, inr, refl, sym, ap, ◌∙◌, subst, arith}
 use Rattle.std.specs.Prelude.{slice_get}
 use Rattle.std.proofs.lemmas.Bool.{cases_eq, cases_lt, eq-eqb, ne_eqb}
 use Rattle.std.proofs.lemmas.List.{get_or-set_same, get_or-set_other, take_more, take_all, drop_more}
@@ -8,17 +8,13 @@ use Rattle.clause_store.specs.declared.Lit.{Lit}
 use Rattle.clause_store.specs.Lits.{var_of, AllBelow}
 use Rattle.proof_log.specs.Known.{has_var}
 use Rattle.clause_watch.specs.declared.trail.Placed.{Placed}
-use Rattle.clause_solver.specs.Marks.{mark_at, AreMarked, AreUnmarked, NoneMarked}
+use Rattle.clause_solver.specs.Marks.{mark_at, AreMarked, AreClear, NoneMarked}
 
 or-false : (b : Bool) → b ≡ (b || false)
 or-false true = refl
 or-false false = refl
 
-and-true : (b : Bool) → b ≡ (b && true)
-and-true true = refl
-and-true false = refl
-
-has_var-push : (ls : List Lit) (l : Lit) (x : ℕ) → has_var (ls ++ l ∷ []) x ≡ (has_var ls x || eqb (var_of l) x)
+pub has_var-push : (ls : List Lit) (l : Lit) (x : ℕ) → has_var (ls ++ l ∷ []) x ≡ (has_var ls x || eqb (var_of l) x)
 has_var-push [] l x = sym (or-false (eqb (var_of l) x))
 has_var-push (k ∷ ls) l x = ap (λ b. eqb (var_of k) x || b) (has_var-push ls l x) ∙ or-assoc (eqb (var_of k) x) (has_var ls x) (eqb (var_of l) x)
   where
@@ -48,31 +44,11 @@ module _ (ls : List Lit) (i : ℕ) (d : Lit) (new : List Bool) (h : i < length l
       two-true false true = refl
       two-true false false = refl
 
-  pub AreUnmarked-more : (old : List Bool) → AreUnmarked old new (take i ls) → AreUnmarked old (set new (var_of l) false) (take (i + 1) ls)
-  AreUnmarked-more old a x =
-      elim (cases_eq (var_of l) x) [
-        | inl e ↦ subst (λ y. mark_at (set new (var_of l) false) y ≡ (mark_at old y && not (has_var (take (i + 1) ls) y))) e
-            (get_or-set_same new (var_of l) false false b ∙ sym (rw (front (var_of l), eq-eqb (var_of l) (var_of l) refl) (two-false (mark_at old (var_of l)) (has_var (take i ls) (var_of l)))))
-        | inr ne ↦ get_or-set_other new (var_of l) x false false (λ e. ne (sym e)) ∙ a x
-            ∙ sym (rw (front x, ne_eqb (var_of l) x ne) (ap (λ c. mark_at old x && not c) (sym (or-false (has_var (take i ls) x)))))
-      ]
-    where
-      two-false : (a b : Bool) → (a && not (b || true)) ≡ false
-      two-false true true = refl
-      two-false true false = refl
-      two-false false b = refl
-
 pub AreMarked-none : (marks : List Bool) → AreMarked marks marks []
 AreMarked-none marks x = or-false (mark_at marks x)
 
-pub AreUnmarked-none : (marks : List Bool) → AreUnmarked marks marks []
-AreUnmarked-none marks x = and-true (mark_at marks x)
-
 pub AreMarked-all : (old new : List Bool) (ls : List Lit) (i : ℕ) → length ls ≤ i → AreMarked old new (take i ls) → AreMarked old new ls
 AreMarked-all old new ls i h a = subst (AreMarked old new) (take_all i ls h) a
-
-pub AreUnmarked-all : (old new : List Bool) (ls : List Lit) (i : ℕ) → length ls ≤ i → AreUnmarked old new (take i ls) → AreUnmarked old new ls
-AreUnmarked-all old new ls i h a = subst (AreUnmarked old new) (take_all i ls h) a
 
 pub AllBelow-head : (n i : ℕ) (ls : List Lit) (d : Lit) → i < length ls → AllBelow n (drop i ls) → var_of (get_or ls i d) < n
 AllBelow-head n i ls d h b = (subst (AllBelow n) (drop_more ls i d h) b).0
@@ -81,7 +57,7 @@ pub AllBelow-next : (n i : ℕ) (ls : List Lit) (d : Lit) → i < length ls → 
 AllBelow-next n i ls d h b = (subst (AllBelow n) (drop_more ls i d h) b).1
 
 -- a literal, where any will do
-pub some_lit : Lit
+abbrev pub some_lit : Lit
 some_lit = record { var = record { 0 = 0 }; positive = false }
 
 -- nothing is marked where the walk down has passed
@@ -91,3 +67,8 @@ NoneMarked-more m ps at end p e f h k q lo hi g =
       | inl lt ↦ h k q (omega arith) hi g
       | inr ge ↦ let same : k ≡ at = omega arith in subst (λ (r : Placed). m (var_of r.lit) ≡ false) (same_Some p q (sym e ∙ ap (slice_get ps) (sym same) ∙ g)) f
     ]
+
+pub clear-replicate : (n : ℕ) → AreClear (replicate n false)
+clear-replicate zero x = refl
+clear-replicate (suc n) zero = refl
+clear-replicate (suc n) (suc x) = clear-replicate n x

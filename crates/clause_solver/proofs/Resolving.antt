@@ -117,22 +117,27 @@ Leads-start : (known : List (List Lit)) (a b r : List Lit) (ids : List ℕ) → 
 Leads-start known a b r [] s h = λ l. s l ∙ h l
 Leads-start known a b r (i ∷ ids) s h = (h.0, h.1, h.2, h.3, IsResolvent-same b a h.0 h.1 h.2 (λ l. sym (s l)) h.4, h.5)
 
--- a false clause is the clause of its marks
-marks-of : (m : ℕ → Bool) (ps : List Placed) (c : List Lit) → IsConsistent (lits_of ps) → IsFalse ps c → ((x : ℕ) → m x ≡ has_var c x) → SameLits c (falsified m ps)
-marks-of m ps c consistent f e l = iff-same (has c l) (has (falsified m ps) l)
-    (λ h. falsified-from m ps l (e (var_of l) ∙ has-var c l h) (f l h))
+-- false literals that are marked are the clause of the marks, if each marked variable with a value stands among them
+pub falsified-same : (m : ℕ → Bool) (ps : List Placed) (c : List Lit) → IsConsistent (lits_of ps) → ((l : Lit) → has c l ≡ true → (m (var_of l) ≡ true) × (has (lits_of ps) (negation l) ≡ true)) →
+    ((x : ℕ) → m x ≡ true → has_var (lits_of ps) x ≡ true → has_var c x ≡ true) → SameLits c (falsified m ps)
+falsified-same m ps c consistent sound full l = iff-same (has c l) (has (falsified m ps) l)
+    (λ h. let a = sound l h in falsified-from m ps l a.0 a.1)
     (λ h.
     let a = falsified-parts m ps l h in
-    let k = has_var-lit c (var_of l) (sym (e (var_of l)) ∙ a.0) in
+    let k = has_var-lit c (var_of l) (full (var_of l) a.0 (has-var (lits_of ps) (negation l) a.1)) in
     elim (same_or_opposite l k.0 (sym k.2)) [
       | inl q ↦ rw q k.1
-      | inr q ↦ absurd (consistent (negation l) a.1 (ap (λ x. has (lits_of ps) (negation x)) (sym q) ∙ f k.0 k.1))
+      | inr q ↦ absurd (consistent (negation l) a.1 (ap (λ x. has (lits_of ps) (negation x)) (sym q) ∙ (sound k.0 k.1).1))
     ])
   where
     iff-same : (x y : Bool) → (x ≡ true → y ≡ true) → (y ≡ true → x ≡ true) → x ≡ y
     iff-same true y f g = sym (f refl)
     iff-same false true f g = g refl
     iff-same false false f g = refl
+
+-- so a false clause is the clause of its marks
+marks-of : (m : ℕ → Bool) (ps : List Placed) (c : List Lit) → IsConsistent (lits_of ps) → IsFalse ps c → ((x : ℕ) → m x ≡ has_var c x) → SameLits c (falsified m ps)
+marks-of m ps c consistent f e = falsified-same m ps c consistent (λ l h. (e (var_of l) ∙ has-var c l h, f l h)) (λ x t o. sym (e x) ∙ t)
 
 -- so what the marks leave is derived by the false clause's id and the ids of the reasons
 pub marks-derive : (known : List (List Lit)) (ps : List Placed) (old new : ℕ → Bool) (id : ℕ) (c stated : List Lit) (ids : List ℕ) → at_id known id ≡ Some c → IsConsistent (lits_of ps) → IsFalse ps c → ((x : ℕ) → old x ≡ has_var c x) →

@@ -1,5 +1,5 @@
 -- A solver at first.
-use Rattle.std.proofs.Common.{◌≡◌, ℕ, zero, suc, false, List, [], ◌∷◌, ◌++◌, length, take, replicate, refl, sym, ap, ◌∙◌, subst, arith}
+use Rattle.std.proofs.Common.{◌≡◌, ℕ, suc, false, List, [], ◌∷◌, ◌++◌, length, take, refl, sym, ap, ◌∙◌, subst, arith}
 use Rattle.std.proofs.lemmas.List.{take_all}
 use Rattle.clause_store.specs.declared.list.Entry.{Entry}
 use Rattle.clause_store.specs.Clauses.{Clauses, clauses_of}
@@ -31,7 +31,7 @@ module _ (s : Clauses) (bits : ℕ) (t : Search) (watch : ◌≡◌ {A = WatchVa
   pub value-start : value_of false t ≡ start_of s bits
   value-start = rw (watch, log, inputs, same, given, model) (let e : take (length s.entries) (clauses_of s.entries) ≡ clauses_of s.entries = take_all (length s.entries) (clauses_of s.entries) (omega (arith, length-clauses s.entries)) in rw e refl)
 
-  pub search-start : length t.marks.items ≡ s.vars → AreClear t.marks.items → IsSearch t
+  pub search-start : length t.marks ≡ s.vars → AreClear t.marks → IsSearch t
   search-start marks unmarked = record {
     log = subst IsLogOf (sym value-start) (IsLogOf-start s bits);
     inputs = rw (inputs, watch) (omega (arith, length-clauses s.entries));
@@ -42,8 +42,3 @@ module _ (s : Clauses) (bits : ℕ) (t : Search) (watch : ◌≡◌ {A = WatchVa
 
 pub header-is : (old new : List Line) (v w n m bits : ℕ) → old ≡ [] → new ≡ old ++ line.Header v n bits ∷ [] → v ≡ w → n ≡ m → new ≡ line.Header w m bits ∷ []
 header-is old new v w n m bits a b e f = b ∙ rw (a, e, f) refl
-
-pub clear-replicate : (n : ℕ) → AreClear (replicate n false)
-clear-replicate zero x = refl
-clear-replicate (suc n) zero = refl
-clear-replicate (suc n) (suc x) = clear-replicate n x

@@ -1,5 +1,5 @@
 -- What the steps of the search do.
-use Rattle.std.proofs.Common.{◌≡◌, ℕ, ◌+◌, min, Bool, List, [], ◌∷◌, ◌++◌, length, take, drop, Option, Some, None, ◌⊎◌, inl, inr, refl, sym, ap, ◌∙◌, subst, length-append, arith}
+use Rattle.std.proofs.Common.{◌≡◌, ℕ, ◌+◌, min, List, [], ◌∷◌, ◌++◌, length, Option, Some, None, ◌⊎◌, inl, inr, refl, sym, ap, ◌∙◌, subst, length-append, arith}
 use Rattle.std.specs.Prelude.{slice_get}
 use Rattle.std.specs.Option.{option_map}
 use Rattle.clause_store.specs.declared.Lit.{Lit}
@@ -16,7 +16,6 @@ use Rattle.clause_solver.specs.declared.analysis.Lesson.{Lesson}
 use Rattle.clause_solver.specs.Marks.{AreClear}
 use Rattle.clause_solver.specs.Lessons.{IsLesson}
 use Rattle.clause_solver.specs.Searches.{IsSearch, Taught, IsClosed, IsFixed}
-use Rattle.std.proofs.lemmas.List.{append-nil, take_all, drop_all}
 use Rattle.clause_solver.proofs.Growing.{search-grown, adds-learnt, adds-last}
 use Rattle.proof_log.proofs.GrowingLaws.{get-given}
 
@@ -26,7 +25,7 @@ one-longer g l = length-append g (l ∷ [])
 -- `fix`
 pub fixed : (s t : Search) (bit id : ℕ) (l : Lit) → IsSearch s → IsOpen s.log → bit ≡ length s.given.items → id ≡ length s.watch.clauses + 1 →
     t.watch.clauses ≡ s.watch.clauses ++ (negation l ∷ []) ∷ [] → t.watch.vars ≡ s.watch.vars → t.log ≡ s.log ++ line.Zero id bit ∷ [] → t.inputs ≡ s.inputs → t.bits ≡ s.bits →
-    t.given.items ≡ s.given.items ++ l ∷ [] → t.learnt ≡ s.learnt → t.model.items ≡ s.model.items → length t.marks.items ≡ length s.marks.items → AreClear t.marks.items → IsFixed s t bit l
+    t.given.items ≡ s.given.items ++ l ∷ [] → t.learnt ≡ s.learnt → t.model.items ≡ s.model.items → length t.marks ≡ length s.marks → AreClear t.marks → IsFixed s t bit l
 fixed s t bit id l i o b n clauses vars log inputs bits given learnt model marks unmarked =
     let get = λ (more : List Lit). get-given s.given.items more l in
     let c : Option (List Lit) = Some (negation l ∷ []) in
@@ -43,7 +42,7 @@ fixed s t bit id l i o b n clauses vars log inputs bits given learnt model marks
 -- `close`
 pub closed-all : (s t : Search) (chain : List ℕ) → IsSearch s → IsOpen s.log → IsDerived s.watch.clauses chain [] →
     t.watch.clauses ≡ s.watch.clauses → t.watch.vars ≡ s.watch.vars → t.log ≡ s.log ++ line.Unsat chain ∷ [] → t.inputs ≡ s.inputs → t.bits ≡ s.bits →
-    t.given.items ≡ s.given.items → t.model.items ≡ s.model.items → t.learnt ≡ s.learnt → length t.marks.items ≡ length s.marks.items → AreClear t.marks.items → IsClosed s t None
+    t.given.items ≡ s.given.items → t.model.items ≡ s.model.items → t.learnt ≡ s.learnt → length t.marks ≡ length s.marks → AreClear t.marks → IsClosed s t None
 closed-all s t chain i o d clauses vars log inputs bits given model learnt marks unmarked =
     let count : t.learnt ≡ s.learnt + 0 = omega (arith, learnt) in record {
       search = search-grown s t None (line.Unsat chain) None i o clauses vars log inputs bits given model count marks unmarked (omega arith) (λ more. d) tt (λ more. refl);
@@ -54,7 +53,7 @@ closed-all s t chain i o d clauses vars log inputs bits given model learnt marks
 
 pub closed-bit : (s t : Search) (bit id : ℕ) (l : Lit) (chain : List ℕ) → IsSearch s → IsOpen s.log → bit ≡ length s.given.items → id ≡ length s.watch.clauses + 1 → IsDerived s.watch.clauses chain (l ∷ []) →
     t.watch.clauses ≡ s.watch.clauses ++ (l ∷ []) ∷ [] → t.watch.vars ≡ s.watch.vars → t.log ≡ s.log ++ line.One id bit chain ∷ [] → t.inputs ≡ s.inputs → t.bits ≡ s.bits →
-    t.given.items ≡ s.given.items ++ l ∷ [] → t.model.items ≡ s.model.items → t.learnt ≡ s.learnt → length t.marks.items ≡ length s.marks.items → AreClear t.marks.items → IsClosed s t (Some (bit, l))
+    t.given.items ≡ s.given.items ++ l ∷ [] → t.model.items ≡ s.model.items → t.learnt ≡ s.learnt → length t.marks ≡ length s.marks → AreClear t.marks → IsClosed s t (Some (bit, l))
 closed-bit s t bit id l chain i o b n d clauses vars log inputs bits given model learnt marks unmarked =
     let get = λ (more : List Lit). get-given s.given.items more l in
     let c : Option (List Lit) = Some (l ∷ []) in
@@ -68,10 +67,10 @@ closed-bit s t bit id l chain i o b n d clauses vars log inputs bits given model
     }
 
 -- `teach`
-pub taught : (s t : Search) (lesson : Lesson) (id : ℕ) → IsSearch s → IsOpen s.log → IsLesson s.watch lesson → id ≡ length s.watch.clauses + 1 →
-    t.watch ≡ watches.with_known (back s.watch lesson.level) lesson.clause → t.log ≡ s.log ++ line.Learnt id lesson.clause lesson.chain ∷ [] → t.inputs ≡ s.inputs → t.bits ≡ s.bits →
-    t.given.items ≡ s.given.items → t.model.items ≡ s.model.items → t.learnt ≡ s.learnt + 1 → length t.marks.items ≡ length s.marks.items → AreClear t.marks.items → Taught s t
-taught s t lesson id i o h n watch log inputs bits given model learnt marks unmarked =
+pub taught : (s t : Search) (lesson : Lesson) (id level : ℕ) → IsSearch s → IsOpen s.log → IsLesson s.watch lesson → id ≡ length s.watch.clauses + 1 →
+    t.watch ≡ watches.with_known (back s.watch level) lesson.clause → t.log ≡ s.log ++ line.Learnt id lesson.clause lesson.chain ∷ [] → t.inputs ≡ s.inputs → t.bits ≡ s.bits →
+    t.given.items ≡ s.given.items → t.model.items ≡ s.model.items → t.learnt ≡ s.learnt + 1 → length t.marks ≡ length s.marks → AreClear t.marks → Taught s t
+taught s t lesson id level i o h n watch log inputs bits given model learnt marks unmarked =
     let l = line.Learnt id lesson.clause lesson.chain in
     let c : Option (List Lit) = Some lesson.clause in
     let clauses : t.watch.clauses ≡ s.watch.clauses ++ lesson.clause ∷ [] = ap (λ (w : WatchValue). w.clauses) watch in
@@ -80,18 +79,15 @@ taught s t lesson id i o h n watch log inputs bits given model learnt marks unma
       adds = adds-learnt s t None l c i o clauses vars log inputs bits given model learnt marks unmarked refl refl;
       open_log = subst IsOpen (sym log) (IsOpen-push s.log l o refl);
       count = rw log (learnt_in-push s.log l);
-      level = lesson.level;
+      level = level;
       placed = ap (λ (w : WatchValue). w.placed) watch;
     }
 
--- where the learnt clause is added
-pub lesson-addable : (w v : WatchValue) (lesson : Lesson) → IsLesson w lesson → v ≡ back w lesson.level → decisions v.placed ≡ min (decisions w.placed) lesson.level → (decisions v.placed ≡ 0) ⊎ IsAddable v.placed lesson.clause
-lesson-addable w v lesson h e d =
+-- where the learnt clause is added: at its level, or at level 0
+pub lesson-addable : (w v : WatchValue) (lesson : Lesson) (level : ℕ) → IsLesson w lesson → (level ≡ lesson.level) ⊎ (level ≡ 0) → v ≡ back w level → decisions v.placed ≡ min (decisions w.placed) level → (decisions v.placed ≡ 0) ⊎ IsAddable v.placed lesson.clause
+lesson-addable w v lesson level h (inr z) e d = inl (omega (arith, d, z))
+lesson-addable w v lesson level h (inl same) e d =
     elim h.addable [
-      | inl z ↦ inl (omega (arith, d, z))
-      | inr a ↦ inr (subst (λ (u : WatchValue). IsAddable u.placed lesson.clause) (sym e) a)
+      | inl z ↦ inl (omega (arith, d, same, z))
+      | inr a ↦ inr (subst (λ (u : WatchValue). IsAddable u.placed lesson.clause) (sym (e ∙ ap (back w) same)) a)
     ]
-
--- a vector that was lent as a slice
-pub refilled : (n : ℕ) (ws items : List Bool) → n ≡ length items → length ws ≡ length items → take n (ws ++ drop (length ws) items) ≡ ws
-refilled n ws items a b = ap (λ xs. take n (ws ++ xs)) (drop_all (length ws) items (omega arith)) ∙ ap (take n) (append-nil ws) ∙ take_all n ws (omega arith)

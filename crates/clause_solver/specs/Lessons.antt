@@ -1,5 +1,5 @@
 -- What the analysis of a conflict gives.
-use Rattle.std.specs.Prelude.{◌≡◌, ◌⊎◌, ℕ, ◌+◌, ◌<◌, ◌≤◌, Bool, true, List, ◌++◌, Some, None, length, take, slice_get}
+use Rattle.std.specs.Prelude.{◌≡◌, ◌⊎◌, ℕ, ◌+◌, ◌<◌, ◌≤◌, Bool, true, List, ◌++◌, Option, Some, None, length, take, slice_get}
 use Rattle.clause_store.specs.declared.Lit.{Lit}
 use Rattle.clause_store.specs.Lits.{var_of, negation, has, AllBelow, IsClause}
 use Rattle.clause_store.specs.Clauses.{at_id}
@@ -42,6 +42,18 @@ pub record GoesBack (w : WatchValue) (old new : List Bool) (chain longer : List 
   pub back : GoneBack w old new chain longer at
   pub alone : (k : ℕ) (p : Placed) → k < at → slice_get w.placed k ≡ Some p → mark_at new (var_of p.lit) ≡ true → p.level < decisions w.placed
 
+-- at some place
+abbrev pub LeadsBack : WatchValue → List Bool → List Bool → List ℕ → List ℕ → Type 0
+LeadsBack w old new chain longer = (at : ℕ) × GoesBack w old new chain longer at
+
+-- what leads back still does after some more steps
+abbrev pub KeepsBack : WatchValue → List Bool → List Bool → List ℕ → List ℕ → Type 0
+KeepsBack w before after chain longer = (old : List Bool) (first : List ℕ) → LeadsBack w old before first chain → LeadsBack w old after first longer
+
+-- the clause of the id gives the literal's variable its value at level 0
+abbrev pub IsLowReason : List Placed → Lit → ℕ → Type 0
+IsLowReason ps l id = (k : ℕ) × (p : Placed) × (slice_get ps k ≡ Some p) × (var_of p.lit ≡ var_of l) × (p.level ≡ 0) × (p.reason ≡ Some id)
+
 -- a trail that agrees below a place; what has no reason there, or stands from there on, has its negation in a clause
 abbrev pub Leaves : ℕ → List Placed → List Lit → Type 0
 Leaves end ps stated = (k : ℕ) (p : Placed) → slice_get ps k ≡ Some p → (k < end → p.reason ≡ None) → has stated (negation p.lit) ≡ true
@@ -61,10 +73,15 @@ pub record IsResolving (w : WatchValue) (old new : List Bool) (chain longer : Li
   pub low : at ≤ end
   pub same : length new ≡ length old
 
--- the highest level of a marked literal below a place, and 0 where there is none
-pub record IsBackLevel (m : ℕ → Bool) (ps : List Placed) (at level : ℕ) : Type 0 where
-  pub bound : (k : ℕ) (p : Placed) → k < at → slice_get ps k ≡ Some p → m (var_of p.lit) ≡ true → p.level ≤ level
-  pub attained : (level ≡ 0) ⊎ ((k : ℕ) × (p : Placed) × (k < at) × (slice_get ps k ≡ Some p) × (m (var_of p.lit) ≡ true) × (p.level ≡ level))
+-- the level of a literal's variable, if it is below the present one
+abbrev pub IsLevelBelow : List Placed → Lit → Option ℕ → Type 0
+IsLevelBelow ps l None = (k : ℕ) (p : Placed) → slice_get ps k ≡ Some p → var_of p.lit ≡ var_of l → p.level < decisions ps → ⊥
+IsLevelBelow ps l (Some v) = (k : ℕ) × (p : Placed) × (slice_get ps k ≡ Some p) × (var_of p.lit ≡ var_of l) × (p.level ≡ v) × (v < decisions ps)
+
+-- the highest level below the present one that a variable of a clause has, and 0 where there is none
+pub record IsBackLevel (ps : List Placed) (c : List Lit) (level : ℕ) : Type 0 where
+  pub bound : (k : ℕ) (p : Placed) → slice_get ps k ≡ Some p → has_var c (var_of p.lit) ≡ true → p.level < decisions ps → p.level ≤ level
+  pub attained : (level ≡ 0) ⊎ ((k : ℕ) × (p : Placed) × (slice_get ps k ≡ Some p) × (has_var c (var_of p.lit) ≡ true) × (p.level ≡ level) × (level < decisions ps))
 
 -- a clause that the chain derives and unit propagation does not give, to be added at the level
 pub record IsLesson (w : WatchValue) (lesson : Lesson) : Type 0 where

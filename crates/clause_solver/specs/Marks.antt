@@ -1,11 +1,12 @@
 -- Marks on variables, as the analysis of a conflict sets them.
-use Rattle.std.specs.Prelude.{◌≡◌, ℕ, ◌+◌, ◌<◌, ◌≤◌, Bool, true, false, not, ◌||◌, ◌&&◌, ◌==◌, List, [], ◌∷◌, Option, Some, None, slice_get, slice_index_or, if◌then◌else◌}
+use Rattle.std.specs.Prelude.{◌≡◌, ℕ, ◌+◌, ◌<◌, ◌≤◌, Bool, true, false, not, ◌||◌, ◌&&◌, ◌==◌, length, List, [], ◌∷◌, Option, Some, None, slice_get, slice_index_or, if◌then◌else◌}
 use Rattle.clause_store.specs.declared.Lit.{Lit}
-use Rattle.clause_store.specs.Lits.{var_of, negation, SameLits}
+use Rattle.clause_store.specs.Lits.{var_of, negation, has, SameLits}
 use Rattle.clause_store.specs.Clauses.{at_id}
 use Rattle.proof_log.specs.Known.{has_var}
 use Rattle.proof_log.specs.Derivations.{IsResolvent}
 use Rattle.clause_watch.specs.declared.trail.Placed.{Placed}
+use Rattle.clause_watch.specs.Trails.{lits_of}
 
 abbrev pub mark_at : List Bool → ℕ → Bool
 mark_at marks x = slice_index_or marks x false
@@ -13,11 +14,13 @@ mark_at marks x = slice_index_or marks x false
 abbrev pub AreMarked : List Bool → List Bool → List Lit → Type 0
 AreMarked old new ls = (x : ℕ) → mark_at new x ≡ (mark_at old x || has_var ls x)
 
-abbrev pub AreUnmarked : List Bool → List Bool → List Lit → Type 0
-AreUnmarked old new ls = (x : ℕ) → mark_at new x ≡ (mark_at old x && not (has_var ls x))
-
 abbrev pub AreClear : List Bool → Type 0
 AreClear marks = (x : ℕ) → mark_at marks x ≡ false
+
+-- each marked variable is listed, and what is listed is a variable
+pub record AreListed (table : List Bool) (listed : List ℕ) : Type 0 where
+  pub below : (j x : ℕ) → slice_get listed j ≡ Some x → x < length table
+  pub has : (x : ℕ) → mark_at table x ≡ true → (j : ℕ) × (slice_get listed j ≡ Some x)
 
 -- no variable is marked from one place to another
 abbrev pub NoneMarked : (ℕ → Bool) → List Placed → ℕ → ℕ → Type 0
@@ -31,6 +34,11 @@ IsLastMarked m ps end (Some j) = (p : Placed) × (slice_get ps j ≡ Some p) × 
 abbrev pub falsified : (ℕ → Bool) → List Placed → List Lit
 falsified m [] = []
 falsified m (p ∷ ps) = if m (var_of p.lit) then negation p.lit ∷ falsified m ps else falsified m ps
+
+-- the false literal of a variable that is marked and has a value
+abbrev pub IsFalseLit : (ℕ → Bool) → List Placed → ℕ → Option Lit → Type 0
+IsFalseLit m ps x None = m x ≡ true → has_var (lits_of ps) x ≡ false
+IsFalseLit m ps x (Some l) = (var_of l ≡ x) × (m x ≡ true) × (has (lits_of ps) (negation l) ≡ true)
 
 -- a literal's mark is taken away, and the other variables of its reason are marked
 abbrev pub marks_after : (ℕ → Bool) → Lit → List Lit → ℕ → Bool

@@ -33,8 +33,8 @@ pub record IsSearch (s : Search) : Type 0 where
   pub log : IsLogOf (value_of false s)
   pub inputs : s.inputs ≤ length s.watch.clauses
   pub learnt : s.learnt ≡ learnt_in s.log
-  pub marks : length s.marks.items ≡ s.watch.vars
-  pub unmarked : AreClear s.marks.items
+  pub marks : length s.marks ≡ s.watch.vars
+  pub unmarked : AreClear s.marks
 
 -- above level 0 the assumed literal is false from level 1 on
 abbrev pub IsAssumed : List Placed → Option (ℕ × Lit) → Type 0

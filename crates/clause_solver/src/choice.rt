@@ -29,12 +29,32 @@ fn active(watch: &Watch, order: &mut Order) -> Option<usize>
     None
 }
 
-/// A variable without value, with its last one: the most active of those that wait, or else the lowest.
-pub fn choose(watch: &Watch, order: &mut Order) -> Option<Lit>
+/// The negation of the first of some literals that has no value.
+fn negated_first(watch: &Watch, first: &[Lit]) -> Option<Lit>
+    ensures in_range { IfSome result (λ l. var_of l < watch.now.vars) }
+    ensures free { IfSome result (λ l. has_var (lits_of watch.now.placed) (var_of l) ≡ false) }
+{
+    for lit in first {
+        if (lit.var.0 as usize) < watch.vars() {
+            match watch.value(lit.var) {
+                Some(_) => {}
+                None => return Some(lit.negated()),
+            }
+        }
+    }
+    None
+}
+
+/// The negation of the first of some literals without value; or else a variable without value, with its last one: the most
+/// active of those that wait, or the lowest.
+pub fn choose(watch: &Watch, order: &mut Order, first: &[Lit]) -> Option<Lit>
     ensures in_range { IfSome result (λ l. var_of l < watch.now.vars) }
     ensures free { IfSome result (λ l. has_var (lits_of watch.now.placed) (var_of l) ≡ false) }
     ensures none { IfNone result (HaveValues watch.now.placed watch.now.vars) }
 {
+    if let Some(lit) = negated_first(watch, first) {
+        return Some(lit);
+    }
     if let Some(x) = active(watch, order) {
         let positive = order.phase(x);
         return Some(Lit {
@@ -62,8 +82,8 @@ pub enum Move {
     Finish,
 }
 
-/// The assumed literal is decided first, at false.
-pub fn next(watch: &Watch, order: &mut Order, assumption: Option<(u64, Lit)>) -> Move
+/// The assumed literal is decided before all others, at false.
+pub fn next(watch: &Watch, order: &mut Order, first: &[Lit], assumption: Option<(u64, Lit)>) -> Move
     requires in_range { IsOver watch.now.vars assumption }
     requires assumed { IsAssumed watch.now.placed assumption }
     ensures { IsNext watch.now.placed watch.now.vars assumption result }
@@ -79,7 +99,7 @@ pub fn next(watch: &Watch, order: &mut Order, assumption: Option<(u64, Lit)>) ->
             }
         }
     }
-    match choose(watch, order) {
+    match choose(watch, order, first) {
         Some(lit) => Move::Decide(lit),
         None => Move::Finish,
     }

@@ -5,14 +5,15 @@
 //! stands on the contract of `clause_watch` and on `proof_log`. It must not know which bits there are to
 //! come, nor what a model is for.
 //!
-//! `analysis` and `marks` learn from a false clause, `choice` decides, `search` goes round, and `solver`
-//! keeps what callers see. None of them knows how the watch finds clauses.
+//! `analysis` and `marks` learn from a false clause, `pace` begins again, `choice` decides, `search` goes
+//! round, and `solver` keeps what callers see. None of them knows how the watch finds clauses.
 #![tactic(auto)]
 
 mod analysis;
 mod choice;
 mod marks;
 mod outcome;
+mod pace;
 mod search;
 mod solver;
 

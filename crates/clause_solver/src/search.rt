@@ -16,9 +16,12 @@ ghost use Rattle.proof_log.specs.Usefulness.{IsSettled};
 use crate::Outcome;
 use crate::analysis::{Lesson, learn, refute};
 use crate::choice::{Move, go_back, is_closing, next, values_of};
+use crate::marks::Marks;
+use crate::pace::Pace;
 use activity_order::Order;
 use clause_store::{Clause, Lit, Var};
 use clause_watch::Watch;
+use plain_data::List;
 use proof_log::{Line, Log};
 use std::alloc::{AllocError, Global};
 
@@ -39,13 +42,17 @@ pub struct Search {
     /// The last model.
     pub model: Vec<bool>,
     /// The marks of the analysis, none between two calls.
-    pub marks: Vec<bool>,
+    pub marks: Marks,
     /// Which variable is decided next.
     pub order: Order,
+    /// When the search begins again.
+    pub pace: Pace,
+    /// What is decided before all else, at false.
+    pub first: List<Lit>,
 }
 
 impl Search {
-    /// Learns from a false clause above level 0, and goes back.
+    /// Learns from a false clause above level 0, and goes back, at times to the begin.
     fn teach(&mut self, conflict: u64) -> Result<(), AllocError>
         requires right { IsWatch self.old.watch.vars self.old.watch.clauses self.old.watch.placed }
         requires search { IsSearch self.old }
@@ -61,12 +68,13 @@ impl Search {
         } = learn(
             self.alloc,
             &self.watch,
-            self.marks.as_mut_slice(),
+            &mut self.marks,
             &mut self.order,
             conflict,
         )?;
         self.order.fade();
-        go_back(&mut self.watch, &mut self.order, level);
+        let back = self.pace.level(level);
+        go_back(&mut self.watch, &mut self.order, back);
         let id = self.watch.next_id();
         self.watch.add(&clause)?;
         self.log.push(Line::Learnt { id, clause, chain })?;
@@ -94,7 +102,7 @@ impl Search {
         let chain = refute(
             self.alloc,
             &self.watch,
-            self.marks.as_mut_slice(),
+            &mut self.marks,
             &mut self.order,
             id,
             end,
@@ -171,7 +179,12 @@ impl Search {
         requires settled { IsSettled (lits_of self.old.watch.placed) self.old.watch.clauses }
         ensures { IfOk result (IsStep self.old self.new assumption budget) }
     {
-        match next(&self.watch, &mut self.order, assumption) {
+        match next(
+            &self.watch,
+            &mut self.order,
+            self.first.as_slice(),
+            assumption,
+        ) {
             Move::Decide(lit) => {
                 self.watch.decide(lit)?;
                 Ok(None)
@@ -257,6 +270,8 @@ impl Search {
             model: _,
             marks: _,
             order: _,
+            pace: _,
+            first: _,
         } = self;
         log
     }

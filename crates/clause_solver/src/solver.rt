@@ -6,10 +6,13 @@ ghost use Rattle.proof_log.specs.Known.{AllClauses, AllOver};
 ghost use Rattle.clause_solver.specs.Solvers.{IsLogOf, Answers, Fixes, IsInOrder, start_of};
 
 use crate::Outcome;
+use crate::marks::Marks;
+use crate::pace::Pace;
 use crate::search::Search;
 use activity_order::Order;
 use clause_store::{ClauseList, Lit};
 use clause_watch::Watch;
+use plain_data::List;
 use proof_log::{Line, Log};
 use std::alloc::{AllocError, Global};
 use std::marker::Model;
@@ -27,7 +30,7 @@ use std::marker::Model;
 ///
 /// `fix` and `solve` require an open log (`open_log`), the next bit (`next`, `in_order`), literals over
 /// the variables (`in_range`), and a budget that is not below what was learnt (`in_budget`).
-/// `log`, `learnt` and `model` may be called in any state; a failed solver promises of its log the lines alone.
+/// `decide_first`, `log`, `learnt` and `model` may be called in any state; a failed solver promises of its log the lines alone.
 #[derive(Drop)]
 pub struct Solver {
     /// The search, whose invariant holds unless memory ran out.
@@ -55,7 +58,7 @@ impl Solver {
         ensures { IfOk result (λ s. s ≡ start_of clauses.now bits) }
     {
         let watch = Watch::new(alloc, clauses)?;
-        let marks = vec![in alloc; false; watch.vars()]?;
+        let marks = Marks::new(alloc, watch.vars())?;
         let order = Order::new(alloc, watch.vars())?;
         let mut log = Log::new(alloc);
         log.push(Line::Header {
@@ -75,9 +78,21 @@ impl Solver {
                 model: Vec::new(alloc),
                 marks,
                 order,
+                pace: Pace::new(),
+                first: List::new(alloc),
             },
             failed: false,
         })
+    }
+
+    /// From now on these literals are decided before all others, each at false, the first of them first.
+    ///
+    /// What is answered does not rest on it, but which model is found may. A literal whose variable is none of the list's
+    /// is passed over.
+    pub fn decide_first(&mut self, lits: List<Lit>)
+        ensures { self.new ≡ self.old }
+    {
+        self.search.first = lits;
     }
 
     /// Settles the next bit at 0: the negation of its literal is known from now on, and the log gets a Zero line.

@@ -1,5 +1,5 @@
 -- Clauses that stay fine as the trail grows, or are woken by what is placed.
-use Rattle.std.proofs.Common.{◌≡◌, ℕ, zero, suc, ◌+◌, ◌-◌, ◌<◌, ◌≤◌, min, Bool, true, false, List, [], ◌∷◌, ◌++◌, length, get_or, take, Some, ◌⊎◌, inl, inr, refl, sym, ap, ◌∙◌, subst, append_assoc, length-append, arith}
+use Rattle.std.proofs.Common.{◌≡◌, ℕ, zero, suc, ◌+◌, ◌-◌, ◌<◌, ◌≤◌, min, true, false, List, [], ◌∷◌, ◌++◌, length, get_or, take, Some, ◌⊎◌, inl, inr, refl, sym, ap, ◌∙◌, subst, append_assoc, length-append, arith}
 use Rattle.std.specs.Prelude.{slice_get}
 use Rattle.std.proofs.lemmas.Bool.{cases_Bool, cases_lt, false≢true}
 use Rattle.std.proofs.lemmas.List.{append-nil, take_more}
@@ -12,11 +12,11 @@ use Rattle.proof_log.specs.Usefulness.{IsSettled}
 use Rattle.proof_log.proofs.Useful.{has-var}
 use Rattle.clause_watch.specs.declared.trail.Placed.{Placed}
 use Rattle.clause_watch.specs.declared.queue.Queue.{Queue}
-use Rattle.clause_watch.specs.declared.occurrences.Occurrences.{Occurrences}
 use Rattle.clause_watch.specs.Trails.{TrailValue, lits_of, decisions, upto, back_to, HasLevels, free_left}
 use Rattle.clause_watch.specs.Reasons.{ArePlaced, Grown}
 use Rattle.clause_watch.specs.Watches.{IsWatch}
-use Rattle.clause_watch.specs.Waking.{Stands, places_in, places_by, places_of, IsListed, AreListed, ListsGrow, HaveLists, IsFine, IsFineAt, FineOrWoken, AreFineAt, AreQuiet, IsTended}
+use Rattle.clause_watch.specs.Waking.{Stands, places_of, IsListed, AreListed, ListsGrow, HaveLists, IsFine, IsFineAt, FineOrWoken, AreFineAt, AreQuiet, IsTended}
+use Rattle.clause_watch.proofs.Listed.{stands-grown}
 use Rattle.clause_watch.proofs.Propagated.{free_left-less}
 use Rattle.clause_watch.proofs.Undone.{upto-whole}
 use Rattle.clause_watch.proofs.Places.{place-has, has-place, place-within, has_var-lit, get-front, settled-at}
@@ -211,13 +211,6 @@ tended-lists vars cs ps q r t g s h = record {
   head = subst (λ n. n ≤ length ps) (sym h) t.head;
   quiet = subst (λ n. AreQuiet ps n cs r.seen) (sym h) (subst (AreQuiet ps q.head cs) (sym s) t.quiet);
 }
-  where
-    stands-by : (a b : Occurrences) → ListsGrow a b → (sign : Bool) (x k : ℕ) → Stands (places_in (places_by a sign) x) k → Stands (places_in (places_by b sign) x) k
-    stands-by a b g true x k s = g.positive.keeps x k s
-    stands-by a b g false x k s = g.negative.keeps x k s
-
-    stands-grown : (a b : Occurrences) → ListsGrow a b → (l : Lit) (k : ℕ) → Stands (places_of a l) k → Stands (places_of b l) k
-    stands-grown a b g l k s = stands-by a b g l.positive (var_of l) k s
 
 pub tended-added : (vars : ℕ) (cs : List (List Lit)) (ps : List Placed) (q : Queue) (c : List Lit) → IsTended vars cs ps q → IsListed q.lists (length cs) c → IsTended vars (cs ++ c ∷ []) ps q
 tended-added vars cs ps q c t new = record {

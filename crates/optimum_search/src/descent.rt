@@ -7,7 +7,7 @@ ghost use Rattle.proof_log.specs.Known.{AllClauses};
 ghost use Rattle.optimum_search.specs.Finding.{IsFound};
 
 use crate::Found;
-use crate::settle::settle;
+use crate::settle::settle_next;
 use clause_solver::{Outcome, Solver};
 use clause_store::{ClauseList, Lit};
 use plain_data::List;
@@ -19,6 +19,24 @@ pub fn search(
     alloc: Global,
     clauses: &ClauseList,
     bits: &[Lit],
+    budget: u64,
+) -> Result<Found, AllocError>
+    requires in_range { AllBelow clauses.now.vars bits.now }
+    ensures found { IfOk result (IsFound clauses.now bits.now budget) }
+    ensures in_order { OnOk result (AllClauses (clauses_of clauses.now.entries)) }
+{
+    search_by_numbers(alloc, clauses, bits, &[], budget)
+}
+
+/// The same where the bits spell numbers, one behind another: `ends` has the place behind the last bit of each, in order.
+///
+/// While a number's bits are settled, those that are left are decided first, at 0. What is found has the same bits, whatever
+/// stands in `ends`; how long it takes may differ.
+pub fn search_by_numbers(
+    alloc: Global,
+    clauses: &ClauseList,
+    bits: &[Lit],
+    ends: &[usize],
     budget: u64,
 ) -> Result<Found, AllocError>
     requires in_range { AllBelow clauses.now.vars bits.now }
@@ -40,7 +58,7 @@ pub fn search(
         }
     }
     for at in 0..bits.len() {
-        if !settle(&mut solver, bits, at, budget)? {
+        if !settle_next(alloc, &mut solver, bits, ends, at, budget)? {
             return Ok(Found::Spent {
                 log: solver.into_log(),
             });

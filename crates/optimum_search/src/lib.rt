@@ -15,6 +15,6 @@ mod found;
 mod settle;
 mod theorems;
 
-pub use descent::search;
+pub use descent::{search, search_by_numbers};
 pub use found::Found;
 pub use theorems::found_laws;

@@ -6,7 +6,8 @@ ghost use Rattle.optimum_search.specs.Finding.{IsSearching, Settles};
 
 use clause_solver::{Outcome, Solver};
 use clause_store::Lit;
-use std::alloc::AllocError;
+use plain_data::List;
+use std::alloc::{AllocError, Global};
 
 /// Whether a literal is true in a model.
 fn is_true(model: &[bool], lit: Lit) -> bool
@@ -17,7 +18,7 @@ fn is_true(model: &[bool], lit: Lit) -> bool
 }
 
 /// Settles the bit at a place, the next one, and says whether the budget was enough.
-pub fn settle(solver: &mut Solver, bits: &[Lit], at: usize, budget: u64) -> Result<bool, AllocError>
+fn settle(solver: &mut Solver, bits: &[Lit], at: usize, budget: u64) -> Result<bool, AllocError>
     requires searching { IsSearching bits.now budget at solver.old }
     requires within { at < length bits.now }
     requires in_range { AllBelow solver.old.vars bits.now }
@@ -37,4 +38,33 @@ pub fn settle(solver: &mut Solver, bits: &[Lit], at: usize, budget: u64) -> Resu
         Outcome::Refuted => Ok(true),
         Outcome::Spent => Ok(false),
     }
+}
+
+/// The bits from a place up to the end of their number; none where no end stands behind the place.
+fn left_of_number<'a>(bits: &'a [Lit], ends: &[usize], at: usize) -> &'a [Lit] {
+    for end in ends {
+        if at < *end && *end <= bits.len() {
+            return &bits[at..*end];
+        }
+    }
+    &[]
+}
+
+/// Settles the bit at a place while those left of its number are decided first.
+pub fn settle_next(
+    alloc: Global,
+    solver: &mut Solver,
+    bits: &[Lit],
+    ends: &[usize],
+    at: usize,
+    budget: u64,
+) -> Result<bool, AllocError>
+    requires searching { IsSearching bits.now budget at solver.old }
+    requires within { at < length bits.now }
+    requires in_range { AllBelow solver.old.vars bits.now }
+    ensures { IfOk result (Settles bits.now budget at solver.old solver.new) }
+{
+    let first = Vec::from_slice(alloc, left_of_number(bits, ends, at))?;
+    solver.decide_first(List::from_vec(first));
+    settle(solver, bits, at, budget)
 }

@@ -2,7 +2,7 @@
 use Rattle.std.specs.Prelude.{ℕ, ◌-◌, true, false, List, [], ◌∷◌}
 use Rattle.clause_store.specs.declared.Lit.{Lit}
 use Rattle.proof_log.specs.declared.line.Line.{Line}
-use Rattle.proof_log.specs.declared.line.Line.TheVariants.{Header, Zero, One, End}
+use Rattle.proof_log.specs.declared.line.Line.TheVariants.{Header, Learnt, Zero, One, Spent, End}
 
 -- the literal that is spelled `n`, and the one that is spelled `-n`
 abbrev pub pos : ℕ → Lit
@@ -14,6 +14,13 @@ neg n = record { var = record { 0 = n - 1 }; positive = false }
 -- `1 2`, `1 -2`, `-1 2`, `-1 -2`, and the learnt `1`
 abbrev pub five : List (List Lit)
 five = (pos 1 ∷ pos 2 ∷ []) ∷ (pos 1 ∷ neg 2 ∷ []) ∷ (neg 1 ∷ pos 2 ∷ []) ∷ (neg 1 ∷ neg 2 ∷ []) ∷ (pos 1 ∷ []) ∷ []
+
+-- the first four of them, and `p 1 2 4 0`, `l 5 1 0 1 2 0`, `s`: one clause more than the budget 0
+abbrev pub four : List (List Lit)
+four = (pos 1 ∷ pos 2 ∷ []) ∷ (pos 1 ∷ neg 2 ∷ []) ∷ (neg 1 ∷ pos 2 ∷ []) ∷ (neg 1 ∷ neg 2 ∷ []) ∷ []
+
+abbrev pub four_log : List Line
+four_log = Header 2 4 0 ∷ Learnt 5 (pos 1 ∷ []) (1 ∷ 2 ∷ []) ∷ Spent ∷ []
 
 -- `1 2`, `-1 2`, whose least bits at `2`, `1` are 1 and 0
 abbrev pub two : List (List Lit)

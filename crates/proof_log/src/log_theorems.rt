@@ -11,7 +11,7 @@ ghost use Rattle.proof_log.specs.Resolution.{chain_fault, IdsIn, NoPivot, TwoPiv
 ghost use Rattle.proof_log.specs.Usefulness.{IsUseful, IsNew};
 ghost use Rattle.proof_log.specs.Logs.{AreUseful, AreDistinct};
 ghost use Rattle.proof_log.specs.Certificates.{bits_at, IsBelow, IsCertificate, IsRefutation, IsSpentLog};
-ghost use Rattle.proof_log.specs.Worked.{pos, neg, five, two, two_bits, two_log};
+ghost use Rattle.proof_log.specs.Worked.{pos, neg, five, four, four_log, two, two_bits, two_log};
 
 /// A derived clause holds wherever the known clauses do. The check of a chain finds no fault exactly
 /// where the chain derives the stated clause. A useful clause is new.
@@ -39,7 +39,8 @@ pub fn log_laws()
         AreUseful input bits lines → AreDistinct input lines }
 {}
 
-/// Chains over `1 2`, `1 -2`, `-1 2`, `-1 -2` and the learnt `1`, and a certificate, computed.
+/// Chains over `1 2`, `1 -2`, `-1 2`, `-1 -2` and the learnt `1`, a certificate, and a log that spends the budget 0 and has
+/// one line too few for the budget 1, computed.
 pub fn worked_logs()
     ensures learns { chain_fault five (1 ∷ 2 ∷ []) (pos 1 ∷ []) ≡ None }
     ensures refutes { chain_fault five (5 ∷ 3 ∷ 4 ∷ 5 ∷ []) [] ≡ None }
@@ -48,4 +49,6 @@ pub fn worked_logs()
     ensures not_contained { chain_fault five (1 ∷ 2 ∷ []) (neg 1 ∷ []) ≡ Some NotContained }
     ensures no_id { chain_fault five [] (pos 1 ∷ pos 2 ∷ []) ≡ Some NotContained }
     ensures certificate { IsCertificate 2 two two_bits (true ∷ false ∷ []) two_log }
+    ensures spent { IsSpentLog 2 four [] 0 four_log }
+    ensures one_too_few { IsSpentLog 2 four [] 1 four_log → ⊥ }
 {}

@@ -1,4 +1,4 @@
-use Rattle.std.proofs.Common.{◌++◌, ◌∷◌, [], length, length-append, sym, ap, ◌∙◌, subst, arith}
+use Rattle.std.proofs.Common.{◌∷◌, [], length, length-append, sym, ap, ◌∙◌, subst, arith}
 use Rattle.activity_order.specs.Heaps.{AllUnder}
 use Rattle.activity_order.proofs.Under.{under-push}
 use Rattle.activity_order.proofs.order.numbers.Goals as goal

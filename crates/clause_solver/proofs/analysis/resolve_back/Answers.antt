@@ -4,9 +4,11 @@ use Rattle.clause_solver.proofs.Steps.{reason-known, code-alone, code-reason, co
 use Rattle.clause_solver.proofs.analysis.resolve_back.Goals as goal
 
 pub returns-then-at-p : goal.returns-then-at-p
-returns-then-at-p c =
-    code-alone c.args.watch.now c.requires.right c.args.marks.now c.loop-before.marks c.args.chain.now c.loop-before.chain c.loop-before.at c.loop-before.invariant
-    c.in-Some.before c.at.result c.at-p.result c.in-Some.ensures c.at.ensures c.at-p.ensures c.if-at-p.true
+returns-then-at-p c = (
+  c.loop-before.at,
+  code-alone c.args.watch.now c.requires.right c.args.marks.now c.loop-before.marks c.args.chain.now c.loop-before.chain c.loop-before.at c.loop-before.invariant
+      c.in-Some.before c.at.result c.at-p.result c.in-Some.ensures c.at.ensures c.at-p.ensures c.if-at-p.true,
+)
 
 pub unreachable-requires : goal.unreachable-requires
 unreachable-requires c =
@@ -28,4 +30,4 @@ pub loop-before-preserved : goal.loop-before-preserved
 loop-before-preserved c =
     code-back c.args.watch.now c.requires.right c.args.marks.now c.loop-before.marks c.args.chain.now c.loop-before.chain c.loop-before.at c.loop-before.invariant
     c.in-Some.before c.at.result c.at-p.result c.in-Some.ensures c.at.ensures c.at-p.ensures c.if-at-p.false c.in-Some-reason.id c.in-Some-reason.is c.resolve.new.marks c.in_ok-resolve.ensures.marks
-    c.resolve.new.chain c.in-Some-last_marked.next c.in_ok-resolve.ensures.chain c.resolve.auto.marks c.in-Some-last_marked.ensures
+    c.resolve.new.chain c.in-Some-last_marked.next c.in_ok-resolve.ensures.chain c.resolve.ensures.same c.in-Some-last_marked.ensures

@@ -1,12 +1,11 @@
-use Rattle.std.proofs.Common.{◌≡◌, ◌++◌, ◌∷◌, [], ◌+◌, length, inl, sym, ap, ◌∙◌, refl, subst, arith}
+use Rattle.std.proofs.Common.{◌++◌, ◌∷◌, [], ◌+◌, length, inl, sym, ap, ◌∙◌, refl, subst, arith}
 use Rattle.clause_watch.specs.Watches.{WatchValue}
 use Rattle.clause_solver.specs.Searches.{IsClosed, stated}
 use Rattle.proof_log.specs.Derivations.{IsDerived}
 use Rattle.clause_solver.specs.Solvers.{IsInOrder}
 use Rattle.clause_solver.specs.Searches.{value_of}
 use Rattle.std.specs.Prelude.{false}
-use Rattle.clause_solver.proofs.Turns.{closed-all, closed-bit, refilled}
-use Rattle.clause_solver.specs.Marks.{AreClear}
+use Rattle.clause_solver.proofs.Turns.{closed-all, closed-bit}
 use Rattle.clause_solver.proofs.search.Search.close.Goals as goal
 
 pub add-requires-clause-settled : goal.add-requires-clause-settled
@@ -15,17 +14,13 @@ add-requires-clause-settled c = inl (omega (arith, c.go_back.ensures.depth))
 pub returns-in_ok-push-in-None : goal.returns-in_ok-push-in-None
 returns-in_ok-push-in-None c =
     let s = c.args.self.now in
-    let n : length c.refute.new.marks ≡ length s.marks.items = c.refute.auto.marks ∙ ap length c.as_mut_slice.ensures.value in
-    let e = refilled s.marks.len c.refute.new.marks s.marks.items (omega (arith, s.marks.ok.0)) n in
     let d = subst (λ a. IsDerived s.watch.clauses c.in_ok-chain.chain (stated a)) c.in-None.is (c.requires.refutes c.in_ok-chain.chain c.in_ok-chain.ensures.chain) in
     subst (IsClosed s _) (sym c.in-None.is)
-    (closed-all s _ c.in_ok-chain.chain c.requires.search c.requires.open_log d refl refl c.in_ok-push-in-None.ensures.ok refl refl refl refl refl (ap length e ∙ n) (subst AreClear (sym e) c.in_ok-chain.ensures.unmarked))
+    (closed-all s _ c.in_ok-chain.chain c.requires.search c.requires.open_log d refl refl c.in_ok-push-in-None.ensures.ok refl refl refl refl refl c.in_ok-chain.ensures.same c.in_ok-chain.ensures.unmarked)
 
 pub returns-in_ok-push-in-Some-2 : goal.returns-in_ok-push-in-Some-2
 returns-in_ok-push-in-Some-2 c =
     let s = c.args.self.now in
-    let n : length c.refute.new.marks ≡ length s.marks.items = c.refute.auto.marks ∙ ap length c.as_mut_slice.ensures.value in
-    let e = refilled s.marks.len c.refute.new.marks s.marks.items (omega (arith, s.marks.ok.0)) n in
     let d = subst (λ a. IsDerived s.watch.clauses c.in_ok-chain.chain (stated a)) c.in-Some.is (c.requires.refutes c.in_ok-chain.chain c.in_ok-chain.ensures.chain) in
     let o = subst (IsInOrder (value_of false s)) c.in-Some.is c.requires.in_order in
     let a = ap (λ (w : WatchValue). w.clauses) c.go_back.ensures.kept in
@@ -35,4 +30,4 @@ returns-in_ok-push-in-Some-2 c =
     (c.next_id-id.ensures ∙ ap (λ cs. length cs + 1) a) d
     (b ∙ ap (λ cs. cs ++ c.in_ok-clause-in-Some.clause ∷ []) a ∙ ap (λ k. s.watch.clauses ++ k ∷ []) c.in_ok-clause-in-Some.ensures)
     (ap (λ (w : WatchValue). w.vars) c.in_ok-add-in-Some.ensures.ok ∙ ap (λ (w : WatchValue). w.vars) c.go_back.ensures.kept)
-    c.in_ok-push-in-Some.ensures.ok refl refl c.in_ok-push-in-Some-2.ensures.items refl refl (ap length e ∙ n) (subst AreClear (sym e) c.in_ok-chain.ensures.unmarked))
+    c.in_ok-push-in-Some.ensures.ok refl refl c.in_ok-push-in-Some-2.ensures.items refl refl c.in_ok-chain.ensures.same c.in_ok-chain.ensures.unmarked)

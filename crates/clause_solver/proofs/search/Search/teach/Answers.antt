@@ -1,13 +1,12 @@
-use Rattle.std.proofs.Common.{◌≡◌, ◌+◌, length, sym, ap, ◌∙◌, refl, subst, arith}
+use Rattle.std.proofs.Common.{◌≡◌, ◌+◌, length, ap, ◌∙◌, refl, arith}
 use Rattle.proof_log.specs.Lines.{learnt_in}
 use Rattle.proof_log.proofs.Logs.{learnt_in-push, learnt_in-le}
 use Rattle.clause_watch.specs.Watches.{WatchValue, with_known}
-use Rattle.clause_solver.proofs.Turns.{taught, lesson-addable, refilled}
-use Rattle.clause_solver.specs.Marks.{AreClear}
+use Rattle.clause_solver.proofs.Turns.{taught, lesson-addable}
 use Rattle.clause_solver.proofs.search.Search.teach.Goals as goal
 
 pub add-requires-clause-settled : goal.add-requires-clause-settled
-add-requires-clause-settled c = lesson-addable c.args.self.now.watch c.go_back.new.watch c.in_ok-clause.field-0 c.in_ok-clause.ensures.lesson c.go_back.ensures.kept c.go_back.ensures.depth
+add-requires-clause-settled c = lesson-addable c.args.self.now.watch c.go_back.new.watch c.in_ok-clause.field-0 c.level-back.result c.in_ok-clause.ensures.lesson c.level-back.ensures c.go_back.ensures.kept c.go_back.ensures.depth
 
 pub overflow_add-self : goal.overflow_add-self
 overflow_add-self c =
@@ -22,9 +21,7 @@ returns c =
     let s = c.args.self.now in
     let a = c.go_back.ensures.kept in
     let l = c.in_ok-clause.field-0 in
-    let n : length c.learn.new.marks ≡ length s.marks.items = c.learn.auto.marks ∙ ap length c.as_mut_slice.ensures.value in
-    let e = refilled s.marks.len c.learn.new.marks s.marks.items (omega (arith, s.marks.ok.0)) n in
-    taught s _ l c.next_id-id.result c.requires.search c.requires.open_log c.in_ok-clause.ensures.lesson
+    taught s _ l c.next_id-id.result c.level-back.result c.requires.search c.requires.open_log c.in_ok-clause.ensures.lesson
     (c.next_id-id.ensures ∙ ap (λ (w : WatchValue). length w.clauses + 1) a)
     (c.in_ok-add.ensures.ok ∙ ap (λ w. with_known w l.clause) a)
-    c.in_ok-push.ensures.ok refl refl refl refl refl (ap length e ∙ n) (subst AreClear (sym e) c.in_ok-clause.ensures.unmarked)
+    c.in_ok-push.ensures.ok refl refl refl refl refl c.in_ok-clause.ensures.same c.in_ok-clause.ensures.unmarked

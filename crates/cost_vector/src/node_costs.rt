@@ -1,0 +1,175 @@
+// What one node costs: sums stop at the greatest number of 64 bits.
+ghost use Rattle.std.specs.Prelude.{◌≡◌, IfOk, count_by, not, sum_by};
+ghost use Rattle.std.specs.List.{list_any};
+ghost use Rattle.std.specs.Option.{option_copied};
+ghost use Rattle.std.specs.Str.{bytes_eq};
+ghost use Rattle.graph_core.specs.Graphs.{node_of};
+ghost use Rattle.condition_rules.specs.Words.{among, is_some_and};
+ghost use Rattle.condition_rules.specs.Holds.{governing};
+ghost use Rattle.problem.specs.Problems.{same_compiler};
+ghost use Rattle.graph_costs.specs.Costs.{is_root, missing, stopped};
+ghost use Rattle.cost_vector.specs.Terms.{beside, variant_cost, weight_at, differs, edge_differs};
+
+use crate::terms::Attribute;
+use crate::weights::provider_weight;
+use condition_rules::{Paths, governing};
+use conditions::VariantRow;
+use graph_core::{Compiler, Edge, Node};
+use plain_data::Word;
+use problem::Problem;
+use rule_tests::{Explored, same_compiler};
+use spec_grammar::Spec;
+use std::alloc::{AllocError, Global};
+use variant_values::ValueSet;
+
+// ---- roots
+
+fn is_named(spec: &Spec, name: &str) -> bool
+    ensures { result ≡ is_some_and spec.now.top.name (bytes_eq name.now) }
+{
+    match &spec.top.name {
+        Some(root) => name == root.as_str(),
+        None => false,
+    }
+}
+
+/// Whether a requested spec has its name.
+pub(crate) fn is_root(problem: &Problem, node: &Node) -> bool
+    ensures { result ≡ is_root problem.now node.now }
+{
+    problem
+        .roots()
+        .iter()
+        .any(|spec| is_named(spec, node.name.as_str()))
+}
+
+// ---- variants
+
+fn among(texts: &[Word], text: &str) -> bool
+    ensures { result ≡ among texts.now text.now }
+{
+    texts.iter().any(|other| text == other.as_str())
+}
+
+fn missing(texts: &[Word], others: &[Word]) -> usize
+    ensures { result ≡ missing texts.now others.now }
+{
+    texts
+        .iter()
+        .filter(|text| !among(others, text.as_str()))
+        .count()
+}
+
+// The values that are no default values, or the default values that are not used.
+fn beside(defaults: bool, values: &ValueSet, row: &VariantRow) -> usize
+    ensures { result ≡ beside defaults values.now row.now.default }
+{
+    if defaults {
+        missing(row.default.values(), values.values())
+    } else {
+        missing(values.values(), row.default.values())
+    }
+}
+
+fn variant_cost(
+    alloc: Global,
+    defaults: bool,
+    problem: &Problem,
+    graph: &Explored,
+    name: &str,
+    variant: &(Word, ValueSet),
+) -> Result<usize, AllocError>
+    ensures { IfOk result (λ count. count ≡ variant_cost defaults problem.now graph.now name.now variant.now) }
+{
+    let world = problem.world();
+    match governing(alloc, &world, graph, name, variant.0.as_str())? {
+        Some(row) => Ok(beside(defaults, &variant.1, row)),
+        None => Ok(0),
+    }
+}
+
+pub(crate) fn over_variants(
+    alloc: Global,
+    defaults: bool,
+    problem: &Problem,
+    graph: &Explored,
+    name: &str,
+    variants: &[(Word, ValueSet)],
+) -> Result<u64, AllocError>
+    ensures { IfOk result (λ total. total ≡ stopped (sum_by (variant_cost defaults problem.now graph.now name.now) variants.now)) }
+{
+    let mut total: u64 = 0;
+    for variant in variants {
+        let count = variant_cost(alloc, defaults, problem, graph, name, variant)?;
+        total = total.saturating_add(count as u64);
+    }
+    Ok(total)
+}
+
+// ---- providers
+
+fn weight_at(problem: &Problem, name: &str, p: &(Word, Word)) -> usize
+    ensures { result ≡ weight_at problem.now name.now p.now }
+{
+    if p.1.as_str() == name {
+        provider_weight(problem, p)
+    } else {
+        0
+    }
+}
+
+pub(crate) fn provider_weights(problem: &Problem, name: &str, providers: &[(Word, Word)]) -> u64
+    ensures { result ≡ stopped (sum_by (weight_at problem.now name.now) providers.now) }
+{
+    let mut total: u64 = 0;
+    for p in providers {
+        total = total.saturating_add(weight_at(problem, name, p) as u64);
+    }
+    total
+}
+
+// ---- edges
+
+fn differ_in_compiler(a: &Option<Compiler>, b: &Option<Compiler>) -> bool
+    ensures { result ≡ is_some_and a.now (λ c. is_some_and b.now (λ d. not (same_compiler c d))) }
+{
+    match (a, b) {
+        (Some(a), Some(b)) => !same_compiler(a, b),
+        (Some(_), None) => false,
+        (None, _) => false,
+    }
+}
+
+fn differs(attribute: Attribute, a: &Node, b: &Node) -> bool
+    ensures { result ≡ differs attribute a.now b.now }
+{
+    match attribute {
+        Attribute::Compiler => differ_in_compiler(&a.compiler, &b.compiler),
+        Attribute::Os => !(a.os.as_str() == b.os.as_str()),
+        Attribute::Target => !(a.target.as_str() == b.target.as_str()),
+    }
+}
+
+fn edge_differs(attribute: Attribute, graph: &Explored, node: &Node, edge: &Edge) -> bool
+    ensures { result ≡ edge_differs attribute graph.now node.now edge.now }
+{
+    match graph.graph().node(edge.child.as_str()) {
+        Some(child) => differs(attribute, node, child),
+        None => false,
+    }
+}
+
+/// How many of its edges go to a node that differs from it.
+pub(crate) fn edges_differing(
+    attribute: Attribute,
+    graph: &Explored,
+    node: &Node,
+    edges: &[Edge],
+) -> usize
+    ensures { result ≡ count_by (edge_differs attribute graph.now node.now) edges.now }
+{
+    edges
+        .iter()
+        .filter(|edge| edge_differs(attribute, graph, node, edge))
+        .count()
+}

@@ -1,0 +1,3 @@
+-- inside
+pub mod Asked
+pub mod Places

@@ -1,0 +1,109 @@
+// The rules of roots and of providers.
+ghost use Rattle.std.specs.Prelude.{◌≡◌, ◌++◌, [], IfOk, OnOk, unwrap_or};
+ghost use Rattle.graph_rules.specs.Verdict.{keeps_asked_root, broken_roots, broken_providers};
+ghost use Rattle.graph_judge.specs.Places.{provider_test, providers_places};
+
+use crate::demanded::Demanded;
+use crate::places::add_unless;
+use condition_rules::Paths;
+use plain_data::Word;
+use problem::Problem;
+use rule_tests::{Explored, keeps_provider, keeps_root, keeps_used};
+use spec_grammar::Spec;
+use std::alloc::{AllocError, Global};
+
+// ---- roots
+
+fn keeps_asked_root<D: Demanded>(
+    alloc: Global,
+    problem: &Problem,
+    graph: &Explored,
+    demanded: &D,
+    place: u64,
+    spec: &Spec,
+) -> Result<bool, AllocError>
+    ensures { IfOk result (λ kept. kept ≡ keeps_asked_root (D.asks demanded.now) problem.now graph.now place spec.now) }
+{
+    if !demanded.root(place) {
+        return Ok(true);
+    }
+    keeps_root(alloc, problem, graph, spec)
+}
+
+fn name_of(spec: &Spec) -> &str
+    ensures { result.now ≡ unwrap_or spec.now.top.name [] }
+{
+    match &spec.top.name {
+        Some(name) => name.as_str(),
+        None => "",
+    }
+}
+
+/// The roots that are broken.
+pub(crate) fn root_places<D: Demanded>(
+    alloc: Global,
+    problem: &Problem,
+    graph: &Explored,
+    demanded: &D,
+    roots: &[Spec],
+) -> Result<Vec<(Word, u64)>, AllocError>
+    ensures { IfOk result (λ places. places.items ≡ broken_roots (keeps_asked_root (D.asks demanded.now) problem.now graph.now) 0 roots.now) }
+{
+    let mut places = Vec::new(alloc);
+    for place in 0..roots.len() {
+        let spec = &roots[place];
+        let kept = keeps_asked_root(alloc, problem, graph, demanded, place as u64, spec)?;
+        add_unless(alloc, &mut places, kept, name_of(spec), place as u64)?;
+    }
+    Ok(places)
+}
+
+// ---- providers
+
+fn provider_test(
+    alloc: Global,
+    used: bool,
+    problem: &Problem,
+    graph: &Explored,
+    provider: &(Word, Word),
+) -> Result<bool, AllocError>
+    ensures { IfOk result (λ kept. kept ≡ provider_test used problem.now graph.now provider.now) }
+{
+    if used {
+        keeps_used(alloc, problem, graph, provider)
+    } else {
+        Ok(keeps_provider(problem, graph, provider))
+    }
+}
+
+fn add_providers(
+    alloc: Global,
+    places: &mut Vec<(Word, u64)>,
+    used: bool,
+    problem: &Problem,
+    graph: &Explored,
+    providers: &[(Word, Word)],
+) -> Result<(), AllocError>
+    ensures { OnOk result (places.new.items ≡ places.old.items ++ providers_places (provider_test used problem.now graph.now) providers.now) }
+{
+    for provider in providers {
+        let kept = provider_test(alloc, used, problem, graph, provider)?;
+        add_unless(alloc, places, kept, provider.0.as_str(), 0)?;
+    }
+    Ok(())
+}
+
+/// The virtuals whose provider does not provide them, or is not used.
+pub(crate) fn provider_places(
+    alloc: Global,
+    used: bool,
+    problem: &Problem,
+    graph: &Explored,
+) -> Result<Vec<(Word, u64)>, AllocError>
+    ensures { IfOk result (λ places. places.items ≡ broken_providers (provider_test used problem.now graph.now) graph.now) }
+{
+    let mut places = Vec::new(alloc);
+    let providers = graph.graph().providers();
+    add_providers(alloc, &mut places, used, problem, graph, providers)?;
+    Ok(places)
+}

@@ -1,0 +1,152 @@
+// The first broken rule.
+ghost use Rattle.std.specs.Prelude.{◌≡◌, ◌↔◌, true, IfOk, filter_map, slice_get};
+ghost use Rattle.problem.specs.Demands.{demands};
+ghost use Rattle.graph_rules.specs.Valid.{valid, valid_for};
+ghost use Rattle.graph_rules.specs.Verdict.{breaks_of, first_broken, least, verdict, verdict_of, verdict_for};
+ghost use Rattle.graph_rules.specs.declared.rule.Verdict.{Verdict};
+ghost use Rattle.graph_judge.specs.Places.{found_of};
+
+use crate::demanded::{All, Demanded, Listed};
+use crate::nodes::{NodeRule, node_places};
+use crate::others::{provider_places, root_places};
+use crate::places::least_of;
+use crate::rows::{conflict_places, depend_places, requirement_places};
+use graph_core::Graph;
+use graph_rules::{Rule, Verdict};
+use plain_data::{Duplicate, Word};
+use problem::Problem;
+use rule_tests::Explored;
+use std::alloc::{AllocError, Global};
+
+// The rules, in the order in which a broken one is named.
+const RULES: [Rule; 16] = [
+    Rule::Root,
+    Rule::Buildable,
+    Rule::Version,
+    Rule::Variant,
+    Rule::Compiler,
+    Rule::Machine,
+    Rule::Edge,
+    Rule::ExtraEdge,
+    Rule::Constraint,
+    Rule::Conflict,
+    Rule::Requirement,
+    Rule::Kept,
+    Rule::Provider,
+    Rule::UnusedProvider,
+    Rule::Cycle,
+    Rule::Unreachable,
+];
+
+/// The places where a rule is broken.
+#[tactic(auto, unfolding(graph_rules::specs::Verdict::breaks_of, crate::specs::Places::keeps_at))]
+fn places_of<D: Demanded>(
+    alloc: Global,
+    rule: Rule,
+    problem: &Problem,
+    graph: &Explored,
+    demanded: &D,
+) -> Result<Vec<(Word, u64)>, AllocError>
+    ensures { IfOk result (λ places. places.items ≡ breaks_of (D.asks demanded.now) rule problem.now graph.now) }
+{
+    match rule {
+        Rule::Root => root_places(alloc, problem, graph, demanded, problem.roots()),
+        Rule::Buildable => node_places(alloc, NodeRule::Buildable, problem, graph),
+        Rule::Version => node_places(alloc, NodeRule::Version, problem, graph),
+        Rule::Variant => node_places(alloc, NodeRule::Variant, problem, graph),
+        Rule::Compiler => node_places(alloc, NodeRule::Compiler, problem, graph),
+        Rule::Machine => node_places(alloc, NodeRule::Machine, problem, graph),
+        Rule::Edge => depend_places(alloc, false, problem, graph, demanded),
+        Rule::ExtraEdge => node_places(alloc, NodeRule::ExtraEdge, problem, graph),
+        Rule::Constraint => depend_places(alloc, true, problem, graph, demanded),
+        Rule::Conflict => conflict_places(alloc, problem, graph, demanded),
+        Rule::Requirement => requirement_places(alloc, problem, graph, demanded),
+        Rule::Kept => node_places(alloc, NodeRule::Kept, problem, graph),
+        Rule::Provider => provider_places(alloc, false, problem, graph),
+        Rule::UnusedProvider => provider_places(alloc, true, problem, graph),
+        Rule::Cycle => node_places(alloc, NodeRule::Cycle, problem, graph),
+        Rule::Unreachable => node_places(alloc, NodeRule::Unreachable, problem, graph),
+    }
+}
+
+/// The verdict that a rule is broken, at its least place.
+fn broken<D: Demanded>(
+    alloc: Global,
+    rule: Rule,
+    problem: &Problem,
+    graph: &Explored,
+    demanded: &D,
+) -> Result<Option<Verdict>, AllocError>
+    ensures { IfOk result (λ found. found ≡ found_of rule (least (breaks_of (D.asks demanded.now) rule problem.now graph.now))) }
+{
+    let places = places_of(alloc, rule, problem, graph, demanded)?;
+    match least_of(places.as_slice()) {
+        Some(place) => Ok(Some(Verdict::Broken {
+            rule,
+            node: place.0.duplicate(alloc)?,
+            directive: place.1,
+        })),
+        None => Ok(None),
+    }
+}
+
+fn first_broken<D: Demanded>(
+    alloc: Global,
+    problem: &Problem,
+    graph: &Explored,
+    demanded: &D,
+    rules: &[Rule],
+) -> Result<Verdict, AllocError>
+    ensures { IfOk result (λ said. said ≡ first_broken (D.asks demanded.now) rules.now problem.now graph.now) }
+{
+    for rule in rules {
+        let found = broken(alloc, *rule, problem, graph, demanded)?;
+        if let Some(said) = found {
+            return Ok(said);
+        }
+    }
+    Ok(Verdict::Valid)
+}
+
+#[tactic(auto, unfolding(graph_rules::specs::Verdict::verdict_of))]
+fn verdict_of<D: Demanded>(
+    alloc: Global,
+    problem: &Problem,
+    graph: &Graph,
+    demanded: &D,
+) -> Result<Verdict, AllocError>
+    ensures { IfOk result (λ said. said ≡ verdict_of (D.asks demanded.now) problem.now graph.now) }
+{
+    let explored = Explored::new(alloc, graph)?;
+    first_broken(alloc, problem, &explored, demanded, &RULES)
+}
+
+/// The verdict on a graph: Valid exactly where no rule is broken, else the first broken rule, there the least node by
+/// bytes, and there the least number.
+///
+/// Finds all paths once and then goes over the graph once for each rule.
+pub fn judge(alloc: Global, problem: &Problem, graph: &Graph) -> Result<Verdict, AllocError>
+    ensures first { IfOk result (λ said. said ≡ verdict problem.now graph.now) }
+    ensures valid { IfOk result (λ said. (said ≡ Verdict.Valid) ↔ (valid problem.now graph.now ≡ true)) }
+{
+    let said = verdict_of(alloc, problem, graph, &All {})?;
+    Ok(said)
+}
+
+/// The same, where of roots and directives only those of these demands are asked, by their numbers from 0. A number
+/// that is no demand's asks nothing.
+pub fn judge_for(
+    alloc: Global,
+    problem: &Problem,
+    graph: &Graph,
+    ids: &[u64],
+) -> Result<Verdict, AllocError>
+    ensures first { let asked = filter_map (slice_get (demands problem.now)) ids.now in
+        IfOk result (λ said. said ≡ verdict_for asked problem.now graph.now) }
+    ensures valid { let asked = filter_map (slice_get (demands problem.now)) ids.now in
+        IfOk result (λ said. (said ≡ Verdict.Valid) ↔ (valid_for asked problem.now graph.now ≡ true)) }
+{
+    let _nodes = graph.nodes();
+    let said = verdict_of(alloc, problem, graph, &Listed { problem, ids })?;
+    Ok(said)
+}

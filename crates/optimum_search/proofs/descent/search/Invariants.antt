@@ -1,9 +1,0 @@
-use Rattle.clause_store.specs.Clauses.{clauses_of}
-use Rattle.optimum_search.specs.Finding.{IsSearching, IsOver}
-use Rattle.optimum_search.proofs.descent.search.Given as goal
-
-abbrev pub invariant-loop-at : goal.invariant-loop-at
-invariant-loop-at l = record {
-  over : IsOver (clauses_of l.clauses.entries) l.clauses.vars l.solver;
-  searching : IsSearching l.bits l.budget l.at l.solver;
-}
