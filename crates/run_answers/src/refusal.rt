@@ -223,9 +223,8 @@ fn lock_status(fault: &LockFault) -> Status
 {
     match fault {
         LockFault::NotJson | LockFault::WrongKind(_) | LockFault::OutOfMemory => Status::BadInput,
-        LockFault::TwiceNamed(_)
-        | LockFault::HashDiffers { .. }
-        | LockFault::Dangling { .. } => Status::Refused,
+        LockFault::TwiceNamed(_) | LockFault::HashDiffers { .. } | LockFault::Dangling { .. } =>
+            Status::Refused,
     }
 }
 
@@ -236,9 +235,8 @@ fn lock_front(fault: &LockFault) -> &'static str
         LockFault::NotJson | LockFault::WrongKind(_) | LockFault::OutOfMemory => {
             "bad input: lock: "
         }
-        LockFault::TwiceNamed(_)
-        | LockFault::HashDiffers { .. }
-        | LockFault::Dangling { .. } => "refused: lock ",
+        LockFault::TwiceNamed(_) | LockFault::HashDiffers { .. } | LockFault::Dangling { .. } =>
+            "refused: lock ",
     }
 }
 

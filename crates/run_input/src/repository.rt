@@ -74,12 +74,7 @@ fn read_over(
 }
 
 /// What is read over a pile of files, with the pile.
-fn read_pile(
-    alloc: Global,
-    sources: Sources,
-    work: Work,
-    spec: &str,
-) -> Result<Parts, ReadStop>
+fn read_pile(alloc: Global, sources: Sources, work: Work, spec: &str) -> Result<Parts, ReadStop>
     requires { IsInByteOrder (names_of sources) }
     ensures read { Gives result (OverPile sources work spec.now) }
     ensures order { IfOk result (λ parts. AreInOrder parts.recipes) }

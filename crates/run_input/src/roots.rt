@@ -7,8 +7,8 @@ ghost use Rattle.run_input.specs.Roots.{SpecsOf, RootsOf, are_built, are_named, 
 
 use plain_data::List;
 use run_answers::{NotBuilt, ReadStop, Refusal};
-use spec_grammar::{Part, Spec, SpecFault, read_specs, writing_laws};
 use run_words::Work;
+use spec_grammar::{Part, Spec, SpecFault, read_specs, writing_laws};
 use std::alloc::Global;
 
 /// The most bytes that the text of the specs has: 64 KiB.

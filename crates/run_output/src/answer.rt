@@ -205,11 +205,7 @@ fn verdict_text(alloc: Global, numbers: &[u64]) -> Result<Vec<u8>, AllocError>
 }
 
 /// Says what is said of a lock file.
-fn write_verdict<O: Sink>(
-    alloc: Global,
-    numbers: &[u64],
-    out: &mut O,
-) -> Result<Answer, WriteStop>
+fn write_verdict<O: Sink>(alloc: Global, numbers: &[u64], out: &mut O) -> Result<Answer, WriteStop>
     ensures said { OnOk result (O.said out.new ≡ and_said (O.said out.old) (verdict_text numbers.now)) }
     ensures solved { IfOk result (λ answer. answer ≡ Answer.Solved) }
     ensures cause { Counts (O.faults out.old) (O.faults out.new) (EndsInOutputFault result) }

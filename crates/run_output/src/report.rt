@@ -62,7 +62,11 @@ fn write_number(alloc: Global, number: u64, out: &mut Vec<u8>) -> Result<(), All
 }
 
 #[tactic(auto, unfolding(crate::specs::Report::vector_line))]
-pub(crate) fn write_vector(alloc: Global, numbers: &[u64], out: &mut Vec<u8>) -> Result<(), AllocError>
+pub(crate) fn write_vector(
+    alloc: Global,
+    numbers: &[u64],
+    out: &mut Vec<u8>,
+) -> Result<(), AllocError>
     ensures { OnOk result (out.new.items ≡ out.old.items ++ vector_line numbers.now) }
 {
     out.extend_from_slice(b"vector")?;
