@@ -54,7 +54,7 @@ lock_here : AnswersOnce → (f g : File) (a b : Lock) → f ≡ g → IsLockOf f
 lock_here laws f g a b same p q = lock_of_one laws g a b (subst (λ (file : File). IsLockOf file a) same p) q
 
 pub lock_one : AnswersOnce → (bytes : List ℕ) (a b : Lock) → IsLock bytes a → IsLock bytes b → a ≡ b
-lock_one laws bytes a b (d, json, f, is, lock) (e, other, g, too, as_well) =
+lock_one laws bytes a b (d, json, (f, is, lock)) (e, other, (g, too, as_well)) =
     lock_here laws f g a b (file_same d e f g (json_one bytes d e json other) is too) lock as_well
 
 -- ---- the fault
@@ -79,7 +79,7 @@ is_fault_in : (file : File) (f : LockFault) → IsFileFault file f → f ≢ Out
 is_fault_in file NotJson is other = absurd is
 is_fault_in file (WrongKind at) is other = absurd is
 is_fault_in file (TwiceNamed name) is other = rw is refl
-is_fault_in file (HashDiffers written computed) (apart, entry, differs, w, c) other = rw (apart, differs, w, c) refl
+is_fault_in file (HashDiffers written computed) (apart, (entry, differs, w, c)) other = rw (apart, differs, w, c) refl
 is_fault_in file (Dangling parent child) (apart, right, lost) other = rw (apart, right, lost) refl
 is_fault_in file OutOfMemory is other = absurd (other refl)
 
@@ -96,7 +96,7 @@ is_by_value d f (inr (inl (misfit, is, fault))) other = rw (is, fault) refl
 is_by_value d f (inr (inr (file, is, fault))) other = rw is (is_fault_in file f fault other)
 
 some_one : {A : Type 0} (o : Option A) (x y : A) → o ≡ Some x → o ≡ Some y → x ≡ y
-some_one o x y p q = let is : (let T : Type 0 = Option A in let l : T = Some x in let r : T = Some y in l ≡ r) = sym p ∙ q in cc
+some_one {A = A} o x y p q = let is : (let T : Type 0 = Option A in let l : T = Some x in let r : T = Some y in l ≡ r) = sym p ∙ q in cc
 
 value_one : (d e : Data) (f g : LockFault) → d ≡ e → IsFaultOf d f → IsFaultOf e g → f ≢ OutOfMemory → g ≢ OutOfMemory → f ≡ g
 value_one d e f g same p q other not = some_one (by_value (file_at e)) f g (ap (λ v. by_value (file_at v)) (sym same) ∙ is_by_value d f p other) (is_by_value e g q not)
@@ -112,7 +112,7 @@ fault_one bytes f g (inr (inr (d, json, p))) (inr (inr (e, too, q))) other not =
 -- ---- not both
 
 none_or_some : {A B : Type 0} (o : Option A) (x : A) → o ≡ None → o ≡ Some x → B
-none_or_some o x p q = absurd (let is : (let T : Type 0 = Option A in let l : T = None in let r : T = Some x in l ≡ r) = sym p ∙ q in cc)
+none_or_some {A = A} o x p q = absurd (let is : (let T : Type 0 = Option A in let l : T = None in let r : T = Some x in l ≡ r) = sym p ∙ q in cc)
 
 lock_or_fault : (bytes : List ℕ) (d : Data) (file : File) (f : LockFault) → IsJson bytes d → file_at d ≡ Ok file → IsSound file → f ≢ OutOfMemory → IsLockFault bytes f → ⊥
 lock_or_fault bytes d file f json is sound other (inl h) = other h
@@ -129,4 +129,4 @@ other_than (Dangling parent child) h = absurd (h (λ e. absurd cc))
 other_than OutOfMemory h = refl
 
 pub lock_right : (bytes : List ℕ) (lock : Lock) (f : LockFault) → IsLock bytes lock → IsLockFault bytes f → f ≡ OutOfMemory
-lock_right bytes lock f (d, json, file, is, of) fault = other_than f (λ other. lock_or_fault bytes d file f json is of.sound other fault)
+lock_right bytes lock f (d, json, (file, is, of)) fault = other_than f (λ other. lock_or_fault bytes d file f json is of.sound other fault)
