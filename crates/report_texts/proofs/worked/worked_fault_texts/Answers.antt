@@ -1,6 +1,6 @@
 use Rattle.std.proofs.Common.{refl}
 use Rattle.std.specs.Fmt.{digits}
-use Rattle.report_texts.specs.FaultTexts.{spec_fault_text, target_fault_text, settings_fault_text, lex_fault_text, recipe_fault_text}
+use Rattle.report_texts.specs.FaultTexts.{spec_fault_text, target_fault_text, settings_fault_text, lex_fault_text, recipe_fault_text, lock_fault_text}
 use Rattle.report_texts.proofs.worked.worked_fault_texts.Goals as goal
 
 pub returns-clause-expected : goal.returns-clause-expected
@@ -38,3 +38,7 @@ returns-clause-targets c = refl
 pub returns-clause-text : goal.returns-clause-text
 unfolding digits settings_fault_text spec_fault_text
 returns-clause-text c = refl
+
+pub returns-clause-names : goal.returns-clause-names
+unfolding lock_fault_text
+returns-clause-names c = refl
