@@ -2,7 +2,7 @@
 
 ghost use Rattle.std.specs.Prelude.{◌≡◌, ◌∷◌, ◌++◌, IfOk};
 ghost use Rattle.std.specs.String.{string_bytes};
-ghost use Rattle.run_words.specs.Words.{words_of, joined_words, concretize_of, judge_of, command_of, unless_wrong, is_wrong, is_blank, is_same, is_dash};
+ghost use Rattle.run_words.specs.Words.{words_of, joined_words, concretize_of, judge_of, command_of, is_wrong, is_blank, is_same, is_dash};
 
 use spec_grammar::is_white;
 use std::alloc::{AllocError, Global};
@@ -83,17 +83,6 @@ fn is_wrong(command: &Command<'_>) -> bool
         || is_blank(command.spec.as_bytes())
 }
 
-/// The command, unless it is wrong.
-fn unless_wrong<'a>(command: Command<'a>) -> Option<Command<'a>>
-    ensures { result ≡ unless_wrong command }
-{
-    if is_wrong(&command) {
-        None
-    } else {
-        Some(command)
-    }
-}
-
 /// The command that the words behind `concretize` make.
 fn read_concretize<'a>(
     alloc: Global,
@@ -105,7 +94,7 @@ fn read_concretize<'a>(
         return Ok(None);
     };
     let spec = join_words(alloc, first.as_str(), more)?;
-    Ok(unless_wrong(Command {
+    let command = Command {
         work: Work::Concretize,
         repo: repo.as_str(),
         settings: settings.as_str(),
@@ -113,7 +102,11 @@ fn read_concretize<'a>(
         lock: lock.as_str(),
         cert: cert.as_str(),
         spec,
-    }))
+    };
+    if is_wrong(&command) {
+        return Ok(None);
+    }
+    Ok(Some(command))
 }
 
 /// The command that the words behind `judge` make.
@@ -124,7 +117,7 @@ fn read_judge<'a>(alloc: Global, words: &'a [String]) -> Result<Option<Command<'
         return Ok(None);
     };
     let spec = join_words(alloc, first.as_str(), more)?;
-    Ok(unless_wrong(Command {
+    let command = Command {
         work: Work::Judge,
         repo: repo.as_str(),
         settings: settings.as_str(),
@@ -132,7 +125,11 @@ fn read_judge<'a>(alloc: Global, words: &'a [String]) -> Result<Option<Command<'
         lock: lock.as_str(),
         cert: "-",
         spec,
-    }))
+    };
+    if is_wrong(&command) {
+        return Ok(None);
+    }
+    Ok(Some(command))
 }
 
 /// The command that the words are; `None` where they are none.
