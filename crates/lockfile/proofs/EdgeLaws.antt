@@ -1,6 +1,5 @@
 -- The edges of a file: their ends are nodes.
-use Rattle.std.proofs.Common.{◌≡◌, refl, sym, ap, subst, ◌∙◌, ℕ, zero, suc, ◌-◌, ◌+◌, ◌<◌, Bool, true, false, cond, Option, Some, None, List, [], ◌∷◌, length, get_or, drop, map, All, Contains, ◌⊎◌, inl, inr, ⊎_elim, String, find, arith}
-
+use Rattle.std.proofs.Common.{◌≡◌, refl, sym, ap, subst, ◌∙◌, ℕ, ◌+◌, ◌<◌, Bool, true, false, cond, Option, Some, None, List, [], ◌∷◌, length, get_or, drop, map, All, Contains, ⊎_elim, String, find}
 use Rattle.std.specs.Option.{option_map, is_some}
 use Rattle.std.specs.BTreeMap.{BTreeMap, get_by_text}
 use Rattle.std.specs.Map.{update}
@@ -8,6 +7,7 @@ use Rattle.std.specs.Str.{bytes_eq}
 use Rattle.std.specs.declared.alloc.Global.{Global}
 use Rattle.std.specs.Cmp.Lexicographic.{nat_list_cmp_total}
 use Rattle.std.proofs.lemmas.Option.{none-some}
+use Rattle.std.proofs.lemmas.List.{drop_more}
 use Rattle.std.proofs.lemmas.List.Elements.{Contains-append_cases}
 use Rattle.variant_values.specs.Texts.{byte_cmp}
 use Rattle.variant_values.proofs.Keys.{lacks_all}
@@ -22,9 +22,10 @@ use Rattle.graph_core.specs.declared.node.Edge.{Edge}
 use Rattle.graph_core.specs.declared.node.Kinds.{Kinds}
 use Rattle.graph_core.proofs.GraphLaws.{has_decides}
 use Rattle.lockfile.specs.Children.{all_edges, children_of, edge_to, edges_of, named_by}
-use Rattle.lockfile.specs.Files.{names_of}
-use Rattle.lockfile.specs.Locks.{graph_node, graph_nodes}
+use Rattle.lockfile.specs.Files.{AreProvided, names_of}
+use Rattle.lockfile.specs.Locks.{graph_nodes}
 use Rattle.lockfile.specs.Named.{AreNames, HasEnds}
+use Rattle.lockfile.specs.declared.file.File.{File}
 use Rattle.lockfile.specs.declared.node.LockedNode.{LockedNode}
 
 -- ---- names by hashes
@@ -40,10 +41,8 @@ named_there (node ∷ nodes) hash name e = go (bytes_eq node.described.hash hash
         subst (Contains (node.described.name ∷ names_of nodes)) same (has_first node.described.name (names_of nodes))
     go false e rest = has_later node.described.name (names_of nodes) name (rest e)
 
-drop_one : {X : Type 0} (xs : List X) (i : ℕ) (x : X) → i < length xs → x ≡ get_or xs i x → drop i xs ≡ x ∷ drop (i + 1) xs
-drop_one [] i x lt is = absurd (omega (arith, lt))
-drop_one (y ∷ ys) zero x lt is = ap (λ z. z ∷ ys) (sym is)
-drop_one (y ∷ ys) (suc i) x lt is = drop_one ys i x (omega (arith, lt)) is
+pub drop_one : {X : Type 0} (xs : List X) (i : ℕ) (x : X) → i < length xs → x ≡ get_or xs i x → drop i xs ≡ x ∷ drop (i + 1) xs
+drop_one xs i x lt is = drop_more xs i x lt ∙ ap (λ y. y ∷ drop (i + 1) xs) (sym is)
 
 one_named : (node : LockedNode) (nodes : List LockedNode) (q : Text) (old : Option Text) → old ≡ named_by nodes q → cond (bytes_eq node.described.hash q) (Some node.described.name) old ≡ named_by (node ∷ nodes) q
 one_named node nodes q old is = go (bytes_eq node.described.hash q)
@@ -94,3 +93,19 @@ pub all_ends : (nodes : List LockedNode) (g : Content) → ((name : Text) → no
 all_ends nodes g same = all_from (HasEnds g) (all_edges nodes nodes) (λ e has.
     let ends = ends_named nodes nodes e has in
     (has_name nodes g same e.parent ends.0, has_name nodes g same e.child ends.1))
+
+-- what holds of all holds of the one at a place
+pub all_at : {X : Type 0} (P : X → Type 0) (xs : List X) (i : ℕ) (x : X) → All P xs → i < length xs → x ≡ get_or xs i x → P x
+all_at P xs i x each lt is = subst P (sym is) (each i x lt)
+
+pub given_ends : (nodes : List LockedNode) (g : Content) (edges made : List Edge) → edges ≡ made → made ≡ all_edges nodes nodes → ((name : Text) → node_of g name ≡ find_key byte_cmp name_of (graph_nodes nodes) name) → All (HasEnds g) edges
+given_ends nodes g edges made given is same = subst (All (HasEnds g)) (sym (given ∙ is)) (all_ends nodes g same)
+
+-- what provides is a node
+pub provided_there : (nodes : List LockedNode) (g new : Content) (file : File) (providers : List (Text × Text)) → nodes ≡ file.nodes → ((name : Text) → node_of g name ≡ find_key byte_cmp name_of (graph_nodes nodes) name) → new.nodes ≡ g.nodes
+    → providers ≡ file.providers → AreProvided file → All (λ (provider : Text × Text). HasNode new provider.1) providers
+provided_there nodes g new file providers is same kept given provided =
+    subst (All (λ (provider : Text × Text). HasNode new provider.1)) (sym given)
+    (λ k d lt.
+    let name = (get_or file.providers k d).1 in
+    subst (λ ns. Contains (map name_of ns) name) (sym kept) (has_name nodes g same name (subst (λ ns. Contains (names_of ns) name) (sym is) (provided k d lt))))

@@ -17,12 +17,17 @@ use Rattle.serde_json.specs.Find.{as_str, get_member}
 use Rattle.json_readers.specs.declared.fault.Misfit.{Misfit}
 use Rattle.json_readers.specs.Faults.{Reading, ◌>>=◌, below, given, wrong_kind}
 use Rattle.json_readers.specs.Texts.{text_of}
-use Rattle.json_readers.specs.Maps.{and_entry, entries_of, entry_of, map_of}
-use Rattle.json_readers.specs.Objects.{field, first_odd, members_of, need, none_odd, read_needed, unless_odd}
+use Rattle.json_readers.specs.Maps.{entries_of, entry_of, map_of}
+use Rattle.json_readers.specs.Objects.{field, first_odd, members_of, read_needed, unless_odd}
 use Rattle.json_readers.specs.Lists.{list_of}
 use Rattle.text_forms.specs.Forms.{name_meaning}
 use Rattle.graph_core.specs.Graphs.{Text}
-use Rattle.lockfile.specs.Files.{AreProvided, among, file_at, file_keys, names_of, node_at, root_at, version_at}
+use Rattle.graph_core.specs.declared.node.Origin.{Origin}
+use Rattle.record_reader.specs.Records.{back_at}
+use Rattle.reuse_db.specs.declared.record.Record.{Record}
+use Rattle.lockfile.specs.Files.{AreProvided, among, body_at, file_at, file_keys, head_at, names_of, node_at, node_keys, origin_by, providers_at, roots_at}
+use Rattle.lockfile.specs.declared.node.Body.{Body}
+use Rattle.lockfile.specs.declared.node.Head.{Head}
 use Rattle.lockfile.specs.declared.file.File.{File}
 use Rattle.lockfile.specs.declared.node.LockedNode.{LockedNode}
 
@@ -76,9 +81,9 @@ entries_ok means read (member key d ms) xs e x has =
     let rest = bind_ok (entries_of means read ms) _ xs first.2 in
     let is : (key, first.0) ∷ rest.0 ≡ xs = let same = rest.2 in cc in
     ⊎_elim
-        (λ same. (d, subst (λ (p : List ℕ × _). read d ≡ Ok p.1) same (form_ok (is_some (means key)) (read d) first.0 (below_ok key _ first.0 first.1))))
-        (λ later. entries_ok means read ms rest.0 rest.1 x later)
-        (first_or_later (key, first.0) rest.0 x (subst (λ l. Contains l x) (sym is) has))
+    (λ same. (d, subst (λ (p : List ℕ × _). read d ≡ Ok p.1) same (form_ok (is_some (means key)) (read d) first.0 (below_ok key _ first.0 first.1))))
+    (λ later. entries_ok means read ms rest.0 rest.1 x later)
+    (first_or_later (key, first.0) rest.0 x (subst (λ l. Contains l x) (sym is) has))
 
 -- ---- names
 
@@ -101,9 +106,9 @@ unfolding with_texts
 from_set kept [] q has = inl has
 from_set kept (word ∷ words) q has = ⊎_elim
     (λ old. ⊎_elim
-        (λ same. inr (subst (Contains (word ∷ words)) (sym same) (has_first word words)))
-        (λ older. inl older)
-        ((adds_text kept word q).0 old))
+    (λ same. inr (subst (Contains (word ∷ words)) (sym same) (has_first word words)))
+    (λ older. inl older)
+    ((adds_text kept word q).0 old))
     (λ later. inr (has_later word words q later))
     (from_set (with_text kept word) words q has)
 
@@ -126,10 +131,15 @@ provided d file e =
     let ms = bind_ok (members_of d) _ file e in
     let odd = first_odd file_keys ms.0 in
     let nodes = bind_ok (field (list_of node_at) odd (codes "nodes") ms.0) _ file ms.2 in
-    let providers = bind_ok (field (map_of name_meaning (text_of (among (with_texts [] (names_of nodes.0))))) odd (codes "providers") ms.0) _ file nodes.2 in
-    let roots = bind_ok (field (list_of root_at) odd (codes "roots") ms.0) _ file providers.2 in
-    let version = bind_ok (field version_at odd (codes "version") ms.0) _ file roots.2 in
-    let last = bind_ok (none_odd odd) _ file version.2 in
-    let is : record { nodes = nodes.0; providers = providers.0; roots = roots.0 } ≡ file = let same = last.2 in cc in
+    let providers = bind_ok (providers_at nodes.0 odd ms.0) _ file nodes.2 in
+    let roots = bind_ok (roots_at odd ms.0) _ file providers.2 in
+    let is : record { nodes = nodes.0; providers = providers.0; roots = roots.0 } ≡ file = let same = roots.2 in cc in
     let read = field_ok _ odd (codes "providers") ms.0 providers.0 providers.1 in
     subst AreProvided is (provider_ok nodes.0 read.0 providers.0 read.1)
+
+-- ---- nodes
+
+pub node_read : (d : Data) (ms : Members) (odd : Option Text) (head : Head) (body : Body) (described : Record) (origin : Origin) → members_of d ≡ Ok ms → odd ≡ first_odd node_keys ms → head_at odd ms ≡ Ok head
+    → body_at odd ms ≡ Ok body → back_at head.front body.middle odd ms ≡ Ok described → origin ≡ origin_by head.entry body.origin body.middle.hash → node_at d ≡ Ok (record { described = described; origin = origin })
+unfolding node_at
+node_read d ms odd head body described origin members is first second third by = rw (members, ← is, first, second, third, by) refl

@@ -1,5 +1,5 @@
 -- The children of a file's nodes.
-use Rattle.std.specs.Prelude.{ℕ, Bool, not, ◌||◌, false, List, [], ◌∷◌, map, filter, filter_map, flat_map, find, Option, Some, None, is_none, option_map}
+use Rattle.std.specs.Prelude.{Bool, ◌||◌, false, List, map, filter, filter_map, flat_map, find, Option, option_map}
 use Rattle.std.specs.Str.{bytes_eq}
 use Rattle.graph_core.specs.Graphs.{Text}
 use Rattle.graph_core.specs.declared.node.Edge.{Edge}

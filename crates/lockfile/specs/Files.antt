@@ -17,6 +17,8 @@ use Rattle.graph_core.specs.declared.node.Origin.TheVariants.{Built, External, I
 use Rattle.record_reader.specs.Texts.{hash_meaning}
 use Rattle.record_reader.specs.Records.{front_at, middle_at, back_at}
 use Rattle.lockfile.specs.declared.file.File.{File}
+use Rattle.lockfile.specs.declared.node.Body.{Body}
+use Rattle.lockfile.specs.declared.node.Head.{Head}
 use Rattle.lockfile.specs.declared.node.LockedNode.{LockedNode}
 
 -- ---- nodes
@@ -45,17 +47,29 @@ origin_by None text hash = if bytes_eq text (codes "installed") then Installed h
 abbrev pub node_keys : List Text
 node_keys = codes "compiler" ∷ codes "dependencies" ∷ codes "entry" ∷ codes "external" ∷ codes "hash" ∷ codes "name" ∷ codes "origin" ∷ codes "os" ∷ codes "target" ∷ codes "variants" ∷ codes "version" ∷ []
 
+-- its keys up to `entry`
+unfoldable pub head_at : Option Text → Members → Reading Head
+head_at odd ms = do
+  front ← front_at odd ms
+  entry ← field (entry_at (is_external ms)) odd (codes "entry") ms
+  Ok (record { front = front; entry = entry })
+
+-- its keys up to `origin`
+unfoldable pub body_at : Option Text → Members → Reading Body
+body_at odd ms = do
+  middle ← middle_at odd ms
+  origin ← field (text_of origin_meaning) odd (codes "origin") ms
+  Ok (record { middle = middle; origin = origin })
+
 -- a record with `entry` and `origin` among its keys
 unfoldable pub node_at : Data → Reading LockedNode
 node_at d = do
   ms ← members_of d
   let odd = first_odd node_keys ms in do
-    front ← front_at odd ms
-    entry ← field (entry_at (is_external ms)) odd (codes "entry") ms
-    middle ← middle_at odd ms
-    origin ← field (text_of origin_meaning) odd (codes "origin") ms
-    described ← back_at front middle odd ms
-    Ok (record { described = described; origin = origin_by entry origin middle.hash })
+    head ← head_at odd ms
+    body ← body_at odd ms
+    described ← back_at head.front body.middle odd ms
+    Ok (record { described = described; origin = origin_by head.entry body.origin body.middle.hash })
 
 -- ---- the whole
 
@@ -82,15 +96,25 @@ version_at d = whole_number d >>= λ version. if version == 1 then Ok version el
 abbrev pub file_keys : List Text
 file_keys = codes "nodes" ∷ codes "providers" ∷ codes "roots" ∷ codes "version" ∷ []
 
+-- each virtual with the node that provides it
+abbrev pub providers_at : List LockedNode → Option Text → Members → Reading (List (Text × Text))
+providers_at nodes odd ms = field (map_of name_meaning (text_of (among (with_texts [] (names_of nodes))))) odd (codes "providers") ms
+
+-- the roots, and the keys behind them
+unfoldable pub roots_at : Option Text → Members → Reading (List (Text × Text))
+roots_at odd ms = do
+  roots ← field (list_of root_at) odd (codes "roots") ms
+  version ← field version_at odd (codes "version") ms
+  _ ← none_odd odd
+  Ok roots
+
 unfoldable pub file_at : Data → Reading File
 file_at d = do
   ms ← members_of d
   let odd = first_odd file_keys ms in do
     nodes ← field (list_of node_at) odd (codes "nodes") ms
-    providers ← field (map_of name_meaning (text_of (among (with_texts [] (names_of nodes))))) odd (codes "providers") ms
-    roots ← field (list_of root_at) odd (codes "roots") ms
-    version ← field version_at odd (codes "version") ms
-    _ ← none_odd odd
+    providers ← providers_at nodes odd ms
+    roots ← roots_at odd ms
     Ok (record { nodes = nodes; providers = providers; roots = roots })
 
 -- each package that provides is one of the nodes

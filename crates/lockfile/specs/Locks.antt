@@ -6,7 +6,6 @@ use Rattle.variant_values.specs.Texts.{byte_cmp}
 use Rattle.keyed_lists.specs.Keyed.{IsInOrder, find_key}
 use Rattle.graph_core.specs.Graphs.{Text, Content, node_of, name_of, ends_of, virtual_of, pair_cmp}
 use Rattle.graph_core.specs.declared.node.Node.{Node}
-use Rattle.reuse_db.specs.declared.record.Record.{Record}
 use Rattle.lockfile.specs.Children.{all_edges}
 use Rattle.lockfile.specs.Faults.{IsSound}
 use Rattle.lockfile.specs.Files.{file_at}

@@ -25,10 +25,7 @@ pub(crate) fn children_of(
     }
 }
 
-fn all(
-    alloc: Global,
-    dependencies: &[(Hash, Kinds)],
-) -> Result<List<(Hash, Kinds)>, AllocError>
+fn all(alloc: Global, dependencies: &[(Hash, Kinds)]) -> Result<List<(Hash, Kinds)>, AllocError>
     ensures { IfOk result (λ list. list ≡ dependencies.now) }
 {
     let mut list = List::new(alloc);
@@ -38,10 +35,7 @@ fn all(
     Ok(list)
 }
 
-fn needed(
-    alloc: Global,
-    dependencies: &[(Hash, Kinds)],
-) -> Result<List<(Hash, Kinds)>, AllocError>
+fn needed(alloc: Global, dependencies: &[(Hash, Kinds)]) -> Result<List<(Hash, Kinds)>, AllocError>
     ensures { IfOk result (λ list. list ≡ map without_build (filter is_needed dependencies.now)) }
 {
     let mut list = List::new(alloc);

@@ -1,9 +1,11 @@
 // A whole lock file.
-ghost use Rattle.std.specs.Prelude.{◌≡◌, [], IfOk};
+ghost use Rattle.std.specs.Prelude.{◌≡◌, [], IfOk, option_map};
 ghost use Rattle.std.specs.List.{list_any};
 ghost use Rattle.std.specs.Str.{bytes_eq};
 ghost use Rattle.variant_values.specs.Texts.{with_texts};
-ghost use Rattle.lockfile.specs.Files.{among, file_at, names_of, root_at, version_at};
+ghost use Rattle.serde_json.specs.View.{members_view};
+ghost use Rattle.json_readers.specs.Faults.{Gives};
+ghost use Rattle.lockfile.specs.Files.{among, file_at, names_of, providers_at, root_at, roots_at, version_at};
 
 use crate::node::{LockedNode, NodeForm};
 use json_readers::{
@@ -12,7 +14,7 @@ use json_readers::{
 };
 use plain_data::{Duplicate, List, Word};
 use record_reader::HashText;
-use serde_json::Value;
+use serde_json::{Map, Value};
 use spec_hash::Hash;
 use std::alloc::{AllocError, Global};
 use text_forms::Name;
@@ -40,21 +42,44 @@ impl Reader<File> for FileForm {
         let members = members_of(alloc, value)?;
         let odd = first_odd(members, &["nodes", "providers", "roots", "version"]);
         let nodes = field(alloc, members, odd, "nodes", &ListOf(NodeForm))?;
-        let names = names_in(alloc, nodes.as_slice())?;
-        let form = MapOf {
-            keys: Name,
-            values: Text(Among { names: &names }),
-        };
-        let providers = field(alloc, members, odd, "providers", &form)?;
-        let roots = field(alloc, members, odd, "roots", &ListOf(RootForm))?;
-        let _version = field(alloc, members, odd, "version", &VersionOne)?;
-        none_odd(alloc, odd)?;
+        let providers = read_providers(alloc, members, odd, &nodes)?;
+        let roots = read_roots(alloc, members, odd)?;
         Ok(File {
             nodes,
             providers,
             roots,
         })
     }
+}
+
+fn read_providers(
+    alloc: Global,
+    members: &Map<String, Value>,
+    odd: Option<&str>,
+    nodes: &List<LockedNode>,
+) -> Result<List<(Word, Word)>, JsonFault>
+    ensures { Gives result (providers_at nodes.now (option_map (λ k. k.now) odd.entry) (members_view members.now.entries)) }
+{
+    let names = names_in(alloc, nodes.as_slice())?;
+    let form = MapOf {
+        keys: Name,
+        values: Text(Among { names: &names }),
+    };
+    field(alloc, members, odd, "providers", &form)
+}
+
+#[tactic(auto, unfolding(crate::specs::Files::roots_at))]
+fn read_roots(
+    alloc: Global,
+    members: &Map<String, Value>,
+    odd: Option<&str>,
+) -> Result<List<(Word, Hash)>, JsonFault>
+    ensures { Gives result (roots_at (option_map (λ k. k.now) odd.entry) (members_view members.now.entries)) }
+{
+    let roots = field(alloc, members, odd, "roots", &ListOf(RootForm))?;
+    let _version = field(alloc, members, odd, "version", &VersionOne)?;
+    none_odd(alloc, odd)?;
+    Ok(roots)
 }
 
 fn names_in(alloc: Global, nodes: &[LockedNode]) -> Result<ValueSet, AllocError>

@@ -6,7 +6,7 @@ ghost use Rattle.graph_core.specs.Graphs.{HasNode, node_of, name_of, ends_of, vi
 ghost use Rattle.lockfile.specs.Children.{all_edges};
 ghost use Rattle.lockfile.specs.Files.{AreProvided};
 ghost use Rattle.lockfile.specs.Locks.{AreHashesOf, IsGraphOf, graph_node, graph_nodes};
-ghost use Rattle.lockfile.specs.Named.{AreNames, HasEnds};
+ghost use Rattle.lockfile.specs.Named.{AreNames, Collected, HasEnds};
 
 use crate::children::all_edges;
 use crate::file::File;
@@ -31,7 +31,7 @@ pub(crate) fn graph_of(
     let nodes = file.nodes.as_slice();
     let edges = all_edges(alloc, nodes, names)?;
     let mut graph = graph_of_nodes(alloc, nodes)?;
-    add_edges(&mut graph, edges)?;
+    add_edges(alloc, &mut graph, edges.as_slice())?;
     add_providers(alloc, &mut graph, file.providers.as_slice())?;
     Ok(graph)
 }
@@ -43,9 +43,19 @@ fn graph_of_nodes(alloc: Global, nodes: &[LockedNode]) -> Result<Graph, AllocErr
 {
     let mut graph = Graph::new(alloc);
     for node in nodes {
-        graph.add_node(graph_node(alloc, node)?)?;
+        let made = graph_node(alloc, node)?;
+        push_node(&mut graph, made)?;
     }
     Ok(graph)
+}
+
+fn push_node(graph: &mut Graph, node: Node) -> Result<(), AllocError>
+    ensures nodes { OnOk result (Collected byte_cmp name_of graph.old.nodes node graph.new.nodes) }
+    ensures edges { OnOk result (graph.new.edges ≡ graph.old.edges) }
+    ensures providers { OnOk result (graph.new.providers ≡ graph.old.providers) }
+{
+    let added = graph.add_node(node)?;
+    Ok(())
 }
 
 fn graph_node(alloc: Global, node: &LockedNode) -> Result<Node, AllocError>
@@ -64,16 +74,37 @@ fn graph_node(alloc: Global, node: &LockedNode) -> Result<Node, AllocError>
     })
 }
 
-fn add_edges(graph: &mut Graph, edges: Vec<Edge>) -> Result<(), AllocError>
+fn add_edges(alloc: Global, graph: &mut Graph, edges: &[Edge]) -> Result<(), AllocError>
     requires none { graph.old.edges ≡ [] }
-    requires ends { All (HasEnds graph.old) edges.items }
-    ensures edges { OnOk result ((ends : List ℕ × List ℕ) → find_key pair_cmp ends_of graph.new.edges ends ≡ find_key pair_cmp ends_of edges.items ends) }
+    requires ends { All (HasEnds graph.old) edges.now }
+    ensures edges { OnOk result ((ends : List ℕ × List ℕ) → find_key pair_cmp ends_of graph.new.edges ends ≡ find_key pair_cmp ends_of edges.now ends) }
     ensures nodes { OnOk result (graph.new.nodes ≡ graph.old.nodes) }
     ensures providers { OnOk result (graph.new.providers ≡ graph.old.providers) }
 {
     for edge in edges {
-        graph.add_edge(edge)?;
+        let made = copy_of(alloc, edge)?;
+        push_edge(graph, made)?;
     }
+    Ok(())
+}
+
+fn copy_of(alloc: Global, edge: &Edge) -> Result<Edge, AllocError>
+    ensures { IfOk result (λ made. made ≡ edge.now) }
+{
+    Ok(Edge {
+        parent: edge.parent.duplicate(alloc)?,
+        child: edge.child.duplicate(alloc)?,
+        kinds: edge.kinds,
+    })
+}
+
+fn push_edge(graph: &mut Graph, edge: Edge) -> Result<(), AllocError>
+    requires { HasEnds graph.old edge }
+    ensures edges { OnOk result (Collected pair_cmp ends_of graph.old.edges edge graph.new.edges) }
+    ensures nodes { OnOk result (graph.new.nodes ≡ graph.old.nodes) }
+    ensures providers { OnOk result (graph.new.providers ≡ graph.old.providers) }
+{
+    let added = graph.add_edge(edge)?;
     Ok(())
 }
 
@@ -89,8 +120,20 @@ fn add_providers(
     ensures edges { OnOk result (graph.new.edges ≡ graph.old.edges) }
 {
     for provider in providers {
-        graph.set_provider(provider.0.duplicate(alloc)?, provider.1.duplicate(alloc)?)?;
+        let name = provider.0.duplicate(alloc)?;
+        let by = provider.1.duplicate(alloc)?;
+        push_provider(graph, name, by)?;
     }
+    Ok(())
+}
+
+fn push_provider(graph: &mut Graph, name: Word, by: Word) -> Result<(), AllocError>
+    requires { HasNode graph.old by }
+    ensures providers { OnOk result (Collected byte_cmp virtual_of graph.old.providers (name, by) graph.new.providers) }
+    ensures nodes { OnOk result (graph.new.nodes ≡ graph.old.nodes) }
+    ensures edges { OnOk result (graph.new.edges ≡ graph.old.edges) }
+{
+    let added = graph.set_provider(name, by)?;
     Ok(())
 }
 
@@ -104,7 +147,16 @@ pub(crate) fn hashes_of(
     let mut hashes = Vec::new(alloc);
     for node in nodes {
         let name = node.described.name.duplicate(alloc)?;
-        insert(&mut hashes, (name, node.described.hash))?;
+        push_hash(&mut hashes, name, node.described.hash)?;
     }
     Ok(List::from_vec(hashes))
+}
+
+fn push_hash(hashes: &mut Vec<(Word, Hash)>, name: Word, hash: Hash) -> Result<(), AllocError>
+    requires { IsInOrder byte_cmp (λ h. h.0) hashes.old.items }
+    ensures order { OnOk result (IsInOrder byte_cmp (λ h. h.0) hashes.new.items) }
+    ensures found { OnOk result (Collected byte_cmp (λ h. h.0) hashes.old.items (name, hash) hashes.new.items) }
+{
+    let added = insert(hashes, (name, hash))?;
+    Ok(())
 }

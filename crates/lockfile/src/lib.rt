@@ -20,4 +20,4 @@ pub use fault::LockFault;
 pub use file::File;
 pub use lock::{Lock, read_lock};
 pub use lock_writer::{can_be_written, node_hashes, write_lock};
-pub use node::LockedNode;
+pub use node::{Body, Head, LockedNode};

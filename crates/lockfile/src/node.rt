@@ -2,7 +2,8 @@
 ghost use Rattle.std.specs.Prelude.{◌≡◌, codes, option_and_then, option_map};
 ghost use Rattle.serde_json.specs.Find.{as_str, get_member};
 ghost use Rattle.serde_json.specs.View.{members_view};
-ghost use Rattle.lockfile.specs.Files.{entry_at, is_external, node_at, origin_by, origin_meaning};
+ghost use Rattle.json_readers.specs.Faults.{Gives};
+ghost use Rattle.lockfile.specs.Files.{body_at, entry_at, head_at, is_external, node_at, origin_by, origin_meaning};
 
 use graph_core::Origin;
 use json_readers::{
@@ -10,7 +11,7 @@ use json_readers::{
     members_of,
 };
 use plain_data::Word;
-use record_reader::{read_back, read_front, read_middle};
+use record_reader::{Front, Middle, read_back, read_front, read_middle};
 use reuse_db::Record;
 use serde_json::{Map, Value};
 use spec_hash::Hash;
@@ -47,17 +48,55 @@ impl Reader<LockedNode> for NodeForm {
             "version",
         ];
         let odd = first_odd(members, &keys);
-        let front = read_front(alloc, members, odd)?;
-        let form = EntryForm {
-            external: is_external(members),
-        };
-        let entry = field(alloc, members, odd, "entry", &form)?;
-        let middle = read_middle(alloc, members, odd)?;
-        let origin = field(alloc, members, odd, "origin", &Text(OriginText))?;
-        let origin = origin_by(entry, &origin, &middle.hash);
-        let described = read_back(alloc, members, odd, front, middle)?;
+        let head = read_head(alloc, members, odd)?;
+        let body = read_body(alloc, members, odd)?;
+        let origin = origin_by(head.entry, &body.origin, &body.middle.hash);
+        let described = read_back(alloc, members, odd, head.front, body.middle)?;
         Ok(LockedNode { described, origin })
     }
+}
+
+/// The keys up to `entry`.
+#[derive(Drop)]
+pub struct Head {
+    pub front: Front,
+    pub entry: Option<u64>,
+}
+
+/// The keys behind them, up to `origin`.
+#[derive(Drop)]
+pub struct Body {
+    pub middle: Middle,
+    pub origin: Word,
+}
+
+#[tactic(auto, unfolding(crate::specs::Files::head_at))]
+fn read_head(
+    alloc: Global,
+    members: &Map<String, Value>,
+    odd: Option<&str>,
+) -> Result<Head, JsonFault>
+    ensures { Gives result (head_at (option_map (λ k. k.now) odd.entry) (members_view members.now.entries)) }
+{
+    let front = read_front(alloc, members, odd)?;
+    let form = EntryForm {
+        external: is_external(members),
+    };
+    let entry = field(alloc, members, odd, "entry", &form)?;
+    Ok(Head { front, entry })
+}
+
+#[tactic(auto, unfolding(crate::specs::Files::body_at))]
+fn read_body(
+    alloc: Global,
+    members: &Map<String, Value>,
+    odd: Option<&str>,
+) -> Result<Body, JsonFault>
+    ensures { Gives result (body_at (option_map (λ k. k.now) odd.entry) (members_view members.now.entries)) }
+{
+    let middle = read_middle(alloc, members, odd)?;
+    let origin = field(alloc, members, odd, "origin", &Text(OriginText))?;
+    Ok(Body { middle, origin })
 }
 
 fn is_external(members: &Map<String, Value>) -> bool
