@@ -13,10 +13,10 @@ import hashlib
 import json
 import os
 import random
+import resource
 import subprocess
 import sys
 import tempfile
-import time
 
 TOP = os.path.dirname(os.path.dirname(os.path.abspath(__file__)))
 
@@ -55,9 +55,12 @@ def shapes(count):
 
 
 def timed(program, words):
-    start = time.monotonic()
+    """The processor time of a run, in which other work on the machine does not count, and the last line of its output."""
+    before = resource.getrusage(resource.RUSAGE_CHILDREN)
     done = subprocess.run([program, *words], capture_output=True, check=True)
-    return time.monotonic() - start, done.stdout.decode().rstrip("\n").split("\n")[-1]
+    after = resource.getrusage(resource.RUSAGE_CHILDREN)
+    taken = after.ru_utime - before.ru_utime + after.ru_stime - before.ru_stime
+    return taken, done.stdout.decode().rstrip("\n").split("\n")[-1]
 
 
 def tenth(program, word, path):
