@@ -3,6 +3,7 @@ ghost use Rattle.std.specs.Prelude.{◌≡◌, ◌++◌, ◌∷◌, [], All, Con
 ghost use Rattle.std.specs.Str.{IsUtf8};
 ghost use Rattle.serde_json.specs.Data.{array, object};
 ghost use Rattle.serde_json.specs.View.{view, items_of, items_view, members_view};
+ghost use Rattle.json_readers.specs.Json.{IsJson};
 ghost use Rattle.spec_grammar.specs.Canonical.{spec_text};
 ghost use Rattle.graph_core.specs.Graphs.{HasNode, IsGraph};
 ghost use Rattle.lock_writer.specs.Known.{all_hashes};
@@ -23,7 +24,7 @@ use spec_hash::Hash;
 use std::alloc::{AllocError, Global};
 
 /// The lock file of a graph whose nodes are built, external or installed in the database, with the roots in
-/// order: one line of compact JSON.
+/// order: one line of compact JSON, which is read as the value that it was written for.
 pub fn write_lock(
     alloc: Global,
     graph: &Graph,
@@ -31,7 +32,8 @@ pub fn write_lock(
     roots: &[Spec],
 ) -> Result<Vec<u8>, AllocError>
     requires { CanBeWritten graph.now database.now roots.now }
-    ensures { IfOk result (λ text. text.items ≡ lock_text graph.now database.now roots.now) }
+    ensures text { IfOk result (λ text. text.items ≡ lock_text graph.now database.now roots.now) }
+    ensures read { IfOk result (λ text. IsJson text.items (lock_data graph.now database.now roots.now)) }
 {
     let value = lock_value(alloc, graph, database, roots)?;
     let mut text = value.to_vec(alloc)?;

@@ -1,0 +1,7 @@
+-- what public contracts say
+pub mod Files
+pub mod Children
+pub mod Faults
+pub mod Locks
+-- inside
+pub mod Named

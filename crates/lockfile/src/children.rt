@@ -1,0 +1,115 @@
+// The children of nodes.
+ghost use Rattle.std.specs.Prelude.{◌≡◌, ◌++◌, Some, map, filter, IfOk, OnOk};
+ghost use Rattle.lockfile.specs.Children.{all_edges, children_of, edge_to, edges_of, is_needed, named_by, without_build};
+ghost use Rattle.lockfile.specs.Named.{AreNames};
+
+use crate::names::name_in;
+use crate::node::LockedNode;
+use graph_core::{Edge, Kinds, Origin};
+use plain_data::{Duplicate, List, Word};
+use spec_hash::Hash;
+use std::alloc::{AllocError, Global};
+use std::collections::BTreeMap;
+
+/// What a node has edges to: of its dependencies, an installed node those to link or run.
+pub(crate) fn children_of(
+    alloc: Global,
+    node: &LockedNode,
+) -> Result<List<(Hash, Kinds)>, AllocError>
+    ensures { IfOk result (λ list. list ≡ children_of node.now) }
+{
+    let dependencies = node.described.dependencies.as_slice();
+    match node.origin {
+        Origin::Installed(_) => needed(alloc, dependencies),
+        _ => all(alloc, dependencies),
+    }
+}
+
+fn all(alloc: Global, dependencies: &[(Hash, Kinds)]) -> Result<List<(Hash, Kinds)>, AllocError>
+    ensures { IfOk result (λ list. list ≡ dependencies.now) }
+{
+    let mut list = List::new(alloc);
+    for dependency in dependencies {
+        list.push(*dependency)?;
+    }
+    Ok(list)
+}
+
+fn needed(alloc: Global, dependencies: &[(Hash, Kinds)]) -> Result<List<(Hash, Kinds)>, AllocError>
+    ensures { IfOk result (λ list. list ≡ map without_build (filter is_needed dependencies.now)) }
+{
+    let mut list = List::new(alloc);
+    for dependency in dependencies {
+        if is_needed(dependency) {
+            list.push(without_build(dependency))?;
+        }
+    }
+    Ok(list)
+}
+
+fn is_needed(dependency: &(Hash, Kinds)) -> bool
+    ensures { result ≡ is_needed dependency.now }
+{
+    dependency.1.link || dependency.1.run
+}
+
+fn without_build(dependency: &(Hash, Kinds)) -> (Hash, Kinds)
+    ensures { result ≡ without_build dependency.now }
+{
+    let kinds = Kinds {
+        build: false,
+        link: dependency.1.link,
+        run: dependency.1.run,
+    };
+    (dependency.0, kinds)
+}
+
+/// The edges from all nodes to their children.
+pub(crate) fn all_edges(
+    alloc: Global,
+    nodes: &[LockedNode],
+    names: &BTreeMap<String, Word>,
+) -> Result<Vec<Edge>, AllocError>
+    requires { AreNames nodes.now names.now }
+    ensures { IfOk result (λ edges. edges.items ≡ all_edges nodes.now nodes.now) }
+{
+    let mut edges = Vec::new(alloc);
+    for node in nodes {
+        push_edges(alloc, nodes, node, names, &mut edges)?;
+    }
+    Ok(edges)
+}
+
+fn push_edges(
+    alloc: Global,
+    nodes: &[LockedNode],
+    node: &LockedNode,
+    names: &BTreeMap<String, Word>,
+    edges: &mut Vec<Edge>,
+) -> Result<(), AllocError>
+    requires { AreNames nodes.now names.now }
+    ensures { OnOk result (edges.new.items ≡ edges.old.items ++ edges_of nodes.now node.now) }
+{
+    let children = children_of(alloc, node)?;
+    for child in children.as_slice() {
+        if let Some(name) = name_in(names, child.0.as_str()) {
+            edges.push(edge_to(alloc, node, child, name)?)?;
+        }
+    }
+    Ok(())
+}
+
+fn edge_to(
+    alloc: Global,
+    node: &LockedNode,
+    child: &(Hash, Kinds),
+    name: &Word,
+) -> Result<Edge, AllocError>
+    ensures { IfOk result (λ edge. Some edge ≡ edge_to node.now.described.name child.now (Some name.now)) }
+{
+    Ok(Edge {
+        parent: node.described.name.duplicate(alloc)?,
+        child: name.duplicate(alloc)?,
+        kinds: child.1,
+    })
+}

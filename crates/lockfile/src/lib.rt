@@ -1,0 +1,23 @@
+//! Lock files: their reader, and with `lock_writer` their writer.
+//!
+//! What it is: `read_lock`, which gives the graph that a lock file says with its roots and hashes.
+//! What it promises: a file is read as what it says, or refused at its first fault.
+//! What it stands on: `record_reader` for what a node has in common with a record, `reuse_db` for hashes,
+//! `graph_core` for graphs, `json_readers`, and `lock_writer`.
+//! What it must not know: whether the graph is valid, and what is installed.
+#![tactic(auto)]
+
+mod checks;
+mod children;
+mod fault;
+mod file;
+mod graph;
+mod lock;
+mod names;
+mod node;
+
+pub use fault::LockFault;
+pub use file::File;
+pub use lock::{Lock, read_lock};
+pub use lock_writer::{can_be_written, node_hashes, write_lock};
+pub use node::{Body, Head, LockedNode};
