@@ -2,6 +2,7 @@
 """Rows for `solver_rows`: sets.py KIND COUNT SEED [SIZE [VERSIONS]].
 
 small     random clauses over 4 to 12 variables, with bits and the budgets 0, 1, 5, 100 (brute force tells the answer)
+ends      the same, with random places where numbers end, some of them out of order or out of range
 tight     random 3-clauses over 8 to 16 variables near the ratio where few models are left, with bits and the same budgets
 threesat  3-SAT of SIZE variables at ratio 4.26, without bits
 pigeons   pigeon holes: one pigeon more than 2 to SIZE holes
@@ -9,7 +10,8 @@ bits      random clauses over SIZE variables, about SIZE/10 bits
 chains    SIZE packages of VERSIONS (4) versions: each depends on some of the next ones, and the bits are the packages that are
           there and then the versions that are not the newest, of the first packages first, up to 2,000
 totals    the same packages; the bits spell numbers, each the sum of how old the versions of 8 neighbours are, the highest bit
-          first, and then how many of them are there. The row is `numbers`, with the place where each number ends
+          first, and then how many of them are there (VERSIONS as 4/24: of 24 neighbours). The row is `numbers`, with the place
+          where each number ends
 """
 import random, sys
 
@@ -31,6 +33,14 @@ def small(rng, _):
     clauses = [clause_of(rng, n, rng.choice([1, 2, 2, 3, 3, 3, 4])) for _ in range(rng.randint(n, 5 * n))]
     bits = [rng.choice([1, -1]) * rng.randint(1, n) for _ in range(rng.randint(0, 8))]
     return row(rng.choice([0, 1, 5, 100]), n, bits, clauses)
+
+
+def ends(rng, _):
+    words = (small if rng.random() < 0.5 else tight)(rng, _).split()
+    places = [str(rng.randint(1, 12)) for _ in range(rng.randint(0, 5))]
+    if rng.random() < 0.8:
+        places.sort(key=int)
+    return " ".join(["numbers", *words[1:3], *places, "0", *words[3:]])
 
 
 def tight(rng, _):
@@ -119,12 +129,14 @@ class Sums:
 
 
 def totals(rng, size):
-    versions, n = int(sys.argv[5]) if len(sys.argv) > 5 else 4, size or 100
+    versions, group = map(int, ((sys.argv[5] if len(sys.argv) > 5 else "4") + "/8").split("/")[:2])
+    n = size or 100
     clauses, there, version = packages(rng, n, versions)
     sums, bits, ends = Sums(n * (versions + 1), clauses), [], []
     age = lambda p: [sums.any_of([version(p, k) for k in range(versions) if k >> b & 1]) for b in range((versions - 1).bit_length())]
-    for low in range(0, n, 8):
-        for parts in ([age(p) for p in range(low, min(n, low + 8))], [[there(p)] for p in range(low, min(n, low + 8))]):
+    for low in range(0, n, group):
+        near = range(low, min(n, low + group))
+        for parts in ([age(p) for p in near], [[there(p)] for p in near]):
             bits += reversed(sums.total(parts))
             ends.append(len(bits))
     words = row(10**9, sums.variables, bits, sums.clauses).split()

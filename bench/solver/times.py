@@ -29,7 +29,11 @@ def share(program, rows):
     return "; " + ", ".join(f"{p} {n:.0f}%" for p, n in sorted(found.items(), key=lambda f: -f[1]))
 
 
-PARTS = [("analysis", ("analysis", "marks")), ("propagation", ("queue", "status", "trail", "occurrences")), ("choice", ("choice", "order"))]
+PARTS = [
+    ("propagation", ("Watch::propagate", "clause_watch::queue", "clause_watch::status")),
+    ("analysis", ("Search::teach", "clause_solver::analysis", "clause_solver::marks")),
+    ("choice", ("clause_solver::choice", "activity_order")),
+]
 program, kind, count, seed = sys.argv[1:5]
 here = os.path.dirname(os.path.abspath(__file__))
 for size in sys.argv[5:]:
