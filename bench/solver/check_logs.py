@@ -173,7 +173,10 @@ def least_by_solver(solver, variables, bits, clauses):
 
 def check(words, answer, solver):
     budget, variables = int(words[1]), int(words[2])
-    bits, clauses = parse(words[3:])
+    rest = words[3:]
+    if words[0] == "numbers":
+        rest = rest[rest.index("0") + 1:]
+    bits, clauses = parse(rest)
     first, log = answer[0].split(), Log(variables, bits, clauses)
     assert answer[1] == f"p 1 {variables} {len(clauses)} {len(bits)}", "header"
     kept = first[0] == "spent" or len(clauses) + len(answer) < 1500

@@ -1,8 +1,8 @@
 #!/bin/sh
 # The outside checks of the search crates: run.sh [SOLVER]. Builds the proved program `solver_rows` and asks it for
-# 4,000 small sets (all assignments tried), 3-SAT of 50 to 150 variables, pigeon holes to 7 and sets with bits (beside
-# SOLVER, minisat by default: `apt-get install minisat`, or cadical); `check_logs.py` checks each answer, each line of each
-# log and each model. PROGRAM=FILE takes a build that is there.
+# 5,000 small sets (all assignments tried), 3-SAT of 50 to 150 variables, pigeon holes to 7 and sets with bits (beside
+# SOLVER, minisat by default: `apt-get install minisat`, or cadical), sums as bits among them; `check_logs.py` checks each
+# answer, each line of each log and each model. PROGRAM=FILE takes a build that is there.
 set -e
 here=$(cd "$(dirname "$0")" && pwd)
 solver=${1:-minisat}
@@ -24,6 +24,7 @@ check() {
 }
 check small small 2000 1
 check tight tight 2000 8
+check ends ends 1000 9
 check threesat50 threesat 400 2 50
 check threesat75 threesat 200 3 75
 check threesat100 threesat 80 4 100
@@ -33,4 +34,5 @@ check pigeons pigeons 6 4 7
 check bits40 bits 300 5 40
 check bits80 bits 60 6 80
 check bits120 bits 20 7 120
+check totals totals 6 8 16 3
 rm -r "$out"

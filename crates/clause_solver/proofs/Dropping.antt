@@ -17,9 +17,6 @@ use Rattle.clause_solver.proofs.Resolving.{marks_after-parts, marks_after-from}
 use Rattle.clause_solver.proofs.Steps.{c, in-front, not-above, now, reason-known, step-within, step-leads}
 use Rattle.clause_solver.proofs.Levels.{place-there}
 
-pub KeepsBack-refl : (w : WatchValue) (m : List Bool) (chain : List ℕ) → KeepsBack w m m chain chain
-KeepsBack-refl w m chain old first g = g
-
 pub KeepsBack-trans : (w : WatchValue) (a b d : List Bool) (x y z : List ℕ) → KeepsBack w a b x y → KeepsBack w b d y z → KeepsBack w a d x z
 KeepsBack-trans w a b d x y z f g old first h = g old first (f old first h)
 

@@ -28,6 +28,7 @@ fn answer(alloc: Global, line: &str) -> Result<Vec<u8>, AllocError> {
     let words: Vec<&str> = line.split_whitespace().collect(alloc)?;
     match words.as_slice() {
         ["search", budget, vars, rest @ ..] => least::answer(alloc, budget, vars, rest),
+        ["numbers", budget, vars, rest @ ..] => least::answer_numbers(alloc, budget, vars, rest),
         ["solve", budget, vars, rest @ ..] => steps::answer(alloc, budget, vars, rest),
         ["watch", vars, rest @ ..] => trails::answer(alloc, vars, rest),
         _ => Ok(Vec::new(alloc)),
