@@ -22,3 +22,4 @@ pub use file::File;
 pub use lock::{Lock, read_lock};
 pub use lock_writer::{can_be_written, node_hashes, write_lock};
 pub use node::{Body, Head, LockedNode};
+pub use theorems::lock_laws;
