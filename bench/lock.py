@@ -6,7 +6,8 @@
 It runs the program that `rt run` built in FOLDER, which is crates/lock_rows/out unless it is given. A lock file of 1,024
 nodes is to be read in under 50 ms, and written again in under 50 ms: of each shape the program reads one file once and 11
 times, and reads and writes it once and 11 times, and what is printed is a tenth of the difference. Hostile JSON is to
-be refused in linear time: the time and its ratio at each doubling (near 2) up to 100 MB are printed.
+be refused in linear time: the time and its ratio at each doubling (near 2) up to 100 MB are printed. All times are
+processor times.
 """
 import base64
 import hashlib
