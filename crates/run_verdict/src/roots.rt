@@ -76,7 +76,7 @@ pub fn are_roots_of(
             }
             are_roots_of(alloc, hashes, specs, roots)
         }
-        ([], [_, ..]) => Ok(false),
-        ([_, ..], []) => Ok(false),
+        ([], [_root, _roots @ ..]) => Ok(false),
+        ([_spec, _specs @ ..], []) => Ok(false),
     }
 }
