@@ -1,3 +1,4 @@
 pub mod Once
 pub mod Paths
 pub mod Roots
+pub mod Stops
