@@ -1,5 +1,6 @@
 use Rattle.run_words.specs.Words.{words_of}
 use Rattle.concretizer.proofs.Ends.{reports_words, refused, settles, due, written}
+use Rattle.concretizer.proofs.Faults.{read_fault, write_fault, decided}
 use Rattle.concretizer.proofs.top.run.Goals as goal
 
 pub returns-in-Ok-Solved-clause-words : goal.returns-in-Ok-Solved-clause-words
@@ -32,3 +33,15 @@ returns-in-Ok-Solved-clause-due g c =
 pub returns-in-Ok-Unsolved-clause-due : goal.returns-in-Ok-Unsolved-clause-due
 returns-in-Ok-Unsolved-clause-due g c =
     written c.task_laws.ensures.one _ (words_of c.args.words.now) _ _ (_, _) (_, _) (_, _) (_, _) (_, _) _ c.in-Ok-Unsolved.ensures.outcome
+
+pub returns-in-Err-clause-read_fault : goal.returns-in-Err-clause-read_fault
+returns-in-Err-clause-read_fault g c =
+    read_fault (words_of c.args.words.now) c.in-Err.stop (_, _) (_, _) (_, _) (_, _) (_, _) _ c.report.ensures.reports c.in-Err.ensures.follows c.in-Err.ensures.unread c.in-Err.ensures.read
+
+pub returns-in-Err-clause-write_fault : goal.returns-in-Err-clause-write_fault
+returns-in-Err-clause-write_fault g c =
+    write_fault (words_of c.args.words.now) c.in-Err.stop (_, _) (_, _) (_, _) (_, _) (_, _) (_, _) _ c.report.ensures.reports c.in-Err.ensures.follows c.in-Err.ensures.outcome c.in-Err.ensures.unsaid
+    c.in-Err.ensures.put c.in-Err.ensures.said
+
+pub returns-in-Err-clause-decided : goal.returns-in-Err-clause-decided
+returns-in-Err-clause-decided g c = decided c.in-Err.stop (_, _) (_, _) _ c.report.ensures.reports
