@@ -13,7 +13,7 @@ fn names_rise(recipes: &[Recipe]) -> bool
 {
     match recipes {
         [] => true,
-        [_] => true,
+        [_recipe] => true,
         [first, second, ..] => {
             first.name.as_str().cmp(second.name.as_str()).is_lt() && names_rise(&recipes[1..])
         }
