@@ -19,7 +19,8 @@ under-push n [] x h u = (h, tt)
 under-push n (y ∷ xs) x h u = (u.0, under-push n xs x h u.1)
 
 -- a variable is put at a place
-pub order-put : (heap places : List ℕ) (waiting activities phases place var : ℕ) → IsOrder heap places waiting activities phases → place < length heap → var < length heap → IsOrder (set heap place var) (set places var place) waiting activities phases
+pub order-put : (heap places : List ℕ) (waiting activities phases place var : ℕ) → IsOrder heap places waiting activities phases
+    → place < length heap → var < length heap → IsOrder (set heap place var) (set places var place) waiting activities phases
 order-put heap places waiting activities phases place var o p v =
     let n : length (set heap place var) ≡ length heap = length-set heap place var in record {
       heap_under = subst (λ k. AllUnder k (set heap place var)) (sym n) (under-set (length heap) heap place var v o.heap_under);
@@ -31,7 +32,8 @@ order-put heap places waiting activities phases place var o p v =
     }
 
 -- all variables wait
-pub order-whole : (heap places : List ℕ) (vars activities phases : ℕ) → length heap ≡ vars → AllUnder vars heap → length places ≡ vars → AllUnder vars places → activities ≡ vars → phases ≡ vars → IsOrder heap places vars activities phases
+pub order-whole : (heap places : List ℕ) (vars activities phases : ℕ) → length heap ≡ vars → AllUnder vars heap → length places ≡ vars
+    → AllUnder vars places → activities ≡ vars → phases ≡ vars → IsOrder heap places vars activities phases
 order-whole heap places vars activities phases n h m p a f = record {
   heap_under = subst (λ k. AllUnder k heap) (sym n) h;
   places_under = subst (λ k. AllUnder k places) (sym n) p;
@@ -42,9 +44,12 @@ order-whole heap places vars activities phases n h m p a f = record {
 }
 
 -- what stands in the tables is under the bound
-module _ (o : OrderValue) (heap places : List ℕ) (w a p i x y : ℕ) (last : List Bool) (view : ◌≡◌ {A = OrderValue} (record { vars = length heap; waiting = w; phases = last }) o) (is : IsOrder heap places w a p) (h : i < length heap) where
+module _ (o : OrderValue) (heap places : List ℕ) (w a p i x y : ℕ) (last : List Bool)
+    (view : ◌≡◌ {A = OrderValue} (record { vars = length heap; waiting = w; phases = last }) o) (is : IsOrder heap places w a p)
+    (h : i < length heap) where
   pub heap-at : x ≡ get_or heap i y → x < o.vars
   heap-at e = subst (λ (v : OrderValue). x < v.vars) view (rw e (under-get (length heap) heap i y h is.heap_under))
 
   pub place-at : x ≡ get_or places i y → x < o.vars
-  place-at e = subst (λ (v : OrderValue). x < v.vars) view (rw e (under-get (length heap) places i y (omega (arith, h, is.same_places)) is.places_under))
+  place-at e = subst (λ (v : OrderValue). x < v.vars) view
+      (rw e (under-get (length heap) places i y (omega (arith, h, is.same_places)) is.places_under))

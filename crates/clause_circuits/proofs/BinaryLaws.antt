@@ -29,15 +29,32 @@ pub count-option : (v : ℕ → Bool) (b : Option Lit) → count_true v (option_
 count-option v None = refl
 count-option v (Some l) = omega arith
 
-present-counts : (v : ℕ → Bool) (a b c : Option Lit) → count_true v (present a b c) ≡ bit (bit_true v a) + bit (bit_true v b) + bit (bit_true v c)
-present-counts v a b c = omega (arith, count-append v (option_list a ++ option_list b) (option_list c), count-append v (option_list a) (option_list b), count-option v a, count-option v b, count-option v c)
+present-counts : (v : ℕ → Bool) (a b c : Option Lit)
+    → count_true v (present a b c) ≡ bit (bit_true v a) + bit (bit_true v b) + bit (bit_true v c)
+present-counts v a b c =
+    omega (
+      arith,
+      count-append v (option_list a ++ option_list b) (option_list c),
+      count-append v (option_list a) (option_list b),
+      count-option v a,
+      count-option v b,
+      count-option v c,
+    )
 
 pub option-short : (b : Option Lit) → length (option_list b) ≤ 1
 option-short None = omega arith
 option-short (Some l) = omega arith
 
 present-short : (a b c : Option Lit) → length (present a b c) ≤ 3
-present-short a b c = omega (arith, length-append (option_list a ++ option_list b) (option_list c), length-append (option_list a) (option_list b), option-short a, option-short b, option-short c)
+present-short a b c =
+    omega (
+      arith,
+      length-append (option_list a ++ option_list b) (option_list c),
+      length-append (option_list a) (option_list b),
+      option-short a,
+      option-short b,
+      option-short c,
+    )
 
 pub AllBelow-append : (n : ℕ) (ks ls : List Lit) → AllBelow n ks → AllBelow n ls → AllBelow n (ks ++ ls)
 AllBelow-append n [] ls a b = b
@@ -48,7 +65,8 @@ option-below n None f = tt
 option-below n (Some l) f = (f, tt)
 
 present-below : (n : ℕ) (a b c : Option Lit) → Fits n a → Fits n b → Fits n c → AllBelow n (present a b c)
-present-below n a b c f g h = AllBelow-append n (option_list a ++ option_list b) (option_list c) (AllBelow-append n (option_list a) (option_list b) (option-below n a f) (option-below n b g)) (option-below n c h)
+present-below n a b c f g h = AllBelow-append n (option_list a ++ option_list b) (option_list c)
+    (AllBelow-append n (option_list a) (option_list b) (option-below n a f) (option-below n b g)) (option-below n c h)
 
 pub Fits-more : (m n : ℕ) (b : Option Lit) → m ≤ n → Fits m b → Fits n b
 Fits-more m n None h f = tt
@@ -72,7 +90,8 @@ pub record SpellsFrom (p : Planned) (m : Made (List (Option Lit))) (n : (ℕ →
   pub fit : AllFit (next m.plan) m.answer
   pub spells : (v : ℕ → Bool) → FollowsPlan v m.plan → n v < limit → value v m.answer ≡ n v
 
-pub add_on-is : (w : ℕ) (p : Planned) (ls : List Lit) (bs cs : List (Option Lit)) → AllBelow (next p) ls → AllFit (next p) bs → AllFit (next p) cs → length ls ≤ 3 →
+pub add_on-is : (w : ℕ) (p : Planned) (ls : List Lit) (bs cs : List (Option Lit)) → AllBelow (next p) ls → AllFit (next p) bs
+    → AllFit (next p) cs → length ls ≤ 3 →
     SpellsFrom p (add_on w p ls bs cs) (λ v. bit (two v ls) + value v bs + value v cs) (2 ^ w)
 add_on-is zero p ls bs cs a f g k = record { step = Step-refl p; fit = tt; spells = λ v fol h. omega arith }
 add_on-is (suc w) p ls bs cs a f g k =
@@ -80,13 +99,17 @@ add_on-is (suc w) p ls bs cs a f g k =
     let s = carry_on-step p ls a in
     let here = present carry.answer (first_bit bs) (first_bit cs) in
     let n = next carry.plan in
-    let below : AllBelow n here = present-below n carry.answer (first_bit bs) (first_bit cs) s.1 (Fits-more (next p) n (first_bit bs) s.0.more (first-fits (next p) bs f)) (Fits-more (next p) n (first_bit cs) s.0.more (first-fits (next p) cs g)) in
+    let below : AllBelow n here = present-below n carry.answer (first_bit bs) (first_bit cs) s.1
+    (Fits-more (next p) n (first_bit bs) s.0.more (first-fits (next p) bs f))
+    (Fits-more (next p) n (first_bit cs) s.0.more (first-fits (next p) cs g)) in
     let sum = odd_on carry.plan here in
     let t = odd_on-step carry.plan here below in
     let m = next sum.plan in
     let up : next p ≤ m = omega (arith, s.0.more, t.0.more) in
     let short = present-short carry.answer (first_bit bs) (first_bit cs) in
-    let r = add_on-is w sum.plan here (rest_bits bs) (rest_bits cs) (AllBelow-le n m here t.0.more below) (AllFit-more (next p) m (rest_bits bs) up (rest-fit (next p) bs f)) (AllFit-more (next p) m (rest_bits cs) up (rest-fit (next p) cs g)) short in
+    let r = add_on-is w sum.plan here (rest_bits bs) (rest_bits cs) (AllBelow-le n m here t.0.more below)
+    (AllFit-more (next p) m (rest_bits bs) up (rest-fit (next p) bs f))
+    (AllFit-more (next p) m (rest_bits cs) up (rest-fit (next p) cs g)) short in
     let last = (add_on w sum.plan here (rest_bits bs) (rest_bits cs)).plan in record {
       step = Step-trans p carry.plan last s.0 (Step-trans carry.plan sum.plan last t.0 r.step);
       fit = (Fits-more m (next last) sum.answer r.step.more t.1, r.fit);
@@ -112,7 +135,8 @@ size_below-is zero n h = h
 size_below-is (suc k) n h =
     elim (cases_Bool (eqb n 0)) [
       | inl t ↦ rw t (omega (arith, eqb-true n 0 t))
-      | inr f ↦ let ih : n / 2 < 2 ^ size_below k (n / 2) = size_below-is k (n / 2) (omega (arith, pow-suc 2 k)) in rw f (omega (arith, pow-suc 2 (size_below k (n / 2))))
+      | inr f ↦ let ih : n / 2 < 2 ^ size_below k (n / 2) = size_below-is k (n / 2) (omega (arith, pow-suc 2 k)) in
+          rw f (omega (arith, pow-suc 2 (size_below k (n / 2))))
     ]
 
 pub size-is : (n : ℕ) → n < 2 ^ 63 → n < 2 ^ size n
@@ -157,9 +181,15 @@ two-none : (v : ℕ → Bool) → bit (two v []) ≡ 0
 two-none v = refl
 
 -- the bits of a tree spell the sum of the weights of true literals
-pub sum_on-is : (p : Planned) (t : Tree (ℕ × Lit)) → TreeBelow (next p) t → tree_total t < 2 ^ 63 → SpellsFrom p (sum_on p t) (λ v. tree_sum (weight_of v) t) (2 ^ 63)
+pub sum_on-is : (p : Planned) (t : Tree (ℕ × Lit)) → TreeBelow (next p) t → tree_total t < 2 ^ 63
+    → SpellsFrom p (sum_on p t) (λ v. tree_sum (weight_of v) t) (2 ^ 63)
 sum_on-is p none b h = record { step = Step-refl p; fit = tt; spells = λ v f k. refl }
-sum_on-is p (leaf t) b h = record { step = Step-refl p; fit = weighed-fits (next p) (size t.0) t.0 t.1 b; spells = λ v f k. weighed-is v (size t.0) t.0 t.1 (size-is t.0 h) }
+sum_on-is p (leaf t) b h = record {
+  step = Step-refl p;
+  fit = weighed-fits (next p) (size t.0) t.0 t.1 b;
+  spells =
+      λ v f k. weighed-is v (size t.0) t.0 t.1 (size-is t.0 h);
+}
 sum_on-is p (node l r) b h =
     let left = sum_on p l in
     let x = sum_on-is p l b.0 (omega arith) in
@@ -167,14 +197,16 @@ sum_on-is p (node l r) b h =
     let y = sum_on-is left.plan r (TreeBelow-more (next p) (next left.plan) r x.step.more b.1) (omega arith) in
     let w = size (tree_total l + tree_total r) in
     let sum = add_on w right.plan [] left.answer right.answer in
-    let z = add_on-is w right.plan [] left.answer right.answer tt (AllFit-more (next left.plan) (next right.plan) left.answer y.step.more x.fit) y.fit (omega arith) in record {
+    let z = add_on-is w right.plan [] left.answer right.answer tt
+    (AllFit-more (next left.plan) (next right.plan) left.answer y.step.more x.fit) y.fit (omega arith) in record {
       step = Step-trans p left.plan sum.plan x.step (Step-trans left.plan right.plan sum.plan y.step z.step);
       fit = z.fit;
       spells = λ v f k.
           let f1 = z.step.follows v f in
           let e1 = x.spells v (y.step.follows v f1) (omega arith) in
           let e2 = y.spells v f1 (omega arith) in
-          let small : bit (two v []) + value v left.answer + value v right.answer < 2 ^ w = omega (arith, two-none v, weight-le v l, weight-le v r, size-is (tree_total l + tree_total r) h) in
+          let small : bit (two v []) + value v left.answer + value v right.answer < 2 ^ w =
+          omega (arith, two-none v, weight-le v l, weight-le v r, size-is (tree_total l + tree_total r) h) in
           let e3 = z.spells v f small in
           omega (arith, two-none v);
     }
@@ -186,7 +218,9 @@ sum_on-length p (leaf t) = weighed-length (size t.0) t.0 t.1
 sum_on-length p (node l r) = add_on-length (size (tree_total l + tree_total r)) _ [] (sum_on p l).answer (sum_on (sum_on p l).plan r).answer
 
 -- literals for bits
-pub spell_on-is : (p : Planned) (bs : List (Option Lit)) → AllFit (next p) bs → Step p (spell_on p bs).plan × AllBelow (next (spell_on p bs).plan) (spell_on p bs).answer × ((v : ℕ → Bool) → FollowsPlan v (spell_on p bs).plan → map (lit_true v) (spell_on p bs).answer ≡ map (bit_true v) bs)
+pub spell_on-is : (p : Planned) (bs : List (Option Lit)) → AllFit (next p) bs → Step p (spell_on p bs).plan
+    × AllBelow (next (spell_on p bs).plan) (spell_on p bs).answer
+    × ((v : ℕ → Bool) → FollowsPlan v (spell_on p bs).plan → map (lit_true v) (spell_on p bs).answer ≡ map (bit_true v) bs)
 spell_on-is p [] f = (Step-refl p, tt, (λ v g. refl))
 spell_on-is p (None ∷ bs) f =
     let off = with_gate p never in
@@ -208,7 +242,8 @@ reverse-cons x xs = reverse-append (x ∷ []) xs
 
 pub map-reverse : {A B : Type 0} (f : A → B) (xs : List A) → map f (reverse xs) ≡ reverse (map f xs)
 map-reverse f [] = refl
-map-reverse f (x ∷ xs) = ap (map f) (reverse-cons x xs) ∙ map-append f (reverse xs) (x ∷ []) ∙ rw (map-reverse f xs) (sym (reverse-cons (f x) (map f xs)))
+map-reverse f (x ∷ xs) = ap (map f) (reverse-cons x xs) ∙ map-append f (reverse xs) (x ∷ [])
+    ∙ rw (map-reverse f xs) (sym (reverse-cons (f x) (map f xs)))
 
 number_after-push : (n : ℕ) (xs : List Bool) (b : Bool) → number_after n (xs ++ b ∷ []) ≡ 2 * number_after n xs + bit b
 number_after-push n [] b = refl
@@ -216,7 +251,8 @@ number_after-push n (x ∷ xs) b = number_after-push (2 * n + bit x) xs b
 
 number-reverse : (v : ℕ → Bool) (bs : List (Option Lit)) → number (reverse (map (bit_true v) bs)) ≡ value v bs
 number-reverse v [] = refl
-number-reverse v (b ∷ bs) = ap number (reverse-cons (bit_true v b) (map (bit_true v) bs)) ∙ number_after-push 0 (reverse (map (bit_true v) bs)) (bit_true v b) ∙ omega (arith, number-reverse v bs)
+number-reverse v (b ∷ bs) = ap number (reverse-cons (bit_true v b) (map (bit_true v) bs))
+    ∙ number_after-push 0 (reverse (map (bit_true v) bs)) (bit_true v b) ∙ omega (arith, number-reverse v bs)
 
 pub AllBelow-reverse : (n : ℕ) (ls : List Lit) → AllBelow n ls → AllBelow n (reverse ls)
 AllBelow-reverse n [] b = tt
@@ -234,15 +270,18 @@ sum_bits_on-is p ts b h =
       below = AllBelow-reverse (next m.plan) m.answer y.1;
       sums = λ v f.
           let small : tree_sum (weight_of v) t < 2 ^ 63 = omega (arith, weight-le v t, halved-sum (λ (t : ℕ × Lit). t.0) ts) in
-          ap number (map-reverse (lit_true v) m.answer ∙ ap reverse (y.2 v f)) ∙ number-reverse v sum.answer ∙ x.spells v (y.0.follows v f) small ∙ halved-sum (weight_of v) ts;
+          ap number (map-reverse (lit_true v) m.answer ∙ ap reverse (y.2 v f)) ∙ number-reverse v sum.answer
+          ∙ x.spells v (y.0.follows v f) small ∙ halved-sum (weight_of v) ts;
     }
 
 pub sum_bits_on-length : (p : Planned) (ts : List (ℕ × Lit)) → length (sum_bits_on p ts).answer ≡ size (total ts)
 unfolding sum_bits_on
-sum_bits_on-length p ts = length-reverse _ ∙ spell_on-length _ (sum_on p (halved ts)).answer ∙ sum_on-length p (halved ts) ∙ ap size (halved-sum (λ (t : ℕ × Lit). t.0) ts)
+sum_bits_on-length p ts = length-reverse _ ∙ spell_on-length _ (sum_on p (halved ts)).answer ∙ sum_on-length p (halved ts)
+    ∙ ap size (halved-sum (λ (t : ℕ × Lit). t.0) ts)
 
 -- what the code planned for a list of clauses
-module _ (s : Clauses) (ts : List (ℕ × Lit)) (q : Planned) (bits : List Lit) (b : TermsBelow s.vars ts) (h : total ts < 2 ^ 63) (built : sum_bits_on (plan_at s) ts ≡ record { plan = q; answer = bits }) where
+module _ (s : Clauses) (ts : List (ℕ × Lit)) (q : Planned) (bits : List Lit) (b : TermsBelow s.vars ts) (h : total ts < 2 ^ 63)
+    (built : sum_bits_on (plan_at s) ts ≡ record { plan = q; answer = bits }) where
   planned : SumsTo (plan_at s) (record { plan = q; answer = bits }) ts
   planned = let e : s.vars + 0 ≡ s.vars = omega arith in rw (← built) (sum_bits_on-is (plan_at s) ts (rw e b) h)
 

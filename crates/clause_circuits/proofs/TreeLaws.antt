@@ -23,14 +23,19 @@ module _ {A : Type 0} where
       let back = length-drop n xs in
       rw (halves-enough j k (take n xs) (omega arith) (omega arith), halves-enough j k (drop n xs) (omega arith) (omega arith)) refl
 
-  halved-node : (x y : A) (zs : List A) → halved (x ∷ y ∷ zs) ≡ node (halved (take (length (x ∷ y ∷ zs) / 2) (x ∷ y ∷ zs))) (halved (drop (length (x ∷ y ∷ zs) / 2) (x ∷ y ∷ zs)))
+  halved-node : (x y : A) (zs : List A) → halved (x ∷ y ∷ zs) ≡ node (halved (take (length (x ∷ y ∷ zs) / 2) (x ∷ y ∷ zs)))
+      (halved (drop (length (x ∷ y ∷ zs) / 2) (x ∷ y ∷ zs)))
   unfolding halved
   halved-node x y zs =
       let xs = x ∷ y ∷ zs in
       let n = length xs / 2 in
       let front = length-take n xs in
       let back = length-drop n xs in
-      rw (halves-enough (suc (length zs)) (length (take n xs)) (take n xs) (omega arith) (omega arith), halves-enough (suc (length zs)) (length (drop n xs)) (drop n xs) (omega arith) (omega arith)) refl
+      rw (
+        halves-enough (suc (length zs)) (length (take n xs)) (take n xs) (omega arith) (omega arith),
+        halves-enough (suc (length zs))
+            (length (drop n xs)) (drop n xs) (omega arith) (omega arith),
+      ) refl
 
   pub halved-none : (xs : List A) → length xs < 1 → halved xs ≡ none
   unfolding halved
@@ -53,7 +58,8 @@ halves-sum f (suc k) (x ∷ y ∷ zs) h =
     let n = length xs / 2 in
     let front = length-take n xs in
     let back = length-drop n xs in
-    rw (halves-sum f k (take n xs) (omega arith), halves-sum f k (drop n xs) (omega arith)) (sym (sum_by-append f (take n xs) (drop n xs)) ∙ ap (sum_by f) (take-append-drop n xs))
+    rw (halves-sum f k (take n xs) (omega arith), halves-sum f k (drop n xs) (omega arith)) (sym (sum_by-append f (take n xs) (drop n xs))
+    ∙ ap (sum_by f) (take-append-drop n xs))
 
 pub halved-sum : {A : Type 0} (f : A → ℕ) (xs : List A) → tree_sum f (halved xs) ≡ sum_by f xs
 unfolding halved
@@ -73,7 +79,8 @@ halves-below : (n k : ℕ) (ts : List (ℕ × Lit)) → TermsBelow n ts → Tree
 halves-below n zero ts b = tt
 halves-below n (suc k) [] b = tt
 halves-below n (suc k) (t ∷ []) b = b.0
-halves-below n (suc k) (t ∷ u ∷ ts) b = (halves-below n k _ (TermsBelow-take n _ (t ∷ u ∷ ts) b), halves-below n k _ (TermsBelow-drop n _ (t ∷ u ∷ ts) b))
+halves-below n (suc k) (t ∷ u ∷ ts) b =
+    (halves-below n k _ (TermsBelow-take n _ (t ∷ u ∷ ts) b), halves-below n k _ (TermsBelow-drop n _ (t ∷ u ∷ ts) b))
 
 pub halved-below : (n : ℕ) (ts : List (ℕ × Lit)) → TermsBelow n ts → TreeBelow n (halved ts)
 unfolding halved
@@ -94,7 +101,8 @@ weight-le v none = omega arith
 weight-le v (leaf t) = bit-le (lit_true v t.1) t.0
 weight-le v (node l r) = omega (arith, weight-le v l, weight-le v r)
 
-pub halved-split : {A : Type 0} (xs : List A) → 2 ≤ length xs → halved xs ≡ node (halved (take (length xs / 2) xs)) (halved (drop (length xs / 2) xs))
+pub halved-split : {A : Type 0} (xs : List A) → 2 ≤ length xs
+    → halved xs ≡ node (halved (take (length xs / 2) xs)) (halved (drop (length xs / 2) xs))
 halved-split [] h = absurd (omega arith)
 halved-split (x ∷ []) h = absurd (omega arith)
 halved-split (x ∷ y ∷ zs) h = halved-node x y zs

@@ -47,4 +47,5 @@ adder_on p a b c =
 pub record IsAdder (old new : Clauses) (sum carry a b c : Lit) : Type 0 where
   pub defines : Defines old new
   pub below : AllBelow new.vars (sum ∷ carry ∷ [])
-  pub adds : (asked v : ℕ → Bool) → MeetsSince asked v old new → bit (lit_true v sum) + 2 * bit (lit_true v carry) ≡ count_true v (a ∷ b ∷ c ∷ [])
+  pub adds : (asked v : ℕ → Bool) → MeetsSince asked v old new
+      → bit (lit_true v sum) + 2 * bit (lit_true v carry) ≡ count_true v (a ∷ b ∷ c ∷ [])

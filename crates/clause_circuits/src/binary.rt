@@ -23,7 +23,8 @@ pub fn sum_bits(
 ) -> Result<Vec<Lit>, AllocError>
     requires in_range { TermsBelow clauses.old.vars terms.now }
     requires small { total terms.now < 2 ^ 63 }
-    ensures built { IfOk result (λ bits. IsBuilt clauses.old clauses.new (sum_bits_on (plan_at clauses.old) terms.now) bits.items) }
+    ensures built { IfOk result (λ bits. IsBuilt clauses.old clauses.new
+        (sum_bits_on (plan_at clauses.old) terms.now) bits.items) }
     ensures sum { IfOk result (λ bits. IsSum clauses.old clauses.new bits.items terms.now) }
     ensures extends { Extends clauses.old clauses.new }
 {
@@ -40,7 +41,11 @@ pub fn plan_bits(
     terms: &[(u64, Lit)],
 ) -> Result<Vec<Lit>, AllocError>
     requires { total terms.now < 2 ^ 63 }
-    ensures { IfOk result (λ bits. sum_bits_on plan.old terms.now ≡ record { plan = plan.new; answer = bits.items }) }
+    ensures { IfOk result (λ bits. sum_bits_on plan.old terms.now ≡ record {
+      plan =
+          plan.new;
+      answer = bits.items;
+    }) }
 {
     let sum = sum_tree(alloc, plan, terms)?;
     let mut bits = spell(alloc, plan, sum.as_slice())?;
@@ -78,7 +83,11 @@ fn sum_tree(
     terms: &[(u64, Lit)],
 ) -> Result<Vec<Option<Lit>>, AllocError>
     requires { total terms.now < 2 ^ 63 }
-    ensures { IfOk result (λ bits. sum_on plan.old (halved terms.now) ≡ record { plan = plan.new; answer = bits.items }) }
+    ensures { IfOk result (λ bits. sum_on plan.old (halved terms.now) ≡ record {
+      plan =
+          plan.new;
+      answer = bits.items;
+    }) }
 {
     match terms {
         [] => Ok(Vec::new(alloc)),
@@ -118,7 +127,11 @@ fn add(
     a: &[Option<Lit>],
     b: &[Option<Lit>],
 ) -> Result<Vec<Option<Lit>>, AllocError>
-    ensures { IfOk result (λ bits. add_on width plan.old [] a.now b.now ≡ record { plan = plan.new; answer = bits.items }) }
+    ensures { IfOk result (λ bits. add_on width plan.old [] a.now b.now ≡ record {
+      plan =
+          plan.new;
+      answer = bits.items;
+    }) }
 {
     let mut below: SmallVec<Lit, 3> = SmallVec::new(alloc);
     let mut bits = Vec::new(alloc);
@@ -143,7 +156,11 @@ fn bit_at(bits: &[Option<Lit>], place: usize) -> Option<Lit>
 
 // Literals for bits.
 fn spell(alloc: Global, plan: &mut Plan, bits: &[Option<Lit>]) -> Result<Vec<Lit>, AllocError>
-    ensures { IfOk result (λ lits. spell_on plan.old bits.now ≡ record { plan = plan.new; answer = lits.items }) }
+    ensures { IfOk result (λ lits. spell_on plan.old bits.now ≡ record {
+      plan = plan.new;
+      answer =
+          lits.items;
+    }) }
 {
     let mut lits = Vec::new(alloc);
     for bit in bits {

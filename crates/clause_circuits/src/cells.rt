@@ -11,7 +11,11 @@ use std::alloc::{AllocError, Global};
 
 /// The lowest bit of the number of true ones among at most three literals.
 pub(crate) fn odd_of(plan: &mut Plan, lits: &[Lit]) -> Result<Option<Lit>, AllocError>
-    ensures { IfOk result (λ bit. odd_on plan.old lits.now ≡ record { plan = plan.new; answer = bit }) }
+    ensures { IfOk result (λ bit. odd_on plan.old lits.now ≡ record {
+      plan =
+          plan.new;
+      answer = bit;
+    }) }
 {
     match lits {
         [] => Ok(None),
@@ -23,7 +27,11 @@ pub(crate) fn odd_of(plan: &mut Plan, lits: &[Lit]) -> Result<Option<Lit>, Alloc
 
 /// Its next bit.
 pub(crate) fn carry_of(plan: &mut Plan, lits: &[Lit]) -> Result<Option<Lit>, AllocError>
-    ensures { IfOk result (λ bit. carry_on plan.old lits.now ≡ record { plan = plan.new; answer = bit }) }
+    ensures { IfOk result (λ bit. carry_on plan.old lits.now ≡ record {
+      plan =
+          plan.new;
+      answer = bit;
+    }) }
 {
     match lits {
         [] => Ok(None),
@@ -35,7 +43,11 @@ pub(crate) fn carry_of(plan: &mut Plan, lits: &[Lit]) -> Result<Option<Lit>, All
 
 /// A literal for a bit: one that is true nowhere where the bit is known to be false.
 pub(crate) fn known(alloc: Global, plan: &mut Plan, bit: Option<Lit>) -> Result<Lit, AllocError>
-    ensures { IfOk result (λ lit. known_on plan.old bit ≡ record { plan = plan.new; answer = lit }) }
+    ensures { IfOk result (λ lit. known_on plan.old bit ≡ record {
+      plan =
+          plan.new;
+      answer = lit;
+    }) }
 {
     match bit {
         Some(lit) => Ok(lit),

@@ -14,8 +14,10 @@ use std::alloc::{AllocError, Global};
 /// A literal that is true exactly where some literal of the list is. One literal is its own.
 pub fn or(alloc: Global, clauses: &mut ClauseList, lits: &[Lit]) -> Result<Lit, AllocError>
     requires { AllBelow clauses.old.vars lits.now }
-    ensures built { IfOk result (λ lit. IsBuilt clauses.old clauses.new (some_on (plan_at clauses.old) lits.now) lit) }
-    ensures gate { IfOk result (λ lit. DefinesLit clauses.old clauses.new lit (λ v. clause_true v lits.now)) }
+    ensures built { IfOk result (λ lit. IsBuilt clauses.old clauses.new
+        (some_on (plan_at clauses.old) lits.now) lit) }
+    ensures gate { IfOk result (λ lit. DefinesLit clauses.old clauses.new lit
+        (λ v. clause_true v lits.now)) }
     ensures extends { Extends clauses.old clauses.new }
 {
     let mut plan = Plan::new(alloc, clauses);
@@ -28,7 +30,8 @@ pub fn or(alloc: Global, clauses: &mut ClauseList, lits: &[Lit]) -> Result<Lit, 
 /// counts twice. Takes at most three variables for each literal.
 pub fn exactly_one(alloc: Global, clauses: &mut ClauseList, lits: &[Lit]) -> Result<Lit, AllocError>
     requires { AllBelow clauses.old.vars lits.now }
-    ensures built { IfOk result (λ lit. IsBuilt clauses.old clauses.new (exactly_one_on (plan_at clauses.old) lits.now) lit) }
+    ensures built { IfOk result (λ lit. IsBuilt clauses.old clauses.new
+        (exactly_one_on (plan_at clauses.old) lits.now) lit) }
     ensures gate { IfOk result (λ lit. DefinesLit clauses.old clauses.new lit (has_one lits.now)) }
     ensures extends { Extends clauses.old clauses.new }
 {
@@ -47,7 +50,8 @@ pub fn full_adder(
     c: Lit,
 ) -> Result<(Lit, Lit), AllocError>
     requires { AllBelow clauses.old.vars (a ∷ b ∷ c ∷ []) }
-    ensures built { IfOk result (λ bits. IsBuilt clauses.old clauses.new (adder_on (plan_at clauses.old) a b c) (bits.0, bits.1)) }
+    ensures built { IfOk result (λ bits. IsBuilt clauses.old clauses.new
+        (adder_on (plan_at clauses.old) a b c) (bits.0, bits.1)) }
     ensures adder { IfOk result (λ bits. IsAdder clauses.old clauses.new bits.0 bits.1 a b c) }
     ensures extends { Extends clauses.old clauses.new }
 {
@@ -58,7 +62,11 @@ pub fn full_adder(
 }
 
 fn plan_some(alloc: Global, plan: &mut Plan, lits: &[Lit]) -> Result<Lit, AllocError>
-    ensures { IfOk result (λ lit. some_on plan.old lits.now ≡ record { plan = plan.new; answer = lit }) }
+    ensures { IfOk result (λ lit. some_on plan.old lits.now ≡ record {
+      plan =
+          plan.new;
+      answer = lit;
+    }) }
 {
     let bit = plan_any(alloc, plan, lits)?;
     let lit = known(alloc, plan, bit)?;
@@ -67,7 +75,11 @@ fn plan_some(alloc: Global, plan: &mut Plan, lits: &[Lit]) -> Result<Lit, AllocE
 
 // The same, or nothing where it is known to be false.
 fn plan_any(alloc: Global, plan: &mut Plan, lits: &[Lit]) -> Result<Option<Lit>, AllocError>
-    ensures { IfOk result (λ bit. any_on plan.old lits.now ≡ record { plan = plan.new; answer = bit }) }
+    ensures { IfOk result (λ bit. any_on plan.old lits.now ≡ record {
+      plan =
+          plan.new;
+      answer = bit;
+    }) }
 {
     match lits {
         [] => Ok(None),
@@ -80,7 +92,11 @@ fn plan_any(alloc: Global, plan: &mut Plan, lits: &[Lit]) -> Result<Option<Lit>,
 }
 
 fn plan_exactly_one(alloc: Global, plan: &mut Plan, lits: &[Lit]) -> Result<Lit, AllocError>
-    ensures { IfOk result (λ lit. exactly_one_on plan.old lits.now ≡ record { plan = plan.new; answer = lit }) }
+    ensures { IfOk result (λ lit. exactly_one_on plan.old lits.now ≡ record {
+      plan =
+          plan.new;
+      answer = lit;
+    }) }
 {
     let (one, two) = ones(alloc, plan, lits)?;
     let lit = without(alloc, plan, one, two)?;
@@ -93,7 +109,11 @@ fn ones(
     plan: &mut Plan,
     lits: &[Lit],
 ) -> Result<(Option<Lit>, Option<Lit>), AllocError>
-    ensures { IfOk result (λ bits. ones_on plan.old lits.now ≡ record { plan = plan.new; answer = (bits.0, bits.1) }) }
+    ensures { IfOk result (λ bits. ones_on plan.old lits.now ≡ record {
+      plan = plan.new;
+      answer =
+          (bits.0, bits.1);
+    }) }
 {
     let mut one = None;
     let mut two = None;
@@ -114,7 +134,11 @@ fn without(
     bit: Option<Lit>,
     other: Option<Lit>,
 ) -> Result<Lit, AllocError>
-    ensures { IfOk result (λ lit. without_on plan.old bit other ≡ record { plan = plan.new; answer = lit }) }
+    ensures { IfOk result (λ lit. without_on plan.old bit other ≡ record {
+      plan =
+          plan.new;
+      answer = lit;
+    }) }
 {
     match (bit, other) {
         (Some(a), Some(b)) => {
@@ -129,7 +153,11 @@ fn without(
 }
 
 fn plan_adder(plan: &mut Plan, a: Lit, b: Lit, c: Lit) -> Result<(Lit, Lit), AllocError>
-    ensures { IfOk result (λ bits. adder_on plan.old a b c ≡ record { plan = plan.new; answer = (bits.0, bits.1) }) }
+    ensures { IfOk result (λ bits. adder_on plan.old a b c ≡ record {
+      plan = plan.new;
+      answer =
+          (bits.0, bits.1);
+    }) }
 {
     let sum = plan.add(Gate::odd(a, b, c))?;
     let carry = plan.add(Gate::most(a, b, c))?;

@@ -14,8 +14,10 @@ use std::alloc::{AllocError, Global};
 /// A literal that is true exactly where each literal of the list is. One literal is its own.
 pub fn and(alloc: Global, clauses: &mut ClauseList, lits: &[Lit]) -> Result<Lit, AllocError>
     requires { AllBelow clauses.old.vars lits.now }
-    ensures built { IfOk result (λ lit. IsBuilt clauses.old clauses.new (all_on (plan_at clauses.old) lits.now) lit) }
-    ensures gate { IfOk result (λ lit. DefinesLit clauses.old clauses.new lit (λ v. all_true v lits.now)) }
+    ensures built { IfOk result (λ lit. IsBuilt clauses.old clauses.new
+        (all_on (plan_at clauses.old) lits.now) lit) }
+    ensures gate { IfOk result (λ lit. DefinesLit clauses.old clauses.new lit
+        (λ v. all_true v lits.now)) }
     ensures extends { Extends clauses.old clauses.new }
 {
     let mut plan = Plan::new(alloc, clauses);
@@ -35,8 +37,10 @@ pub fn less_number(
     requires a_in_range { AllBelow clauses.old.vars a.now }
     requires b_in_range { AllBelow clauses.old.vars b.now }
     requires long { length a.now ≡ length b.now }
-    ensures built { IfOk result (λ lit. IsBuilt clauses.old clauses.new (less_on (plan_at clauses.old) a.now b.now) lit) }
-    ensures gate { IfOk result (λ lit. DefinesLit clauses.old clauses.new lit (is_less a.now b.now)) }
+    ensures built { IfOk result (λ lit. IsBuilt clauses.old clauses.new
+        (less_on (plan_at clauses.old) a.now b.now) lit) }
+    ensures gate { IfOk result (λ lit. DefinesLit clauses.old clauses.new lit
+        (is_less a.now b.now)) }
     ensures extends { Extends clauses.old clauses.new }
 {
     let mut plan = Plan::new(alloc, clauses);
@@ -56,8 +60,10 @@ pub fn equal_number(
     requires a_in_range { AllBelow clauses.old.vars a.now }
     requires b_in_range { AllBelow clauses.old.vars b.now }
     requires long { length a.now ≡ length b.now }
-    ensures built { IfOk result (λ lit. IsBuilt clauses.old clauses.new (equal_on (plan_at clauses.old) a.now b.now) lit) }
-    ensures gate { IfOk result (λ lit. DefinesLit clauses.old clauses.new lit (is_equal a.now b.now)) }
+    ensures built { IfOk result (λ lit. IsBuilt clauses.old clauses.new
+        (equal_on (plan_at clauses.old) a.now b.now) lit) }
+    ensures gate { IfOk result (λ lit. DefinesLit clauses.old clauses.new lit
+        (is_equal a.now b.now)) }
     ensures extends { Extends clauses.old clauses.new }
 {
     let mut plan = Plan::new(alloc, clauses);
@@ -67,7 +73,11 @@ pub fn equal_number(
 }
 
 fn plan_all(alloc: Global, plan: &mut Plan, lits: &[Lit]) -> Result<Lit, AllocError>
-    ensures { IfOk result (λ lit. all_on plan.old lits.now ≡ record { plan = plan.new; answer = lit }) }
+    ensures { IfOk result (λ lit. all_on plan.old lits.now ≡ record {
+      plan =
+          plan.new;
+      answer = lit;
+    }) }
 {
     match lits {
         [lit] => Ok(*lit),
@@ -80,7 +90,11 @@ fn plan_all(alloc: Global, plan: &mut Plan, lits: &[Lit]) -> Result<Lit, AllocEr
 
 fn plan_less(alloc: Global, plan: &mut Plan, a: &[Lit], b: &[Lit]) -> Result<Lit, AllocError>
     requires { length a.now ≡ length b.now }
-    ensures { IfOk result (λ lit. less_on plan.old a.now b.now ≡ record { plan = plan.new; answer = lit }) }
+    ensures { IfOk result (λ lit. less_on plan.old a.now b.now ≡ record {
+      plan =
+          plan.new;
+      answer = lit;
+    }) }
 {
     let bit = less_from(alloc, plan, a, b)?;
     let lit = known(alloc, plan, bit)?;
@@ -95,7 +109,11 @@ fn less_from(
     b: &[Lit],
 ) -> Result<Option<Lit>, AllocError>
     requires { length a.now ≡ length b.now }
-    ensures { IfOk result (λ bit. less_from plan.old a.now b.now ≡ record { plan = plan.new; answer = bit }) }
+    ensures { IfOk result (λ bit. less_from plan.old a.now b.now ≡ record {
+      plan =
+          plan.new;
+      answer = bit;
+    }) }
 {
     let mut less = None;
     for k in 0..a.len() {
@@ -108,7 +126,11 @@ fn less_from(
 
 fn plan_equal(alloc: Global, plan: &mut Plan, a: &[Lit], b: &[Lit]) -> Result<Lit, AllocError>
     requires { length a.now ≡ length b.now }
-    ensures { IfOk result (λ lit. equal_on plan.old a.now b.now ≡ record { plan = plan.new; answer = lit }) }
+    ensures { IfOk result (λ lit. equal_on plan.old a.now b.now ≡ record {
+      plan =
+          plan.new;
+      answer = lit;
+    }) }
 {
     let same = same_bits(alloc, plan, a, b)?;
     let lit = plan_all(alloc, plan, same.as_slice())?;
@@ -118,7 +140,11 @@ fn plan_equal(alloc: Global, plan: &mut Plan, a: &[Lit], b: &[Lit]) -> Result<Li
 // For each pair of bits, whether they are the same.
 fn same_bits(alloc: Global, plan: &mut Plan, a: &[Lit], b: &[Lit]) -> Result<Vec<Lit>, AllocError>
     requires { length a.now ≡ length b.now }
-    ensures { IfOk result (λ lits. same_on plan.old a.now b.now ≡ record { plan = plan.new; answer = lits.items }) }
+    ensures { IfOk result (λ lits. same_on plan.old a.now b.now ≡ record {
+      plan = plan.new;
+      answer =
+          lits.items;
+    }) }
 {
     let mut lits = Vec::new(alloc);
     for i in 0..a.len() {

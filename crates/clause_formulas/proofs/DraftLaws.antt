@@ -47,7 +47,8 @@ AllBelow-last n (k ∷ ls) l b h = (b.0, AllBelow-last n ls l b.1 h)
 
 pub with_defined-true : (v : ℕ → Bool) (d : Draft) (x : Defined) → draft_true v (with_defined d x) ≡ (draft_true v d || defined_true v x)
 with_defined-true v d (Known b) = or-inner d.always (clause_true v d.lits) b
-with_defined-true v d (By l) = ap (λ b. d.always || b) (clause_true-last v d.lits l) ∙ sym (or-assoc d.always (clause_true v d.lits) (lit_true v l))
+with_defined-true v d (By l) = ap (λ b. d.always || b) (clause_true-last v d.lits l)
+    ∙ sym (or-assoc d.always (clause_true v d.lits) (lit_true v l))
 
 pub with_defined-below : (n : ℕ) (d : Draft) (x : Defined) → AllBelow n d.lits → DefinedBelow n x → AllBelow n (with_defined d x).lits
 with_defined-below n d (Known b) h t = h

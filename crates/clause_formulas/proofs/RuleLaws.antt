@@ -5,7 +5,8 @@ use Rattle.clause_formulas.specs.Rules.{Rule, fact, nowhere, isnt, both_of, eith
 use Rattle.clause_formulas.proofs.Words.{eval-opposite, eval-both, eval-implies, opposite-below, implies-below, all_of-below}
 
 -- the formula says the rule, where each word's formula says the fact
-pub rule-said : {W : Type 0} (v : ℕ → Bool) (f : W → Statement) (p : W → Bool) → ((w : W) → eval v (f w) ≡ p w) → (r : Rule W) → eval v (in_words f r) ≡ keeps_rule p r
+pub rule-said : {W : Type 0} (v : ℕ → Bool) (f : W → Statement) (p : W → Bool) → ((w : W) → eval v (f w) ≡ p w) → (r : Rule W)
+    → eval v (in_words f r) ≡ keeps_rule p r
 rule-said v f p h (fact w) = h w
 rule-said v f p h nowhere = refl
 rule-said v f p h (isnt r) = eval-opposite v (in_words f r) ∙ ap not (rule-said v f p h r)

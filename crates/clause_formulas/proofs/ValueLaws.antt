@@ -1,5 +1,5 @@
 -- Values of a list of clauses that grows.
-use Rattle.std.proofs.Common.{◌≡◌, ℕ, ◌<◌, ◌≤◌, Bool, List, [], ◌∷◌, refl, arith}
+use Rattle.std.proofs.Common.{◌≡◌, ℕ, ◌≤◌, Bool, List, [], ◌∷◌, refl, arith}
 use Rattle.clause_store.specs.declared.Lit.{Lit}
 use Rattle.clause_store.specs.Lits.{clause_true, AllBelow}
 use Rattle.clause_store.specs.Clauses.{Clauses}
@@ -29,12 +29,15 @@ pub Means-earlier : (a b c : Clauses) (d : Defined) (f : (ℕ → Bool) → Bool
 Means-earlier a b c d f g h m = record { below = m.below; value = λ asked v t. m.value asked v (MeetsSince-parts asked v a b c g h t).1 }
 
 -- one gate
-pub or_is : (s : Clauses) (ls : List Lit) → AllBelow s.vars ls → DefinesValue s (or_on s ls).list (By (or_on s ls).answer) (λ v. clause_true v ls)
+pub or_is : (s : Clauses) (ls : List Lit) → AllBelow s.vars ls
+    → DefinesValue s (or_on s ls).list (By (or_on s ls).answer) (λ v. clause_true v ls)
 unfolding or_on
 or_is s ls b =
-    let g = any-gate s ls b (clauses_from (gate_rules (lit_of s.vars) (some_of ls))) (lit_of s.vars) refl refl (with_gates s (some_of ls ∷ [])) refl in
+    let g = any-gate s ls b (clauses_from (gate_rules (lit_of s.vars) (some_of ls))) (lit_of s.vars) refl refl
+    (with_gates s (some_of ls ∷ [])) refl in
     record { defines = g.defines; means = record { below = g.below; value = g.means } }
 
-pub or-built : (s t : Clauses) (ls : List Lit) (l : Lit) → l ≡ lit_of s.vars → t ≡ with_gates s (some_of ls ∷ []) → or_on s ls ≡ record { list = t; answer = l }
+pub or-built : (s t : Clauses) (ls : List Lit) (l : Lit) → l ≡ lit_of s.vars → t ≡ with_gates s (some_of ls ∷ [])
+    → or_on s ls ≡ record { list = t; answer = l }
 unfolding or_on
 or-built s t ls l e f = rw (e, f) refl

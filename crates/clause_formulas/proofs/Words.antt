@@ -73,19 +73,22 @@ eval-apart v l [] = sym (or-true (not (lit_true v l)))
     or-true : (a : Bool) → (a || true) ≡ true
     or-true true = refl
     or-true false = refl
-eval-apart v l (k ∷ ls) = rw (lit_true-negation v l, lit_true-negation v k, eval-apart v l ls) (step (lit_true v l) (lit_true v k) (none_true (truths v ls)))
+eval-apart v l (k ∷ ls) = rw (lit_true-negation v l, lit_true-negation v k, eval-apart v l ls)
+    (step (lit_true v l) (lit_true v k) (none_true (truths v ls)))
   where
     step : (a b c : Bool) → ((not a || (not b || false)) && (not a || c)) ≡ (not a || (not b && c))
     step true true c = refl
     step true false c = refl
     step false b c = refl
 
-apart-eval : (v : ℕ → Bool) (l : Lit) (ls : List Lit) → all_eval v (apart (l ∷ ls)) ≡ ((not (lit_true v l) || none_true (truths v ls)) && all_eval v (apart ls))
+apart-eval : (v : ℕ → Bool) (l : Lit) (ls : List Lit)
+    → all_eval v (apart (l ∷ ls)) ≡ ((not (lit_true v l) || none_true (truths v ls)) && all_eval v (apart ls))
 apart-eval v l ls = all_eval-append v (map (not_both l) ls) (apart ls) ∙ ap (λ b. b && all_eval v (apart ls)) (eval-apart v l ls)
 
 none-apart : (v : ℕ → Bool) (ls : List Lit) → (none_true (truths v ls) && all_eval v (apart ls)) ≡ none_true (truths v ls)
 none-apart v [] = refl
-none-apart v (l ∷ ls) = ap (λ b. none_true (truths v (l ∷ ls)) && b) (apart-eval v l ls) ∙ step (lit_true v l) (none_true (truths v ls)) (all_eval v (apart ls)) (none-apart v ls)
+none-apart v (l ∷ ls) = ap (λ b. none_true (truths v (l ∷ ls)) && b) (apart-eval v l ls)
+    ∙ step (lit_true v l) (none_true (truths v ls)) (all_eval v (apart ls)) (none-apart v ls)
   where
     step : (t n a : Bool) → (n && a) ≡ n → ((not t && n) && ((not t || n) && a)) ≡ (not t && n)
     step true n a e = refl
@@ -94,7 +97,8 @@ none-apart v (l ∷ ls) = ap (λ b. none_true (truths v (l ∷ ls)) && b) (apart
 -- at least one, and at most one
 one-apart : (v : ℕ → Bool) (ls : List Lit) → (not (none_true (truths v ls)) && all_eval v (apart ls)) ≡ one_true (truths v ls)
 one-apart v [] = refl
-one-apart v (l ∷ ls) = ap (λ b. not (none_true (truths v (l ∷ ls))) && b) (apart-eval v l ls) ∙ step (lit_true v l) (none_true (truths v ls)) (all_eval v (apart ls)) _ (none-apart v ls) (one-apart v ls)
+one-apart v (l ∷ ls) = ap (λ b. not (none_true (truths v (l ∷ ls))) && b) (apart-eval v l ls)
+    ∙ step (lit_true v l) (none_true (truths v ls)) (all_eval v (apart ls)) _ (none-apart v ls) (one-apart v ls)
   where
     step : (t n a o : Bool) → (n && a) ≡ n → (not n && a) ≡ o → (not (not t && n) && ((not t || n) && a)) ≡ (if t then n else o)
     step true n a o e f = e
@@ -142,14 +146,16 @@ pub one_of-below : (n : ℕ) (ls : List Lit) → AllBelow n ls → SaidBelow n (
 one_of-below n ls b = all_of-below n (any_of (map atom ls) ∷ apart ls) (atoms-below n ls b, apart-below n ls b)
 
 -- a table of values, each of which means its formula
-pub value-said : (s t : Clauses) (asked v : ℕ → Bool) → MeetsSince asked v s t → (ds : List Defined) (fs : List Statement) → MeanEach s t ds fs → (k : ℕ) → eval v (value_at ds k) ≡ eval v (part_at fs k)
+pub value-said : (s t : Clauses) (asked v : ℕ → Bool) → MeetsSince asked v s t → (ds : List Defined) (fs : List Statement)
+    → MeanEach s t ds fs → (k : ℕ) → eval v (value_at ds k) ≡ eval v (part_at fs k)
 value-said s t asked v m [] [] h k = refl
 value-said s t asked v m [] (f ∷ fs) h k = elim h [ ]
 value-said s t asked v m (d ∷ ds) [] h k = elim h [ ]
 value-said s t asked v m (d ∷ ds) (f ∷ fs) h zero = eval-said_of v d ∙ h.0.value asked v m
 value-said s t asked v m (d ∷ ds) (f ∷ fs) h (suc k) = value-said s t asked v m ds fs h.1 k
 
-pub value-below : (s t : Clauses) (ds : List Defined) (fs : List Statement) → MeanEach s t ds fs → (k : ℕ) → SaidBelow t.vars (value_at ds k)
+pub value-below : (s t : Clauses) (ds : List Defined) (fs : List Statement) → MeanEach s t ds fs → (k : ℕ)
+    → SaidBelow t.vars (value_at ds k)
 value-below s t [] fs h k = tt
 value-below s t (d ∷ ds) [] h k = elim h [ ]
 value-below s t (d ∷ ds) (f ∷ fs) h zero = said_of-below t.vars d h.0.below

@@ -22,7 +22,11 @@ pub(crate) fn ask(
 ) -> Result<(), AllocError>
     requires formula_below { SaidBelow clauses.old.vars formula.now }
     requires draft_below { AllBelow clauses.old.vars draft.old.lits }
-    ensures { OnOk result (ask_on clauses.old draft.old formula.now ≡ record { list = clauses.new; answer = draft.new }) }
+    ensures { OnOk result (ask_on clauses.old draft.old formula.now ≡ record {
+      list =
+          clauses.new;
+      answer = draft.new;
+    }) }
 {
     match &formula.node {
         Node::Atom(lit) => draft.put(Defined::By(*lit)),
@@ -41,7 +45,11 @@ pub(crate) fn ask_any(
 ) -> Result<(), AllocError>
     requires parts_below { SaidBelow clauses.old.vars (any_of parts.now) }
     requires draft_below { AllBelow clauses.old.vars draft.old.lits }
-    ensures { OnOk result (ask_on clauses.old draft.old (any_of parts.now) ≡ record { list = clauses.new; answer = draft.new }) }
+    ensures { OnOk result (ask_on clauses.old draft.old (any_of parts.now) ≡ record {
+      list =
+          clauses.new;
+      answer = draft.new;
+    }) }
 {
     for part in parts {
         ask(alloc, clauses, draft, part)?;
@@ -57,7 +65,11 @@ fn ask_none(
     parts: &[Formula],
 ) -> Result<(), AllocError>
     requires { SaidBelow clauses.old.vars (any_of parts.now) }
-    ensures { OnOk result (ask_on clauses.old draft.old (no (any_of parts.now)) ≡ record { list = clauses.new; answer = draft.new }) }
+    ensures { OnOk result (ask_on clauses.old draft.old (no (any_of parts.now)) ≡ record {
+      list =
+          clauses.new;
+      answer = draft.new;
+    }) }
 {
     let mut inner = Draft::new(alloc);
     spread_any(alloc, clauses, &mut inner, parts)?;
@@ -68,7 +80,11 @@ fn ask_none(
 // A value that is true where the draft is.
 fn covered(alloc: Global, clauses: &mut ClauseList, draft: &Draft) -> Result<Defined, AllocError>
     requires { AllBelow clauses.old.vars draft.now.lits }
-    ensures { IfOk result (λ value. covered_on clauses.old draft.now ≡ record { list = clauses.new; answer = value }) }
+    ensures { IfOk result (λ value. covered_on clauses.old draft.now ≡ record {
+      list =
+          clauses.new;
+      answer = value;
+    }) }
 {
     if draft.always() {
         return Ok(Defined::Known(true));
@@ -82,7 +98,11 @@ fn covered(alloc: Global, clauses: &mut ClauseList, draft: &Draft) -> Result<Def
 // A value that is true where a clause is; a new variable only for two literals and more.
 fn by_cover(alloc: Global, clauses: &mut ClauseList, lits: &[Lit]) -> Result<Defined, AllocError>
     requires { AllBelow clauses.old.vars lits.now }
-    ensures { IfOk result (λ value. by_cover clauses.old (Some lits.now) ≡ record { list = clauses.new; answer = value }) }
+    ensures { IfOk result (λ value. by_cover clauses.old (Some lits.now) ≡ record {
+      list =
+          clauses.new;
+      answer = value;
+    }) }
 {
     match lits {
         [] => Ok(Defined::Known(false)),
@@ -94,7 +114,11 @@ fn by_cover(alloc: Global, clauses: &mut ClauseList, lits: &[Lit]) -> Result<Def
 // A literal that is true where some literal of the list is.
 fn cover(alloc: Global, clauses: &mut ClauseList, lits: &[Lit]) -> Result<Lit, AllocError>
     requires { AllBelow clauses.old.vars lits.now }
-    ensures { IfOk result (λ lit. cover_on clauses.old lits.now ≡ record { list = clauses.new; answer = lit }) }
+    ensures { IfOk result (λ lit. cover_on clauses.old lits.now ≡ record {
+      list =
+          clauses.new;
+      answer = lit;
+    }) }
 {
     let lit = define_cover(alloc, clauses, lits)?;
     Ok(lit)

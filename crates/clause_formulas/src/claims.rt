@@ -25,7 +25,8 @@ pub fn assert(
 ) -> Result<(), AllocError>
     requires { SaidBelow clauses.old.vars formula.now }
     ensures built { OnOk result (assert_on label clauses.old true formula.now ≡ clauses.new) }
-    ensures says { OnOk result (Says clauses.old clauses.new (where_asked label (λ v. eval v formula.now))) }
+    ensures says { OnOk result (Says clauses.old clauses.new
+        (where_asked label (λ v. eval v formula.now))) }
 {
     claim(alloc, clauses, true, formula, label)
 }
@@ -40,7 +41,8 @@ pub fn demand(
 ) -> Result<(), AllocError>
     requires { SaidBelow clauses.old.vars formula.now }
     ensures built { OnOk result (demand_on clauses.old formula.now id ≡ clauses.new) }
-    ensures says { OnOk result (Says clauses.old clauses.new (where_asked (DemandOf id) (λ v. eval v formula.now))) }
+    ensures says { OnOk result (Says clauses.old clauses.new
+        (where_asked (DemandOf id) (λ v. eval v formula.now))) }
 {
     let value = define(alloc, clauses, formula)?;
     let mut draft = Draft::new(alloc);
@@ -56,7 +58,8 @@ pub fn demand_all(
 ) -> Result<(), AllocError>
     requires { SaidBelow clauses.old.vars (any_of formulas.now) }
     ensures built { OnOk result (demand_all_on clauses.old 0 formulas.now ≡ clauses.new) }
-    ensures says { OnOk result (Says clauses.old clauses.new (λ asked v. demands_true asked v 0 formulas.now)) }
+    ensures says { OnOk result (Says clauses.old clauses.new
+        (λ asked v. demands_true asked v 0 formulas.now)) }
 {
     for (i, formula) in formulas.iter().enumerate() {
         demand(alloc, clauses, formula, i as u64)?;

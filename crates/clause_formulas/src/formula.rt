@@ -154,7 +154,8 @@ fn push_apart(
     lit: Lit,
     others: &[Lit],
 ) -> Result<(), AllocError>
-    ensures { OnOk result (parts.new.items ≡ parts.old.items ++ map (λ other. not_both lit other) others.now) }
+    ensures { OnOk result (parts.new.items ≡ parts.old.items
+        ++ map (λ other. not_both lit other) others.now) }
 {
     for other in others {
         let mut pair = Vec::new(alloc);

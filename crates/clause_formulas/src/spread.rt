@@ -21,7 +21,11 @@ pub(crate) fn spread(
 ) -> Result<(), AllocError>
     requires formula_below { SaidBelow clauses.old.vars formula.now }
     requires draft_below { AllBelow clauses.old.vars draft.old.lits }
-    ensures built { OnOk result (spread_on clauses.old draft.old formula.now ≡ record { list = clauses.new; answer = draft.new }) }
+    ensures built { OnOk result (spread_on clauses.old draft.old formula.now ≡ record {
+      list =
+          clauses.new;
+      answer = draft.new;
+    }) }
     ensures extends { Extends clauses.old clauses.new }
 {
     match &formula.node {
@@ -46,7 +50,11 @@ pub(crate) fn spread_any(
 ) -> Result<(), AllocError>
     requires parts_below { SaidBelow clauses.old.vars (any_of parts.now) }
     requires draft_below { AllBelow clauses.old.vars draft.old.lits }
-    ensures built { OnOk result (spread_on clauses.old draft.old (any_of parts.now) ≡ record { list = clauses.new; answer = draft.new }) }
+    ensures built { OnOk result (spread_on clauses.old draft.old (any_of parts.now) ≡ record {
+      list =
+          clauses.new;
+      answer = draft.new;
+    }) }
     ensures extends { Extends clauses.old clauses.new }
 {
     for part in parts {
@@ -62,7 +70,11 @@ pub(crate) fn named(
     draft: &Draft,
 ) -> Result<Defined, AllocError>
     requires { AllBelow clauses.old.vars draft.now.lits }
-    ensures built { IfOk result (λ value. named_on clauses.old draft.now ≡ record { list = clauses.new; answer = value }) }
+    ensures built { IfOk result (λ value. named_on clauses.old draft.now ≡ record {
+      list =
+          clauses.new;
+      answer = value;
+    }) }
     ensures extends { Extends clauses.old clauses.new }
 {
     if draft.always() {
@@ -77,7 +89,11 @@ pub(crate) fn named(
 // The value of a clause; a new variable only for two literals and more.
 fn by_clause(alloc: Global, clauses: &mut ClauseList, lits: &[Lit]) -> Result<Defined, AllocError>
     requires { AllBelow clauses.old.vars lits.now }
-    ensures built { IfOk result (λ value. by_clause clauses.old (Some lits.now) ≡ record { list = clauses.new; answer = value }) }
+    ensures built { IfOk result (λ value. by_clause clauses.old (Some lits.now) ≡ record {
+      list =
+          clauses.new;
+      answer = value;
+    }) }
     ensures extends { Extends clauses.old clauses.new }
 {
     match lits {
@@ -90,7 +106,11 @@ fn by_clause(alloc: Global, clauses: &mut ClauseList, lits: &[Lit]) -> Result<De
 /// A literal that is true exactly where some literal of the list is.
 pub(crate) fn or(alloc: Global, clauses: &mut ClauseList, lits: &[Lit]) -> Result<Lit, AllocError>
     requires { AllBelow clauses.old.vars lits.now }
-    ensures built { IfOk result (λ lit. or_on clauses.old lits.now ≡ record { list = clauses.new; answer = lit }) }
+    ensures built { IfOk result (λ lit. or_on clauses.old lits.now ≡ record {
+      list =
+          clauses.new;
+      answer = lit;
+    }) }
     ensures extends { Extends clauses.old clauses.new }
 {
     let lit = define_any(alloc, clauses, lits)?;

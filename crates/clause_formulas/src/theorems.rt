@@ -15,32 +15,45 @@ pub fn word_laws()
     ensures negated { (v : ℕ → Bool) (f : Statement) → eval v (opposite f) ≡ not (eval v f) }
     ensures all { (v : ℕ → Bool) (fs : List Statement) → eval v (all_of fs) ≡ all_eval v fs }
     ensures both { (v : ℕ → Bool) (f g : Statement) → eval v (both f g) ≡ (eval v f && eval v g) }
-    ensures implies { (v : ℕ → Bool) (f g : Statement) → eval v (implies f g) ≡ (not (eval v f) || eval v g) }
+    ensures implies { (v : ℕ → Bool) (f g : Statement)
+        → eval v (implies f g) ≡ (not (eval v f) || eval v g) }
     ensures one { (v : ℕ → Bool) (ls : List Lit) → eval v (one_of ls) ≡ one_true (truths v ls) }
-    ensures all_in_range { (n : ℕ) (fs : List Statement) → SaidBelow n (any_of fs) → SaidBelow n (all_of fs) }
+    ensures all_in_range { (n : ℕ) (fs : List Statement) → SaidBelow n (any_of fs)
+        → SaidBelow n (all_of fs) }
     ensures one_in_range { (n : ℕ) (ls : List Lit) → AllBelow n ls → SaidBelow n (one_of ls) }
 {}
 
 /// A rule over words is said by its formula, where each word's formula says the fact, and has no
 /// variables but those of the words.
 pub fn rule_laws<W>()
-    ensures said { (v : ℕ → Bool) (f : W → Statement) (p : W → Bool) → ((w : W) → eval v (f w) ≡ p w) → (r : Rule W) → eval v (in_words f r) ≡ keeps_rule p r }
-    ensures in_range { (n : ℕ) (f : W → Statement) → ((w : W) → SaidBelow n (f w)) → (r : Rule W) → SaidBelow n (in_words f r) }
+    ensures said { (v : ℕ → Bool) (f : W → Statement) (p : W → Bool)
+        → ((w : W) → eval v (f w) ≡ p w) → (r : Rule W) → eval v (in_words f r) ≡ keeps_rule p r }
+    ensures in_range { (n : ℕ) (f : W → Statement) → ((w : W) → SaidBelow n (f w)) → (r : Rule W)
+        → SaidBelow n (in_words f r) }
 {}
 
 /// Two literals take one variable; one that is said twice beside a constant, and constants, none.
 #[tactic(auto, unfolding(crate::specs::Built::define_on, crate::specs::Built::named_on, crate::specs::Built::or_on, gate_plans::specs::Gates::kept_clauses))]
 pub fn worked_values()
-    ensures two { define_on start (any_of (atom a ∷ atom b ∷ [])) ≡ made ((negation a ∷ lit_of 3 ∷ []) ∷ (negation b ∷ lit_of 3 ∷ []) ∷ (a ∷ b ∷ negation (lit_of 3) ∷ []) ∷ []) 4 (By (lit_of 3)) }
-    ensures one { define_on start (any_of (atom a ∷ never ∷ atom a ∷ all_of (atom a ∷ []) ∷ [])) ≡ made [] 3 (By a) }
+    ensures two { define_on start (any_of (atom a ∷ atom b ∷ []))
+        ≡ made ((negation a ∷ lit_of 3 ∷ []) ∷ (negation b ∷ lit_of 3 ∷ [])
+        ∷ (a ∷ b ∷ negation (lit_of 3) ∷ []) ∷ []) 4 (By (lit_of 3)) }
+    ensures one { define_on start (any_of (atom a ∷ never ∷ atom a ∷ all_of (atom a ∷ []) ∷ []))
+        ≡ made [] 3 (By a) }
     ensures always { define_on start (any_of (all_of [] ∷ atom a ∷ [])) ≡ made [] 3 (Known true) }
-    ensures both_signs { define_on start (all_of (atom a ∷ atom (negation a) ∷ [])) ≡ made [] 3 (Known false) }
+    ensures both_signs { define_on start (all_of (atom a ∷ atom (negation a) ∷ []))
+        ≡ made [] 3 (Known false) }
 {}
 
 /// An implication is one clause, exactly one of three four, and a demand that of one literal.
 #[tactic(auto, unfolding(crate::specs::Built::define_on, crate::specs::Built::demand_on, crate::specs::Built::with_draft, crate::specs::Built::named_on, crate::specs::Built::or_on, gate_plans::specs::Gates::kept_clauses))]
 pub fn worked_claims()
-    ensures implication { assert_on Structure start true (implies (both (atom a) (atom b)) (any_of (atom c ∷ never ∷ []))) ≡ with_entries (structures ((negation a ∷ negation b ∷ c ∷ []) ∷ [])) 3 }
-    ensures one_of_three { assert_on Structure start true (one_of (a ∷ b ∷ c ∷ [])) ≡ with_entries (structures ((a ∷ b ∷ c ∷ []) ∷ (negation a ∷ negation b ∷ []) ∷ (negation a ∷ negation c ∷ []) ∷ (negation b ∷ negation c ∷ []) ∷ [])) 3 }
-    ensures single { demand_on start (atom a) 7 ≡ with_entries (labelled (Demand 7) (a ∷ []) ∷ []) 3 }
+    ensures implication { assert_on Structure start true
+        (implies (both (atom a) (atom b)) (any_of (atom c ∷ never ∷ [])))
+        ≡ with_entries (structures ((negation a ∷ negation b ∷ c ∷ []) ∷ [])) 3 }
+    ensures one_of_three { assert_on Structure start true (one_of (a ∷ b ∷ c ∷ []))
+        ≡ with_entries (structures ((a ∷ b ∷ c ∷ []) ∷ (negation a ∷ negation b ∷ [])
+        ∷ (negation a ∷ negation c ∷ []) ∷ (negation b ∷ negation c ∷ []) ∷ [])) 3 }
+    ensures single { demand_on start (atom a) 7
+        ≡ with_entries (labelled (Demand 7) (a ∷ []) ∷ []) 3 }
 {}

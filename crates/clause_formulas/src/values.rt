@@ -20,8 +20,13 @@ pub fn define(
     formula: &Formula,
 ) -> Result<Defined, AllocError>
     requires { SaidBelow clauses.old.vars formula.now }
-    ensures built { IfOk result (λ value. define_on clauses.old formula.now ≡ record { list = clauses.new; answer = value }) }
-    ensures value { IfOk result (λ value. DefinesValue clauses.old clauses.new value (λ v. eval v formula.now)) }
+    ensures built { IfOk result (λ value. define_on clauses.old formula.now ≡ record {
+      list =
+          clauses.new;
+      answer = value;
+    }) }
+    ensures value { IfOk result (λ value. DefinesValue clauses.old clauses.new value
+        (λ v. eval v formula.now)) }
     ensures extends { Extends clauses.old clauses.new }
 {
     let mut draft = Draft::new(alloc);
@@ -32,8 +37,13 @@ pub fn define(
 /// A literal with a value; a constant gets a variable that a clause fixes.
 pub fn literal(alloc: Global, clauses: &mut ClauseList, value: Defined) -> Result<Lit, AllocError>
     requires { DefinedBelow clauses.old.vars value }
-    ensures built { IfOk result (λ lit. literal_on clauses.old value ≡ record { list = clauses.new; answer = lit }) }
-    ensures value { IfOk result (λ lit. DefinesValue clauses.old clauses.new (Defined.By lit) (λ v. defined_true v value)) }
+    ensures built { IfOk result (λ lit. literal_on clauses.old value ≡ record {
+      list =
+          clauses.new;
+      answer = lit;
+    }) }
+    ensures value { IfOk result (λ lit. DefinesValue clauses.old clauses.new (Defined.By lit)
+        (λ v. defined_true v value)) }
     ensures extends { Extends clauses.old clauses.new }
 {
     match value {
@@ -53,7 +63,11 @@ pub fn define_all(
     formulas: &[Formula],
 ) -> Result<Vec<Defined>, AllocError>
     requires { SaidBelow clauses.old.vars (any_of formulas.now) }
-    ensures built { IfOk result (λ values. define_all_on clauses.old formulas.now ≡ record { list = clauses.new; answer = values.items }) }
+    ensures built { IfOk result (λ values. define_all_on clauses.old formulas.now ≡ record {
+      list =
+          clauses.new;
+      answer = values.items;
+    }) }
     ensures values { IfOk result (λ values. DefinesValues clauses.old clauses.new values.items formulas.now) }
     ensures extends { Extends clauses.old clauses.new }
 {

@@ -34,11 +34,13 @@ lit-at n (suc k) (l ∷ ls) d b h = lit-at n k ls d b.1 (omega (arith, h))
 pub lits-all : (n : ℕ) (ls : List Lit) → AllBelow n ls → All (λ l. var_of l < n) ls
 lits-all n ls b = λ k d h. lit-at n k ls d b h
 
-pub lists-more : (n : ℕ) (lists : List (List (ℕ × Lit))) (ts : List (ℕ × Lit)) → AllTermsBelow n lists → TermsBelow n ts → AllTermsBelow n (lists ++ ts ∷ [])
+pub lists-more : (n : ℕ) (lists : List (List (ℕ × Lit))) (ts : List (ℕ × Lit)) → AllTermsBelow n lists → TermsBelow n ts
+    → AllTermsBelow n (lists ++ ts ∷ [])
 lists-more n [] ts b h = (h, tt)
 lists-more n (us ∷ lists) ts b h = (b.0, lists-more n lists ts b.1 h)
 
-pub small-more : (lists : List (List (ℕ × Lit))) (ts : List (ℕ × Lit)) → AllSmall (tops lists) → total ts < 2 ^ 63 → AllSmall (tops (lists ++ ts ∷ []))
+pub small-more : (lists : List (List (ℕ × Lit))) (ts : List (ℕ × Lit)) → AllSmall (tops lists) → total ts < 2 ^ 63
+    → AllSmall (tops (lists ++ ts ∷ []))
 small-more [] ts b h = (h, tt)
 small-more (us ∷ lists) ts b h = (b.0, small-more lists ts b.1 h)
 

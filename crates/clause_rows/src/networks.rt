@@ -58,7 +58,8 @@ fn network_of(alloc: Global, words: &[&str], vars: u64) -> Result<Option<Network
     ensures right { IfOk result (λ network. IfSome network (λ n.
         IsRight (input_of n.nodes.items n.roots.items n.arcs.items n.asked.items vars))) }
     ensures asked { IfOk result (λ network. IfSome network (λ n.
-        All (λ pair. (pair.0 < length n.nodes.items) × (pair.1 < length n.nodes.items)) n.asked.items)) }
+        All (λ pair. (pair.0 < length n.nodes.items) × (pair.1 < length n.nodes.items))
+        n.asked.items)) }
 {
     match words {
         [nodes, roots, arcs, asked] => match nodes_of(alloc, nodes, vars)? {
@@ -105,7 +106,8 @@ fn roots_of(alloc: Global, word: &str, size: u64) -> Result<Vec<u64>, AllocError
 
 // The arcs of a list whose ends are below a size.
 fn arcs_of(alloc: Global, word: &str, size: u64, vars: u64) -> Result<Vec<Arc>, AllocError>
-    ensures ends { IfOk result (λ arcs. All (λ a. (a.parent < size) × (a.child < size)) arcs.items) }
+    ensures ends { IfOk result (λ arcs. All (λ a. (a.parent < size)
+        × (a.child < size)) arcs.items) }
     ensures old { IfOk result (λ arcs. All (λ a. var_of a.lit < vars) arcs.items) }
 {
     let mut arcs = Vec::new(alloc);

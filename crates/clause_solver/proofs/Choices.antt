@@ -19,7 +19,8 @@ use Rattle.clause_watch.proofs.Undone.{upto-whole}
 
 module _ (ps : List Placed) (a : ℕ × Lit) where
   -- where the assumed literal is on the trail, at level 1 at most
-  low-place : HasLevels 0 ps → IsAssumed ps (Some a) → has (lits_of ps) (negation a.1) ≡ true → (k : ℕ) × (p : Placed) × (slice_get ps k ≡ Some p) × (p.lit ≡ negation a.1) × (p.level ≤ 1)
+  low-place : HasLevels 0 ps → IsAssumed ps (Some a) → has (lits_of ps) (negation a.1) ≡ true → (k : ℕ) × (p : Placed)
+      × (slice_get ps k ≡ Some p) × (p.lit ≡ negation a.1) × (p.level ≤ 1)
   low-place levels assumed h =
       elim (cases_lt 0 (decisions ps)) [
         | inl above ↦ upto-place 1 ps (negation a.1) (assumed above)
@@ -35,7 +36,8 @@ module _ (ps : List Placed) (a : ℕ × Lit) where
         | inr none ↦ omega arith
         | inl above ↦
             let q = upto-place 1 ps (negation a.1) (assumed above) in
-            absurd (false≢true (sym free ∙ subst (λ n. has_var (lits_of ps) n ≡ true) (ap var_of q.3) (has-var (lits_of ps) q.1.lit (place-has ps q.0 q.1 q.2))))
+            absurd (false≢true (sym free ∙ subst (λ n. has_var (lits_of ps) n ≡ true) (ap var_of q.3)
+            (has-var (lits_of ps) q.1.lit (place-has ps q.0 q.1 q.2))))
       ]
 
   pub decide-assumed : decisions ps ≡ 0 → (l : Lit) → l ≡ negation a.1 → IsAssumed (ps ++ next ps l None ∷ []) (Some a)
@@ -44,7 +46,8 @@ module _ (ps : List Placed) (a : ℕ × Lit) where
       let le : p.level ≤ 1 = omega (arith, none) in
       ap (has (lits_of (upto 1 (ps ++ p ∷ [])))) (sym e) ∙ place-upto 1 (ps ++ p ∷ []) (length ps) p (get-last ps p) le
 
-  pub keep-assumed : HasLevels 0 ps → IsAssumed ps (Some a) → has (lits_of ps) (negation a.1) ≡ true → (qs : List Placed) → IsAssumed (ps ++ qs) (Some a)
+  pub keep-assumed : HasLevels 0 ps → IsAssumed ps (Some a) → has (lits_of ps) (negation a.1) ≡ true → (qs : List Placed)
+      → IsAssumed (ps ++ qs) (Some a)
   keep-assumed levels assumed h qs above =
       let q = low-place levels assumed h in
       rw (← q.3) (place-upto 1 (ps ++ qs) q.0 q.1 (get-front ps qs q.0 q.1 q.2) q.4)
@@ -56,7 +59,8 @@ closing-none ps c levels none k p e r =
     let o : own p.reason ≡ 1 = ap own r in
     absurd (omega (arith, a, b, o, none))
 
-closing-here : (ps : List Placed) (a : ℕ × Lit) (j : ℕ) (q : Placed) → HasLevels 0 ps → decisions ps ≡ 1 → slice_get ps j ≡ Some q → q.lit ≡ negation a.1 → q.reason ≡ None → OnlyLeaves ps (a.1 ∷ [])
+closing-here : (ps : List Placed) (a : ℕ × Lit) (j : ℕ) (q : Placed) → HasLevels 0 ps → decisions ps ≡ 1 → slice_get ps j ≡ Some q
+    → q.lit ≡ negation a.1 → q.reason ≡ None → OnlyLeaves ps (a.1 ∷ [])
 closing-here ps a j q levels one f l s k p e r =
     let o : own p.reason ≡ 1 = ap own r in
     let u : own q.reason ≡ 1 = ap own s in
@@ -76,17 +80,21 @@ closing-here ps a j q levels one f l s k p e r =
       ]
     ]
 
-pub closing-one : (n : ℕ) (ps : List Placed) (a : ℕ × Lit) → IsOrderly n ps → decisions ps ≡ 1 → IsAssumed ps (Some a) → option_and_then (λ (p : Placed). p.reason) (placed_of ps (var_of a.1)) ≡ None → OnlyLeaves ps (a.1 ∷ [])
+pub closing-one : (n : ℕ) (ps : List Placed) (a : ℕ × Lit) → IsOrderly n ps → decisions ps ≡ 1 → IsAssumed ps (Some a)
+    → option_and_then (λ (p : Placed). p.reason) (placed_of ps (var_of a.1)) ≡ None → OnlyLeaves ps (a.1 ∷ [])
 closing-one n ps a o one assumed r =
     let q = upto-place 1 ps (negation a.1) (assumed (omega arith)) in
     let m = level-most 0 ps q.0 q.1 o.levels q.2 in
-    let here : placed_of ps (var_of q.1.lit) ≡ Some q.1 = subst (λ xs. placed_of xs (var_of q.1.lit) ≡ Some q.1) (upto-whole 0 1 ps o.levels (omega arith)) (placed_of-upto 1 ps q.0 q.1 o.apart q.2 q.4) in
+    let here : placed_of ps (var_of q.1.lit) ≡ Some q.1 =
+    subst (λ xs. placed_of xs (var_of q.1.lit) ≡ Some q.1) (upto-whole 0 1 ps o.levels (omega arith))
+    (placed_of-upto 1 ps q.0 q.1 o.apart q.2 q.4) in
     let v : var_of q.1.lit ≡ var_of a.1 = ap var_of q.3 in
     let s : q.1.reason ≡ None = ap (option_and_then (λ (p : Placed). p.reason)) (sym here ∙ ap (placed_of ps) v) ∙ r in
     closing-here ps a q.0 q.1 o.levels one q.2 q.3 s
 
 -- values of literals
-pub true-on : (ps : List Placed) (l : Lit) (b : Bool) → Some b ≡ value_in ps (var_of l) → beq b l.positive ≡ true → has (lits_of ps) l ≡ true
+pub true-on : (ps : List Placed) (l : Lit) (b : Bool) → Some b ≡ value_in ps (var_of l) → beq b l.positive ≡ true
+    → has (lits_of ps) l ≡ true
 true-on ps l b e f = value-has ps l (sym e ∙ ap Some (same b l.positive f))
   where
     same : (x y : Bool) → beq x y ≡ true → x ≡ y
@@ -95,7 +103,8 @@ true-on ps l b e f = value-has ps l (sym e ∙ ap Some (same b l.positive f))
     same false true g = g
     same false false g = refl
 
-pub false-on : (ps : List Placed) (l : Lit) (b : Bool) → Some b ≡ value_in ps (var_of l) → beq b l.positive ≡ false → has (lits_of ps) (negation l) ≡ true
+pub false-on : (ps : List Placed) (l : Lit) (b : Bool) → Some b ≡ value_in ps (var_of l) → beq b l.positive ≡ false
+    → has (lits_of ps) (negation l) ≡ true
 false-on ps l b e f = value-has ps (negation l) (sym e ∙ ap Some (other b l.positive f))
   where
     other : (x y : Bool) → beq x y ≡ false → x ≡ not y
@@ -105,7 +114,8 @@ false-on ps l b e f = value-has ps (negation l) (sym e ∙ ap Some (other b l.po
     other false false g = sym g
 
 -- the negation of a literal without value
-pub negated-free : (n : ℕ) (ps : List Placed) (a : ℕ × Lit) (l : Lit) → l ≡ negation a.1 → var_of a.1 < n → None ≡ value_in ps (var_of a.1) → IsAssumed ps (Some a) →
+pub negated-free : (n : ℕ) (ps : List Placed) (a : ℕ × Lit) (l : Lit) → l ≡ negation a.1 → var_of a.1 < n → None ≡ value_in ps (var_of a.1)
+    → IsAssumed ps (Some a) →
     (var_of l < n) × (has_var (lits_of ps) (var_of l) ≡ false) × IsAssumed (ps ++ next ps l None ∷ []) (Some a)
 negated-free n ps a l e h v assumed =
     let free = value-free ps (var_of a.1) (sym v) in

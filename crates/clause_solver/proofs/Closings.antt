@@ -21,23 +21,29 @@ use Rattle.clause_solver.proofs.Steps.{cause, reason-known}
 use Rattle.clause_solver.proofs.LessonLaws.{placed_of-upto}
 
 -- a loop that looked at every place
-pub passed-more : (ps : List Placed) (x at : ℕ) (p : Placed) → ((k : ℕ) (q : Placed) → k < at → slice_get ps k ≡ Some q → var_of q.lit ≡ x → ⊥) → slice_get ps at ≡ Some p → var_of p.lit ≢ x → (k : ℕ) (q : Placed) → k < at + 1 → slice_get ps k ≡ Some q → var_of q.lit ≡ x → ⊥
+pub passed-more : (ps : List Placed) (x at : ℕ) (p : Placed)
+    → ((k : ℕ) (q : Placed) → k < at → slice_get ps k ≡ Some q → var_of q.lit ≡ x → ⊥) → slice_get ps at ≡ Some p → var_of p.lit ≢ x
+    → (k : ℕ) (q : Placed) → k < at + 1 → slice_get ps k ≡ Some q → var_of q.lit ≡ x → ⊥
 passed-more ps x at p h e ne k q lt f v =
     elim (cases_lt k at) [
       | inl below ↦ h k q below f v
-      | inr ge ↦ let s : at ≡ k = omega arith in ne (ap (λ (r : Placed). var_of r.lit) (same_Some p q (sym e ∙ ap (slice_get ps) s ∙ f)) ∙ v)
+      | inr ge ↦ let s : at ≡ k = omega arith in
+          ne (ap (λ (r : Placed). var_of r.lit) (same_Some p q (sym e ∙ ap (slice_get ps) s ∙ f)) ∙ v)
     ]
 
-pub passed-all : (ps : List Placed) (x end : ℕ) → ((k : ℕ) (q : Placed) → k < end → slice_get ps k ≡ Some q → var_of q.lit ≡ x → ⊥) → length ps ≤ end → has_var (lits_of ps) x ≡ true → ⊥
+pub passed-all : (ps : List Placed) (x end : ℕ) → ((k : ℕ) (q : Placed) → k < end → slice_get ps k ≡ Some q → var_of q.lit ≡ x → ⊥)
+    → length ps ≤ end → has_var (lits_of ps) x ≡ true → ⊥
 passed-all ps x end h le t =
     let l = has_var-lit (lits_of ps) x t in
     let q = has-place ps l.0 l.1 in
     h q.0 q.1 (let w = place-within ps q.0 q.1 q.2 in omega (arith, w, le)) q.2 (ap var_of q.3 ∙ l.2)
 
 -- a conflict that leaves no decided literal but the assumed one
-pub rests-closing : (w : WatchValue) (a : Option (ℕ × Lit)) (id end : ℕ) → IsWatch w.vars w.clauses w.placed → NamesFalse w.placed w.clauses id → end ≡ length w.placed → OnlyLeaves w.placed (stated a) → Rests w id end a
+pub rests-closing : (w : WatchValue) (a : Option (ℕ × Lit)) (id end : ℕ) → IsWatch w.vars w.clauses w.placed
+    → NamesFalse w.placed w.clauses id → end ≡ length w.placed → OnlyLeaves w.placed (stated a) → Rests w id end a
 rests-closing w a id end right f e only chain r =
-    r w.placed refl (consistent-from w.placed right.orderly.apart) f (stated a) (λ k p h g. only k p h (g (let q = place-within w.placed k p h in omega (arith, q, e))))
+    r w.placed refl (consistent-from w.placed right.orderly.apart) f (stated a)
+    (λ k p h g. only k p h (g (let q = place-within w.placed k p h in omega (arith, q, e))))
 
 -- the front of a trail with one more literal
 front-again : (n : ℕ) (xs ys : List Placed) → n ≤ length xs → take n (take n xs ++ ys) ≡ take n xs
@@ -45,15 +51,18 @@ front-again zero xs ys h = refl
 front-again (suc n) [] ys h = absurd (omega arith)
 front-again (suc n) (x ∷ xs) ys h = ap (λ zs. x ∷ zs) (front-again n xs ys (omega arith))
 
-place-of-more : (n : ℕ) (xs : List Placed) (q : Placed) (j : ℕ) (s : Placed) → slice_get (take n xs ++ q ∷ []) j ≡ Some s → ((j < n) × (slice_get xs j ≡ Some s)) ⊎ (s ≡ q)
+place-of-more : (n : ℕ) (xs : List Placed) (q : Placed) (j : ℕ) (s : Placed) → slice_get (take n xs ++ q ∷ []) j ≡ Some s
+    → ((j < n) × (slice_get xs j ≡ Some s)) ⊎ (s ≡ q)
 place-of-more zero xs q zero s e = inr (sym (same_Some q s e))
 place-of-more zero xs q (suc j) s e = absurd (none-some s e)
 place-of-more (suc n) [] q zero s e = inr (sym (same_Some q s e))
 place-of-more (suc n) [] q (suc j) s e = absurd (none-some s e)
 place-of-more (suc n) (x ∷ xs) q zero s e = inl (omega arith, e)
-place-of-more (suc n) (x ∷ xs) q (suc j) s e = elim (place-of-more n xs q j s e) [ inl h ↦ inl (let a = h.0 in omega (arith, a), h.1) | inr h ↦ inr h ]
+place-of-more (suc n) (x ∷ xs) q (suc j) s e =
+    elim (place-of-more n xs q j s e) [ inl h ↦ inl (let a = h.0 in omega (arith, a), h.1) | inr h ↦ inr h ]
 
-more-left : (n : ℕ) (xs : List Placed) (q : Placed) (j : ℕ) (s : Placed) → j < n → slice_get xs j ≡ Some s → slice_get (take n xs ++ q ∷ []) j ≡ Some s
+more-left : (n : ℕ) (xs : List Placed) (q : Placed) (j : ℕ) (s : Placed) → j < n → slice_get xs j ≡ Some s
+    → slice_get (take n xs ++ q ∷ []) j ≡ Some s
 more-left zero xs q j s lt e = absurd (omega arith)
 more-left (suc n) [] q j s lt e = absurd (none-some s e)
 more-left (suc n) (x ∷ xs) q zero s lt e = e
@@ -68,7 +77,8 @@ more-last (x ∷ xs) q = go (lit_eq x.lit q.lit) (has (lits_of (xs ++ q ∷ []))
     go false b h = h
 
 -- the assumed literal is true, and nothing was decided
-module _ (w : WatchValue) (right : IsWatch w.vars w.clauses w.placed) (a : ℕ × Lit) (assumed : IsAssumed w.placed (Some a)) (holds : has (lits_of w.placed) a.1 ≡ true) where
+module _ (w : WatchValue) (right : IsWatch w.vars w.clauses w.placed) (a : ℕ × Lit) (assumed : IsAssumed w.placed (Some a))
+    (holds : has (lits_of w.placed) a.1 ≡ true) where
   consistent : IsConsistent (lits_of w.placed)
   consistent = consistent-from w.placed right.orderly.apart
 
@@ -105,7 +115,8 @@ module _ (w : WatchValue) (right : IsWatch w.vars w.clauses w.placed) (a : ℕ �
   found =
       let m = level-most 0 w.placed k p right.orderly.levels here in
       subst (λ n. placed_of w.placed n ≡ Some p) (ap var_of lit-is)
-      (subst (λ xs. placed_of xs (var_of p.lit) ≡ Some p) (upto-whole 0 (decisions w.placed) w.placed right.orderly.levels (omega arith)) (placed_of-upto (decisions w.placed) w.placed k p right.orderly.apart here (omega (arith, m))))
+      (subst (λ xs. placed_of xs (var_of p.lit) ≡ Some p) (upto-whole 0 (decisions w.placed) w.placed right.orderly.levels (omega arith))
+      (placed_of-upto (decisions w.placed) w.placed k p right.orderly.apart here (omega (arith, m))))
 
   pub code-none : None ≡ option_and_then (λ (q : Placed). q.reason) (placed_of w.placed (var_of a.1)) → ⊥
   code-none e = all-reasons k p here (ap (option_and_then (λ (q : Placed). q.reason)) (sym found) ∙ sym e)
@@ -134,7 +145,8 @@ module _ (w : WatchValue) (right : IsWatch w.vars w.clauses w.placed) (a : ℕ �
       ps = take end w.placed ++ q ∷ []
 
       -- each literal stands before the place, or is the new one
-      where-it-is : (l : Lit) → has (lits_of ps) l ≡ true → ((j : ℕ) × (s : Placed) × (j < end) × (slice_get w.placed j ≡ Some s) × (s.lit ≡ l)) ⊎ (l ≡ negation a.1)
+      where-it-is : (l : Lit) → has (lits_of ps) l ≡ true
+          → ((j : ℕ) × (s : Placed) × (j < end) × (slice_get w.placed j ≡ Some s) × (s.lit ≡ l)) ⊎ (l ≡ negation a.1)
       where-it-is l h =
           let x = has-place ps l h in
           elim (place-of-more end w.placed q x.0 x.1 x.2) [

@@ -17,11 +17,14 @@ use Rattle.clause_solver.proofs.Resolving.{marks_after-parts, marks_after-from}
 use Rattle.clause_solver.proofs.Steps.{c, in-front, not-above, now, reason-known, step-within, step-leads}
 use Rattle.clause_solver.proofs.Levels.{place-there}
 
-pub KeepsBack-trans : (w : WatchValue) (a b d : List Bool) (x y z : List ℕ) → KeepsBack w a b x y → KeepsBack w b d y z → KeepsBack w a d x z
+pub KeepsBack-trans : (w : WatchValue) (a b d : List Bool) (x y z : List ℕ) → KeepsBack w a b x y → KeepsBack w b d y z
+    → KeepsBack w a d x z
 KeepsBack-trans w a b d x y z f g old first h = g old first (f old first h)
 
 -- the place of a variable's value
-pub low-reason : (w : WatchValue) (right : IsWatch w.vars w.clauses w.placed) (l : Lit) (n id : ℕ) → n ≤ 0 → Some n ≡ option_map (λ (p : Placed). p.level) (placed_of w.placed (var_of l)) → Some id ≡ option_and_then (λ (p : Placed). p.reason) (placed_of w.placed (var_of l)) → IsLowReason w.placed l id
+pub low-reason : (w : WatchValue) (right : IsWatch w.vars w.clauses w.placed) (l : Lit) (n id : ℕ) → n ≤ 0
+    → Some n ≡ option_map (λ (p : Placed). p.level) (placed_of w.placed (var_of l))
+    → Some id ≡ option_and_then (λ (p : Placed). p.reason) (placed_of w.placed (var_of l)) → IsLowReason w.placed l id
 low-reason w right l n id z e f = go (placed_of w.placed (var_of l)) refl
   where
     go : (q : Option Placed) → placed_of w.placed (var_of l) ≡ q → IsLowReason w.placed l id
@@ -31,7 +34,8 @@ low-reason w right l n id z e f = go (placed_of w.placed (var_of l)) refl
         let v : n ≡ p.level = same_Some n p.level (e ∙ ap (option_map (λ (q : Placed). q.level)) r) in
         (s.0, p, s.1, s.2, omega (arith, v, z), sym (f ∙ ap (option_and_then (λ (q : Placed). q.reason)) r))
 
-module _ (w : WatchValue) (right : IsWatch w.vars w.clauses w.placed) (above : 0 < decisions w.placed) (m1 m2 : List Bool) (l : Lit) (id : ℕ) (s : IsLowReason w.placed l id)
+module _ (w : WatchValue) (right : IsWatch w.vars w.clauses w.placed) (above : 0 < decisions w.placed) (m1 m2 : List Bool) (l : Lit)
+    (id : ℕ) (s : IsLowReason w.placed l id)
     (marked : mark_at m1 (var_of l) ≡ true) (resolves : Resolves w.clauses m1 m2 l id) (same : length m2 ≡ length m1) where
   k : ℕ
   k = s.0
@@ -57,7 +61,8 @@ module _ (w : WatchValue) (right : IsWatch w.vars w.clauses w.placed) (above : 0
 
   parts : (x : ℕ) → mark_at m2 x ≡ true → (x ≢ var_of p.lit) × ((mark_at m1 x ≡ true) ⊎ (has_var reason-clause x ≡ true))
   unfolding reason-clause
-  parts x t = marks_after-parts (mark_at m1) p.lit (c w right k p here id reason) x (sym (now w right k p here id reason m1 m2 marked-here after x) ∙ t)
+  parts x t = marks_after-parts (mark_at m1) p.lit (c w right k p here id reason) x
+      (sym (now w right k p here id reason m1 m2 marked-here after x) ∙ t)
 
   pub low-keeps : (chain longer : List ℕ) → longer ≡ chain ++ id ∷ [] → KeepsBack w m1 m2 chain longer
   unfolding reason-clause
@@ -72,7 +77,8 @@ module _ (w : WatchValue) (right : IsWatch w.vars w.clauses w.placed) (above : 0
           | inl hi ↦ absurd (false≢true (sym (t.above k p (omega arith) (place-within w.placed k p here) here) ∙ marked-here))
           | inr le ↦
               let e : at ≡ k = omega arith in
-              let n : t.place.level ≡ p.level = ap (λ (r : Placed). r.level) (same_Some t.place p (sym t.here ∙ ap (slice_get w.placed) e ∙ here)) in
+              let n : t.place.level ≡ p.level = ap (λ (r : Placed). r.level)
+              (same_Some t.place p (sym t.here ∙ ap (slice_get w.placed) e ∙ here)) in
               absurd (omega (arith, n, low, last, above))
         ]
       ] in (
@@ -81,15 +87,22 @@ module _ (w : WatchValue) (right : IsWatch w.vars w.clauses w.placed) (above : 0
           back = record {
             ids = g.1.back.ids ++ id ∷ [];
             grown = grown ∙ ap (λ xs. xs ++ id ∷ []) g.1.back.grown ∙ append_assoc first g.1.back.ids (id ∷ []);
-            leads = step-leads w right k p here id reason m1 m2 marked-here after (k + 1) w.placed (falsified (mark_at old) w.placed) g.1.back.ids (omega arith) refl (consistent-from w.placed right.orderly.apart) g.1.back.leads;
+            leads = step-leads w right k p here id reason m1 m2 marked-here after (k + 1) w.placed (falsified (mark_at old) w.placed)
+                g.1.back.ids (omega arith) refl (consistent-from w.placed right.orderly.apart) g.1.back.leads;
             top = record {
               within = step-within w right k p here id reason m1 m2 marked-here after t.within;
               place = t.place;
               here = t.here;
-              marked = now w right k p here id reason m1 m2 marked-here after (var_of t.place.lit) ∙ marks_after-from (mark_at m1) p.lit (c w right k p here id reason) (var_of t.place.lit) (λ e. places-apart w.placed k at p t.place right.orderly.apart under here t.here (sym e)) (inl t.marked);
+              marked = now w right k p here id reason m1 m2 marked-here after (var_of t.place.lit)
+                  ∙ marks_after-from (mark_at m1) p.lit (c w right k p here id reason) (var_of t.place.lit)
+                  (λ e. places-apart w.placed k at p t.place right.orderly.apart under here t.here (sym e)) (inl t.marked);
               above = λ j q lo hi f. elim (cases_Bool (mark_at m2 (var_of q.lit))) [
                 | inr n ↦ n
-                | inl y ↦ absurd (elim (parts (var_of q.lit) y).1 [ inl z ↦ false≢true (sym (t.above j q lo hi f) ∙ z) | inr z ↦ not-above w right k p here id reason j q (omega (arith, under, lo)) f z ])
+                | inl y ↦ absurd (elim (parts (var_of q.lit) y).1 [
+                  | inl z ↦ false≢true (sym (t.above j q lo hi f) ∙ z)
+                  | inr z ↦
+                      not-above w right k p here id reason j q (omega (arith, under, lo)) f z
+                ])
               ];
               last = t.last;
             };

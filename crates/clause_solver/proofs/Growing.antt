@@ -24,11 +24,14 @@ longer cs None = omega arith
 longer cs (Some c) = omega (arith, length-append cs (c ∷ []))
 
 module _ (s t : Search) (lit : Option Lit) (l : Line) (c : Option (List Lit)) (i : IsSearch s) (open_log : IsOpen s.log)
-    (clauses : t.watch.clauses ≡ with_added s.watch.clauses c) (vars : t.watch.vars ≡ s.watch.vars) (log : t.log ≡ s.log ++ l ∷ []) (inputs : t.inputs ≡ s.inputs) (bits : t.bits ≡ s.bits)
-    (given : t.given.items ≡ with_added s.given.items lit) (model : t.model.items ≡ s.model.items) (count : t.learnt ≡ s.learnt + learnt_count l) (marks : length t.marks ≡ length s.marks) (unmarked : AreClear t.marks) where
+    (clauses : t.watch.clauses ≡ with_added s.watch.clauses c) (vars : t.watch.vars ≡ s.watch.vars) (log : t.log ≡ s.log ++ l ∷ [])
+    (inputs : t.inputs ≡ s.inputs) (bits : t.bits ≡ s.bits)
+    (given : t.given.items ≡ with_added s.given.items lit) (model : t.model.items ≡ s.model.items)
+    (count : t.learnt ≡ s.learnt + learnt_count l) (marks : length t.marks ≡ length s.marks) (unmarked : AreClear t.marks) where
   -- the solver's invariant after one more line
   pub search-grown : length (with_added s.given.items lit) ≡ length s.given.items + settles l →
-      ((more : List Lit) → LineHolds (with_added s.given.items lit ++ more) s.watch.clauses (length s.given.items) l) → OfLearnt (IsUseful s.watch.clauses) l →
+      ((more : List Lit) → LineHolds (with_added s.given.items lit ++ more) s.watch.clauses (length s.given.items) l)
+      → OfLearnt (IsUseful s.watch.clauses) l →
       ((more : List Lit) → added (with_added s.given.items lit ++ more) l ≡ c) → IsSearch t
   search-grown n holds useful adds =
       let v = value_of false s in
@@ -69,7 +72,8 @@ module _ (s t : Search) (lit : Option Lit) (l : Line) (c : Option (List Lit)) (i
   }
 
 -- the trail and the model play no part
-pub search-watch : (s : Search) (w : WatchValue) → w.clauses ≡ s.watch.clauses → w.vars ≡ s.watch.vars → IsSearch s → IsSearch (record s { watch = w })
+pub search-watch : (s : Search) (w : WatchValue) → w.clauses ≡ s.watch.clauses → w.vars ≡ s.watch.vars → IsSearch s
+    → IsSearch (record s { watch = w })
 search-watch s w e f i =
     let v : value_of false s ≡ value_of false (record s { watch = w }) = rw (e, f) refl in record {
       log = subst IsLogOf v i.log;
@@ -80,11 +84,24 @@ search-watch s w e f i =
     }
 
 -- nor does the order of the variables
-pub search-turn : (s : Search) (w : WatchValue) (o : OrderValue) → w.clauses ≡ s.watch.clauses → w.vars ≡ s.watch.vars → IsSearch s → IsSearch (record s { watch = w; order = o })
-search-turn s w o e f i = let k = search-watch s w e f i in record { log = k.log; inputs = k.inputs; learnt = k.learnt; marks = k.marks; unmarked = k.unmarked }
+pub search-turn : (s : Search) (w : WatchValue) (o : OrderValue) → w.clauses ≡ s.watch.clauses → w.vars ≡ s.watch.vars → IsSearch s
+    → IsSearch (record s { watch = w; order = o })
+search-turn s w o e f i = let k = search-watch s w e f i in
+    record { log = k.log; inputs = k.inputs; learnt = k.learnt; marks = k.marks; unmarked = k.unmarked }
 
-pub adds-watch : (s : Search) (w : WatchValue) → w.clauses ≡ s.watch.clauses → w.vars ≡ s.watch.vars → Adds (value_of false s) (value_of false (record s { watch = w })) None None
-adds-watch s w e f = record { input = ap (take s.inputs) e; vars = f; bits = refl; model = refl; given = refl; learnt = []; all_learnt = tt; lines = sym (append-nil s.log) }
+pub adds-watch : (s : Search) (w : WatchValue) → w.clauses ≡ s.watch.clauses → w.vars ≡ s.watch.vars
+    → Adds (value_of false s) (value_of false (record s { watch = w })) None None
+adds-watch s w e f = record {
+  input = ap (take s.inputs) e;
+  vars = f;
+  bits = refl;
+  model = refl;
+  given = refl;
+  learnt = [];
+  all_learnt =
+      tt;
+  lines = sym (append-nil s.log);
+}
 
 pub Adds-trans : (a b c : SolverValue) (lit : Option Lit) (last : Option Line) → Adds a b None None → Adds b c lit last → Adds a c lit last
 Adds-trans a b c lit last f g = record {
@@ -95,7 +112,8 @@ Adds-trans a b c lit last f g = record {
   given = g.given ∙ ap (λ xs. with_added xs lit) f.given;
   learnt = f.learnt ++ g.learnt;
   all_learnt = AllLines-append (λ l. learnt_count l ≡ 1) f.learnt g.learnt f.all_learnt g.all_learnt;
-  lines = g.lines ∙ ap (λ xs. with_added (xs ++ g.learnt) last) f.lines ∙ ap (λ xs. with_added xs last) (append_assoc a.lines f.learnt g.learnt);
+  lines = g.lines ∙ ap (λ xs. with_added (xs ++ g.learnt) last) f.lines
+      ∙ ap (λ xs. with_added xs last) (append_assoc a.lines f.learnt g.learnt);
 }
 
 -- learnt lines leave a log open, so that the solver may go on after a model and after an assumption was refuted

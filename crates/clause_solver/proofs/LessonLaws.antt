@@ -25,7 +25,8 @@ use Rattle.clause_watch.proofs.Places.{has-place, place-has, place-below, place-
 use Rattle.clause_solver.proofs.Resolving.{falsified-parts, falsified-from, marks-derive}
 
 -- where an analysis starts
-module _ (w : WatchValue) (right : IsWatch w.vars w.clauses w.placed) (above : 0 < decisions w.placed) (id : ℕ) (c : List Lit) (known : at_id w.clauses id ≡ Some c) (false-here : IsFalse w.placed c)
+module _ (w : WatchValue) (right : IsWatch w.vars w.clauses w.placed) (above : 0 < decisions w.placed) (id : ℕ) (c : List Lit)
+    (known : at_id w.clauses id ≡ Some c) (false-here : IsFalse w.placed c)
     (clear m : List Bool) (unmarked : AreClear clear) (marked : AreMarked clear m c) where
   pub marks-are : (x : ℕ) → mark_at m x ≡ has_var c x
   marks-are x = marked x ∙ ap (λ b. b || has_var c x) (unmarked x)
@@ -33,10 +34,12 @@ module _ (w : WatchValue) (right : IsWatch w.vars w.clauses w.placed) (above : 0
   -- a literal of the last level is marked
   last-one : (k : ℕ) × (p : Placed) × (slice_get w.placed k ≡ Some p) × (mark_at m (var_of p.lit) ≡ true) × (p.level ≡ decisions w.placed)
   last-one =
-      elim (settled-at (lits_of (upto (decisions w.placed - 1) w.placed)) w.clauses (id - 1) c (right.settled (decisions w.placed - 1) (omega arith)) (at_id-get w.clauses id c known).1) [
+      elim (settled-at (lits_of (upto (decisions w.placed - 1) w.placed)) w.clauses (id - 1) c
+      (right.settled (decisions w.placed - 1) (omega arith)) (at_id-get w.clauses id c known).1) [
         | inl t ↦
             let u = upto-place (decisions w.placed - 1) w.placed t.lit t.holds in
-            absurd (consistent-from w.placed right.orderly.apart t.lit (rw (← u.3) (place-has w.placed u.0 u.1 u.2)) (false-here t.lit t.stands))
+            absurd (consistent-from w.placed right.orderly.apart t.lit (rw (← u.3) (place-has w.placed u.0 u.1 u.2))
+            (false-here t.lit t.stands))
         | inr f ↦
             let q = has-place w.placed (negation f.first) (false-here f.first f.has_first) in
             let v : var_of q.1.lit ≡ var_of f.first = ap var_of q.3 in
@@ -47,7 +50,10 @@ module _ (w : WatchValue) (right : IsWatch w.vars w.clauses w.placed) (above : 0
               marks-are (var_of q.1.lit) ∙ ap (has_var c) v ∙ has-var c f.first f.has_first,
               elim (cases_lt (decisions w.placed - 1) q.1.level) [
                 | inl hi ↦ omega (arith, most, hi)
-                | inr lo ↦ absurd (false≢true (sym f.first_free ∙ subst (λ n. has_var (lits_of (upto (decisions w.placed - 1) w.placed)) n ≡ true) v (has-var (lits_of (upto (decisions w.placed - 1) w.placed)) q.1.lit (place-upto (decisions w.placed - 1) w.placed q.0 q.1 q.2 lo))))
+                | inr lo ↦ absurd (false≢true (sym f.first_free
+                    ∙ subst (λ n. has_var (lits_of (upto (decisions w.placed - 1) w.placed)) n ≡ true) v
+                    (has-var (lits_of (upto (decisions w.placed - 1) w.placed)) q.1.lit
+                    (place-upto (decisions w.placed - 1) w.placed q.0 q.1 q.2 lo))))
               ],
             )
       ]
@@ -81,7 +87,8 @@ module _ (w : WatchValue) (right : IsWatch w.vars w.clauses w.placed) (above : 0
 
 AllBelow-from : (n : ℕ) (c : List Lit) → ((l : Lit) → has c l ≡ true → var_of l < n) → AllBelow n c
 AllBelow-from n [] f = tt
-AllBelow-from n (l ∷ c) f = (f l (or_left (lit_eq l l) (has c l) (lit_eq-refl l)), AllBelow-from n c (λ k h. f k (or_right (lit_eq l k) (has c k) h)))
+AllBelow-from n (l ∷ c) f =
+    (f l (or_left (lit_eq l l) (has c l) (lit_eq-refl l)), AllBelow-from n c (λ k h. f k (or_right (lit_eq l k) (has c k) h)))
 
 has_var-upto : (b : ℕ) (ps : List Placed) (x : ℕ) → has_var (lits_of ps) x ≡ false → has_var (lits_of (upto b ps)) x ≡ false
 has_var-upto b ps x h =
@@ -90,11 +97,13 @@ has_var-upto b ps x h =
       | inl t ↦
           let l = has_var-lit (lits_of (upto b ps)) x t in
           let q = upto-place b ps l.0 l.1 in
-          absurd (false≢true (sym h ∙ subst (λ n. has_var (lits_of ps) n ≡ true) (ap var_of q.3 ∙ l.2) (has-var (lits_of ps) q.1.lit (place-has ps q.0 q.1 q.2))))
+          absurd (false≢true (sym h ∙ subst (λ n. has_var (lits_of ps) n ≡ true) (ap var_of q.3 ∙ l.2)
+          (has-var (lits_of ps) q.1.lit (place-has ps q.0 q.1 q.2))))
     ]
 
 -- the placed literal of a variable, up to its level
-pub placed_of-upto : (b : ℕ) (ps : List Placed) (k : ℕ) (q : Placed) → AreApart ps → slice_get ps k ≡ Some q → q.level ≤ b → placed_of (upto b ps) (var_of q.lit) ≡ Some q
+pub placed_of-upto : (b : ℕ) (ps : List Placed) (k : ℕ) (q : Placed) → AreApart ps → slice_get ps k ≡ Some q → q.level ≤ b
+    → placed_of (upto b ps) (var_of q.lit) ≡ Some q
 placed_of-upto b [] k q a e le = absurd (none-some q e)
 placed_of-upto b (p ∷ ps) zero q a e le =
     let s : p ≡ q = same_Some p q e in
@@ -108,7 +117,8 @@ placed_of-upto b (p ∷ ps) (suc k) q a e le =
       | inr f ↦ rw f ih
     ]
 
-module _ (w : WatchValue) (right : IsWatch w.vars w.clauses w.placed) (above : 0 < decisions w.placed) (old new : List Bool) (conflict : ℕ) (longer : List ℕ) (at : ℕ)
+module _ (w : WatchValue) (right : IsWatch w.vars w.clauses w.placed) (above : 0 < decisions w.placed) (old new : List Bool) (conflict : ℕ)
+    (longer : List ℕ) (at : ℕ)
     (g : GoesBack w old new (conflict ∷ []) longer at) where
   consistent : IsConsistent (lits_of w.placed)
   consistent = consistent-from w.placed right.orderly.apart
@@ -124,7 +134,9 @@ module _ (w : WatchValue) (right : IsWatch w.vars w.clauses w.placed) (above : 0
         ]
 
     pub lits-below : AllBelow w.vars front
-    lits-below = AllBelow-from w.vars front (λ l h. let r = has-place w.placed (negation l) (falsified-parts (mark_at new) w.placed l (sym (e l) ∙ h)).1 in subst (λ (x : Lit). var_of x < w.vars) r.3 (place-below w.vars w.placed r.0 r.1 right.orderly.in_table r.2))
+    lits-below = AllBelow-from w.vars front (λ l h. let r =
+        has-place w.placed (negation l) (falsified-parts (mark_at new) w.placed l (sym (e l) ∙ h)).1 in
+        subst (λ (x : Lit). var_of x < w.vars) r.3 (place-below w.vars w.placed r.0 r.1 right.orderly.in_table r.2))
 
     pub clause-some : clause_of front ≡ None → ⊥
     clause-some n = false≢true (union-clash [] front one-sign n).2
@@ -141,9 +153,11 @@ module _ (w : WatchValue) (right : IsWatch w.vars w.clauses w.placed) (above : 0
     parts l h = falsified-parts (mark_at new) w.placed l (sym (stands l) ∙ h)
 
     from : (k : ℕ) (q : Placed) → slice_get w.placed k ≡ Some q → mark_at new (var_of q.lit) ≡ true → has clause (negation q.lit) ≡ true
-    from k q f t = stands (negation q.lit) ∙ falsified-from (mark_at new) w.placed (negation q.lit) t (ap (has (lits_of w.placed)) (negation-twice q.lit) ∙ place-has w.placed k q f)
+    from k q f t = stands (negation q.lit) ∙ falsified-from (mark_at new) w.placed (negation q.lit) t
+        (ap (has (lits_of w.placed)) (negation-twice q.lit) ∙ place-has w.placed k q f)
 
-    module _ (c : List Lit) (known : at_id w.clauses conflict ≡ Some c) (false-here : IsFalse w.placed c) (start : (x : ℕ) → mark_at old x ≡ has_var c x) (level : ℕ) (b : IsBackLevel w.placed front level) where
+    module _ (c : List Lit) (known : at_id w.clauses conflict ≡ Some c) (false-here : IsFalse w.placed c) (start : (x : ℕ)
+        → mark_at old x ≡ has_var c x) (level : ℕ) (b : IsBackLevel w.placed front level) where
       abbrev p : Placed
       p = g.back.top.place
 
@@ -175,7 +189,8 @@ module _ (w : WatchValue) (right : IsWatch w.vars w.clauses w.placed) (above : 0
           elim (cases_lt q.0 at) [
             | inl lo ↦
                 let v : var_of l ≡ var_of q.1.lit = ap var_of (sym q.3) in
-                let there : has_var front (var_of q.1.lit) ≡ true = ap (has_var front) (sym v) ∙ has-var front l (e l ∙ sym (stands l) ∙ h) in
+                let there : has_var front (var_of q.1.lit) ≡ true = ap (has_var front) (sym v)
+                ∙ has-var front l (e l ∙ sym (stands l) ∙ h) in
                 rw (← q.3) (place-upto level w.placed q.0 q.1 q.2 (b.bound q.0 q.1 q.2 there (g.alone q.0 q.1 lo q.2 t)))
             | inr ge ↦ elim (cases_lt at q.0) [
               | inl hi ↦ absurd (false≢true (sym (g.back.top.above q.0 q.1 (omega arith) (place-within w.placed q.0 q.1 q.2) q.2) ∙ t))
@@ -189,10 +204,14 @@ module _ (w : WatchValue) (right : IsWatch w.vars w.clauses w.placed) (above : 0
       has-first : has clause (negation p.lit) ≡ true
       has-first = from at p g.back.top.here g.back.top.marked
 
-      pub lesson : (chain : List ℕ) → chain ≡ longer → AllBelow w.vars clause × IsDerived w.clauses chain clause × IsUseful w.clauses clause × (level < decisions w.placed) × ((level ≡ 0) ⊎ IsAddable (upto level w.placed) clause)
+      pub lesson : (chain : List ℕ) → chain ≡ longer → AllBelow w.vars clause × IsDerived w.clauses chain clause × IsUseful w.clauses clause
+          × (level < decisions w.placed) × ((level ≡ 0) ⊎ IsAddable (upto level w.placed) clause)
       lesson chain q = (
-        AllBelow-from w.vars clause (λ l h. let r = has-place w.placed (negation l) (parts l h).1 in subst (λ (x : Lit). var_of x < w.vars) r.3 (place-below w.vars w.placed r.0 r.1 right.orderly.in_table r.2)),
-        subst (λ xs. IsDerived w.clauses xs clause) (sym (q ∙ g.back.grown)) (marks-derive w.clauses w.placed (mark_at old) (mark_at new) conflict c clause g.back.ids known consistent false-here start g.back.leads (λ l h. stands l ∙ h)),
+        AllBelow-from w.vars clause (λ l h. let r = has-place w.placed (negation l) (parts l h).1 in
+            subst (λ (x : Lit). var_of x < w.vars) r.3 (place-below w.vars w.placed r.0 r.1 right.orderly.in_table r.2)),
+        subst (λ xs. IsDerived w.clauses xs clause) (sym (q ∙ g.back.grown))
+            (marks-derive w.clauses w.placed (mark_at old) (mark_at new) conflict c clause g.back.ids known consistent false-here start
+            g.back.leads (λ l h. stands l ∙ h)),
         record {
           lit = negation p.lit;
           stands = has-first;
@@ -209,10 +228,12 @@ module _ (w : WatchValue) (right : IsWatch w.vars w.clauses w.placed) (above : 0
         elim b.attained [
           | inl z ↦ inl z
           | inr r ↦
-              let d : decisions (upto level w.placed) ≡ level = let m = decisions-upto level w.placed right.orderly.levels in omega (arith, m, below) in
+              let d : decisions (upto level w.placed) ≡ level = let m = decisions-upto level w.placed right.orderly.levels in
+              omega (arith, m, below) in
               let le : r.1.level ≤ level = let l = r.4 in omega (arith, l) in
               let k = has_var-lit front (var_of r.1.lit) r.3 in
-              let t : mark_at new (var_of r.1.lit) ≡ true = ap (mark_at new) (sym k.2) ∙ (falsified-parts (mark_at new) w.placed k.0 (sym (e k.0) ∙ k.1)).0 in
+              let t : mark_at new (var_of r.1.lit) ≡ true = ap (mark_at new) (sym k.2)
+              ∙ (falsified-parts (mark_at new) w.placed k.0 (sym (e k.0) ∙ k.1)).0 in
               inr (record {
                 free = negation p.lit;
                 has_free = has-first;
@@ -220,7 +241,8 @@ module _ (w : WatchValue) (right : IsWatch w.vars w.clauses w.placed) (above : 0
                 others = others;
                 last = negation r.1.lit;
                 has_last = from r.0 r.1 r.2 t;
-                last_level = ap (option_map (λ (x : Placed). x.level)) (placed_of-upto level w.placed r.0 r.1 right.orderly.apart r.2 le) ∙ ap Some (r.4 ∙ sym d);
+                last_level = ap (option_map (λ (x : Placed). x.level)) (placed_of-upto level w.placed r.0 r.1 right.orderly.apart r.2 le)
+                    ∙ ap Some (r.4 ∙ sym d);
               })
         ],
       )

@@ -22,7 +22,8 @@ module _ (n : ℕ) (ps : List Placed) (o : IsOrderly n ps) where
   placed-here : (k : ℕ) (p : Placed) → slice_get ps k ≡ Some p → placed_of ps (var_of p.lit) ≡ Some p
   placed-here k p e =
       let m = level-most 0 ps k p o.levels e in
-      subst (λ xs. placed_of xs (var_of p.lit) ≡ Some p) (upto-whole 0 (decisions ps) ps o.levels (omega arith)) (placed_of-upto (decisions ps) ps k p o.apart e (omega (arith, m)))
+      subst (λ xs. placed_of xs (var_of p.lit) ≡ Some p) (upto-whole 0 (decisions ps) ps o.levels (omega arith))
+      (placed_of-upto (decisions ps) ps k p o.apart e (omega (arith, m)))
 
   pub place-there : (x : ℕ) (p : Placed) → placed_of ps x ≡ Some p → (k : ℕ) × (slice_get ps k ≡ Some p) × (var_of p.lit ≡ x)
   place-there x p e =
@@ -34,11 +35,13 @@ module _ (n : ℕ) (ps : List Placed) (o : IsOrderly n ps) where
 
   module _ (l : Lit) (level : Option ℕ) (e : level ≡ option_map (λ (p : Placed). p.level) (placed_of ps (var_of l))) where
     pub level-none : level ≡ None → IsLevelBelow ps l None
-    level-none f k p g v low = none-some p.level (sym f ∙ e ∙ ap (option_map (λ (q : Placed). q.level)) (ap (placed_of ps) (sym v) ∙ placed-here k p g))
+    level-none f k p g v low = none-some p.level (sym f ∙ e
+        ∙ ap (option_map (λ (q : Placed). q.level)) (ap (placed_of ps) (sym v) ∙ placed-here k p g))
 
     pub level-high : (v : ℕ) → level ≡ Some v → decisions ps ≤ v → IsLevelBelow ps l None
     level-high v f le k p g s low =
-        let same : v ≡ p.level = same_Some v p.level (sym f ∙ e ∙ ap (option_map (λ (q : Placed). q.level)) (ap (placed_of ps) (sym s) ∙ placed-here k p g)) in
+        let same : v ≡ p.level = same_Some v p.level (sym f ∙ e
+        ∙ ap (option_map (λ (q : Placed). q.level)) (ap (placed_of ps) (sym s) ∙ placed-here k p g)) in
         omega (arith, same, le, low)
 
     pub level-low : (v : ℕ) → level ≡ Some v → v < decisions ps → IsLevelBelow ps l (Some v)
@@ -66,27 +69,38 @@ module _ (ps : List Placed) (c : List Lit) (back i : ℕ) (d : Lit) (h : i < len
   -- the literal has no level below the present one
   pub back-passed : IsLevelBelow ps l None → IsBackLevel ps (take (i + 1) c) back
   back-passed none = record {
-    bound = λ k p e t lt. elim (or_cases (has_var (take i c) (var_of p.lit)) (eqb (var_of l) (var_of p.lit)) (sym (front (var_of p.lit)) ∙ t)) [
-      | inl old ↦ b.bound k p e old lt
-      | inr s ↦ absurd (none k p e (sym (eqb-true (var_of l) (var_of p.lit) s)) lt)
-    ];
+    bound = λ k p e t lt. elim (or_cases (has_var (take i c) (var_of p.lit)) (eqb (var_of l) (var_of p.lit))
+        (sym (front (var_of p.lit)) ∙ t)) [
+          | inl old ↦ b.bound k p e old lt
+          | inr s ↦ absurd (none k p e (sym (eqb-true (var_of l) (var_of p.lit) s)) lt)
+        ];
     attained = elim b.attained [ inl z ↦ inl z | inr r ↦ inr (r.0, r.1, r.2, old-more (var_of r.1.lit) r.3, r.4, r.5) ];
   }
 
   -- or one that may be the highest
   pub back-more : AreApart ps → (v : ℕ) → IsLevelBelow ps l (Some v) → IsBackLevel ps (take (i + 1) c) (max v back)
   back-more apart v s = record {
-    bound = λ k p e t lt. elim (or_cases (has_var (take i c) (var_of p.lit)) (eqb (var_of l) (var_of p.lit)) (sym (front (var_of p.lit)) ∙ t)) [
-      | inl old ↦ let le = b.bound k p e old lt in omega (arith, le)
-      | inr same ↦
-          let q = places-same ps k s.0 p s.1 apart e s.2 (sym (eqb-true (var_of l) (var_of p.lit) same) ∙ sym s.3) in
-          let n : p.level ≡ v = ap (λ (r : Placed). r.level) q.1 ∙ s.4 in
-          omega (arith, n)
-    ];
+    bound = λ k p e t lt. elim (or_cases (has_var (take i c) (var_of p.lit)) (eqb (var_of l) (var_of p.lit))
+        (sym (front (var_of p.lit)) ∙ t)) [
+          | inl old ↦ let le = b.bound k p e old lt in omega (arith, le)
+          | inr same ↦
+              let q = places-same ps k s.0 p s.1 apart e s.2 (sym (eqb-true (var_of l) (var_of p.lit) same) ∙ sym s.3) in
+              let n : p.level ≡ v = ap (λ (r : Placed). r.level) q.1 ∙ s.4 in
+              omega (arith, n)
+        ];
     attained = elim (cases_lt back v) [
       | inl lt ↦
           let m : v ≡ max v back = omega (arith, lt) in
-          inr (s.0, s.1, s.2, front (var_of s.1.lit) ∙ or_right (has_var (take i c) (var_of s.1.lit)) (eqb (var_of l) (var_of s.1.lit)) (eq-eqb (var_of l) (var_of s.1.lit) (sym s.3)), s.4 ∙ m, (let u = s.5 in omega (arith, u, m)))
+          inr (
+            s.0,
+            s.1,
+            s.2,
+            front (var_of s.1.lit)
+                ∙ or_right (has_var (take i c) (var_of s.1.lit)) (eqb (var_of l) (var_of s.1.lit))
+                (eq-eqb (var_of l) (var_of s.1.lit) (sym s.3)),
+            s.4 ∙ m,
+            (let u = s.5 in omega (arith, u, m)),
+          )
       | inr ge ↦
           let m : back ≡ max v back = omega (arith, ge) in
           elim b.attained [

@@ -35,18 +35,24 @@ pub listed-none : (n : ℕ) → AreListed (replicate n false) []
 listed-none n = record { below = λ j x e. absurd (none-some x e); has = λ x t. absurd (false≢true (sym (clear-replicate n x) ∙ t)) }
 
 -- a variable is marked and listed
-pub listed-mark : (table : List Bool) (listed more : List ℕ) (var : ℕ) → AreListed table listed → var < length table → more ≡ listed ++ var ∷ [] → AreListed (set table var true) more
+pub listed-mark : (table : List Bool) (listed more : List ℕ) (var : ℕ) → AreListed table listed → var < length table
+    → more ≡ listed ++ var ∷ [] → AreListed (set table var true) more
 listed-mark table listed more var a h e =
     let n = length-set table var true in
     subst (AreListed (set table var true)) (sym e) (record {
-      below = λ j x g. elim (get-parts listed var j x g) [ inl f ↦ let b = a.below j x f in omega (arith, n, b) | inr s ↦ omega (arith, n, h, s) ];
+      below = λ j x g. elim (get-parts listed var j x g) [
+        | inl f ↦ let b = a.below j x f in omega (arith, n, b)
+        | inr s ↦
+            omega (arith, n, h, s)
+      ];
       has = λ x t. elim (cases_eq x var) [
         | inl s ↦ (length listed, get-end listed var ∙ ap Some (sym s))
         | inr ne ↦ let g = a.has x (sym (get_or-set_other table var x true false ne) ∙ t) in (g.0, get-more listed var g.0 x g.1)
       ];
     })
 
-unmarked-apart : (table : List Bool) (var x : ℕ) → var < length table → mark_at (set table var false) x ≡ true → (x ≡ var → ⊥) × (mark_at table x ≡ true)
+unmarked-apart : (table : List Bool) (var x : ℕ) → var < length table → mark_at (set table var false) x ≡ true → (x ≡ var → ⊥)
+    × (mark_at table x ≡ true)
 unmarked-apart table var x h t =
     elim (cases_eq x var) [
       | inl s ↦ absurd (false≢true (sym (get_or-set_same table var false false h) ∙ ap (mark_at (set table var false)) (sym s) ∙ t))
@@ -54,7 +60,8 @@ unmarked-apart table var x h t =
     ]
 
 -- a mark is taken away, and its variable may stay in the list
-pub listed-unmark : (table : List Bool) (listed : List ℕ) (var : ℕ) → AreListed table listed → var < length table → AreListed (set table var false) listed
+pub listed-unmark : (table : List Bool) (listed : List ℕ) (var : ℕ) → AreListed table listed → var < length table
+    → AreListed (set table var false) listed
 listed-unmark table listed var a h =
     let n = length-set table var false in record {
       below = λ j x g. let b = a.below j x g in omega (arith, n, b);
@@ -62,10 +69,12 @@ listed-unmark table listed var a h =
     }
 
 -- the last variable leaves the list, and its mark is taken away
-pub listed-last : (table : List Bool) (listed rest : List ℕ) (var : ℕ) → AreListed table listed → listed ≡ rest ++ var ∷ [] → var < length table
+pub listed-last : (table : List Bool) (listed rest : List ℕ) (var : ℕ) → AreListed table listed → listed ≡ rest ++ var ∷ []
+    → var < length table
 listed-last table listed rest var a e = a.below (length rest) var (ap (λ xs. slice_get xs (length rest)) e ∙ get-end rest var)
 
-pub listed-pop : (table : List Bool) (listed rest : List ℕ) (var : ℕ) → AreListed table listed → listed ≡ rest ++ var ∷ [] → AreListed (set table var false) rest
+pub listed-pop : (table : List Bool) (listed rest : List ℕ) (var : ℕ) → AreListed table listed → listed ≡ rest ++ var ∷ []
+    → AreListed (set table var false) rest
 listed-pop table listed rest var a e =
     let n = length-set table var false in
     let h = listed-last table listed rest var a e in record {
@@ -119,7 +128,8 @@ module _ (table : List Bool) (ps : List Placed) (listed : List ℕ) where
     }
 
     -- one more literal
-    pub falsified-more : (l : Lit) (more : List Lit) → IsFalseLit m ps (get_or listed i d) (Some l) → more ≡ lits ++ l ∷ [] → AreFalsified m ps listed (i + 1) more
+    pub falsified-more : (l : Lit) (more : List Lit) → IsFalseLit m ps (get_or listed i d) (Some l) → more ≡ lits ++ l ∷ []
+        → AreFalsified m ps listed (i + 1) more
     falsified-more l more some e = subst (AreFalsified m ps listed (i + 1)) (sym e) (record {
       sound = λ k g. elim (has-push lits l k g) [
         | inl old ↦ a.sound k old
@@ -131,11 +141,14 @@ module _ (table : List Bool) (ps : List Placed) (listed : List ℕ) where
       ];
     })
 
-  pub falsified-all : (n : ℕ) (lits : List Lit) → IsConsistent (lits_of ps) → AreListed table listed → length listed ≤ n → AreFalsified m ps listed n lits → SameLits lits (falsified m ps)
-  falsified-all n lits consistent l le a = falsified-same m ps lits consistent a.sound (λ x t o. let g = l.has x t in let w = slice_get_within listed g.0 x g.1 in a.full g.0 x (omega (arith, w, le)) g.1 t o)
+  pub falsified-all : (n : ℕ) (lits : List Lit) → IsConsistent (lits_of ps) → AreListed table listed → length listed ≤ n
+      → AreFalsified m ps listed n lits → SameLits lits (falsified m ps)
+  falsified-all n lits consistent l le a = falsified-same m ps lits consistent a.sound (λ x t o. let g = l.has x t in let w =
+      slice_get_within listed g.0 x g.1 in a.full g.0 x (omega (arith, w, le)) g.1 t o)
 
 -- the false literal of a variable with a value
-pub false-lit : (ps : List Placed) (x : ℕ) (l : Lit) (b : Bool) → var_of l ≡ x → l.positive ≡ not b → Some b ≡ value_in ps x → has (lits_of ps) (negation l) ≡ true
+pub false-lit : (ps : List Placed) (x : ℕ) (l : Lit) (b : Bool) → var_of l ≡ x → l.positive ≡ not b → Some b ≡ value_in ps x
+    → has (lits_of ps) (negation l) ≡ true
 false-lit ps x l b e p v = value-has ps (negation l) (ap (value_in ps) e ∙ sym v ∙ ap Some (sym (ap not p ∙ not-not b)))
   where
     not-not : (b : Bool) → not (not b) ≡ b

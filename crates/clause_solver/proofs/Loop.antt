@@ -33,7 +33,8 @@ assumed-upto b ps (Some a) levels h = λ above.
     let d = decisions-upto b ps levels in
     subst (λ xs. has (lits_of xs) (negation a.1) ≡ true) (sym (upto-upto 1 b ps (omega (arith, d, above)))) (h (omega (arith, d, above)))
 
-assumed-grown : (ps more : List Placed) (a : Option (ℕ × Lit)) → decisions (ps ++ more) ≡ decisions ps → IsAssumed ps a → IsAssumed (ps ++ more) a
+assumed-grown : (ps more : List Placed) (a : Option (ℕ × Lit)) → decisions (ps ++ more) ≡ decisions ps → IsAssumed ps a
+    → IsAssumed (ps ++ more) a
 assumed-grown ps more None e h = tt
 assumed-grown ps more (Some a) e h = λ above.
     let q = upto-place 1 ps (negation a.1) (h (omega (arith, e, above))) in
@@ -56,7 +57,8 @@ lesson-less b l v f g h k =
     rw (e, d) (omega arith)
 
 -- after a lesson the search goes on
-pub goes-on : (s t : Search) (a : Option (ℕ × Lit)) (budget : ℕ) → IsWatch s.watch.vars s.watch.clauses s.watch.placed → IsReady s a budget → Taught s t → t.learnt ≤ budget → IsStep s t a budget None
+pub goes-on : (s t : Search) (a : Option (ℕ × Lit)) (budget : ℕ) → IsWatch s.watch.vars s.watch.clauses s.watch.placed → IsReady s a budget
+    → Taught s t → t.learnt ≤ budget → IsStep s t a budget None
 goes-on s t a budget right r h le =
     let n = h.search.learnt in
     let m = h.count in (
@@ -70,12 +72,14 @@ goes-on s t a budget right r h le =
       },
       subst (λ v. (budget + 1 - learnt_in t.log) * (v + 1) + free_left t.watch.placed v < measure_of budget s) (sym h.adds.vars)
           (subst (λ l. (budget + 1 - l) * (s.watch.vars + 1) + free_left t.watch.placed s.watch.vars < measure_of budget s) (sym m)
-          (lesson-less budget (learnt_in s.log) s.watch.vars (free_left s.watch.placed s.watch.vars) (free_left t.watch.placed s.watch.vars) (omega (arith, n, m, le)) (free_left-le t.watch.placed s.watch.vars))),
+          (lesson-less budget (learnt_in s.log) s.watch.vars (free_left s.watch.placed s.watch.vars) (free_left t.watch.placed s.watch.vars)
+          (omega (arith, n, m, le)) (free_left-le t.watch.placed s.watch.vars))),
     )
 
 -- or its budget is spent
 pub spends : (s t u : Search) (a : Option (ℕ × Lit)) (budget : ℕ) → IsReady s a budget → Taught s t → budget < t.learnt →
-    u.watch ≡ t.watch → u.log ≡ t.log ++ line.Spent ∷ [] → u.inputs ≡ t.inputs → u.bits ≡ t.bits → u.given.items ≡ t.given.items → u.model.items ≡ t.model.items → u.learnt ≡ t.learnt → u.marks ≡ t.marks → IsStep s u a budget (Some outcome.Spent)
+    u.watch ≡ t.watch → u.log ≡ t.log ++ line.Spent ∷ [] → u.inputs ≡ t.inputs → u.bits ≡ t.bits → u.given.items ≡ t.given.items
+    → u.model.items ≡ t.model.items → u.learnt ≡ t.learnt → u.marks ≡ t.marks → IsStep s u a budget (Some outcome.Spent)
 spends s t u a budget r h lt watch log inputs bits given model learnt marks =
     let n = h.search.learnt in
     let m = h.count in
@@ -90,11 +94,14 @@ spends s t u a budget r h lt watch log inputs bits given model learnt marks =
             (adds-last t u None line.Spent None h.search h.open_log clauses vars log inputs bits given model count len unmarked),
         rw log (let k = learnt_in-push t.log line.Spent in omega (arith, k, n, m, b, lt)),
       ),
-      search-grown t u None line.Spent None h.search h.open_log clauses vars log inputs bits given model count len unmarked (omega arith) (λ more. tt) tt (λ more. refl),
+      search-grown t u None line.Spent None h.search h.open_log clauses vars log inputs bits given model count len unmarked (omega arith)
+          (λ more. tt) tt (λ more. refl),
     )
 
 -- a decision
-pub decided : (s : Search) (w : WatchValue) (o : OrderValue) (l : Lit) (a : Option (ℕ × Lit)) (budget : ℕ) → IsReady s a budget → IsNext s.watch.placed s.watch.vars a (move.Decide l) → w ≡ with_next s.watch l None → IsStep s (record s { watch = w; order = o }) a budget None
+pub decided : (s : Search) (w : WatchValue) (o : OrderValue) (l : Lit) (a : Option (ℕ × Lit)) (budget : ℕ) → IsReady s a budget
+    → IsNext s.watch.placed s.watch.vars a (move.Decide l) → w ≡ with_next s.watch l None
+    → IsStep s (record s { watch = w; order = o }) a budget None
 decided s w o l a budget r h e =
     let clauses : w.clauses ≡ s.watch.clauses = ap (λ (v : WatchValue). v.clauses) e in
     let vars : w.vars ≡ s.watch.vars = ap (λ (v : WatchValue). v.vars) e in
@@ -111,12 +118,15 @@ decided s w o l a budget r h e =
     )
 
 -- a model
-false-in : (ps : List Placed) (n : ℕ) (cs : List (List Lit)) (model : List Bool) (a : Option (ℕ × Lit)) → IsWatch n cs ps → IsModelOf ps n model → IsFalseOn ps a → IsFalseIn model a
+false-in : (ps : List Placed) (n : ℕ) (cs : List (List Lit)) (model : List Bool) (a : Option (ℕ × Lit)) → IsWatch n cs ps
+    → IsModelOf ps n model → IsFalseOn ps a → IsFalseIn model a
 false-in ps n cs model None right m h = tt
 false-in ps n cs model (Some a) right m h = false-here ps n model right.orderly m a.1 h
 
-pub finished : (s t : Search) (a : Option (ℕ × Lit)) (budget : ℕ) → IsWatch s.watch.vars s.watch.clauses s.watch.placed → IsReady s a budget → IsSettled (lits_of s.watch.placed) s.watch.clauses → IsNext s.watch.placed s.watch.vars a move.Finish →
-    IsModelOf s.watch.placed s.watch.vars t.model.items → t.watch ≡ s.watch → t.log ≡ s.log → t.inputs ≡ s.inputs → t.bits ≡ s.bits → t.given ≡ s.given → t.learnt ≡ s.learnt → t.marks ≡ s.marks → IsStep s t a budget (Some outcome.Model)
+pub finished : (s t : Search) (a : Option (ℕ × Lit)) (budget : ℕ) → IsWatch s.watch.vars s.watch.clauses s.watch.placed → IsReady s a budget
+    → IsSettled (lits_of s.watch.placed) s.watch.clauses → IsNext s.watch.placed s.watch.vars a move.Finish →
+    IsModelOf s.watch.placed s.watch.vars t.model.items → t.watch ≡ s.watch → t.log ≡ s.log → t.inputs ≡ s.inputs → t.bits ≡ s.bits
+    → t.given ≡ s.given → t.learnt ≡ s.learnt → t.marks ≡ s.marks → IsStep s t a budget (Some outcome.Model)
 finished s t a budget right r settled h m watch log inputs bits given learnt marks = (
   (
     record {
@@ -150,13 +160,28 @@ finished s t a budget right r settled h m watch log inputs bits given learnt mar
 )
 
 -- turns one after another
-pub Answers-after : (a b c : SolverValue) (assumption : Option (ℕ × Lit)) (budget : ℕ) (o : Outcome) → Adds a b None None → Answers b c assumption budget o → Answers a c assumption budget o
-Answers-after a b c assumption budget outcome.Model f h = (record { adds = subst (λ m. Adds a (record c { model = m }) None None) f.model (Adds-trans a b (record c { model = b.model }) None None f h.0.adds); whole = h.0.whole; meets = h.0.meets; assumed = h.0.assumed }, h.1, h.2)
+pub Answers-after : (a b c : SolverValue) (assumption : Option (ℕ × Lit)) (budget : ℕ) (o : Outcome) → Adds a b None None
+    → Answers b c assumption budget o → Answers a c assumption budget o
+Answers-after a b c assumption budget outcome.Model f h = (
+  record {
+    adds = subst (λ m. Adds a (record c { model = m }) None None) f.model
+        (Adds-trans a b (record c { model = b.model }) None None f h.0.adds);
+    whole = h.0.whole;
+    meets = h.0.meets;
+    assumed =
+        h.0.assumed;
+  },
+  h.1,
+  h.2,
+)
 Answers-after a b c assumption budget outcome.Refuted f h = ((h.0.0, h.0.1, Adds-trans a b c _ (Some h.0.0) f h.0.2), h.1, h.2)
 Answers-after a b c assumption budget outcome.Spent f h = (Adds-trans a b c None (Some line.Spent) f h.0, h.1)
 
-pub IsStep-after : (s t u : Search) (a : Option (ℕ × Lit)) (budget : ℕ) (o : Option Outcome) → Adds (value_of false s) (value_of false t) None None → measure_of budget t ≤ measure_of budget s → IsStep t u a budget o → IsStep s u a budget o
-IsStep-after s t u a budget None f le h = (Adds-trans (value_of false s) (value_of false t) (value_of false u) None None f h.0, h.1, (let l = h.2 in omega (arith, le, l)))
+pub IsStep-after : (s t u : Search) (a : Option (ℕ × Lit)) (budget : ℕ) (o : Option Outcome)
+    → Adds (value_of false s) (value_of false t) None None → measure_of budget t ≤ measure_of budget s → IsStep t u a budget o
+    → IsStep s u a budget o
+IsStep-after s t u a budget None f le h =
+    (Adds-trans (value_of false s) (value_of false t) (value_of false u) None None f h.0, h.1, (let l = h.2 in omega (arith, le, l)))
 IsStep-after s t u a budget (Some o) f le h = (Answers-after (value_of false s) (value_of false t) (value_of false u) a budget o f h.0, h.1)
 
 -- propagation
@@ -176,15 +201,20 @@ module _ (s : Search) (w : WatchValue) (a : Option (ℕ × Lit)) (budget : ℕ) 
     open_log = r.open_log;
     in_budget = r.in_budget;
     in_order = order-same (value_of false s) (value_of false after) a refl vars r.in_order;
-    assumed = subst (λ ps. IsAssumed ps a) (sym p.grown.is) (assumed-grown s.watch.placed p.grown.more a (ap decisions (sym p.grown.is) ∙ p.grown.same_depth) r.assumed);
+    assumed = subst (λ ps. IsAssumed ps a) (sym p.grown.is)
+        (assumed-grown s.watch.placed p.grown.more a (ap decisions (sym p.grown.is) ∙ p.grown.same_depth) r.assumed);
   }
 
   pub measure-propagated : measure_of budget after ≤ measure_of budget s
-  measure-propagated = rw (vars, p.grown.is) (let f = Grown-free s.watch.clauses s.watch.vars s.watch.placed p.grown.more p.grown.each in omega (arith, f))
+  measure-propagated = rw (vars, p.grown.is) (let f = Grown-free s.watch.clauses s.watch.vars s.watch.placed p.grown.more p.grown.each in
+      omega (arith, f))
 
 -- going back to level 0
-pub started : (s : Search) (w : WatchValue) (o : OrderValue) (a : Option (ℕ × Lit)) (budget : ℕ) → IsSearch s → IsOpen s.log → learnt_in s.log ≤ budget → IsInOrder (value_of false s) a → w ≡ back s.watch 0 → decisions w.placed ≡ min (decisions s.watch.placed) 0 →
-    Adds (value_of false s) (value_of false (record s { watch = w; order = o })) None None × IsReady (record s { watch = w; order = o }) a budget
+pub started : (s : Search) (w : WatchValue) (o : OrderValue) (a : Option (ℕ × Lit)) (budget : ℕ) → IsSearch s → IsOpen s.log
+    → learnt_in s.log ≤ budget → IsInOrder (value_of false s) a → w ≡ back s.watch 0
+    → decisions w.placed ≡ min (decisions s.watch.placed) 0 →
+    Adds (value_of false s) (value_of false (record s { watch = w; order = o })) None None
+    × IsReady (record s { watch = w; order = o }) a budget
 started s w o a budget i p b order e d =
     let clauses : w.clauses ≡ s.watch.clauses = ap (λ (v : WatchValue). v.clauses) e in
     let vars : w.vars ≡ s.watch.vars = ap (λ (v : WatchValue). v.vars) e in (

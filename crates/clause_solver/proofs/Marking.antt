@@ -16,7 +16,8 @@ or-false false = refl
 
 pub has_var-push : (ls : List Lit) (l : Lit) (x : ℕ) → has_var (ls ++ l ∷ []) x ≡ (has_var ls x || eqb (var_of l) x)
 has_var-push [] l x = sym (or-false (eqb (var_of l) x))
-has_var-push (k ∷ ls) l x = ap (λ b. eqb (var_of k) x || b) (has_var-push ls l x) ∙ or-assoc (eqb (var_of k) x) (has_var ls x) (eqb (var_of l) x)
+has_var-push (k ∷ ls) l x = ap (λ b. eqb (var_of k) x || b) (has_var-push ls l x)
+    ∙ or-assoc (eqb (var_of k) x) (has_var ls x) (eqb (var_of l) x)
   where
     or-assoc : (a b c : Bool) → (a || (b || c)) ≡ ((a || b) || c)
     or-assoc true b c = refl
@@ -34,7 +35,9 @@ module _ (ls : List Lit) (i : ℕ) (d : Lit) (new : List Bool) (h : i < length l
   AreMarked-more old a x =
       elim (cases_eq (var_of l) x) [
         | inl e ↦ subst (λ y. mark_at (set new (var_of l) true) y ≡ (mark_at old y || has_var (take (i + 1) ls) y)) e
-            (get_or-set_same new (var_of l) true false b ∙ sym (rw (front (var_of l), eq-eqb (var_of l) (var_of l) refl) (two-true (mark_at old (var_of l)) (has_var (take i ls) (var_of l)))))
+            (get_or-set_same new (var_of l) true false b
+            ∙ sym (rw (front (var_of l), eq-eqb (var_of l) (var_of l) refl)
+            (two-true (mark_at old (var_of l)) (has_var (take i ls) (var_of l)))))
         | inr ne ↦ get_or-set_other new (var_of l) x true false (λ e. ne (sym e)) ∙ a x
             ∙ sym (rw (front x, ne_eqb (var_of l) x ne) (ap (λ c. mark_at old x || c) (sym (or-false (has_var (take i ls) x)))))
       ]
@@ -61,11 +64,13 @@ abbrev pub some_lit : Lit
 some_lit = record { var = record { 0 = 0 }; positive = false }
 
 -- nothing is marked where the walk down has passed
-pub NoneMarked-more : (m : ℕ → Bool) (ps : List Placed) (at end : ℕ) (p : Placed) → slice_get ps at ≡ Some p → m (var_of p.lit) ≡ false → NoneMarked m ps (at + 1) end → NoneMarked m ps at end
+pub NoneMarked-more : (m : ℕ → Bool) (ps : List Placed) (at end : ℕ) (p : Placed) → slice_get ps at ≡ Some p → m (var_of p.lit) ≡ false
+    → NoneMarked m ps (at + 1) end → NoneMarked m ps at end
 NoneMarked-more m ps at end p e f h k q lo hi g =
     elim (cases_lt at k) [
       | inl lt ↦ h k q (omega arith) hi g
-      | inr ge ↦ let same : k ≡ at = omega arith in subst (λ (r : Placed). m (var_of r.lit) ≡ false) (same_Some p q (sym e ∙ ap (slice_get ps) (sym same) ∙ g)) f
+      | inr ge ↦ let same : k ≡ at = omega arith in
+          subst (λ (r : Placed). m (var_of r.lit) ≡ false) (same_Some p q (sym e ∙ ap (slice_get ps) (sym same) ∙ g)) f
     ]
 
 pub clear-replicate : (n : ℕ) → AreClear (replicate n false)

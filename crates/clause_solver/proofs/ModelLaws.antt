@@ -26,14 +26,19 @@ value-given ps x b e = go (placed_of ps x) refl e
     go (Some t) q f = placed-has ps x t q
 
 pub HaveValues-more : (ps : List Placed) (n : ℕ) → HaveValues ps n → has_var (lits_of ps) n ≡ true → HaveValues ps (n + 1)
-HaveValues-more ps n h t x lt = elim (cases_lt x n) [ inl below ↦ h x below | inr ge ↦ let e : n ≡ x = omega arith in subst (λ y. has_var (lits_of ps) y ≡ true) e t ]
+HaveValues-more ps n h t x lt = elim (cases_lt x n) [
+  | inl below ↦ h x below
+  | inr ge ↦ let e : n ≡ x = omega arith in
+      subst (λ y. has_var (lits_of ps) y ≡ true) e t
+]
 
 has-value : (ps : List Placed) (l : Lit) → AreApart ps → has (lits_of ps) l ≡ true → value_in ps (var_of l) ≡ Some l.positive
 has-value [] l a h = absurd (false≢true h)
 has-value (p ∷ ps) l a h =
     elim (or_cases (lit_eq p.lit l) (has (lits_of ps) l) h) [
       | inl e ↦ let s = same_lit p.lit l e in rw (eq-eqb (var_of p.lit) (var_of l) (ap var_of s)) (ap (λ (k : Lit). Some k.positive) s)
-      | inr t ↦ rw (ne_eqb (var_of p.lit) (var_of l) (λ e. false≢true (sym a.0 ∙ ap (has_var (lits_of ps)) e ∙ has-var (lits_of ps) l t))) (has-value ps l a.1 t)
+      | inr t ↦ rw (ne_eqb (var_of p.lit) (var_of l) (λ e. false≢true (sym a.0 ∙ ap (has_var (lits_of ps)) e ∙ has-var (lits_of ps) l t)))
+          (has-value ps l a.1 t)
     ]
 
 module _ (ps : List Placed) (n : ℕ) (model : List Bool) (o : IsOrderly n ps) (m : IsModelOf ps n model) where

@@ -45,30 +45,42 @@ has-falsified m (p ∷ ps) l = go (m (var_of p.lit)) refl (has-falsified m ps l)
     unmarked true h false f = refl
     unmarked false h x f = refl
 
-    go : (b : Bool) → m (var_of p.lit) ≡ b → has (falsified m ps) l ≡ (m (var_of l) && has (lits_of ps) (negation l)) → has (if b then negation p.lit ∷ falsified m ps else falsified m ps) l ≡ (m (var_of l) && (lit_eq p.lit (negation l) || has (lits_of ps) (negation l)))
-    go true q ih = rw (flipped-eq p.lit l, ih) (marked (lit_eq p.lit (negation l)) (has (lits_of ps) (negation l)) (m (var_of l)) (λ e. ap m (sym (ap var_of (same_lit p.lit (negation l) e))) ∙ q))
-    go false q ih = rw ih (unmarked (lit_eq p.lit (negation l)) (has (lits_of ps) (negation l)) (m (var_of l)) (λ e. ap m (sym (ap var_of (same_lit p.lit (negation l) e))) ∙ q))
+    go : (b : Bool) → m (var_of p.lit) ≡ b → has (falsified m ps) l ≡ (m (var_of l) && has (lits_of ps) (negation l))
+        → has (if b then negation p.lit ∷ falsified m ps else falsified m ps) l
+        ≡ (m (var_of l) && (lit_eq p.lit (negation l) || has (lits_of ps) (negation l)))
+    go true q ih = rw (flipped-eq p.lit l, ih)
+        (marked (lit_eq p.lit (negation l)) (has (lits_of ps) (negation l)) (m (var_of l))
+        (λ e. ap m (sym (ap var_of (same_lit p.lit (negation l) e))) ∙ q))
+    go false q ih =
+        rw ih (unmarked (lit_eq p.lit (negation l)) (has (lits_of ps) (negation l)) (m (var_of l))
+        (λ e. ap m (sym (ap var_of (same_lit p.lit (negation l) e))) ∙ q))
 
-pub falsified-parts : (m : ℕ → Bool) (ps : List Placed) (l : Lit) → has (falsified m ps) l ≡ true → (m (var_of l) ≡ true) × (has (lits_of ps) (negation l) ≡ true)
+pub falsified-parts : (m : ℕ → Bool) (ps : List Placed) (l : Lit) → has (falsified m ps) l ≡ true → (m (var_of l) ≡ true)
+    × (has (lits_of ps) (negation l) ≡ true)
 falsified-parts m ps l h = and_parts (m (var_of l)) (has (lits_of ps) (negation l)) (sym (has-falsified m ps l) ∙ h)
 
-pub falsified-from : (m : ℕ → Bool) (ps : List Placed) (l : Lit) → m (var_of l) ≡ true → has (lits_of ps) (negation l) ≡ true → has (falsified m ps) l ≡ true
+pub falsified-from : (m : ℕ → Bool) (ps : List Placed) (l : Lit) → m (var_of l) ≡ true → has (lits_of ps) (negation l) ≡ true
+    → has (falsified m ps) l ≡ true
 falsified-from m ps l a b = has-falsified m ps l ∙ and_from (m (var_of l)) (has (lits_of ps) (negation l)) a b
 
 pub falsified-agree : (m n : ℕ → Bool) (ps : List Placed) → ((x : ℕ) → m x ≡ n x) → falsified m ps ≡ falsified n ps
 falsified-agree m n [] h = refl
 falsified-agree m n (p ∷ ps) h = rw (h (var_of p.lit), falsified-agree m n ps h) refl
 
-pub marks_after-parts : (m : ℕ → Bool) (l : Lit) (c : List Lit) (x : ℕ) → marks_after m l c x ≡ true → (x ≢ var_of l) × ((m x ≡ true) ⊎ (has_var c x ≡ true))
+pub marks_after-parts : (m : ℕ → Bool) (l : Lit) (c : List Lit) (x : ℕ) → marks_after m l c x ≡ true → (x ≢ var_of l)
+    × ((m x ≡ true) ⊎ (has_var c x ≡ true))
 marks_after-parts m l c x h =
     let a = and_parts (not (eqb x (var_of l))) (m x || has_var c x) h in
     ((λ e. false≢true (sym (ap not (eq-eqb x (var_of l) e)) ∙ a.0)), or_cases (m x) (has_var c x) a.1)
 
-pub marks_after-from : (m : ℕ → Bool) (l : Lit) (c : List Lit) (x : ℕ) → x ≢ var_of l → (m x ≡ true) ⊎ (has_var c x ≡ true) → marks_after m l c x ≡ true
-marks_after-from m l c x ne h = and_from (not (eqb x (var_of l))) (m x || has_var c x) (ap not (ne_eqb x (var_of l) ne)) (elim h [ inl t ↦ or_left (m x) (has_var c x) t | inr t ↦ or_right (m x) (has_var c x) t ])
+pub marks_after-from : (m : ℕ → Bool) (l : Lit) (c : List Lit) (x : ℕ) → x ≢ var_of l → (m x ≡ true) ⊎ (has_var c x ≡ true)
+    → marks_after m l c x ≡ true
+marks_after-from m l c x ne h = and_from (not (eqb x (var_of l))) (m x || has_var c x) (ap not (ne_eqb x (var_of l) ne))
+    (elim h [ inl t ↦ or_left (m x) (has_var c x) t | inr t ↦ or_right (m x) (has_var c x) t ])
 
 -- the literal is true and marked, and its reason's other literals are false
-module _ (m : ℕ → Bool) (ps : List Placed) (p : Lit) (c : List Lit) (consistent : IsConsistent (lits_of ps)) (on : has (lits_of ps) p ≡ true) (marked : m (var_of p) ≡ true)
+module _ (m : ℕ → Bool) (ps : List Placed) (p : Lit) (c : List Lit) (consistent : IsConsistent (lits_of ps))
+    (on : has (lits_of ps) p ≡ true) (marked : m (var_of p) ≡ true)
     (stands : has c p ≡ true) (others : (l : Lit) → has c l ≡ true → l ≢ p → has (lits_of ps) (negation l) ≡ true) where
   -- a false literal whose variable stands in the reason stands there itself
   in_reason : (l : Lit) → has_var c (var_of l) ≡ true → has (lits_of ps) (negation l) ≡ true → var_of l ≢ var_of p → has c l ≡ true
@@ -76,7 +88,8 @@ module _ (m : ℕ → Bool) (ps : List Placed) (p : Lit) (c : List Lit) (consist
       let k = has_var-lit c (var_of l) h in
       elim (same_or_opposite l k.0 (sym k.2)) [
         | inl e ↦ rw e k.1
-        | inr e ↦ absurd (consistent (negation l) f (ap (λ x. has (lits_of ps) (negation x)) (sym e) ∙ others k.0 k.1 (λ q. ne (sym k.2 ∙ ap var_of q))))
+        | inr e ↦ absurd (consistent (negation l) f (ap (λ x. has (lits_of ps) (negation x)) (sym e)
+            ∙ others k.0 k.1 (λ q. ne (sym k.2 ∙ ap var_of q))))
       ]
 
   only : (l : Lit) → Clashes (falsified m ps) c l → var_of l ≡ var_of p
@@ -84,13 +97,18 @@ module _ (m : ℕ → Bool) (ps : List Placed) (p : Lit) (c : List Lit) (consist
       elim (cases_Bool (lit_eq (negation l) p)) [
         | inl t ↦ ap var_of (same_lit (negation l) p t)
         | inr f ↦ absurd (consistent l
-            (ap (has (lits_of ps)) (sym (negation-twice l)) ∙ others (negation l) h.1 (λ e. false≢true (sym f ∙ ap (λ x. lit_eq (negation l) x) (sym e) ∙ lit_eq-refl (negation l))))
+            (ap (has (lits_of ps)) (sym (negation-twice l))
+            ∙ others (negation l) h.1 (λ e. false≢true (sym f ∙ ap (λ x. lit_eq (negation l) x) (sym e) ∙ lit_eq-refl (negation l))))
             (falsified-parts m ps l h.0).1)
       ]
 
   pub marks-resolve : IsResolvent (falsified m ps) c (falsified (marks_after m p c) ps) (negation p)
   marks-resolve = record {
-    clash = (falsified-from m ps (negation p) marked (ap (has (lits_of ps)) (negation-twice p) ∙ on), ap (has c) (negation-twice p) ∙ stands);
+    clash = (
+      falsified-from m ps (negation p) marked (ap (has (lits_of ps)) (negation-twice p) ∙ on),
+      ap (has c) (negation-twice p)
+          ∙ stands,
+    );
     only = only;
     union = λ l. (
       (λ h.
@@ -98,18 +116,22 @@ module _ (m : ℕ → Bool) (ps : List Placed) (p : Lit) (c : List Lit) (consist
           let b = marks_after-parts m p c (var_of l) a.0 in
           (elim b.1 [ inl t ↦ inl (falsified-from m ps l t a.1) | inr t ↦ inr (in_reason l t a.1 b.0) ], b.0)),
       (λ h. elim h.0 [
-        | inl t ↦ let a = falsified-parts m ps l t in falsified-from (marks_after m p c) ps l (marks_after-from m p c (var_of l) h.1 (inl a.0)) a.1
-        | inr t ↦ falsified-from (marks_after m p c) ps l (marks_after-from m p c (var_of l) h.1 (inr (has-var c l t))) (others l t (λ e. h.1 (ap var_of e)))
+        | inl t ↦ let a = falsified-parts m ps l t in
+            falsified-from (marks_after m p c) ps l (marks_after-from m p c (var_of l) h.1 (inl a.0)) a.1
+        | inr t ↦ falsified-from (marks_after m p c) ps l (marks_after-from m p c (var_of l) h.1 (inr (has-var c l t)))
+            (others l t (λ e. h.1 (ap var_of e)))
       ]),
     );
   }
 
 -- chains
-pub Leads-push : (known : List (List Lit)) (a r b q : List Lit) (ids : List ℕ) (id : ℕ) (p : Lit) → Leads known a ids r → at_id known id ≡ Some b → IsResolvent r b q p → Leads known a (ids ++ id ∷ []) q
+pub Leads-push : (known : List (List Lit)) (a r b q : List Lit) (ids : List ℕ) (id : ℕ) (p : Lit) → Leads known a ids r
+    → at_id known id ≡ Some b → IsResolvent r b q p → Leads known a (ids ++ id ∷ []) q
 Leads-push known a r b q [] id p s e d = (b, q, p, e, IsResolvent-same r a b q p (λ l. sym (s l)) d, λ l. refl)
 Leads-push known a r b q (i ∷ ids) id p s e d = (s.0, s.1, s.2, s.3, s.4, Leads-push known s.1 r b q ids id p s.5 e d)
 
-Leads-derives : (known : List (List Lit)) (a r stated : List Lit) (ids : List ℕ) → Leads known a ids r → ((l : Lit) → has r l ≡ true → has stated l ≡ true) → DerivesFrom known a ids stated
+Leads-derives : (known : List (List Lit)) (a r stated : List Lit) (ids : List ℕ) → Leads known a ids r
+    → ((l : Lit) → has r l ≡ true → has stated l ≡ true) → DerivesFrom known a ids stated
 Leads-derives known a r stated [] s f = λ l h. f l (sym (s l) ∙ h)
 Leads-derives known a r stated (i ∷ ids) s f = (s.0, s.1, s.2, s.3, s.4, Leads-derives known s.1 r stated ids s.5 f)
 
@@ -118,7 +140,8 @@ Leads-start known a b r [] s h = λ l. s l ∙ h l
 Leads-start known a b r (i ∷ ids) s h = (h.0, h.1, h.2, h.3, IsResolvent-same b a h.0 h.1 h.2 (λ l. sym (s l)) h.4, h.5)
 
 -- false literals that are marked are the clause of the marks, if each marked variable with a value stands among them
-pub falsified-same : (m : ℕ → Bool) (ps : List Placed) (c : List Lit) → IsConsistent (lits_of ps) → ((l : Lit) → has c l ≡ true → (m (var_of l) ≡ true) × (has (lits_of ps) (negation l) ≡ true)) →
+pub falsified-same : (m : ℕ → Bool) (ps : List Placed) (c : List Lit) → IsConsistent (lits_of ps)
+    → ((l : Lit) → has c l ≡ true → (m (var_of l) ≡ true) × (has (lits_of ps) (negation l) ≡ true)) →
     ((x : ℕ) → m x ≡ true → has_var (lits_of ps) x ≡ true → has_var c x ≡ true) → SameLits c (falsified m ps)
 falsified-same m ps c consistent sound full l = iff-same (has c l) (has (falsified m ps) l)
     (λ h. let a = sound l h in falsified-from m ps l a.0 a.1)
@@ -136,11 +159,18 @@ falsified-same m ps c consistent sound full l = iff-same (has c l) (has (falsifi
     iff-same false false f g = refl
 
 -- so a false clause is the clause of its marks
-marks-of : (m : ℕ → Bool) (ps : List Placed) (c : List Lit) → IsConsistent (lits_of ps) → IsFalse ps c → ((x : ℕ) → m x ≡ has_var c x) → SameLits c (falsified m ps)
+marks-of : (m : ℕ → Bool) (ps : List Placed) (c : List Lit) → IsConsistent (lits_of ps) → IsFalse ps c → ((x : ℕ) → m x ≡ has_var c x)
+    → SameLits c (falsified m ps)
 marks-of m ps c consistent f e = falsified-same m ps c consistent (λ l h. (e (var_of l) ∙ has-var c l h, f l h)) (λ x t o. sym (e x) ∙ t)
 
 -- so what the marks leave is derived by the false clause's id and the ids of the reasons
-pub marks-derive : (known : List (List Lit)) (ps : List Placed) (old new : ℕ → Bool) (id : ℕ) (c stated : List Lit) (ids : List ℕ) → at_id known id ≡ Some c → IsConsistent (lits_of ps) → IsFalse ps c → ((x : ℕ) → old x ≡ has_var c x) →
-    Leads known (falsified old ps) ids (falsified new ps) → ((l : Lit) → has (falsified new ps) l ≡ true → has stated l ≡ true) → IsDerived known (id ∷ ids) stated
-marks-derive known ps old new id c stated ids k consistent f e leads within =
-    (c, k, Leads-derives known c (falsified new ps) stated ids (Leads-start known c (falsified old ps) (falsified new ps) ids (marks-of old ps c consistent f e) leads) within)
+pub marks-derive : (known : List (List Lit)) (ps : List Placed) (old new : ℕ → Bool) (id : ℕ) (c stated : List Lit) (ids : List ℕ)
+    → at_id known id ≡ Some c → IsConsistent (lits_of ps) → IsFalse ps c → ((x : ℕ) → old x ≡ has_var c x) →
+    Leads known (falsified old ps) ids (falsified new ps) → ((l : Lit) → has (falsified new ps) l ≡ true → has stated l ≡ true)
+    → IsDerived known (id ∷ ids) stated
+marks-derive known ps old new id c stated ids k consistent f e leads within = (
+  c,
+  k,
+  Leads-derives known c (falsified new ps) stated ids
+      (Leads-start known c (falsified old ps) (falsified new ps) ids (marks-of old ps c consistent f e) leads) within,
+)

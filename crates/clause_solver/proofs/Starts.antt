@@ -26,10 +26,13 @@ IsLogOf-start s bits = record {
     header : (v : ℕ) {a b c d : ℕ} → a ≡ b → c ≡ d → line.Header v a c ≡ line.Header v b d
     header v e f = rw (e, f) refl
 
-module _ (s : Clauses) (bits : ℕ) (t : Search) (watch : ◌≡◌ {A = WatchValue} t.watch (record { clauses = clauses_of s.entries; placed = []; vars = s.vars })) (log : t.log ≡ line.Header s.vars (length s.entries) bits ∷ []) (inputs : t.inputs ≡ length s.entries) (same : t.bits ≡ bits)
+module _ (s : Clauses) (bits : ℕ) (t : Search)
+    (watch : ◌≡◌ {A = WatchValue} t.watch (record { clauses = clauses_of s.entries; placed = []; vars = s.vars }))
+    (log : t.log ≡ line.Header s.vars (length s.entries) bits ∷ []) (inputs : t.inputs ≡ length s.entries) (same : t.bits ≡ bits)
     (given : t.given.items ≡ []) (learnt : t.learnt ≡ 0) (model : t.model.items ≡ []) where
   pub value-start : value_of false t ≡ start_of s bits
-  value-start = rw (watch, log, inputs, same, given, model) (let e : take (length s.entries) (clauses_of s.entries) ≡ clauses_of s.entries = take_all (length s.entries) (clauses_of s.entries) (omega (arith, length-clauses s.entries)) in rw e refl)
+  value-start = rw (watch, log, inputs, same, given, model) (let e : take (length s.entries) (clauses_of s.entries) ≡ clauses_of s.entries =
+      take_all (length s.entries) (clauses_of s.entries) (omega (arith, length-clauses s.entries)) in rw e refl)
 
   pub search-start : length t.marks ≡ s.vars → AreClear t.marks → IsSearch t
   search-start marks unmarked = record {
@@ -40,5 +43,6 @@ module _ (s : Clauses) (bits : ℕ) (t : Search) (watch : ◌≡◌ {A = WatchVa
     unmarked = unmarked;
   }
 
-pub header-is : (old new : List Line) (v w n m bits : ℕ) → old ≡ [] → new ≡ old ++ line.Header v n bits ∷ [] → v ≡ w → n ≡ m → new ≡ line.Header w m bits ∷ []
+pub header-is : (old new : List Line) (v w n m bits : ℕ) → old ≡ [] → new ≡ old ++ line.Header v n bits ∷ [] → v ≡ w → n ≡ m
+    → new ≡ line.Header w m bits ∷ []
 header-is old new v w n m bits a b e f = b ∙ rw (a, e, f) refl

@@ -9,7 +9,7 @@ use Rattle.proof_log.specs.Derivations.{IsDerived}
 use Rattle.proof_log.specs.Lines.{IsOpen}
 use Rattle.proof_log.proofs.Logs.{learnt_in-push, IsOpen-push}
 use Rattle.clause_watch.specs.Trails.{decisions}
-use Rattle.clause_watch.specs.Watches.{WatchValue, IsWatch, back, IsAddable}
+use Rattle.clause_watch.specs.Watches.{WatchValue, back, IsAddable}
 use Rattle.clause_watch.specs.Watches as watches
 use Rattle.clause_solver.specs.declared.search.Search.{Search}
 use Rattle.clause_solver.specs.declared.analysis.Lesson.{Lesson}
@@ -23,16 +23,20 @@ one-longer : (g : List Lit) (l : Lit) → length (g ++ l ∷ []) ≡ length g + 
 one-longer g l = length-append g (l ∷ [])
 
 -- `fix`
-pub fixed : (s t : Search) (bit id : ℕ) (l : Lit) → IsSearch s → IsOpen s.log → bit ≡ length s.given.items → id ≡ length s.watch.clauses + 1 →
-    t.watch.clauses ≡ s.watch.clauses ++ (negation l ∷ []) ∷ [] → t.watch.vars ≡ s.watch.vars → t.log ≡ s.log ++ line.Zero id bit ∷ [] → t.inputs ≡ s.inputs → t.bits ≡ s.bits →
-    t.given.items ≡ s.given.items ++ l ∷ [] → t.learnt ≡ s.learnt → t.model.items ≡ s.model.items → length t.marks ≡ length s.marks → AreClear t.marks → IsFixed s t bit l
+pub fixed : (s t : Search) (bit id : ℕ) (l : Lit) → IsSearch s → IsOpen s.log → bit ≡ length s.given.items
+    → id ≡ length s.watch.clauses + 1 →
+    t.watch.clauses ≡ s.watch.clauses ++ (negation l ∷ []) ∷ [] → t.watch.vars ≡ s.watch.vars → t.log ≡ s.log ++ line.Zero id bit ∷ []
+    → t.inputs ≡ s.inputs → t.bits ≡ s.bits →
+    t.given.items ≡ s.given.items ++ l ∷ [] → t.learnt ≡ s.learnt → t.model.items ≡ s.model.items → length t.marks ≡ length s.marks
+    → AreClear t.marks → IsFixed s t bit l
 fixed s t bit id l i o b n clauses vars log inputs bits given learnt model marks unmarked =
     let get = λ (more : List Lit). get-given s.given.items more l in
     let c : Option (List Lit) = Some (negation l ∷ []) in
     let count : t.learnt ≡ s.learnt + 0 = omega (arith, learnt) in record {
       search = search-grown s t (Some l) (line.Zero id bit) c i o clauses vars log inputs bits given model count marks unmarked
           (one-longer s.given.items l) (λ more. (n, b, l, get more)) tt
-          (λ more. ap (λ k. option_map (λ (x : Lit). negation x ∷ []) (slice_get ((s.given.items ++ l ∷ []) ++ more) k)) b ∙ ap (option_map (λ (x : Lit). negation x ∷ [])) (get more));
+          (λ more. ap (λ k. option_map (λ (x : Lit). negation x ∷ []) (slice_get ((s.given.items ++ l ∷ []) ++ more) k)) b
+          ∙ ap (option_map (λ (x : Lit). negation x ∷ [])) (get more));
       open_log = subst IsOpen (sym log) (IsOpen-push s.log (line.Zero id bit) o refl);
       is =
           let a = adds-last s t (Some l) (line.Zero id bit) c i o clauses vars log inputs bits given model count marks unmarked in
@@ -41,41 +45,62 @@ fixed s t bit id l i o b n clauses vars log inputs bits given learnt model marks
 
 -- `close`
 pub closed-all : (s t : Search) (chain : List ℕ) → IsSearch s → IsOpen s.log → IsDerived s.watch.clauses chain [] →
-    t.watch.clauses ≡ s.watch.clauses → t.watch.vars ≡ s.watch.vars → t.log ≡ s.log ++ line.Unsat chain ∷ [] → t.inputs ≡ s.inputs → t.bits ≡ s.bits →
-    t.given.items ≡ s.given.items → t.model.items ≡ s.model.items → t.learnt ≡ s.learnt → length t.marks ≡ length s.marks → AreClear t.marks → IsClosed s t None
+    t.watch.clauses ≡ s.watch.clauses → t.watch.vars ≡ s.watch.vars → t.log ≡ s.log ++ line.Unsat chain ∷ [] → t.inputs ≡ s.inputs
+    → t.bits ≡ s.bits →
+    t.given.items ≡ s.given.items → t.model.items ≡ s.model.items → t.learnt ≡ s.learnt → length t.marks ≡ length s.marks → AreClear t.marks
+    → IsClosed s t None
 closed-all s t chain i o d clauses vars log inputs bits given model learnt marks unmarked =
     let count : t.learnt ≡ s.learnt + 0 = omega (arith, learnt) in record {
-      search = search-grown s t None (line.Unsat chain) None i o clauses vars log inputs bits given model count marks unmarked (omega arith) (λ more. d) tt (λ more. refl);
-      refutes = (line.Unsat chain, tt, adds-last s t None (line.Unsat chain) None i o clauses vars log inputs bits given model count marks unmarked);
+      search = search-grown s t None (line.Unsat chain) None i o clauses vars log inputs bits given model count marks unmarked (omega arith)
+          (λ more. d) tt (λ more. refl);
+      refutes = (
+        line.Unsat chain,
+        tt,
+        adds-last s t None (line.Unsat chain) None i o clauses vars log inputs bits given model count
+            marks unmarked,
+      );
       open_log = tt;
       count = rw log (let h = learnt_in-push s.log (line.Unsat chain) in omega (arith, h));
     }
 
-pub closed-bit : (s t : Search) (bit id : ℕ) (l : Lit) (chain : List ℕ) → IsSearch s → IsOpen s.log → bit ≡ length s.given.items → id ≡ length s.watch.clauses + 1 → IsDerived s.watch.clauses chain (l ∷ []) →
-    t.watch.clauses ≡ s.watch.clauses ++ (l ∷ []) ∷ [] → t.watch.vars ≡ s.watch.vars → t.log ≡ s.log ++ line.One id bit chain ∷ [] → t.inputs ≡ s.inputs → t.bits ≡ s.bits →
-    t.given.items ≡ s.given.items ++ l ∷ [] → t.model.items ≡ s.model.items → t.learnt ≡ s.learnt → length t.marks ≡ length s.marks → AreClear t.marks → IsClosed s t (Some (bit, l))
+pub closed-bit : (s t : Search) (bit id : ℕ) (l : Lit) (chain : List ℕ) → IsSearch s → IsOpen s.log → bit ≡ length s.given.items
+    → id ≡ length s.watch.clauses + 1 → IsDerived s.watch.clauses chain (l ∷ []) →
+    t.watch.clauses ≡ s.watch.clauses ++ (l ∷ []) ∷ [] → t.watch.vars ≡ s.watch.vars → t.log ≡ s.log ++ line.One id bit chain ∷ []
+    → t.inputs ≡ s.inputs → t.bits ≡ s.bits →
+    t.given.items ≡ s.given.items ++ l ∷ [] → t.model.items ≡ s.model.items → t.learnt ≡ s.learnt → length t.marks ≡ length s.marks
+    → AreClear t.marks → IsClosed s t (Some (bit, l))
 closed-bit s t bit id l chain i o b n d clauses vars log inputs bits given model learnt marks unmarked =
     let get = λ (more : List Lit). get-given s.given.items more l in
     let c : Option (List Lit) = Some (l ∷ []) in
     let count : t.learnt ≡ s.learnt + 0 = omega (arith, learnt) in record {
       search = search-grown s t (Some l) (line.One id bit chain) c i o clauses vars log inputs bits given model count marks unmarked
           (one-longer s.given.items l) (λ more. (n, b, l, get more, d)) tt
-          (λ more. ap (λ k. option_map (λ (x : Lit). x ∷ []) (slice_get ((s.given.items ++ l ∷ []) ++ more) k)) b ∙ ap (option_map (λ (x : Lit). x ∷ [])) (get more));
-      refutes = (line.One id bit chain, refl, adds-last s t (Some l) (line.One id bit chain) c i o clauses vars log inputs bits given model count marks unmarked);
+          (λ more. ap (λ k. option_map (λ (x : Lit). x ∷ []) (slice_get ((s.given.items ++ l ∷ []) ++ more) k)) b
+          ∙ ap (option_map (λ (x : Lit). x ∷ [])) (get more));
+      refutes = (
+        line.One id bit chain,
+        refl,
+        adds-last s t (Some l) (line.One id bit chain) c i o clauses vars log inputs bits given model
+            count marks unmarked,
+      );
       open_log = subst IsOpen (sym log) (IsOpen-push s.log (line.One id bit chain) o refl);
       count = rw log (let h = learnt_in-push s.log (line.One id bit chain) in omega (arith, h));
     }
 
 -- `teach`
-pub taught : (s t : Search) (lesson : Lesson) (id level : ℕ) → IsSearch s → IsOpen s.log → IsLesson s.watch lesson → id ≡ length s.watch.clauses + 1 →
-    t.watch ≡ watches.with_known (back s.watch level) lesson.clause → t.log ≡ s.log ++ line.Learnt id lesson.clause lesson.chain ∷ [] → t.inputs ≡ s.inputs → t.bits ≡ s.bits →
-    t.given.items ≡ s.given.items → t.model.items ≡ s.model.items → t.learnt ≡ s.learnt + 1 → length t.marks ≡ length s.marks → AreClear t.marks → Taught s t
+pub taught : (s t : Search) (lesson : Lesson) (id level : ℕ) → IsSearch s → IsOpen s.log → IsLesson s.watch lesson
+    → id ≡ length s.watch.clauses + 1 →
+    t.watch ≡ watches.with_known (back s.watch level) lesson.clause → t.log ≡ s.log ++ line.Learnt id lesson.clause lesson.chain ∷ []
+    → t.inputs ≡ s.inputs → t.bits ≡ s.bits →
+    t.given.items ≡ s.given.items → t.model.items ≡ s.model.items → t.learnt ≡ s.learnt + 1 → length t.marks ≡ length s.marks
+    → AreClear t.marks → Taught s t
 taught s t lesson id level i o h n watch log inputs bits given model learnt marks unmarked =
     let l = line.Learnt id lesson.clause lesson.chain in
     let c : Option (List Lit) = Some lesson.clause in
     let clauses : t.watch.clauses ≡ s.watch.clauses ++ lesson.clause ∷ [] = ap (λ (w : WatchValue). w.clauses) watch in
     let vars : t.watch.vars ≡ s.watch.vars = ap (λ (w : WatchValue). w.vars) watch in record {
-      search = search-grown s t None l c i o clauses vars log inputs bits given model learnt marks unmarked (omega arith) (λ more. (n, h.in_order, h.derived)) h.useful (λ more. refl);
+      search = search-grown s t None l c i o clauses vars log inputs bits given model learnt marks unmarked (omega arith)
+          (λ more. (n, h.in_order, h.derived)) h.useful (λ more. refl);
       adds = adds-learnt s t None l c i o clauses vars log inputs bits given model learnt marks unmarked refl refl;
       open_log = subst IsOpen (sym log) (IsOpen-push s.log l o refl);
       count = rw log (learnt_in-push s.log l);
@@ -84,7 +109,8 @@ taught s t lesson id level i o h n watch log inputs bits given model learnt mark
     }
 
 -- where the learnt clause is added: at its level, or at level 0
-pub lesson-addable : (w v : WatchValue) (lesson : Lesson) (level : ℕ) → IsLesson w lesson → (level ≡ lesson.level) ⊎ (level ≡ 0) → v ≡ back w level → decisions v.placed ≡ min (decisions w.placed) level → (decisions v.placed ≡ 0) ⊎ IsAddable v.placed lesson.clause
+pub lesson-addable : (w v : WatchValue) (lesson : Lesson) (level : ℕ) → IsLesson w lesson → (level ≡ lesson.level) ⊎ (level ≡ 0)
+    → v ≡ back w level → decisions v.placed ≡ min (decisions w.placed) level → (decisions v.placed ≡ 0) ⊎ IsAddable v.placed lesson.clause
 lesson-addable w v lesson level h (inr z) e d = inl (omega (arith, d, z))
 lesson-addable w v lesson level h (inl same) e d =
     elim h.addable [

@@ -40,7 +40,8 @@ pub record GoneBack (w : WatchValue) (old new : List Bool) (chain longer : List 
 -- and it has one literal of the last level
 pub record GoesBack (w : WatchValue) (old new : List Bool) (chain longer : List ℕ) (at : ℕ) : Type 0 where
   pub back : GoneBack w old new chain longer at
-  pub alone : (k : ℕ) (p : Placed) → k < at → slice_get w.placed k ≡ Some p → mark_at new (var_of p.lit) ≡ true → p.level < decisions w.placed
+  pub alone : (k : ℕ) (p : Placed) → k < at → slice_get w.placed k ≡ Some p → mark_at new (var_of p.lit) ≡ true
+      → p.level < decisions w.placed
 
 -- at some place
 abbrev pub LeadsBack : WatchValue → List Bool → List Bool → List ℕ → List ℕ → Type 0
@@ -48,7 +49,8 @@ LeadsBack w old new chain longer = (at : ℕ) × GoesBack w old new chain longer
 
 -- what leads back still does after some more steps
 abbrev pub KeepsBack : WatchValue → List Bool → List Bool → List ℕ → List ℕ → Type 0
-KeepsBack w before after chain longer = (old : List Bool) (first : List ℕ) → LeadsBack w old before first chain → LeadsBack w old after first longer
+KeepsBack w before after chain longer = (old : List Bool) (first : List ℕ) → LeadsBack w old before first chain
+    → LeadsBack w old after first longer
 
 -- the clause of the id gives the literal's variable its value at level 0
 abbrev pub IsLowReason : List Placed → Lit → ℕ → Type 0
@@ -68,7 +70,8 @@ DerivesRest w id end chain =
 pub record IsResolving (w : WatchValue) (old new : List Bool) (chain longer : List ℕ) (end at : ℕ) : Type 0 where
   pub ids : List ℕ
   pub grown : longer ≡ chain ++ ids
-  pub leads : (ps : List Placed) → take end ps ≡ take end w.placed → IsConsistent (lits_of ps) → Leads w.clauses (falsified (mark_at old) ps) ids (falsified (mark_at new) ps)
+  pub leads : (ps : List Placed) → take end ps ≡ take end w.placed → IsConsistent (lits_of ps)
+      → Leads w.clauses (falsified (mark_at old) ps) ids (falsified (mark_at new) ps)
   pub left : (k : ℕ) (p : Placed) → at ≤ k → k < end → slice_get w.placed k ≡ Some p → mark_at new (var_of p.lit) ≡ true → p.reason ≡ None
   pub low : at ≤ end
   pub same : length new ≡ length old
@@ -76,12 +79,14 @@ pub record IsResolving (w : WatchValue) (old new : List Bool) (chain longer : Li
 -- the level of a literal's variable, if it is below the present one
 abbrev pub IsLevelBelow : List Placed → Lit → Option ℕ → Type 0
 IsLevelBelow ps l None = (k : ℕ) (p : Placed) → slice_get ps k ≡ Some p → var_of p.lit ≡ var_of l → p.level < decisions ps → ⊥
-IsLevelBelow ps l (Some v) = (k : ℕ) × (p : Placed) × (slice_get ps k ≡ Some p) × (var_of p.lit ≡ var_of l) × (p.level ≡ v) × (v < decisions ps)
+IsLevelBelow ps l (Some v) = (k : ℕ) × (p : Placed) × (slice_get ps k ≡ Some p) × (var_of p.lit ≡ var_of l) × (p.level ≡ v)
+    × (v < decisions ps)
 
 -- the highest level below the present one that a variable of a clause has, and 0 where there is none
 pub record IsBackLevel (ps : List Placed) (c : List Lit) (level : ℕ) : Type 0 where
   pub bound : (k : ℕ) (p : Placed) → slice_get ps k ≡ Some p → has_var c (var_of p.lit) ≡ true → p.level < decisions ps → p.level ≤ level
-  pub attained : (level ≡ 0) ⊎ ((k : ℕ) × (p : Placed) × (slice_get ps k ≡ Some p) × (has_var c (var_of p.lit) ≡ true) × (p.level ≡ level) × (level < decisions ps))
+  pub attained : (level ≡ 0) ⊎ ((k : ℕ) × (p : Placed) × (slice_get ps k ≡ Some p) × (has_var c (var_of p.lit) ≡ true) × (p.level ≡ level)
+      × (level < decisions ps))
 
 -- a clause that the chain derives and unit propagation does not give, to be added at the level
 pub record IsLesson (w : WatchValue) (lesson : Lesson) : Type 0 where

@@ -28,7 +28,8 @@ NoneMarked m ps low high = (k : ℕ) (p : Placed) → low ≤ k → k < high →
 
 abbrev pub IsLastMarked : (ℕ → Bool) → List Placed → ℕ → Option ℕ → Type 0
 IsLastMarked m ps end None = NoneMarked m ps 0 end
-IsLastMarked m ps end (Some j) = (p : Placed) × (slice_get ps j ≡ Some p) × (j < end) × (m (var_of p.lit) ≡ true) × NoneMarked m ps (j + 1) end
+IsLastMarked m ps end (Some j) = (p : Placed) × (slice_get ps j ≡ Some p) × (j < end) × (m (var_of p.lit) ≡ true)
+    × NoneMarked m ps (j + 1) end
 
 -- the clause of the false literals whose variables are marked
 abbrev pub falsified : (ℕ → Bool) → List Placed → List Lit
@@ -47,4 +48,5 @@ marks_after m l c x = not (x == var_of l) && (m x || has_var c x)
 -- a chain leads from a clause to another, as sets
 abbrev pub Leads : List (List Lit) → List Lit → List ℕ → List Lit → Type 0
 Leads known a [] r = SameLits a r
-Leads known a (id ∷ ids) r = (b : List Lit) × (q : List Lit) × (pivot : Lit) × (at_id known id ≡ Some b) × IsResolvent a b q pivot × Leads known q ids r
+Leads known a (id ∷ ids) r = (b : List Lit) × (q : List Lit) × (pivot : Lit) × (at_id known id ≡ Some b) × IsResolvent a b q pivot
+    × Leads known q ids r

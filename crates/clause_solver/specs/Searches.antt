@@ -64,7 +64,8 @@ IsTrueOn placed None = ⊥
 IsTrueOn placed (Some a) = has (lits_of placed) a.1 ≡ true
 
 abbrev pub IsNext : List Placed → ℕ → Option (ℕ × Lit) → Move → Type 0
-IsNext placed vars assumption (move.Decide l) = (var_of l < vars) × (has_var (lits_of placed) (var_of l) ≡ false) × IsAssumed (placed ++ next placed l None ∷ []) assumption
+IsNext placed vars assumption (move.Decide l) = (var_of l < vars) × (has_var (lits_of placed) (var_of l) ≡ false)
+    × IsAssumed (placed ++ next placed l None ∷ []) assumption
 IsNext placed vars assumption move.Refute = IsTrueOn placed assumption
 IsNext placed vars assumption move.Finish = HaveValues placed vars × IsFalseOn placed assumption
 
@@ -108,5 +109,6 @@ IsPlaceOf ps x k = (p : Placed) × (slice_get ps k ≡ Some p) × (var_of p.lit 
 
 -- one turn of the loop
 abbrev pub IsStep : Search → Search → Option (ℕ × Lit) → ℕ → Option Outcome → Type 0
-IsStep old new assumption budget None = Adds (value_of false old) (value_of false new) None None × IsReady new assumption budget × (measure_of budget new < measure_of budget old)
+IsStep old new assumption budget None = Adds (value_of false old) (value_of false new) None None × IsReady new assumption budget
+    × (measure_of budget new < measure_of budget old)
 IsStep old new assumption budget (Some o) = Answers (value_of false old) (value_of false new) assumption budget o × IsSearch new

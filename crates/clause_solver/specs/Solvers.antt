@@ -77,7 +77,8 @@ StaysOpen (Some a) lines = IsOpen lines
 
 abbrev pub Answers : SolverValue → SolverValue → Option (ℕ × Lit) → ℕ → Outcome → Type 0
 Answers old new assumption budget outcome.Model = FindsModel old new assumption × (learnt_in new.lines ≤ budget) × IsOpen new.lines
-Answers old new assumption budget outcome.Refuted = Refutes old new assumption × (learnt_in new.lines ≤ budget) × StaysOpen assumption new.lines
+Answers old new assumption budget outcome.Refuted = Refutes old new assumption × (learnt_in new.lines ≤ budget)
+    × StaysOpen assumption new.lines
 Answers old new assumption budget outcome.Spent = Adds old new None (Some line.Spent) × (learnt_in new.lines ≡ budget + 1)
 
 -- the assumed bit is the next one, and its literal is over the variables

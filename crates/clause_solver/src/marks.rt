@@ -124,7 +124,8 @@ impl Marks {
     pub fn false_lits(&self, alloc: Global, watch: &Watch) -> Result<Vec<Lit>, AllocError>
         requires right { IsWatch watch.now.vars watch.now.clauses watch.now.placed }
         requires in_range { length self.now ≡ watch.now.vars }
-        ensures { IfOk result (λ lits. SameLits lits.items (falsified (mark_at self.now) watch.now.placed)) }
+        ensures { IfOk result (λ lits. SameLits lits.items
+            (falsified (mark_at self.now) watch.now.placed)) }
     {
         let mut lits = Vec::new(alloc);
         for var in self.listed() {

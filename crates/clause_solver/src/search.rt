@@ -280,7 +280,8 @@ impl Search {
 /// The first place of a variable on the trail.
 fn place_of(watch: &Watch, var: Var) -> usize
     ensures within { result ≤ length watch.now.placed }
-    ensures here { has_var (lits_of watch.now.placed) var.0 ≡ true → IsPlaceOf watch.now.placed var.0 result }
+    ensures here { has_var (lits_of watch.now.placed) var.0 ≡ true
+        → IsPlaceOf watch.now.placed var.0 result }
 {
     let end = watch.trail().len();
     for at in 0..end {

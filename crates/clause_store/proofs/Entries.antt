@@ -62,11 +62,13 @@ at_id-beyond es (suc k) h = go es k (omega (arith, h))
     go (x ∷ es) (suc k) h = go es k (omega (arith, h))
 
 -- a clause and a label of one id are its entry
-pub at_id-both : (es : List Entry) (id : ℕ) (c : List Lit) (l : Label) → at_id (clauses_of es) id ≡ Some c → option_map (λ (e : Entry). e.label) (at_id es id) ≡ Some l → at_id es id ≡ Some (record { clause = c; label = l })
+pub at_id-both : (es : List Entry) (id : ℕ) (c : List Lit) (l : Label) → at_id (clauses_of es) id ≡ Some c
+    → option_map (λ (e : Entry). e.label) (at_id es id) ≡ Some l → at_id es id ≡ Some (record { clause = c; label = l })
 at_id-both es zero c l p q = absurd (none-some c p)
 at_id-both es (suc k) c l p q = go es k p q
   where
-    go : (es : List Entry) (k : ℕ) → slice_get (clauses_of es) k ≡ Some c → option_map (λ (e : Entry). e.label) (slice_get es k) ≡ Some l → slice_get es k ≡ Some (record { clause = c; label = l })
+    go : (es : List Entry) (k : ℕ) → slice_get (clauses_of es) k ≡ Some c → option_map (λ (e : Entry). e.label) (slice_get es k) ≡ Some l
+        → slice_get es k ≡ Some (record { clause = c; label = l })
     go [] k p q = absurd (none-some c p)
     go (x ∷ es) zero p q = rw (← same_Some x.clause c p, ← same_Some x.label l q) refl
     go (x ∷ es) (suc k) p q = go es k p q

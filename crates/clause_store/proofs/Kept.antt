@@ -45,7 +45,8 @@ lits-codes [] = refl
 lits-codes (l ∷ ls) = rw (lit-code (var_of l) l.positive, lits-codes ls) refl
 
 -- one more of those that are to come
-pub map-step : {X Y : Type 0} (f : X → Y) (ks js : List Y) (xs : List X) (i : ℕ) (d : X) (y : Y) → i < length xs → js ≡ ks ++ y ∷ [] → y ≡ f (slice_index_or xs i d) → js ++ map f (drop (i + 1) xs) ≡ ks ++ map f (drop i xs)
+pub map-step : {X Y : Type 0} (f : X → Y) (ks js : List Y) (xs : List X) (i : ℕ) (d : X) (y : Y) → i < length xs → js ≡ ks ++ y ∷ []
+    → y ≡ f (slice_index_or xs i d) → js ++ map f (drop (i + 1) xs) ≡ ks ++ map f (drop i xs)
 map-step f ks js xs i d y h e g = rw (e, g, append_assoc) (sym (ap (λ zs. ks ++ zs) (at_drop_more (map f) xs i d h)))
 
 pub map-done : {X Y : Type 0} (f : X → Y) (ks js : List Y) (xs : List X) (i : ℕ) → length xs ≤ i → ks ++ map f (drop i xs) ≡ js → ks ≡ js
@@ -64,30 +65,48 @@ range-last codes more from e =
     let n : length codes + length more - from ≡ length more = omega arith in
     rw (n, e, drop-append_seam codes more) (take-length more)
 
-range-before : (codes more : List ℕ) (from to : ℕ) → from ≤ to → to ≤ length codes → slice_range (codes ++ more) from to ≡ slice_range codes from to
+range-before : (codes more : List ℕ) (from to : ℕ) → from ≤ to → to ≤ length codes
+    → slice_range (codes ++ more) from to ≡ slice_range codes from to
 range-before codes more from to h k =
     let n : to - from ≤ length (drop from codes) = omega (arith, length-drop from codes) in
     rw (drop-append-le from codes more (omega arith)) (take-append-le (to - from) (drop from codes) more n)
 
 -- one clause more behind the others
-pub entries-more : (ds es : List Demanded) (codes more : List ℕ) (place from : ℕ) (ends : List ℕ) → IsCut from ends (length codes) → ((k : ℕ) → k < place + length ends → label_at es k ≡ label_at ds k) → entries_from es (codes ++ more) place from (ends ++ (length codes + length more) ∷ []) ≡ entries_from ds codes place from ends ++ record { clause = lits_of_codes more; label = label_at es (place + length ends) } ∷ []
+pub entries-more : (ds es : List Demanded) (codes more : List ℕ) (place from : ℕ) (ends : List ℕ) → IsCut from ends (length codes)
+    → ((k : ℕ) → k < place + length ends → label_at es k ≡ label_at ds k)
+    → entries_from es (codes ++ more) place from (ends ++ (length codes + length more) ∷ []) ≡ entries_from ds codes place from ends
+    ++ record { clause = lits_of_codes more; label = label_at es (place + length ends) } ∷ []
 entries-more ds es codes more place from [] c h =
     let n : place + 0 ≡ place = omega arith in
     rw (n, range-last codes more from c) refl
 entries-more ds es codes more place from (to ∷ ends) c h =
     let n : place + suc (length ends) ≡ suc place + length ends = omega arith in
     let k = cut-le to (length codes) ends c.1 in
-    rw (range-before codes more from to c.0 k, h place (omega arith), n, entries-more ds es codes more (suc place) to ends c.1 (λ k lt. h k (omega (arith, lt)))) refl
+    rw (
+      range-before codes more from to c.0 k,
+      h place (omega arith),
+      n,
+      entries-more ds es codes more (suc place) to ends c.1
+          (λ k lt. h k (omega (arith, lt))),
+    ) refl
 
-pub length-entries : (ds : List Demanded) (codes : List ℕ) (place from : ℕ) (ends : List ℕ) → length (entries_from ds codes place from ends) ≡ length ends
+pub length-entries : (ds : List Demanded) (codes : List ℕ) (place from : ℕ) (ends : List ℕ)
+    → length (entries_from ds codes place from ends) ≡ length ends
 length-entries ds codes place from [] = refl
 length-entries ds codes place from (to ∷ ends) = ap (λ n. suc n) (length-entries ds codes (suc place) to ends)
 
 -- the clause at a place lies from its start to its end
-pub entry-at : (ds : List Demanded) (codes : List ℕ) (place from : ℕ) (ends : List ℕ) (j : ℕ) → j < length ends → slice_get (entries_from ds codes place from ends) j ≡ Some (record { clause = lits_of_codes (slice_range codes (start_of from ends j) (slice_index_or ends j 0)); label = label_at ds (place + j) })
+pub entry-at : (ds : List Demanded) (codes : List ℕ) (place from : ℕ) (ends : List ℕ) (j : ℕ) → j < length ends
+    → slice_get (entries_from ds codes place from ends) j
+    ≡ Some (record {
+      clause = lits_of_codes (slice_range codes (start_of from ends j) (slice_index_or ends j 0));
+      label =
+          label_at ds (place + j);
+    })
 entry-at ds codes place from [] j h = absurd (omega (arith, h))
 entry-at ds codes place from (to ∷ ends) zero h = let n : place + 0 ≡ place = omega arith in rw n refl
-entry-at ds codes place from (to ∷ ends) (suc zero) h = let n : place + 1 ≡ suc place + 0 = omega arith in rw n (entry-at ds codes (suc place) to ends zero (omega (arith, h)))
+entry-at ds codes place from (to ∷ ends) (suc zero) h = let n : place + 1 ≡ suc place + 0 = omega arith in
+    rw n (entry-at ds codes (suc place) to ends zero (omega (arith, h)))
 entry-at ds codes place from (to ∷ ends) (suc (suc j)) h =
     let n : place + suc (suc j) ≡ suc place + suc j = omega arith in rw n (entry-at ds codes (suc place) to ends (suc j) (omega (arith, h)))
 
@@ -96,7 +115,8 @@ end-le from all [] j c h = absurd (omega (arith, h))
 end-le from all (to ∷ ends) zero c h = cut-le to all ends c.1
 end-le from all (to ∷ ends) (suc j) c h = end-le to all ends j c.1 (omega (arith, h))
 
-pub start-le : (from all : ℕ) (ends : List ℕ) (j : ℕ) → IsCut from ends all → j < length ends → start_of from ends j ≤ slice_index_or ends j 0
+pub start-le : (from all : ℕ) (ends : List ℕ) (j : ℕ) → IsCut from ends all → j < length ends
+    → start_of from ends j ≤ slice_index_or ends j 0
 start-le from all [] j c h = absurd (omega (arith, h))
 start-le from all (to ∷ ends) zero c h = c.0
 start-le from all (to ∷ ends) (suc zero) c h = start-le to all ends zero c.1 (omega (arith, h))
@@ -112,15 +132,19 @@ AllInOrder-append [] fs a b = b
 AllInOrder-append (e ∷ es) fs a b = (a.0, AllInOrder-append es fs a.1 b)
 
 -- one clause more, by what each part became
-module _ (vars : ℕ) (ds es : List Demanded) (codes fs ends gs : List ℕ) (lits : List Lit) (label : Label) (k n : ℕ) (kept : IsKept vars ds codes ends) where
-  pub entries-add : k ≡ length ends → es ≡ with_label ds k label → fs ≡ codes ++ codes_of lits → n ≡ length fs → gs ≡ ends ++ n ∷ [] → entries_of es fs gs ≡ entries_of ds codes ends ++ record { clause = lits; label = label } ∷ []
+module _ (vars : ℕ) (ds es : List Demanded) (codes fs ends gs : List ℕ) (lits : List Lit) (label : Label) (k n : ℕ)
+    (kept : IsKept vars ds codes ends) where
+  pub entries-add : k ≡ length ends → es ≡ with_label ds k label → fs ≡ codes ++ codes_of lits → n ≡ length fs → gs ≡ ends ++ n ∷ []
+      → entries_of es fs gs ≡ entries_of ds codes ends ++ record { clause = lits; label = label } ∷ []
   entries-add a b c d e =
       let old = λ (j : ℕ) (lt : j < 0 + length ends). label-old j (length ends) ds label (omega (arith, lt)) in
       let new = entries-more ds (with_label ds (length ends) label) codes (codes_of lits) 0 0 ends kept.cut old in
-      let l : label_at (with_label ds (length ends) label) (0 + length ends) ≡ label = rw zero-add (label-new (length ends) ds label kept.before) in
+      let l : label_at (with_label ds (length ends) label) (0 + length ends) ≡ label =
+      rw zero-add (label-new (length ends) ds label kept.before) in
       rw (e, d, c, b, a, length-append codes (codes_of lits)) (rw (lits-codes lits, l) at new)
 
-  pub kept-add : AllBelow vars lits → IsClause lits → k ≡ length ends → es ≡ with_label ds k label → fs ≡ codes ++ codes_of lits → n ≡ length fs → gs ≡ ends ++ n ∷ [] → IsKept vars es fs gs
+  pub kept-add : AllBelow vars lits → IsClause lits → k ≡ length ends → es ≡ with_label ds k label → fs ≡ codes ++ codes_of lits
+      → n ≡ length fs → gs ≡ ends ++ n ∷ [] → IsKept vars es fs gs
   kept-add below order a b c d e =
       let q = entries-add a b c d e in
       let m : length codes ≤ length fs = rw (c, length-append codes (codes_of lits)) (omega arith) in
@@ -133,7 +157,9 @@ module _ (vars : ℕ) (ds es : List Demanded) (codes fs ends gs : List ℕ) (lit
       }
 
 -- what the id of a clause names
-module _ (vars : ℕ) (ds : List Demanded) (codes ends : List ℕ) (kept : IsKept vars ds codes ends) (s : Clauses) (view : ◌≡◌ {A = Clauses} (record { entries = entries_of ds codes ends; vars = vars }) s) (id place : ℕ) (is : id ≡ place + 1) (within : place < length s.entries) where
+module _ (vars : ℕ) (ds : List Demanded) (codes ends : List ℕ) (kept : IsKept vars ds codes ends) (s : Clauses)
+    (view : ◌≡◌ {A = Clauses} (record { entries = entries_of ds codes ends; vars = vars }) s) (id place : ℕ) (is : id ≡ place + 1)
+    (within : place < length s.entries) where
   same : entries_of ds codes ends ≡ s.entries
   same = ap (λ (s : Clauses). s.entries) view
 

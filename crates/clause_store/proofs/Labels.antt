@@ -75,14 +75,17 @@ demands-parted n ds r = IsPartitionedBy-ltb (λ (d : Demanded). d.place) ds n (r
     rising (e ∷ ds) r (suc a) (suc b) d h l = rising ds r.1 a b d (omega (arith, h)) (omega (arith, l))
 
 -- the label by the first place that is not below
-pub label-there : (n at : ℕ) (d : Demanded) (ds : List Demanded) → AreRising ds → at < length ds → (get_or ds at d).place ≡ n → label_at ds n ≡ Demand (get_or ds at d).demand
+pub label-there : (n at : ℕ) (d : Demanded) (ds : List Demanded) → AreRising ds → at < length ds → (get_or ds at d).place ≡ n
+    → label_at ds n ≡ Demand (get_or ds at d).demand
 label-there n at d [] r h e = absurd (omega (arith, h))
 label-there n zero d (x ∷ ds) r h e = rw (eq-eqb x.place n e) refl
 label-there n (suc at) d (x ∷ ds) r h e =
     let q = behind-at x.place ds at d r.0 (omega (arith, h)) in
     rw (ne_eqb x.place n (omega (arith, q, e))) (label-there n at d ds r.1 (omega (arith, h)) e)
 
-pub label-absent : (n at : ℕ) (d : Demanded) (ds : List Demanded) → AreRising ds → IsPartitionPoint (λ d. ltb d.place n ≡ true) (λ d. ltb d.place n ≡ false) ds at → (at < length ds → (get_or ds at d).place ≡ n → ⊥) → label_at ds n ≡ Structure
+pub label-absent : (n at : ℕ) (d : Demanded) (ds : List Demanded) → AreRising ds
+    → IsPartitionPoint (λ d. ltb d.place n ≡ true) (λ d. ltb d.place n ≡ false) ds at → (at < length ds → (get_or ds at d).place ≡ n → ⊥)
+    → label_at ds n ≡ Structure
 label-absent n at d [] r p away = refl
 label-absent n zero d (x ∷ ds) r p away =
     let q : n ≤ x.place = ltb-false x.place n (p.1 0 x (omega arith) (omega arith)) in
@@ -90,4 +93,6 @@ label-absent n zero d (x ∷ ds) r p away =
     rw (ne_eqb x.place n k) (label-behind x.place n ds q r.0)
 label-absent n (suc at) d (x ∷ ds) r p away =
     let q : x.place < n = ltb-true x.place n (p.0 0 x (omega arith) (omega arith)) in
-    rw (ne_eqb x.place n (omega (arith, q))) (label-absent n at d ds r.1 ((λ j d a b. p.0 (suc j) d (omega (arith, a)) (omega (arith, b))), (λ j d a b. p.1 (suc j) d (omega (arith, a)) (omega (arith, b)))) (λ h e. away (omega (arith, h)) e))
+    rw (ne_eqb x.place n (omega (arith, q))) (label-absent n at d ds r.1
+    ((λ j d a b. p.0 (suc j) d (omega (arith, a)) (omega (arith, b))), (λ j d a b. p.1 (suc j) d (omega (arith, a)) (omega (arith, b))))
+    (λ h e. away (omega (arith, h)) e))

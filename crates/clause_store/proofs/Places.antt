@@ -21,8 +21,13 @@ clause-parted n ks i = IsPartitionedBy-ltb var_of ks n (rising ks i)
     rising (k ∷ ks) i (suc a) zero d h l = absurd (omega (arith, h))
     rising (k ∷ ks) i (suc a) (suc b) d h l = rising ks i.1 a b d (omega (arith, h)) (omega (arith, l))
 
-pub place-parted : (ks : List Lit) (l : Lit) (i : ℕ) → i ≤ length ks → IsPartitionPoint (λ k. ltb (var_of k) (var_of l) ≡ true) (λ k. ltb (var_of k) (var_of l) ≡ false) ks i → i ≡ place_of ks l
+pub place-parted : (ks : List Lit) (l : Lit) (i : ℕ) → i ≤ length ks
+    → IsPartitionPoint (λ k. ltb (var_of k) (var_of l) ≡ true) (λ k. ltb (var_of k) (var_of l) ≡ false) ks i → i ≡ place_of ks l
 place-parted [] l i h p = omega (arith, h)
 place-parted (k ∷ ks) l zero h p = rw (p.1 0 k (omega arith) (omega arith)) refl
 place-parted (k ∷ ks) l (suc i) h p =
-    rw (p.0 0 k (omega arith) (omega arith)) (ap (λ n. suc n) (place-parted ks l i (omega (arith, h)) ((λ j d a b. p.0 (suc j) d (omega (arith, a)) (omega (arith, b))), (λ j d a b. p.1 (suc j) d (omega (arith, a)) (omega (arith, b))))))
+    rw (p.0 0 k (omega arith) (omega arith)) (ap (λ n. suc n)
+    (place-parted ks l i (omega (arith, h)) (
+      (λ j d a b. p.0 (suc j) d (omega (arith, a)) (omega (arith, b))),
+      (λ j d a b. p.1 (suc j) d (omega (arith, a)) (omega (arith, b))),
+    )))

@@ -31,7 +31,8 @@ same_lit k l e =
     ap (λ n. lit_of n k.positive) x ∙ ap (λ b. lit_of (var_of l) b) y
 
 pub lit_eq-refl : (l : Lit) → lit_eq l l ≡ true
-lit_eq-refl l = and_from (eqb (var_of l) (var_of l)) (same_sign l.positive l.positive) (eq-eqb (var_of l) (var_of l) refl) (beq-refl l.positive)
+lit_eq-refl l = and_from (eqb (var_of l) (var_of l)) (same_sign l.positive l.positive) (eq-eqb (var_of l) (var_of l) refl)
+    (beq-refl l.positive)
 
 or-same : (a b : Bool) → (a || b) ≡ (a || (a || b))
 or-same true b = refl
@@ -113,7 +114,9 @@ pub with_lit-None : (ks : List Lit) (l : Lit) → with_lit ks l ≡ None → has
 with_lit-None [] l e = absurd (none-some (l ∷ []) (sym e))
 with_lit-None (k ∷ ks) l e =
     elim (refused k ks l e) [
-      | opposite q r ↦ or_left (lit_eq k (negation l)) (has ks (negation l)) (and_from (eqb (var_of k) (var_of l)) (beq k.positive (not l.positive)) (eq-eqb (var_of k) (var_of l) q) (signs k.positive l.positive r))
+      | opposite q r ↦ or_left (lit_eq k (negation l)) (has ks (negation l))
+          (and_from (eqb (var_of k) (var_of l)) (beq k.positive (not l.positive)) (eq-eqb (var_of k) (var_of l) q)
+          (signs k.positive l.positive r))
       | later r ↦ or_right (lit_eq k (negation l)) (has ks (negation l)) (with_lit-None ks l r)
     ]
   where
@@ -132,15 +135,27 @@ not-opposite l e = never l.positive (ap (λ (m : Lit). m.positive) e)
     never false e = false≢true e
 
 -- why several literals cannot be added
-pub with_lits-None : (c ls : List Lit) → with_lits c ls ≡ None → (l : Lit) × (has ls l ≡ true) × ((has ls (negation l) || has c (negation l)) ≡ true)
+pub with_lits-None : (c ls : List Lit) → with_lits c ls ≡ None → (l : Lit) × (has ls l ≡ true)
+    × ((has ls (negation l) || has c (negation l)) ≡ true)
 with_lits-None c [] e = absurd (none-some c (sym e))
 with_lits-None c (l ∷ ls) e = go (with_lit c l) refl e (λ d. with_lits-None d ls)
   where
-    go : (p : Option (List Lit)) → with_lit c l ≡ p → option_and_then (λ d. with_lits d ls) p ≡ None → ((d : List Lit) → with_lits d ls ≡ None → (m : Lit) × (has ls m ≡ true) × ((has ls (negation m) || has d (negation m)) ≡ true)) → (m : Lit) × (has (l ∷ ls) m ≡ true) × ((has (l ∷ ls) (negation m) || has c (negation m)) ≡ true)
-    go None q r ih = (l, or_left (lit_eq l l) (has ls l) (lit_eq-refl l), or_right (has (l ∷ ls) (negation l)) (has c (negation l)) (with_lit-None c l q))
+    go : (p : Option (List Lit)) → with_lit c l ≡ p → option_and_then (λ d. with_lits d ls) p ≡ None
+        → ((d : List Lit) → with_lits d ls ≡ None → (m : Lit) × (has ls m ≡ true) × ((has ls (negation m) || has d (negation m)) ≡ true))
+        → (m : Lit) × (has (l ∷ ls) m ≡ true) × ((has (l ∷ ls) (negation m) || has c (negation m)) ≡ true)
+    go None q r ih = (
+      l,
+      or_left (lit_eq l l) (has ls l) (lit_eq-refl l),
+      or_right (has (l ∷ ls) (negation l)) (has c (negation l))
+          (with_lit-None c l q),
+    )
     go (Some d) q r ih =
-        let s = ih d r in
-        (s.0, or_right (lit_eq l s.0) (has ls s.0) s.1, rw (has-with_lit c d l (negation s.0) q, or-turn (has ls (negation s.0)) (lit_eq l (negation s.0)) (has c (negation s.0))) at s.2)
+        let s = ih d r in (
+          s.0,
+          or_right (lit_eq l s.0) (has ls s.0) s.1,
+          rw (has-with_lit c d l (negation s.0) q, or-turn (has ls (negation s.0)) (lit_eq l (negation s.0)) (has c (negation s.0))) at
+              s.2,
+        )
 
 -- there is no clause of a list exactly where a variable has both signs in it
 pub none-both_signs : (ls : List Lit) → clause_of ls ≡ None → HasBothSigns ls
@@ -164,7 +179,8 @@ both_signs-none ls b = go (clause_of ls) refl
     go : (o : Option (List Lit)) → clause_of ls ≡ o → o ≡ None
     go None e = refl
     go (Some c) e =
-        absurd (not-opposite b.0 (one_sign c b.0 (negation b.0) (IsClause-clause_of ls c e) (has-clause_of ls c b.0 e ∙ b.1) (has-clause_of ls c (negation b.0) e ∙ b.2) refl))
+        absurd (not-opposite b.0 (one_sign c b.0 (negation b.0) (IsClause-clause_of ls c e) (has-clause_of ls c b.0 e ∙ b.1)
+        (has-clause_of ls c (negation b.0) e ∙ b.2) refl))
 
 pub has-true : (v : ℕ → Bool) (c : List Lit) (l : Lit) → has c l ≡ true → lit_true v l ≡ true → clause_true v c ≡ true
 has-true v [] l h t = absurd (false≢true h)

@@ -103,7 +103,8 @@ fn find_place(lits: &[Lit], lit: Lit) -> usize
 // Puts a literal in its place, and says whether its variable was not there with the other sign.
 fn put(lits: &mut SmallVec<Lit, 4>, lit: Lit) -> Result<bool, AllocError>
     requires { IsClause lits.old.items }
-    ensures fits { IfOk result (λ yes. IsTrue yes → with_lit lits.old.items lit ≡ Some lits.new.items) }
+    ensures fits { IfOk result (λ yes. IsTrue yes
+        → with_lit lits.old.items lit ≡ Some lits.new.items) }
     ensures clashes { IfOk result (λ yes. yes ≡ false → with_lit lits.old.items lit ≡ None) }
 {
     let at = find_place(lits.as_slice(), lit);

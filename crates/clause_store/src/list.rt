@@ -141,7 +141,8 @@ impl ClauseList {
 
     // The literals of the clause with this id.
     fn codes(&self, id: u64) -> Option<&[u64]>
-        ensures some { IfSome result (λ codes. at_id (clauses_of self.now.entries) id ≡ Some (lits_of_codes codes.now)) }
+        ensures some { IfSome result (λ codes. at_id (clauses_of self.now.entries) id
+            ≡ Some (lits_of_codes codes.now)) }
         ensures in_order { IfSome result (λ codes. IsClause (lits_of_codes codes.now)) }
         ensures none { IfNone result (at_id (clauses_of self.now.entries) id ≡ None) }
     {
@@ -153,7 +154,8 @@ impl ClauseList {
 
     // The place of the clause with this id.
     fn place(&self, id: u64) -> Option<usize>
-        ensures some { IfSome result (λ place. (id ≡ place + 1) × (place < length self.now.entries)) }
+        ensures some { IfSome result (λ place. (id ≡ place + 1)
+            × (place < length self.now.entries)) }
         ensures none { IfNone result (at_id self.now.entries id ≡ None) }
     {
         if id == 0 {

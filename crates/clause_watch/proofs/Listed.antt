@@ -40,7 +40,8 @@ ListsGrow-trans a b c f g = record {
   negative = TableGrows-trans a.negative.items b.negative.items c.negative.items f.negative g.negative;
 }
 
-stands-by : (a b : Occurrences) → ListsGrow a b → (sign : Bool) (x k : ℕ) → Stands (places_in (places_by a sign) x) k → Stands (places_in (places_by b sign) x) k
+stands-by : (a b : Occurrences) → ListsGrow a b → (sign : Bool) (x k : ℕ) → Stands (places_in (places_by a sign) x) k
+    → Stands (places_in (places_by b sign) x) k
 stands-by a b g true x k s = g.positive.keeps x k s
 stands-by a b g false x k s = g.negative.keeps x k s
 
@@ -56,17 +57,22 @@ module _ (t : List (List ℕ)) (x place : ℕ) (old new : List ℕ) (h : x < len
   set-keeps f = record {
     same = length-set t x new;
     keeps = λ y k s. elim (cases_eq y x) [
-      | inl e ↦ subst (λ z. Stands (places_in (set t x new) z) k) (sym e) (subst (λ xs. Stands xs k) (sym (get_or-set_same t x new [] h)) (f k (subst (λ xs. Stands xs k) (sym old-is) (subst (λ z. Stands (places_in t z) k) e s))))
+      | inl e ↦ subst (λ z. Stands (places_in (set t x new) z) k) (sym e)
+          (subst (λ xs. Stands xs k) (sym (get_or-set_same t x new [] h))
+          (f k (subst (λ xs. Stands xs k) (sym old-is) (subst (λ z. Stands (places_in t z) k) e s))))
       | inr ne ↦ subst (λ xs. Stands xs k) (sym (get_or-set_other t x y new [] ne)) s
     ];
   }
 
-  pub push-grown : {E : Type 0} (r : Result (Unit {0}) E) → OnOk r (new ≡ old ++ place ∷ []) → OnErr r (new ≡ old) → TableGrows t (set t x new)
+  pub push-grown : {E : Type 0} (r : Result (Unit {0}) E) → OnOk r (new ≡ old ++ place ∷ []) → OnErr r (new ≡ old)
+      → TableGrows t (set t x new)
   push-grown (Ok v) o e = set-keeps (λ k s. subst (λ xs. Stands xs k) (sym o) (stands-front old (place ∷ []) k s))
   push-grown (Err v) o e = set-keeps (λ k s. subst (λ xs. Stands xs k) (sym e) s)
 
-  pub push-stands : {E : Type 0} (r : Result (Unit {0}) E) → OnOk r (new ≡ old ++ place ∷ []) → OnOk r (Stands (places_in (set t x new) x) place)
-  push-stands (Ok v) o = subst (λ xs. Stands xs place) (sym (get_or-set_same t x new [] h)) (subst (λ xs. Stands xs place) (sym o) (stands-last old place))
+  pub push-stands : {E : Type 0} (r : Result (Unit {0}) E) → OnOk r (new ≡ old ++ place ∷ [])
+      → OnOk r (Stands (places_in (set t x new) x) place)
+  push-stands (Ok v) o = subst (λ xs. Stands xs place) (sym (get_or-set_same t x new [] h))
+      (subst (λ xs. Stands xs place) (sym o) (stands-last old place))
   push-stands (Err v) o = tt
 
 has-last : (ls : List Lit) (l k : Lit) → has (ls ++ l ∷ []) k ≡ true → (has ls k ≡ true) ⊎ (l ≡ k)
@@ -77,9 +83,11 @@ has-last (x ∷ ls) l k h = elim (or_cases (lit_eq x k) (has (ls ++ l ∷ []) k)
 ]
 
 -- one more literal of the clause is listed
-pub listed-more : (a b : Occurrences) (place i : ℕ) (lits : List Lit) (l : Lit) → i < length lits → l ≡ get_or lits i l → ListsGrow a b → IsListed a place (take i lits) → Stands (places_of b l) place → IsListed b place (take (i + 1) lits)
+pub listed-more : (a b : Occurrences) (place i : ℕ) (lits : List Lit) (l : Lit) → i < length lits → l ≡ get_or lits i l → ListsGrow a b
+    → IsListed a place (take i lits) → Stands (places_of b l) place → IsListed b place (take (i + 1) lits)
 listed-more a b place i lits l h e g listed here = λ k t.
-    let t' : has (take i lits ++ l ∷ []) k ≡ true = ap (λ x. has (take i lits ++ x ∷ []) k) e ∙ ap (λ xs. has xs k) (sym (take_more lits i l h)) ∙ t in
+    let t' : has (take i lits ++ l ∷ []) k ≡ true = ap (λ x. has (take i lits ++ x ∷ []) k) e
+    ∙ ap (λ xs. has xs k) (sym (take_more lits i l h)) ∙ t in
     elim (has-last (take i lits) l k t') [
       | inl old ↦ stands-grown a b g k place (listed k old)
       | inr same ↦ subst (λ (x : Lit). Stands (places_of b x) place) same here

@@ -23,7 +23,8 @@ pub value-has : (ps : List Placed) (l : Lit) → value (placed_of ps (var_of l))
 value-has [] l e = absurd (none-some l.positive e)
 value-has (p ∷ ps) l e =
     elim (cases_Bool (eqb (var_of p.lit) (var_of l))) [
-      | inl t ↦ or_left (lit_eq p.lit l) (has (lits_of ps) l) (rw (t, same_Some p.lit.positive l.positive (rw t at e)) (beq-refl l.positive))
+      | inl t ↦ or_left (lit_eq p.lit l) (has (lits_of ps) l)
+          (rw (t, same_Some p.lit.positive l.positive (rw t at e)) (beq-refl l.positive))
       | inr f ↦ or_right (lit_eq p.lit l) (has (lits_of ps) l) (value-has ps l (rw f at e))
     ]
   where
@@ -49,7 +50,8 @@ module _ (ps : List Placed) where
       same true false e = sym e
       same false true e = e
 
-      go : (o : Option Bool) → value (placed_of ps (var_of l)) ≡ o → option_map (λ b. beq b l.positive) o ≡ Some true → has (lits_of ps) l ≡ true
+      go : (o : Option Bool) → value (placed_of ps (var_of l)) ≡ o → option_map (λ b. beq b l.positive) o ≡ Some true
+          → has (lits_of ps) l ≡ true
       go None q r = absurd (none-some true r)
       go (Some b) q r = value-has ps l (q ∙ ap Some (same b l.positive (same_Some _ _ r)))
 
@@ -62,19 +64,23 @@ module _ (ps : List Placed) where
       other true false e = refl
       other false true e = refl
 
-      go : (o : Option Bool) → value (placed_of ps (var_of l)) ≡ o → option_map (λ b. beq b l.positive) o ≡ Some false → has (lits_of ps) (negation l) ≡ true
+      go : (o : Option Bool) → value (placed_of ps (var_of l)) ≡ o → option_map (λ b. beq b l.positive) o ≡ Some false
+          → has (lits_of ps) (negation l) ≡ true
       go None q r = absurd (none-some false r)
       go (Some b) q r = value-has ps (negation l) (q ∙ ap Some (other b l.positive (same_Some _ _ r)))
 
   state-none : (l : Lit) → state_in ps l ≡ None → has_var (lits_of ps) (var_of l) ≡ false
   state-none l e = go (value (placed_of ps (var_of l))) refl e
     where
-      go : (o : Option Bool) → value (placed_of ps (var_of l)) ≡ o → option_map (λ b. beq b l.positive) o ≡ None → has_var (lits_of ps) (var_of l) ≡ false
+      go : (o : Option Bool) → value (placed_of ps (var_of l)) ≡ o → option_map (λ b. beq b l.positive) o ≡ None
+          → has_var (lits_of ps) (var_of l) ≡ false
       go None q r = value-free ps (var_of l) q
       go (Some b) q r = absurd (none-some (beq b l.positive) (sym r))
 
   -- from a literal on, where one before it has no value
-  open-some : (c ls : List Lit) (k : Lit) → ((l : Lit) → has ls l ≡ true → has c l ≡ true) → has c k ≡ true → has_var (lits_of ps) (var_of k) ≡ false → AllAbove (var_of k) ls → status_of ps (Some k) ls ≡ Open → TrueLit (lits_of ps) c ⊎ FreePair (lits_of ps) c
+  open-some : (c ls : List Lit) (k : Lit) → ((l : Lit) → has ls l ≡ true → has c l ≡ true) → has c k ≡ true
+      → has_var (lits_of ps) (var_of k) ≡ false → AllAbove (var_of k) ls → status_of ps (Some k) ls ≡ Open → TrueLit (lits_of ps) c
+      ⊎ FreePair (lits_of ps) c
   open-some c [] k within h free a e = absurd (unit-open k e)
     where
       unit-open : (k : Lit) → status.Unit k ≡ Open → ⊥
@@ -86,12 +92,24 @@ module _ (ps : List Placed) where
       here : has c l ≡ true
       here = within l (or_left (lit_eq l l) (has ls l) (lit_eq-refl l))
 
-      go : (o : Option Bool) → state_in ps l ≡ o → status_step o l (Some k) (λ f. status_of ps f ls) ≡ Open → (status_of ps (Some k) ls ≡ Open → TrueLit (lits_of ps) c ⊎ FreePair (lits_of ps) c) → TrueLit (lits_of ps) c ⊎ FreePair (lits_of ps) c
+      go : (o : Option Bool) → state_in ps l ≡ o → status_step o l (Some k) (λ f. status_of ps f ls) ≡ Open
+          → (status_of ps (Some k) ls ≡ Open → TrueLit (lits_of ps) c ⊎ FreePair (lits_of ps) c) → TrueLit (lits_of ps) c
+          ⊎ FreePair (lits_of ps) c
       go (Some true) q r ih = inl (record { lit = l; stands = here; holds = state-true l q })
       go (Some false) q r ih = ih r
-      go None q r ih = inr (record { first = k; second = l; has_first = h; has_second = here; first_free = free; second_free = state-none l q; apart = λ t. absurd (omega (arith, a.0)) })
+      go None q r ih = inr (record {
+        first = k;
+        second = l;
+        has_first = h;
+        has_second = here;
+        first_free = free;
+        second_free =
+            state-none l q;
+        apart = λ t. absurd (omega (arith, a.0));
+      })
 
-  open-none : (c ls : List Lit) → ((l : Lit) → has ls l ≡ true → has c l ≡ true) → IsClause ls → status_of ps None ls ≡ Open → TrueLit (lits_of ps) c ⊎ FreePair (lits_of ps) c
+  open-none : (c ls : List Lit) → ((l : Lit) → has ls l ≡ true → has c l ≡ true) → IsClause ls → status_of ps None ls ≡ Open
+      → TrueLit (lits_of ps) c ⊎ FreePair (lits_of ps) c
   open-none c [] within i e = absurd (false-open e)
     where
       false-open : False ≡ Open → ⊥
@@ -105,12 +123,15 @@ module _ (ps : List Placed) where
       here : has c l ≡ true
       here = within l (or_left (lit_eq l l) (has ls l) (lit_eq-refl l))
 
-      go : (o : Option Bool) → state_in ps l ≡ o → status_step o l None (λ f. status_of ps f ls) ≡ Open → (status_of ps None ls ≡ Open → TrueLit (lits_of ps) c ⊎ FreePair (lits_of ps) c) → TrueLit (lits_of ps) c ⊎ FreePair (lits_of ps) c
+      go : (o : Option Bool) → state_in ps l ≡ o → status_step o l None (λ f. status_of ps f ls) ≡ Open
+          → (status_of ps None ls ≡ Open → TrueLit (lits_of ps) c ⊎ FreePair (lits_of ps) c) → TrueLit (lits_of ps) c
+          ⊎ FreePair (lits_of ps) c
       go (Some true) q r ih = inl (record { lit = l; stands = here; holds = state-true l q })
       go (Some false) q r ih = ih r
       go None q r ih = open-some c ls l rest here (state-none l q) i.0 r
 
-  unit-some : (ls : List Lit) (k l : Lit) → status_of ps (Some k) ls ≡ status.Unit l → (k ≡ l) × ((m : Lit) → has ls m ≡ true → has (lits_of ps) (negation m) ≡ true)
+  unit-some : (ls : List Lit) (k l : Lit) → status_of ps (Some k) ls ≡ status.Unit l → (k ≡ l)
+      × ((m : Lit) → has ls m ≡ true → has (lits_of ps) (negation m) ≡ true)
   unit-some [] k l e = (same k l e, λ m h. absurd (false≢true h))
     where
       same : (k l : Lit) → status.Unit k ≡ status.Unit l → k ≡ l
@@ -120,7 +141,9 @@ module _ (ps : List Placed) where
       open-unit : (l : Lit) → Open ≡ status.Unit l → ⊥
       open-unit l e = cc
 
-      go : (o : Option Bool) → state_in ps x ≡ o → status_step o x (Some k) (λ f. status_of ps f ls) ≡ status.Unit l → (status_of ps (Some k) ls ≡ status.Unit l → (k ≡ l) × ((m : Lit) → has ls m ≡ true → has (lits_of ps) (negation m) ≡ true)) → (k ≡ l) × ((m : Lit) → has (x ∷ ls) m ≡ true → has (lits_of ps) (negation m) ≡ true)
+      go : (o : Option Bool) → state_in ps x ≡ o → status_step o x (Some k) (λ f. status_of ps f ls) ≡ status.Unit l
+          → (status_of ps (Some k) ls ≡ status.Unit l → (k ≡ l) × ((m : Lit) → has ls m ≡ true → has (lits_of ps) (negation m) ≡ true))
+          → (k ≡ l) × ((m : Lit) → has (x ∷ ls) m ≡ true → has (lits_of ps) (negation m) ≡ true)
       go (Some true) q r ih = absurd (open-unit l r)
       go None q r ih = absurd (open-unit l r)
       go (Some false) q r ih =
@@ -132,7 +155,8 @@ module _ (ps : List Placed) where
             ],
           )
 
-  pub unit-none : (ls : List Lit) (l : Lit) → status_of ps None ls ≡ status.Unit l → (has ls l ≡ true) × (has_var (lits_of ps) (var_of l) ≡ false) × ((m : Lit) → has ls m ≡ true → m ≢ l → has (lits_of ps) (negation m) ≡ true)
+  pub unit-none : (ls : List Lit) (l : Lit) → status_of ps None ls ≡ status.Unit l → (has ls l ≡ true)
+      × (has_var (lits_of ps) (var_of l) ≡ false) × ((m : Lit) → has ls m ≡ true → m ≢ l → has (lits_of ps) (negation m) ≡ true)
   unit-none [] l e = absurd (false-unit l e)
     where
       false-unit : (l : Lit) → False ≡ status.Unit l → ⊥
@@ -142,7 +166,10 @@ module _ (ps : List Placed) where
       open-unit : (l : Lit) → Open ≡ status.Unit l → ⊥
       open-unit l e = cc
 
-      go : (o : Option Bool) → state_in ps x ≡ o → status_step o x None (λ f. status_of ps f ls) ≡ status.Unit l → (status_of ps None ls ≡ status.Unit l → (has ls l ≡ true) × (has_var (lits_of ps) (var_of l) ≡ false) × ((m : Lit) → has ls m ≡ true → m ≢ l → has (lits_of ps) (negation m) ≡ true)) → (has (x ∷ ls) l ≡ true) × (has_var (lits_of ps) (var_of l) ≡ false) × ((m : Lit) → has (x ∷ ls) m ≡ true → m ≢ l → has (lits_of ps) (negation m) ≡ true)
+      go : (o : Option Bool) → state_in ps x ≡ o → status_step o x None (λ f. status_of ps f ls) ≡ status.Unit l
+          → (status_of ps None ls ≡ status.Unit l → (has ls l ≡ true) × (has_var (lits_of ps) (var_of l) ≡ false)
+          × ((m : Lit) → has ls m ≡ true → m ≢ l → has (lits_of ps) (negation m) ≡ true)) → (has (x ∷ ls) l ≡ true)
+          × (has_var (lits_of ps) (var_of l) ≡ false) × ((m : Lit) → has (x ∷ ls) m ≡ true → m ≢ l → has (lits_of ps) (negation m) ≡ true)
       go (Some true) q r ih = absurd (open-unit l r)
       go (Some false) q r ih =
           let t = ih r in (
@@ -185,7 +212,9 @@ module _ (ps : List Placed) where
       open-false : Open ≡ False → ⊥
       open-false e = cc
 
-      go : (o : Option Bool) → state_in ps x ≡ o → status_step o x None (λ f. status_of ps f ls) ≡ False → (status_of ps None ls ≡ False → (m : Lit) → has ls m ≡ true → has (lits_of ps) (negation m) ≡ true) → has (lits_of ps) (negation m) ≡ true
+      go : (o : Option Bool) → state_in ps x ≡ o → status_step o x None (λ f. status_of ps f ls) ≡ False
+          → (status_of ps None ls ≡ False → (m : Lit) → has ls m ≡ true → has (lits_of ps) (negation m) ≡ true)
+          → has (lits_of ps) (negation m) ≡ true
       go (Some true) q r ih = absurd (open-false r)
       go None q r ih = absurd (false-some ls x r)
       go (Some false) q r ih = elim (or_cases (lit_eq x m) (has ls m) h) [

@@ -20,7 +20,8 @@ use Rattle.clause_watch.proofs.Places.{place-has, has-place, place-within, consi
 
 -- once a literal became false among the places looked at, the other is true, and at no higher level
 abbrev pub Guards : List Placed → ℕ → Lit → Lit → Type 0
-Guards ps head a b = (k : ℕ) (q : Placed) → k < head → slice_get ps k ≡ Some q → q.lit ≡ negation a → (j : ℕ) × (r : Placed) × (slice_get ps j ≡ Some r) × (r.lit ≡ b) × (r.level ≤ q.level)
+Guards ps head a b = (k : ℕ) (q : Placed) → k < head → slice_get ps k ≡ Some q → q.lit ≡ negation a → (j : ℕ) × (r : Placed)
+    × (slice_get ps j ≡ Some r) × (r.lit ≡ b) × (r.level ≤ q.level)
 
 -- two literals of a clause guard each other
 pub record IsGuarded (ps : List Placed) (head : ℕ) (c : List Lit) (a b : Lit) : Type 0 where
@@ -31,7 +32,8 @@ pub record IsGuarded (ps : List Placed) (head : ℕ) (c : List Lit) (a b : Lit) 
   pub second : Guards ps head b a
 
 -- a literal is true, false or without value
-cases-literal : (ps : List Placed) (l : Lit) → (has (lits_of ps) l ≡ true) ⊎ ((has (lits_of ps) (negation l) ≡ true) ⊎ (has_var (lits_of ps) (var_of l) ≡ false))
+cases-literal : (ps : List Placed) (l : Lit) → (has (lits_of ps) l ≡ true)
+    ⊎ ((has (lits_of ps) (negation l) ≡ true) ⊎ (has_var (lits_of ps) (var_of l) ≡ false))
 cases-literal ps l =
     elim (cases_Bool (has_var (lits_of ps) (var_of l))) [
       | inr f ↦ inr (inr f)
@@ -44,7 +46,8 @@ cases-literal ps l =
     ]
 
 -- where all places were looked at, a guarded clause has a true literal or two without value
-pub guarded-settled : (n : ℕ) (ps : List Placed) (c : List Lit) (a b : Lit) → IsOrderly n ps → IsGuarded ps (length ps) c a b → TrueLit (lits_of ps) c ⊎ FreePair (lits_of ps) c
+pub guarded-settled : (n : ℕ) (ps : List Placed) (c : List Lit) (a b : Lit) → IsOrderly n ps → IsGuarded ps (length ps) c a b
+    → TrueLit (lits_of ps) c ⊎ FreePair (lits_of ps) c
 guarded-settled n ps c a b o g =
     elim (cases-literal ps a) [
       | inl t ↦ inl (record { lit = a; stands = g.has_first; holds = t })
@@ -58,7 +61,16 @@ guarded-settled n ps c a b o g =
             let q = has-place ps (negation b) f in
             let r = g.second q.0 q.1 (place-within ps q.0 q.1 q.2) q.2 q.3 in
             inl (record { lit = a; stands = g.has_first; holds = subst (λ l. has (lits_of ps) l ≡ true) r.3 (place-has ps r.0 r.1 r.2) })
-        | inr (inr other) ↦ inr (record { first = a; second = b; has_first = g.has_first; has_second = g.has_second; first_free = free; second_free = other; apart = g.apart })
+        | inr (inr other) ↦ inr (record {
+          first = a;
+          second = b;
+          has_first = g.has_first;
+          has_second = g.has_second;
+          first_free =
+              free;
+          second_free = other;
+          apart = g.apart;
+        })
       ]
     ]
 
@@ -69,23 +81,28 @@ get-back (p ∷ ps) qs zero q h e = e
 get-back (p ∷ ps) qs (suc k) q h e = get-back ps qs k q (omega arith) e
 
 pub Guards-push : (ps more : List Placed) (head : ℕ) (a b : Lit) → head ≤ length ps → Guards ps head a b → Guards (ps ++ more) head a b
-Guards-push ps more head a b le g k q lt e f = let r = g k q lt (get-back ps more k q (omega arith) e) f in (r.0, r.1, get-front ps more r.0 r.1 r.2, r.3, r.4)
+Guards-push ps more head a b le g k q lt e f = let r = g k q lt (get-back ps more k q (omega arith) e) f in
+    (r.0, r.1, get-front ps more r.0 r.1 r.2, r.3, r.4)
 
 -- going back to a level
-upto-back : (n b : ℕ) (ps : List Placed) (k : ℕ) (q : Placed) → HasLevels n ps → slice_get (upto b ps) k ≡ Some q → (slice_get ps k ≡ Some q) × (q.level ≤ b)
+upto-back : (n b : ℕ) (ps : List Placed) (k : ℕ) (q : Placed) → HasLevels n ps → slice_get (upto b ps) k ≡ Some q
+    → (slice_get ps k ≡ Some q) × (q.level ≤ b)
 upto-back n b [] k q h e = absurd (none-some q e)
 upto-back n b (p ∷ ps) zero q h e =
     elim (cases_Bool (leb p.level b)) [
       | inl t ↦ let x : Some p ≡ Some q = rw t at e in (x, subst (λ (y : Placed). y.level ≤ b) (same_Some p q x) (leb-true p.level b t))
-      | inr f ↦ let l = h.0 in absurd (none-some q (rw (f, upto-none (n + own p.reason) b ps h.1 (omega (arith, l, leb-false p.level b f))) at e))
+      | inr f ↦ let l = h.0 in
+          absurd (none-some q (rw (f, upto-none (n + own p.reason) b ps h.1 (omega (arith, l, leb-false p.level b f))) at e))
     ]
 upto-back n b (p ∷ ps) (suc k) q h e =
     elim (cases_Bool (leb p.level b)) [
       | inl t ↦ upto-back (n + own p.reason) b ps k q h.1 (rw t at e)
-      | inr f ↦ let l = h.0 in absurd (none-some q (rw (f, upto-none (n + own p.reason) b ps h.1 (omega (arith, l, leb-false p.level b f))) at e))
+      | inr f ↦ let l = h.0 in
+          absurd (none-some q (rw (f, upto-none (n + own p.reason) b ps h.1 (omega (arith, l, leb-false p.level b f))) at e))
     ]
 
-upto-front : (n b : ℕ) (ps : List Placed) (k : ℕ) (q : Placed) → HasLevels n ps → slice_get ps k ≡ Some q → q.level ≤ b → slice_get (upto b ps) k ≡ Some q
+upto-front : (n b : ℕ) (ps : List Placed) (k : ℕ) (q : Placed) → HasLevels n ps → slice_get ps k ≡ Some q → q.level ≤ b
+    → slice_get (upto b ps) k ≡ Some q
 upto-front n b [] k q h e le = absurd (none-some q e)
 upto-front n b (p ∷ ps) zero q h e le = rw (le-leb p.level b (rw (same_Some p q e) le)) e
 upto-front n b (p ∷ ps) (suc k) q h e le =
@@ -93,7 +110,8 @@ upto-front n b (p ∷ ps) (suc k) q h e le =
     let m = h.0 in
     rw (le-leb p.level b (omega (arith, l, m, le))) (upto-front (n + own p.reason) b ps k q h.1 e le)
 
-pub Guards-upto : (level : ℕ) (ps : List Placed) (head lower : ℕ) (a b : Lit) → HasLevels 0 ps → lower ≤ head → Guards ps head a b → Guards (upto level ps) lower a b
+pub Guards-upto : (level : ℕ) (ps : List Placed) (head lower : ℕ) (a b : Lit) → HasLevels 0 ps → lower ≤ head → Guards ps head a b
+    → Guards (upto level ps) lower a b
 Guards-upto level ps head lower a b h le g k q lt e f =
     let x = upto-back 0 level ps k q h e in
     let r = g k q (omega arith) x.0 f in
@@ -119,14 +137,16 @@ Guards-next ps head p a b here g now k q lt e f =
     ]
 
 -- where a clause has one literal without value and the others are false, that literal is placed, and guards
-pub Guards-unit : (ps : List Placed) (head id : ℕ) (p : Placed) (a b : Lit) → head < length ps → slice_get ps head ≡ Some p → p.level ≡ decisions ps → Guards ps head a b → Guards (ps ++ next ps b (Some id) ∷ []) (head + 1) a b
+pub Guards-unit : (ps : List Placed) (head id : ℕ) (p : Placed) (a b : Lit) → head < length ps → slice_get ps head ≡ Some p
+    → p.level ≡ decisions ps → Guards ps head a b → Guards (ps ++ next ps b (Some id) ∷ []) (head + 1) a b
 Guards-unit ps head id p a b within here fresh g =
     let r = next ps b (Some id) in
     Guards-next (ps ++ r ∷ []) head p a b (get-front ps (r ∷ []) head p here) (Guards-push ps (r ∷ []) head a b (omega arith) g)
     (λ e. (length ps, r, get-last ps r, refl, omega (arith, fresh)))
 
 -- over a settled trail nothing is propagated, so that a decision may first look at the places that are left
-pub settled-grown : (cs : List (List Lit)) (old new : TrailValue) (n : ℕ) → IsOrderly n old.placed → IsSettled (lits_of old.placed) cs → Grown cs old new → new.placed ≡ old.placed
+pub settled-grown : (cs : List (List Lit)) (old new : TrailValue) (n : ℕ) → IsOrderly n old.placed → IsSettled (lits_of old.placed) cs
+    → Grown cs old new → new.placed ≡ old.placed
 settled-grown cs old new n o s g = g.is ∙ go g.more g.each
   where
     go : (more : List Placed) → ArePlaced cs old.vars old.placed more → old.placed ++ more ≡ old.placed
@@ -134,18 +154,23 @@ settled-grown cs old new n o s g = g.is ∙ go g.more g.each
     go (p ∷ more) a =
         let c = a.0.reason in
         absurd (elim (settled-at (lits_of old.placed) cs (a.0.id - 1) c.0 s (at_id-get cs a.0.id c.0 c.1).1) [
-          | inl t ↦ consistent-from old.placed o.apart t.lit t.holds (c.2.others t.lit t.stands (λ e. false≢true (sym a.0.free ∙ ap (has_var (lits_of old.placed)) (ap var_of (sym e)) ∙ has-var (lits_of old.placed) t.lit t.holds)))
+          | inl t ↦ consistent-from old.placed o.apart t.lit t.holds
+              (c.2.others t.lit t.stands (λ e. false≢true (sym a.0.free ∙ ap (has_var (lits_of old.placed)) (ap var_of (sym e))
+              ∙ has-var (lits_of old.placed) t.lit t.holds)))
           | inr f ↦ elim (cases_eq (var_of f.first) (var_of p.lit)) [
-            | inr ne ↦ false≢true (sym f.first_free ∙ has-var (lits_of old.placed) (negation f.first) (c.2.others f.first f.has_first (λ e. ne (ap var_of e))))
+            | inr ne ↦ false≢true (sym f.first_free ∙ has-var (lits_of old.placed) (negation f.first)
+                (c.2.others f.first f.has_first (λ e. ne (ap var_of e))))
             | inl x ↦ elim (cases_eq (var_of f.second) (var_of p.lit)) [
-              | inr ne ↦ false≢true (sym f.second_free ∙ has-var (lits_of old.placed) (negation f.second) (c.2.others f.second f.has_second (λ e. ne (ap var_of e))))
+              | inr ne ↦ false≢true (sym f.second_free ∙ has-var (lits_of old.placed) (negation f.second)
+                  (c.2.others f.second f.has_second (λ e. ne (ap var_of e))))
               | inl y ↦ f.apart (x ∙ sym y)
             ]
           ]
         ])
 
 -- What one turn does with a clause, where the place looked at makes its first literal false.
-module _ (n : ℕ) (ps : List Placed) (o : IsOrderly n ps) (head : ℕ) (p : Placed) (here : slice_get ps head ≡ Some p) (c : List Lit) (a b : Lit) (g : IsGuarded ps head c a b) where
+module _ (n : ℕ) (ps : List Placed) (o : IsOrderly n ps) (head : ℕ) (p : Placed) (here : slice_get ps head ≡ Some p) (c : List Lit)
+    (a b : Lit) (g : IsGuarded ps head c a b) where
   other-literal : p.lit ≡ negation a → p.lit ≡ negation b → ⊥
   other-literal e f = g.apart (ap var_of (sym e ∙ f))
 
@@ -176,12 +201,15 @@ module _ (n : ℕ) (ps : List Placed) (o : IsOrderly n ps) (head : ℕ) (p : Pla
         elim (cases_lt k head) [
           | inl below ↦
               let r = g.second k q below f l in
-              consistent-from ps o.apart a (subst (λ x. has (lits_of ps) x ≡ true) r.3 (place-has ps r.0 r.1 r.2)) (subst (λ x. has (lits_of ps) x ≡ true) e (place-has ps head p here))
-          | inr ge ↦ let s : head ≡ k = omega arith in other-literal e (ap (λ (x : Placed). x.lit) (same_Some p q (sym here ∙ ap (slice_get ps) s ∙ f)) ∙ l)
+              consistent-from ps o.apart a (subst (λ x. has (lits_of ps) x ≡ true) r.3 (place-has ps r.0 r.1 r.2))
+              (subst (λ x. has (lits_of ps) x ≡ true) e (place-has ps head p here))
+          | inr ge ↦ let s : head ≡ k = omega arith in
+              other-literal e (ap (λ (x : Placed). x.lit) (same_Some p q (sym here ∙ ap (slice_get ps) s ∙ f)) ∙ l)
         ]
 
     -- another literal that is not false takes the first one's place
-    pub guarded-moved : (x : Lit) → has c x ≡ true → var_of x ≢ var_of b → has (lits_of ps) (negation x) ≡ false → IsGuarded ps (head + 1) c x b
+    pub guarded-moved : (x : Lit) → has c x ≡ true → var_of x ≢ var_of b → has (lits_of ps) (negation x) ≡ false
+        → IsGuarded ps (head + 1) c x b
     guarded-moved x h ne open_here = record {
       has_first = h;
       has_second = g.has_second;
@@ -198,7 +226,8 @@ module _ (n : ℕ) (ps : List Placed) (o : IsOrderly n ps) (head : ℕ) (p : Pla
           has_second = g.has_second;
           apart = g.apart;
           first = Guards-unit ps head id p a b within here fresh g.first;
-          second = Guards-push ps (next ps b (Some id) ∷ []) (head + 1) b a (omega (arith, within)) (λ k q lt f l. absurd (never-false k q lt f l));
+          second = Guards-push ps (next ps b (Some id) ∷ []) (head + 1) b a (omega (arith, within))
+              (λ k q lt f l. absurd (never-false k q lt f l));
         }
 
 -- two literals without value guard each other, wherever the walk is
@@ -207,21 +236,40 @@ guarded-open ps head c f = record {
   has_first = f.has_first;
   has_second = f.has_second;
   apart = f.apart;
-  first = λ k q lt e l. absurd (false≢true (sym f.first_free ∙ subst (λ x. has_var (lits_of ps) x ≡ true) (ap var_of l) (has-var (lits_of ps) q.lit (place-has ps k q e))));
-  second = λ k q lt e l. absurd (false≢true (sym f.second_free ∙ subst (λ x. has_var (lits_of ps) x ≡ true) (ap var_of l) (has-var (lits_of ps) q.lit (place-has ps k q e))));
+  first = λ k q lt e l. absurd (false≢true (sym f.first_free
+      ∙ subst (λ x. has_var (lits_of ps) x ≡ true) (ap var_of l) (has-var (lits_of ps) q.lit (place-has ps k q e))));
+  second = λ k q lt e l. absurd (false≢true (sym f.second_free
+      ∙ subst (λ x. has_var (lits_of ps) x ≡ true) (ap var_of l) (has-var (lits_of ps) q.lit (place-has ps k q e))));
 }
 
-pub guarded-push : (ps more : List Placed) (head : ℕ) (c : List Lit) (a b : Lit) → head ≤ length ps → IsGuarded ps head c a b → IsGuarded (ps ++ more) head c a b
-guarded-push ps more head c a b le g = record { has_first = g.has_first; has_second = g.has_second; apart = g.apart; first = Guards-push ps more head a b le g.first; second = Guards-push ps more head b a le g.second }
+pub guarded-push : (ps more : List Placed) (head : ℕ) (c : List Lit) (a b : Lit) → head ≤ length ps → IsGuarded ps head c a b
+    → IsGuarded (ps ++ more) head c a b
+guarded-push ps more head c a b le g = record {
+  has_first = g.has_first;
+  has_second = g.has_second;
+  apart = g.apart;
+  first =
+      Guards-push ps more head a b le g.first;
+  second = Guards-push ps more head b a le g.second;
+}
 
-pub guarded-upto : (level : ℕ) (ps : List Placed) (head lower : ℕ) (c : List Lit) (a b : Lit) → HasLevels 0 ps → lower ≤ head → IsGuarded ps head c a b → IsGuarded (upto level ps) lower c a b
-guarded-upto level ps head lower c a b h le g = record { has_first = g.has_first; has_second = g.has_second; apart = g.apart; first = Guards-upto level ps head lower a b h le g.first; second = Guards-upto level ps head lower b a h le g.second }
+pub guarded-upto : (level : ℕ) (ps : List Placed) (head lower : ℕ) (c : List Lit) (a b : Lit) → HasLevels 0 ps → lower ≤ head
+    → IsGuarded ps head c a b → IsGuarded (upto level ps) lower c a b
+guarded-upto level ps head lower c a b h le g =
+    record {
+      has_first = g.has_first;
+      has_second = g.has_second;
+      apart = g.apart;
+      first = Guards-upto level ps head lower a b h le g.first;
+      second = Guards-upto level ps head lower b a h le g.second;
+    }
 
 -- the places not looked at are of the present level
 abbrev pub IsFresh : List Placed → ℕ → Type 0
 IsFresh ps head = (k : ℕ) (q : Placed) → head ≤ k → slice_get ps k ≡ Some q → q.level ≡ decisions ps
 
-fresh-more : (ps : List Placed) (head : ℕ) (p : Placed) → p.level ≡ decisions ps + own p.reason → ((k : ℕ) (q : Placed) → head ≤ k → slice_get ps k ≡ Some q → q.level ≡ decisions ps + own p.reason) → IsFresh (ps ++ p ∷ []) head
+fresh-more : (ps : List Placed) (head : ℕ) (p : Placed) → p.level ≡ decisions ps + own p.reason
+    → ((k : ℕ) (q : Placed) → head ≤ k → slice_get ps k ≡ Some q → q.level ≡ decisions ps + own p.reason) → IsFresh (ps ++ p ∷ []) head
 fresh-more ps head p e f k q lo g =
     let d = decisions-push ps p in
     elim (cases_lt k (length ps)) [
@@ -229,7 +277,8 @@ fresh-more ps head p e f k q lo g =
       | inr ge ↦
           let w = place-within (ps ++ p ∷ []) k q g in
           let s : length ps ≡ k = omega (arith, w, ge, length-append ps (p ∷ [])) in
-          let y : p.level ≡ q.level = ap (λ (x : Placed). x.level) (same_Some p q (sym (get-last ps p) ∙ ap (slice_get (ps ++ p ∷ [])) s ∙ g)) in
+          let y : p.level ≡ q.level = ap (λ (x : Placed). x.level)
+          (same_Some p q (sym (get-last ps p) ∙ ap (slice_get (ps ++ p ∷ [])) s ∙ g)) in
           omega (arith, y, e, d)
     ]
 
@@ -237,9 +286,11 @@ pub fresh-unit : (ps : List Placed) (head id : ℕ) (l : Lit) → IsFresh ps hea
 fresh-unit ps head id l f = fresh-more ps head (next ps l (Some id)) refl (λ k q lo g. let x = f k q lo g in omega (arith, x))
 
 pub fresh-decide : (ps : List Placed) (l : Lit) → IsFresh (ps ++ next ps l None ∷ []) (length ps)
-fresh-decide ps l = fresh-more ps (length ps) (next ps l None) refl (λ k q lo g. let w = place-within ps k q g in absurd (omega (arith, w, lo)))
+fresh-decide ps l = fresh-more ps (length ps) (next ps l None) refl (λ k q lo g. let w = place-within ps k q g in
+    absurd (omega (arith, w, lo)))
 
-pub fresh-undo : (level : ℕ) (ps : List Placed) (head lower : ℕ) → HasLevels 0 ps → level < decisions ps → IsFresh ps head → (lower ≡ head) ⊎ (lower ≡ length (upto level ps)) → IsFresh (upto level ps) lower
+pub fresh-undo : (level : ℕ) (ps : List Placed) (head lower : ℕ) → HasLevels 0 ps → level < decisions ps → IsFresh ps head → (lower ≡ head)
+    ⊎ (lower ≡ length (upto level ps)) → IsFresh (upto level ps) lower
 fresh-undo level ps head lower h lt f low k q lo g =
     let x = upto-back 0 level ps k q h g in
     let m = x.1 in

@@ -55,7 +55,8 @@ fn visit_all(
     requires in_range { AllOver trail.old.vars clauses.now }
     requires in_order { AllClauses clauses.now }
     ensures grown { Grown clauses.now trail.old trail.new }
-    ensures fine { IfOk result (λ o. IfNone o (AreFineAt trail.new.placed (length trail.old.placed) clauses.now places.now)) }
+    ensures fine { IfOk result (λ o. IfNone o
+        (AreFineAt trail.new.placed (length trail.old.placed) clauses.now places.now)) }
     ensures conflict { IfOk result (λ o. IfSome o (NamesFalse trail.new.placed clauses.now)) }
 {
     for place in places {

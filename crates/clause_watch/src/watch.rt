@@ -61,7 +61,12 @@ impl Model for Watch {
 impl Watch {
     /// The clauses of a list with their ids, and no true literal.
     pub fn new(alloc: Global, list: &ClauseList) -> Result<Watch, AllocError>
-        ensures { IfOk result (λ w. w ≡ record { clauses = clauses_of list.now.entries; placed = []; vars = list.now.vars }) }
+        ensures { IfOk result (λ w. w ≡ record {
+          clauses = clauses_of list.now.entries;
+          placed =
+              [];
+          vars = list.now.vars;
+        }) }
     {
         let trail = Trail::new(alloc, list.vars() as usize)?;
         let mut watch = Watch {
@@ -107,7 +112,8 @@ impl Watch {
     /// Makes literals true at the present level until nothing follows, or names a false clause.
     pub fn propagate(&mut self) -> Result<Option<u64>, AllocError>
         ensures settled { IfOk result (λ o. IfNone o (IsSettled (lits_of self.new.placed) self.new.clauses)) }
-        ensures conflict { IfOk result (λ o. IfSome o (NamesFalse self.new.placed self.new.clauses)) }
+        ensures conflict { IfOk result
+            (λ o. IfSome o (NamesFalse self.new.placed self.new.clauses)) }
         ensures grown { Propagated self.old self.new }
     {
         self.queue.run(&mut self.trail, self.clauses.as_slice())
@@ -117,7 +123,8 @@ impl Watch {
     pub fn undo(&mut self, level: u64)
         ensures kept { self.new ≡ back self.old level }
         ensures depth { decisions self.new.placed ≡ min (decisions self.old.placed) level }
-        ensures settled { level < decisions self.old.placed → IsSettled (lits_of self.new.placed) self.new.clauses }
+        ensures settled { level < decisions self.old.placed
+            → IsSettled (lits_of self.new.placed) self.new.clauses }
     {
         self.trail.undo(level);
         self.queue.back(self.trail.len());

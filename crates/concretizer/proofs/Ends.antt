@@ -31,11 +31,13 @@ reports_none status line other said faults result (inr more) = inr more
 
 -- what is reported of words that are refused
 pub reports_words : (refusal : Refusal) (stop : Stop) (said : Spoken) (faults : ℕ × ℕ) (result : Status)
-    → StopsAtOnce refusal (Err stop) → Reports (stop_status stop) (stop_line stop) said faults result → Reports (status_of refusal) (line_of refusal) said faults result
+    → StopsAtOnce refusal (Err stop) → Reports (stop_status stop) (stop_line stop) said faults result
+    → Reports (status_of refusal) (line_of refusal) said faults result
 reports_words refusal (Read (Refused given)) said faults result same reports =
     subst (λ (r : Refusal). Reports (status_of r) (line_of r) said faults result) same reports
 reports_words refusal (Read (Fault path)) said faults result no_fault reports = absurd no_fault
-reports_words refusal (Read NoMemory) said faults result h reports = reports_none (status_of refusal) (line_of refusal) _ said faults result reports
+reports_words refusal (Read NoMemory) said faults result h reports =
+    reports_none (status_of refusal) (line_of refusal) _ said faults result reports
 reports_words refusal (Write stop) said faults result no_write reports = absurd no_write
 
 -- ---- answers that a refusal has
@@ -61,8 +63,10 @@ refused_here files words (Write (writes.Put path)) after out err result left (is
 refused_here files words (Write writes.Output) after out err result left (is, said) refuses = absurd (rw is at refuses)
 refused_here files words (Write writes.NoMemory) after out err result left (is, said) refuses = absurd (rw is at refuses)
 
-pub refused : (before : Option Files) (words : List (List ℕ)) (stop : Stop) (after : Option Files) (out err : Spoken) (faults : ℕ × ℕ) (result : Status)
-    → IfSome before (λ files. Attempts files words after out.0 out.1 (Err stop)) → Reports (stop_status stop) (stop_line stop) err faults result → IsRefusalStatus result
+pub refused : (before : Option Files) (words : List (List ℕ)) (stop : Stop) (after : Option Files) (out err : Spoken) (faults : ℕ × ℕ)
+    (result : Status)
+    → IfSome before (λ files. Attempts files words after out.0 out.1 (Err stop))
+    → Reports (stop_status stop) (stop_line stop) err faults result → IsRefusalStatus result
     → IfSome before (λ files. IsRefused files words result after out err)
 refused None words stop after out err faults result left reports refuses = tt
 refused (Some files) words stop after out err faults result left reports refuses =
@@ -90,23 +94,35 @@ pub record AreCounted (stop : Stop) (reads puts says : ℕ × ℕ) : Type 0 wher
   pub put : Counts puts.0 puts.1 (FailsToPut (Err stop))
   pub said : Counts says.0 says.1 (FailsToSay (Err stop))
 
-settles_here : PosesOnce → (files : Files) (words : List (List ℕ)) (stop : Stop) (after : Option Files) (out err : Spoken) (reads puts says errs : ℕ × ℕ) (result : Status)
-    → Attempts files words after out.0 out.1 (Err stop) → AreCounted stop reads puts says → Reports (stop_status stop) (stop_line stop) err errs result
+settles_here : PosesOnce → (files : Files) (words : List (List ℕ)) (stop : Stop) (after : Option Files) (out err : Spoken)
+    (reads puts says errs : ℕ × ℕ) (result : Status)
+    → Attempts files words after out.0 out.1 (Err stop) → AreCounted stop reads puts says
+    → Reports (stop_status stop) (stop_line stop) err errs result
     → (task : Task) → Poses files words (Ok task) → AreStill reads puts says errs → Settles result
 settles_here laws files words (Read (Refused refusal)) after out err reads puts says errs result left counts reports task poses still =
-    absurd (let same : (let T : Type 0 = Result Task Refusal in let l : T = Ok task in let r : T = Err refusal in l ≡ r) = laws files words (Ok task) (Err refusal) poses left.0 in cc)
-settles_here laws files words (Read (Fault path)) after out err reads puts says errs result left counts reports task poses still = absurd (still.read (counts.read.cause tt))
-settles_here laws files words (Read NoMemory) after out err reads puts says errs result left counts reports task poses still = settles_none _ err errs result reports still.err
-settles_here laws files words (Write (writes.Put path)) after out err reads puts says errs result left counts reports task poses still = absurd (still.put (counts.put.cause tt))
-settles_here laws files words (Write writes.Output) after out err reads puts says errs result left counts reports task poses still = absurd (still.said (counts.said.cause tt))
-settles_here laws files words (Write writes.NoMemory) after out err reads puts says errs result left counts reports task poses still = settles_none _ err errs result reports still.err
+    absurd (let same : (let T : Type 0 = Result Task Refusal in let l : T = Ok task in let r : T = Err refusal in l ≡ r) =
+    laws files words (Ok task) (Err refusal) poses left.0 in cc)
+settles_here laws files words (Read (Fault path)) after out err reads puts says errs result left counts reports task poses still =
+    absurd (still.read (counts.read.cause tt))
+settles_here laws files words (Read NoMemory) after out err reads puts says errs result left counts reports task poses still =
+    settles_none _ err errs result reports still.err
+settles_here laws files words (Write (writes.Put path)) after out err reads puts says errs result left counts reports task poses still =
+    absurd (still.put (counts.put.cause tt))
+settles_here laws files words (Write writes.Output) after out err reads puts says errs result left counts reports task poses still =
+    absurd (still.said (counts.said.cause tt))
+settles_here laws files words (Write writes.NoMemory) after out err reads puts says errs result left counts reports task poses still =
+    settles_none _ err errs result reports still.err
 
-pub settles : PosesOnce → (before : Option Files) (words : List (List ℕ)) (stop : Stop) (after : Option Files) (out err : Spoken) (reads puts says errs : ℕ × ℕ) (result : Status)
-    → IfSome before (λ files. Attempts files words after out.0 out.1 (Err stop)) → AreCounted stop reads puts says → Reports (stop_status stop) (stop_line stop) err errs result
-    → IfSome before (λ files. (task : Task) → Poses files words (Ok task) → ¬ Rose reads.0 reads.1 → ¬ Rose puts.0 puts.1 → ¬ Rose says.0 says.1 → ¬ Rose errs.0 errs.1 → Settles result)
+pub settles : PosesOnce → (before : Option Files) (words : List (List ℕ)) (stop : Stop) (after : Option Files) (out err : Spoken)
+    (reads puts says errs : ℕ × ℕ) (result : Status)
+    → IfSome before (λ files. Attempts files words after out.0 out.1 (Err stop)) → AreCounted stop reads puts says
+    → Reports (stop_status stop) (stop_line stop) err errs result
+    → IfSome before (λ files. (task : Task) → Poses files words (Ok task) → ¬ Rose reads.0 reads.1 → ¬ Rose puts.0 puts.1
+    → ¬ Rose says.0 says.1 → ¬ Rose errs.0 errs.1 → Settles result)
 settles laws None words stop after out err reads puts says errs result left counts reports = tt
 settles laws (Some files) words stop after out err reads puts says errs result left counts reports = λ task poses read put said late.
-    settles_here laws files words stop after out err reads puts says errs result left counts reports task poses (record { read = read; put = put; said = said; err = late })
+    settles_here laws files words stop after out err reads puts says errs result left counts reports task poses
+    (record { read = read; put = put; said = said; err = late })
 
 -- ---- input that is refused
 
@@ -127,37 +143,52 @@ none_reported status line said faults result (inr (inr is)) still = inr is
 not_both : {A : Type 0} → PosesOnce → (files : Files) (words : List (List ℕ)) (task : Task) (refusal : Refusal)
     → Poses files words (Ok task) → Poses files words (Err refusal) → A
 not_both laws files words task refusal p q =
-    absurd (let same : (let T : Type 0 = Result Task Refusal in let l : T = Ok task in let r : T = Err refusal in l ≡ r) = laws files words (Ok task) (Err refusal) p q in cc)
+    absurd (let same : (let T : Type 0 = Result Task Refusal in let l : T = Ok task in let r : T = Err refusal in l ≡ r) =
+    laws files words (Ok task) (Err refusal) p q in cc)
 
 same_refusal : PosesOnce → (files : Files) (words : List (List ℕ)) (a b : Refusal)
     → Poses files words (Err a) → Poses files words (Err b) → a ≡ b
 same_refusal laws files words a b p q =
-    let same : (let T : Type 0 = Result Task Refusal in let l : T = Err a in let r : T = Err b in l ≡ r) = laws files words (Err a) (Err b) p q in cc
+    let same : (let T : Type 0 = Result Task Refusal in let l : T = Err a in let r : T = Err b in l ≡ r) =
+    laws files words (Err a) (Err b) p q in cc
 
-due_here : PosesOnce → (files : Files) (words : List (List ℕ)) (stop : Stop) (after : Option Files) (out err : Spoken) (reads puts says errs : ℕ × ℕ) (result : Status)
-    → Attempts files words after out.0 out.1 (Err stop) → AreCounted stop reads puts says → Reports (stop_status stop) (stop_line stop) err errs result
+due_here : PosesOnce → (files : Files) (words : List (List ℕ)) (stop : Stop) (after : Option Files) (out err : Spoken)
+    (reads puts says errs : ℕ × ℕ) (result : Status)
+    → Attempts files words after out.0 out.1 (Err stop) → AreCounted stop reads puts says
+    → Reports (stop_status stop) (stop_line stop) err errs result
     → (refusal : Refusal) → Poses files words (Err refusal) → AreStill reads puts says errs → IsAnsweredBy (status_of refusal) result
 due_here laws files words (Read (Refused given)) after out err reads puts says errs result left counts reports refusal poses still =
     subst (λ (r : Refusal). IsAnsweredBy (status_of r) result) (same_refusal laws files words given refusal left.0 poses)
     (reported (status_of given) (line_of given) err errs result reports still.err)
-due_here laws files words (Read (Fault path)) after out err reads puts says errs result left counts reports refusal poses still = absurd (still.read (counts.read.cause tt))
-due_here laws files words (Read NoMemory) after out err reads puts says errs result left counts reports refusal poses still = none_reported (status_of refusal) _ err errs result reports still.err
-due_here laws files words (Write (writes.Put path)) after out err reads puts says errs result left counts reports refusal poses still = absurd (still.put (counts.put.cause tt))
-due_here laws files words (Write writes.Output) after out err reads puts says errs result left counts reports refusal poses still = absurd (still.said (counts.said.cause tt))
-due_here laws files words (Write writes.NoMemory) after out err reads puts says errs result left counts reports refusal poses still = none_reported (status_of refusal) _ err errs result reports still.err
+due_here laws files words (Read (Fault path)) after out err reads puts says errs result left counts reports refusal poses still =
+    absurd (still.read (counts.read.cause tt))
+due_here laws files words (Read NoMemory) after out err reads puts says errs result left counts reports refusal poses still =
+    none_reported (status_of refusal) _ err errs result reports still.err
+due_here laws files words (Write (writes.Put path)) after out err reads puts says errs result left counts reports refusal poses still =
+    absurd (still.put (counts.put.cause tt))
+due_here laws files words (Write writes.Output) after out err reads puts says errs result left counts reports refusal poses still =
+    absurd (still.said (counts.said.cause tt))
+due_here laws files words (Write writes.NoMemory) after out err reads puts says errs result left counts reports refusal poses still =
+    none_reported (status_of refusal) _ err errs result reports still.err
 
 -- a refusal is due where an attempt stopped
-pub due : PosesOnce → (before : Option Files) (words : List (List ℕ)) (stop : Stop) (after : Option Files) (out err : Spoken) (reads puts says errs : ℕ × ℕ) (result : Status)
-    → IfSome before (λ files. Attempts files words after out.0 out.1 (Err stop)) → AreCounted stop reads puts says → Reports (stop_status stop) (stop_line stop) err errs result
-    → IfSome before (λ files. (refusal : Refusal) → Poses files words (Err refusal) → ¬ Rose reads.0 reads.1 → ¬ Rose puts.0 puts.1 → ¬ Rose says.0 says.1 → ¬ Rose errs.0 errs.1 → IsAnsweredBy (status_of refusal) result)
+pub due : PosesOnce → (before : Option Files) (words : List (List ℕ)) (stop : Stop) (after : Option Files) (out err : Spoken)
+    (reads puts says errs : ℕ × ℕ) (result : Status)
+    → IfSome before (λ files. Attempts files words after out.0 out.1 (Err stop)) → AreCounted stop reads puts says
+    → Reports (stop_status stop) (stop_line stop) err errs result
+    → IfSome before (λ files. (refusal : Refusal) → Poses files words (Err refusal) → ¬ Rose reads.0 reads.1 → ¬ Rose puts.0 puts.1
+    → ¬ Rose says.0 says.1 → ¬ Rose errs.0 errs.1 → IsAnsweredBy (status_of refusal) result)
 due laws None words stop after out err reads puts says errs result left counts reports = tt
 due laws (Some files) words stop after out err reads puts says errs result left counts reports = λ refusal poses read put said late.
-    due_here laws files words stop after out err reads puts says errs result left counts reports refusal poses (record { read = read; put = put; said = said; err = late })
+    due_here laws files words stop after out err reads puts says errs result left counts reports refusal poses
+    (record { read = read; put = put; said = said; err = late })
 
 -- no refusal is due where an answer was written
-pub written : PosesOnce → (before : Option Files) (words : List (List ℕ)) (answer : Answer) (after : Option Files) (out : Spoken) (reads puts says errs : ℕ × ℕ) (result : Status)
+pub written : PosesOnce → (before : Option Files) (words : List (List ℕ)) (answer : Answer) (after : Option Files) (out : Spoken)
+    (reads puts says errs : ℕ × ℕ) (result : Status)
     → IfSome before (λ files. Attempts files words after out.0 out.1 (Ok answer))
-    → IfSome before (λ files. (refusal : Refusal) → Poses files words (Err refusal) → ¬ Rose reads.0 reads.1 → ¬ Rose puts.0 puts.1 → ¬ Rose says.0 says.1 → ¬ Rose errs.0 errs.1 → IsAnsweredBy (status_of refusal) result)
+    → IfSome before (λ files. (refusal : Refusal) → Poses files words (Err refusal) → ¬ Rose reads.0 reads.1 → ¬ Rose puts.0 puts.1
+    → ¬ Rose says.0 says.1 → ¬ Rose errs.0 errs.1 → IsAnsweredBy (status_of refusal) result)
 written laws None words answer after out reads puts says errs result left = tt
 written laws (Some files) words answer after out reads puts says errs result left = λ refusal poses read put said late.
     not_both laws files words left.task refusal left.read poses

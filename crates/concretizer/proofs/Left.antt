@@ -27,9 +27,12 @@ write_carried stop (Ok answer) h = absurd h
 write_carried stop (Err given) h = ap Err h
 
 -- a writing that stopped, of a task that was read
-pub stopped : (words : List (List ℕ)) (command : Command) (path : List ℕ) (task : Task) (stop : WriteStop) (result : Result Answer Stop) (before between after : Option Files) (said_before said_after : Option (List ℕ))
-    → IsErrAnd result (λ given. given ≡ Write stop) → Is (order_of words) (Ok command) → IfSome before (λ files. Gives {T = Task} (Ok task) (Named files command)) → between ≡ before
-    → path ≡ lock_path words → Writes path task between after said_before said_after (Err stop) → IfSome before (λ files. Attempts files words after said_before said_after result)
+pub stopped : (words : List (List ℕ)) (command : Command) (path : List ℕ) (task : Task) (stop : WriteStop) (result : Result Answer Stop)
+    (before between after : Option Files) (said_before said_after : Option (List ℕ))
+    → IsErrAnd result (λ given. given ≡ Write stop) → Is (order_of words) (Ok command)
+    → IfSome before (λ files. Gives {T = Task} (Ok task) (Named files command)) → between ≡ before
+    → path ≡ lock_path words → Writes path task between after said_before said_after (Err stop)
+    → IfSome before (λ files. Attempts files words after said_before said_after result)
 stopped words command path task stop result None between after said_before said_after is ordered read same at left = tt
 stopped words command path task stop result (Some files) between after said_before said_after is ordered read same at left =
     rw (write_carried stop result is) (record {
@@ -43,8 +46,10 @@ is_concretize : (work : Work) (problem : Problem) → IsOf work (tasks.Solve pro
 is_concretize works.Concretize problem of = refl
 is_concretize works.Judge problem of = absurd of
 
-follows_here : (words : List (List ℕ)) (path : List ℕ) (task : Task) (stop : WriteStop) (before after : Option Files) (said_before said_after : Option (List ℕ))
-    → (asked : IsAsked words) → IsOf asked.command.work task → path ≡ lock_path words → Writes path task before after said_before said_after (Err stop) → Follows words (Err (Write stop))
+follows_here : (words : List (List ℕ)) (path : List ℕ) (task : Task) (stop : WriteStop) (before after : Option Files)
+    (said_before said_after : Option (List ℕ))
+    → (asked : IsAsked words) → IsOf asked.command.work task → path ≡ lock_path words
+    → Writes path task before after said_before said_after (Err stop) → Follows words (Err (Write stop))
 follows_here words path (tasks.Solve problem) (Put at) before after said_before said_after asked work is left =
     (record { asked = asked; work = is_concretize asked.command.work problem work }, left.0 ∙ is)
 follows_here words path (tasks.Report numbers) (Put at) before after said_before said_after asked work is left = absurd left.1
@@ -52,7 +57,8 @@ follows_here words path task Output before after said_before said_after asked wo
 follows_here words path task NoMemory before after said_before said_after asked work is left = tt
 
 -- a writing that stopped, by the words
-pub follows : (words : List (List ℕ)) (path : List ℕ) (task : Task) (stop : WriteStop) (result : Result Answer Stop) (before after : Option Files) (said_before said_after : Option (List ℕ))
+pub follows : (words : List (List ℕ)) (path : List ℕ) (task : Task) (stop : WriteStop) (result : Result Answer Stop)
+    (before after : Option Files) (said_before said_after : Option (List ℕ))
     → IsErrAnd result (λ given. given ≡ Write stop) → (asked : IsAsked words) → IsOf asked.command.work task → path ≡ lock_path words
     → Writes path task before after said_before said_after (Err stop) → Follows words result
 follows words path task stop result before after said_before said_after carried asked work is left =

@@ -22,7 +22,8 @@ use Rattle.run_answers.specs.declared.stop.Stop.TheVariants.{Read, Write}
 -- ---- for a desk that tells its files
 
 -- reading gave a task, and writing left this
-pub record IsWritten (files : Files) (words : List (List ℕ)) (after : Option Files) (out_before out_after : Option (List ℕ)) (result : Result Answer WriteStop) : Type 0 where
+pub record IsWritten (files : Files) (words : List (List ℕ)) (after : Option Files) (out_before out_after : Option (List ℕ))
+    (result : Result Answer WriteStop) : Type 0 where
   pub task : Task
   pub read : Poses files words (Ok task)
   pub left : Writes (lock_path words) task (Some files) after out_before out_after result
@@ -34,7 +35,8 @@ pub record IsUnwritten (files : Files) (after : Option Files) (out_before out_af
 
 abbrev pub Attempts : Files → List (List ℕ) → Option Files → Option (List ℕ) → Option (List ℕ) → Result Answer Stop → Type 0
 Attempts files words after out_before out_after (Ok answer) = IsWritten files words after out_before out_after (Ok answer)
-Attempts files words after out_before out_after (Err (Read (reads.Refused refusal))) = Poses files words (Err refusal) × IsUnwritten files after out_before out_after
+Attempts files words after out_before out_after (Err (Read (reads.Refused refusal))) = Poses files words (Err refusal)
+    × IsUnwritten files after out_before out_after
 Attempts files words after out_before out_after (Err (Read (reads.Fault path))) = IsUnwritten files after out_before out_after
 Attempts files words after out_before out_after (Err (Read reads.NoMemory)) = IsUnwritten files after out_before out_after
 Attempts files words after out_before out_after (Err (Write stop)) = IsWritten files words after out_before out_after (Err stop)

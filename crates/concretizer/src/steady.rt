@@ -24,13 +24,21 @@ pub fn run_steady<R: Threads + Sync>(
     out: &mut SteadySink,
     err: &mut SteadySink,
 ) -> Status
-    ensures done { result ≡ Status.Done → IsDone desk.old (words_of words.now) (Some desk.new) (Some out.old, Some out.new) (Some err.old, Some err.new) }
-    ensures unsatisfiable { result ≡ Status.Unsatisfiable → IsUnsatisfiable desk.old (words_of words.now) (Some desk.new) (Some out.old, Some out.new) (Some err.old, Some err.new) }
-    ensures refused { IsRefusalStatus result → IsRefused desk.old (words_of words.now) result (Some desk.new) (Some out.old, Some out.new) (Some err.old, Some err.new) }
+    ensures done { result ≡ Status.Done
+        → IsDone desk.old (words_of words.now) (Some desk.new) (Some out.old, Some out.new)
+        (Some err.old, Some err.new) }
+    ensures unsatisfiable { result ≡ Status.Unsatisfiable
+        → IsUnsatisfiable desk.old (words_of words.now) (Some desk.new) (Some out.old, Some out.new)
+        (Some err.old, Some err.new) }
+    ensures refused { IsRefusalStatus result
+        → IsRefused desk.old (words_of words.now) result (Some desk.new)
+        (Some out.old, Some out.new) (Some err.old, Some err.new) }
     ensures no_read_fault { result ≢ Status.ReadFault }
     ensures no_write_fault { result ≢ Status.WriteFault }
-    ensures complete { (task : Task) → Poses desk.old (words_of words.now) (Ok task) → Settles result }
-    ensures due { (refusal : Refusal) → Poses desk.old (words_of words.now) (Err refusal) → IsAnsweredBy (status_of refusal) result }
+    ensures complete { (task : Task) → Poses desk.old (words_of words.now) (Ok task)
+        → Settles result }
+    ensures due { (refusal : Refusal) → Poses desk.old (words_of words.now) (Err refusal)
+        → IsAnsweredBy (status_of refusal) result }
 {
     run(rt, alloc, words, desk, out, err)
 }

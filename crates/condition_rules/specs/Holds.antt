@@ -30,7 +30,8 @@ suits world part name node =
 -- name never does
 abbrev pub holds_below : World → Content → Text → Part → Bool
 holds_below world graph from part =
-    is_some_and part.name (λ name. is_some_and (asked_node world graph name) (λ node. suits world part name node && reaches_in graph from node.name))
+    is_some_and part.name (λ name. is_some_and (asked_node world graph name) (λ node. suits world part name node
+    && reaches_in graph from node.name))
 
 -- the spec holds at the name: it is a node, where the top part and each part after `^` hold
 unfoldable pub holds : World → Spec → Content → Text → Bool
@@ -47,4 +48,5 @@ is_governed_by world graph name variant row = bytes_eq row.name variant && all_h
 
 -- the last definition of the variant whose condition holds
 unfoldable pub governing : World → Content → Text → Text → Option VariantRow
-governing world graph name variant = find_last (is_governed_by world graph name variant) (rows (λ recipe. recipe.variants) (recipe_of world name))
+governing world graph name variant = find_last (is_governed_by world graph name variant)
+    (rows (λ recipe. recipe.variants) (recipe_of world name))

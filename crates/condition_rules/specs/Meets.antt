@@ -84,4 +84,5 @@ row_provides world node name wanted row =
 
 -- some row of the node's recipe provides the virtual for the list
 unfoldable pub provides : World → Node → Text → Option (List Item) → Bool
-provides world node name wanted = list_any (row_provides world node name wanted) (rows (λ recipe. recipe.provides) (recipe_of world node.name))
+provides world node name wanted = list_any (row_provides world node name wanted)
+    (rows (λ recipe. recipe.provides) (recipe_of world node.name))

@@ -56,7 +56,8 @@ fn row_provides(
     wanted: Option<&VersionSet>,
     row: &ProvideRow,
 ) -> bool
-    ensures { result ≡ row_provides world.now node.now name.now (option_copied wanted.entry) row.now }
+    ensures { result ≡ row_provides world.now node.now name.now
+        (option_copied wanted.entry) row.now }
 {
     row.name.as_str() == name
         && all_meet(world, row.when.specs.as_slice(), node)
@@ -70,7 +71,8 @@ fn some_provides(
     wanted: Option<&VersionSet>,
     rows: &[ProvideRow],
 ) -> bool
-    ensures { result ≡ list_any (row_provides world.now node.now name.now (option_copied wanted.entry)) rows.now }
+    ensures { result ≡ list_any (row_provides world.now node.now name.now
+        (option_copied wanted.entry)) rows.now }
 {
     rows.iter()
         .any(|row| row_provides(world, node, name, wanted, row))

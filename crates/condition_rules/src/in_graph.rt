@@ -17,7 +17,8 @@ use std::alloc::{AllocError, Global};
 use version_order::VersionSet;
 
 fn provider_node<'a>(graph: &'a Graph, name: &str) -> Option<&'a Node>
-    ensures { option_copied result ≡ option_and_then (node_of graph.now) (provider_of graph.now name.now) }
+    ensures { option_copied result ≡ option_and_then (node_of graph.now)
+        (provider_of graph.now name.now) }
 {
     match graph.provider_of(name) {
         Some(package) => graph.node(package),
@@ -66,7 +67,10 @@ fn is_below<P: Paths>(
     part: &Part,
     name: &str,
 ) -> Result<bool, AllocError>
-    ensures { IfOk result (λ answer. answer ≡ is_some_and (asked_node world.now (P.graph_of graph.now) name.now) (λ node. suits world.now part.now name.now node && reaches_in (P.graph_of graph.now) from.now node.name)) }
+    ensures { IfOk result (λ answer. answer
+        ≡ is_some_and (asked_node world.now (P.graph_of graph.now) name.now)
+        (λ node. suits world.now part.now name.now node
+        && reaches_in (P.graph_of graph.now) from.now node.name)) }
 {
     match asked_node(world, graph.graph(), name) {
         Some(node) => Ok(
@@ -84,7 +88,8 @@ fn holds_below<P: Paths>(
     from: &str,
     part: &Part,
 ) -> Result<bool, AllocError>
-    ensures { IfOk result (λ answer. answer ≡ holds_below world.now (P.graph_of graph.now) from.now part.now) }
+    ensures { IfOk result (λ answer. answer ≡ holds_below world.now (P.graph_of graph.now)
+        from.now part.now) }
 {
     match &part.name {
         Some(name) => is_below(alloc, world, graph, from, part, name.as_str()),
@@ -99,7 +104,8 @@ fn all_below<P: Paths>(
     from: &str,
     parts: &[Part],
 ) -> Result<bool, AllocError>
-    ensures { IfOk result (λ answer. answer ≡ list_all (holds_below world.now (P.graph_of graph.now) from.now) parts.now) }
+    ensures { IfOk result (λ answer. answer
+        ≡ list_all (holds_below world.now (P.graph_of graph.now) from.now) parts.now) }
 {
     for part in parts {
         if !holds_below(alloc, world, graph, from, part)? {
@@ -110,7 +116,8 @@ fn all_below<P: Paths>(
 }
 
 fn top_holds<P: Paths>(world: &World, part: &Part, graph: &P, name: &str) -> bool
-    ensures { result ≡ is_some_and (node_of (P.graph_of graph.now) name.now) (meets world.now part.now) }
+    ensures { result ≡ is_some_and (node_of (P.graph_of graph.now) name.now)
+        (meets world.now part.now) }
 {
     match graph.graph().node(name) {
         Some(node) => meets(world, part, node),
@@ -127,7 +134,8 @@ pub fn holds<P: Paths>(
     graph: &P,
     name: &str,
 ) -> Result<bool, AllocError>
-    ensures { IfOk result (λ answer. answer ≡ holds world.now spec.now (P.graph_of graph.now) name.now) }
+    ensures { IfOk result (λ answer. answer ≡ holds world.now spec.now
+        (P.graph_of graph.now) name.now) }
 {
     if !top_holds(world, &spec.top, graph, name) {
         return Ok(false);
@@ -142,7 +150,8 @@ fn each_holds<P: Paths>(
     graph: &P,
     name: &str,
 ) -> Result<bool, AllocError>
-    ensures { IfOk result (λ answer. answer ≡ list_all (λ spec. holds world.now spec (P.graph_of graph.now) name.now) specs.now) }
+    ensures { IfOk result (λ answer. answer
+        ≡ list_all (λ spec. holds world.now spec (P.graph_of graph.now) name.now) specs.now) }
 {
     for spec in specs {
         if !holds(alloc, world, spec, graph, name)? {
@@ -161,7 +170,8 @@ pub fn all_hold<P: Paths>(
     graph: &P,
     name: &str,
 ) -> Result<bool, AllocError>
-    ensures { IfOk result (λ answer. answer ≡ all_hold world.now condition.now (P.graph_of graph.now) name.now) }
+    ensures { IfOk result (λ answer. answer ≡ all_hold world.now condition.now
+        (P.graph_of graph.now) name.now) }
 {
     each_holds(alloc, world, condition.specs.as_slice(), graph, name)
 }
@@ -174,7 +184,8 @@ fn is_governed_by<P: Paths>(
     variant: &str,
     row: &VariantRow,
 ) -> Result<bool, AllocError>
-    ensures { IfOk result (λ answer. answer ≡ is_governed_by world.now (P.graph_of graph.now) name.now variant.now row.now) }
+    ensures { IfOk result (λ answer. answer ≡ is_governed_by world.now (P.graph_of graph.now)
+        name.now variant.now row.now) }
 {
     Ok(row.name.as_str() == variant && all_hold(alloc, world, &row.when, graph, name)?)
 }
@@ -187,7 +198,9 @@ fn last_governing<'a, P: Paths>(
     variant: &str,
     rows: &'a [VariantRow],
 ) -> Result<Option<&'a VariantRow>, AllocError>
-    ensures { IfOk result (λ last. option_copied last ≡ find_last (is_governed_by world.now (P.graph_of graph.now) name.now variant.now) rows.now) }
+    ensures { IfOk result (λ last. option_copied last
+        ≡ find_last (is_governed_by world.now (P.graph_of graph.now) name.now variant.now)
+        rows.now) }
 {
     let mut last = None;
     for row in rows {
@@ -207,7 +220,8 @@ pub fn governing<'a, P: Paths>(
     name: &str,
     variant: &str,
 ) -> Result<Option<&'a VariantRow>, AllocError>
-    ensures { IfOk result (λ last. option_copied last ≡ governing world.now (P.graph_of graph.now) name.now variant.now) }
+    ensures { IfOk result (λ last. option_copied last ≡ governing world.now (P.graph_of graph.now)
+        name.now variant.now) }
 {
     match world.recipe(name) {
         Some(recipe) => last_governing(

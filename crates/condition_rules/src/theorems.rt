@@ -11,8 +11,11 @@ ghost use Rattle.condition_rules.specs.Holds.{holds, all_hold};
 /// A spec without parts after `^` holds at a node where its top part does. So a condition of `provides`, which has
 /// no such part, may speak of the node alone. Specs hold together in any order.
 pub fn condition_laws()
-    ensures alone { (world : World) (spec : Spec) (graph : Content) (name : Text) (node : Node) → spec.below ≡ [] → node_of graph name ≡ Some node
+    ensures alone { (world : World) (spec : Spec) (graph : Content) (name : Text) (node : Node)
+        → spec.below ≡ [] → node_of graph name ≡ Some node
         → holds world spec graph name ≡ meets world spec.top node }
-    ensures any_order { (world : World) (specs others : List Spec) (graph : Content) (name : Text) → IsPermutation specs others
-        → all_hold world (record { specs = specs }) graph name ≡ all_hold world (record { specs = others }) graph name }
+    ensures any_order { (world : World) (specs others : List Spec) (graph : Content) (name : Text)
+        → IsPermutation specs others
+        → all_hold world (record { specs = specs }) graph name
+        ≡ all_hold world (record { specs = others }) graph name }
 {}

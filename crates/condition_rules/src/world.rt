@@ -40,7 +40,12 @@ impl<'a> World<'a> {
     ) -> World<'a>
         requires order { AreInOrder recipes.now }
         requires providers { AreProviders recipes.now providers.now }
-        ensures { result ≡ record { platform = platform.now; targets = targets.now; recipes = recipes.now } }
+        ensures { result ≡ record {
+          platform = platform.now;
+          targets = targets.now;
+          recipes =
+              recipes.now;
+        } }
     {
         World {
             platform,

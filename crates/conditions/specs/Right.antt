@@ -45,7 +45,8 @@ is_local_row row = list_all is_alone row.when.specs
 -- ---- numbers of `depends_on`, `conflicts` and `requires`
 
 abbrev pub all_numbers : Recipe → List ℕ
-all_numbers recipe = map (λ row. row.number) recipe.depends ++ map (λ row. row.number) recipe.conflicts ++ map (λ row. row.number) recipe.requirements
+all_numbers recipe = map (λ row. row.number) recipe.depends ++ map (λ row. row.number) recipe.conflicts
+    ++ map (λ row. row.number) recipe.requirements
 
 -- the same rising, each once
 abbrev pub numbers_of : Recipe → List ℕ

@@ -14,3 +14,4 @@ mod specs_exact;
 pub use recipe::{
     Condition, ConflictRow, DependRow, ProvideRow, Recipe, RequireRow, VariantRow, VersionRow,
 };
+pub use specs_exact::duplicate_spec;

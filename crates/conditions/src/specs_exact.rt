@@ -67,7 +67,7 @@ fn duplicate_parts(alloc: Global, parts: &List<Part>) -> Result<List<Part>, Allo
 }
 
 /// A copy of a spec that is seen as the same.
-pub(crate) fn duplicate_spec(alloc: Global, spec: &Spec) -> Result<Spec, AllocError>
+pub fn duplicate_spec(alloc: Global, spec: &Spec) -> Result<Spec, AllocError>
     ensures { IfOk result (λ copy. copy ≡ spec.now) }
 {
     Ok(Spec {

@@ -1,6 +1,6 @@
 -- The vector in its parts.
-use Rattle.std.proofs.Common.{◌≡◌, refl, sym, ap, ◌∙◌, Bool, true, false, not, ℕ, List, [], ◌∷◌, ◌++◌, map, length, cond, slice_index_or}
-use Rattle.std.specs.List.{filter, sum_by, count_by}
+use Rattle.std.proofs.Common.{◌≡◌, refl, sym, ap, ◌∙◌, Bool, true, false, ℕ, List, [], ◌∷◌, ◌++◌, map, length, slice_index_or}
+use Rattle.std.specs.List.{filter, sum_by}
 use Rattle.std.proofs.lemmas.List.Sums.{length-filter}
 use Rattle.graph_core.specs.Graphs.{Content}
 use Rattle.graph_core.specs.declared.node.Node.{Node}
@@ -42,31 +42,41 @@ map_same f g same (x ∷ xs) = rw (same x, map_same f g same xs) refl
 over_part : Bool → Content → (Node → ℕ) → ℕ
 over_part built graph cost = stopped (sum_by (part_cost built cost) graph.nodes)
 
-as_map : (built : Bool) (problem : Problem) (graph : Content) → part_sums built problem graph ≡ map (over_part built graph) (criteria problem graph)
+as_map : (built : Bool) (problem : Problem) (graph : Content)
+    → part_sums built problem graph ≡ map (over_part built graph) (criteria problem graph)
 unfolding criteria term_cost over_part
 as_map built problem graph = refl
 
-one : (built : Bool) (graph : Content) (cost : Node → ℕ) → over_part built graph cost ≡ stopped (sum_by cost (filter (in_part built) graph.nodes))
+one : (built : Bool) (graph : Content) (cost : Node → ℕ)
+    → over_part built graph cost ≡ stopped (sum_by cost (filter (in_part built) graph.nodes))
 unfolding over_part
 one built graph cost = ap stopped (sum_filter (in_part built) cost graph.nodes)
 
-part : (built : Bool) (problem : Problem) (graph : Content) → part_sums built problem graph ≡ sums problem graph (filter (in_part built) graph.nodes)
+part : (built : Bool) (problem : Problem) (graph : Content)
+    → part_sums built problem graph ≡ sums problem graph (filter (in_part built) graph.nodes)
 part built problem graph = as_map built problem graph ∙ map_same _ _ (one built graph) (criteria problem graph)
 
-count : (problem : Problem) (graph : Content) → part_sum true places.Anywhere terms.Node problem graph ≡ stopped (length (filter is_built graph.nodes))
+count : (problem : Problem) (graph : Content)
+    → part_sum true places.Anywhere terms.Node problem graph ≡ stopped (length (filter is_built graph.nodes))
 unfolding term_cost
 count problem graph = ap stopped (sym (length-filter is_built graph.nodes))
 
-pub whole : (problem : Problem) (graph : Content) → part_sums true problem graph ++ part_sum true places.Anywhere terms.Node problem graph ∷ part_sums false problem graph ≡ vector problem graph
+pub whole : (problem : Problem) (graph : Content) → part_sums true problem graph ++ part_sum true places.Anywhere terms.Node problem graph
+    ∷ part_sums false problem graph ≡ vector problem graph
 unfolding vector
 whole problem graph = λ i. part true problem graph i ++ count problem graph i ∷ part false problem graph i
 
 abbrev pub numbers : List ℕ → ℕ → List ℕ → List ℕ
 numbers a builds b =
-    slice_index_or a 0 0 ∷ slice_index_or a 1 0 ∷ slice_index_or a 2 0 ∷ slice_index_or a 3 0 ∷ slice_index_or a 4 0 ∷ slice_index_or a 5 0 ∷ slice_index_or a 6 0 ∷ slice_index_or a 7 0 ∷ slice_index_or a 8 0 ∷ slice_index_or a 9 0 ∷ slice_index_or a 10 0 ∷ slice_index_or a 11 0 ∷ slice_index_or a 12 0 ∷ slice_index_or a 13 0 ∷ slice_index_or a 14 0
+    slice_index_or a 0 0 ∷ slice_index_or a 1 0 ∷ slice_index_or a 2 0 ∷ slice_index_or a 3 0 ∷ slice_index_or a 4 0 ∷ slice_index_or a 5 0
+    ∷ slice_index_or a 6 0 ∷ slice_index_or a 7 0 ∷ slice_index_or a 8 0 ∷ slice_index_or a 9 0 ∷ slice_index_or a 10 0
+    ∷ slice_index_or a 11 0 ∷ slice_index_or a 12 0 ∷ slice_index_or a 13 0 ∷ slice_index_or a 14 0
     ∷ builds
-    ∷ slice_index_or b 0 0 ∷ slice_index_or b 1 0 ∷ slice_index_or b 2 0 ∷ slice_index_or b 3 0 ∷ slice_index_or b 4 0 ∷ slice_index_or b 5 0 ∷ slice_index_or b 6 0 ∷ slice_index_or b 7 0 ∷ slice_index_or b 8 0 ∷ slice_index_or b 9 0 ∷ slice_index_or b 10 0 ∷ slice_index_or b 11 0 ∷ slice_index_or b 12 0 ∷ slice_index_or b 13 0 ∷ slice_index_or b 14 0 ∷ []
+    ∷ slice_index_or b 0 0 ∷ slice_index_or b 1 0 ∷ slice_index_or b 2 0 ∷ slice_index_or b 3 0 ∷ slice_index_or b 4 0
+    ∷ slice_index_or b 5 0 ∷ slice_index_or b 6 0 ∷ slice_index_or b 7 0 ∷ slice_index_or b 8 0 ∷ slice_index_or b 9 0
+    ∷ slice_index_or b 10 0 ∷ slice_index_or b 11 0 ∷ slice_index_or b 12 0 ∷ slice_index_or b 13 0 ∷ slice_index_or b 14 0 ∷ []
 
-pub listed : (problem : Problem) (graph : Content) (a b : List ℕ) (builds : ℕ) → a ≡ part_sums true problem graph → builds ≡ part_sum true places.Anywhere terms.Node problem graph
+pub listed : (problem : Problem) (graph : Content) (a b : List ℕ) (builds : ℕ) → a ≡ part_sums true problem graph
+    → builds ≡ part_sum true places.Anywhere terms.Node problem graph
     → b ≡ part_sums false problem graph → numbers a builds b ≡ vector problem graph
 listed problem graph a b builds first middle last = (λ i. numbers (first i) (middle i) (last i)) ∙ whole problem graph

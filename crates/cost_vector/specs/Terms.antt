@@ -1,7 +1,7 @@
 -- What one node adds to each sum.
-use Rattle.std.specs.Prelude.{Bool, true, false, ℕ, not, List, [], ◌∷◌, length, map, sum_by, count_by, filter, if◌then◌else◌}
+use Rattle.std.specs.Prelude.{Bool, true, false, ℕ, not, List, [], ◌∷◌, sum_by, if◌then◌else◌}
 use Rattle.std.specs.Str.{bytes_eq}
-use Rattle.graph_core.specs.Graphs.{Text, Content, node_of, edges_from}
+use Rattle.graph_core.specs.Graphs.{Text, Content, node_of}
 use Rattle.graph_core.specs.declared.node.Node.{Node}
 use Rattle.graph_core.specs.declared.node.Edge.{Edge}
 use Rattle.condition_rules.specs.Words.{is_some_and}
@@ -68,7 +68,8 @@ part_cost built cost node = if in_part built node then cost node else 0
 -- ---- all nodes
 
 abbrev pub part_sum : Bool → Place → Term → Problem → Content → ℕ
-part_sum built place added problem graph = stopped (sum_by (part_cost built (placed place problem (term_cost added problem graph))) graph.nodes)
+part_sum built place added problem graph =
+    stopped (sum_by (part_cost built (placed place problem (term_cost added problem graph))) graph.nodes)
 
 abbrev pub part_sums : Bool → Problem → Content → List ℕ
 part_sums built problem graph =

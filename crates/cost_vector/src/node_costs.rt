@@ -79,7 +79,8 @@ fn variant_cost(
     name: &str,
     variant: &(Word, ValueSet),
 ) -> Result<usize, AllocError>
-    ensures { IfOk result (λ count. count ≡ variant_cost defaults problem.now graph.now name.now variant.now) }
+    ensures { IfOk result (λ count. count ≡ variant_cost defaults problem.now graph.now name.now
+        variant.now) }
 {
     let world = problem.world();
     match governing(alloc, &world, graph, name, variant.0.as_str())? {
@@ -96,7 +97,8 @@ pub(crate) fn over_variants(
     name: &str,
     variants: &[(Word, ValueSet)],
 ) -> Result<u64, AllocError>
-    ensures { IfOk result (λ total. total ≡ stopped (sum_by (variant_cost defaults problem.now graph.now name.now) variants.now)) }
+    ensures { IfOk result (λ total. total
+        ≡ stopped (sum_by (variant_cost defaults problem.now graph.now name.now) variants.now)) }
 {
     let mut total: u64 = 0;
     for variant in variants {

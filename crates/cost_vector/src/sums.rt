@@ -19,7 +19,9 @@ fn sum_over(
     graph: &Explored,
     nodes: &[Node],
 ) -> Result<u64, AllocError>
-    ensures { IfOk result (λ total. total ≡ stopped (sum_by (part_cost built (placed place problem.now (term_cost added problem.now graph.now))) nodes.now)) }
+    ensures { IfOk result (λ total. total
+        ≡ stopped (sum_by (part_cost built
+        (placed place problem.now (term_cost added problem.now graph.now))) nodes.now)) }
 {
     let mut total: u64 = 0;
     for node in nodes {

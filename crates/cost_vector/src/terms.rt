@@ -60,7 +60,8 @@ fn term_cost(
     graph: &Explored,
     node: &Node,
 ) -> Result<u64, AllocError>
-    ensures { IfOk result (λ cost. cost ≡ stopped (term_cost added problem.now graph.now node.now)) }
+    ensures { IfOk result (λ cost. cost
+        ≡ stopped (term_cost added problem.now graph.now node.now)) }
 {
     let name = node.name.as_str();
     let version = node.version.text();
@@ -90,7 +91,8 @@ fn placed(
     graph: &Explored,
     node: &Node,
 ) -> Result<u64, AllocError>
-    ensures { IfOk result (λ cost. cost ≡ stopped (placed place problem.now (term_cost added problem.now graph.now) node.now)) }
+    ensures { IfOk result (λ cost. cost
+        ≡ stopped (placed place problem.now (term_cost added problem.now graph.now) node.now)) }
 {
     match place {
         Place::Anywhere => term_cost(alloc, added, problem, graph, node),
@@ -131,7 +133,9 @@ pub(crate) fn part_cost(
     graph: &Explored,
     node: &Node,
 ) -> Result<u64, AllocError>
-    ensures { IfOk result (λ cost. cost ≡ stopped (part_cost built (placed place problem.now (term_cost added problem.now graph.now)) node.now)) }
+    ensures { IfOk result (λ cost. cost
+        ≡ stopped (part_cost built (placed place problem.now
+        (term_cost added problem.now graph.now)) node.now)) }
 {
     if is_in_part(built, node) {
         placed(alloc, place, added, problem, graph, node)

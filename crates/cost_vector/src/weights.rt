@@ -89,7 +89,8 @@ pub(crate) fn version_weight(problem: &Problem, name: &str, version: &str) -> us
 }
 
 fn some_deprecated(rows: &[VersionRow], version: &str) -> bool
-    ensures { result ≡ list_any (λ row. bytes_eq row.version version.now && row.deprecated) rows.now }
+    ensures { result ≡ list_any (λ row. bytes_eq row.version version.now
+        && row.deprecated) rows.now }
 {
     rows.iter()
         .any(|row| row.version.text() == version && row.deprecated)
@@ -136,7 +137,8 @@ pub(crate) fn target_weight(problem: &Problem, name: &str) -> usize
 }
 
 fn compiler_place(entries: &[CompilerEntry], compiler: &Compiler) -> usize
-    ensures { result ≡ position_or_len (λ entry. same_compiler entry.compiler compiler.now) entries.now }
+    ensures { result ≡ position_or_len
+        (λ entry. same_compiler entry.compiler compiler.now) entries.now }
 {
     entries
         .iter()

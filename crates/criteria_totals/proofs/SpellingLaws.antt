@@ -24,11 +24,13 @@ bits-equal [] = refl
 bits-equal (true ∷ xs) = bits-equal xs
 bits-equal (false ∷ xs) = bits-equal xs
 
-pub compare-append : (us ws cs ds : List Bool) → length us ≡ length ws → compare_bits (us ++ cs) (ws ++ ds) ≡ ordering_then (compare_bits us ws) (compare_bits cs ds)
+pub compare-append : (us ws cs ds : List Bool) → length us ≡ length ws
+    → compare_bits (us ++ cs) (ws ++ ds) ≡ ordering_then (compare_bits us ws) (compare_bits cs ds)
 compare-append [] [] cs ds h = refl
 compare-append [] (b ∷ ws) cs ds h = absurd (omega arith)
 compare-append (a ∷ us) [] cs ds h = absurd (omega arith)
-compare-append (a ∷ us) (b ∷ ws) cs ds h = rw (compare-append us ws cs ds (omega arith)) (turn (bool_cmp a b) (compare_bits us ws) (compare_bits cs ds))
+compare-append (a ∷ us) (b ∷ ws) cs ds h =
+    rw (compare-append us ws cs ds (omega arith)) (turn (bool_cmp a b) (compare_bits us ws) (compare_bits cs ds))
   where
     turn : (o p q : Ordering) → ordering_then o (ordering_then p q) ≡ ordering_then (ordering_then o p) q
     turn Less p q = refl
@@ -76,7 +78,8 @@ binary-order (suc w) m n h g =
       ]
       | inr a ↦ elim (cases_lt n (2 ^ w)) [
         | inl b ↦ rw (le-leb (2 ^ w) m a, lt-leb (2 ^ w) n b) (sym (cmp-greater m n (omega arith)))
-        | inr b ↦ rw (le-leb (2 ^ w) m a, le-leb (2 ^ w) n b) (binary-order w (m - 2 ^ w) (n - 2 ^ w) (omega arith) (omega arith) ∙ cmp-minus (2 ^ w) m n a b)
+        | inr b ↦ rw (le-leb (2 ^ w) m a, le-leb (2 ^ w) n b) (binary-order w (m - 2 ^ w) (n - 2 ^ w) (omega arith) (omega arith)
+            ∙ cmp-minus (2 ^ w) m n a b)
       ]
     ]
 
@@ -84,19 +87,32 @@ pub unary-spells : (top : ℕ) → IsSpelling top (unary top)
 unary-spells top = record { width = λ m n. unary-length top m ∙ sym (unary-length top n); order = λ m n. unary-order top m n }
 
 pub binary-spells : (w top : ℕ) → top < 2 ^ w → IsSpelling top (binary w)
-binary-spells w top h = record { width = λ m n. binary-length w m ∙ sym (binary-length w n); order = λ m n a b. binary-order w m n (omega arith) (omega arith) }
+binary-spells w top h = record {
+  width = λ m n. binary-length w m ∙ sym (binary-length w n);
+  order =
+      λ m n a b. binary-order w m n (omega arith) (omega arith);
+}
 
 -- both kinds are spellings
 pub spell-spells : (top : ℕ) → top < 2 ^ 63 → IsSpelling top (spell top)
 unfolding spell
-spell-spells top h = elim (cases_Bool (leb top 64)) [ inl e ↦ rw e (unary-spells top) | inr e ↦ rw e (binary-spells (size top) top (size-is top h)) ]
+spell-spells top h = elim (cases_Bool (leb top 64)) [
+  | inl e ↦ rw e (unary-spells top)
+  | inr e ↦
+      rw e (binary-spells (size top) top (size-is top h))
+]
 
 spell-width : (top m n : ℕ) → length (spell top m) ≡ length (spell top n)
 unfolding spell
-spell-width top m n = elim (cases_Bool (leb top 64)) [ inl e ↦ rw e (unary-length top m ∙ sym (unary-length top n)) | inr e ↦ rw e (binary-length (size top) m ∙ sym (binary-length (size top) n)) ]
+spell-width top m n = elim (cases_Bool (leb top 64)) [
+  | inl e ↦ rw e (unary-length top m ∙ sym (unary-length top n))
+  | inr e ↦
+      rw e (binary-length (size top) m ∙ sym (binary-length (size top) n))
+]
 
 -- the bits of vectors compare as the vectors do
-pub all-order : (ts ms ns : List ℕ) → AllSmall ts → within ts ms ≡ true → within ts ns ≡ true → compare_bits (spell_all ts ms) (spell_all ts ns) ≡ compare_numbers ms ns
+pub all-order : (ts ms ns : List ℕ) → AllSmall ts → within ts ms ≡ true → within ts ns ≡ true
+    → compare_bits (spell_all ts ms) (spell_all ts ns) ≡ compare_numbers ms ns
 all-order [] [] [] s h g = refl
 all-order [] [] (n ∷ ns) s h g = absurd (cc)
 all-order [] (m ∷ ms) ns s h g = absurd (cc)
@@ -131,7 +147,8 @@ numbers-equal (m ∷ ms) (n ∷ ns) e =
 
 -- equal bits mean equal vectors
 pub all-equal : (ts ms ns : List ℕ) → AllSmall ts → within ts ms ≡ true → within ts ns ≡ true → spell_all ts ms ≡ spell_all ts ns → ms ≡ ns
-all-equal ts ms ns s h g e = numbers-equal ms ns (sym (all-order ts ms ns s h g) ∙ ap (compare_bits (spell_all ts ms)) (sym e) ∙ bits-equal (spell_all ts ms))
+all-equal ts ms ns s h g e = numbers-equal ms ns (sym (all-order ts ms ns s h g) ∙ ap (compare_bits (spell_all ts ms)) (sym e)
+    ∙ bits-equal (spell_all ts ms))
 
 -- binary digits are determined by their number
 pub binary-is : (w n : ℕ) (bs : List Bool) → length bs ≡ w → number bs ≡ n → bs ≡ binary w n
@@ -152,23 +169,33 @@ binary-is (suc w) n (false ∷ bs) h e =
 -- thresholds from the top
 thresholds-push : (k more n : ℕ) → thresholds k (suc more) n ≡ thresholds k more n ++ leb (k + more) n ∷ []
 thresholds-push k zero n = let e : k ≡ k + 0 = omega arith in ap (λ m. leb m n ∷ []) e
-thresholds-push k (suc more) n = let e : suc k + more ≡ k + suc more = omega arith in ap (λ xs. leb k n ∷ xs) (thresholds-push (suc k) more n) ∙ ap (λ m. leb k n ∷ (thresholds (suc k) more n ++ leb m n ∷ [])) e
+thresholds-push k (suc more) n = let e : suc k + more ≡ k + suc more = omega arith in
+    ap (λ xs. leb k n ∷ xs) (thresholds-push (suc k) more n) ∙ ap (λ m. leb k n ∷ (thresholds (suc k) more n ++ leb m n ∷ [])) e
 
 pub unary-is : (top n : ℕ) → reverse (thresholds 1 top n) ≡ unary top n
 unary-is zero n = refl
 unary-is (suc top) n =
     let e : 1 + top ≡ suc top = omega arith in
-    ap reverse (thresholds-push 1 top n) ∙ reverse-append (thresholds 1 top n) (leb (1 + top) n ∷ []) ∙ ap (λ m. leb m n ∷ reverse (thresholds 1 top n)) e ∙ ap (λ xs. leb (suc top) n ∷ xs) (unary-is top n)
+    ap reverse (thresholds-push 1 top n) ∙ reverse-append (thresholds 1 top n) (leb (1 + top) n ∷ [])
+    ∙ ap (λ m. leb m n ∷ reverse (thresholds 1 top n)) e ∙ ap (λ xs. leb (suc top) n ∷ xs) (unary-is top n)
 
 -- the loops that spell
-pub unary-more : (j w n : ℕ) (vals more all : List Bool) → j ≡ suc w → vals ++ unary j n ≡ all → more ≡ vals ++ leb j n ∷ [] → more ++ unary w n ≡ all
-unary-more j w n vals more all q e f = rw (f, q) (append_assoc vals (leb (suc w) n ∷ []) (unary w n)) ∙ ap (λ k. vals ++ unary k n) (sym q) ∙ e
+pub unary-more : (j w n : ℕ) (vals more all : List Bool) → j ≡ suc w → vals ++ unary j n ≡ all → more ≡ vals ++ leb j n ∷ []
+    → more ++ unary w n ≡ all
+unary-more j w n vals more all q e f = rw (f, q) (append_assoc vals (leb (suc w) n ∷ []) (unary w n))
+    ∙ ap (λ k. vals ++ unary k n) (sym q) ∙ e
 
-pub binary-more : (j w n place rest : ℕ) (vals more all : List Bool) → j ≡ suc w → place ≡ 2 ^ w → ((place ≤ n) × (rest ≡ n - place)) ⊎ ((n < place) × (rest ≡ n)) → vals ++ binary j n ≡ all → more ≡ vals ++ leb place n ∷ [] → more ++ binary w rest ≡ all
-binary-more j w n place rest vals more all q p c e f = rw (f, p) (append_assoc vals (leb (2 ^ w) n ∷ []) (binary w rest)) ∙ ap (λ r. vals ++ leb (2 ^ w) n ∷ binary w r) rest_is ∙ ap (λ k. vals ++ binary k n) (sym q) ∙ e
+pub binary-more : (j w n place rest : ℕ) (vals more all : List Bool) → j ≡ suc w → place ≡ 2 ^ w → ((place ≤ n) × (rest ≡ n - place))
+    ⊎ ((n < place) × (rest ≡ n)) → vals ++ binary j n ≡ all → more ≡ vals ++ leb place n ∷ [] → more ++ binary w rest ≡ all
+binary-more j w n place rest vals more all q p c e f = rw (f, p) (append_assoc vals (leb (2 ^ w) n ∷ []) (binary w rest))
+    ∙ ap (λ r. vals ++ leb (2 ^ w) n ∷ binary w r) rest_is ∙ ap (λ k. vals ++ binary k n) (sym q) ∙ e
   where
     rest_is : rest ≡ cond (leb (2 ^ w) n) (n - 2 ^ w) n
-    rest_is = elim c [ inl h ↦ let l : 2 ^ w ≤ n = omega arith in rw (le-leb (2 ^ w) n l) (omega arith) | inr h ↦ let l : n < 2 ^ w = omega arith in rw (lt-leb (2 ^ w) n l) h.1 ]
+    rest_is = elim c [
+      | inl h ↦ let l : 2 ^ w ≤ n = omega arith in rw (le-leb (2 ^ w) n l) (omega arith)
+      | inr h ↦ let l : n < 2 ^ w =
+          omega arith in rw (lt-leb (2 ^ w) n l) h.1
+    ]
 
 pub spell-low : (top n : ℕ) → top ≤ 64 → spell top n ≡ unary top n
 unfolding spell
@@ -179,21 +206,32 @@ unfolding spell
 spell-high top n h = rw (lt-leb top 64 h) refl
 
 -- the loop over a vector
-pub vector-more : (ts ns : List ℕ) (i d e : ℕ) (vals more all : List Bool) → i < length ts → i < length ns → vals ++ spell_all (drop i ts) (drop i ns) ≡ all → more ≡ vals ++ spell (get_or ts i d) (get_or ns i e) → more ++ spell_all (drop (i + 1) ts) (drop (i + 1) ns) ≡ all
+pub vector-more : (ts ns : List ℕ) (i d e : ℕ) (vals more all : List Bool) → i < length ts → i < length ns
+    → vals ++ spell_all (drop i ts) (drop i ns) ≡ all → more ≡ vals ++ spell (get_or ts i d) (get_or ns i e)
+    → more ++ spell_all (drop (i + 1) ts) (drop (i + 1) ns) ≡ all
 vector-more ts ns i d e vals more all h g inv f =
-    rw f (append_assoc vals (spell (get_or ts i d) (get_or ns i e)) _) ∙ ap (λ xs. vals ++ xs) (sym (at_drop_more (λ xs. spell_all xs (drop i ns)) ts i d h ∙ at_drop_more (λ xs. spell_all (get_or ts i d ∷ drop (i + 1) ts) xs) ns i e g)) ∙ inv
+    rw f (append_assoc vals (spell (get_or ts i d) (get_or ns i e)) _)
+    ∙ ap (λ xs. vals ++ xs) (sym (at_drop_more (λ xs. spell_all xs (drop i ns)) ts i d h
+    ∙ at_drop_more (λ xs. spell_all (get_or ts i d ∷ drop (i + 1) ts) xs) ns i e g)) ∙ inv
 
-within-at : (ts ns : List ℕ) (i d e : ℕ) → i < length ts → i < length ns → within (drop i ts) (drop i ns) ≡ (leb (get_or ns i e) (get_or ts i d) && within (drop (i + 1) ts) (drop (i + 1) ns))
-within-at ts ns i d e h g = at_drop_more (λ xs. within xs (drop i ns)) ts i d h ∙ at_drop_more (λ xs. within (get_or ts i d ∷ drop (i + 1) ts) xs) ns i e g
+within-at : (ts ns : List ℕ) (i d e : ℕ) → i < length ts → i < length ns
+    → within (drop i ts) (drop i ns) ≡ (leb (get_or ns i e) (get_or ts i d) && within (drop (i + 1) ts) (drop (i + 1) ns))
+within-at ts ns i d e h g = at_drop_more (λ xs. within xs (drop i ns)) ts i d h
+    ∙ at_drop_more (λ xs. within (get_or ts i d ∷ drop (i + 1) ts) xs) ns i e g
 
-pub within-more : (ts ns : List ℕ) (i d e : ℕ) (b : Bool) → i < length ts → i < length ns → get_or ns i e ≤ get_or ts i d → within (drop i ts) (drop i ns) ≡ b → within (drop (i + 1) ts) (drop (i + 1) ns) ≡ b
+pub within-more : (ts ns : List ℕ) (i d e : ℕ) (b : Bool) → i < length ts → i < length ns → get_or ns i e ≤ get_or ts i d
+    → within (drop i ts) (drop i ns) ≡ b → within (drop (i + 1) ts) (drop (i + 1) ns) ≡ b
 within-more ts ns i d e b h g k inv = sym (within-at ts ns i d e h g ∙ rw (le-leb (get_or ns i e) (get_or ts i d) k) refl) ∙ inv
 
-pub vector-above : (ts ns : List ℕ) (i d e : ℕ) → i < length ts → i < length ns → get_or ts i d < get_or ns i e → within (drop i ts) (drop i ns) ≡ within ts ns → None ≡ bits_for ts ns
+pub vector-above : (ts ns : List ℕ) (i d e : ℕ) → i < length ts → i < length ns → get_or ts i d < get_or ns i e
+    → within (drop i ts) (drop i ns) ≡ within ts ns → None ≡ bits_for ts ns
 unfolding bits_for
-vector-above ts ns i d e h g k inv = let w : within ts ns ≡ false = sym inv ∙ within-at ts ns i d e h g ∙ rw (lt-leb (get_or ns i e) (get_or ts i d) k) refl in rw w refl
+vector-above ts ns i d e h g k inv = let w : within ts ns ≡ false = sym inv ∙ within-at ts ns i d e h g
+    ∙ rw (lt-leb (get_or ns i e) (get_or ts i d) k) refl in rw w refl
 
-pub vector-end : (ts ns : List ℕ) (i : ℕ) (vals : List Bool) → length ts ≤ i → length ns ≤ i → vals ++ spell_all (drop i ts) (drop i ns) ≡ spell_all ts ns → within (drop i ts) (drop i ns) ≡ within ts ns → Some vals ≡ bits_for ts ns
+pub vector-end : (ts ns : List ℕ) (i : ℕ) (vals : List Bool) → length ts ≤ i → length ns ≤ i
+    → vals ++ spell_all (drop i ts) (drop i ns) ≡ spell_all ts ns → within (drop i ts) (drop i ns) ≡ within ts ns
+    → Some vals ≡ bits_for ts ns
 unfolding bits_for
 vector-end ts ns i vals h g e w =
     let a : drop i ts ≡ [] = at_drop_all (λ xs. xs) ts i h in

@@ -25,7 +25,8 @@ record Spelled (p : Planned) (m : Made (List Lit)) (values : (ℕ → Bool) → 
   below : AllBelow (next m.plan) m.answer
   spells : (v : ℕ → Bool) → FollowsPlan v m.plan → values_at v m.answer ≡ values v
 
-unary-spelled : (p : Planned) (ts : List (ℕ × Lit)) → TermsBelow (next p) ts → Spelled p (unary_bits_on p ts) (λ v. unary (total ts) (weight v ts))
+unary-spelled : (p : Planned) (ts : List (ℕ × Lit)) → TermsBelow (next p) ts
+    → Spelled p (unary_bits_on p ts) (λ v. unary (total ts) (weight v ts))
 unfolding unary_bits_on
 unary-spelled p ts b =
     let x = unary_on-is p (halved ts) (halved-below (next p) ts b) in
@@ -33,22 +34,30 @@ unary-spelled p ts b =
       step = x.step;
       below = AllBelow-reverse (next m.plan) m.answer x.below;
       spells = λ v f.
-          let e : map (lit_true v) m.answer ≡ thresholds 1 (total ts) (weight v ts) = rw (← halved-sum (λ (t : ℕ × Lit). t.0) ts, ← halved-sum (weight_of v) ts, ← x.long) (x.spells v f).0 in
+          let e : map (lit_true v) m.answer ≡ thresholds 1 (total ts) (weight v ts) =
+          rw (← halved-sum (λ (t : ℕ × Lit). t.0) ts, ← halved-sum (weight_of v) ts, ← x.long) (x.spells v f).0 in
           map-reverse (lit_true v) m.answer ∙ ap reverse e ∙ unary-is (total ts) (weight v ts);
     }
 
-binary-spelled : (p : Planned) (ts : List (ℕ × Lit)) → TermsBelow (next p) ts → total ts < 2 ^ 63 → Spelled p (sum_bits_on p ts) (λ v. binary (size (total ts)) (weight v ts))
+binary-spelled : (p : Planned) (ts : List (ℕ × Lit)) → TermsBelow (next p) ts → total ts < 2 ^ 63
+    → Spelled p (sum_bits_on p ts) (λ v. binary (size (total ts)) (weight v ts))
 binary-spelled p ts b h =
     let x = sum_bits_on-is p ts b h in
     let m = sum_bits_on p ts in record {
       step = x.step;
       below = x.below;
-      spells = λ v f. binary-is (size (total ts)) (weight v ts) (values_at v m.answer) (length-map m.answer (lit_true v) ∙ sum_bits_on-length p ts) (x.sums v f);
+      spells = λ v f. binary-is (size (total ts)) (weight v ts) (values_at v m.answer) (length-map m.answer (lit_true v)
+          ∙ sum_bits_on-length p ts) (x.sums v f);
     }
 
-number-spelled : (p : Planned) (ts : List (ℕ × Lit)) → TermsBelow (next p) ts → total ts < 2 ^ 63 → Spelled p (number_on p ts) (λ v. spell (total ts) (weight v ts))
+number-spelled : (p : Planned) (ts : List (ℕ × Lit)) → TermsBelow (next p) ts → total ts < 2 ^ 63
+    → Spelled p (number_on p ts) (λ v. spell (total ts) (weight v ts))
 unfolding number_on spell
-number-spelled p ts b h = elim (cases_Bool (leb (total ts) 64)) [ inl e ↦ rw e (unary-spelled p ts b) | inr e ↦ rw e (binary-spelled p ts b h) ]
+number-spelled p ts b h = elim (cases_Bool (leb (total ts) 64)) [
+  | inl e ↦ rw e (unary-spelled p ts b)
+  | inr e ↦
+      rw e (binary-spelled p ts b h)
+]
 
 TermsBelow-more : (m n : ℕ) (ts : List (ℕ × Lit)) → m ≤ n → TermsBelow m ts → TermsBelow n ts
 TermsBelow-more m n [] h b = tt
@@ -58,7 +67,8 @@ AllTermsBelow-more : (m n : ℕ) (lists : List (List (ℕ × Lit))) → m ≤ n 
 AllTermsBelow-more m n [] h b = tt
 AllTermsBelow-more m n (ts ∷ lists) h b = (TermsBelow-more m n ts h b.0, AllTermsBelow-more m n lists h b.1)
 
-totals-spelled : (p : Planned) (lists : List (List (ℕ × Lit))) → AllTermsBelow (next p) lists → AllSmall (tops lists) → Spelled p (totals_on p lists) (λ v. spell_all (tops lists) (sums v lists))
+totals-spelled : (p : Planned) (lists : List (List (ℕ × Lit))) → AllTermsBelow (next p) lists → AllSmall (tops lists)
+    → Spelled p (totals_on p lists) (λ v. spell_all (tops lists) (sums v lists))
 totals-spelled p [] b h = record { step = Step-refl p; below = tt; spells = λ v f. refl }
 totals-spelled p (ts ∷ lists) b h =
     let one = number_on p ts in
@@ -66,14 +76,16 @@ totals-spelled p (ts ∷ lists) b h =
     let rest = totals_on one.plan lists in
     let y = totals-spelled one.plan lists (AllTermsBelow-more (next p) (next one.plan) lists x.step.more b.1) h.1 in record {
       step = Step-trans p one.plan rest.plan x.step y.step;
-      below = AllBelow-append (next rest.plan) one.answer rest.answer (AllBelow-le (next one.plan) (next rest.plan) one.answer y.step.more x.below) y.below;
+      below = AllBelow-append (next rest.plan) one.answer rest.answer
+          (AllBelow-le (next one.plan) (next rest.plan) one.answer y.step.more x.below) y.below;
       spells = λ v f. map-append (lit_true v) one.answer rest.answer ∙ rw (x.spells v (y.step.follows v f), y.spells v f) refl;
     }
 
 sums-within : (v : ℕ → Bool) (lists : List (List (ℕ × Lit))) → within (tops lists) (sums v lists) ≡ true
 sums-within v [] = refl
 sums-within v (ts ∷ lists) =
-    let h : weight v ts ≤ total ts = omega (arith, weight-le v (halved ts), halved-sum (weight_of v) ts, halved-sum (λ (t : ℕ × Lit). t.0) ts) in
+    let h : weight v ts ≤ total ts =
+    omega (arith, weight-le v (halved ts), halved-sum (weight_of v) ts, halved-sum (λ (t : ℕ × Lit). t.0) ts) in
     and_from (leb (weight v ts) (total ts)) (within (tops lists) (sums v lists)) (le-leb (weight v ts) (total ts) h) (sums-within v lists)
 
 bits_found : (ts ns : List ℕ) → within ts ns ≡ true → bits_for ts ns ≡ Some (spell_all ts ns)
@@ -81,7 +93,8 @@ unfolding bits_for
 bits_found ts ns e = rw e refl
 
 -- what the code planned for a list of clauses
-module _ (s : Clauses) (lists : List (List (ℕ × Lit))) (q : Planned) (bits : List Lit) (range : AllTermsBelow s.vars lists) (small : AllSmall (tops lists)) (built : totals_on (plan_at s) lists ≡ record { plan = q; answer = bits }) where
+module _ (s : Clauses) (lists : List (List (ℕ × Lit))) (q : Planned) (bits : List Lit) (range : AllTermsBelow s.vars lists)
+    (small : AllSmall (tops lists)) (built : totals_on (plan_at s) lists ≡ record { plan = q; answer = bits }) where
   planned : Spelled (plan_at s) (record { plan = q; answer = bits }) (λ v. spell_all (tops lists) (sums v lists))
   planned = let e : s.vars + 0 ≡ s.vars = omega arith in rw (← built) (totals-spelled (plan_at s) lists (rw e range) small)
 
@@ -98,9 +111,12 @@ module _ (s : Clauses) (lists : List (List (ℕ × Lit))) (q : Planned) (bits : 
         below = rw (step-vars s q planned.step) planned.below;
         within_tops = λ v. sums-within v lists;
         spell_sums = λ asked v m. planned.spells v (follows asked v m);
-        found = λ asked v m. rw (bits_found (tops lists) (sums v lists) (sums-within v lists)) (ap Some (sym (planned.spells v (follows asked v m))));
-        order = λ asked v w m n. rw (planned.spells v (follows asked v m), planned.spells w (follows asked w n)) (all-order (tops lists) (sums v lists) (sums w lists) small (sums-within v lists) (sums-within w lists));
-        equal = λ asked v w m n h. all-equal (tops lists) (sums v lists) (sums w lists) small (sums-within v lists) (sums-within w lists) (sym (planned.spells v (follows asked v m)) ∙ h ∙ planned.spells w (follows asked w n));
+        found = λ asked v m. rw (bits_found (tops lists) (sums v lists) (sums-within v lists))
+            (ap Some (sym (planned.spells v (follows asked v m))));
+        order = λ asked v w m n. rw (planned.spells v (follows asked v m), planned.spells w (follows asked w n))
+            (all-order (tops lists) (sums v lists) (sums w lists) small (sums-within v lists) (sums-within w lists));
+        equal = λ asked v w m n h. all-equal (tops lists) (sums v lists) (sums w lists) small (sums-within v lists) (sums-within w lists)
+            (sym (planned.spells v (follows asked v m)) ∙ h ∙ planned.spells w (follows asked w n));
       })
 
 pub number-low : (p : Planned) (ts : List (ℕ × Lit)) (top : ℕ) → top ≡ total ts → top ≤ 64 → number_on p ts ≡ unary_bits_on p ts
@@ -111,7 +127,8 @@ pub number-high : (p : Planned) (ts : List (ℕ × Lit)) (top : ℕ) → top ≡
 unfolding number_on
 number-high p ts top e h = rw (← e, lt-leb top 64 h) refl
 
-pub small-at : (lists : List (List (ℕ × Lit))) (i : ℕ) (d : List (ℕ × Lit)) → AllSmall (tops lists) → i < length lists → total (get_or lists i d) < 2 ^ 63
+pub small-at : (lists : List (List (ℕ × Lit))) (i : ℕ) (d : List (ℕ × Lit)) → AllSmall (tops lists) → i < length lists
+    → total (get_or lists i d) < 2 ^ 63
 small-at [] i d f h = absurd (omega arith)
 small-at (ts ∷ lists) zero d f h = f.0
 small-at (ts ∷ lists) (suc i) d f h = small-at lists i d f.1 (omega arith)

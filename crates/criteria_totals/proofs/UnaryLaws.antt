@@ -34,7 +34,8 @@ clause_true-append v (k ∷ ks) ls = rw (clause_true-append v ks ls) (or-turn (l
     or-turn false b c = refl
 
 -- a literal of a list that spells a number, and its negation
-above-at : (v : ℕ → Bool) (k c : ℕ) (ls : List Lit) (i : ℕ) → map (lit_true v) ls ≡ thresholds k (length ls) c → i < length ls → (clause_true v (above ls i) ≡ leb (k + i) c) × (clause_true v (map negation (above ls i)) ≡ not (leb (k + i) c))
+above-at : (v : ℕ → Bool) (k c : ℕ) (ls : List Lit) (i : ℕ) → map (lit_true v) ls ≡ thresholds k (length ls) c → i < length ls
+    → (clause_true v (above ls i) ≡ leb (k + i) c) × (clause_true v (map negation (above ls i)) ≡ not (leb (k + i) c))
 above-at v k c [] i e h = absurd (omega arith)
 above-at v k c (l ∷ ls) zero e h =
     let x : lit_true v l ≡ leb (k + 0) c = head-same _ _ _ _ e ∙ ap (λ n. leb n c) (add-zero k) in
@@ -62,11 +63,13 @@ above-is v ls c i s =
     ]
 
 -- "not at least i" too
-upto-is : (v : ℕ → Bool) (ls : List Lit) (c i : ℕ) → Spells v ls c → i ≤ length ls → clause_true v (map negation (upto ls i)) ≡ not (leb i c)
+upto-is : (v : ℕ → Bool) (ls : List Lit) (c i : ℕ) → Spells v ls c → i ≤ length ls
+    → clause_true v (map negation (upto ls i)) ≡ not (leb i c)
 upto-is v ls c zero s h = rw (le-leb 0 c (omega arith)) refl
 upto-is v ls c (suc i) s h = let e : 1 + i ≡ suc i = omega arith in (above-at v 1 c ls i s.0 (omega arith)).1 ∙ ap (λ n. not (leb n c)) e
 
-each-true : (v : ℕ → Bool) (f : ℕ → List (List Lit)) (n : ℕ) → ((i : ℕ) → i < n → rules_true v (f i) ≡ true) → rules_true v (each f n) ≡ true
+each-true : (v : ℕ → Bool) (f : ℕ → List (List Lit)) (n : ℕ) → ((i : ℕ) → i < n → rules_true v (f i) ≡ true)
+    → rules_true v (each f n) ≡ true
 each-true v f zero h = refl
 each-true v f (suc n) h = rules_true-append v (each f n) (f n) ∙ rw (each-true v f n (λ i l. h i (omega arith)), h n (omega arith)) refl
 
@@ -85,11 +88,30 @@ not-holds true h = absurd (h refl)
 not-holds false h = refl
 
 module _ (v : ℕ → Bool) (xs ys : List Lit) (c d : ℕ) (s : Spells v xs c) (t : Spells v ys d) where
-  off-at : (k i : ℕ) → i ≤ length xs → k - 1 - i ≤ length ys → rules_true v (off_clause k xs ys i) ≡ ((leb (suc i) c || leb (suc (k - 1 - i)) d) && true)
-  off-at k i h g = rw (le-leb i (length xs) h, le-leb (k - 1 - i) (length ys) g, clause_true-append v (above xs i) (above ys (k - 1 - i)), above-is v xs c i s, above-is v ys d (k - 1 - i) t) refl
+  off-at : (k i : ℕ) → i ≤ length xs → k - 1 - i ≤ length ys
+      → rules_true v (off_clause k xs ys i) ≡ ((leb (suc i) c || leb (suc (k - 1 - i)) d) && true)
+  off-at k i h g =
+      rw (
+        le-leb i (length xs) h,
+        le-leb (k - 1 - i) (length ys) g,
+        clause_true-append v (above xs i) (above ys (k - 1 - i)),
+        above-is v xs
+            c i s,
+        above-is v ys d (k - 1 - i) t,
+      ) refl
 
-  on-at : (k i : ℕ) → i ≤ length xs → k - i ≤ length ys → rules_true v (on_clause k xs ys i) ≡ ((not (leb i c) || not (leb (k - i) d)) && true)
-  on-at k i h g = rw (le-leb i (length xs) h, le-leb (k - i) (length ys) g, map-append negation (upto xs i) (upto ys (k - i)), clause_true-append v (map negation (upto xs i)) (map negation (upto ys (k - i))), upto-is v xs c i s h, upto-is v ys d (k - i) t g) refl
+  on-at : (k i : ℕ) → i ≤ length xs → k - i ≤ length ys
+      → rules_true v (on_clause k xs ys i) ≡ ((not (leb i c) || not (leb (k - i) d)) && true)
+  on-at k i h g =
+      rw (
+        le-leb i (length xs) h,
+        le-leb (k - i) (length ys) g,
+        map-append negation (upto xs i) (upto ys (k - i)),
+        clause_true-append v
+            (map negation (upto xs i)) (map negation (upto ys (k - i))),
+        upto-is v xs c i s h,
+        upto-is v ys d (k - i) t g,
+      ) refl
 
   off-holds : (k i : ℕ) → i < k → k ≤ c + d → rules_true v (off_clause k xs ys i) ≡ true
   off-holds k i l h =
@@ -109,7 +131,8 @@ module _ (v : ℕ → Bool) (xs ys : List Lit) (c d : ℕ) (s : Spells v xs c) (
       let i = max c (k - 1 - length ys) in
       not-holds _ (λ e.
       let one = true-each v (off_clause k xs ys) k i e (omega (arith, s.1)) in
-      let two : rules_true v (off_clause k xs ys i) ≡ false = off-at k i (omega (arith, s.1)) (omega (arith, s.1)) ∙ rw (lt-leb (suc i) c (omega arith), lt-leb (suc (k - 1 - i)) d (omega (arith, t.1))) refl in
+      let two : rules_true v (off_clause k xs ys i) ≡ false = off-at k i (omega (arith, s.1)) (omega (arith, s.1))
+      ∙ rw (lt-leb (suc i) c (omega arith), lt-leb (suc (k - 1 - i)) d (omega (arith, t.1))) refl in
       false≢true (sym two ∙ one))
 
   on-holds : (k i : ℕ) → i < k + 1 → c + d < k → rules_true v (on_clause k xs ys i) ≡ true
@@ -130,7 +153,8 @@ module _ (v : ℕ → Bool) (xs ys : List Lit) (c d : ℕ) (s : Spells v xs c) (
       let i = min c k in
       not-holds _ (λ e.
       let one = true-each v (on_clause k xs ys) (k + 1) i e (omega arith) in
-      let two : rules_true v (on_clause k xs ys i) ≡ false = on-at k i (omega (arith, s.1)) (omega (arith, t.1)) ∙ rw (le-leb i c (omega arith), le-leb (k - i) d (omega arith)) refl in
+      let two : rules_true v (on_clause k xs ys i) ≡ false = on-at k i (omega (arith, s.1)) (omega (arith, t.1))
+      ∙ rw (le-leb i c (omega arith), le-leb (k - i) d (omega arith)) refl in
       false≢true (sym two ∙ one))
 
   -- the gate for "at least k" is one, and means it
@@ -173,11 +197,14 @@ each-below : (n : ℕ) (f : ℕ → List (List Lit)) (k : ℕ) → ((i : ℕ) �
 each-below n f zero h = tt
 each-below n f (suc k) h = AllClausesBelow-append n (each f k) (f k) (each-below n f k h) (h k)
 
-at_least-below : (n k : ℕ) (xs ys : List Lit) → AllBelow n xs → AllBelow n ys → AllClausesBelow n (at_least k xs ys).on × AllClausesBelow n (at_least k xs ys).off
+at_least-below : (n k : ℕ) (xs ys : List Lit) → AllBelow n xs → AllBelow n ys → AllClausesBelow n (at_least k xs ys).on
+    × AllClausesBelow n (at_least k xs ys).off
 unfolding at_least
 at_least-below n k xs ys a b = (
-  each-below n (on_clause k xs ys) (k + 1) (λ i. choice-below n _ _ (negations-below n _ (AllBelow-append n (upto xs i) (upto ys (k - i)) (upto-below n i xs a) (upto-below n (k - i) ys b)))),
-  each-below n (off_clause k xs ys) k (λ i. choice-below n _ _ (AllBelow-append n (above xs i) (above ys (k - 1 - i)) (above-below n i xs a) (above-below n (k - 1 - i) ys b))),
+  each-below n (on_clause k xs ys) (k + 1) (λ i. choice-below n _ _
+      (negations-below n _ (AllBelow-append n (upto xs i) (upto ys (k - i)) (upto-below n i xs a) (upto-below n (k - i) ys b)))),
+  each-below n (off_clause k xs ys) k (λ i. choice-below n _ _
+      (AllBelow-append n (above xs i) (above ys (k - 1 - i)) (above-below n i xs a) (above-below n (k - 1 - i) ys b))),
 )
 
 -- so many literals of a merge, from the k-th on
@@ -187,16 +214,20 @@ record Merges (p : Planned) (m : Made (List Lit)) (k more : ℕ) (n : (ℕ → B
   long : length m.answer ≡ more
   spells : (v : ℕ → Bool) → FollowsPlan v m.plan → map (lit_true v) m.answer ≡ thresholds k more (n v)
 
-merge_from-is : (k more : ℕ) (p : Planned) (xs ys : List Lit) (c d : (ℕ → Bool) → ℕ) → k + more ≤ length xs + length ys + 1 → AllBelow (next p) xs → AllBelow (next p) ys →
-    ((v : ℕ → Bool) → FollowsPlan v p → Spells v xs (c v) × Spells v ys (d v)) → Merges p (merge_from k more p xs ys) k more (λ v. c v + d v)
+merge_from-is : (k more : ℕ) (p : Planned) (xs ys : List Lit) (c d : (ℕ → Bool) → ℕ) → k + more ≤ length xs + length ys + 1
+    → AllBelow (next p) xs → AllBelow (next p) ys →
+    ((v : ℕ → Bool) → FollowsPlan v p → Spells v xs (c v) × Spells v ys (d v))
+    → Merges p (merge_from k more p xs ys) k more (λ v. c v + d v)
 merge_from-is k zero p xs ys c d h a b s = record { step = Step-refl p; below = tt; long = refl; spells = λ v f. refl }
 merge_from-is k (suc more) p xs ys c d h a b s =
     let g = at_least k xs ys in
     let lit = with_gate p g in
     let range = at_least-below (next p) k xs ys a b in
-    let is : (v : ℕ → Bool) → FollowsPlan v p → Agrees v g × (rules_true v g.off ≡ leb k (c v + d v)) = λ v f. at_least-is v xs ys (c v) (d v) (s v f).0 (s v f).1 k (omega arith) in
+    let is : (v : ℕ → Bool) → FollowsPlan v p → Agrees v g × (rules_true v g.off ≡ leb k (c v + d v)) =
+    λ v f. at_least-is v xs ys (c v) (d v) (s v f).0 (s v f).1 k (omega arith) in
     let one : Step p lit.plan = Step-gate p g range.0 range.1 (λ v f. (is v f).0) in
-    let r = merge_from-is (suc k) more lit.plan xs ys c d (omega arith) (AllBelow-le (next p) (next lit.plan) xs one.more a) (AllBelow-le (next p) (next lit.plan) ys one.more b) (λ v f. s v (one.follows v f)) in
+    let r = merge_from-is (suc k) more lit.plan xs ys c d (omega arith) (AllBelow-le (next p) (next lit.plan) xs one.more a)
+    (AllBelow-le (next p) (next lit.plan) ys one.more b) (λ v f. s v (one.follows v f)) in
     let last = (merge_from (suc k) more lit.plan xs ys).plan in record {
       step = Step-trans p lit.plan last one r.step;
       below = (omega (arith, r.step.more), r.below);
@@ -208,11 +239,13 @@ replicate-below : (n k : ℕ) (l : Lit) → var_of l < n → AllBelow n (replica
 replicate-below n zero l h = tt
 replicate-below n (suc k) l h = (h, replicate-below n k l h)
 
-replicate-on : (v : ℕ → Bool) (k more n : ℕ) (l : Lit) → lit_true v l ≡ true → k + more ≤ n + 1 → map (lit_true v) (replicate more l) ≡ thresholds k more n
+replicate-on : (v : ℕ → Bool) (k more n : ℕ) (l : Lit) → lit_true v l ≡ true → k + more ≤ n + 1
+    → map (lit_true v) (replicate more l) ≡ thresholds k more n
 replicate-on v k zero n l t h = refl
 replicate-on v k (suc more) n l t h = rw (t, le-leb k n (omega arith), replicate-on v (suc k) more n l t (omega arith)) refl
 
-replicate-off : (v : ℕ → Bool) (k more n : ℕ) (l : Lit) → lit_true v l ≡ false → n < k → map (lit_true v) (replicate more l) ≡ thresholds k more n
+replicate-off : (v : ℕ → Bool) (k more n : ℕ) (l : Lit) → lit_true v l ≡ false → n < k
+    → map (lit_true v) (replicate more l) ≡ thresholds k more n
 replicate-off v k zero n l t h = refl
 replicate-off v k (suc more) n l t h = rw (t, lt-leb k n h, replicate-off v (suc k) more n l t (omega arith)) refl
 
@@ -226,7 +259,13 @@ replicate-is v w l =
 -- the literals of a tree spell the sum of the weights of true literals
 pub unary_on-is : (p : Planned) (t : Tree (ℕ × Lit)) → TreeBelow (next p) t → CountsTo p (unary_on p t) t
 unary_on-is p none b = record { step = Step-refl p; below = tt; long = refl; spells = λ v f. (refl, omega arith) }
-unary_on-is p (leaf t) b = record { step = Step-refl p; below = replicate-below (next p) t.0 t.1 b; long = length-replicate t.0 t.1; spells = λ v f. replicate-is v t.0 t.1 }
+unary_on-is p (leaf t) b = record {
+  step = Step-refl p;
+  below = replicate-below (next p) t.0 t.1 b;
+  long =
+      length-replicate t.0 t.1;
+  spells = λ v f. replicate-is v t.0 t.1;
+}
 unary_on-is p (node l r) b =
     let left = unary_on p l in
     let x = unary_on-is p l b.0 in
@@ -234,9 +273,12 @@ unary_on-is p (node l r) b =
     let y = unary_on-is left.plan r (TreeBelow-more (next p) (next left.plan) r x.step.more b.1) in
     let more = length left.answer + length right.answer in
     let out = merge_from 1 more right.plan left.answer right.answer in
-    let z = merge_from-is 1 more right.plan left.answer right.answer (λ v. tree_sum (weight_of v) l) (λ v. tree_sum (weight_of v) r) (omega arith) (AllBelow-le (next left.plan) (next right.plan) left.answer y.step.more x.below) y.below (λ v f. (x.spells v (y.step.follows v f), y.spells v f)) in record {
+    let z = merge_from-is 1 more right.plan left.answer right.answer (λ v. tree_sum (weight_of v) l) (λ v. tree_sum (weight_of v) r)
+    (omega arith) (AllBelow-le (next left.plan) (next right.plan) left.answer y.step.more x.below) y.below
+    (λ v f. (x.spells v (y.step.follows v f), y.spells v f)) in record {
       step = Step-trans p left.plan out.plan x.step (Step-trans left.plan right.plan out.plan y.step z.step);
       below = z.below;
       long = z.long ∙ rw (x.long, y.long) refl;
-      spells = λ v f. let g = z.step.follows v f in (z.spells v f ∙ rw z.long refl, omega (arith, z.long, (x.spells v (y.step.follows v g)).1, (y.spells v g).1));
+      spells = λ v f. let g = z.step.follows v f in
+          (z.spells v f ∙ rw z.long refl, omega (arith, z.long, (x.spells v (y.step.follows v g)).1, (y.spells v g).1));
     }

@@ -42,8 +42,10 @@ pub record IsTotals (old new : Clauses) (bits : List Lit) (lists : List (List (�
   pub within_tops : (v : ℕ → Bool) → within (tops lists) (sums v lists) ≡ true
   pub spell_sums : (asked v : ℕ → Bool) → MeetsSince asked v old new → values_at v bits ≡ spell_all (tops lists) (sums v lists)
   pub found : (asked v : ℕ → Bool) → MeetsSince asked v old new → bits_for (tops lists) (sums v lists) ≡ Some (values_at v bits)
-  pub order : (asked v w : ℕ → Bool) → MeetsSince asked v old new → MeetsSince asked w old new → compare_bits (values_at v bits) (values_at w bits) ≡ compare_numbers (sums v lists) (sums w lists)
-  pub equal : (asked v w : ℕ → Bool) → MeetsSince asked v old new → MeetsSince asked w old new → values_at v bits ≡ values_at w bits → sums v lists ≡ sums w lists
+  pub order : (asked v w : ℕ → Bool) → MeetsSince asked v old new → MeetsSince asked w old new
+      → compare_bits (values_at v bits) (values_at w bits) ≡ compare_numbers (sums v lists) (sums w lists)
+  pub equal : (asked v w : ℕ → Bool) → MeetsSince asked v old new → MeetsSince asked w old new → values_at v bits ≡ values_at w bits
+      → sums v lists ≡ sums w lists
 
 -- bits and the greatest values of their sums
 pub record Spelling : Type 0 where

@@ -21,7 +21,8 @@ use std::alloc::{AllocError, Global};
 pub fn totals(alloc: Global, clauses: &mut ClauseList, lists: &[Terms]) -> Result<Bits, AllocError>
     requires in_range { AllTermsBelow clauses.old.vars lists.now }
     requires small { AllSmall (tops lists.now) }
-    ensures built { IfOk result (λ bits. IsBuilt clauses.old clauses.new (totals_on (plan_at clauses.old) lists.now) bits.lits) }
+    ensures built { IfOk result (λ bits. IsBuilt clauses.old clauses.new
+        (totals_on (plan_at clauses.old) lists.now) bits.lits) }
     ensures tops { IfOk result (λ bits. bits.tops ≡ tops lists.now) }
     ensures totals { IfOk result (λ bits. IsTotals clauses.old clauses.new bits.lits lists.now) }
     ensures extends { Extends clauses.old clauses.new }
@@ -35,7 +36,11 @@ pub fn totals(alloc: Global, clauses: &mut ClauseList, lists: &[Terms]) -> Resul
 // Plans the sums of some lists.
 fn plan_totals(alloc: Global, plan: &mut Plan, lists: &[Terms]) -> Result<Bits, AllocError>
     requires { AllSmall (tops lists.now) }
-    ensures built { IfOk result (λ bits. totals_on plan.old lists.now ≡ record { plan = plan.new; answer = bits.lits }) }
+    ensures built { IfOk result (λ bits. totals_on plan.old lists.now ≡ record {
+      plan = plan.new;
+      answer =
+          bits.lits;
+    }) }
     ensures tops { IfOk result (λ bits. bits.tops ≡ tops lists.now) }
 {
     let mut lits = Vec::new(alloc);
@@ -59,7 +64,11 @@ fn plan_number(
 ) -> Result<Vec<Lit>, AllocError>
     requires top { top ≡ total terms.now }
     requires small { total terms.now < 2 ^ 63 }
-    ensures { IfOk result (λ bits. number_on plan.old terms.now ≡ record { plan = plan.new; answer = bits.items }) }
+    ensures { IfOk result (λ bits. number_on plan.old terms.now ≡ record {
+      plan = plan.new;
+      answer =
+          bits.items;
+    }) }
 {
     if top <= 64 {
         plan_unary(alloc, plan, terms)

@@ -16,7 +16,11 @@ pub(crate) fn plan_unary(
     plan: &mut Plan,
     terms: &[(u64, Lit)],
 ) -> Result<Vec<Lit>, AllocError>
-    ensures { IfOk result (λ bits. unary_bits_on plan.old terms.now ≡ record { plan = plan.new; answer = bits.items }) }
+    ensures { IfOk result (λ bits. unary_bits_on plan.old terms.now ≡ record {
+      plan =
+          plan.new;
+      answer = bits.items;
+    }) }
 {
     let mut bits = unary_tree(alloc, plan, terms)?;
     bits.reverse();
@@ -25,7 +29,11 @@ pub(crate) fn plan_unary(
 
 // The literals of a sum, that for the lowest number first.
 fn unary_tree(alloc: Global, plan: &mut Plan, terms: &[(u64, Lit)]) -> Result<Vec<Lit>, AllocError>
-    ensures { IfOk result (λ lits. unary_on plan.old (halved terms.now) ≡ record { plan = plan.new; answer = lits.items }) }
+    ensures { IfOk result (λ lits. unary_on plan.old (halved terms.now) ≡ record {
+      plan =
+          plan.new;
+      answer = lits.items;
+    }) }
 {
     match terms {
         [] => Ok(Vec::new(alloc)),
@@ -55,7 +63,8 @@ fn repeated(alloc: Global, count: u64, lit: Lit) -> Result<Vec<Lit>, AllocError>
 
 // Two sorted lists as one.
 fn merge(alloc: Global, plan: &mut Plan, a: &[Lit], b: &[Lit]) -> Result<Vec<Lit>, AllocError>
-    ensures { IfOk result (λ lits. merge_from 1 (length a.now + length b.now) plan.old a.now b.now ≡ record { plan = plan.new; answer = lits.items }) }
+    ensures { IfOk result (λ lits. merge_from 1 (length a.now + length b.now) plan.old a.now b.now
+        ≡ record { plan = plan.new; answer = lits.items }) }
 {
     let mut lits = Vec::new(alloc);
     for k in 0..a.len() + b.len() {

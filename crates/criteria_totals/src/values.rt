@@ -10,7 +10,8 @@ use std::alloc::{AllocError, Global};
 /// weights. The vector has a number for each list.
 pub fn bits_of(alloc: Global, bits: &Bits, vector: &[u64]) -> Result<Option<Vec<bool>>, AllocError>
     requires { length vector.now ≡ length bits.now.tops }
-    ensures { IfOk result (λ values. option_map (λ v. v.items) values ≡ bits_for bits.now.tops vector.now) }
+    ensures { IfOk result (λ values. option_map (λ v. v.items) values
+        ≡ bits_for bits.now.tops vector.now) }
 {
     let mut values = Vec::new(alloc);
     let tops = bits.tops();

@@ -1,12 +1,10 @@
 -- What holds of what the arguments of each directive say: names are there, and conditions of `provides` have no `^`.
-use Rattle.std.proofs.Common.{◌≡◌, ℕ, Bool, true, false, cond, List, [], ◌∷◌, ◌++◌, refl, ap, arith}
-use Rattle.std.specs.Prelude.{Result, Ok, Err, Option, Some, None, IfOk, IfSome, IsSome}
-use Rattle.std.specs.List.{AllByRecursion}
+use Rattle.std.proofs.Common.{◌≡◌, ℕ, Bool, true, false, cond, List, [], ◌∷◌, refl, ap, arith}
+use Rattle.std.specs.Prelude.{Result, Ok, Err, Option, Some, None, IfOk}
 use Rattle.spec_grammar.specs.Right.{needs_name}
-use Rattle.spec_grammar.specs.Signs.{IsName, is_name}
+use Rattle.spec_grammar.specs.Signs.{is_name}
 use Rattle.spec_grammar.specs.declared.mode.Mode.{Mode}
 use Rattle.spec_grammar.specs.declared.mode.Mode.TheVariants.{LocalCondition, Dependency, Provision}
-use Rattle.spec_grammar.specs.declared.part.Part.{Part}
 use Rattle.spec_grammar.specs.declared.part.Spec.{Spec}
 use Rattle.spec_grammar.specs.declared.fault.SpecFault.{SpecFault}
 use Rattle.spec_grammar.proofs.DraftLaws.{whole}
@@ -31,7 +29,7 @@ use Rattle.directive_arguments.specs.declared.directive.Role.TheVariants.{Reads,
 use Rattle.directive_arguments.specs.declared.given.Given.{Given}
 use Rattle.directive_arguments.specs.declared.given.Options.{Options}
 use Rattle.directive_arguments.specs.declared.given.Positional.{Positional}
-use Rattle.directive_arguments.specs.Results.{Step, then_do, steps}
+use Rattle.directive_arguments.specs.Results.{Step, then_do}
 use Rattle.directive_arguments.specs.Table.{role, takes}
 use Rattle.directive_arguments.specs.Texts.{IsAnswer, answer, in_text, one_by, top_of, part_of, condition, version_of}
 use Rattle.directive_arguments.specs.Given.{read, text_in, with_text, with_text_in, with_value, has_value, further, positional}
@@ -43,7 +41,8 @@ use Rattle.directive_arguments.proofs.ListLaws.{ok_then, any_then, steps_keep, a
 
 -- ---- texts without `^`
 
-local_by : (place : ℕ) (text : List ℕ) (a : Result (List Spec) SpecFault) → IsAnswer LocalCondition text a → IfOk (in_text place (one_by a)) IsLocal
+local_by : (place : ℕ) (text : List ℕ) (a : Result (List Spec) SpecFault) → IsAnswer LocalCondition text a
+    → IfOk (in_text place (one_by a)) IsLocal
 local_by place text (Ok []) h = tt
 local_by place text (Ok (s ∷ [])) h = ap (λ (x : Spec). x.below) (single_part LocalCondition text s refl h)
 local_by place text (Ok (s ∷ t ∷ more)) h = tt
@@ -84,7 +83,8 @@ option_local keyword.Policy r o h = any_then HasLocal (policy_in r) _ (λ b. h)
 option_local keyword.Values r o h = any_then HasLocal (values_in r) _ (λ b. h)
 option_local keyword.Default r o h = any_then HasLocal (default_in r) _ (λ b. h)
 
-keyword_local : (role : Role) (bytes : List ℕ) (place : ℕ) (w : List ℕ) (s : Segment) (g : Given) → GivesLocal g → IfOk (keyword_of_role role bytes directive.Provides place w s g) GivesLocal
+keyword_local : (role : Role) (bytes : List ℕ) (place : ℕ) (w : List ℕ) (s : Segment) (g : Given) → GivesLocal g
+    → IfOk (keyword_of_role role bytes directive.Provides place w s g) GivesLocal
 keyword_local Refuses bytes place w s g h = tt
 keyword_local PassesOver bytes place w s g h = any_then GivesLocal (note place w g.names) _ (λ names. h)
 keyword_local (Reads k) bytes place w s g h =
@@ -105,7 +105,8 @@ arguments_local bytes segments = steps_keep GivesLocal (argument bytes directive
 
 -- ---- texts with a name
 
-named_by : (mode : Mode) (place : ℕ) (text : List ℕ) (a : Result (List Spec) SpecFault) → needs_name mode ≡ true → IsAnswer mode text a → IfOk (top_of (in_text place (one_by a))) IsNamed
+named_by : (mode : Mode) (place : ℕ) (text : List ℕ) (a : Result (List Spec) SpecFault) → needs_name mode ≡ true → IsAnswer mode text a
+    → IfOk (top_of (in_text place (one_by a))) IsNamed
 named_by mode place text (Ok []) needs h = tt
 named_by mode place text (Ok (s ∷ [])) needs h =
     let w = whole mode text (s ∷ []) s h (0, omega arith, refl) in
@@ -118,30 +119,37 @@ named_text mode place text needs = named_by mode place text (answer mode text) n
 
 -- ---- positional values
 
-name_is : (b : Bool) (p : Positional) (place : ℕ) (w : List ℕ) → is_name w ≡ b → AreNamed p → IfOk (cond b (Ok (record p { name = Some w })) (Err (fault.BadArgument place))) AreNamed
+name_is : (b : Bool) (p : Positional) (place : ℕ) (w : List ℕ) → is_name w ≡ b → AreNamed p
+    → IfOk (cond b (Ok (record p { name = Some w })) (Err (fault.BadArgument place))) AreNamed
 name_is true p place w e h = record { name = e; part = h.part; parts = h.parts }
 name_is false p place w e h = tt
 
 text_named : (d : Directive) (place token : ℕ) (w : List ℕ) (p : Positional) → AreNamed p → IfOk (with_text d place token w p) AreNamed
 unfolding with_text
-text_named directive.Version place token w p h = any_then AreNamed (version_of token w) _ (λ v. record { name = h.name; part = h.part; parts = h.parts })
+text_named directive.Version place token w p h =
+    any_then AreNamed (version_of token w) _ (λ v. record { name = h.name; part = h.part; parts = h.parts })
 text_named directive.Variant place token w p h = name_is (is_name w) p place w refl h
 text_named directive.DependsOn place token w p h =
-    ok_then IsNamed AreNamed (part_of Dependency token w) _ (named_text Dependency token w refl) (λ part is. record { name = h.name; part = is; parts = h.parts })
+    ok_then IsNamed AreNamed (part_of Dependency token w) _ (named_text Dependency token w refl)
+    (λ part is. record { name = h.name; part = is; parts = h.parts })
 text_named directive.Provides place token w p h =
     ok_then IsNamed AreNamed (part_of Provision token w) _ (named_text Provision token w refl)
     (λ part is. record { name = h.name; part = h.part; parts = all_push IsNamed p.parts part h.parts is })
-text_named directive.Conflicts place token w p h = any_then AreNamed (condition false token w) _ (λ s. record { name = h.name; part = h.part; parts = h.parts })
-text_named directive.Requires place token w p h = any_then AreNamed (condition false token w) _ (λ s. record { name = h.name; part = h.part; parts = h.parts })
+text_named directive.Conflicts place token w p h =
+    any_then AreNamed (condition false token w) _ (λ s. record { name = h.name; part = h.part; parts = h.parts })
+text_named directive.Requires place token w p h =
+    any_then AreNamed (condition false token w) _ (λ s. record { name = h.name; part = h.part; parts = h.parts })
 
 text_in_named : (o : Option (List ℕ)) (d : Directive) (r : Reading) (p : Positional) → AreNamed p → IfOk (with_text_in o d r p) AreNamed
 text_in_named None d r p h = tt
 text_in_named (Some w) d r p h = text_named d r.place r.token w p h
 
-value_named : (bytes : List ℕ) (d : Directive) (s : Segment) (p : Positional) → AreNamed p → IfOk (then_do (read bytes s) (λ r. with_value d r p)) AreNamed
+value_named : (bytes : List ℕ) (d : Directive) (s : Segment) (p : Positional) → AreNamed p
+    → IfOk (then_do (read bytes s) (λ r. with_value d r p)) AreNamed
 value_named bytes d s p h = any_then AreNamed (read bytes s) _ (λ r. text_in_named (text_in r.value) d r p h)
 
-further_named : (c : Count) (bytes : List ℕ) (d : Directive) (s : Segment) (p : Positional) → AreNamed p → IfOk (further c bytes d s p) AreNamed
+further_named : (c : Count) (bytes : List ℕ) (d : Directive) (s : Segment) (p : Positional) → AreNamed p
+    → IfOk (further c bytes d s p) AreNamed
 further_named count.One bytes d s p h = tt
 further_named count.OneAndOthers bytes d s p h = h
 further_named count.OneOrMore bytes d s p h = value_named bytes d s p h
@@ -156,11 +164,13 @@ positional_named bytes d s p h = by (has_value d p)
 
 -- ---- all arguments
 
-keyword_named : (role : Role) (bytes : List ℕ) (d : Directive) (place : ℕ) (w : List ℕ) (s : Segment) (g : Given) → GivesNamed g → IfOk (keyword_of_role role bytes d place w s g) GivesNamed
+keyword_named : (role : Role) (bytes : List ℕ) (d : Directive) (place : ℕ) (w : List ℕ) (s : Segment) (g : Given) → GivesNamed g
+    → IfOk (keyword_of_role role bytes d place w s g) GivesNamed
 keyword_named Refuses bytes d place w s g h = tt
 keyword_named PassesOver bytes d place w s g h = any_then GivesNamed (note place w g.names) _ (λ names. h)
 keyword_named (Reads k) bytes d place w s g h =
-    any_then GivesNamed (note place w g.names) _ (λ names. any_then GivesNamed (read bytes s) _ (λ r. any_then GivesNamed (option d k r g.options) _ (λ o. h)))
+    any_then GivesNamed (note place w g.names) _
+    (λ names. any_then GivesNamed (read bytes s) _ (λ r. any_then GivesNamed (option d k r g.options) _ (λ o. h)))
 
 argument_named : (bytes : List ℕ) (d : Directive) (s : Segment) (g : Given) → GivesNamed g → IfOk (argument bytes d s g) GivesNamed
 unfolding argument
@@ -172,4 +182,5 @@ argument_named bytes d s g h = by (keyword_of s)
 
 pub arguments_named : (bytes : List ℕ) (d : Directive) (segments : List Segment) → IfOk (arguments bytes d segments) GivesNamed
 unfolding arguments
-arguments_named bytes d segments = steps_keep GivesNamed (argument bytes d) (argument_named bytes d) segments nothing_given (record { name = tt; part = tt; parts = tt })
+arguments_named bytes d segments = steps_keep GivesNamed (argument bytes d) (argument_named bytes d) segments nothing_given
+    (record { name = tt; part = tt; parts = tt })

@@ -1,5 +1,5 @@
 -- Steps that keep what holds, and lists.
-use Rattle.std.proofs.Common.{◌≡◌, ℕ, Bool, true, false, List, [], ◌∷◌, ◌++◌, length, map, take, refl, zero, suc}
+use Rattle.std.proofs.Common.{◌≡◌, ℕ, Bool, true, List, [], ◌∷◌, ◌++◌, map, take, refl, zero, suc}
 use Rattle.std.specs.Prelude.{Result, Ok, Err, IfOk, IfSome}
 use Rattle.std.specs.List.{list_all, AllByRecursion, slice_get}
 use Rattle.std.proofs.lemmas.Bool.{and_from}
@@ -7,7 +7,8 @@ use Rattle.directive_arguments.specs.Results.{then_do, steps}
 
 -- ---- steps
 
-pub ok_then : {A B E : Type 0} (P : A → Type 0) (Q : B → Type 0) (a : Result A E) (f : A → Result B E) → IfOk a P → ((x : A) → P x → IfOk (f x) Q) → IfOk (then_do a f) Q
+pub ok_then : {A B E : Type 0} (P : A → Type 0) (Q : B → Type 0) (a : Result A E) (f : A → Result B E) → IfOk a P
+    → ((x : A) → P x → IfOk (f x) Q) → IfOk (then_do a f) Q
 ok_then P Q (Ok x) f p q = q x p
 ok_then P Q (Err e) f p q = tt
 
@@ -19,7 +20,8 @@ pub ok_both : {A E : Type 0} (P Q : A → Type 0) (a : Result A E) → IfOk a P 
 ok_both P Q (Ok x) p q = (p, q)
 ok_both P Q (Err e) p q = tt
 
-pub steps_keep : {X S E : Type 0} (P : S → Type 0) (f : X → S → Result S E) → ((x : X) (s : S) → P s → IfOk (f x s) P) → (xs : List X) (s : S) → P s → IfOk (steps f xs s) P
+pub steps_keep : {X S E : Type 0} (P : S → Type 0) (f : X → S → Result S E) → ((x : X) (s : S) → P s → IfOk (f x s) P)
+    → (xs : List X) (s : S) → P s → IfOk (steps f xs s) P
 steps_keep P f keep [] s p = p
 steps_keep P f keep (x ∷ xs) s p = ok_then P P (f x s) (steps f xs) (keep x s p) (λ t q. steps_keep P f keep xs t q)
 
@@ -46,7 +48,8 @@ pub all_weaker : {X : Type 0} (P Q : X → Type 0) → ((x : X) → P x → Q x)
 all_weaker P Q f [] p = tt
 all_weaker P Q f (x ∷ xs) p = (f x p.0, all_weaker P Q f xs p.1)
 
-pub all_map : {X Y : Type 0} (P : X → Type 0) (Q : Y → Type 0) (f : X → Y) → ((x : X) → P x → Q (f x)) → (xs : List X) → AllByRecursion P xs → AllByRecursion Q (map f xs)
+pub all_map : {X Y : Type 0} (P : X → Type 0) (Q : Y → Type 0) (f : X → Y) → ((x : X) → P x → Q (f x)) → (xs : List X) → AllByRecursion P xs
+    → AllByRecursion Q (map f xs)
 all_map P Q f p [] h = tt
 all_map P Q f p (x ∷ xs) h = (p x h.0, all_map P Q f p xs h.1)
 

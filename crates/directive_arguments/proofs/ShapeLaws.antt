@@ -1,12 +1,11 @@
 -- What variants are has a right default.
-use Rattle.std.proofs.Common.{◌≡◌, ℕ, ◌<◌, Bool, true, false, cond, List, [], length, refl, arith}
-use Rattle.std.specs.Prelude.{Option, Some, None, IfSome, ◌&&◌, ◌||◌, ◌==◌, nat_lt}
+use Rattle.std.proofs.Common.{◌≡◌, ℕ, ◌<◌, Bool, true, false, cond, [], length, refl, arith}
+use Rattle.std.specs.Prelude.{Option, Some, None, IfSome, ◌&&◌, ◌||◌, nat_lt}
 use Rattle.std.specs.Option.{option_map}
 use Rattle.std.proofs.lemmas.Bool.{ltb-true, eq-eqb, and_parts, and_from}
 use Rattle.variant_values.specs.Texts.{Texts, with_texts}
 use Rattle.recipe_values.specs.declared.value.Value.{Value}
 use Rattle.conditions.specs.Right.{has_all, is_count_of}
-use Rattle.directive_arguments.specs.declared.variant.Shape.{Shape}
 use Rattle.directive_arguments.specs.Said.{IsShape}
 use Rattle.directive_arguments.specs.Variants.{switch, bool_shape, kind_of, default_texts, is_right_default, shape_by, shape_with}
 
@@ -17,7 +16,8 @@ count_is false n some e =
     let below : n < 2 = ltb-true n 2 e in
     eq-eqb n 1 (omega (arith, above, below))
 
-valued_is : (b : Bool) (multi : Bool) (values default : Texts) → is_right_default multi values default ≡ b → IfSome (cond b (Some (record { kind = kind_of multi; values = values; default = default })) None) IsShape
+valued_is : (b : Bool) (multi : Bool) (values default : Texts) → is_right_default multi values default ≡ b
+    → IfSome (cond b (Some (record { kind = kind_of multi; values = values; default = default })) None) IsShape
 valued_is true multi values default e =
     let n = length default in
     let outer = and_parts (nat_lt 0 n && (multi || nat_lt n 2)) (has_all values default) e in

@@ -38,21 +38,26 @@ drop_past (x ∷ xs) (suc i) h = drop_past xs i (omega arith)
 
 -- ---- loops
 
-pub steps_here : {X S : Type 0} (f : X → S → Step S) (xs : List X) (i : ℕ) (x : X) (s : S) → i < length xs → x ≡ get_or xs i x → steps f (drop i xs) s ≡ then_do (f x s) (steps f (drop (i + 1) xs))
+pub steps_here : {X S : Type 0} (f : X → S → Step S) (xs : List X) (i : ℕ) (x : X) (s : S) → i < length xs → x ≡ get_or xs i x
+    → steps f (drop i xs) s ≡ then_do (f x s) (steps f (drop (i + 1) xs))
 steps_here f xs i x s h is = rw (drop_here xs i x h is) refl
 
 pub steps_past : {X S : Type 0} (f : X → S → Step S) (xs : List X) (i : ℕ) (s : S) → length xs ≤ i → steps f (drop i xs) s ≡ Ok s
 steps_past f xs i s h = rw (drop_past xs i h) refl
 
 -- a step that was taken
-pub steps_ok : {X S : Type 0} (f : X → S → Step S) (xs : List X) (i : ℕ) (x : X) (s t : S) (all : Step S) → i < length xs → x ≡ get_or xs i x → steps f (drop i xs) s ≡ all → f x s ≡ Ok t → steps f (drop (i + 1) xs) t ≡ all
+pub steps_ok : {X S : Type 0} (f : X → S → Step S) (xs : List X) (i : ℕ) (x : X) (s t : S) (all : Step S) → i < length xs
+    → x ≡ get_or xs i x → steps f (drop i xs) s ≡ all → f x s ≡ Ok t → steps f (drop (i + 1) xs) t ≡ all
 steps_ok f xs i x s t all h is inv took = let here = steps_here f xs i x s h is in let then_t = rw took at here in sym then_t ∙ inv
 
 -- a step with a fault
-pub steps_err : {X S : Type 0} (f : X → S → Step S) (xs : List X) (i : ℕ) (x : X) (s : S) (all : Step S) (e : ArgumentFault) → i < length xs → x ≡ get_or xs i x → steps f (drop i xs) s ≡ all → Fails e (f x s) → Fails e all
-steps_err f xs i x s all e h is inv fails = fails_along e _ _ (sym (steps_here f xs i x s h is) ∙ inv) (fails_then e (f x s) (steps f (drop (i + 1) xs)) fails)
+pub steps_err : {X S : Type 0} (f : X → S → Step S) (xs : List X) (i : ℕ) (x : X) (s : S) (all : Step S) (e : ArgumentFault) → i < length xs
+    → x ≡ get_or xs i x → steps f (drop i xs) s ≡ all → Fails e (f x s) → Fails e all
+steps_err f xs i x s all e h is inv fails =
+    fails_along e _ _ (sym (steps_here f xs i x s h is) ∙ inv) (fails_then e (f x s) (steps f (drop (i + 1) xs)) fails)
 
 -- ---- elements of a default
 
-pub wrong_here : (xs : List Element) (i : ℕ) (x : Element) → i < length xs → x ≡ get_or xs i x → is_default x.scalar ≡ false → wrong_element (drop i xs) ≡ Some x.place
+pub wrong_here : (xs : List Element) (i : ℕ) (x : Element) → i < length xs → x ≡ get_or xs i x → is_default x.scalar ≡ false
+    → wrong_element (drop i xs) ≡ Some x.place
 wrong_here xs i x h is none = rw (drop_here xs i x h is, none) refl

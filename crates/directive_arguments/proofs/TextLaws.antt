@@ -40,7 +40,8 @@ found_by mode text specs s (Err e) h = let same : e ≡ spec.OutOfMemory = only_
 pub found : (mode : Mode) (text : List ℕ) (specs : List Spec) → Spells mode text specs → answer mode text ≡ Ok specs
 found mode text specs s = found_by mode text specs s (answer mode text) (answer_is mode text)
 
-fault_by : (mode : Mode) (text : List ℕ) (e : SpecFault) → IsFault mode text e → (e ≢ spec.OutOfMemory) → (a : Answer) → IsAnswer mode text a → a ≡ Err e
+fault_by : (mode : Mode) (text : List ℕ) (e : SpecFault) → IsFault mode text e → (e ≢ spec.OutOfMemory) → (a : Answer)
+    → IsAnswer mode text a → a ≡ Err e
 fault_by mode text e f ne (Ok specs) h = absurd (ne (only_memory mode text specs e h f))
 fault_by mode text e f ne (Err spec.OutOfMemory) h = absurd h
 fault_by mode text e f ne (Err d) h = ap (λ (x : SpecFault). let r : Answer = Err x in r) (one_fault mode text d e h f (λ same. cc) ne)
@@ -61,7 +62,8 @@ only_answer mode text a h = sym (only_by mode text a h)
 pub spec_found : (mode : Mode) (place : ℕ) (text : List ℕ) (s : Spec) → Spells mode text (s ∷ []) → spec_of mode place text ≡ Ok s
 spec_found mode place text s h = rw (found mode text (s ∷ []) h) refl
 
-pub spec_fault : (mode : Mode) (place : ℕ) (text : List ℕ) (e : SpecFault) → IsFault mode text e → Fails (text_fault place e) (spec_of mode place text)
+pub spec_fault : (mode : Mode) (place : ℕ) (text : List ℕ) (e : SpecFault) → IsFault mode text e
+    → Fails (text_fault place e) (spec_of mode place text)
 spec_fault mode place text spec.OutOfMemory h = tt
 spec_fault mode place text e h = rw (fault_found mode text e h (λ same. cc)) refl
 
@@ -71,6 +73,7 @@ alone p = record { top = p; below = [] }
 pub part_found : (mode : Mode) (place : ℕ) (text : List ℕ) (p : Part) → Spells mode text (alone p ∷ []) → part_of mode place text ≡ Ok p
 part_found mode place text p h = rw (found mode text (alone p ∷ []) h) refl
 
-pub part_fault : (mode : Mode) (place : ℕ) (text : List ℕ) (e : SpecFault) → IsFault mode text e → Fails (text_fault place e) (part_of mode place text)
+pub part_fault : (mode : Mode) (place : ℕ) (text : List ℕ) (e : SpecFault) → IsFault mode text e
+    → Fails (text_fault place e) (part_of mode place text)
 part_fault mode place text spec.OutOfMemory h = tt
 part_fault mode place text e h = rw (fault_found mode text e h (λ same. cc)) refl

@@ -30,8 +30,10 @@ note_none place w names h = none_by (is_utf8 w) (once place w names) (Err (fault
 
 pub has_all_decides : (values texts : Texts) → Decides (has_all values texts) (All (Contains values) texts)
 has_all_decides values texts = (
-  λ e. λ k d lt. Contains-from_any (λ x y same. (bytes_eq-Decides x y).0 same) _ values (AllPass-from_list_all (λ w. list_any (bytes_eq w) values) texts e k d lt),
-  λ h. list_all-from_AllPass (λ w. list_any (bytes_eq w) values) texts (λ k d lt. list_any-from_Contains nat_list_eq_equiv _ values (h k d lt)),
+  λ e. λ k d lt. Contains-from_any (λ x y same. (bytes_eq-Decides x y).0 same) _ values
+      (AllPass-from_list_all (λ w. list_any (bytes_eq w) values) texts e k d lt),
+  λ h. list_all-from_AllPass (λ w. list_any (bytes_eq w) values) texts
+      (λ k d lt. list_any-from_Contains nat_list_eq_equiv _ values (h k d lt)),
 )
 
 -- ---- pieces of a text

@@ -1,5 +1,5 @@
 -- What holds of what arguments say.
-use Rattle.std.specs.Prelude.{◌≡◌, ◌&&◌, true, [], length, Option, Some, None, IfSome, IsSome}
+use Rattle.std.specs.Prelude.{◌≡◌, ◌&&◌, true, [], length, Option, IfSome, IsSome}
 use Rattle.std.specs.List.{AllByRecursion}
 use Rattle.spec_grammar.specs.Signs.{IsName}
 use Rattle.spec_grammar.specs.declared.part.Part.{Part}

@@ -74,7 +74,8 @@ fn keyword(
     segment: Segment,
     given: &mut Given,
 ) -> Result<(), ArgumentFault>
-    ensures { Gives result given.new (keyword (role directive word.now) bytes.now directive place word.now segment given.old) }
+    ensures { Gives result given.new
+        (keyword (role directive word.now) bytes.now directive place word.now segment given.old) }
 {
     match role(directive, word) {
         Role::Refuses => Err(ArgumentFault::Unsupported(place)),

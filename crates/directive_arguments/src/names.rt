@@ -36,7 +36,8 @@ impl Names {
     /// Adds a name, unless it is there already; whether it is new. Takes constant time on average.
     pub fn add(&mut self, name: Word) -> Result<bool, AllocError>
         ensures new { IfOk result (λ is_new. is_new ≡ not (list_any (bytes_eq name) self.old)) }
-        ensures names { IfOk result (λ is_new. self.new ≡ (if is_new then self.old ++ name ∷ [] else self.old)) }
+        ensures names { IfOk result (λ is_new. self.new
+            ≡ (if is_new then self.old ++ name ∷ [] else self.old)) }
     {
         Ok(self.set.insert(name)?)
     }

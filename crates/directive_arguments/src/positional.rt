@@ -184,7 +184,8 @@ fn read_positional(
     segment: Segment,
     p: &mut Positional,
 ) -> Result<(), ArgumentFault>
-    ensures { Gives result p.new (then_do (read bytes.now segment) (λ r. with_value directive r p.old)) }
+    ensures { Gives result p.new (then_do (read bytes.now segment)
+        (λ r. with_value directive r p.old)) }
 {
     let reading = read(alloc, bytes, segment)?;
     with_value(alloc, directive, &reading, p)
@@ -198,7 +199,8 @@ fn further(
     segment: Segment,
     p: &mut Positional,
 ) -> Result<(), ArgumentFault>
-    ensures { Gives result p.new (further (takes directive).positional bytes.now directive segment p.old) }
+    ensures { Gives result p.new (further (takes directive).positional bytes.now directive
+        segment p.old) }
 {
     match count_of(directive) {
         Count::One => Err(ArgumentFault::Unsupported(place_of(&segment))),

@@ -27,8 +27,10 @@ pub fn answer_laws()
 /// Whatever arguments say, names stand where they are needed; conditions of `provides` have no `^`; and each variant's
 /// default is allowed, with as many values as its kind takes.
 pub fn argument_laws()
-    ensures named { (bytes : List ℕ) (d : Directive) (segments : List Segment) → IfOk (arguments bytes d segments) GivesNamed }
-    ensures local { (bytes : List ℕ) (segments : List Segment) → IfOk (arguments bytes directive.Provides segments) GivesLocal }
+    ensures named { (bytes : List ℕ) (d : Directive) (segments : List Segment)
+        → IfOk (arguments bytes d segments) GivesNamed }
+    ensures local { (bytes : List ℕ) (segments : List Segment)
+        → IfOk (arguments bytes directive.Provides segments) GivesLocal }
     ensures default { (options : Options) → IfSome (shape options) IsShape }
 {}
 

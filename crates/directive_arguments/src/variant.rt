@@ -123,7 +123,8 @@ fn element_texts(alloc: Global, elements: &[Element]) -> Result<Vec<Word>, Alloc
 
 /// The pieces of a text between its commas.
 fn pieces<'a>(alloc: Global, text: &'a str) -> Result<Vec<&'a str>, AllocError>
-    ensures { IfOk result (λ found. map (λ piece. piece.now) found.items ≡ slice_split (λ b. b == 44) text.now) }
+    ensures { IfOk result (λ found. map (λ piece. piece.now) found.items
+        ≡ slice_split (λ b. b == 44) text.now) }
 {
     text.split(',').collect(alloc)
 }
@@ -197,7 +198,8 @@ fn with_values(
     values: ValueSet,
     value: &Value,
 ) -> Result<Option<Shape>, AllocError>
-    ensures { IfOk result (λ shape. shape ≡ valued_shape multi values (with_texts [] (default_texts multi value.now))) }
+    ensures { IfOk result (λ shape. shape ≡ valued_shape multi values
+        (with_texts [] (default_texts multi value.now))) }
 {
     let texts = default_texts(alloc, multi, value)?;
     Ok(valued_shape(multi, values, ValueSet::from_words(texts)))

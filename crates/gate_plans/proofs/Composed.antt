@@ -19,7 +19,8 @@ pub clause_true-agree : (n : ℕ) (v w : ℕ → Bool) → Agree n v w → (ls :
 clause_true-agree n v w a [] b = refl
 clause_true-agree n v w a (l ∷ ls) b = rw (lit_true-agree n v w a l b.0, clause_true-agree n v w a ls b.1) refl
 
-pub Meets-agree : (asked : ℕ → Bool) (n : ℕ) (v w : ℕ → Bool) → Agree n v w → (es : List Entry) → AllInRange n es → Meets asked v es → Meets asked w es
+pub Meets-agree : (asked : ℕ → Bool) (n : ℕ) (v w : ℕ → Bool) → Agree n v w → (es : List Entry) → AllInRange n es → Meets asked v es
+    → Meets asked w es
 Meets-agree asked n v w a [] r m = tt
 Meets-agree asked n v w a (e ∷ es) r m =
     (ap (λ b. not (counts asked e.label) || b) (sym (clause_true-agree n v w a e.clause r.0)) ∙ m.0, Meets-agree asked n v w a es r.1 m.1)
@@ -47,7 +48,8 @@ pub since-from : (a b : Clauses) (es : List Entry) → b.entries ≡ a.entries +
 since-from a b es e = rw e (drop-append_seam a.entries es)
 
 since-parts : (a b c : Clauses) → Grows a b → Grows b c → since a c ≡ since a b ++ since b c
-since-parts a b c g h = since-from a c (since a b ++ since b c) (whole b c h ∙ ap (λ es. es ++ since b c) (whole a b g) ∙ append_assoc a.entries (since a b) (since b c))
+since-parts a b c g h = since-from a c (since a b ++ since b c) (whole b c h ∙ ap (λ es. es ++ since b c) (whole a b g)
+    ∙ append_assoc a.entries (since a b) (since b c))
 
 pub Grows-refl : (a : Clauses) → Grows a a
 Grows-refl a = Grows-from a a [] (sym (append-nil a.entries)) (omega arith) tt
@@ -59,10 +61,12 @@ Grows-trans a b c g h =
     (omega (arith, g.more, h.more))
     (AllInRange-append c.vars (since a b) (since b c) (AllInRange-le b.vars c.vars (since a b) h.more g.in_range) h.in_range)
 
-pub MeetsSince-parts : (asked v : ℕ → Bool) (a b c : Clauses) → Grows a b → Grows b c → MeetsSince asked v a c → MeetsSince asked v a b × MeetsSince asked v b c
+pub MeetsSince-parts : (asked v : ℕ → Bool) (a b c : Clauses) → Grows a b → Grows b c → MeetsSince asked v a c → MeetsSince asked v a b
+    × MeetsSince asked v b c
 MeetsSince-parts asked v a b c g h m = Meets-parts asked v (since a b) (since b c) (rw (since-parts a b c g h) at m)
 
-pub MeetsSince-join : (asked v : ℕ → Bool) (a b c : Clauses) → Grows a b → Grows b c → MeetsSince asked v a b → MeetsSince asked v b c → MeetsSince asked v a c
+pub MeetsSince-join : (asked v : ℕ → Bool) (a b c : Clauses) → Grows a b → Grows b c → MeetsSince asked v a b → MeetsSince asked v b c
+    → MeetsSince asked v a c
 MeetsSince-join asked v a b c g h m n = rw (since-parts a b c g h) (Meets-append asked v (since a b) (since b c) m n)
 
 pub Agree-trans : (m n : ℕ) (u v w : ℕ → Bool) → m ≤ n → Agree m u v → Agree n v w → Agree m u w
@@ -89,7 +93,8 @@ Says-then a b c r p q d e link local = record {
 }
 
 -- the same rule in other words
-pub Says-as : (a b : Clauses) (r q : (ℕ → Bool) → (ℕ → Bool) → Bool) → Says a b r → ((asked v : ℕ → Bool) → r asked v ≡ q asked v) → Says a b q
+pub Says-as : (a b : Clauses) (r q : (ℕ → Bool) → (ℕ → Bool) → Bool) → Says a b r
+    → ((asked v : ℕ → Bool) → r asked v ≡ q asked v) → Says a b q
 Says-as a b r q d e = record {
   grows = d.grows;
   only = λ asked v m. sym (e asked v) ∙ d.only asked v m;
@@ -104,12 +109,14 @@ Extends-refl a = record {
 }
 
 pub Extends-trans : (a b c : Clauses) → Extends a b → Extends b c → Extends a c
-Extends-trans a b c d e = Says-then a b c (λ asked v. true) (λ asked v. true) (λ asked v. true) d e (λ asked v m. refl) (λ asked v w g. refl)
+Extends-trans a b c d e = Says-then a b c (λ asked v. true) (λ asked v. true) (λ asked v. true) d e (λ asked v m. refl)
+    (λ asked v w g. refl)
 
 -- definitions after a rule
 pub Says-extends : (a b c : Clauses) (r : (ℕ → Bool) → (ℕ → Bool) → Bool) → Says a b r → Extends b c → Says a c r
 Says-extends a b c r d e =
-    Says-as a c _ r (Says-then a b c r (λ asked v. true) (λ asked v. true) d e (λ asked v m. refl) (λ asked v w g. refl)) (λ asked v. and-true (r asked v))
+    Says-as a c _ r (Says-then a b c r (λ asked v. true) (λ asked v. true) d e (λ asked v m. refl) (λ asked v w g. refl))
+    (λ asked v. and-true (r asked v))
   where
     and-true : (x : Bool) → (x && true) ≡ x
     and-true true = refl

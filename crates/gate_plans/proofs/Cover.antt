@@ -1,16 +1,16 @@
 -- One side of the gate for some literal of a list.
-use Rattle.std.proofs.Common.{◌≡◌, ℕ, ◌+◌, ◌<◌, ◌≤◌, Bool, true, false, not, ◌&&◌, ◌||◌, List, [], ◌∷◌, ◌++◌, length, take, map, refl, sym, ap, ◌∙◌, subst, inl, inr, arith}
+use Rattle.std.proofs.Common.{◌≡◌, ℕ, ◌+◌, Bool, true, false, not, ◌&&◌, ◌||◌, List, [], ◌∷◌, ◌++◌, length, take, map, refl, sym, ap, ◌∙◌, inl, inr, arith}
 use Rattle.std.proofs.lemmas.Bool.{cases_lt}
 use Rattle.std.proofs.lemmas.List.{take-append-le, take_all, map-append}
 use Rattle.std.proofs.Math.Seq.{take-append_seam}
 use Rattle.clause_store.specs.declared.Lit.{Lit}
 use Rattle.clause_store.specs.declared.Label.TheVariants.{Structure}
 use Rattle.clause_store.specs.Lits.{negation, lit_true, clause_true, AllBelow}
-use Rattle.clause_store.specs.Clauses.{Clauses, Meets}
+use Rattle.clause_store.specs.Clauses.{Clauses}
 use Rattle.clause_store.proofs.Entries.{Meets-parts}
 use Rattle.clause_store.proofs.Meaning.{lit_true-negation}
 use Rattle.gate_plans.specs.Growth.{Extends, DefinesLit, CoversLit, MeetsSince}
-use Rattle.gate_plans.specs.Gates.{Partial, AllClausesBelow, clauses_from, gate_rules, headed, labelled, lit_of, rules_true, with_defined}
+use Rattle.gate_plans.specs.Gates.{Partial, AllClausesBelow, clauses_from, gate_rules, labelled, lit_of, rules_true, with_defined}
 use Rattle.gate_plans.specs.Shapes.{any_of, singles, cover_rules, with_cover}
 use Rattle.gate_plans.proofs.Composed.{Grows-from, since-from}
 use Rattle.gate_plans.proofs.KeptClauses.{AllClausesBelow-take, labelled-in_range, rules-true}
@@ -33,7 +33,8 @@ covered false true h e = h
 covered false false h e = e
 
 -- from the clauses that the code made for the next variable
-module _ (s : Clauses) (ls : List Lit) (b : AllBelow s.vars ls) (cs : List (List Lit)) (x : Lit) (e : cs ≡ clauses_from (cover_rules x ls)) (h : x ≡ lit_of s.vars) where
+module _ (s : Clauses) (ls : List Lit) (b : AllBelow s.vars ls) (cs : List (List Lit)) (x : Lit) (e : cs ≡ clauses_from (cover_rules x ls))
+    (h : x ≡ lit_of s.vars) where
   abbrev all : List (List Lit)
   all = clauses_from (gate_rules x (any_of ls))
 
@@ -75,16 +76,20 @@ module _ (s : Clauses) (ls : List Lit) (b : AllBelow s.vars ls) (cs : List (List
 
     front-met : (asked w : ℕ → Bool) → MeetsSince asked w s (with_defined s all) → MeetsSince asked w s new
     front-met asked w m =
-        let n = rw (since-from s (with_defined s all) (map (labelled Structure) all) refl, all-is, map-append (labelled Structure) cs rest) at m in
-        rw (since-from s new (map (labelled Structure) cs) entries) (Meets-parts asked w (map (labelled Structure) cs) (map (labelled Structure) rest) n).0
+        let n = rw (since-from s (with_defined s all) (map (labelled Structure) all) refl, all-is, map-append (labelled Structure) cs rest)
+        at m in
+        rw (since-from s new (map (labelled Structure) cs) entries)
+        (Meets-parts asked w (map (labelled Structure) cs) (map (labelled Structure) rest) n).0
 
     pub cover-gate : CoversLit s new x (λ v. clause_true v ls)
     cover-gate = record {
-      grows = Grows-from s new (map (labelled Structure) cs) entries (omega (arith, vars)) (labelled-in_range new.vars Structure cs (rw vars cover-below));
+      grows = Grows-from s new (map (labelled Structure) cs) entries (omega (arith, vars))
+          (labelled-in_range new.vars Structure cs (rw vars cover-below));
       below = rw vars whole_gate.below;
       covers = λ asked v m t.
           let r = rules-true asked v (cover_rules x ls) (rw (since-from s new (map (labelled Structure) cs) entries, e) at m) in
-          covered (lit_true v x) (clause_true v ls) (sym (headed-true v x (singles (map negation ls)) ∙ ap (λ y. lit_true v x || y) (negated-true v ls)) ∙ r) t;
+          covered (lit_true v x) (clause_true v ls) (sym (headed-true v x (singles (map negation ls))
+          ∙ ap (λ y. lit_true v x || y) (negated-true v ls)) ∙ r) t;
       each = λ asked v.
           let y = whole_gate.defines.says.each asked v refl in
           (y.0, y.1, front-met asked y.0 y.2, whole_gate.means asked y.0 y.2);

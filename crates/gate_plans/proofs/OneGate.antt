@@ -1,10 +1,10 @@
 -- One gate for some literal of a list, without a plan.
-use Rattle.std.proofs.Common.{◌≡◌, ℕ, ◌+◌, Bool, List, [], ◌∷◌, refl, sym, ap, ◌∙◌, subst, arith}
+use Rattle.std.proofs.Common.{◌≡◌, ◌+◌, List, [], ◌∷◌, refl, sym, ap, ◌∙◌, subst, arith}
 use Rattle.clause_store.specs.declared.Lit.{Lit}
 use Rattle.clause_store.specs.Lits.{clause_true, AllBelow}
 use Rattle.clause_store.specs.Clauses.{Clauses}
 use Rattle.gate_plans.specs.Growth.{Extends, DefinesLit}
-use Rattle.gate_plans.specs.Gates.{Planned, Made, Partial, AllClausesBelow, InOrder, IsSound, clauses_from, gate_rules, lit_of, with_defined, with_gate, with_gates}
+use Rattle.gate_plans.specs.Gates.{Partial, AllClausesBelow, IsSound, clauses_from, gate_rules, lit_of, with_defined, with_gate, with_gates}
 use Rattle.gate_plans.specs.Shapes.{any_of}
 use Rattle.gate_plans.specs.Steps.{Shows, plan_at}
 use Rattle.gate_plans.proofs.Plans.{step-below}
@@ -13,7 +13,8 @@ use Rattle.gate_plans.proofs.ShapeLaws.{any_of-is}
 use Rattle.gate_plans.proofs.Loops.{stopped}
 
 -- from the clauses that the code made for the next variable
-module _ (s : Clauses) (ls : List Lit) (b : AllBelow s.vars ls) (cs : List (List Lit)) (x : Lit) (e : cs ≡ clauses_from (gate_rules x (any_of ls))) (h : x ≡ lit_of s.vars) where
+module _ (s : Clauses) (ls : List Lit) (b : AllBelow s.vars ls) (cs : List (List Lit)) (x : Lit)
+    (e : cs ≡ clauses_from (gate_rules x (any_of ls))) (h : x ≡ lit_of s.vars) where
   shown : Shows (plan_at s) (with_gate (plan_at s) (any_of ls)) (λ v. clause_true v ls)
   shown = any_of-is (plan_at s) ls (here-below s ls b)
 
@@ -27,7 +28,8 @@ module _ (s : Clauses) (ls : List Lit) (b : AllBelow s.vars ls) (cs : List (List
   any-below = subst (AllClausesBelow (s.vars + 1)) (sym same_clauses) (step-below s (any_of ls) [] sound.in_order)
 
   pub any-stopped : (new : Clauses) → Partial s new cs → Extends s new
-  any-stopped new p = stopped (with_gate (plan_at s) (any_of ls)).plan s (any_of ls ∷ []) sound refl refl s new 0 (any_of ls) cs (omega arith) refl same_clauses p
+  any-stopped new p = stopped (with_gate (plan_at s) (any_of ls)).plan s (any_of ls ∷ []) sound refl refl s new 0 (any_of ls) cs
+      (omega arith) refl same_clauses p
 
   pub any-built : (new : Clauses) → new ≡ with_defined s cs → new ≡ with_gates s (any_of ls ∷ [])
   any-built new q = q ∙ ap (with_defined s) same_clauses
@@ -35,5 +37,7 @@ module _ (s : Clauses) (ls : List Lit) (b : AllBelow s.vars ls) (cs : List (List
   pub any-gate : (new : Clauses) → new ≡ with_defined s cs → DefinesLit s new x (λ v. clause_true v ls)
   any-gate new q =
       let first : s.vars + 0 ≡ s.vars = omega arith in
-      let same : with_gate (plan_at s) (any_of ls) ≡ record { plan = (with_gate (plan_at s) (any_of ls)).plan; answer = x } = rw (h, first) refl in
-      lit-gate s (λ v. clause_true v ls) (with_gate (plan_at s) (any_of ls)).plan x (with_gate (plan_at s) (any_of ls)) shown same new (any-built new q)
+      let same : with_gate (plan_at s) (any_of ls) ≡ record { plan = (with_gate (plan_at s) (any_of ls)).plan; answer = x } =
+      rw (h, first) refl in
+      lit-gate s (λ v. clause_true v ls) (with_gate (plan_at s) (any_of ls)).plan x (with_gate (plan_at s) (any_of ls)) shown same new
+      (any-built new q)

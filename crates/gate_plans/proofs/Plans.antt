@@ -13,7 +13,8 @@ use Rattle.clause_store.proofs.Meaning.{lit_true-negation}
 use Rattle.gate_plans.proofs.KeptClauses.{clauses_from-below, labelled-in_range, rules-true, true-rules, AllClausesBelow-append}
 use Rattle.gate_plans.proofs.Composed.{clause_true-agree, Grows-from, Grows-refl, Grows-trans, since-from, MeetsSince-parts, MeetsSince-join}
 
-pub rules_true-agree : (n : ℕ) (v w : ℕ → Bool) → Agree n v w → (cs : List (List Lit)) → AllClausesBelow n cs → rules_true v cs ≡ rules_true w cs
+pub rules_true-agree : (n : ℕ) (v w : ℕ → Bool) → Agree n v w → (cs : List (List Lit)) → AllClausesBelow n cs
+    → rules_true v cs ≡ rules_true w cs
 rules_true-agree n v w a [] b = refl
 rules_true-agree n v w a (c ∷ cs) b = rw (clause_true-agree n v w a c b.0, rules_true-agree n v w a cs b.1) refl
 
@@ -49,8 +50,10 @@ AllClausesBelow-le m n (c ∷ cs) h b = (AllBelow-le m n c h b.0, AllClausesBelo
 gate-says : (v : ℕ → Bool) (x : Lit) (g : Sides) → Agrees v g → rules_true v (gate_rules x g) ≡ true → lit_true v x ≡ value_of v g
 gate-says v x g a t = says (lit_true v x) (rules_true v g.on) (rules_true v g.off) a (sym (split v x g) ∙ t)
   where
-    split : (v : ℕ → Bool) (x : Lit) (g : Sides) → rules_true v (gate_rules x g) ≡ ((lit_true v x || rules_true v g.on) && (not (lit_true v x) || rules_true v g.off))
-    split v x g = rules_true-append v (headed x g.on) (headed (negation x) g.off) ∙ rw (headed-true v x g.on, headed-true v (negation x) g.off, lit_true-negation v x) refl
+    split : (v : ℕ → Bool) (x : Lit) (g : Sides)
+        → rules_true v (gate_rules x g) ≡ ((lit_true v x || rules_true v g.on) && (not (lit_true v x) || rules_true v g.off))
+    split v x g = rules_true-append v (headed x g.on) (headed (negation x) g.off)
+        ∙ rw (headed-true v x g.on, headed-true v (negation x) g.off, lit_true-negation v x) refl
 
     says : (t a b : Bool) → a ≡ not b → ((t || a) && (not t || b)) ≡ true → t ≡ b
     says true a b h e = sym e
@@ -59,7 +62,8 @@ gate-says v x g a t = says (lit_true v x) (rules_true v g.on) (rules_true v g.of
     says false false b h e = absurd (cc)
 
 says-gate : (v : ℕ → Bool) (x : Lit) (g : Sides) → Agrees v g → lit_true v x ≡ value_of v g → rules_true v (gate_rules x g) ≡ true
-says-gate v x g a t = rules_true-append v (headed x g.on) (headed (negation x) g.off) ∙ rw (headed-true v x g.on, headed-true v (negation x) g.off, lit_true-negation v x, t, a) (holds (rules_true v g.off))
+says-gate v x g a t = rules_true-append v (headed x g.on) (headed (negation x) g.off)
+    ∙ rw (headed-true v x g.on, headed-true v (negation x) g.off, lit_true-negation v x, t, a) (holds (rules_true v g.off))
   where
     holds : (b : Bool) → ((b || not b) && (not b || b)) ≡ true
     holds true = refl
@@ -77,26 +81,33 @@ rules-below n g a b =
     (headed-below (n + 1) (lit_of n) g.on k (AllClausesBelow-le n (n + 1) g.on h a))
     (headed-below (n + 1) (negation (lit_of n)) g.off k (AllClausesBelow-le n (n + 1) g.off h b))
 
-pub step-below : (s : Clauses) (g : Sides) (gs : List Sides) → InOrder s.vars (g ∷ gs) → AllClausesBelow ((with_gates s gs).vars + 1) (clauses_from (gate_rules (lit_of (with_gates s gs).vars) g))
+pub step-below : (s : Clauses) (g : Sides) (gs : List Sides) → InOrder s.vars (g ∷ gs)
+    → AllClausesBelow ((with_gates s gs).vars + 1) (clauses_from (gate_rules (lit_of (with_gates s gs).vars) g))
 step-below s g gs o = clauses_from-below _ _ (rw (vars_are s gs) (rules-below (s.vars + length gs) g o.0 o.1))
 
 step-grows : (s : Clauses) (g : Sides) (gs : List Sides) → InOrder s.vars (g ∷ gs) → Grows (with_gates s gs) (with_gates s (g ∷ gs))
-step-grows s g gs o = Grows-from (with_gates s gs) (with_gates s (g ∷ gs)) _ refl (omega arith) (labelled-in_range _ Structure _ (step-below s g gs o))
+step-grows s g gs o = Grows-from (with_gates s gs) (with_gates s (g ∷ gs)) _ refl (omega arith)
+    (labelled-in_range _ Structure _ (step-below s g gs o))
 
 pub gates-grow : (s : Clauses) (gs : List Sides) → InOrder s.vars gs → Grows s (with_gates s gs)
 gates-grow s [] o = Grows-refl s
 gates-grow s (g ∷ gs) o = Grows-trans s (with_gates s gs) (with_gates s (g ∷ gs)) (gates-grow s gs o.2) (step-grows s g gs o)
 
-step-meets : (asked v : ℕ → Bool) (s : Clauses) (g : Sides) (gs : List Sides) → MeetsSince asked v (with_gates s gs) (with_gates s (g ∷ gs)) → rules_true v (gate_rules (lit_of (s.vars + length gs)) g) ≡ true
+step-meets : (asked v : ℕ → Bool) (s : Clauses) (g : Sides) (gs : List Sides) → MeetsSince asked v (with_gates s gs) (with_gates s (g ∷ gs))
+    → rules_true v (gate_rules (lit_of (s.vars + length gs)) g) ≡ true
 step-meets asked v s g gs m =
-    rw (← vars_are s gs) (rules-true asked v (gate_rules (lit_of (with_gates s gs).vars) g) (rw (since-from (with_gates s gs) (with_gates s (g ∷ gs)) _ refl) at m))
+    rw (← vars_are s gs) (rules-true asked v (gate_rules (lit_of (with_gates s gs).vars) g)
+    (rw (since-from (with_gates s gs) (with_gates s (g ∷ gs)) _ refl) at m))
 
-meets-step : (asked v : ℕ → Bool) (s : Clauses) (g : Sides) (gs : List Sides) → rules_true v (gate_rules (lit_of (s.vars + length gs)) g) ≡ true → MeetsSince asked v (with_gates s gs) (with_gates s (g ∷ gs))
+meets-step : (asked v : ℕ → Bool) (s : Clauses) (g : Sides) (gs : List Sides)
+    → rules_true v (gate_rules (lit_of (s.vars + length gs)) g) ≡ true → MeetsSince asked v (with_gates s gs) (with_gates s (g ∷ gs))
 meets-step asked v s g gs t =
-    rw (since-from (with_gates s gs) (with_gates s (g ∷ gs)) _ refl) (true-rules asked v (gate_rules (lit_of (with_gates s gs).vars) g) (rw (vars_are s gs) t))
+    rw (since-from (with_gates s gs) (with_gates s (g ∷ gs)) _ refl)
+    (true-rules asked v (gate_rules (lit_of (with_gates s gs).vars) g) (rw (vars_are s gs) t))
 
 -- an assignment that follows a plan whose sides agree meets its clauses
-pub follows-meets : (asked v : ℕ → Bool) (s : Clauses) (gs : List Sides) → InOrder s.vars gs → AllAgree v gs → Follows v s.vars gs → MeetsSince asked v s (with_gates s gs)
+pub follows-meets : (asked v : ℕ → Bool) (s : Clauses) (gs : List Sides) → InOrder s.vars gs → AllAgree v gs → Follows v s.vars gs
+    → MeetsSince asked v s (with_gates s gs)
 follows-meets asked v s [] o a f = rw (drop-length s.entries) tt
 follows-meets asked v s (g ∷ gs) o a f =
     MeetsSince-join asked v s (with_gates s gs) (with_gates s (g ∷ gs)) (gates-grow s gs o.2) (step-grows s g gs o)
@@ -104,7 +115,8 @@ follows-meets asked v s (g ∷ gs) o a f =
     (meets-step asked v s g gs (says-gate v (lit_of (s.vars + length gs)) g a.0 f.0))
 
 -- an assignment that meets the clauses follows the plan, as another one does with which it agrees before
-pub meets-follows : (asked u v : ℕ → Bool) (s : Clauses) (gs : List Sides) → InOrder s.vars gs → Follows u s.vars gs → AllAgree u gs → Agree s.vars u v → MeetsSince asked v s (with_gates s gs) → Agree (s.vars + length gs) u v × Follows v s.vars gs
+pub meets-follows : (asked u v : ℕ → Bool) (s : Clauses) (gs : List Sides) → InOrder s.vars gs → Follows u s.vars gs → AllAgree u gs
+    → Agree s.vars u v → MeetsSince asked v s (with_gates s gs) → Agree (s.vars + length gs) u v × Follows v s.vars gs
 meets-follows asked u v s [] o f a h m = ((λ k l. h k (omega arith)), tt)
 meets-follows asked u v s (g ∷ gs) o f a h m =
     let p = MeetsSince-parts asked v s (with_gates s gs) (with_gates s (g ∷ gs)) (gates-grow s gs o.2) (step-grows s g gs o) m in
@@ -130,8 +142,11 @@ at_var-below v x b k h = rw (ne_eqb k x (omega arith)) refl
 pub Follows-agree : (v w : ℕ → Bool) (n : ℕ) (gs : List Sides) → InOrder n gs → Agree (n + length gs) v w → Follows v n gs → Follows w n gs
 Follows-agree v w n [] o a f = tt
 Follows-agree v w n (g ∷ gs) o a f =
-    let below : Agree (n + length gs) v w = λ k h. a k (omega arith) in
-    (sym (a (n + length gs) (omega arith)) ∙ f.0 ∙ rules_true-agree (n + length gs) v w below g.off o.1, Follows-agree v w n gs o.2 below f.1)
+    let below : Agree (n + length gs) v w = λ k h. a k (omega arith) in (
+      sym (a (n + length gs) (omega arith)) ∙ f.0
+          ∙ rules_true-agree (n + length gs) v w below g.off o.1,
+      Follows-agree v w n gs o.2 below f.1,
+    )
 
 -- each assignment of the variables before a plan goes on to one that follows it
 follow : (v : ℕ → Bool) (n : ℕ) (gs : List Sides) → InOrder n gs → (w : ℕ → Bool) × Agree n v w × Follows w n gs
@@ -141,14 +156,22 @@ follow v n (g ∷ gs) o =
     let x = n + length gs in
     let b = value_of p.0 g in
     let w : ℕ → Bool = at_var p.0 x b in
-    let a : Agree x p.0 w = at_var-below p.0 x b in
-    (w, (λ k h. p.1 k h ∙ a k (omega arith)), (at_var-same p.0 x b ∙ rules_true-agree x p.0 w a g.off o.1, Follows-agree p.0 w n gs o.2 a p.2))
+    let a : Agree x p.0 w = at_var-below p.0 x b in (
+      w,
+      (λ k h. p.1 k h ∙ a k (omega arith)),
+      (
+        at_var-same p.0 x b
+            ∙ rules_true-agree x p.0 w a g.off o.1,
+        Follows-agree p.0 w n gs o.2 a p.2,
+      ),
+    )
 
 module _ (s : Clauses) (gs : List Sides) (d : IsSound (record { first = s.vars; gates = gs })) where
   -- the clauses of a sound plan define its variables
   pub plan_defines : Defines s (with_gates s gs)
   plan_defines =
-      let meets : (asked v : ℕ → Bool) → (w : ℕ → Bool) × Agree s.vars v w × Follows w s.vars gs × MeetsSince asked w s (with_gates s gs) = λ asked v.
+      let meets : (asked v : ℕ → Bool) → (w : ℕ → Bool) × Agree s.vars v w × Follows w s.vars gs
+      × MeetsSince asked w s (with_gates s gs) = λ asked v.
       let p = follow v s.vars gs d.in_order in (p.0, p.1, p.2, follows-meets asked p.0 s gs d.in_order (d.agrees p.0 p.2) p.2) in record {
         says = record {
           grows = gates-grow s gs d.in_order;

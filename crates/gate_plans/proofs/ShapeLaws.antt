@@ -1,12 +1,12 @@
 -- The gates that are made often: exactly one of their sides holds, and what they say.
-use Rattle.std.proofs.Common.{◌≡◌, ℕ, ◌<◌, Bool, true, false, not, ◌&&◌, ◌||◌, List, [], ◌∷◌, map, refl, sym, ap, ◌∙◌, arith}
+use Rattle.std.proofs.Common.{◌≡◌, ℕ, Bool, true, false, not, ◌&&◌, ◌||◌, List, [], ◌∷◌, map, refl, sym, ap, ◌∙◌, arith}
 use Rattle.std.proofs.Math.Bool.{or-false, and-true}
 use Rattle.clause_store.specs.declared.Lit.{Lit}
-use Rattle.clause_store.specs.Lits.{var_of, negation, lit_true, clause_true, all_true, AllBelow}
+use Rattle.clause_store.specs.Lits.{negation, lit_true, clause_true, all_true, AllBelow}
 use Rattle.clause_store.proofs.Meaning.{lit_true-negation}
 use Rattle.gate_plans.specs.Gates.{Planned, next, with_gate, rules_true, Agrees, AllClausesBelow}
 use Rattle.gate_plans.specs.Shapes.{both, differ, odd, most, singles, all_of, any_of}
-use Rattle.gate_plans.specs.Steps.{Step, FollowsPlan, Shows}
+use Rattle.gate_plans.specs.Steps.{Shows}
 use Rattle.gate_plans.proofs.StepLaws.{Step-gate}
 
 pub negations-below : (n : ℕ) (ls : List Lit) → AllBelow n ls → AllBelow n (map negation ls)
@@ -24,16 +24,21 @@ both-agrees v a b = rw (lit_true-negation v a, lit_true-negation v b) (table (li
 pub differ-agrees : (v : ℕ → Bool) (a b : Lit) → Agrees v (differ a b)
 differ-agrees v a b = rw (lit_true-negation v a, lit_true-negation v b) (table (lit_true v a) (lit_true v b))
   where
-    table : (x y : Bool) → ((not x || (y || false)) && ((x || (not y || false)) && true)) ≡ not ((x || (y || false)) && ((not x || (not y || false)) && true))
+    table : (x y : Bool) → ((not x || (y || false)) && ((x || (not y || false)) && true))
+        ≡ not ((x || (y || false)) && ((not x || (not y || false)) && true))
     table true true = refl
     table true false = refl
     table false true = refl
     table false false = refl
 
 pub odd-agrees : (v : ℕ → Bool) (a b c : Lit) → Agrees v (odd a b c)
-odd-agrees v a b c = rw (lit_true-negation v a, lit_true-negation v b, lit_true-negation v c) (table (lit_true v a) (lit_true v b) (lit_true v c))
+odd-agrees v a b c = rw (lit_true-negation v a, lit_true-negation v b, lit_true-negation v c)
+    (table (lit_true v a) (lit_true v b) (lit_true v c))
   where
-    table : (x y z : Bool) → ((not x || (y || (z || false))) && ((x || (not y || (z || false))) && ((x || (y || (not z || false))) && ((not x || (not y || (not z || false))) && true)))) ≡ not ((x || (y || (z || false))) && ((x || (not y || (not z || false))) && ((not x || (y || (not z || false))) && ((not x || (not y || (z || false))) && true))))
+    table : (x y z : Bool) → ((not x || (y || (z || false)))
+        && ((x || (not y || (z || false))) && ((x || (y || (not z || false))) && ((not x || (not y || (not z || false))) && true))))
+        ≡ not ((x || (y || (z || false))) && ((x || (not y || (not z || false)))
+        && ((not x || (y || (not z || false))) && ((not x || (not y || (z || false))) && true))))
     table true true true = refl
     table true true false = refl
     table true false true = refl
@@ -44,9 +49,11 @@ odd-agrees v a b c = rw (lit_true-negation v a, lit_true-negation v b, lit_true-
     table false false false = refl
 
 pub most-agrees : (v : ℕ → Bool) (a b c : Lit) → Agrees v (most a b c)
-most-agrees v a b c = rw (lit_true-negation v a, lit_true-negation v b, lit_true-negation v c) (table (lit_true v a) (lit_true v b) (lit_true v c))
+most-agrees v a b c = rw (lit_true-negation v a, lit_true-negation v b, lit_true-negation v c)
+    (table (lit_true v a) (lit_true v b) (lit_true v c))
   where
-    table : (x y z : Bool) → ((not x || (not y || false)) && ((not x || (not z || false)) && ((not y || (not z || false)) && true))) ≡ not ((x || (y || false)) && ((x || (z || false)) && ((y || (z || false)) && true)))
+    table : (x y z : Bool) → ((not x || (not y || false)) && ((not x || (not z || false)) && ((not y || (not z || false)) && true)))
+        ≡ not ((x || (y || false)) && ((x || (z || false)) && ((y || (z || false)) && true)))
     table true true z = refl
     table true false true = refl
     table true false false = refl
@@ -95,7 +102,8 @@ any_of-agrees v ls = singles-negated v ls ∙ ap not (sym (and-true (clause_true
 -- a gate for "some literal of the list"
 pub any_of-is : (p : Planned) (ls : List Lit) → AllBelow (next p) ls → Shows p (with_gate p (any_of ls)) (λ v. clause_true v ls)
 any_of-is p ls b = record {
-  step = Step-gate p (any_of ls) (singles-below (next p) (map negation ls) (negations-below (next p) ls b)) (b, tt) (λ v f. any_of-agrees v ls);
+  step = Step-gate p (any_of ls) (singles-below (next p) (map negation ls) (negations-below (next p) ls b)) (b, tt)
+      (λ v f. any_of-agrees v ls);
   below = omega arith;
   means = λ v f. f.0 ∙ and-true (clause_true v ls);
 }

@@ -20,7 +20,8 @@ Step-trans p q r s t = record {
   agrees = λ v f a. t.agrees v f (s.agrees v (t.follows v f) a);
 }
 
-pub Step-gate : (p : Planned) (g : Sides) → AllClausesBelow (next p) g.on → AllClausesBelow (next p) g.off → ((v : ℕ → Bool) → FollowsPlan v p → Agrees v g) → Step p (with_gate p g).plan
+pub Step-gate : (p : Planned) (g : Sides) → AllClausesBelow (next p) g.on → AllClausesBelow (next p) g.off
+    → ((v : ℕ → Bool) → FollowsPlan v p → Agrees v g) → Step p (with_gate p g).plan
 Step-gate p g a b h = record {
   same = refl;
   more = omega arith;
@@ -48,7 +49,8 @@ module _ (s : Clauses) (q : Planned) (step : Step (plan_at s) q) where
   step-vars = omega (arith, vars_are s q.gates, step.same)
 
 -- what the code planned for a list of clauses
-module _ (s : Clauses) (f : (ℕ → Bool) → Bool) (q : Planned) (lit : Lit) (m : Made Lit) (shows : Shows (plan_at s) m f) (built : m ≡ record { plan = q; answer = lit }) where
+module _ (s : Clauses) (f : (ℕ → Bool) → Bool) (q : Planned) (lit : Lit) (m : Made Lit) (shows : Shows (plan_at s) m f)
+    (built : m ≡ record { plan = q; answer = lit }) where
   planned : Shows (plan_at s) (record { plan = q; answer = lit }) f
   planned = rw (← built) shows
 

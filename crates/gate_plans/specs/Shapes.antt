@@ -20,7 +20,8 @@ differ a b = record {
 abbrev pub odd : Lit → Lit → Lit → Sides
 odd a b c = record {
   on = (negation a ∷ b ∷ c ∷ []) ∷ (a ∷ negation b ∷ c ∷ []) ∷ (a ∷ b ∷ negation c ∷ []) ∷ (negation a ∷ negation b ∷ negation c ∷ []) ∷ [];
-  off = (a ∷ b ∷ c ∷ []) ∷ (a ∷ negation b ∷ negation c ∷ []) ∷ (negation a ∷ b ∷ negation c ∷ []) ∷ (negation a ∷ negation b ∷ c ∷ []) ∷ [];
+  off = (a ∷ b ∷ c ∷ []) ∷ (a ∷ negation b ∷ negation c ∷ []) ∷ (negation a ∷ b ∷ negation c ∷ [])
+      ∷ (negation a ∷ negation b ∷ c ∷ []) ∷ [];
 }
 
 -- true where two or all of three are

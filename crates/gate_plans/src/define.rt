@@ -31,7 +31,8 @@ pub fn define_any(alloc: Global, clauses: &mut ClauseList, lits: &[Lit]) -> Resu
     requires { AllBelow clauses.old.vars lits.now }
     ensures lit { IfOk result (λ lit. lit ≡ lit_of clauses.old.vars) }
     ensures built { OnOk result (clauses.new ≡ with_gates clauses.old (any_of lits.now ∷ [])) }
-    ensures gate { IfOk result (λ lit. DefinesLit clauses.old clauses.new lit (λ v. clause_true v lits.now)) }
+    ensures gate { IfOk result (λ lit. DefinesLit clauses.old clauses.new lit
+        (λ v. clause_true v lits.now)) }
     ensures extends { Extends clauses.old clauses.new }
 {
     let lit = next_lit(clauses);
@@ -51,7 +52,8 @@ pub fn define_cover(
     requires { AllBelow clauses.old.vars lits.now }
     ensures lit { IfOk result (λ lit. lit ≡ lit_of clauses.old.vars) }
     ensures built { OnOk result (clauses.new ≡ with_cover clauses.old lits.now) }
-    ensures gate { IfOk result (λ lit. CoversLit clauses.old clauses.new lit (λ v. clause_true v lits.now)) }
+    ensures gate { IfOk result (λ lit. CoversLit clauses.old clauses.new lit
+        (λ v. clause_true v lits.now)) }
     ensures extends { Extends clauses.old clauses.new }
 {
     let lit = next_lit(clauses);

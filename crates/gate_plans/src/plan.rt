@@ -43,7 +43,11 @@ impl Plan {
 
     /// The literal of one more gate.
     pub fn add(&mut self, gate: Gate) -> Result<Lit, AllocError>
-        ensures { IfOk result (λ lit. with_gate self.old gate ≡ record { plan = self.new; answer = lit }) }
+        ensures { IfOk result (λ lit. with_gate self.old gate ≡ record {
+          plan =
+              self.new;
+          answer = lit;
+        }) }
     {
         let lit = Lit {
             var: Var(self.first + self.gates.len() as u64),

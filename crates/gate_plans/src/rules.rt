@@ -118,7 +118,8 @@ fn rules_of_given(
     on: &[Lits],
     off: &[Lits],
 ) -> Result<Vec<Clause>, AllocError>
-    ensures { IfOk result (λ rules. rules.items ≡ clauses_from (headed x on.now ++ headed (negation x) off.now)) }
+    ensures { IfOk result (λ rules. rules.items
+        ≡ clauses_from (headed x on.now ++ headed (negation x) off.now)) }
 {
     let mut rules = Vec::with_capacity(alloc, on.len() + off.len())?;
     for lits in on {

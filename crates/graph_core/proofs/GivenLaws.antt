@@ -61,9 +61,11 @@ package_kept name None = refl
 package_kept name (Some p) = refl
 
 pub whole_provider : (g : Content) (name : Text) → find_key byte_cmp virtual_of g.providers name ≡ WithName (provider_of g) name
-whole_provider g name = go (find_key byte_cmp virtual_of g.providers name) (λ x. find_sound nat_list_cmp_total ties_are_equal virtual_of g.providers name x)
+whole_provider g name = go (find_key byte_cmp virtual_of g.providers name)
+    (λ x. find_sound nat_list_cmp_total ties_are_equal virtual_of g.providers name x)
   where
-    go : (r : Option (Text × Text)) → ((x : Text × Text) → r ≡ Some x → Contains g.providers x × (x.0 ≡ name)) → r ≡ option_map (λ p. (name, p)) (option_map (λ provider. provider.1) r)
+    go : (r : Option (Text × Text)) → ((x : Text × Text) → r ≡ Some x → Contains g.providers x × (x.0 ≡ name))
+        → r ≡ option_map (λ p. (name, p)) (option_map (λ provider. provider.1) r)
     go None sound = refl
     go (Some x) sound = ap (λ v. Some (v, x.1)) (sound x refl).1
 
@@ -76,7 +78,9 @@ module _ (names virtuals : List Text) (given : Given) where
   pub made_provider : AreNames virtuals → (name : Text) → Contains virtuals name → provider_of Made name ≡ given.provider name
   unfolding graph_by
   made_provider rising name there =
-      ap (option_map (λ (p : Text × Text). p.1)) (find-filter_map nat_list_cmp_total ties_are_equal virtual_of (WithName given.provider) (name_kept given.provider) virtuals name rising there)
+      ap (option_map (λ (p : Text × Text). p.1))
+      (find-filter_map nat_list_cmp_total ties_are_equal virtual_of (WithName given.provider) (name_kept given.provider) virtuals
+      name rising there)
       ∙ package_kept name (given.provider name)
 
   module _ (rising : AreNames names) (is : IsGiven names given) where
@@ -87,23 +91,28 @@ module _ (names virtuals : List Text) (given : Given) where
     edge_kept : (pair : Text × Text) (edge : Edge) → given.edge pair.0 pair.1 ≡ Some edge → ends_of edge ≡ pair
     edge_kept pair edge e = let both = is.edges pair.0 pair.1 edge e in λ i. (both.0 i, both.1 i)
 
-    pub made_edge : (parent child : Text) → Contains names parent → Contains names child → edge_of Made parent child ≡ given.edge parent child
+    pub made_edge : (parent child : Text) → Contains names parent → Contains names child
+        → edge_of Made parent child ≡ given.edge parent child
     unfolding graph_by
     made_edge parent child in_p in_c =
-        find-filter_map pair_total pair_exact ends_of (λ pair. given.edge pair.0 pair.1) edge_kept (pairs_of names) (parent, child) (pairs_rise names rising) (in_pairs names parent child in_p in_c)
+        find-filter_map pair_total pair_exact ends_of (λ pair. given.edge pair.0 pair.1) edge_kept (pairs_of names) (parent, child)
+        (pairs_rise names rising) (in_pairs names parent child in_p in_c)
 
     has_at : (name : Text) → Contains names name → ((node : Node) × (given.node name ≡ Some node)) → HasNode Made name
     has_at name there node = (has_decides Made name).0 (ap is_some (made_node name there ∙ node.1))
 
-    edge_from : (edge : Edge) → Contains Made.edges edge → (pair : Text × Text) × Contains (pairs_of names) pair × (given.edge pair.0 pair.1 ≡ Some edge)
+    edge_from : (edge : Edge) → Contains Made.edges edge → (pair : Text × Text) × Contains (pairs_of names) pair
+        × (given.edge pair.0 pair.1 ≡ Some edge)
     unfolding graph_by
     edge_from edge there = given_at (λ (pair : Text × Text). given.edge pair.0 pair.1) (pairs_of names) edge there
 
-    provider_from : (provider : Text × Text) → Contains Made.providers provider → (name : Text) × Contains virtuals name × (WithName given.provider name ≡ Some provider)
+    provider_from : (provider : Text × Text) → Contains Made.providers provider → (name : Text) × Contains virtuals name
+        × (WithName given.provider name ≡ Some provider)
     unfolding graph_by
     provider_from provider there = given_at (WithName given.provider) virtuals provider there
 
-    package_of : (name : Text) (provider : Text × Text) → WithName given.provider name ≡ Some provider → given.provider name ≡ Some provider.1
+    package_of : (name : Text) (provider : Text × Text) → WithName given.provider name ≡ Some provider
+        → given.provider name ≡ Some provider.1
     package_of name provider = go (given.provider name)
       where
         go : (r : Option Text) → option_map (λ p. (name, p)) r ≡ Some provider → r ≡ Some provider.1
@@ -113,12 +122,14 @@ module _ (names virtuals : List Text) (given : Given) where
     parent_there : (edge : Edge) → Contains Made.edges edge → HasNode Made edge.parent
     parent_there edge there =
         let from = edge_from edge there in
-        subst (HasNode Made) (sym (is.edges from.0.0 from.0.1 edge from.2).0) (has_at from.0.0 (from_pairs names from.0 from.1).0 (is.parents from.0.0 from.0.1 edge from.2))
+        subst (HasNode Made) (sym (is.edges from.0.0 from.0.1 edge from.2).0)
+        (has_at from.0.0 (from_pairs names from.0 from.1).0 (is.parents from.0.0 from.0.1 edge from.2))
 
     child_there : (edge : Edge) → Contains Made.edges edge → HasNode Made edge.child
     child_there edge there =
         let from = edge_from edge there in
-        subst (HasNode Made) (sym (is.edges from.0.0 from.0.1 edge from.2).1) (has_at from.0.1 (from_pairs names from.0 from.1).1 (is.children from.0.0 from.0.1 edge from.2))
+        subst (HasNode Made) (sym (is.edges from.0.0 from.0.1 edge from.2).1)
+        (has_at from.0.1 (from_pairs names from.0 from.1).1 (is.children from.0.0 from.0.1 edge from.2))
 
     package_there : (provider : Text × Text) → Contains Made.providers provider → HasNode Made provider.1
     package_there provider there =
@@ -132,11 +143,13 @@ module _ (names virtuals : List Text) (given : Given) where
 
     edges_order : IsInOrder pair_cmp ends_of Made.edges
     unfolding graph_by
-    edges_order = in_order-filter_map pair_total pair_exact ends_of (λ pair. given.edge pair.0 pair.1) edge_kept (pairs_of names) (pairs_rise names rising)
+    edges_order = in_order-filter_map pair_total pair_exact ends_of (λ pair. given.edge pair.0 pair.1) edge_kept (pairs_of names)
+        (pairs_rise names rising)
 
     providers_order : AreNames virtuals → IsInOrder byte_cmp virtual_of Made.providers
     unfolding graph_by
-    providers_order = in_order-filter_map nat_list_cmp_total ties_are_equal virtual_of (WithName given.provider) (name_kept given.provider) virtuals
+    providers_order = in_order-filter_map nat_list_cmp_total ties_are_equal virtual_of (WithName given.provider)
+        (name_kept given.provider) virtuals
 
     pub made_graph : AreNames virtuals → IsGraph Made
     made_graph rising_virtuals = record {
@@ -151,19 +164,22 @@ module _ (names virtuals : List Text) (given : Given) where
 -- ---- each graph is one
 
 module _ (g : Content) (graph : IsGraph g) where
-  pub given_providers : (virtuals : List Text) → AreNames virtuals → All (λ provider. Contains virtuals provider.0) g.providers → g.providers ≡ filter_map (WithName (provider_of g)) virtuals
+  pub given_providers : (virtuals : List Text) → AreNames virtuals → All (λ provider. Contains virtuals provider.0) g.providers
+      → g.providers ≡ filter_map (WithName (provider_of g)) virtuals
   given_providers virtuals rising within =
       is_given nat_list_cmp_total ties_are_equal virtual_of virtuals g.providers rising graph.providers within
       ∙ filter_map-agree _ _ virtuals (λ name there. whole_provider g name)
 
-  pub each-provider : (virtuals : List Text) → AreNames virtuals → All (λ provider. Contains virtuals provider.0) g.providers → (test : Text × Text → Bool)
+  pub each-provider : (virtuals : List Text) → AreNames virtuals → All (λ provider. Contains virtuals provider.0) g.providers
+      → (test : Text × Text → Bool)
       → list_all test g.providers ≡ list_all (λ name. passes_or_none (λ provider. test (name, provider)) (provider_of g name)) virtuals
   each-provider virtuals rising within test =
       ap (list_all test) (given_providers virtuals rising within)
       ∙ list_all-filter_map (WithName (provider_of g)) test virtuals
       ∙ ap (λ h. list_all h virtuals) (λ i name. inner name (provider_of g name) i)
     where
-      inner : (name : Text) (r : Option Text) → passes_or_none test (option_map (λ p. (name, p)) r) ≡ passes_or_none (λ provider. test (name, provider)) r
+      inner : (name : Text) (r : Option Text) → passes_or_none test (option_map (λ p. (name, p)) r)
+          ≡ passes_or_none (λ provider. test (name, provider)) r
       inner name None = refl
       inner name (Some p) = refl
 
@@ -184,7 +200,8 @@ module _ (g : Content) (graph : IsGraph g) where
 
     given_edges : g.edges ≡ filter_map (find_key pair_cmp ends_of g.edges) (pairs_of names)
     given_edges = is_given pair_total pair_exact ends_of (pairs_of names) g.edges (pairs_rise names rising) graph.edges
-        (all_from (λ edge. Contains (pairs_of names) (ends_of edge)) g.edges (λ edge there. let both = ends_named edge there in in_pairs names edge.parent edge.child both.0 both.1))
+        (all_from (λ edge. Contains (pairs_of names) (ends_of edge)) g.edges (λ edge there. let both = ends_named edge there in
+        in_pairs names edge.parent edge.child both.0 both.1))
 
     pub given_graph : (virtuals : List Text) → AreNames virtuals → All (λ provider. Contains virtuals provider.0) g.providers
         → g ≡ graph_by names virtuals (record { node = node_of g; edge = edge_of g; provider = provider_of g })
@@ -204,33 +221,44 @@ module _ (g : Content) (graph : IsGraph g) where
     module _ (parent : Text) where
       pub edges-by : edges_from g parent ≡ filter_map (edge_of g parent) names
       edges-by =
-          is_given pair_total pair_exact ends_of (with_parent parent names) (edges_from g parent) (pairs_with parent names rising) run_in_order
+          is_given pair_total pair_exact ends_of (with_parent parent names) (edges_from g parent)
+          (pairs_with parent names rising) run_in_order
           (all_from (λ edge. Contains (with_parent parent names) (ends_of edge)) (edges_from g parent) in_run)
           ∙ filter_map-map (find_key pair_cmp ends_of (edges_from g parent)) (λ child. (parent, child)) names
-          ∙ filter_map-agree _ _ names (λ child there. find-filter (λ (edge : Edge). eq_by_cmp pair_cmp (ends_of edge) (parent, child)) (λ edge. bytes_eq edge.parent parent) (same_parent child) g.edges)
+          ∙ filter_map-agree _ _ names (λ child there. find-filter (λ (edge : Edge). eq_by_cmp pair_cmp (ends_of edge) (parent, child))
+          (λ edge. bytes_eq edge.parent parent) (same_parent child) g.edges)
         where
-          map-filter : (xs : List Edge) → map ends_of (filter (λ edge. bytes_eq edge.parent parent) xs) ≡ filter (λ (pair : Text × Text). bytes_eq pair.0 parent) (map ends_of xs)
+          map-filter : (xs : List Edge) → map ends_of (filter (λ edge. bytes_eq edge.parent parent) xs)
+              ≡ filter (λ (pair : Text × Text). bytes_eq pair.0 parent) (map ends_of xs)
           map-filter [] = refl
           map-filter (x ∷ xs) =
               let rest = map-filter xs in
-              elim (bytes_eq x.parent parent) as (λ b. map ends_of (cond b (x ∷ filter (λ edge. bytes_eq edge.parent parent) xs) (filter (λ edge. bytes_eq edge.parent parent) xs)) ≡ cond b (ends_of x ∷ filter (λ (pair : Text × Text). bytes_eq pair.0 parent) (map ends_of xs)) (filter (λ (pair : Text × Text). bytes_eq pair.0 parent) (map ends_of xs))) [
+              elim (bytes_eq x.parent parent) as (λ b. map ends_of
+              (cond b (x ∷ filter (λ edge. bytes_eq edge.parent parent) xs) (filter (λ edge. bytes_eq edge.parent parent) xs))
+              ≡ cond b (ends_of x ∷ filter (λ (pair : Text × Text). bytes_eq pair.0 parent) (map ends_of xs))
+              (filter (λ (pair : Text × Text). bytes_eq pair.0 parent) (map ends_of xs))) [
                 | true ↦ ap (λ l. ends_of x ∷ l) rest
                 | false ↦ rest
               ]
 
           run_in_order : IsInOrder pair_cmp ends_of (edges_from g parent)
-          run_in_order = rw (map-filter g.edges) (IsStrictlySortedBy-filter pair_cmp (λ pair. bytes_eq pair.0 parent) (map ends_of g.edges) graph.edges)
+          run_in_order =
+              rw (map-filter g.edges) (IsStrictlySortedBy-filter pair_cmp (λ pair. bytes_eq pair.0 parent)
+              (map ends_of g.edges) graph.edges)
 
           in_run : (edge : Edge) → Contains (edges_from g parent) edge → Contains (with_parent parent names) (ends_of edge)
           in_run edge there =
               let from = from_filter (λ (e : Edge). bytes_eq e.parent parent) g.edges edge there in
               let is_parent = (bytes_decides edge.parent parent).0 from.1 in
-              subst (λ p. Contains (with_parent parent names) (p, edge.child)) (sym is_parent) (in_with parent edge.child names (ends_named edge from.0).1)
+              subst (λ p. Contains (with_parent parent names) (p, edge.child)) (sym is_parent)
+              (in_with parent edge.child names (ends_named edge from.0).1)
 
           is_tie : (r : Ordering) → is_eq r ≡ true → r ≡ Equal
           is_tie Less e = absurd (cc)
           is_tie Equal e = refl
           is_tie Greater e = absurd (cc)
 
-          same_parent : (child : Text) (edge : Edge) → eq_by_cmp pair_cmp (ends_of edge) (parent, child) ≡ true → bytes_eq edge.parent parent ≡ true
-          same_parent child edge e = (bytes_decides edge.parent parent).1 (ap (λ p. p.0) (pair_exact (ends_of edge) (parent, child) (is_tie _ e)))
+          same_parent : (child : Text) (edge : Edge) → eq_by_cmp pair_cmp (ends_of edge) (parent, child) ≡ true
+              → bytes_eq edge.parent parent ≡ true
+          same_parent child edge e = (bytes_decides edge.parent parent).1
+              (ap (λ p. p.0) (pair_exact (ends_of edge) (parent, child) (is_tie _ e)))

@@ -42,10 +42,13 @@ has_decides g name = (
 )
 
 -- each name that the list tells is a node's
-all_decide : {X : Type 0} (g : Content) (name : X → Text) (xs : List X) → Decides (list_all (λ x. is_some (node_of g (name x))) xs) (All (λ x. HasNode g (name x)) xs)
+all_decide : {X : Type 0} (g : Content) (name : X → Text) (xs : List X)
+    → Decides (list_all (λ x. is_some (node_of g (name x))) xs) (All (λ x. HasNode g (name x)) xs)
 all_decide g name xs = (
-  λ e. All-weaker (λ x. is_some (node_of g (name x)) ≡ true) (λ x. HasNode g (name x)) (λ x. (has_decides g (name x)).0) xs (AllPass-from_list_all (λ x. is_some (node_of g (name x))) xs e),
-  λ all. list_all-from_AllPass (λ x. is_some (node_of g (name x))) xs (All-weaker (λ x. HasNode g (name x)) (λ x. is_some (node_of g (name x)) ≡ true) (λ x. (has_decides g (name x)).1) xs all),
+  λ e. All-weaker (λ x. is_some (node_of g (name x)) ≡ true) (λ x. HasNode g (name x)) (λ x. (has_decides g (name x)).0) xs
+      (AllPass-from_list_all (λ x. is_some (node_of g (name x))) xs e),
+  λ all. list_all-from_AllPass (λ x. is_some (node_of g (name x))) xs
+      (All-weaker (λ x. HasNode g (name x)) (λ x. is_some (node_of g (name x)) ≡ true) (λ x. (has_decides g (name x)).1) xs all),
 )
 
 module _ (g : Content) where
@@ -62,7 +65,8 @@ module _ (g : Content) where
   unfolding is_graph
   is_graph_decides = (
     λ e.
-        let p5 = and_parts _ _ e in let p4 = and_parts _ _ p5.0 in let p3 = and_parts _ _ p4.0 in let p2 = and_parts _ _ p3.0 in let p1 = and_parts _ _ p2.0 in
+        let p5 = and_parts _ _ e in let p4 = and_parts _ _ p5.0 in let p3 = and_parts _ _ p4.0 in let p2 = and_parts _ _ p3.0 in let p1 =
+        and_parts _ _ p2.0 in
         record {
           nodes = nodes_tell.0 p1.0;
           edges = edges_tell.0 p1.1;
@@ -91,7 +95,8 @@ module _ (g : Content) (graph : IsGraph g) where
   }
     where
       kept : (name : Text) → HasNode g name → HasNode (with_node g node) name
-      kept name has = rw (keys-with_one nat_list_cmp_total ties_are_equal name_of g.nodes node) ((Contains-insert_key nat_list_cmp_total ties_are_equal (map name_of g.nodes) node.name name).1 (inr has))
+      kept name has = rw (keys-with_one nat_list_cmp_total ties_are_equal name_of g.nodes node)
+          ((Contains-insert_key nat_list_cmp_total ties_are_equal (map name_of g.nodes) node.name name).1 (inr has))
 
   pub graph-with_edge : (edge : Edge) → HasNode g edge.parent → HasNode g edge.child → IsGraph (with_edge g edge)
   graph-with_edge edge parent child = record {
@@ -110,24 +115,32 @@ module _ (g : Content) (graph : IsGraph g) where
     providers = in_order-with_one nat_list_cmp_total ties_are_equal virtual_of g.providers (name, provider) graph.providers;
     parents = graph.parents;
     children = graph.children;
-    packages = all-with_one nat_list_cmp_total ties_are_equal virtual_of (λ p. HasNode g p.1) g.providers (name, provider) graph.packages has;
+    packages = all-with_one nat_list_cmp_total ties_are_equal virtual_of (λ p. HasNode g p.1) g.providers (name, provider)
+        graph.packages has;
   }
 
 -- ---- after an insertion that may have failed
 
 module _ (g : Content) (graph : IsGraph g) (r : Result Bool AllocError) where
-  pub graph-after_node : (node : Node) (nodes : List Node) → IfOk r (λ added. nodes ≡ cond added (with_one byte_cmp name_of g.nodes node) g.nodes) → OnErr r (nodes ≡ g.nodes) → IsGraph (record g { nodes = nodes })
+  pub graph-after_node : (node : Node) (nodes : List Node)
+      → IfOk r (λ added. nodes ≡ cond added (with_one byte_cmp name_of g.nodes node) g.nodes) → OnErr r (nodes ≡ g.nodes)
+      → IsGraph (record g { nodes = nodes })
   graph-after_node node nodes ok err = go r ok err
     where
-      go : (r : Result Bool AllocError) → IfOk r (λ added. nodes ≡ cond added (with_one byte_cmp name_of g.nodes node) g.nodes) → OnErr r (nodes ≡ g.nodes) → IsGraph (record g { nodes = nodes })
+      go : (r : Result Bool AllocError) → IfOk r (λ added. nodes ≡ cond added (with_one byte_cmp name_of g.nodes node) g.nodes)
+          → OnErr r (nodes ≡ g.nodes) → IsGraph (record g { nodes = nodes })
       go (Ok true) is _ = rw is (graph-with_node g graph node)
       go (Ok false) is _ = rw is graph
       go (Err e) _ is = rw is graph
 
-  pub graph-after_provider : (name provider : Text) (providers : List (Text × Text)) → HasNode g provider → IfOk r (λ added. providers ≡ cond added (with_one byte_cmp virtual_of g.providers (name, provider)) g.providers) → OnErr r (providers ≡ g.providers) → IsGraph (record g { providers = providers })
+  pub graph-after_provider : (name provider : Text) (providers : List (Text × Text)) → HasNode g provider
+      → IfOk r (λ added. providers ≡ cond added (with_one byte_cmp virtual_of g.providers (name, provider)) g.providers)
+      → OnErr r (providers ≡ g.providers) → IsGraph (record g { providers = providers })
   graph-after_provider name provider providers has ok err = go r ok err
     where
-      go : (r : Result Bool AllocError) → IfOk r (λ added. providers ≡ cond added (with_one byte_cmp virtual_of g.providers (name, provider)) g.providers) → OnErr r (providers ≡ g.providers) → IsGraph (record g { providers = providers })
+      go : (r : Result Bool AllocError) → IfOk r
+          (λ added. providers ≡ cond added (with_one byte_cmp virtual_of g.providers (name, provider)) g.providers)
+          → OnErr r (providers ≡ g.providers) → IsGraph (record g { providers = providers })
       go (Ok true) is _ = rw is (graph-with_provider g graph name provider has)
       go (Ok false) is _ = rw is graph
       go (Err e) _ is = rw is graph

@@ -49,16 +49,20 @@ not_above p q s e = rw (nat_list_cmp_total.antisymm q p) (go (byte_cmp p q) e)
     go Greater e = absurd (cc)
 
 -- in the order of edges their parents rise
-pub parents_rise : (edges : List Edge) (name : Text) → IsInOrder pair_cmp ends_of edges → IsNonDecreasingBy (λ e. ordering_index (byte_cmp e.parent name)) edges
+pub parents_rise : (edges : List Edge) (name : Text) → IsInOrder pair_cmp ends_of edges
+    → IsNonDecreasingBy (λ e. ordering_index (byte_cmp e.parent name)) edges
 parents_rise edges name ordered = searchable_from_sorted nat_list_cmp_total (λ (e : Edge). e.parent) edges name (λ k d a b.
-    not_above (get_or edges k d).parent (get_or edges (k + 1) d).parent (byte_cmp (get_or edges k d).child (get_or edges (k + 1) d).child) (key_less pair_total pair_exact ends_of edges k (k + 1) d ordered (omega arith) b))
+    not_above (get_or edges k d).parent (get_or edges (k + 1) d).parent (byte_cmp (get_or edges k d).child (get_or edges (k + 1) d).child)
+    (key_less pair_total pair_exact ends_of edges k (k + 1) d ordered (omega arith) b))
 
 -- texts are compared as equal where their bytes are
 pub tells_alike : (p q : Text) → is_eq (byte_cmp p q) ≡ bytes_eq p q
 tells_alike p q = same_from_decides (eq_by_cmp byte_cmp p q) (bytes_eq p q) (texts_decide p q) (bytes_decides p q)
 
-pub parents_alike : (edges : List Edge) (name : Text) → filter (λ e. is_eq (byte_cmp e.parent name)) edges ≡ filter (λ e. bytes_eq e.parent name) edges
-parents_alike edges name = filter_agree (λ (e : Edge). is_eq (byte_cmp e.parent name)) (λ e. bytes_eq e.parent name) (λ e. tells_alike e.parent name) edges
+pub parents_alike : (edges : List Edge) (name : Text)
+    → filter (λ e. is_eq (byte_cmp e.parent name)) edges ≡ filter (λ e. bytes_eq e.parent name) edges
+parents_alike edges name = filter_agree (λ (e : Edge). is_eq (byte_cmp e.parent name)) (λ e. bytes_eq e.parent name)
+    (λ e. tells_alike e.parent name) edges
 
 -- ---- the pairs of all names
 
@@ -69,16 +73,19 @@ pub pairs_with : (parent : Text) (names : List Text) → AreNames names → IsSt
 pairs_with parent [] rising = rises_none pair_cmp
 pairs_with parent (name ∷ names) rising = rises_more pair_cmp (parent, name) (with_parent parent names) (λ pair there.
     let from = image_of (λ (child : Text). let p : Text × Text = (parent, child) in p) names pair there in
-    let less : pair_cmp (parent, name) (parent, from.0) ≡ Less = rw (tied_itself nat_list_cmp_total parent) (rises_above byte_cmp name names rising from.0 from.1) in
+    let less : pair_cmp (parent, name) (parent, from.0) ≡ Less =
+    rw (tied_itself nat_list_cmp_total parent) (rises_above byte_cmp name names rising from.0 from.1) in
     subst (λ p. pair_cmp (parent, name) p ≡ Less) from.2 less)
     (pairs_with parent names (rises_rest byte_cmp name names rising))
 
 pub in_with : (parent child : Text) (names : List Text) → Contains names child → Contains (with_parent parent names) (parent, child)
 in_with parent child names there = has_image (λ (c : Text). let p : Text × Text = (parent, c) in p) names child there
 
-pairs_from : (names parents : List Text) → AreNames names → AreNames parents → IsStrictlySortedBy pair_cmp (flat_map (λ parent. with_parent parent names) parents)
+pairs_from : (names parents : List Text) → AreNames names → AreNames parents
+    → IsStrictlySortedBy pair_cmp (flat_map (λ parent. with_parent parent names) parents)
 pairs_from names [] all rising = rises_none pair_cmp
-pairs_from names (parent ∷ parents) all rising = rises_append pair_cmp (with_parent parent names) (flat_map (λ p. with_parent p names) parents)
+pairs_from names (parent ∷ parents) all rising =
+    rises_append pair_cmp (with_parent parent names) (flat_map (λ p. with_parent p names) parents)
     (pairs_with parent names all) (pairs_from names parents all (rises_rest byte_cmp parent parents rising)) (λ a b in_a in_b.
     let first = image_of (λ (c : Text). let p : Text × Text = (parent, c) in p) names a in_a in
     let later : byte_cmp parent b.0 ≡ Less = rises_above byte_cmp parent parents rising b.0 (parent_of parents b in_b) in
@@ -90,29 +97,36 @@ pairs_from names (parent ∷ parents) all rising = rises_append pair_cmp (with_p
     parent_of : (parents : List Text) (b : Text × Text) → Contains (flat_map (λ p. with_parent p names) parents) b → Contains parents b.0
     parent_of [] b there = absurd (omega (arith, there.1))
     parent_of (p ∷ ps) b there = ⊎_elim
-        (λ here. let from = image_of (λ (c : Text). let q : Text × Text = (p, c) in q) names b here in subst (Contains (p ∷ ps)) (ap (λ q. q.0) from.2) (has_first p ps))
+        (λ here. let from = image_of (λ (c : Text). let q : Text × Text = (p, c) in q) names b here in
+        subst (Contains (p ∷ ps)) (ap (λ q. q.0) from.2) (has_first p ps))
         (λ later. has_later p ps b.0 (parent_of ps b later))
         (Contains-append_cases (with_parent p names) (flat_map (λ q. with_parent q names) ps) b there)
 
 pub pairs_rise : (names : List Text) → AreNames names → IsStrictlySortedBy pair_cmp (pairs_of names)
 pairs_rise names rising = pairs_from names names rising rising
 
-pub in_pairs : (names : List Text) (parent child : Text) → Contains names parent → Contains names child → Contains (pairs_of names) (parent, child)
+pub in_pairs : (names : List Text) (parent child : Text) → Contains names parent → Contains names child
+    → Contains (pairs_of names) (parent, child)
 in_pairs names parent child = go names
   where
-    go : (parents : List Text) → Contains parents parent → Contains names child → Contains (flat_map (λ p. with_parent p names) parents) (parent, child)
+    go : (parents : List Text) → Contains parents parent → Contains names child
+        → Contains (flat_map (λ p. with_parent p names) parents) (parent, child)
     go [] there in_names = absurd (omega (arith, there.1))
     go (p ∷ ps) there in_names = ⊎_elim
-        (λ e. Contains-append_left (with_parent p names) (flat_map (λ q. with_parent q names) ps) (parent, child) (subst (λ q. Contains (with_parent q names) (parent, child)) (sym e) (in_with parent child names in_names)))
-        (λ later. Contains-append_right (with_parent p names) (flat_map (λ q. with_parent q names) ps) (parent, child) (go ps later in_names))
+        (λ e. Contains-append_left (with_parent p names) (flat_map (λ q. with_parent q names) ps) (parent, child)
+        (subst (λ q. Contains (with_parent q names) (parent, child)) (sym e) (in_with parent child names in_names)))
+        (λ later. Contains-append_right (with_parent p names) (flat_map (λ q. with_parent q names) ps) (parent, child)
+        (go ps later in_names))
         (first_or_later p ps parent there)
 
 pub from_pairs : (names : List Text) (pair : Text × Text) → Contains (pairs_of names) pair → Contains names pair.0 × Contains names pair.1
 from_pairs names pair = go names
   where
-    go : (parents : List Text) → Contains (flat_map (λ p. with_parent p names) parents) pair → Contains parents pair.0 × Contains names pair.1
+    go : (parents : List Text) → Contains (flat_map (λ p. with_parent p names) parents) pair → Contains parents pair.0
+        × Contains names pair.1
     go [] there = absurd (omega (arith, there.1))
     go (p ∷ ps) there = ⊎_elim
-        (λ here. let from = image_of (λ (c : Text). let q : Text × Text = (p, c) in q) names pair here in (subst (Contains (p ∷ ps)) (ap (λ q. q.0) from.2) (has_first p ps), subst (Contains names) (ap (λ q. q.1) from.2) from.1))
+        (λ here. let from = image_of (λ (c : Text). let q : Text × Text = (p, c) in q) names pair here in
+        (subst (Contains (p ∷ ps)) (ap (λ q. q.0) from.2) (has_first p ps), subst (Contains names) (ap (λ q. q.1) from.2) from.1))
         (λ later. let rest = go ps later in (has_later p ps pair.0 rest.0, rest.1))
         (Contains-append_cases (with_parent p names) (flat_map (λ q. with_parent q names) ps) pair there)

@@ -40,15 +40,22 @@ module _ (g : Content) (graph : IsGraph g) where
   name_at = key_at nat_list_cmp_total ties_are_equal name_of g.nodes
 
   -- a mark after a search from p tells of paths to q
-  pub told_by_mark : (numbers : List (ℕ × ℕ)) (heads : List (List ℕ)) (marks : List Bool) (p q : Text) (i j : ℕ) → AreNumbered (map name_of g.nodes) (arcs_of g) numbers → AreHeads (length g.nodes) numbers heads → IsPlaceOf byte_cmp name_of g.nodes p i → IsPlaceOf byte_cmp name_of g.nodes q j → MarksReached heads i marks → (is : Bool) → is ≡ get_or marks j false → IsTrue is ↔ Path (JoinedIn g) p q
+  pub told_by_mark : (numbers : List (ℕ × ℕ)) (heads : List (List ℕ)) (marks : List Bool) (p q : Text) (i j : ℕ)
+      → AreNumbered (map name_of g.nodes) (arcs_of g) numbers → AreHeads (length g.nodes) numbers heads
+      → IsPlaceOf byte_cmp name_of g.nodes p i → IsPlaceOf byte_cmp name_of g.nodes q j → MarksReached heads i marks → (is : Bool)
+      → is ≡ get_or marks j false → IsTrue is ↔ Path (JoinedIn g) p q
   told_by_mark numbers heads marks p q i j numbered are at_i at_j told is read =
-      let by_mark = told_by_marks (map name_of g.nodes) (arcs_of g) numbers heads marks numbered (rw (length-map g.nodes name_of) are) names_once p q i j (name_at p i at_i) (name_at q j at_j) told in
+      let by_mark = told_by_marks (map name_of g.nodes) (arcs_of g) numbers heads marks numbered (rw (length-map g.nodes name_of) are)
+      names_once p q i j (name_at p i at_i) (name_at q j at_j) told in
       (λ t. by_mark.0 (sym read ∙ t), λ path. read ∙ by_mark.1 path)
 
   pub edge_ends : (i : ℕ) (e : Edge) → i < length g.edges → e ≡ get_or g.edges i e → HasNode g e.parent × HasNode g e.child
-  edge_ends i e lt is = (subst (λ x. HasNode g x.parent) (sym is) (graph.parents i e lt), subst (λ x. HasNode g x.child) (sym is) (graph.children i e lt))
+  edge_ends i e lt is =
+      (subst (λ x. HasNode g x.parent) (sym is) (graph.parents i e lt), subst (λ x. HasNode g x.child) (sym is) (graph.children i e lt))
 
-pub numbered_more : (keys : List Text) (edges : List Edge) (i : ℕ) (e : Edge) (numbers : List (ℕ × ℕ)) (a b : ℕ) → i < length edges → e ≡ get_or edges i e → AreNumbered keys (map ends_of (take i edges)) numbers → IsAt keys e.parent a → IsAt keys e.child b → AreNumbered keys (map ends_of (take (i + 1) edges)) (numbers ++ (a, b) ∷ [])
+pub numbered_more : (keys : List Text) (edges : List Edge) (i : ℕ) (e : Edge) (numbers : List (ℕ × ℕ)) (a b : ℕ) → i < length edges
+    → e ≡ get_or edges i e → AreNumbered keys (map ends_of (take i edges)) numbers → IsAt keys e.parent a → IsAt keys e.child b
+    → AreNumbered keys (map ends_of (take (i + 1) edges)) (numbers ++ (a, b) ∷ [])
 numbered_more keys edges i e numbers a b lt is so_far at_a at_b =
     rw (take_more edges i e lt, ← is, map-append) (zip_push _ (map ends_of (take i edges)) numbers (ends_of e) (a, b) so_far (at_a, at_b))
 

@@ -29,7 +29,8 @@ pub record IsGiven (names : List Text) (given : Given) : Type 0 where
   pub edges : (parent child : Text) (edge : Edge) → given.edge parent child ≡ Some edge → (edge.parent ≡ parent) × (edge.child ≡ child)
   pub parents : (parent child : Text) (edge : Edge) → given.edge parent child ≡ Some edge → (node : Node) × (given.node parent ≡ Some node)
   pub children : (parent child : Text) (edge : Edge) → given.edge parent child ≡ Some edge → (node : Node) × (given.node child ≡ Some node)
-  pub packages : (name provider : Text) → given.provider name ≡ Some provider → Contains names provider × ((node : Node) × (given.node provider ≡ Some node))
+  pub packages : (name provider : Text) → given.provider name ≡ Some provider → Contains names provider
+      × ((node : Node) × (given.node provider ≡ Some node))
 
 -- names in byte order, each once
 abbrev pub AreNames : List Text → Type 0

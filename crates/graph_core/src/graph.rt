@@ -48,7 +48,8 @@ impl Graph {
     /// Adds a node; `false`, and nothing is changed, exactly where its name is there.
     pub fn add_node(&mut self, node: Node) -> Result<bool, AllocError>
         ensures added { IfOk result (λ added. IsTrue added ↔ (node_of self.old node.name ≡ None)) }
-        ensures new { IfOk result (λ added. self.new ≡ (if added then with_node self.old node else self.old)) }
+        ensures new { IfOk result (λ added. self.new
+            ≡ (if added then with_node self.old node else self.old)) }
         ensures err { OnErr result (self.new ≡ self.old) }
     {
         insert(&mut self.nodes, node)
@@ -57,9 +58,11 @@ impl Graph {
     /// Adds an edge; `false`, and nothing is changed, exactly where one between its ends is there, or an
     /// end is no node.
     pub fn add_edge(&mut self, edge: Edge) -> Result<bool, AllocError>
-        ensures added { IfOk result (λ added. IsTrue added ↔ ((edge_of self.old edge.parent edge.child ≡ None)
+        ensures added { IfOk result (λ added. IsTrue added
+            ↔ ((edge_of self.old edge.parent edge.child ≡ None)
             × HasNode self.old edge.parent × HasNode self.old edge.child)) }
-        ensures new { IfOk result (λ added. self.new ≡ (if added then with_edge self.old edge else self.old)) }
+        ensures new { IfOk result (λ added. self.new
+            ≡ (if added then with_edge self.old edge else self.old)) }
         ensures err { OnErr result (self.new ≡ self.old) }
     {
         if !self.has_ends(&edge) {
@@ -77,8 +80,10 @@ impl Graph {
     /// Sets the package that provides a virtual; `false`, and nothing is changed, exactly where the
     /// virtual has one, or the package is no node.
     pub fn set_provider(&mut self, name: Word, provider: Word) -> Result<bool, AllocError>
-        ensures added { IfOk result (λ added. IsTrue added ↔ ((provider_of self.old name ≡ None) × HasNode self.old provider)) }
-        ensures new { IfOk result (λ added. self.new ≡ (if added then with_provider self.old name provider else self.old)) }
+        ensures added { IfOk result (λ added. IsTrue added
+            ↔ ((provider_of self.old name ≡ None) × HasNode self.old provider)) }
+        ensures new { IfOk result (λ added. self.new
+            ≡ (if added then with_provider self.old name provider else self.old)) }
         ensures err { OnErr result (self.new ≡ self.old) }
     {
         if !self.has_node(provider.as_str()) {
@@ -163,14 +168,16 @@ impl Graph {
     }
 
     fn has_ends(&self, edge: &Edge) -> bool
-        ensures { IsTrue result ↔ (HasNode self.now edge.now.parent × HasNode self.now edge.now.child) }
+        ensures { IsTrue result ↔ (HasNode self.now edge.now.parent
+            × HasNode self.now edge.now.child) }
     {
         self.has_node(edge.parent.as_str()) && self.has_node(edge.child.as_str())
     }
 
     // Where the edge between these stands, or else where it would stand.
     fn edge_place(&self, parent: &str, child: &str) -> Result<usize, usize>
-        ensures place { MatchResult result (IsPlaceOf pair_cmp ends_of self.now.edges (parent.now, child.now))
+        ensures place { MatchResult result
+            (IsPlaceOf pair_cmp ends_of self.now.edges (parent.now, child.now))
             (IsGapFor pair_cmp ends_of self.now.edges (parent.now, child.now)) }
         ensures graph { IsGraph self.now }
     {
@@ -184,7 +191,8 @@ fn run_from(edges: &[Edge], name: &str) -> (usize, usize)
     requires { IsInOrder pair_cmp ends_of edges.now }
     ensures bounds { result.0 ≤ result.1 }
     ensures within { result.1 ≤ length edges.now }
-    ensures run { slice_range edges.now result.0 result.1 ≡ filter (λ edge. bytes_eq edge.parent name.now) edges.now }
+    ensures run { slice_range edges.now result.0 result.1
+        ≡ filter (λ edge. bytes_eq edge.parent name.now) edges.now }
 {
     let first = edges.partition_point(|edge| edge.parent.as_str().cmp(name).is_lt());
     let end = edges.partition_point(|edge| edge.parent.as_str().cmp(name).is_le());

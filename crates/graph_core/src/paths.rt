@@ -28,7 +28,8 @@ pub fn reaches(alloc: Global, graph: &Graph, from: &str, to: &str) -> Result<boo
 
 /// The places of the ends of each edge.
 pub(crate) fn numbered(alloc: Global, graph: &Graph) -> Result<Vec<(usize, usize)>, AllocError>
-    ensures { IfOk result (λ numbers. AreNumbered (map name_of graph.now.nodes) (arcs_of graph.now) numbers.items) }
+    ensures { IfOk result (λ numbers. AreNumbered (map name_of graph.now.nodes) (arcs_of graph.now)
+        numbers.items) }
 {
     let mut numbers = Vec::new(alloc);
     for edge in graph.edges() {

@@ -16,7 +16,8 @@ tied a b Less e below back = absurd cc
 tied a b Equal e below back = same_text a b (sym (texts_ties a b ∙ rw e refl))
 tied a b Greater e below back = absurd cc
 
-pub one_vector : (problem : Problem) (a b : Content) → IsWellFormed a → IsWellFormed b → IsOptimal problem a → IsOptimal problem b → vector problem a ≡ vector problem b
+pub one_vector : (problem : Problem) (a b : Content) → IsWellFormed a → IsWellFormed b → IsOptimal problem a → IsOptimal problem b
+    → vector problem a ≡ vector problem b
 one_vector problem a b g h best other =
     let va = vector problem a in
     let vb = vector problem b in

@@ -33,7 +33,8 @@ module _ {K : Type 0} {R : K → K → Ordering} (t : IsTotalOrder R) where
   sum_from : (xs : List K) (x : K) → AllByRecursion (λ other. one_if x other ≡ 0) xs → count_by (λ other. is_lt (R other x)) xs ≡ 0
   unfolding one_if
   sum_from [] x none = refl
-  sum_from (y ∷ ys) x none = let rest = sum_from ys x none.1 in let first = none.0 in sum_by-cons (one_if x) y ys ∙ omega (arith, first, rest)
+  sum_from (y ∷ ys) x none = let rest = sum_from ys x none.1 in let first = none.0 in sum_by-cons (one_if x) y ys
+      ∙ omega (arith, first, rest)
 
   -- what is above an element is not below it
   above : (o : Ordering) → o ≡ Greater → o ≢ Less
@@ -43,7 +44,8 @@ module _ {K : Type 0} {R : K → K → Ordering} (t : IsTotalOrder R) where
 
   none_after : (x : K) (xs : List K) → AllByRecursion (λ other. R x other ≡ Less) xs → AllByRecursion (λ other. one_if x other ≡ 0) xs
   none_after x [] all = tt
-  none_after x (y ∷ ys) all = (is_passed y x (R y x) refl (above (R y x) (t.antisymm y x ∙ ap ordering_reverse all.0)), none_after x ys all.1)
+  none_after x (y ∷ ys) all =
+      (is_passed y x (R y x) refl (above (R y x) (t.antisymm y x ∙ ap ordering_reverse all.0)), none_after x ys all.1)
 
   -- a fact of each element is one of the k-th
   at_place : (P : K → Type 0) (xs : List K) (k : ℕ) (x : K) → AllByRecursion P xs → slice_get xs k ≡ Some x → P x
@@ -54,18 +56,21 @@ module _ {K : Type 0} {R : K → K → Ordering} (t : IsTotalOrder R) where
   not_itself : (x : K) → one_if x x ≡ 0
   not_itself x = is_passed x x (R x x) refl (λ e. let both : Less ≡ Equal = sym e ∙ tied_itself t x in absurd cc)
 
-  in_sort : (sorted : List K) (k : ℕ) (x : K) → IsStrictlySortedBy R sorted → slice_get sorted k ≡ Some x → count_by (λ other. is_lt (R other x)) sorted ≡ k
+  in_sort : (sorted : List K) (k : ℕ) (x : K) → IsStrictlySortedBy R sorted → slice_get sorted k ≡ Some x
+      → count_by (λ other. is_lt (R other x)) sorted ≡ k
   unfolding one_if
   in_sort [] k x order is = absurd (let no : None ≡ Some x = is in cc)
   in_sort (y ∷ ys) zero x order is =
       let same : y ≡ x = cc in
-      subst (λ (v : K). count_by (λ other. is_lt (R other v)) (y ∷ ys) ≡ 0) same (sum_from (y ∷ ys) y (not_itself y, none_after y ys (sorted_head R y ys order)))
+      subst (λ (v : K). count_by (λ other. is_lt (R other v)) (y ∷ ys) ≡ 0) same
+      (sum_from (y ∷ ys) y (not_itself y, none_after y ys (sorted_head R y ys order)))
   in_sort (y ∷ ys) (suc k) x order is =
       let first = is_counted y x (at_place (λ other. R y other ≡ Less) ys k x (sorted_head R y ys order) is) in
       let rest : count_by (λ other. is_lt (R other x)) ys ≡ k = in_sort ys k x (sorted_tail R y ys order) is in
       sum_by-cons (one_if x) y ys ∙ omega (arith, first, rest)
 
-  pub place_in_sort : (xs sorted : List K) (k : ℕ) (x : K) → IsPermutation xs sorted → IsStrictlySortedBy R sorted → slice_get sorted k ≡ Some x → count_by (λ other. is_lt (R other x)) xs ≡ k
+  pub place_in_sort : (xs sorted : List K) (k : ℕ) (x : K) → IsPermutation xs sorted → IsStrictlySortedBy R sorted
+      → slice_get sorted k ≡ Some x → count_by (λ other. is_lt (R other x)) xs ≡ k
   place_in_sort xs sorted k x moved order is = sym (sum_by-IsPermutation _ xs sorted moved) ∙ in_sort sorted k x order is
 
 -- ---- the sort of declared versions

@@ -9,7 +9,8 @@ use Rattle.graph_costs.specs.Costs.{vector, smaller}
 -- the graph is valid, and no valid graph has a smaller vector
 pub record IsOptimal (problem : Problem) (graph : Content) : Type 0 where
   pub is_valid : valid problem graph ≡ true
-  pub least : (other : Content) → IsWellFormed other → valid problem other ≡ true → smaller (vector problem other) (vector problem graph) ≡ false
+  pub least : (other : Content) → IsWellFormed other → valid problem other ≡ true
+      → smaller (vector problem other) (vector problem graph) ≡ false
 
 -- no graph is valid
 abbrev pub HasNoGraph : Problem → Type 0

@@ -50,25 +50,42 @@ among-in (e ∷ asked) d h = elim (or_cases (same_demand d e) (is_among asked d)
 in-among : (asked : List Demand) (d : Demand) → In d asked → is_among asked d ≡ true
 in-among [] d none = absurd none
 in-among (e ∷ asked) d (inl same) = subst (λ f. list_any (same_demand d) (f ∷ asked) ≡ true) same (rw (same_demand-itself d) refl)
-in-among (e ∷ asked) d (inr later) = elim (same_demand d e) as (λ b. (b || is_among asked d) ≡ true) [ true ↦ refl | false ↦ in-among asked d later ]
+in-among (e ∷ asked) d (inr later) = elim (same_demand d e) as (λ b. (b || is_among asked d) ≡ true) [
+  | true ↦ refl
+  | false ↦
+      in-among asked d later
+]
 
 -- ---- roots
 
-roots-kept : (test : ℕ → Spec → Bool) (place : ℕ) (specs : List Spec) → ((k : ℕ) (spec : Spec) → slice_get specs k ≡ Some spec → test (place + k) spec ≡ true) → is_empty (broken_roots test place specs) ≡ true
+roots-kept : (test : ℕ → Spec → Bool) (place : ℕ) (specs : List Spec)
+    → ((k : ℕ) (spec : Spec) → slice_get specs k ≡ Some spec → test (place + k) spec ≡ true)
+    → is_empty (broken_roots test place specs) ≡ true
 roots-kept test place [] each = refl
 roots-kept test place (spec ∷ specs) each =
     let none : place + 0 ≡ place = omega arith in
     let here : test place spec ≡ true = subst (λ n. test n spec ≡ true) none (each 0 spec refl) in
-    let rest = roots-kept test (place + 1) specs (λ k s e. let more : place + suc k ≡ place + 1 + k = omega arith in subst (λ n. test n s ≡ true) more (each (suc k) s e)) in
-    elim (test place spec) as (λ b. b ≡ true → is_empty (cond b (broken_roots test (place + 1) specs) ((unwrap_or spec.top.name [], place) ∷ broken_roots test (place + 1) specs)) ≡ true) [ true ↦ λ h. rest | false ↦ λ h. absurd cc ] here
+    let rest = roots-kept test (place + 1) specs (λ k s e. let more : place + suc k ≡ place + 1 + k = omega arith in
+    subst (λ n. test n s ≡ true) more (each (suc k) s e)) in
+    elim (test place spec) as (λ b. b ≡ true → is_empty
+    (cond b (broken_roots test (place + 1) specs) ((unwrap_or spec.top.name [], place) ∷ broken_roots test (place + 1) specs)) ≡ true)
+    [ true ↦ λ h. rest | false ↦ λ h. absurd cc ] here
 
-roots-first : (test : ℕ → Spec → Bool) (place : ℕ) (spec : Spec) (specs : List Spec) → is_empty (broken_roots test place (spec ∷ specs)) ≡ true
+roots-first : (test : ℕ → Spec → Bool) (place : ℕ) (spec : Spec) (specs : List Spec)
+    → is_empty (broken_roots test place (spec ∷ specs)) ≡ true
     → (test place spec ≡ true) × (is_empty (broken_roots test (place + 1) specs) ≡ true)
 roots-first test place spec specs h =
-    elim (test place spec) as (λ b. test place spec ≡ b → is_empty (cond b (broken_roots test (place + 1) specs) ((unwrap_or spec.top.name [], place) ∷ broken_roots test (place + 1) specs)) ≡ true
-    → (test place spec ≡ true) × (is_empty (broken_roots test (place + 1) specs) ≡ true)) [ true ↦ λ is rest. (is, rest) | false ↦ λ is no. absurd (let wrong : false ≡ true = no in cc) ] refl h
+    elim (test place spec) as (λ b. test place spec ≡ b
+    → is_empty (cond b (broken_roots test (place + 1) specs)
+    ((unwrap_or spec.top.name [], place) ∷ broken_roots test (place + 1) specs)) ≡ true
+    → (test place spec ≡ true) × (is_empty (broken_roots test (place + 1) specs) ≡ true)) [
+      | true ↦ λ is rest. (is, rest)
+      | false ↦
+          λ is no. absurd (let wrong : false ≡ true = no in cc)
+    ] refl h
 
-roots-each : (test : ℕ → Spec → Bool) (place : ℕ) (specs : List Spec) (k : ℕ) (spec : Spec) → is_empty (broken_roots test place specs) ≡ true → slice_get specs k ≡ Some spec → test (place + k) spec ≡ true
+roots-each : (test : ℕ → Spec → Bool) (place : ℕ) (specs : List Spec) (k : ℕ) (spec : Spec)
+    → is_empty (broken_roots test place specs) ≡ true → slice_get specs k ≡ Some spec → test (place + k) spec ≡ true
 roots-each test place [] k spec h e = absurd (let no : None ≡ Some spec = e in cc)
 roots-each test place (s ∷ specs) zero spec h e =
     let same : s ≡ spec = cc in
@@ -82,25 +99,32 @@ roots-each test place (s ∷ specs) (suc k) spec h e =
 
 module _ (graph : Content) (made : Asked) {R : Type 0} (rows_at : Text → List R) (number : R → ℕ) (test : Node → R → Bool) where
   abbrev Each : Type 0
-  Each = (node : Node) → In node graph.nodes → is_built node ≡ true → (row : R) → In row (rows_at node.name) → made (demand.Directive node.name (number row)) ≡ true → test node row ≡ true
+  Each = (node : Node) → In node graph.nodes → is_built node ≡ true → (row : R) → In row (rows_at node.name)
+      → made (demand.Directive node.name (number row)) ≡ true → test node row ≡ true
 
   rows-kept : Each → is_empty (broken_rows rows_at number (keeps_asked_row made number test) graph) ≡ true
   rows-kept each =
       sym (failing_rows rows_at number (keeps_asked_row made number test) graph.nodes)
-      ∙ list_all-from _ graph.nodes (λ node there. implies-from (is_built node) _ (λ built. list_all-from _ (rows_at node.name) (λ row is. implies-from (made (demand.Directive node.name (number row))) _ (λ a. each node there built row is a))))
+      ∙ list_all-from _ graph.nodes (λ node there. implies-from (is_built node) _
+      (λ built. list_all-from _ (rows_at node.name)
+      (λ row is. implies-from (made (demand.Directive node.name (number row))) _ (λ a. each node there built row is a))))
 
   rows-each : is_empty (broken_rows rows_at number (keeps_asked_row made number test) graph) ≡ true → Each
   rows-each h node there built row is a =
       let all = failing_rows rows_at number (keeps_asked_row made number test) graph.nodes ∙ h in
-      let here = implied (is_built node) _ (list_all-each (λ n. implies (is_built n) (list_all (keeps_asked_row made number test n) (rows_at n.name))) graph.nodes node all there) built in
-      implied (made (demand.Directive node.name (number row))) (test node row) (list_all-each (keeps_asked_row made number test node) (rows_at node.name) row here is) a
+      let here = implied (is_built node) _ (list_all-each
+      (λ n. implies (is_built n) (list_all (keeps_asked_row made number test n) (rows_at n.name))) graph.nodes node all there) built in
+      implied (made (demand.Directive node.name (number row))) (test node row)
+      (list_all-each (keeps_asked_row made number test node) (rows_at node.name) row here is) a
 
 -- ---- all rules
 
-none_broken : (made : Asked) (asked : List Rule) (problem : Problem) (graph : Content) → is_valid (first_broken made asked problem graph) ≡ list_all (λ rule. is_empty (breaks_of made rule problem graph)) asked
+none_broken : (made : Asked) (asked : List Rule) (problem : Problem) (graph : Content)
+    → is_valid (first_broken made asked problem graph) ≡ list_all (λ rule. is_empty (breaks_of made rule problem graph)) asked
 none_broken made [] problem graph = refl
 none_broken made (rule ∷ more) problem graph =
-    step rule (breaks_of made rule problem graph) (first_broken made more problem graph) ∙ ap (λ b. is_empty (breaks_of made rule problem graph) && b) (none_broken made more problem graph)
+    step rule (breaks_of made rule problem graph) (first_broken made more problem graph)
+    ∙ ap (λ b. is_empty (breaks_of made rule problem graph) && b) (none_broken made more problem graph)
 
 is_structure : Rule → Bool
 is_structure rules.Root = false
@@ -124,7 +148,8 @@ itself : (n : ℕ) → (n == n) ≡ true
 itself n = eq-eqb n n refl
 
 -- a rule of the structure is broken alike whatever is asked
-structure-same : (made : Asked) (problem : Problem) (graph : Content) (rule : Rule) → is_structure rule ≡ true → keeps rule problem graph ≡ is_empty (breaks_of made rule problem graph)
+structure-same : (made : Asked) (problem : Problem) (graph : Content) (rule : Rule) → is_structure rule ≡ true
+    → keeps rule problem graph ≡ is_empty (breaks_of made rule problem graph)
 unfolding breaks_of is_structure
 structure-same made problem graph rules.Root h = absurd cc
 structure-same made problem graph rules.Buildable h = keeps-breaks rules.Buildable problem graph
@@ -153,52 +178,65 @@ module _ (problem : Problem) (graph : Content) (g : IsGraph graph) (asked : List
   module _ (v : valid_for asked problem graph ≡ true) where
     demand-made : (d : Demand) → is_among asked d ≡ true → keeps_demand problem graph d ≡ true
     unfolding valid_for
-    demand-made d a = list_all-each (keeps_demand problem graph) asked d (and_parts (keeps_all structure_rules problem graph) (list_all (keeps_demand problem graph) asked) v).1 (among-in asked d a)
+    demand-made d a = list_all-each (keeps_demand problem graph) asked d
+        (and_parts (keeps_all structure_rules problem graph) (list_all (keeps_demand problem graph) asked) v).1 (among-in asked d a)
 
     structure-made : (rule : Rule) → In rule structure_rules → is_empty (breaks_of (is_among asked) rule problem graph) ≡ true
     unfolding valid_for
     structure-made rule there =
         sym (structure-same (is_among asked) problem graph rule (structure-is rule there))
-        ∙ list_all-each (λ r. keeps r problem graph) structure_rules rule (and_parts (keeps_all structure_rules problem graph) (list_all (keeps_demand problem graph) asked) v).0 there
+        ∙ list_all-each (λ r. keeps r problem graph) structure_rules rule
+        (and_parts (keeps_all structure_rules problem graph) (list_all (keeps_demand problem graph) asked) v).0 there
 
-    directive-made : (node : Node) (number : ℕ) → In node graph.nodes → is_built node ≡ true → is_among asked (demand.Directive node.name number) ≡ true → keeps_directive problem graph number node ≡ true
+    directive-made : (node : Node) (number : ℕ) → In node graph.nodes → is_built node ≡ true
+        → is_among asked (demand.Directive node.name number) ≡ true → keeps_directive problem graph number node ≡ true
     unfolding keeps_demand
     directive-made node number there built a =
         implied (is_built node) (keeps_directive problem graph number node)
-        (subst (λ (o : Option Node). if_written o (λ n. implies (is_built n) (keeps_directive problem graph number n)) ≡ true) (node-itself graph node g there) (demand-made (demand.Directive node.name number) a)) built
+        (subst (λ (o : Option Node). if_written o (λ n. implies (is_built n) (keeps_directive problem graph number n)) ≡ true)
+        (node-itself graph node g there) (demand-made (demand.Directive node.name number) a)) built
 
     roots-made : is_empty (breaks_of (is_among asked) rules.Root problem graph) ≡ true
     unfolding breaks_of keeps_demand
     roots-made = roots-kept (keeps_asked_root (is_among asked) problem graph) 0 problem.roots (λ k spec e.
         let none : 0 + k ≡ k = omega arith in
         subst (λ n. keeps_asked_root (is_among asked) problem graph n spec ≡ true) (sym none)
-        (implies-from (is_among asked (demand.Root k)) (keeps_root problem graph spec) (λ a. subst (λ (o : Option Spec). if_written o (keeps_root problem graph) ≡ true) e (demand-made (demand.Root k) a))))
+        (implies-from (is_among asked (demand.Root k)) (keeps_root problem graph spec)
+        (λ a. subst (λ (o : Option Spec). if_written o (keeps_root problem graph) ≡ true) e (demand-made (demand.Root k) a))))
 
-    depend-made : (node : Node) → In node graph.nodes → is_built node ≡ true → (row : _) → In row (depends_at problem node.name) → is_among asked (demand.Directive node.name row.number) ≡ true
+    depend-made : (node : Node) → In node graph.nodes → is_built node ≡ true → (row : _) → In row (depends_at problem node.name)
+        → is_among asked (demand.Directive node.name row.number) ≡ true
         → (keeps_edge problem graph node row && keeps_constraint problem graph node row) ≡ true
     depend-made node there built row is a =
         let kept = directive-made node row.number there built a in
-        implied (row.number == row.number) _ (list_all-each _ (depends_at problem node.name) row (and_parts _ _ (and_parts _ _ kept).0).0 is) (itself row.number)
+        implied (row.number == row.number) _ (list_all-each _ (depends_at problem node.name) row (and_parts _ _ (and_parts _ _ kept).0).0
+        is) (itself row.number)
 
     edges-made : is_empty (breaks_of (is_among asked) rules.Edge problem graph) ≡ true
     unfolding breaks_of
-    edges-made = rows-kept graph (is_among asked) (depends_at problem) (λ row. row.number) (keeps_edge problem graph) (λ node there built row is a. (and_parts _ _ (depend-made node there built row is a)).0)
+    edges-made = rows-kept graph (is_among asked) (depends_at problem) (λ row. row.number) (keeps_edge problem graph)
+        (λ node there built row is a. (and_parts _ _ (depend-made node there built row is a)).0)
 
     constraints-made : is_empty (breaks_of (is_among asked) rules.Constraint problem graph) ≡ true
     unfolding breaks_of
-    constraints-made = rows-kept graph (is_among asked) (depends_at problem) (λ row. row.number) (keeps_constraint problem graph) (λ node there built row is a. (and_parts _ _ (depend-made node there built row is a)).1)
+    constraints-made = rows-kept graph (is_among asked) (depends_at problem) (λ row. row.number) (keeps_constraint problem graph)
+        (λ node there built row is a. (and_parts _ _ (depend-made node there built row is a)).1)
 
     conflicts-made : is_empty (breaks_of (is_among asked) rules.Conflict problem graph) ≡ true
     unfolding breaks_of
-    conflicts-made = rows-kept graph (is_among asked) (conflicts_at problem) (λ row. row.number) (keeps_conflict problem graph) (λ node there built row is a.
+    conflicts-made = rows-kept graph (is_among asked) (conflicts_at problem) (λ row. row.number) (keeps_conflict problem graph)
+        (λ node there built row is a.
         let kept = directive-made node row.number there built a in
-        implied (row.number == row.number) _ (list_all-each _ (conflicts_at problem node.name) row (and_parts _ _ (and_parts _ _ kept).0).1 is) (itself row.number))
+        implied (row.number == row.number) _ (list_all-each _ (conflicts_at problem node.name) row (and_parts _ _ (and_parts _ _ kept).0).1
+        is) (itself row.number))
 
     requirements-made : is_empty (breaks_of (is_among asked) rules.Requirement problem graph) ≡ true
     unfolding breaks_of
-    requirements-made = rows-kept graph (is_among asked) (requirements_at problem) (λ row. row.number) (keeps_requirement problem graph) (λ node there built row is a.
+    requirements-made = rows-kept graph (is_among asked) (requirements_at problem) (λ row. row.number) (keeps_requirement problem graph)
+        (λ node there built row is a.
         let kept = directive-made node row.number there built a in
-        implied (row.number == row.number) _ (list_all-each _ (requirements_at problem node.name) row (and_parts _ _ kept).1 is) (itself row.number))
+        implied (row.number == row.number) _ (list_all-each _ (requirements_at problem node.name) row (and_parts _ _ kept).1 is)
+        (itself row.number))
 
     each-made : (rule : Rule) → is_empty (breaks_of (is_among asked) rule problem graph) ≡ true
     each-made rules.Root = roots-made
@@ -220,14 +258,16 @@ module _ (problem : Problem) (graph : Content) (g : IsGraph graph) (asked : List
 
     said-valid : verdict_for asked problem graph ≡ verdicts.Valid
     unfolding verdict_of
-    said-valid = is_valid-from _ (none_broken (is_among asked) all_rules problem graph ∙ list_all-from _ all_rules (λ rule _. each-made rule))
+    said-valid = is_valid-from _ (none_broken (is_among asked) all_rules problem graph
+        ∙ list_all-from _ all_rules (λ rule _. each-made rule))
 
   -- ---- a graph that breaks no rule is valid for the demands
 
   module _ (e : verdict_for asked problem graph ≡ verdicts.Valid) where
     unbroken : (rule : Rule) → is_empty (breaks_of (is_among asked) rule problem graph) ≡ true
     unfolding verdict_of
-    unbroken rule = list_all-each (λ r. is_empty (breaks_of (is_among asked) r problem graph)) all_rules rule (sym (none_broken (is_among asked) all_rules problem graph) ∙ ap is_valid e) (stands rule)
+    unbroken rule = list_all-each (λ r. is_empty (breaks_of (is_among asked) r problem graph)) all_rules rule
+        (sym (none_broken (is_among asked) all_rules problem graph) ∙ ap is_valid e) (stands rule)
 
     root-asked : (place : ℕ) → In (demand.Root place) asked → keeps_demand problem graph (demand.Root place) ≡ true
     unfolding keeps_demand breaks_of
@@ -237,32 +277,47 @@ module _ (problem : Problem) (graph : Content) (g : IsGraph graph) (asked : List
           | Some spec ↦ λ is.
               let none : 0 + place ≡ place = omega arith in
               let kept = roots-each (keeps_asked_root (is_among asked) problem graph) 0 problem.roots place spec (unbroken rules.Root) is in
-              implied (is_among asked (demand.Root place)) (keeps_root problem graph spec) (subst (λ n. keeps_asked_root (is_among asked) problem graph n spec ≡ true) none kept) (in-among asked (demand.Root place) there)
+              implied (is_among asked (demand.Root place)) (keeps_root problem graph spec)
+              (subst (λ n. keeps_asked_root (is_among asked) problem graph n spec ≡ true) none kept)
+              (in-among asked (demand.Root place) there)
         ] refl
 
-    directive-kept : (node : Node) (number : ℕ) → In node graph.nodes → is_built node ≡ true → In (demand.Directive node.name number) asked → keeps_directive problem graph number node ≡ true
+    directive-kept : (node : Node) (number : ℕ) → In node graph.nodes → is_built node ≡ true → In (demand.Directive node.name number) asked
+        → keeps_directive problem graph number node ≡ true
     unfolding breaks_of
     directive-kept node number there built is_asked =
         let a = in-among asked (demand.Directive node.name number) is_asked in
-        let made : (k : ℕ) → (k == number) ≡ true → is_among asked (demand.Directive node.name k) ≡ true = λ k same. subst (λ n. is_among asked (demand.Directive node.name n) ≡ true) (sym (eqb-true k number same)) a in
-        let edges = rows-each graph (is_among asked) (depends_at problem) (λ row. row.number) (keeps_edge problem graph) (unbroken rules.Edge) node there built in
-        let constraints = rows-each graph (is_among asked) (depends_at problem) (λ row. row.number) (keeps_constraint problem graph) (unbroken rules.Constraint) node there built in
-        let conflicts = rows-each graph (is_among asked) (conflicts_at problem) (λ row. row.number) (keeps_conflict problem graph) (unbroken rules.Conflict) node there built in
-        let requirements = rows-each graph (is_among asked) (requirements_at problem) (λ row. row.number) (keeps_requirement problem graph) (unbroken rules.Requirement) node there built in
+        let made : (k : ℕ) → (k == number) ≡ true → is_among asked (demand.Directive node.name k) ≡ true =
+        λ k same. subst (λ n. is_among asked (demand.Directive node.name n) ≡ true) (sym (eqb-true k number same)) a in
+        let edges = rows-each graph (is_among asked) (depends_at problem) (λ row. row.number) (keeps_edge problem graph)
+        (unbroken rules.Edge) node there built in
+        let constraints = rows-each graph (is_among asked) (depends_at problem) (λ row. row.number) (keeps_constraint problem graph)
+        (unbroken rules.Constraint) node there built in
+        let conflicts = rows-each graph (is_among asked) (conflicts_at problem) (λ row. row.number) (keeps_conflict problem graph)
+        (unbroken rules.Conflict) node there built in
+        let requirements = rows-each graph (is_among asked) (requirements_at problem) (λ row. row.number) (keeps_requirement problem graph)
+        (unbroken rules.Requirement) node there built in
         and_from _ _ (and_from _ _
-        (list_all-from _ (depends_at problem node.name) (λ row is. implies-from (row.number == number) _ (λ same. and_from _ _ (edges row is (made row.number same)) (constraints row is (made row.number same)))))
-        (list_all-from _ (conflicts_at problem node.name) (λ row is. implies-from (row.number == number) _ (λ same. conflicts row is (made row.number same)))))
-        (list_all-from _ (requirements_at problem node.name) (λ row is. implies-from (row.number == number) _ (λ same. requirements row is (made row.number same))))
+        (list_all-from _ (depends_at problem node.name)
+        (λ row is. implies-from (row.number == number) _
+        (λ same. and_from _ _ (edges row is (made row.number same)) (constraints row is (made row.number same)))))
+        (list_all-from _ (conflicts_at problem node.name)
+        (λ row is. implies-from (row.number == number) _ (λ same. conflicts row is (made row.number same)))))
+        (list_all-from _ (requirements_at problem node.name)
+        (λ row is. implies-from (row.number == number) _ (λ same. requirements row is (made row.number same))))
 
-    directive-asked : (name : Text) (number : ℕ) → In (demand.Directive name number) asked → keeps_demand problem graph (demand.Directive name number) ≡ true
+    directive-asked : (name : Text) (number : ℕ) → In (demand.Directive name number) asked
+        → keeps_demand problem graph (demand.Directive name number) ≡ true
     unfolding keeps_demand
     directive-asked name number there =
-        elim (node_of graph name) as (λ o. node_of graph name ≡ o → if_written o (λ node. implies (is_built node) (keeps_directive problem graph number node)) ≡ true) [
+        elim (node_of graph name) as (λ o. node_of graph name ≡ o
+        → if_written o (λ node. implies (is_built node) (keeps_directive problem graph number node)) ≡ true) [
           | None ↦ λ is. refl
           | Some node ↦ λ is.
               let found = find-in _ graph.nodes node is in
               let same : node.name ≡ name = (texts_decide node.name name).0 found.1 in
-              implies-from (is_built node) _ (λ built. directive-kept node number found.0 built (subst (λ n. In (demand.Directive n number) asked) (sym same) there))
+              implies-from (is_built node) _ (λ built. directive-kept node number found.0 built
+              (subst (λ n. In (demand.Directive n number) asked) (sym same) there))
         ] refl
 
     demand-kept : (d : Demand) → In d asked → keeps_demand problem graph d ≡ true
@@ -272,7 +327,8 @@ module _ (problem : Problem) (graph : Content) (g : IsGraph graph) (asked : List
     valid-said : valid_for asked problem graph ≡ true
     unfolding valid_for
     valid-said =
-        and_from _ _ (list_all-from (λ rule. keeps rule problem graph) structure_rules (λ rule there. structure-same (is_among asked) problem graph rule (structure-is rule there) ∙ unbroken rule))
+        and_from _ _ (list_all-from (λ rule. keeps rule problem graph) structure_rules
+        (λ rule there. structure-same (is_among asked) problem graph rule (structure-is rule there) ∙ unbroken rule))
         (list_all-from (keeps_demand problem graph) asked demand-kept)
 
   pub valid_for-verdict : (valid_for asked problem graph ≡ true) ↔ (verdict_for asked problem graph ≡ verdicts.Valid)

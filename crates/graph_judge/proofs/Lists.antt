@@ -16,11 +16,17 @@ use Rattle.graph_rules.proofs.LeastLaws.{lesser_of-assoc}
 use Rattle.graph_judge.specs.Places.{unless, keeps_row, rows_places, found_of}
 
 -- the places of those that fail the test, one after another
-pub flat_unless : {X : Type 0} (test : X → Bool) (at : X → Place) (xs : List X) → flat_map (λ x. unless (test x) (at x)) xs ≡ map at (filter (λ x. not (test x)) xs)
+pub flat_unless : {X : Type 0} (test : X → Bool) (at : X → Place) (xs : List X)
+    → flat_map (λ x. unless (test x) (at x)) xs ≡ map at (filter (λ x. not (test x)) xs)
 flat_unless test at [] = refl
 flat_unless test at (x ∷ xs) =
     let rest = flat_unless test at xs in
-    elim (test x) as (λ b. unless b (at x) ++ flat_map (λ x. unless (test x) (at x)) xs ≡ map at (cond (not b) (x ∷ filter (λ x. not (test x)) xs) (filter (λ x. not (test x)) xs))) [ true ↦ rest | false ↦ ap (λ l. at x ∷ l) rest ]
+    elim (test x) as (λ b. unless b (at x) ++ flat_map (λ x. unless (test x) (at x)) xs
+    ≡ map at (cond (not b) (x ∷ filter (λ x. not (test x)) xs) (filter (λ x. not (test x)) xs))) [
+      | true ↦ rest
+      | false ↦
+          ap (λ l. at x ∷ l) rest
+    ]
 
 -- the same for rows of each
 flat_map-same : {X Y : Type 0} (f g : X → List Y) → ((x : X) → f x ≡ g x) → (xs : List X) → flat_map f xs ≡ flat_map g xs
@@ -29,8 +35,12 @@ flat_map-same f g same (x ∷ xs) = rw (same x, flat_map-same f g same xs) refl
 
 -- the places of the rows that fail their test, node after node
 pub rows_flat : {R : Type 0} (made : Asked) (rows_at : Text → List R) (number : R → ℕ) (test : Node → R → Bool) (nodes : List Node)
-    → rows_places made rows_at number test nodes ≡ flat_map (λ node. map (λ row. let p : Place = (node.name, number row) in p) (filter (λ row. not (implies (is_built node) (keeps_asked_row made number test node row))) (rows_at node.name))) nodes
-rows_flat made rows_at number test nodes = flat_map-same _ _ (λ node. flat_unless (keeps_row made number test node) (λ row. let p : Place = (node.name, number row) in p) (rows_at node.name)) nodes
+    → rows_places made rows_at number test nodes
+    ≡ flat_map (λ node. map (λ row. let p : Place = (node.name, number row) in
+    p) (filter (λ row. not (implies (is_built node) (keeps_asked_row made number test node row))) (rows_at node.name))) nodes
+rows_flat made rows_at number test nodes =
+    flat_map-same _ _ (λ node. flat_unless (keeps_row made number test node) (λ row. let p : Place = (node.name, number row) in
+    p) (rows_at node.name)) nodes
 
 -- what is left of a list, one element further on
 split : {X : Type 0} (xs : List X) (i : ℕ) (x : X) → i < length xs → x ≡ get_or xs i x → drop i xs ≡ x ∷ drop (i + 1) xs
@@ -41,20 +51,27 @@ split xs i x lt is =
 pub flat_step : {X A : Type 0} (f : X → List A) (xs : List X) (i : ℕ) (x : X) (acc more whole : List A) → i < length xs → x ≡ get_or xs i x
     → more ≡ acc ++ f x → acc ++ flat_map f (drop i xs) ≡ whole → more ++ flat_map f (drop (i + 1) xs) ≡ whole
 flat_step f xs i x acc more whole lt is grown before =
-    ap (λ l. l ++ flat_map f (drop (i + 1) xs)) grown ∙ append_assoc acc (f x) (flat_map f (drop (i + 1) xs)) ∙ ap (λ l. acc ++ flat_map f l) (sym (split xs i x lt is)) ∙ before
+    ap (λ l. l ++ flat_map f (drop (i + 1) xs)) grown ∙ append_assoc acc (f x) (flat_map f (drop (i + 1) xs))
+    ∙ ap (λ l. acc ++ flat_map f l) (sym (split xs i x lt is)) ∙ before
 
 -- ---- roots
 
 roots_cons : (test : ℕ → Spec → Bool) (place : ℕ) (spec : Spec) (more : List Spec)
-    → broken_roots test place (spec ∷ more) ≡ unless (test place spec) (unwrap_or spec.top.name [], place) ++ broken_roots test (place + 1) more
+    → broken_roots test place (spec ∷ more) ≡ unless (test place spec) (unwrap_or spec.top.name [], place)
+    ++ broken_roots test (place + 1) more
 roots_cons test place spec more =
-    elim (test place spec) as (λ b. cond b (broken_roots test (place + 1) more) ((unwrap_or spec.top.name [], place) ∷ broken_roots test (place + 1) more) ≡ unless b (unwrap_or spec.top.name [], place) ++ broken_roots test (place + 1) more) [ true ↦ refl | false ↦ refl ]
+    elim (test place spec) as (λ b. cond b (broken_roots test (place + 1) more)
+    ((unwrap_or spec.top.name [], place) ∷ broken_roots test (place + 1) more) ≡ unless b (unwrap_or spec.top.name [], place)
+    ++ broken_roots test (place + 1) more) [ true ↦ refl | false ↦ refl ]
 
-pub roots_step : (test : ℕ → Spec → Bool) (specs : List Spec) (i : ℕ) (spec : Spec) (acc more whole : List Place) → i < length specs → spec ≡ get_or specs i spec
-    → more ≡ acc ++ unless (test i spec) (unwrap_or spec.top.name [], i) → acc ++ broken_roots test i (drop i specs) ≡ whole → more ++ broken_roots test (i + 1) (drop (i + 1) specs) ≡ whole
+pub roots_step : (test : ℕ → Spec → Bool) (specs : List Spec) (i : ℕ) (spec : Spec) (acc more whole : List Place) → i < length specs
+    → spec ≡ get_or specs i spec
+    → more ≡ acc ++ unless (test i spec) (unwrap_or spec.top.name [], i) → acc ++ broken_roots test i (drop i specs) ≡ whole
+    → more ++ broken_roots test (i + 1) (drop (i + 1) specs) ≡ whole
 roots_step test specs i spec acc more whole lt is grown before =
     let here = unless (test i spec) (unwrap_or spec.top.name [], i) in
-    ap (λ l. l ++ broken_roots test (i + 1) (drop (i + 1) specs)) grown ∙ append_assoc acc here (broken_roots test (i + 1) (drop (i + 1) specs))
+    ap (λ l. l ++ broken_roots test (i + 1) (drop (i + 1) specs)) grown
+    ∙ append_assoc acc here (broken_roots test (i + 1) (drop (i + 1) specs))
     ∙ ap (λ l. acc ++ l) (sym (ap (broken_roots test i) (split specs i spec lt is) ∙ roots_cons test i spec (drop (i + 1) specs))) ∙ before
 
 -- ---- the least
@@ -67,7 +84,8 @@ least_step places i p best more whole lt is grown before =
 
 -- ---- numbers of demands
 
-pub any-filter_map : {X Y : Type 0} (test : Y → Bool) (f : X → Option Y) (xs : List X) → list_any test (filter_map f xs) ≡ list_any (λ x. is_some_and (f x) test) xs
+pub any-filter_map : {X Y : Type 0} (test : Y → Bool) (f : X → Option Y) (xs : List X)
+    → list_any test (filter_map f xs) ≡ list_any (λ x. is_some_and (f x) test) xs
 any-filter_map test f [] = refl
 any-filter_map test f (x ∷ xs) =
     let rest = any-filter_map test f xs in
@@ -78,20 +96,27 @@ any-filter_map test f (x ∷ xs) =
 
 -- ---- the first broken rule
 
-pub first_said : (made : Asked) (problem : Problem) (graph : Content) (rules : List Rule) (i : ℕ) (rule : Rule) (said whole : Verdict) → i < length rules → rule ≡ get_or rules i rule
-    → Some said ≡ found_of rule (least (breaks_of made rule problem graph)) → first_broken made (drop i rules) problem graph ≡ whole → said ≡ whole
+pub first_said : (made : Asked) (problem : Problem) (graph : Content) (rules : List Rule) (i : ℕ) (rule : Rule) (said whole : Verdict)
+    → i < length rules → rule ≡ get_or rules i rule
+    → Some said ≡ found_of rule (least (breaks_of made rule problem graph)) → first_broken made (drop i rules) problem graph ≡ whole
+    → said ≡ whole
 first_said made problem graph rules i rule said whole lt is found before =
-    told (least (breaks_of made rule problem graph)) found ∙ ap (λ l. first_broken made l problem graph) (sym (split rules i rule lt is)) ∙ before
+    told (least (breaks_of made rule problem graph)) found ∙ ap (λ l. first_broken made l problem graph) (sym (split rules i rule lt is))
+    ∙ before
   where
     told : (o : Option Place) → Some said ≡ found_of rule o → said ≡ broken_or rule o (first_broken made (drop (i + 1) rules) problem graph)
     told None e = absurd (let no : Some said ≡ None = e in cc)
     told (Some p) e = cc
 
-pub first_later : (made : Asked) (problem : Problem) (graph : Content) (rules : List Rule) (i : ℕ) (rule : Rule) (whole : Verdict) → i < length rules → rule ≡ get_or rules i rule
-    → None ≡ found_of rule (least (breaks_of made rule problem graph)) → first_broken made (drop i rules) problem graph ≡ whole → first_broken made (drop (i + 1) rules) problem graph ≡ whole
+pub first_later : (made : Asked) (problem : Problem) (graph : Content) (rules : List Rule) (i : ℕ) (rule : Rule) (whole : Verdict)
+    → i < length rules → rule ≡ get_or rules i rule
+    → None ≡ found_of rule (least (breaks_of made rule problem graph)) → first_broken made (drop i rules) problem graph ≡ whole
+    → first_broken made (drop (i + 1) rules) problem graph ≡ whole
 first_later made problem graph rules i rule whole lt is found before =
-    told (least (breaks_of made rule problem graph)) found ∙ ap (λ l. first_broken made l problem graph) (sym (split rules i rule lt is)) ∙ before
+    told (least (breaks_of made rule problem graph)) found ∙ ap (λ l. first_broken made l problem graph) (sym (split rules i rule lt is))
+    ∙ before
   where
-    told : (o : Option Place) → None ≡ found_of rule o → first_broken made (drop (i + 1) rules) problem graph ≡ broken_or rule o (first_broken made (drop (i + 1) rules) problem graph)
+    told : (o : Option Place) → None ≡ found_of rule o
+        → first_broken made (drop (i + 1) rules) problem graph ≡ broken_or rule o (first_broken made (drop (i + 1) rules) problem graph)
     told None e = refl
     told (Some p) e = absurd (let no : None ≡ Some (verdicts.Broken rule p.0 p.1) = e in cc)

@@ -61,7 +61,8 @@ fn add_nodes(
     graph: &Explored,
     nodes: &[Node],
 ) -> Result<(), AllocError>
-    ensures { OnOk result (places.new.items ≡ places.old.items ++ nodes_places (keeps_at rule problem.now graph.now) nodes.now) }
+    ensures { OnOk result (places.new.items ≡ places.old.items
+        ++ nodes_places (keeps_at rule problem.now graph.now) nodes.now) }
 {
     for node in nodes {
         let kept = keeps_at(alloc, rule, problem, graph, node)?;
@@ -77,7 +78,8 @@ pub(crate) fn node_places(
     problem: &Problem,
     graph: &Explored,
 ) -> Result<Vec<(Word, u64)>, AllocError>
-    ensures { IfOk result (λ places. places.items ≡ broken_nodes (keeps_at rule problem.now graph.now) graph.now) }
+    ensures { IfOk result (λ places. places.items
+        ≡ broken_nodes (keeps_at rule problem.now graph.now) graph.now) }
 {
     let mut places = Vec::new(alloc);
     add_nodes(

@@ -22,7 +22,8 @@ fn keeps_asked_root<D: Demanded>(
     place: u64,
     spec: &Spec,
 ) -> Result<bool, AllocError>
-    ensures { IfOk result (λ kept. kept ≡ keeps_asked_root (D.asks demanded.now) problem.now graph.now place spec.now) }
+    ensures { IfOk result (λ kept. kept ≡ keeps_asked_root (D.asks demanded.now) problem.now
+        graph.now place spec.now) }
 {
     if !demanded.root(place) {
         return Ok(true);
@@ -47,7 +48,8 @@ pub(crate) fn root_places<D: Demanded>(
     demanded: &D,
     roots: &[Spec],
 ) -> Result<Vec<(Word, u64)>, AllocError>
-    ensures { IfOk result (λ places. places.items ≡ broken_roots (keeps_asked_root (D.asks demanded.now) problem.now graph.now) 0 roots.now) }
+    ensures { IfOk result (λ places. places.items
+        ≡ broken_roots (keeps_asked_root (D.asks demanded.now) problem.now graph.now) 0 roots.now) }
 {
     let mut places = Vec::new(alloc);
     for place in 0..roots.len() {
@@ -84,7 +86,8 @@ fn add_providers(
     graph: &Explored,
     providers: &[(Word, Word)],
 ) -> Result<(), AllocError>
-    ensures { OnOk result (places.new.items ≡ places.old.items ++ providers_places (provider_test used problem.now graph.now) providers.now) }
+    ensures { OnOk result (places.new.items ≡ places.old.items
+        ++ providers_places (provider_test used problem.now graph.now) providers.now) }
 {
     for provider in providers {
         let kept = provider_test(alloc, used, problem, graph, provider)?;
@@ -100,7 +103,8 @@ pub(crate) fn provider_places(
     problem: &Problem,
     graph: &Explored,
 ) -> Result<Vec<(Word, u64)>, AllocError>
-    ensures { IfOk result (λ places. places.items ≡ broken_providers (provider_test used problem.now graph.now) graph.now) }
+    ensures { IfOk result (λ places. places.items
+        ≡ broken_providers (provider_test used problem.now graph.now) graph.now) }
 {
     let mut places = Vec::new(alloc);
     let providers = graph.graph().providers();

@@ -28,7 +28,8 @@ fn depend_test(
     node: &Node,
     row: &DependRow,
 ) -> Result<bool, AllocError>
-    ensures { IfOk result (λ kept. kept ≡ depend_test constraint problem.now graph.now node.now row.now) }
+    ensures { IfOk result (λ kept. kept ≡ depend_test constraint problem.now graph.now
+        node.now row.now) }
 {
     if constraint {
         keeps_constraint(alloc, problem, graph, node, row)
@@ -46,7 +47,8 @@ fn keeps_depend<D: Demanded>(
     node: &Node,
     row: &DependRow,
 ) -> Result<bool, AllocError>
-    ensures { IfOk result (λ kept. kept ≡ keeps_row (D.asks demanded.now) (λ row. row.number) (depend_test constraint problem.now graph.now) node.now row.now) }
+    ensures { IfOk result (λ kept. kept ≡ keeps_row (D.asks demanded.now) (λ row. row.number)
+        (depend_test constraint problem.now graph.now) node.now row.now) }
 {
     if !is_built(node) {
         return Ok(true);
@@ -67,7 +69,9 @@ fn add_depends<D: Demanded>(
     node: &Node,
     rows: &[DependRow],
 ) -> Result<(), AllocError>
-    ensures { OnOk result (places.new.items ≡ places.old.items ++ row_places (D.asks demanded.now) (λ row. row.number) (depend_test constraint problem.now graph.now) node.now rows.now) }
+    ensures { OnOk result (places.new.items ≡ places.old.items
+        ++ row_places (D.asks demanded.now) (λ row. row.number)
+        (depend_test constraint problem.now graph.now) node.now rows.now) }
 {
     for row in rows {
         let kept = keeps_depend(alloc, constraint, problem, graph, demanded, node, row)?;
@@ -85,7 +89,9 @@ fn add_all_depends<D: Demanded>(
     demanded: &D,
     nodes: &[Node],
 ) -> Result<(), AllocError>
-    ensures { OnOk result (places.new.items ≡ places.old.items ++ rows_places (D.asks demanded.now) (depends_at problem.now) (λ row. row.number) (depend_test constraint problem.now graph.now) nodes.now) }
+    ensures { OnOk result (places.new.items ≡ places.old.items
+        ++ rows_places (D.asks demanded.now) (depends_at problem.now) (λ row. row.number)
+        (depend_test constraint problem.now graph.now) nodes.now) }
 {
     for node in nodes {
         let rows = depends_at(problem, node.name.as_str());
@@ -104,7 +110,9 @@ pub(crate) fn depend_places<D: Demanded>(
     graph: &Explored,
     demanded: &D,
 ) -> Result<Vec<(Word, u64)>, AllocError>
-    ensures { IfOk result (λ places. places.items ≡ broken_rows (depends_at problem.now) (λ row. row.number) (keeps_asked_row (D.asks demanded.now) (λ row. row.number) (depend_test constraint problem.now graph.now)) graph.now) }
+    ensures { IfOk result (λ places. places.items ≡ broken_rows (depends_at problem.now)
+        (λ row. row.number) (keeps_asked_row (D.asks demanded.now) (λ row. row.number)
+        (depend_test constraint problem.now graph.now)) graph.now) }
 {
     let mut places = Vec::new(alloc);
     let nodes = graph.graph().nodes();
@@ -130,7 +138,8 @@ fn keeps_conflict_asked<D: Demanded>(
     node: &Node,
     row: &ConflictRow,
 ) -> Result<bool, AllocError>
-    ensures { IfOk result (λ kept. kept ≡ keeps_row (D.asks demanded.now) (λ row. row.number) (keeps_conflict problem.now graph.now) node.now row.now) }
+    ensures { IfOk result (λ kept. kept ≡ keeps_row (D.asks demanded.now) (λ row. row.number)
+        (keeps_conflict problem.now graph.now) node.now row.now) }
 {
     if !is_built(node) {
         return Ok(true);
@@ -150,7 +159,9 @@ fn add_conflicts<D: Demanded>(
     node: &Node,
     rows: &[ConflictRow],
 ) -> Result<(), AllocError>
-    ensures { OnOk result (places.new.items ≡ places.old.items ++ row_places (D.asks demanded.now) (λ row. row.number) (keeps_conflict problem.now graph.now) node.now rows.now) }
+    ensures { OnOk result (places.new.items ≡ places.old.items
+        ++ row_places (D.asks demanded.now) (λ row. row.number)
+        (keeps_conflict problem.now graph.now) node.now rows.now) }
 {
     for row in rows {
         let kept = keeps_conflict_asked(alloc, problem, graph, demanded, node, row)?;
@@ -167,7 +178,9 @@ fn add_all_conflicts<D: Demanded>(
     demanded: &D,
     nodes: &[Node],
 ) -> Result<(), AllocError>
-    ensures { OnOk result (places.new.items ≡ places.old.items ++ rows_places (D.asks demanded.now) (conflicts_at problem.now) (λ row. row.number) (keeps_conflict problem.now graph.now) nodes.now) }
+    ensures { OnOk result (places.new.items ≡ places.old.items
+        ++ rows_places (D.asks demanded.now) (conflicts_at problem.now) (λ row. row.number)
+        (keeps_conflict problem.now graph.now) nodes.now) }
 {
     for node in nodes {
         let rows = conflicts_at(problem, node.name.as_str());
@@ -183,7 +196,9 @@ pub(crate) fn conflict_places<D: Demanded>(
     graph: &Explored,
     demanded: &D,
 ) -> Result<Vec<(Word, u64)>, AllocError>
-    ensures { IfOk result (λ places. places.items ≡ broken_rows (conflicts_at problem.now) (λ row. row.number) (keeps_asked_row (D.asks demanded.now) (λ row. row.number) (keeps_conflict problem.now graph.now)) graph.now) }
+    ensures { IfOk result (λ places. places.items ≡ broken_rows (conflicts_at problem.now)
+        (λ row. row.number) (keeps_asked_row (D.asks demanded.now) (λ row. row.number)
+        (keeps_conflict problem.now graph.now)) graph.now) }
 {
     let mut places = Vec::new(alloc);
     let nodes = graph.graph().nodes();
@@ -201,7 +216,8 @@ fn keeps_requirement_asked<D: Demanded>(
     node: &Node,
     row: &RequireRow,
 ) -> Result<bool, AllocError>
-    ensures { IfOk result (λ kept. kept ≡ keeps_row (D.asks demanded.now) (λ row. row.number) (keeps_requirement problem.now graph.now) node.now row.now) }
+    ensures { IfOk result (λ kept. kept ≡ keeps_row (D.asks demanded.now) (λ row. row.number)
+        (keeps_requirement problem.now graph.now) node.now row.now) }
 {
     if !is_built(node) {
         return Ok(true);
@@ -221,7 +237,9 @@ fn add_requirements<D: Demanded>(
     node: &Node,
     rows: &[RequireRow],
 ) -> Result<(), AllocError>
-    ensures { OnOk result (places.new.items ≡ places.old.items ++ row_places (D.asks demanded.now) (λ row. row.number) (keeps_requirement problem.now graph.now) node.now rows.now) }
+    ensures { OnOk result (places.new.items ≡ places.old.items
+        ++ row_places (D.asks demanded.now) (λ row. row.number)
+        (keeps_requirement problem.now graph.now) node.now rows.now) }
 {
     for row in rows {
         let kept = keeps_requirement_asked(alloc, problem, graph, demanded, node, row)?;
@@ -238,7 +256,9 @@ fn add_all_requirements<D: Demanded>(
     demanded: &D,
     nodes: &[Node],
 ) -> Result<(), AllocError>
-    ensures { OnOk result (places.new.items ≡ places.old.items ++ rows_places (D.asks demanded.now) (requirements_at problem.now) (λ row. row.number) (keeps_requirement problem.now graph.now) nodes.now) }
+    ensures { OnOk result (places.new.items ≡ places.old.items
+        ++ rows_places (D.asks demanded.now) (requirements_at problem.now) (λ row. row.number)
+        (keeps_requirement problem.now graph.now) nodes.now) }
 {
     for node in nodes {
         let rows = requirements_at(problem, node.name.as_str());
@@ -254,7 +274,9 @@ pub(crate) fn requirement_places<D: Demanded>(
     graph: &Explored,
     demanded: &D,
 ) -> Result<Vec<(Word, u64)>, AllocError>
-    ensures { IfOk result (λ places. places.items ≡ broken_rows (requirements_at problem.now) (λ row. row.number) (keeps_asked_row (D.asks demanded.now) (λ row. row.number) (keeps_requirement problem.now graph.now)) graph.now) }
+    ensures { IfOk result (λ places. places.items ≡ broken_rows (requirements_at problem.now)
+        (λ row. row.number) (keeps_asked_row (D.asks demanded.now) (λ row. row.number)
+        (keeps_requirement problem.now graph.now)) graph.now) }
 {
     let mut places = Vec::new(alloc);
     let nodes = graph.graph().nodes();

@@ -47,7 +47,8 @@ fn places_of<D: Demanded>(
     graph: &Explored,
     demanded: &D,
 ) -> Result<Vec<(Word, u64)>, AllocError>
-    ensures { IfOk result (λ places. places.items ≡ breaks_of (D.asks demanded.now) rule problem.now graph.now) }
+    ensures { IfOk result (λ places. places.items ≡ breaks_of (D.asks demanded.now) rule
+        problem.now graph.now) }
 {
     match rule {
         Rule::Root => root_places(alloc, problem, graph, demanded, problem.roots()),
@@ -77,7 +78,8 @@ fn broken<D: Demanded>(
     graph: &Explored,
     demanded: &D,
 ) -> Result<Option<Verdict>, AllocError>
-    ensures { IfOk result (λ found. found ≡ found_of rule (least (breaks_of (D.asks demanded.now) rule problem.now graph.now))) }
+    ensures { IfOk result (λ found. found
+        ≡ found_of rule (least (breaks_of (D.asks demanded.now) rule problem.now graph.now))) }
 {
     let places = places_of(alloc, rule, problem, graph, demanded)?;
     match least_of(places.as_slice()) {
@@ -97,7 +99,8 @@ fn first_broken<D: Demanded>(
     demanded: &D,
     rules: &[Rule],
 ) -> Result<Verdict, AllocError>
-    ensures { IfOk result (λ said. said ≡ first_broken (D.asks demanded.now) rules.now problem.now graph.now) }
+    ensures { IfOk result (λ said. said ≡ first_broken (D.asks demanded.now) rules.now
+        problem.now graph.now) }
 {
     for rule in rules {
         let found = broken(alloc, *rule, problem, graph, demanded)?;
@@ -127,7 +130,8 @@ fn verdict_of<D: Demanded>(
 /// Finds all paths once and then goes over the graph once for each rule.
 pub fn judge(alloc: Global, problem: &Problem, graph: &Graph) -> Result<Verdict, AllocError>
     ensures first { IfOk result (λ said. said ≡ verdict problem.now graph.now) }
-    ensures valid { IfOk result (λ said. (said ≡ Verdict.Valid) ↔ (valid problem.now graph.now ≡ true)) }
+    ensures valid { IfOk result (λ said. (said ≡ Verdict.Valid)
+        ↔ (valid problem.now graph.now ≡ true)) }
 {
     let said = verdict_of(alloc, problem, graph, &All {})?;
     Ok(said)
@@ -144,7 +148,8 @@ pub fn judge_for(
     ensures first { let asked = filter_map (slice_get (demands problem.now)) ids.now in
         IfOk result (λ said. said ≡ verdict_for asked problem.now graph.now) }
     ensures valid { let asked = filter_map (slice_get (demands problem.now)) ids.now in
-        IfOk result (λ said. (said ≡ Verdict.Valid) ↔ (valid_for asked problem.now graph.now ≡ true)) }
+        IfOk result (λ said. (said ≡ Verdict.Valid)
+        ↔ (valid_for asked problem.now graph.now ≡ true)) }
 {
     let _nodes = graph.nodes();
     let said = verdict_of(alloc, problem, graph, &Listed { problem, ids })?;

@@ -47,7 +47,11 @@ any-in : {X : Type 0} (p : X → Bool) (xs : List X) → list_any p xs ≡ true 
 any-in p [] h = absurd cc
 any-in p (y ∷ ys) h =
     let rest = any-in p ys in
-    elim (or_cases (p y) (list_any p ys) h) as (λ _. (x : _) × In x (y ∷ ys) × (p x ≡ true)) [ inl here ↦ (y, inl refl, here) | inr later ↦ let r = rest later in (r.0, inr r.1, r.2) ]
+    elim (or_cases (p y) (list_any p ys) h) as (λ _. (x : _) × In x (y ∷ ys) × (p x ≡ true)) [
+      | inl here ↦ (y, inl refl, here)
+      | inr later ↦
+          let r = rest later in (r.0, inr r.1, r.2)
+    ]
 
 in-any : {X : Type 0} (p : X → Bool) (xs : List X) (x : X) → In x xs → p x ≡ true → list_any p xs ≡ true
 in-any p [] x none h = absurd none
@@ -60,13 +64,18 @@ to_filter p (y ∷ ys) x there h =
     let rest = to_filter p ys x in
     elim (p y) as (λ b. p y ≡ b → In x (cond b (y ∷ filter p ys) (filter p ys))) [
       | true ↦ λ e. elim there as (λ _. In x (y ∷ filter p ys)) [ inl same ↦ inl same | inr later ↦ inr (rest later h) ]
-      | false ↦ λ e. elim there as (λ _. In x (filter p ys)) [ inl same ↦ absurd (let wrong : false ≡ true = sym e ∙ ap p (sym same) ∙ h in cc) | inr later ↦ rest later h ]
+      | false ↦ λ e. elim there as (λ _. In x (filter p ys)) [
+        | inl same ↦
+            absurd (let wrong : false ≡ true = sym e ∙ ap p (sym same) ∙ h in cc)
+        | inr later ↦ rest later h
+      ]
     ] refl
 
 to_filter_map : {X Y : Type 0} (f : X → Option Y) (xs : List X) (x : X) (y : Y) → In x xs → f x ≡ Some y → In y (filter_map f xs)
 to_filter_map f [] x y none e = absurd none
 to_filter_map f (z ∷ zs) x y (inl same) e = rw (let is : f z ≡ Some y = ap f (sym same) ∙ e in is) (inl refl)
-to_filter_map f (z ∷ zs) x y (inr later) e = let rest = to_filter_map f zs x y later e in elim (f z) as (λ o. In y (cons_option o (filter_map f zs))) [ None ↦ rest | Some w ↦ inr rest ]
+to_filter_map f (z ∷ zs) x y (inr later) e = let rest = to_filter_map f zs x y later e in
+    elim (f z) as (λ o. In y (cons_option o (filter_map f zs))) [ None ↦ rest | Some w ↦ inr rest ]
 
 -- there is one that passes
 pub some-and : {T : Type 0} (o : Option T) (p : T → Bool) → is_some_and o p ≡ true → (x : T) × (o ≡ Some x) × (p x ≡ true)
@@ -85,16 +94,20 @@ module _ (problem : Problem) (graph : Content) (g : IsGraph graph) (k : keeps_al
 
   kept : (node : Node) → In node graph.nodes → keeps_origin problem graph node node.origin ≡ true
   unfolding keeps keeps_kept
-  kept node there = list_all-each (keeps_kept problem graph) graph.nodes node (rule rules.Kept (slice_get-in structure_rules 6 rules.Kept refl)) there
+  kept node there = list_all-each (keeps_kept problem graph) graph.nodes node
+      (rule rules.Kept (slice_get-in structure_rules 6 rules.Kept refl)) there
 
   built_origin : (node : Node) → node.origin ≡ Built → is_built node ≡ true
   built_origin node e = rw e refl
 
-  known-by : (node : Node) → In node graph.nodes → (o : Origin) → node.origin ≡ o → keeps_origin problem graph node o ≡ true → is_known problem node.name ≡ true
+  known-by : (node : Node) → In node graph.nodes → (o : Origin) → node.origin ≡ o → keeps_origin problem graph node o ≡ true
+      → is_known problem node.name ≡ true
   unfolding keeps keeps_buildable is_known record_at same_attributes installed_node
   known-by node there Built e h =
-      let buildable = at_built (keeps_buildable problem) graph node (rule rules.Buildable (slice_get-in structure_rules 0 rules.Buildable refl)) there (built_origin node e) in
-      or_left _ _ (or_left _ _ (and_parts (is_some (recipe_at problem node.name)) (is_buildable_in (entry_of problem node.name)) buildable).0)
+      let buildable = at_built (keeps_buildable problem) graph node
+      (rule rules.Buildable (slice_get-in structure_rules 0 rules.Buildable refl)) there (built_origin node e) in
+      or_left _ _ (or_left _ _ (and_parts (is_some (recipe_at problem node.name))
+      (is_buildable_in (entry_of problem node.name)) buildable).0)
   known-by node there (External place) e h =
       let found = some-and (slice_get (externals_in (entry_of problem node.name)) place) _ (and_parts _ _ h).0 in
       or_left _ _ (or_right _ _ (is_there (externals_in (entry_of problem node.name)) place found.0 found.1))
@@ -104,7 +117,9 @@ module _ (problem : Problem) (graph : Content) (g : IsGraph graph) (k : keeps_al
       is_there (y ∷ ys) i x is = refl
   known-by node there (Installed hash) e h =
       let found = some-and (record_at problem hash) _ h in
-      let same = (and_parts _ _ (and_parts _ _ (and_parts _ _ (and_parts _ _ (and_parts _ _ (and_parts _ _ (and_parts _ _ (and_parts _ _ found.2).0).0).0).0).0).0).0).0 in
+      let same = (and_parts _ _
+      (and_parts _ _
+      (and_parts _ _ (and_parts _ _ (and_parts _ _ (and_parts _ _ (and_parts _ _ (and_parts _ _ found.2).0).0).0).0).0).0).0).0 in
       or_right _ _ (in-any (λ entry. bytes_eq entry.name node.name) problem.database found.0 (find-in _ problem.database found.0 found.1).0
       (ap (λ n. bytes_eq n node.name) (sym (bytes_eq-same node.name found.0.name same)) ∙ bytes_eq-itself node.name))
 
@@ -114,24 +129,33 @@ module _ (problem : Problem) (graph : Content) (g : IsGraph graph) (k : keeps_al
   -- ---- what an edge leads to
 
   -- the node that a name asks for is one of its possible children
-  asked-possible : (name : Text) (asked : Node) → asked_node (world_of problem) graph name ≡ Some asked → In asked.name (possible_children problem (Some name))
+  asked-possible : (name : Text) (asked : Node) → asked_node (world_of problem) graph name ≡ Some asked
+      → In asked.name (possible_children problem (Some name))
   unfolding keeps keeps_provider asked_node provides recipe_of
   asked-possible name asked e =
-      elim (is_virtual problem.recipes name) as (λ b. option_and_then (node_of graph) (cond b (provider_of graph name) (Some name)) ≡ Some asked → In asked.name (cond b (possible_providers problem name) (name ∷ []))) [
+      elim (is_virtual problem.recipes name) as (λ b. option_and_then (node_of graph) (cond b (provider_of graph name) (Some name))
+      ≡ Some asked → In asked.name (cond b (possible_providers problem name) (name ∷ []))) [
         | false ↦ λ is. inl ((texts_decide asked.name name).0 (find-in _ graph.nodes asked is).1)
         | true ↦ λ is.
             let by = and_then (node_of graph) (provider_of graph name) asked is in
             let pair = mapped (find_key byte_cmp virtual_of graph.providers name) by.0 by.1 in
             let in_providers = find-in (λ (p : Text × Text). eq_by_cmp byte_cmp p.0 name) graph.providers pair.0 pair.1 in
-            let right = list_all-each (keeps_provider problem graph) graph.providers pair.0 (rule rules.Provider (slice_get-in structure_rules 7 rules.Provider refl)) in_providers.0 in
+            let right = list_all-each (keeps_provider problem graph) graph.providers pair.0
+            (rule rules.Provider (slice_get-in structure_rules 7 rules.Provider refl)) in_providers.0 in
             let node = some-and (node_of graph pair.0.1) _ right in
             let same : node.0 ≡ asked = let both : Some node.0 ≡ Some asked = sym node.1 ∙ ap (node_of graph) pair.2 ∙ by.2 in cc in
-            let gives = any-in (row_provides (world_of problem) node.0 pair.0.0 None) (rows (λ recipe. recipe.provides) (recipe_at problem node.0.name)) node.2 in
+            let gives = any-in (row_provides (world_of problem) node.0 pair.0.0 None)
+            (rows (λ recipe. recipe.provides) (recipe_at problem node.0.name)) node.2 in
             let of = row-of (λ recipe. recipe.provides) (recipe_at problem node.0.name) gives.0 gives.1 in
             let in_recipes = find-in _ problem.recipes of.0 of.1 in
-            let named : bytes_eq gives.0.name name ≡ true = subst (λ v. bytes_eq gives.0.name v ≡ true) ((texts_decide pair.0.0 name).0 in_providers.1) (and_parts _ _ (and_parts _ _ gives.2).0).0 in
-            let member = In-map (λ (recipe : Recipe). recipe.name) _ of.0 (to_filter (λ recipe. list_any (λ row. bytes_eq row.name name) recipe.provides) problem.recipes of.0 in_recipes.0 (in-any (λ row. bytes_eq row.name name) of.0.provides gives.0 of.2 named)) in
-            subst (λ n. In n (possible_providers problem name)) ((texts_decide of.0.name node.0.name).0 in_recipes.1 ∙ ap (λ (n : Node). n.name) same) member
+            let named : bytes_eq gives.0.name name ≡ true =
+            subst (λ v. bytes_eq gives.0.name v ≡ true) ((texts_decide pair.0.0 name).0 in_providers.1)
+            (and_parts _ _ (and_parts _ _ gives.2).0).0 in
+            let member = In-map (λ (recipe : Recipe). recipe.name) _ of.0
+            (to_filter (λ recipe. list_any (λ row. bytes_eq row.name name) recipe.provides) problem.recipes of.0 in_recipes.0
+            (in-any (λ row. bytes_eq row.name name) of.0.provides gives.0 of.2 named)) in
+            subst (λ n. In n (possible_providers problem name)) ((texts_decide of.0.name node.0.name).0 in_recipes.1
+            ∙ ap (λ (n : Node). n.name) same) member
       ] e
     where
       mapped : (o : Option (Text × Text)) (p : Text) → option_map (λ q. q.1) o ≡ Some p → (q : Text × Text) × (o ≡ Some q) × (q.1 ≡ p)
@@ -139,11 +163,13 @@ module _ (problem : Problem) (graph : Content) (g : IsGraph graph) (k : keeps_al
       mapped (Some q) p is = (q, refl, let same : q.1 ≡ p = cc in same)
 
   -- some row asks for an edge that is asked for
-  some_row : (asked : List DependRow) (kinds : Kinds) → has_kind kinds ≡ true → covers (asked_kinds asked) kinds ≡ true → (row : DependRow) × In row asked
+  some_row : (asked : List DependRow) (kinds : Kinds) → has_kind kinds ≡ true → covers (asked_kinds asked) kinds ≡ true → (row : DependRow)
+      × In row asked
   some_row asked kinds has all =
       let parts = and_parts _ _ all in
       let first = and_parts _ _ parts.0 in
-      let one = λ (test : DependRow → Bool) (has_one : list_any test asked ≡ true). let r = any-in test asked has_one in let found : (row : DependRow) × In row asked = (r.0, r.1) in found in
+      let one = λ (test : DependRow → Bool) (has_one : list_any test asked ≡ true). let r = any-in test asked has_one in
+      let found : (row : DependRow) × In row asked = (r.0, r.1) in found in
       elim (or_cases (kinds.build || kinds.link) kinds.run has) as (λ _. (row : DependRow) × In row asked) [
         | inr run ↦ one (λ row. row.kinds.run) (implied kinds.run _ parts.1 run)
         | inl other ↦ elim (or_cases kinds.build kinds.link other) as (λ _. (row : DependRow) × In row asked) [
@@ -152,28 +178,38 @@ module _ (problem : Problem) (graph : Content) (g : IsGraph graph) (k : keeps_al
         ]
       ]
 
-  brings : (node : Node) (e : Edge) → In node graph.nodes → In e (edges_from graph node.name) → (o : Origin) → node.origin ≡ o → keeps_origin problem graph node o ≡ true → In e.child (next_names problem node.name)
+  brings : (node : Node) (e : Edge) → In node graph.nodes → In e (edges_from graph node.name) → (o : Origin) → node.origin ≡ o
+      → keeps_origin problem graph node o ≡ true → In e.child (next_names problem node.name)
   unfolding keeps keeps_extra_edge next_names same_attributes installed_node record_at
   brings node e there from Built is h =
-      let extra = at_built (keeps_extra_edge problem graph) graph node (rule rules.ExtraEdge (slice_get-in structure_rules 5 rules.ExtraEdge refl)) there (built_origin node is) in
+      let extra = at_built (keeps_extra_edge problem graph) graph node
+      (rule rules.ExtraEdge (slice_get-in structure_rules 5 rules.ExtraEdge refl)) there (built_origin node is) in
       let asked = and_parts _ _ (list_all-each (is_asked problem graph node) (edges_from graph node.name) e extra from) in
       let row = some_row (asking problem graph node e.child) e.kinds asked.0 asked.1 in
       let in_rows = from_filter _ (depends_at problem node.name) row.0 row.1 in
       let target = some-and (asked_by problem graph row.0) _ (and_parts _ _ in_rows.1).1 in
       let name = and_then (asked_node (world_of problem) graph) row.0.part.name target.0 target.1 in
       let possible = subst (λ n. In target.0.name (possible_children problem n)) (sym name.1) (asked-possible name.0 target.0 name.2) in
-      In-left _ _ e.child (In-flat_map (λ r. possible_children problem r.part.name) (depends_at problem node.name) row.0 e.child in_rows.0 (subst (λ n. In n (possible_children problem row.0.part.name)) (bytes_eq-same target.0.name e.child target.2) possible))
-  brings node e there from (External place) is h = absurd (let wrong : false ≡ true = list_all-each (λ _. false) (edges_from graph node.name) e (and_parts _ _ h).1 from in cc)
+      In-left _ _ e.child (In-flat_map (λ r. possible_children problem r.part.name) (depends_at problem node.name) row.0 e.child in_rows.0
+      (subst (λ n. In n (possible_children problem row.0.part.name)) (bytes_eq-same target.0.name e.child target.2) possible))
+  brings node e there from (External place) is h =
+      absurd (let wrong : false ≡ true = list_all-each (λ _. false) (edges_from graph node.name) e (and_parts _ _ h).1 from in cc)
   brings node e there from (Installed hash) is h =
       let found = some-and (record_at problem hash) _ h in
       let parts = and_parts _ _ found.2 in
-      let same = (and_parts _ _ (and_parts _ _ (and_parts _ _ (and_parts _ _ (and_parts _ _ (and_parts _ _ (and_parts _ _ parts.0).0).0).0).0).0).0).0 in
-      let dependency = any-in _ (kept_dependencies found.0) (list_all-each (is_child problem found.0) (edges_from graph node.name) e parts.1 from) in
+      let same = (and_parts _ _
+      (and_parts _ _ (and_parts _ _ (and_parts _ _ (and_parts _ _ (and_parts _ _ (and_parts _ _ parts.0).0).0).0).0).0).0).0 in
+      let dependency = any-in _ (kept_dependencies found.0)
+      (list_all-each (is_child problem found.0) (edges_from graph node.name) e parts.1 from) in
       let child = some-and (record_at problem dependency.0.0) _ dependency.2 in
-      let in_names = to_filter_map (λ d. option_map (λ c. c.name) (record_at problem d.0)) (kept_dependencies found.0) dependency.0 child.0.name dependency.1 (ap (option_map (λ (c : Record). c.name)) child.1) in
-      let in_records = to_filter (λ entry. bytes_eq entry.name node.name) problem.database found.0 (find-in _ problem.database found.0 found.1).0 (ap (λ n. bytes_eq n node.name) (sym (bytes_eq-same node.name found.0.name same)) ∙ bytes_eq-itself node.name) in
+      let in_names = to_filter_map (λ d. option_map (λ c. c.name) (record_at problem d.0)) (kept_dependencies found.0) dependency.0
+      child.0.name dependency.1 (ap (option_map (λ (c : Record). c.name)) child.1) in
+      let in_records = to_filter (λ entry. bytes_eq entry.name node.name) problem.database found.0
+      (find-in _ problem.database found.0 found.1).0 (ap (λ n. bytes_eq n node.name) (sym (bytes_eq-same node.name found.0.name same))
+      ∙ bytes_eq-itself node.name) in
       In-right (flat_map (λ r. possible_children problem r.part.name) (depends_at problem node.name)) _ e.child
-      (In-flat_map (kept_names problem) (filter (λ entry. bytes_eq entry.name node.name) problem.database) found.0 e.child in_records (subst (λ n. In n (kept_names problem found.0)) (bytes_eq-same child.0.name e.child child.2) in_names))
+      (In-flat_map (kept_names problem) (filter (λ entry. bytes_eq entry.name node.name) problem.database) found.0 e.child in_records
+      (subst (λ n. In n (kept_names problem found.0)) (bytes_eq-same child.0.name e.child child.2) in_names))
 
   -- ---- paths
 
@@ -187,10 +223,12 @@ module _ (problem : Problem) (graph : Content) (g : IsGraph graph) (k : keeps_al
   node_there name there = let found = image_of name_of graph.nodes name there in (found.0, contains-In graph.nodes found.0 found.1, found.2)
 
   parent_there : (e : Edge) → In e graph.edges → (node : Node) × In node graph.nodes × (node.name ≡ e.parent)
-  parent_there e there = node_there e.parent (All-contains (λ (d : Edge). HasNode graph d.parent) graph.edges e g.parents (In-contains graph.edges e there))
+  parent_there e there =
+      node_there e.parent (All-contains (λ (d : Edge). HasNode graph d.parent) graph.edges e g.parents (In-contains graph.edges e there))
 
   child_there : (e : Edge) → In e graph.edges → (node : Node) × In node graph.nodes × (node.name ≡ e.child)
-  child_there e there = node_there e.child (All-contains (λ (d : Edge). HasNode graph d.child) graph.edges e g.children (In-contains graph.edges e there))
+  child_there e there =
+      node_there e.child (All-contains (λ (d : Edge). HasNode graph d.child) graph.edges e g.children (In-contains graph.edges e there))
 
   -- a name from which an edge goes is a node's
   known_start : (from to : Text) → JoinedIn graph from to → is_known problem from ≡ true
@@ -214,24 +252,33 @@ module _ (problem : Problem) (graph : Content) (g : IsGraph graph) (k : keeps_al
         let up = parent_there edge.0 edge.1 in
         let down = child_there edge.0 edge.1 in
         let is_up : up.0.name ≡ from = up.2 ∙ edge.2 in
-        let out = to_filter (λ d. bytes_eq d.parent up.0.name) graph.edges edge.0 edge.1 (ap (bytes_eq edge.0.parent) up.2 ∙ bytes_eq-itself edge.0.parent) in
+        let out = to_filter (λ d. bytes_eq d.parent up.0.name) graph.edges edge.0 edge.1 (ap (bytes_eq edge.0.parent) up.2
+        ∙ bytes_eq-itself edge.0.parent) in
         let next = brings up.0 edge.0 up.1 out up.0.origin refl (kept up.0 up.1) in
-        let all = list_all-each (λ name. list_all (has_known problem names) (next_names problem name)) names up.0.name (and_parts _ _ c).1 (In-among names up.0.name (ap (among names) is_up ∙ start)) in
+        let all = list_all-each (λ name. list_all (has_known problem names) (next_names problem name)) names up.0.name (and_parts _ _ c).1
+        (In-among names up.0.name (ap (among names) is_up ∙ start)) in
         let known : is_known problem edge.0.child ≡ true = ap (is_known problem) (sym down.2) ∙ known-node down.0 down.1 in
-        ap (among names) (sym edge.3) ∙ from_known edge.0.child known (list_all-each (has_known problem names) (next_names problem up.0.name) edge.0.child all next)
+        ap (among names) (sym edge.3) ∙ from_known edge.0.child known
+        (list_all-each (has_known problem names) (next_names problem up.0.name) edge.0.child all next)
 
-    path_closed : (over : List Text) (from to : Text) → among names from ≡ true → JoinsEach (JoinedIn graph) from (over ++ to ∷ []) → among names to ≡ true
+    path_closed : (over : List Text) (from to : Text) → among names from ≡ true → JoinsEach (JoinedIn graph) from (over ++ to ∷ [])
+        → among names to ≡ true
     path_closed [] from to start steps = edge_closed from to steps.0 start
     path_closed (next ∷ over) from to start steps = path_closed over next to (edge_closed from next steps.0 start) steps.1
 
     pub node-closed : (node : Node) → In node graph.nodes → among names node.name ≡ true
     unfolding keeps keeps_reachable is_closed
     node-closed node there =
-        let needed = any-in _ problem.roots (list_all-each (keeps_reachable problem graph) graph.nodes node (rule rules.Unreachable (slice_get-in structure_rules 10 rules.Unreachable refl)) there) in
+        let needed = any-in _ problem.roots (list_all-each (keeps_reachable problem graph) graph.nodes node
+        (rule rules.Unreachable (slice_get-in structure_rules 10 rules.Unreachable refl)) there) in
         let root = some-and needed.0.top.name _ needed.2 in
-        let held : has_known problem names root.0 ≡ true = subst (λ (o : Option Text). if_written o (has_known problem names) ≡ true) root.1 (list_all-each (λ spec. if_written spec.top.name (has_known problem names)) problem.roots needed.0 (and_parts _ _ c).0 needed.1) in
+        let held : has_known problem names root.0 ≡ true =
+        subst (λ (o : Option Text). if_written o (has_known problem names) ≡ true) root.1
+        (list_all-each (λ spec. if_written spec.top.name (has_known problem names)) problem.roots needed.0
+        (and_parts _ _ c).0 needed.1) in
         elim (or_cases (bytes_eq root.0 node.name) (reaches_in graph root.0 node.name) root.2) as (λ _. among names node.name ≡ true) [
-          | inl same ↦ let e = bytes_eq-same root.0 node.name same in subst (λ n. among names n ≡ true) e (from_known root.0 (ap (is_known problem) e ∙ known-node node there) held)
+          | inl same ↦ let e = bytes_eq-same root.0 node.name same in
+              subst (λ n. among names n ≡ true) e (from_known root.0 (ap (is_known problem) e ∙ known-node node there) held)
           | inr led ↦
               let path = (reaches_decides bytes_eq bytes_decides (arcs_of graph) root.0 node.name).0 led in
               path_closed path.0 root.0 node.name (from_known root.0 (path_start path.0 root.0 node.name path.1) held) path.1

@@ -63,10 +63,22 @@ same-node a b h origin =
     let os = bytes_eq-same a.os b.os p4.1 in
     let target = bytes_eq-same a.target b.target p5.1 in
     let prefix = options-same bytes_eq bytes_eq-same a.prefix b.prefix p6.1 in
-    λ i. record { name = name i; version = version i; variants = variants i; compiler = compiler i; os = os i; target = target i; prefix = prefix i; origin = origin i }
+    λ i. record {
+      name = name i;
+      version = version i;
+      variants = variants i;
+      compiler = compiler i;
+      os = os i;
+      target = target i;
+      prefix =
+          prefix i;
+      origin = origin i;
+    }
 
-pub installed-is : (problem : Problem) (graph : Content) (node : Node) (hash : Text) → keeps_kept problem graph node ≡ true → node.origin ≡ Installed hash
-    → (entry : Record) × (record_at problem hash ≡ Some entry) × (node.name ≡ entry.name) × (node ≡ record (installed_node entry) { origin = Installed hash })
+pub installed-is : (problem : Problem) (graph : Content) (node : Node) (hash : Text) → keeps_kept problem graph node ≡ true
+    → node.origin ≡ Installed hash
+    → (entry : Record) × (record_at problem hash ≡ Some entry) × (node.name ≡ entry.name)
+    × (node ≡ record (installed_node entry) { origin = Installed hash })
 unfolding keeps_kept installed_node same_attributes
 installed-is problem graph node hash h is =
     let kept : keeps_origin problem graph node (Installed hash) ≡ true = ap (keeps_origin problem graph node) (sym is) ∙ h in
@@ -75,8 +87,10 @@ installed-is problem graph node hash h is =
     let whole = same-node node (record (installed_node found.0) { origin = Installed hash }) same is in
     (found.0, found.1, ap (λ (n : Node). n.name) whole, whole)
 
-pub external-is : (problem : Problem) (graph : Content) (node : Node) (place : ℕ) → keeps_kept problem graph node ≡ true → node.origin ≡ External place
-    → (entry : ExternalEntry) × (slice_get (externals_in (entry_of problem node.name)) place ≡ Some entry) × (node ≡ external_node problem node.name place entry)
+pub external-is : (problem : Problem) (graph : Content) (node : Node) (place : ℕ) → keeps_kept problem graph node ≡ true
+    → node.origin ≡ External place
+    → (entry : ExternalEntry) × (slice_get (externals_in (entry_of problem node.name)) place ≡ Some entry)
+    × (node ≡ external_node problem node.name place entry)
 unfolding keeps_kept external_node
 external-is problem graph node place h is =
     let kept : keeps_origin problem graph node (External place) ≡ true = ap (keeps_origin problem graph node) (sym is) ∙ h in

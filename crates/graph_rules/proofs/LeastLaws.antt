@@ -31,7 +31,8 @@ module _ {K : Type 0} {R : K → K → Ordering} (t : IsTotalOrder R) where
   from_before a b c Greater e ab bc = over (R a c) refl
     where
       over : (o : Ordering) → R a c ≡ o → is_lt o ≡ false
-      over Less is = absurd (let below : R b c ≡ Less = t.trans b a c (t.antisymm b a ∙ ap ordering_reverse e) is in let wrong : true ≡ false = ap is_lt (sym below) ∙ bc in cc)
+      over Less is = absurd (let below : R b c ≡ Less = t.trans b a c (t.antisymm b a ∙ ap ordering_reverse e) is in
+          let wrong : true ≡ false = ap is_lt (sym below) ∙ bc in cc)
       over Equal is = refl
       over Greater is = refl
 

@@ -71,7 +71,11 @@ from_filter p [] x none = absurd none
 from_filter p (y ∷ ys) x there =
     let rest = from_filter p ys x in
     elim (p y) as (λ b. p y ≡ b → In x (cond b (y ∷ filter p ys) (filter p ys)) → In x (y ∷ ys) × (p x ≡ true)) [
-      | true ↦ λ e h. elim h as (λ _. In x (y ∷ ys) × (p x ≡ true)) [ inl same ↦ (inl same, ap p same ∙ e) | inr later ↦ let r = rest later in (inr r.0, r.1) ]
+      | true ↦ λ e h. elim h as (λ _. In x (y ∷ ys) × (p x ≡ true)) [
+        | inl same ↦ (inl same, ap p same ∙ e)
+        | inr later ↦ let r =
+            rest later in (inr r.0, r.1)
+      ]
       | false ↦ λ e h. let r = rest h in (inr r.0, r.1)
     ] refl there
 
@@ -86,7 +90,11 @@ bytes_eq-itself a = (bytes_decides a a).1 refl
 pub In-among : (texts : List Text) (text : Text) → among texts text ≡ true → In text texts
 In-among [] text h = absurd cc
 In-among (t ∷ ts) text h =
-    elim (or_cases (bytes_eq text t) (among ts text) h) as (λ _. In text (t ∷ ts)) [ inl same ↦ inl (bytes_eq-same text t same) | inr later ↦ inr (In-among ts text later) ]
+    elim (or_cases (bytes_eq text t) (among ts text) h) as (λ _. In text (t ∷ ts)) [
+      | inl same ↦
+          inl (bytes_eq-same text t same)
+      | inr later ↦ inr (In-among ts text later)
+    ]
 
 -- ---- nodes by their names
 
@@ -101,4 +109,5 @@ contains-In (y ∷ ys) x there = ⊎_elim (λ same. inl (sym same)) (λ later. i
 
 -- a node is the one that its name finds
 pub node-itself : (graph : Content) (node : Node) → IsGraph graph → In node graph.nodes → node_of graph node.name ≡ Some node
-node-itself graph node g there = find_some nat_list_cmp_total ties_are_equal name_of graph.nodes node.name node g.nodes (In-contains graph.nodes node there) (tied_itself nat_list_cmp_total node.name)
+node-itself graph node g there = find_some nat_list_cmp_total ties_are_equal name_of graph.nodes node.name node g.nodes
+    (In-contains graph.nodes node there) (tied_itself nat_list_cmp_total node.name)

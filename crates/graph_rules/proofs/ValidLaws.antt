@@ -33,11 +33,15 @@ pub implies-from : (a b : Bool) → (a ≡ true → b ≡ true) → implies a b 
 implies-from true b h = h refl
 implies-from false b h = refl
 
-pub at_built : (test : Node → Bool) (graph : Content) (node : Node) → each_built test graph ≡ true → In node graph.nodes → is_built node ≡ true → test node ≡ true
-at_built test graph node all there built = implied (is_built node) (test node) (list_all-each (λ n. implies (is_built n) (test n)) graph.nodes node all there) built
+pub at_built : (test : Node → Bool) (graph : Content) (node : Node) → each_built test graph ≡ true → In node graph.nodes
+    → is_built node ≡ true → test node ≡ true
+at_built test graph node all there built =
+    implied (is_built node) (test node) (list_all-each (λ n. implies (is_built n) (test n)) graph.nodes node all there) built
 
-built_from : (test : Node → Bool) (graph : Content) → ((node : Node) → In node graph.nodes → is_built node ≡ true → test node ≡ true) → each_built test graph ≡ true
-built_from test graph each = list_all-from (λ n. implies (is_built n) (test n)) graph.nodes (λ node there. implies-from (is_built node) (test node) (each node there))
+built_from : (test : Node → Bool) (graph : Content) → ((node : Node) → In node graph.nodes → is_built node ≡ true → test node ≡ true)
+    → each_built test graph ≡ true
+built_from test graph each = list_all-from (λ n. implies (is_built n) (test n)) graph.nodes
+    (λ node there. implies-from (is_built node) (test node) (each node there))
 
 -- ---- numbers, places and rows
 
@@ -47,12 +51,17 @@ slice_get-in (y ∷ ys) zero x e = inl (let same : y ≡ x = cc in sym same)
 slice_get-in (y ∷ ys) (suc k) x e = inr (slice_get-in ys k x e)
 
 -- an element has a place, which is one of the numbers from 0 on
-place-of : {X : Type 0} (xs : List X) (from : ℕ) (x : X) → In x xs → (k : ℕ) × (slice_get xs k ≡ Some x) × In (from + k) (range_with_len from (length xs))
+place-of : {X : Type 0} (xs : List X) (from : ℕ) (x : X) → In x xs → (k : ℕ) × (slice_get xs k ≡ Some x)
+    × In (from + k) (range_with_len from (length xs))
 place-of [] from x none = absurd none
 place-of (y ∷ ys) from x (inl same) = (0, ap Some (sym same), inl (omega arith))
 place-of (y ∷ ys) from x (inr later) =
-    let rest = place-of ys (from + 1) x later in
-    (suc rest.0, rest.1, inr (subst (λ n. In n (range_with_len (from + 1) (length ys))) (let e : from + 1 + rest.0 ≡ from + suc rest.0 = omega arith in e) rest.2))
+    let rest = place-of ys (from + 1) x later in (
+      suc rest.0,
+      rest.1,
+      inr (subst (λ n. In n (range_with_len (from + 1) (length ys))) (let e : from + 1 + rest.0 ≡ from + suc rest.0 =
+          omega arith in e) rest.2),
+    )
 
 equal : (a b : ℕ) → nat_cmp a b ≡ Equal → a ≡ b
 equal a b e = grind arith
@@ -83,11 +92,13 @@ fold-keeps (x ∷ xs) acc q there = fold-keeps xs (insert_key nat_cmp acc x) q (
 
 fold-has : (xs acc : List ℕ) (q : ℕ) → In q xs → In q (fold (insert_key nat_cmp) acc xs)
 fold-has [] acc q none = absurd none
-fold-has (x ∷ xs) acc q (inl same) = fold-keeps xs (insert_key nat_cmp acc x) q (subst (λ n. In n (insert_key nat_cmp acc x)) (sym same) (insert-has acc x))
+fold-has (x ∷ xs) acc q (inl same) = fold-keeps xs (insert_key nat_cmp acc x) q
+    (subst (λ n. In n (insert_key nat_cmp acc x)) (sym same) (insert-has acc x))
 fold-has (x ∷ xs) acc q (inr later) = fold-has xs (insert_key nat_cmp acc x) q later
 
 -- a row of a package is one of its recipe
-pub row-of : {R : Type 0} (field : Recipe → List R) (found : Option Recipe) (row : R) → In row (rows field found) → (recipe : Recipe) × (found ≡ Some recipe) × In row (field recipe)
+pub row-of : {R : Type 0} (field : Recipe → List R) (found : Option Recipe) (row : R) → In row (rows field found) → (recipe : Recipe)
+    × (found ≡ Some recipe) × In row (field recipe)
 row-of field None row none = absurd none
 row-of field (Some recipe) row there = (recipe, refl, there)
 
@@ -115,7 +126,8 @@ pub rule-of : (problem : Problem) (graph : Content) (rule : Rule) → valid prob
 unfolding valid
 rule-of problem graph rule v = list_all-each (λ r. keeps r problem graph) all_rules rule v (stands rule)
 
-directive-kept : (problem : Problem) (graph : Content) (number : ℕ) (node : Node) → valid problem graph ≡ true → In node graph.nodes → is_built node ≡ true → keeps_directive problem graph number node ≡ true
+directive-kept : (problem : Problem) (graph : Content) (number : ℕ) (node : Node) → valid problem graph ≡ true → In node graph.nodes
+    → is_built node ≡ true → keeps_directive problem graph number node ≡ true
 unfolding keeps
 directive-kept problem graph number node v there built =
     let edges = at_built _ graph node (rule-of problem graph rules.Edge v) there built in
@@ -123,31 +135,41 @@ directive-kept problem graph number node v there built =
     let conflicts = at_built _ graph node (rule-of problem graph rules.Conflict v) there built in
     let requirements = at_built _ graph node (rule-of problem graph rules.Requirement v) there built in
     and_from _ _ (and_from _ _
-    (list_all-from _ (depends_at problem node.name) (λ row is. implies-from (row.number == number) _ (λ _. and_from _ _ (list_all-each _ _ row edges is) (list_all-each _ _ row constraints is))))
-    (list_all-from _ (conflicts_at problem node.name) (λ row is. implies-from (row.number == number) _ (λ _. list_all-each _ _ row conflicts is))))
-    (list_all-from _ (requirements_at problem node.name) (λ row is. implies-from (row.number == number) _ (λ _. list_all-each _ _ row requirements is)))
+    (list_all-from _ (depends_at problem node.name)
+    (λ row is. implies-from (row.number == number) _
+    (λ _. and_from _ _ (list_all-each _ _ row edges is) (list_all-each _ _ row constraints is))))
+    (list_all-from _ (conflicts_at problem node.name)
+    (λ row is. implies-from (row.number == number) _ (λ _. list_all-each _ _ row conflicts is))))
+    (list_all-from _ (requirements_at problem node.name)
+    (λ row is. implies-from (row.number == number) _ (λ _. list_all-each _ _ row requirements is)))
 
-root-kept : (problem : Problem) (graph : Content) (place : ℕ) → valid problem graph ≡ true → keeps_demand problem graph (demand.Root place) ≡ true
+root-kept : (problem : Problem) (graph : Content) (place : ℕ) → valid problem graph ≡ true
+    → keeps_demand problem graph (demand.Root place) ≡ true
 unfolding keeps_demand keeps
 root-kept problem graph place v =
     elim (slice_get problem.roots place) as (λ o. slice_get problem.roots place ≡ o → if_written o (keeps_root problem graph) ≡ true) [
       | None ↦ λ e. refl
-      | Some spec ↦ λ e. list_all-each (keeps_root problem graph) problem.roots spec (rule-of problem graph rules.Root v) (slice_get-in problem.roots place spec e)
+      | Some spec ↦ λ e. list_all-each (keeps_root problem graph) problem.roots spec (rule-of problem graph rules.Root v)
+          (slice_get-in problem.roots place spec e)
     ] refl
 
-at-node : (problem : Problem) (graph : Content) (name : Text) (number : ℕ) → valid problem graph ≡ true → keeps_demand problem graph (demand.Directive name number) ≡ true
+at-node : (problem : Problem) (graph : Content) (name : Text) (number : ℕ) → valid problem graph ≡ true
+    → keeps_demand problem graph (demand.Directive name number) ≡ true
 unfolding keeps_demand
 at-node problem graph name number v =
-    elim (node_of graph name) as (λ o. node_of graph name ≡ o → if_written o (λ node. implies (is_built node) (keeps_directive problem graph number node)) ≡ true) [
+    elim (node_of graph name) as (λ o. node_of graph name ≡ o
+    → if_written o (λ node. implies (is_built node) (keeps_directive problem graph number node)) ≡ true) [
       | None ↦ λ e. refl
       | Some node ↦ λ e. implies-from (is_built node) _ (directive-kept problem graph number node v (find-in _ graph.nodes node e).0)
     ] refl
 
-pub demand-kept : (problem : Problem) (graph : Content) (asked : Demand) → valid problem graph ≡ true → keeps_demand problem graph asked ≡ true
+pub demand-kept : (problem : Problem) (graph : Content) (asked : Demand) → valid problem graph ≡ true
+    → keeps_demand problem graph asked ≡ true
 demand-kept problem graph (demand.Root place) v = root-kept problem graph place v
 demand-kept problem graph (demand.Directive name number) v = at-node problem graph name number v
 
-pub valid-for_any : (problem : Problem) (graph : Content) (asked : List Demand) → valid problem graph ≡ true → valid_for asked problem graph ≡ true
+pub valid-for_any : (problem : Problem) (graph : Content) (asked : List Demand) → valid problem graph ≡ true
+    → valid_for asked problem graph ≡ true
 unfolding valid_for
 valid-for_any problem graph asked v =
     and_from _ _ (list_all-from (λ rule. keeps rule problem graph) structure_rules (λ rule _. rule-of problem graph rule v))
@@ -155,32 +177,40 @@ valid-for_any problem graph asked v =
 
 -- ---- a graph that keeps all demands is valid
 
-asked-kept : (problem : Problem) (graph : Content) (asked : Demand) → valid_for (demands problem) problem graph ≡ true → In asked (demands problem) → keeps_demand problem graph asked ≡ true
+asked-kept : (problem : Problem) (graph : Content) (asked : Demand) → valid_for (demands problem) problem graph ≡ true
+    → In asked (demands problem) → keeps_demand problem graph asked ≡ true
 unfolding valid_for
 asked-kept problem graph asked v there =
-    list_all-each (keeps_demand problem graph) (demands problem) asked (and_parts (keeps_all structure_rules problem graph) (list_all (keeps_demand problem graph) (demands problem)) v).1 there
+    list_all-each (keeps_demand problem graph) (demands problem) asked
+    (and_parts (keeps_all structure_rules problem graph) (list_all (keeps_demand problem graph) (demands problem)) v).1 there
 
 root-asked : (problem : Problem) (k : ℕ) → In k (range_with_len 0 (length problem.roots)) → In (demand.Root k) (demands problem)
 unfolding demands
 root-asked problem k there = In-left _ _ _ (In-map demand.Root (range_with_len 0 (length problem.roots)) k there)
 
-directive-asked : (problem : Problem) (recipe : Recipe) (number : ℕ) → In recipe problem.recipes → In number (numbers_of recipe) → In (demand.Directive recipe.name number) (demands problem)
+directive-asked : (problem : Problem) (recipe : Recipe) (number : ℕ) → In recipe problem.recipes → In number (numbers_of recipe)
+    → In (demand.Directive recipe.name number) (demands problem)
 unfolding demands
 directive-asked problem recipe number there is =
     In-right (map demand.Root (range_with_len 0 (length problem.roots))) _ _
-    (In-flat_map (λ r. map (demand.Directive r.name) (numbers_of r)) problem.recipes recipe _ there (In-map (demand.Directive recipe.name) (numbers_of recipe) number is))
+    (In-flat_map (λ r. map (demand.Directive r.name) (numbers_of r)) problem.recipes recipe _ there
+    (In-map (demand.Directive recipe.name) (numbers_of recipe) number is))
 
 root-from : (problem : Problem) (graph : Content) → valid_for (demands problem) problem graph ≡ true → keeps rules.Root problem graph ≡ true
 unfolding keeps keeps_demand
 root-from problem graph v =
     list_all-from (keeps_root problem graph) problem.roots (λ spec there.
     let place = place-of problem.roots 0 spec there in
-    let asked = root-asked problem place.0 (let e : 0 + place.0 ≡ place.0 = omega arith in subst (λ n. In n (range_with_len 0 (length problem.roots))) e place.2) in
-    subst (λ (o : Option _). if_written o (keeps_root problem graph) ≡ true) place.1 (asked-kept problem graph (demand.Root place.0) v asked))
+    let asked = root-asked problem place.0 (let e : 0 + place.0 ≡ place.0 = omega arith in
+    subst (λ n. In n (range_with_len 0 (length problem.roots))) e place.2) in
+    subst (λ (o : Option _). if_written o (keeps_root problem graph) ≡ true) place.1
+    (asked-kept problem graph (demand.Root place.0) v asked))
 
 -- the directives of a built node's recipe are kept
-directive-from : (problem : Problem) (graph : Content) (node : Node) (recipe : Recipe) (number : ℕ) → IsGraph graph → valid_for (demands problem) problem graph ≡ true
-    → In node graph.nodes → is_built node ≡ true → recipe_at problem node.name ≡ Some recipe → In number (numbers_of recipe) → keeps_directive problem graph number node ≡ true
+directive-from : (problem : Problem) (graph : Content) (node : Node) (recipe : Recipe) (number : ℕ) → IsGraph graph
+    → valid_for (demands problem) problem graph ≡ true
+    → In node graph.nodes → is_built node ≡ true → recipe_at problem node.name ≡ Some recipe → In number (numbers_of recipe)
+    → keeps_directive problem graph number node ≡ true
 unfolding keeps_demand recipe_of
 directive-from problem graph node recipe number g v there built found is =
     let in_recipes = find-in _ problem.recipes recipe found in
@@ -198,37 +228,49 @@ conflict-number : (recipe : Recipe) (n : ℕ) → In n (map (λ row. row.number)
 conflict-number recipe n there = fold-has _ [] n (In-left _ _ n (In-right (map (λ row. row.number) recipe.depends) _ n there))
 
 requirement-number : (recipe : Recipe) (n : ℕ) → In n (map (λ row. row.number) recipe.requirements) → In n (numbers_of recipe)
-requirement-number recipe n there = fold-has _ [] n (In-right (map (λ row. row.number) recipe.depends ++ map (λ row. row.number) recipe.conflicts) _ n there)
+requirement-number recipe n there =
+    fold-has _ [] n (In-right (map (λ row. row.number) recipe.depends ++ map (λ row. row.number) recipe.conflicts) _ n there)
 
 itself : (n : ℕ) → (n == n) ≡ true
 itself n = eq-eqb n n refl
 
 module _ (problem : Problem) (graph : Content) (g : IsGraph graph) (v : valid_for (demands problem) problem graph ≡ true) where
-  depend-from : (node : Node) → In node graph.nodes → is_built node ≡ true → (row : _) → In row (depends_at problem node.name) → (keeps_edge problem graph node row && keeps_constraint problem graph node row) ≡ true
+  depend-from : (node : Node) → In node graph.nodes → is_built node ≡ true → (row : _) → In row (depends_at problem node.name)
+      → (keeps_edge problem graph node row && keeps_constraint problem graph node row) ≡ true
   depend-from node there built row is =
       let of = row-of (λ r. r.depends) (recipe_at problem node.name) row is in
-      let kept = directive-from problem graph node of.0 row.number g v there built of.1 (depend-number of.0 row.number (In-map (λ r. r.number) of.0.depends row of.2)) in
-      implied (row.number == row.number) _ (list_all-each _ (depends_at problem node.name) row (and_parts _ _ (and_parts _ _ kept).0).0 is) (itself row.number)
+      let kept = directive-from problem graph node of.0 row.number g v there built of.1
+      (depend-number of.0 row.number (In-map (λ r. r.number) of.0.depends row of.2)) in
+      implied (row.number == row.number) _ (list_all-each _ (depends_at problem node.name) row (and_parts _ _ (and_parts _ _ kept).0).0 is)
+      (itself row.number)
 
-  conflict-from : (node : Node) → In node graph.nodes → is_built node ≡ true → (row : _) → In row (conflicts_at problem node.name) → keeps_conflict problem graph node row ≡ true
+  conflict-from : (node : Node) → In node graph.nodes → is_built node ≡ true → (row : _) → In row (conflicts_at problem node.name)
+      → keeps_conflict problem graph node row ≡ true
   conflict-from node there built row is =
       let of = row-of (λ r. r.conflicts) (recipe_at problem node.name) row is in
-      let kept = directive-from problem graph node of.0 row.number g v there built of.1 (conflict-number of.0 row.number (In-map (λ r. r.number) of.0.conflicts row of.2)) in
-      implied (row.number == row.number) _ (list_all-each _ (conflicts_at problem node.name) row (and_parts _ _ (and_parts _ _ kept).0).1 is) (itself row.number)
+      let kept = directive-from problem graph node of.0 row.number g v there built of.1
+      (conflict-number of.0 row.number (In-map (λ r. r.number) of.0.conflicts row of.2)) in
+      implied (row.number == row.number) _ (list_all-each _ (conflicts_at problem node.name) row (and_parts _ _ (and_parts _ _ kept).0).1
+      is) (itself row.number)
 
-  requirement-from : (node : Node) → In node graph.nodes → is_built node ≡ true → (row : _) → In row (requirements_at problem node.name) → keeps_requirement problem graph node row ≡ true
+  requirement-from : (node : Node) → In node graph.nodes → is_built node ≡ true → (row : _) → In row (requirements_at problem node.name)
+      → keeps_requirement problem graph node row ≡ true
   requirement-from node there built row is =
       let of = row-of (λ r. r.requirements) (recipe_at problem node.name) row is in
-      let kept = directive-from problem graph node of.0 row.number g v there built of.1 (requirement-number of.0 row.number (In-map (λ r. r.number) of.0.requirements row of.2)) in
-      implied (row.number == row.number) _ (list_all-each _ (requirements_at problem node.name) row (and_parts _ _ kept).1 is) (itself row.number)
+      let kept = directive-from problem graph node of.0 row.number g v there built of.1
+      (requirement-number of.0 row.number (In-map (λ r. r.number) of.0.requirements row of.2)) in
+      implied (row.number == row.number) _ (list_all-each _ (requirements_at problem node.name) row (and_parts _ _ kept).1 is)
+      (itself row.number)
 
   edges-from : keeps rules.Edge problem graph ≡ true
   unfolding keeps
-  edges-from = built_from _ graph (λ node there built. list_all-from _ _ (λ row is. (and_parts _ _ (depend-from node there built row is)).0))
+  edges-from = built_from _ graph (λ node there built. list_all-from _ _
+      (λ row is. (and_parts _ _ (depend-from node there built row is)).0))
 
   constraints-from : keeps rules.Constraint problem graph ≡ true
   unfolding keeps
-  constraints-from = built_from _ graph (λ node there built. list_all-from _ _ (λ row is. (and_parts _ _ (depend-from node there built row is)).1))
+  constraints-from =
+      built_from _ graph (λ node there built. list_all-from _ _ (λ row is. (and_parts _ _ (depend-from node there built row is)).1))
 
   conflicts-from : keeps rules.Conflict problem graph ≡ true
   unfolding keeps
@@ -240,7 +282,8 @@ module _ (problem : Problem) (graph : Content) (g : IsGraph graph) (v : valid_fo
 
   structure-from : (rule : Rule) → In rule structure_rules → keeps rule problem graph ≡ true
   unfolding valid_for
-  structure-from rule there = list_all-each (λ r. keeps r problem graph) structure_rules rule (and_parts (keeps_all structure_rules problem graph) (list_all (keeps_demand problem graph) (demands problem)) v).0 there
+  structure-from rule there = list_all-each (λ r. keeps r problem graph) structure_rules rule
+      (and_parts (keeps_all structure_rules problem graph) (list_all (keeps_demand problem graph) (demands problem)) v).0 there
 
   each-from : (rule : Rule) → keeps rule problem graph ≡ true
   each-from rules.Root = root-from problem graph v

@@ -41,7 +41,9 @@ among-with_text : (texts : List Text) (word text : Text) → among (with_text te
 among-with_text [] word text = refl
 among-with_text (t ∷ ts) word text =
     let rest = among-with_text ts word text in
-    elim (byte_cmp word t) as (λ o. byte_cmp word t ≡ o → among (match_ordering o (word ∷ t ∷ ts) (t ∷ ts) (t ∷ insert_key byte_cmp ts word)) text ≡ (bytes_eq text word || (bytes_eq text t || among ts text))) [
+    elim (byte_cmp word t) as (λ o. byte_cmp word t ≡ o
+    → among (match_ordering o (word ∷ t ∷ ts) (t ∷ ts) (t ∷ insert_key byte_cmp ts word)) text
+    ≡ (bytes_eq text word || (bytes_eq text t || among ts text))) [
       | Less ↦ λ e. refl
       | Equal ↦ λ e. rw (same_key word t e) (sym (or_again (bytes_eq text t) (among ts text)))
       | Greater ↦ λ e. rw rest (or_swap (bytes_eq text t) (bytes_eq text word) (among ts text))
@@ -52,7 +54,8 @@ unfolding with_texts
 among-with_texts texts [] text = refl
 among-with_texts texts (word ∷ words) text =
     among-with_texts (with_text texts word) words text
-    ∙ rw (among-with_text texts word text) (or_swap (among words text) (bytes_eq text word) (among texts text) ∙ or_assoc (bytes_eq text word) (among words text) (among texts text))
+    ∙ rw (among-with_text texts word text) (or_swap (among words text) (bytes_eq text word) (among texts text)
+    ∙ or_assoc (bytes_eq text word) (among words text) (among texts text))
   where
     or_assoc : (a b c : Bool) → (a || (b || c)) ≡ ((a || b) || c)
     or_assoc true b c = refl
@@ -80,10 +83,12 @@ is_some-find_last p (x ∷ xs) =
     some-or (find_last p xs) (cond (p x) (Some x) None) ∙ rw (is_some-find_last p xs, some-if (p x) x) (or_turn (list_any p xs) (p x))
 
 -- an element with a key that passes, and the key among those of the elements that pass
-with_key : {T : Type 0} (key : T → Text) (p : T → Bool) (xs : List T) (text : Text) → list_any (λ x. bytes_eq (key x) text && p x) xs ≡ among (map key (filter p xs)) text
+with_key : {T : Type 0} (key : T → Text) (p : T → Bool) (xs : List T) (text : Text)
+    → list_any (λ x. bytes_eq (key x) text && p x) xs ≡ among (map key (filter p xs)) text
 with_key key p [] text = refl
 with_key key p (x ∷ xs) text =
-    elim (p x) as (λ b. ((bytes_eq (key x) text && b) || list_any (λ y. bytes_eq (key y) text && p y) xs) ≡ among (map key (cond b (x ∷ filter p xs) (filter p xs))) text) [
+    elim (p x) as (λ b. ((bytes_eq (key x) text && b) || list_any (λ y. bytes_eq (key y) text && p y) xs)
+    ≡ among (map key (cond b (x ∷ filter p xs) (filter p xs))) text) [
       | true ↦ rw (and_yes (bytes_eq (key x) text), nat_list_eq_equiv.symm (key x) text, with_key key p xs text) refl
       | false ↦ rw (and_never (bytes_eq (key x) text), with_key key p xs text) refl
     ]
@@ -96,7 +101,8 @@ with_key key p (x ∷ xs) text =
     and_never true = refl
     and_never false = refl
 
-pub governed-governing : (problem : Problem) (graph : Content) (node : Node) (variant : Text) → among (governed problem graph node) variant ≡ is_some (governing (world_of problem) graph node.name variant)
+pub governed-governing : (problem : Problem) (graph : Content) (node : Node) (variant : Text)
+    → among (governed problem graph node) variant ≡ is_some (governing (world_of problem) graph node.name variant)
 unfolding governing
 governed-governing problem graph node variant =
     let rows = variants_at problem node.name in

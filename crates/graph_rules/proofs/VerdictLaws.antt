@@ -9,7 +9,7 @@ use Rattle.problem.specs.Nodes.{is_built}
 use Rattle.graph_core.specs.declared.node.Node.{Node}
 use Rattle.graph_rules.specs.Directives.{keeps_root}
 use Rattle.graph_rules.specs.Valid.{keeps, keeps_all, all_rules, valid}
-use Rattle.graph_rules.specs.Verdict.{Place, Asked, all_asked, breaks_of, breaks, broken_roots, least, broken_or, first_broken, verdict_of, verdict}
+use Rattle.graph_rules.specs.Verdict.{Place, all_asked, breaks_of, breaks, broken_roots, least, broken_or, first_broken, verdict_of, verdict}
 use Rattle.problem.specs.Problems.{Problem}
 use Rattle.graph_rules.specs.declared.rule.Rule.{Rule}
 use Rattle.graph_rules.specs.declared.rule.Rule.TheVariants as rules
@@ -26,31 +26,44 @@ failing : {X Y : Type 0} (test : X → Bool) (f : X → Y) (xs : List X) → lis
 failing test f [] = refl
 failing test f (x ∷ xs) =
     let rest = failing test f xs in
-    elim (test x) as (λ b. (b && list_all test xs) ≡ is_empty (map f (cond (not b) (x ∷ filter (λ y. not (test y)) xs) (filter (λ y. not (test y)) xs)))) [ true ↦ rest | false ↦ refl ]
+    elim (test x) as (λ b. (b && list_all test xs)
+    ≡ is_empty (map f (cond (not b) (x ∷ filter (λ y. not (test y)) xs) (filter (λ y. not (test y)) xs)))) [
+      | true ↦
+          rest
+      | false ↦ refl
+    ]
 
 both_empty : {X : Type 0} (xs ys : List X) → is_empty (xs ++ ys) ≡ (is_empty xs && is_empty ys)
 both_empty [] ys = refl
 both_empty (x ∷ xs) ys = refl
 
 -- a premise of all is one of each
-premise_of_each : {R : Type 0} (b : Bool) (test : R → Bool) (rows : List R) → implies b (list_all test rows) ≡ list_all (λ row. implies b (test row)) rows
+premise_of_each : {R : Type 0} (b : Bool) (test : R → Bool) (rows : List R)
+    → implies b (list_all test rows) ≡ list_all (λ row. implies b (test row)) rows
 premise_of_each true test rows = refl
 premise_of_each false test [] = refl
 premise_of_each false test (row ∷ rows) = premise_of_each false test rows
 
 pub failing_rows : {R : Type 0} (rows_at : Text → List R) (number : R → ℕ) (test : Node → R → Bool) (nodes : List Node)
     → list_all (λ node. implies (is_built node) (list_all (test node) (rows_at node.name))) nodes
-    ≡ is_empty {X = Place} (flat_map (λ node. map (λ row. (node.name, number row)) (filter (λ row. not (implies (is_built node) (test node row))) (rows_at node.name))) nodes)
+    ≡ is_empty {X =
+    Place} (flat_map (λ node. map (λ row. (node.name, number row))
+    (filter (λ row. not (implies (is_built node) (test node row))) (rows_at node.name))) nodes)
 failing_rows rows_at number test [] = refl
 failing_rows rows_at number test (node ∷ nodes) =
-    let here = premise_of_each (is_built node) (test node) (rows_at node.name) ∙ failing (λ row. implies (is_built node) (test node row)) (λ row. let p : Place = (node.name, number row) in p) (rows_at node.name) in
+    let here = premise_of_each (is_built node) (test node) (rows_at node.name)
+    ∙ failing (λ row. implies (is_built node) (test node row)) (λ row. let p : Place = (node.name, number row) in
+    p) (rows_at node.name) in
     rw (here, failing_rows rows_at number test nodes) (sym (both_empty _ _))
 
-failing_roots : (test : Spec → Bool) (place : ℕ) (specs : List Spec) → list_all test specs ≡ is_empty (broken_roots (λ place spec. test spec) place specs)
+failing_roots : (test : Spec → Bool) (place : ℕ) (specs : List Spec)
+    → list_all test specs ≡ is_empty (broken_roots (λ place spec. test spec) place specs)
 failing_roots test place [] = refl
 failing_roots test place (spec ∷ specs) =
     let rest = failing_roots test (place + 1) specs in
-    elim (test spec) as (λ b. (b && list_all test specs) ≡ is_empty (cond b (broken_roots (λ place spec. test spec) (place + 1) specs) ((unwrap_or spec.top.name [], place) ∷ broken_roots (λ place spec. test spec) (place + 1) specs))) [ true ↦ rest | false ↦ refl ]
+    elim (test spec) as (λ b. (b && list_all test specs)
+    ≡ is_empty (cond b (broken_roots (λ place spec. test spec) (place + 1) specs)
+    ((unwrap_or spec.top.name [], place) ∷ broken_roots (λ place spec. test spec) (place + 1) specs))) [ true ↦ rest | false ↦ refl ]
 
 -- ---- the rules
 
@@ -79,11 +92,13 @@ abbrev pub is_valid : Verdict → Bool
 is_valid verdicts.Valid = true
 is_valid (verdicts.Broken rule name number) = false
 
-pub step : (rule : Rule) (places : List Place) (later : Verdict) → is_valid (broken_or rule (least places) later) ≡ (is_empty places && is_valid later)
+pub step : (rule : Rule) (places : List Place) (later : Verdict)
+    → is_valid (broken_or rule (least places) later) ≡ (is_empty places && is_valid later)
 step rule [] later = refl
 step rule (p ∷ ps) later = refl
 
-none_broken : (asked : List Rule) (problem : Problem) (graph : Content) → is_valid (first_broken all_asked asked problem graph) ≡ keeps_all asked problem graph
+none_broken : (asked : List Rule) (problem : Problem) (graph : Content)
+    → is_valid (first_broken all_asked asked problem graph) ≡ keeps_all asked problem graph
 none_broken [] problem graph = refl
 none_broken (rule ∷ more) problem graph =
     step rule (breaks rule problem graph) (first_broken all_asked more problem graph)
@@ -103,7 +118,8 @@ is_empty-from : {X : Type 0} (xs : List X) → is_empty xs ≡ true → xs ≡ [
 is_empty-from [] h = refl
 is_empty-from (x ∷ xs) h = absurd cc
 
-pub kept-nowhere : (rule : Rule) (problem : Problem) (graph : Content) → (keeps rule problem graph ≡ true) ↔ (breaks rule problem graph ≡ [])
+pub kept-nowhere : (rule : Rule) (problem : Problem) (graph : Content) → (keeps rule problem graph ≡ true)
+    ↔ (breaks rule problem graph ≡ [])
 kept-nowhere rule problem graph =
     let same = keeps-breaks rule problem graph in
     (λ k. is_empty-from (breaks rule problem graph) (sym same ∙ k), λ e. same ∙ ap is_empty e)

@@ -56,7 +56,8 @@ supports entry node = if_written entry.os (λ names. among names node.os) && if_
 -- Compiler: it has a compiler of the settings, which supports its OS and its target
 unfoldable pub keeps_compiler : Problem → Node → Bool
 keeps_compiler problem node =
-    is_some_and node.compiler (λ compiler. list_any (λ entry. same_compiler entry.compiler compiler && supports entry node) problem.settings.compilers)
+    is_some_and node.compiler (λ compiler. list_any (λ entry. same_compiler entry.compiler compiler && supports entry node)
+    problem.settings.compilers)
 
 -- Machine: its OS and its target are in the settings
 unfoldable pub keeps_machine : Problem → Node → Bool
@@ -67,13 +68,19 @@ keeps_machine problem node =
 
 -- the row of `depends_on` holds at the node and asks for this child
 abbrev pub asks : Problem → Content → Node → Text → DependRow → Bool
-asks problem graph node child row = applies problem graph row.when node && is_some_and (asked_by problem graph row) (λ asked. bytes_eq asked.name child)
+asks problem graph node child row = applies problem graph row.when node
+    && is_some_and (asked_by problem graph row) (λ asked. bytes_eq asked.name child)
 
 abbrev pub asking : Problem → Content → Node → Text → List DependRow
 asking problem graph node child = filter (asks problem graph node child) (depends_at problem node.name)
 
 abbrev pub asked_kinds : List DependRow → Kinds
-asked_kinds rows = record { build = list_any (λ row. row.kinds.build) rows; link = list_any (λ row. row.kinds.link) rows; run = list_any (λ row. row.kinds.run) rows }
+asked_kinds rows = record {
+  build = list_any (λ row. row.kinds.build) rows;
+  link = list_any (λ row. row.kinds.link) rows;
+  run =
+      list_any (λ row. row.kinds.run) rows;
+}
 
 -- an edge of a built node has a kind, and no kind that none asks for
 abbrev pub is_asked : Problem → Content → Node → Edge → Bool

@@ -46,7 +46,8 @@ written_or (Some v) default = v.1
 
 -- what is written, and else the default of the last definition of the name, whatever its condition
 abbrev pub completed : Variants → List VariantRow → Text → List Text
-completed written rows name = written_or (find (λ v. bytes_eq v.0 name) written) (default_in (find_last (λ row. bytes_eq row.name name) rows))
+completed written rows name = written_or (find (λ v. bytes_eq v.0 name) written)
+    (default_in (find_last (λ row. bytes_eq row.name name) rows))
 
 abbrev pub first_text : List Text → Text
 first_text [] = []
@@ -59,7 +60,8 @@ external_node problem name place entry =
     record {
       name = name;
       version = entry.version;
-      variants = map (λ v. (v, completed entry.variants rows v)) (with_texts [] (map (λ v. v.0) entry.variants ++ map (λ row. row.name) rows));
+      variants = map (λ v. (v, completed entry.variants rows v))
+          (with_texts [] (map (λ v. v.0) entry.variants ++ map (λ row. row.name) rows));
       compiler = entry.compiler;
       os = unwrap_or entry.os (first_text problem.settings.os);
       target = unwrap_or entry.target (first_text (map (λ t. t.name) problem.settings.targets));
@@ -93,14 +95,16 @@ keeps_child problem graph name d =
 
 -- the edge goes to a child of the record
 abbrev pub is_child : Problem → Record → Edge → Bool
-is_child problem entry e = list_any (λ d. is_some_and (record_at problem d.0) (λ child. bytes_eq child.name e.child)) (kept_dependencies entry)
+is_child problem entry e = list_any (λ d. is_some_and (record_at problem d.0) (λ child. bytes_eq child.name e.child))
+    (kept_dependencies entry)
 
 -- ---- the rule
 
 abbrev pub keeps_origin : Problem → Content → Node → Origin → Bool
 keeps_origin problem graph node Built = is_none node.prefix
 keeps_origin problem graph node (External place) =
-    is_some_and (slice_get (externals_in (entry_of problem node.name)) place) (λ entry. same_attributes node (external_node problem node.name place entry))
+    is_some_and (slice_get (externals_in (entry_of problem node.name)) place)
+    (λ entry. same_attributes node (external_node problem node.name place entry))
     && list_all (λ e. false) (edges_from graph node.name)
 keeps_origin problem graph node (Installed hash) =
     is_some_and (record_at problem hash) (λ entry.

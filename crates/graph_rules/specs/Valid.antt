@@ -30,9 +30,12 @@ keeps rules.Compiler problem graph = each_built (keeps_compiler problem) graph
 keeps rules.Machine problem graph = each_built (keeps_machine problem) graph
 keeps rules.Edge problem graph = each_built (λ node. list_all (keeps_edge problem graph node) (depends_at problem node.name)) graph
 keeps rules.ExtraEdge problem graph = each_built (keeps_extra_edge problem graph) graph
-keeps rules.Constraint problem graph = each_built (λ node. list_all (keeps_constraint problem graph node) (depends_at problem node.name)) graph
-keeps rules.Conflict problem graph = each_built (λ node. list_all (keeps_conflict problem graph node) (conflicts_at problem node.name)) graph
-keeps rules.Requirement problem graph = each_built (λ node. list_all (keeps_requirement problem graph node) (requirements_at problem node.name)) graph
+keeps rules.Constraint problem graph = each_built (λ node. list_all (keeps_constraint problem graph node) (depends_at problem node.name))
+    graph
+keeps rules.Conflict problem graph = each_built (λ node. list_all (keeps_conflict problem graph node) (conflicts_at problem node.name))
+    graph
+keeps rules.Requirement problem graph =
+    each_built (λ node. list_all (keeps_requirement problem graph node) (requirements_at problem node.name)) graph
 keeps rules.Kept problem graph = list_all (keeps_kept problem graph) graph.nodes
 keeps rules.Provider problem graph = list_all (keeps_provider problem graph) graph.providers
 keeps rules.UnusedProvider problem graph = list_all (keeps_used problem graph) graph.providers
@@ -46,7 +49,8 @@ keeps_all asked problem graph = list_all (λ rule. keeps rule problem graph) ask
 abbrev pub all_rules : List Rule
 all_rules =
     rules.Root ∷ rules.Buildable ∷ rules.Version ∷ rules.Variant ∷ rules.Compiler ∷ rules.Machine ∷ rules.Edge ∷ rules.ExtraEdge
-    ∷ rules.Constraint ∷ rules.Conflict ∷ rules.Requirement ∷ rules.Kept ∷ rules.Provider ∷ rules.UnusedProvider ∷ rules.Cycle ∷ rules.Unreachable ∷ []
+    ∷ rules.Constraint ∷ rules.Conflict ∷ rules.Requirement ∷ rules.Kept ∷ rules.Provider ∷ rules.UnusedProvider ∷ rules.Cycle
+    ∷ rules.Unreachable ∷ []
 
 -- no rule is broken
 unfoldable pub valid : Problem → Content → Bool
@@ -63,7 +67,8 @@ structure_rules =
 -- no directive with this number is broken at the node
 abbrev pub keeps_directive : Problem → Content → ℕ → Node → Bool
 keeps_directive problem graph number node =
-    list_all (λ row. implies (row.number == number) (keeps_edge problem graph node row && keeps_constraint problem graph node row)) (depends_at problem node.name)
+    list_all (λ row. implies (row.number == number) (keeps_edge problem graph node row && keeps_constraint problem graph node row))
+    (depends_at problem node.name)
     && list_all (λ row. implies (row.number == number) (keeps_conflict problem graph node row)) (conflicts_at problem node.name)
     && list_all (λ row. implies (row.number == number) (keeps_requirement problem graph node row)) (requirements_at problem node.name)
 

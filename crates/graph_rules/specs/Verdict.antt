@@ -69,7 +69,8 @@ broken_builds test graph = broken_nodes (λ node. implies (is_built node) (test 
 
 abbrev pub broken_rows : {R : Type 0} → (Text → List R) → (R → ℕ) → (Node → R → Bool) → Content → List Place
 broken_rows rows_at number test graph =
-    flat_map (λ node. map (λ row. (node.name, number row)) (filter (λ row. not (implies (is_built node) (test node row))) (rows_at node.name))) graph.nodes
+    flat_map (λ node. map (λ row. (node.name, number row))
+    (filter (λ row. not (implies (is_built node) (test node row))) (rows_at node.name))) graph.nodes
 
 abbrev pub broken_providers : ((Text × Text) → Bool) → Content → List Place
 broken_providers test graph = map (λ p. (p.0, 0)) (filter (λ p. not (test p)) graph.providers)
@@ -90,7 +91,8 @@ breaks_of asked rules.Constraint problem graph =
 breaks_of asked rules.Conflict problem graph =
     broken_rows (conflicts_at problem) (λ row. row.number) (keeps_asked_row asked (λ row. row.number) (keeps_conflict problem graph)) graph
 breaks_of asked rules.Requirement problem graph =
-    broken_rows (requirements_at problem) (λ row. row.number) (keeps_asked_row asked (λ row. row.number) (keeps_requirement problem graph)) graph
+    broken_rows (requirements_at problem) (λ row. row.number) (keeps_asked_row asked (λ row. row.number) (keeps_requirement problem graph))
+    graph
 breaks_of asked rules.Kept problem graph = broken_nodes (keeps_kept problem graph) graph
 breaks_of asked rules.Provider problem graph = broken_providers (keeps_provider problem graph) graph
 breaks_of asked rules.UnusedProvider problem graph = broken_providers (keeps_used problem graph) graph
@@ -126,7 +128,8 @@ broken_or rule (Some p) later = verdicts.Broken rule p.0 p.1
 
 abbrev pub first_broken : Asked → List Rule → Problem → Content → Verdict
 first_broken asked [] problem graph = verdicts.Valid
-first_broken asked (rule ∷ more) problem graph = broken_or rule (least (breaks_of asked rule problem graph)) (first_broken asked more problem graph)
+first_broken asked (rule ∷ more) problem graph =
+    broken_or rule (least (breaks_of asked rule problem graph)) (first_broken asked more problem graph)
 
 -- the first broken rule, and its least place, of the roots and directives that are asked; or that none is broken
 unfoldable pub verdict_of : Asked → Problem → Content → Verdict

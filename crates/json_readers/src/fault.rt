@@ -112,7 +112,8 @@ fn push_escaped(text: &mut String, key: &str) -> Result<(), AllocError>
 }
 
 fn push_char(text: &mut String, c: char) -> Result<(), AllocError>
-    ensures { OnOk result (string_bytes text.new ≡ string_bytes text.old ++ encode_utf8_all (escaped c)) }
+    ensures { OnOk result (string_bytes text.new ≡ string_bytes text.old
+        ++ encode_utf8_all (escaped c)) }
 {
     if c == '~' {
         text.push_str("~0")

@@ -13,7 +13,8 @@ use std::alloc::{AllocError, Global};
 /// is the nearest float, as is `-0`; one that is too large for a float is no JSON here, and neither is a
 /// lone surrogate, nor lists and objects that nest more than 127 deep.
 pub fn read_json(alloc: Global, bytes: &[u8]) -> Result<Option<Value>, AllocError>
-    ensures { IfOk result (λ value. MatchOption value (IsNoJson bytes.now) (λ v. IsJson bytes.now (view v))) }
+    ensures { IfOk result (λ value. MatchOption value (IsNoJson bytes.now)
+        (λ v. IsJson bytes.now (view v))) }
 {
     match Value::from_slice(alloc, bytes) {
         Ok(value) => Ok(Some(value)),

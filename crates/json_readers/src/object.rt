@@ -62,7 +62,8 @@ fn read_optional<T, R: Reader<T>>(
     reader: &R,
 ) -> Result<Option<T>, JsonFault>
     ensures { Gives result
-        (read_optional (R.reads reader.now) (get_member key.now (members_view members.now.entries))) }
+        (read_optional (R.reads reader.now)
+        (get_member key.now (members_view members.now.entries))) }
 {
     match member(members, key) {
         Some(value) => Ok(Some(reader.read(alloc, value)?)),
@@ -80,7 +81,8 @@ pub fn member<'v>(members: &'v Map<String, Value>, key: &str) -> Option<&'v Valu
 
 /// The members of an object.
 pub fn members_of<'v>(alloc: Global, value: &'v Value) -> Result<&'v Map<String, Value>, JsonFault>
-    ensures { Gives (seen_as (λ m. members_view m.now.entries) result) (members_of (view value.now)) }
+    ensures { Gives (seen_as (λ m. members_view m.now.entries) result)
+        (members_of (view value.now)) }
 {
     match value {
         Value::Object(members) => Ok(members),
@@ -160,7 +162,8 @@ pub fn field<T: Drop, R: Reader<T>>(
     reader: &R,
 ) -> Result<T, JsonFault>
     ensures { Gives result
-        (field (R.reads reader.now) (option_map (λ k. k.now) odd.entry) key.now (members_view members.now.entries)) }
+        (field (R.reads reader.now) (option_map (λ k. k.now) odd.entry) key.now
+        (members_view members.now.entries)) }
 {
     match odd {
         Some(odd) if odd <= key => at_key(alloc, Wrong::WrongKind, odd),

@@ -28,7 +28,8 @@ pub struct Draft {
 }
 
 fn recipes_of(alloc: Global, files: &[RecipeFile]) -> Result<Option<List<Recipe>>, AllocError>
-    ensures { IfOk result (λ recipes. IfSome recipes (λ recipes. list_all is_right_recipe recipes ≡ true)) }
+    ensures { IfOk result (λ recipes. IfSome recipes
+        (λ recipes. list_all is_right_recipe recipes ≡ true)) }
 {
     match read_recipes(alloc, files) {
         Ok(recipes) => Ok(Some(recipes)),

@@ -27,25 +27,36 @@ module _ {K X : Type 0} (given : K → Option X) where
       later : ((j : K) × Contains ks j × (given j ≡ Some x)) → (j : K) × Contains (k ∷ ks) j × (given j ≡ Some x)
       later w = (w.0, has_later k ks w.0 w.1, w.2)
 
-      go : (r : Option X) → given k ≡ r → Contains (cons_option r (filter_map given ks)) x → (Contains (filter_map given ks) x → (j : K) × Contains ks j × (given j ≡ Some x)) → (j : K) × Contains (k ∷ ks) j × (given j ≡ Some x)
+      go : (r : Option X) → given k ≡ r → Contains (cons_option r (filter_map given ks)) x
+          → (Contains (filter_map given ks) x → (j : K) × Contains ks j × (given j ≡ Some x)) → (j : K) × Contains (k ∷ ks) j
+          × (given j ≡ Some x)
       go None is there rest = later (rest there)
-      go (Some y) is there rest = ⊎_elim (λ e. (k, has_first k ks, is ∙ ap (λ z. Some z) e)) (λ in_rest. later (rest in_rest)) (first_or_later y (filter_map given ks) x there)
+      go (Some y) is there rest = ⊎_elim (λ e. (k, has_first k ks, is ∙ ap (λ z. Some z) e)) (λ in_rest. later (rest in_rest))
+          (first_or_later y (filter_map given ks) x there)
 
-  pub list_all-filter_map : (test : X → Bool) (ks : List K) → list_all test (filter_map given ks) ≡ list_all (λ k. passes_or_none test (given k)) ks
+  pub list_all-filter_map : (test : X → Bool) (ks : List K)
+      → list_all test (filter_map given ks) ≡ list_all (λ k. passes_or_none test (given k)) ks
   list_all-filter_map test [] = refl
   list_all-filter_map test (k ∷ ks) =
       let rest = list_all-filter_map test ks in
-      elim (given k) as (λ r. list_all test (cons_option r (filter_map given ks)) ≡ (passes_or_none test r && list_all (λ j. passes_or_none test (given j)) ks)) [ None ↦ rest | Some x ↦ ap (λ b. test x && b) rest ]
+      elim (given k) as (λ r. list_all test (cons_option r (filter_map given ks))
+      ≡ (passes_or_none test r && list_all (λ j. passes_or_none test (given j)) ks)) [
+        | None ↦ rest
+        | Some x ↦
+            ap (λ b. test x && b) rest
+      ]
 
   pub sum_by-filter_map : (cost : X → ℕ) (ks : List K) → sum_by cost (filter_map given ks) ≡ sum_by (λ k. adds_or_none cost (given k)) ks
   sum_by-filter_map cost [] = refl
-  sum_by-filter_map cost (k ∷ ks) = step (given k) (filter_map given ks) (sum_by (λ j. adds_or_none cost (given j)) ks) (sum_by-filter_map cost ks) ∙ sym (sum_by-cons (λ j. adds_or_none cost (given j)) k ks)
+  sum_by-filter_map cost (k ∷ ks) = step (given k) (filter_map given ks) (sum_by (λ j. adds_or_none cost (given j)) ks)
+      (sum_by-filter_map cost ks) ∙ sym (sum_by-cons (λ j. adds_or_none cost (given j)) k ks)
     where
       step : (r : Option X) (xs : List X) (n : ℕ) → sum_by cost xs ≡ n → sum_by cost (cons_option r xs) ≡ adds_or_none cost r + n
       step None xs n e = omega (arith, e)
       step (Some x) xs n e = sum_by-cons cost x xs ∙ omega (arith, e)
 
-pub filter_map-agree : {K X : Type 0} (f g : K → Option X) (ks : List K) → ((k : K) → Contains ks k → f k ≡ g k) → filter_map f ks ≡ filter_map g ks
+pub filter_map-agree : {K X : Type 0} (f g : K → Option X) (ks : List K) → ((k : K) → Contains ks k → f k ≡ g k)
+    → filter_map f ks ≡ filter_map g ks
 filter_map-agree f g [] same = refl
 filter_map-agree f g (k ∷ ks) same = rw (same k (has_first k ks), filter_map-agree f g ks (λ j there. same j (has_later k ks j there))) refl
 
@@ -68,7 +79,8 @@ module _ {X K : Type 0} {R : K → K → Ordering} (o : IsTotalOrder R) (exact :
 
     pub find-filter_map : (ks : List K) (k : K) → IsStrictlySortedBy R ks → Contains ks k → find_key R key (filter_map given ks) k ≡ given k
     find-filter_map [] k rising there = absurd (omega (arith, there.1))
-    find-filter_map (j ∷ js) k rising there = ⊎_elim (λ e. here (given j) refl e) (λ later. behind (given j) refl later (find-filter_map js k (rises_rest R j js rising) later)) (first_or_later j js k there)
+    find-filter_map (j ∷ js) k rising there = ⊎_elim (λ e. here (given j) refl e)
+        (λ later. behind (given j) refl later (find-filter_map js k (rises_rest R j js rising) later)) (first_or_later j js k there)
       where
         lacks : j ≡ k → find_key R key (filter_map given js) k ≡ None
         lacks e = find_none o exact key (filter_map given js) k (λ y in_rest tie.
@@ -77,9 +89,11 @@ module _ {X K : Type 0} {R : K → K → Ordering} (o : IsTotalOrder R) (exact :
 
         here : (r : Option X) → given j ≡ r → j ≡ k → find_key R key (cons_option r (filter_map given js)) k ≡ given k
         here None is e = lacks e ∙ sym (ap given (sym e) ∙ is)
-        here (Some x) is e = let tie : R (key x) k ≡ Equal = ap (λ u. R u k) (keyed j x is ∙ e) ∙ tied_itself o k in rw tie (sym (ap given (sym e) ∙ is))
+        here (Some x) is e = let tie : R (key x) k ≡ Equal = ap (λ u. R u k) (keyed j x is ∙ e) ∙ tied_itself o k in
+            rw tie (sym (ap given (sym e) ∙ is))
 
-        behind : (r : Option X) → given j ≡ r → Contains js k → find_key R key (filter_map given js) k ≡ given k → find_key R key (cons_option r (filter_map given js)) k ≡ given k
+        behind : (r : Option X) → given j ≡ r → Contains js k → find_key R key (filter_map given js) k ≡ given k
+            → find_key R key (cons_option r (filter_map given js)) k ≡ given k
         behind None is later rest = rest
         behind (Some x) is later rest =
             let less : R (key x) k ≡ Less = ap (λ u. R u k) (keyed j x is) ∙ rises_above R j js rising k later in
@@ -90,8 +104,10 @@ module _ {X K : Type 0} {R : K → K → Ordering} (o : IsTotalOrder R) (exact :
   pub keyed_found : (xs : List X) → IsKeyed key (find_key R key xs)
   keyed_found xs k x found = (find_sound o exact key xs k x found).1
 
-  pub is_given : (ks : List K) (xs : List X) → IsStrictlySortedBy R ks → IsInOrder R key xs → All (λ x. Contains ks (key x)) xs → xs ≡ filter_map (find_key R key xs) ks
-  is_given ks xs rising ordered within = same_lists o exact key xs again ordered (in_order-filter_map (find_key R key xs) (keyed_found xs) ks rising) (λ k. alike k (find_key R key xs k) refl)
+  pub is_given : (ks : List K) (xs : List X) → IsStrictlySortedBy R ks → IsInOrder R key xs → All (λ x. Contains ks (key x)) xs
+      → xs ≡ filter_map (find_key R key xs) ks
+  is_given ks xs rising ordered within = same_lists o exact key xs again ordered
+      (in_order-filter_map (find_key R key xs) (keyed_found xs) ks rising) (λ k. alike k (find_key R key xs k) refl)
     where
       again : List X
       again = filter_map (find_key R key xs) ks
@@ -99,7 +115,8 @@ module _ {X K : Type 0} {R : K → K → Ordering} (o : IsTotalOrder R) (exact :
       alike : (k : K) (r : Option X) → find_key R key xs k ≡ r → find_key R key xs k ≡ find_key R key again k
       alike k (Some x) is =
           let found = find_sound o exact key xs k x is in
-          sym (find-filter_map (find_key R key xs) (keyed_found xs) ks k rising (subst (Contains ks) found.1 (All-contains (λ y. Contains ks (key y)) xs x within found.0)))
+          sym (find-filter_map (find_key R key xs) (keyed_found xs) ks k rising
+          (subst (Contains ks) found.1 (All-contains (λ y. Contains ks (key y)) xs x within found.0)))
       alike k None is = is ∙ none (find_key R key again k) refl
         where
           none : (r : Option X) → find_key R key again k ≡ r → None ≡ find_key R key again k

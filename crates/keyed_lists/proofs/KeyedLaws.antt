@@ -26,7 +26,8 @@ module _ {X K : Type 0} {R : K → K → Ordering} (o : IsTotalOrder R) (exact :
   pub keys-with_one : (xs : List X) (x : X) → map key (with_one R key xs x) ≡ insert_key R (map key xs) (key x)
   keys-with_one [] x = refl
   keys-with_one (y ∷ ys) x =
-      elim (R (key x) (key y)) as (λ r. map key (match_ordering r (x ∷ y ∷ ys) (y ∷ ys) (y ∷ with_one R key ys x)) ≡ match_ordering r (key x ∷ key y ∷ map key ys) (key y ∷ map key ys) (key y ∷ insert_key R (map key ys) (key x))) [
+      elim (R (key x) (key y)) as (λ r. map key (match_ordering r (x ∷ y ∷ ys) (y ∷ ys) (y ∷ with_one R key ys x))
+      ≡ match_ordering r (key x ∷ key y ∷ map key ys) (key y ∷ map key ys) (key y ∷ insert_key R (map key ys) (key x))) [
         | Less ↦ refl
         | Equal ↦ refl
         | Greater ↦ ap (λ l. key y ∷ l) (keys-with_one ys x)
@@ -51,25 +52,34 @@ module _ {X K : Type 0} {R : K → K → Ordering} (o : IsTotalOrder R) (exact :
   pub insert-at_gap : (xs : List X) (x : X) (i : ℕ) → IsGapFor R key xs (key x) i → insert xs i x ≡ with_one R key xs x
   insert-at_gap xs x i gap = go xs i gap.within gap.parted
     where
-      go : (xs : List X) (i : ℕ) → i ≤ length xs → IsPartitionPoint (λ u. R (key u) (key x) ≡ Less) (λ u. R (key u) (key x) ≡ Greater) xs i → insert xs i x ≡ with_one R key xs x
+      go : (xs : List X) (i : ℕ) → i ≤ length xs → IsPartitionPoint (λ u. R (key u) (key x) ≡ Less) (λ u. R (key u) (key x) ≡ Greater) xs i
+          → insert xs i x ≡ with_one R key xs x
       go [] zero le parted = refl
       go [] (suc i) le parted = absurd (omega (arith, le))
       go (y ∷ ys) zero le parted = rw (turned (key y) (key x) Greater (parted.1 0 x (omega arith) (omega arith))) refl
       go (y ∷ ys) (suc i) le parted =
-          let rest = go ys i (omega (arith, le)) (λ n d a b. parted.0 (suc n) d (omega arith) (omega arith), λ n d a b. parted.1 (suc n) d (omega arith) (omega arith)) in
+          let rest = go ys i (omega (arith, le)) (
+            λ n d a b. parted.0 (suc n) d (omega arith) (omega arith),
+            λ n d a b. parted.1 (suc n) d
+                (omega arith) (omega arith),
+          ) in
           rw (turned (key y) (key x) Less (parted.0 0 x (omega arith) (omega arith))) (ap (λ l. y ∷ l) rest)
 
   -- ---- where a binary search ends
 
-  pub key_less : (xs : List X) (i j : ℕ) (d : X) → IsInOrder R key xs → i < j → j < length xs → R (key (get_or xs i d)) (key (get_or xs j d)) ≡ Less
+  pub key_less : (xs : List X) (i j : ℕ) (d : X) → IsInOrder R key xs → i < j → j < length xs
+      → R (key (get_or xs i d)) (key (get_or xs j d)) ≡ Less
   key_less xs i j d ordered lt within =
-      ap (λ u. R u (key (get_or xs j d))) (sym (get_or-map key xs i d (key d) (omega (arith, lt, within)))) ∙ ap (R (get_or (map key xs) i (key d))) (sym (get_or-map key xs j d (key d) within))
+      ap (λ u. R u (key (get_or xs j d))) (sym (get_or-map key xs i d (key d) (omega (arith, lt, within))))
+      ∙ ap (R (get_or (map key xs) i (key d))) (sym (get_or-map key xs j d (key d) within))
       ∙ Less-from_sorted R (map key xs) i j (key d) ordered lt (omega (arith, within, length-map xs key))
 
   rising : (xs : List X) (k : K) → IsInOrder R key xs → IsNonDecreasingBy (λ x. ordering_index (R (key x) k)) xs
-  rising xs k ordered = searchable_from_sorted o key xs k (λ i d a b. ap is_lt (turned _ _ Less (key_less xs i (i + 1) d ordered (omega arith) b)))
+  rising xs k ordered = searchable_from_sorted o key xs k
+      (λ i d a b. ap is_lt (turned _ _ Less (key_less xs i (i + 1) d ordered (omega arith) b)))
 
-  pub search_ends : (xs : List X) (k : K) (r : Result ℕ ℕ) → IsInOrder R key xs → IsSearchInRange r (length xs) → IsBinarySearchResult (λ x. R (key x) k) xs r → MatchResult r (IsPlaceOf R key xs k) (IsGapFor R key xs k)
+  pub search_ends : (xs : List X) (k : K) (r : Result ℕ ℕ) → IsInOrder R key xs → IsSearchInRange r (length xs)
+      → IsBinarySearchResult (λ x. R (key x) k) xs r → MatchResult r (IsPlaceOf R key xs k) (IsGapFor R key xs k)
   search_ends xs k (Ok i) ordered within is = record { within = within; there = is }
   search_ends xs k (Err i) ordered within is = record { within = within; parted = is (rising xs k ordered) }
 
@@ -91,30 +101,40 @@ module _ {X K : Type 0} {R : K → K → Ordering} (o : IsTotalOrder R) (exact :
   find_some (y ∷ ys) k x ordered there is = ⊎_elim
       (λ e. let same : R (key y) k ≡ Equal = ap (λ z. R (key z) k) e ∙ is in rw same (ap (λ z. Some z) e))
       (λ later.
-      let less : R (key y) k ≡ Less = subst (λ u. R (key y) u ≡ Less) (exact (key x) k is) (All-contains (λ u. R (key y) u ≡ Less) (map key ys) (key x) (All-from_recursion _ (map key ys) ordered.0) (has_image key ys x later)) in
+      let less : R (key y) k ≡ Less = subst (λ u. R (key y) u ≡ Less) (exact (key x) k is)
+      (All-contains (λ u. R (key y) u ≡ Less) (map key ys) (key x) (All-from_recursion _ (map key ys) ordered.0)
+      (has_image key ys x later)) in
       rw less (find_some ys k x ordered.1 later is))
       (first_or_later y ys x there)
 
   pub find_gap : (xs : List X) (k : K) (i : ℕ) → IsGapFor R key xs k i → find_key R key xs k ≡ None
   find_gap xs k i gap = find_none xs k (λ x there is. ⊎_elim
-      (λ lt. let e : Less ≡ Equal = sym (subst (λ u. R (key u) k ≡ Less) there.2 (gap.parted.0 there.0 x (omega arith) lt)) ∙ is in absurd (cc))
-      (λ le. let e : Greater ≡ Equal = sym (subst (λ u. R (key u) k ≡ Greater) there.2 (gap.parted.1 there.0 x le there.1)) ∙ is in absurd (cc))
+      (λ lt. let e : Less ≡ Equal = sym (subst (λ u. R (key u) k ≡ Less) there.2 (gap.parted.0 there.0 x (omega arith) lt))
+      ∙ is in absurd (cc))
+      (λ le. let e : Greater ≡ Equal = sym (subst (λ u. R (key u) k ≡ Greater) there.2 (gap.parted.1 there.0 x le there.1))
+      ∙ is in absurd (cc))
       (cases_lt there.0 i))
 
-  pub find_place : (xs : List X) (k : K) (i : ℕ) (x : X) → IsInOrder R key xs → IsPlaceOf R key xs k i → x ≡ get_or xs i x → find_key R key xs k ≡ Some x
-  find_place xs k i x ordered place is = find_some xs k x ordered (i, place.within, sym is) (subst (λ u. R (key u) k ≡ Equal) (sym is) (place.there x))
+  pub find_place : (xs : List X) (k : K) (i : ℕ) (x : X) → IsInOrder R key xs → IsPlaceOf R key xs k i → x ≡ get_or xs i x
+      → find_key R key xs k ≡ Some x
+  find_place xs k i x ordered place is = find_some xs k x ordered (i, place.within, sym is)
+      (subst (λ u. R (key u) k ≡ Equal) (sym is) (place.there x))
 
   -- ---- the keys
 
-  known_first : (x : X) (xs : List X) (k : K) → Contains (map key (x ∷ xs)) k → (Contains (map key xs) k → (y : X) × (find_key R key xs k ≡ Some y)) → (r : Ordering) → R (key x) k ≡ r → (y : X) × (cond (is_eq r) (Some x) (find_key R key xs k) ≡ Some y)
-  known_first x xs k there rest r e = elim r as (λ r. R (key x) k ≡ r → (y : X) × (cond (is_eq r) (Some x) (find_key R key xs k) ≡ Some y)) [
-    | Less ↦ λ e. rest (later (λ is. let same : Less ≡ Equal = sym e ∙ is in cc))
-    | Equal ↦ λ e. (x, refl)
-    | Greater ↦ λ e. rest (later (λ is. let same : Greater ≡ Equal = sym e ∙ is in cc))
-  ] e
+  known_first : (x : X) (xs : List X) (k : K) → Contains (map key (x ∷ xs)) k
+      → (Contains (map key xs) k → (y : X) × (find_key R key xs k ≡ Some y)) → (r : Ordering) → R (key x) k ≡ r → (y : X)
+      × (cond (is_eq r) (Some x) (find_key R key xs k) ≡ Some y)
+  known_first x xs k there rest r e = elim r as (λ r. R (key x) k ≡ r → (y : X)
+      × (cond (is_eq r) (Some x) (find_key R key xs k) ≡ Some y)) [
+        | Less ↦ λ e. rest (later (λ is. let same : Less ≡ Equal = sym e ∙ is in cc))
+        | Equal ↦ λ e. (x, refl)
+        | Greater ↦ λ e. rest (later (λ is. let same : Greater ≡ Equal = sym e ∙ is in cc))
+      ] e
     where
       later : (R (key x) k ≡ Equal → ⊥) → Contains (map key xs) k
-      later differs = ⊎_elim (λ is. absurd (differs (ap (R (key x)) (sym is) ∙ tied_itself o (key x)))) (λ rest. rest) (first_or_later (key x) (map key xs) k there)
+      later differs = ⊎_elim (λ is. absurd (differs (ap (R (key x)) (sym is) ∙ tied_itself o (key x)))) (λ rest. rest)
+          (first_or_later (key x) (map key xs) k there)
 
   pub find_known : (xs : List X) (k : K) → Contains (map key xs) k → (x : X) × (find_key R key xs k ≡ Some x)
   find_known [] k there = absurd (omega (arith, there.1))
@@ -136,11 +156,14 @@ module _ {X K : Type 0} {R : K → K → Ordering} (o : IsTotalOrder R) (exact :
 
   -- each key stands at one place
   pub one_place : (keys : List K) → IsStrictlySortedBy R keys → (k : K) (i j : ℕ) → IsAt keys k i → IsAt keys k j → i ≡ j
-  one_place keys ordered k i j at_i at_j = ⊎_elim (λ e. e) (λ apart. ⊎_elim (λ lt. absurd (below i j lt at_i at_j)) (λ gt. absurd (below j i gt at_j at_i)) apart) (cases_order i j)
+  one_place keys ordered k i j at_i at_j =
+      ⊎_elim (λ e. e) (λ apart. ⊎_elim (λ lt. absurd (below i j lt at_i at_j)) (λ gt. absurd (below j i gt at_j at_i)) apart)
+      (cases_order i j)
     where
       below : (i j : ℕ) → i < j → IsAt keys k i → IsAt keys k j → ⊥
       below i j lt at_i at_j =
-          let less : R k k ≡ Less = ap (λ u. R u k) (sym at_i.1) ∙ ap (R (get_or keys i k)) (sym at_j.1) ∙ Less-from_sorted R keys i j k ordered lt at_j.0 in
+          let less : R k k ≡ Less = ap (λ u. R u k) (sym at_i.1) ∙ ap (R (get_or keys i k)) (sym at_j.1)
+          ∙ Less-from_sorted R keys i j k ordered lt at_j.0 in
           let same : Less ≡ Equal = sym less ∙ tied_itself o k in cc
 
   pub place_known : (xs : List X) (k : K) (i : ℕ) → IsPlaceOf R key xs k i → find_key R key xs k ≡ None → ⊥

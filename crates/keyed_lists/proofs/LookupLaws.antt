@@ -18,7 +18,8 @@ module _ {X K : Type 0} {R : K → K → Ordering} (o : IsTotalOrder R) (exact :
   find_sound [] k x e = absurd (none-some x e)
   find_sound (y ∷ ys) k x e = go (R (key y) k) refl e (find_sound ys k x)
     where
-      go : (r : Ordering) → R (key y) k ≡ r → cond (is_eq r) (Some y) (find_key R key ys k) ≡ Some x → (find_key R key ys k ≡ Some x → Contains ys x × (key x ≡ k)) → Contains (y ∷ ys) x × (key x ≡ k)
+      go : (r : Ordering) → R (key y) k ≡ r → cond (is_eq r) (Some y) (find_key R key ys k) ≡ Some x
+          → (find_key R key ys k ≡ Some x → Contains ys x × (key x ≡ k)) → Contains (y ∷ ys) x × (key x ≡ k)
       go Less is found rest = (has_later y ys x (rest found).0, (rest found).1)
       go Equal is found rest =
           let same : y ≡ x = cc in
@@ -30,7 +31,8 @@ module _ {X K : Type 0} {R : K → K → Ordering} (o : IsTotalOrder R) (exact :
 
   -- ---- one more element
 
-  either_first : (a b : Bool) (x y : X) (r : Option X) → (a ≡ true → b ≡ true → ⊥) → cond a (Some x) (cond b (Some y) r) ≡ cond b (Some y) (cond a (Some x) r)
+  either_first : (a b : Bool) (x y : X) (r : Option X) → (a ≡ true → b ≡ true → ⊥)
+      → cond a (Some x) (cond b (Some y) r) ≡ cond b (Some y) (cond a (Some x) r)
   either_first true true x y r apart = absurd (apart refl refl)
   either_first true false x y r apart = refl
   either_first false b x y r apart = refl
@@ -44,10 +46,14 @@ module _ {X K : Type 0} {R : K → K → Ordering} (o : IsTotalOrder R) (exact :
   later_none y r true e = absurd (none-some y (sym e))
   later_none y r false e = e
 
-  pub find-with_one : (xs : List X) (x : X) (k : K) → find_key R key xs (key x) ≡ None → find_key R key (with_one R key xs x) k ≡ cond (eq_by_cmp R (key x) k) (Some x) (find_key R key xs k)
+  pub find-with_one : (xs : List X) (x : X) (k : K) → find_key R key xs (key x) ≡ None
+      → find_key R key (with_one R key xs x) k ≡ cond (eq_by_cmp R (key x) k) (Some x) (find_key R key xs k)
   find-with_one [] x k none = refl
   find-with_one (y ∷ ys) x k none =
-      (elim (R (key x) (key y)) as (λ r. R (key x) (key y) ≡ r → (find_key R key ys (key x) ≡ None → find_key R key (with_one R key ys x) k ≡ cond (eq_by_cmp R (key x) k) (Some x) (find_key R key ys k)) → find_key R key (match_ordering r (x ∷ y ∷ ys) (y ∷ ys) (y ∷ with_one R key ys x)) k ≡ cond (eq_by_cmp R (key x) k) (Some x) (find_key R key (y ∷ ys) k)) [
+      (elim (R (key x) (key y)) as (λ r. R (key x) (key y) ≡ r
+      → (find_key R key ys (key x) ≡ None → find_key R key (with_one R key ys x) k ≡ cond (eq_by_cmp R (key x) k) (Some x)
+      (find_key R key ys k)) → find_key R key (match_ordering r (x ∷ y ∷ ys) (y ∷ ys) (y ∷ with_one R key ys x)) k
+      ≡ cond (eq_by_cmp R (key x) k) (Some x) (find_key R key (y ∷ ys) k)) [
         | Less ↦ λ e rest. refl
         | Equal ↦ λ e rest. absurd (none-some y (sym none ∙ found e))
         | Greater ↦ λ e rest. ap (λ r. cond (eq_by_cmp R (key y) k) (Some y) r) (rest passed)
@@ -72,7 +78,8 @@ module _ {X K : Type 0} {R : K → K → Ordering} (o : IsTotalOrder R) (exact :
 
   above : (x y : X) (xs : List X) → IsInOrder R key (x ∷ xs) → Contains xs y → R (key x) (key y) ≡ Less
   unfolding IsStrictlySortedBy
-  above x y xs ordered there = All-contains (λ u. R (key x) u ≡ Less) (map key xs) (key y) (All-from_recursion _ (map key xs) ordered.0) (has_image key xs y there)
+  above x y xs ordered there = All-contains (λ u. R (key x) u ≡ Less) (map key xs) (key y) (All-from_recursion _ (map key xs) ordered.0)
+      (has_image key xs y there)
 
   rest_in_order : (x : X) (xs : List X) → IsInOrder R key (x ∷ xs) → IsInOrder R key xs
   unfolding IsStrictlySortedBy
@@ -83,7 +90,8 @@ module _ {X K : Type 0} {R : K → K → Ordering} (o : IsTotalOrder R) (exact :
 
   -- behind an element its key is not found again
   not_again : (x : X) (xs : List X) (k : K) → IsInOrder R key (x ∷ xs) → R (key x) k ≡ Equal → find_key R key xs k ≡ None
-  not_again x xs k ordered tie = find_none o exact key xs k (λ y there is. not_less (key x) (ap (R (key x)) (exact (key x) k tie ∙ sym (exact (key y) k is)) ∙ above x y xs ordered there))
+  not_again x xs k ordered tie = find_none o exact key xs k
+      (λ y there is. not_less (key x) (ap (R (key x)) (exact (key x) k tie ∙ sym (exact (key y) k is)) ∙ above x y xs ordered there))
 
   passes : (x : X) (r : Option X) (t : Ordering) → (t ≡ Equal → ⊥) → cond (is_eq t) (Some x) r ≡ r
   passes x r Less f = refl
@@ -95,24 +103,30 @@ module _ {X K : Type 0} {R : K → K → Ordering} (o : IsTotalOrder R) (exact :
   tie_or_not Equal = inl refl
   tie_or_not Greater = inr (λ e. cc)
 
-  same_rest : (x : X) (xs ys : List X) → IsInOrder R key (x ∷ xs) → IsInOrder R key (x ∷ ys) → ((k : K) → find_key R key (x ∷ xs) k ≡ find_key R key (x ∷ ys) k) → (k : K) → find_key R key xs k ≡ find_key R key ys k
+  same_rest : (x : X) (xs ys : List X) → IsInOrder R key (x ∷ xs) → IsInOrder R key (x ∷ ys)
+      → ((k : K) → find_key R key (x ∷ xs) k ≡ find_key R key (x ∷ ys) k) → (k : K) → find_key R key xs k ≡ find_key R key ys k
   same_rest x xs ys a b same k = ⊎_elim
       (λ tie. not_again x xs k a tie ∙ sym (not_again x ys k b tie))
       (λ apart. sym (passes x (find_key R key xs k) _ apart) ∙ same k ∙ passes x (find_key R key ys k) _ apart)
       (tie_or_not (R (key x) k))
 
-  same_head : (x y : X) (xs ys : List X) → IsInOrder R key (x ∷ xs) → IsInOrder R key (y ∷ ys) → ((k : K) → find_key R key (x ∷ xs) k ≡ find_key R key (y ∷ ys) k) → x ≡ y
+  same_head : (x y : X) (xs ys : List X) → IsInOrder R key (x ∷ xs) → IsInOrder R key (y ∷ ys)
+      → ((k : K) → find_key R key (x ∷ xs) k ≡ find_key R key (y ∷ ys) k) → x ≡ y
   same_head x y xs ys a b same = ⊎_elim
       (λ is. sym is)
-      (λ in_ys. ⊎_elim (λ is. is) (λ in_xs. absurd (not_less (key x) (o.trans (key x) (key y) (key x) (above x y xs a in_xs) (above y x ys b in_ys))))
+      (λ in_ys. ⊎_elim (λ is. is) (λ in_xs. absurd
+      (not_less (key x) (o.trans (key x) (key y) (key x) (above x y xs a in_xs) (above y x ys b in_ys))))
       (first_or_later x xs y (find_sound (x ∷ xs) (key y) y (same (key y) ∙ head_found y ys)).0))
       (first_or_later y ys x (find_sound (y ∷ ys) (key x) x (sym (same (key x)) ∙ head_found x xs)).0)
 
-  pub same_lists : (xs ys : List X) → IsInOrder R key xs → IsInOrder R key ys → ((k : K) → find_key R key xs k ≡ find_key R key ys k) → xs ≡ ys
+  pub same_lists : (xs ys : List X) → IsInOrder R key xs → IsInOrder R key ys
+      → ((k : K) → find_key R key xs k ≡ find_key R key ys k) → xs ≡ ys
   same_lists [] [] a b same = refl
   same_lists [] (y ∷ ys) a b same = absurd (none-some y (same (key y) ∙ head_found y ys))
   same_lists (x ∷ xs) [] a b same = absurd (none-some x (sym (same (key x)) ∙ head_found x xs))
   same_lists (x ∷ xs) (y ∷ ys) a b same =
       let head = same_head x y xs ys a b same in
-      let rest = same_lists xs ys (rest_in_order x xs a) (rest_in_order y ys b) (same_rest x xs ys a (subst (λ z. IsInOrder R key (z ∷ ys)) (sym head) b) (λ k. same k ∙ ap (λ z. find_key R key (z ∷ ys) k) (sym head))) in
+      let rest = same_lists xs ys (rest_in_order x xs a) (rest_in_order y ys b)
+      (same_rest x xs ys a (subst (λ z. IsInOrder R key (z ∷ ys)) (sym head) b) (λ k. same k
+      ∙ ap (λ z. find_key R key (z ∷ ys) k) (sym head))) in
       λ i. head i ∷ rest i

@@ -29,14 +29,17 @@ module _ {K : Type 0} (R : K → K → Ordering) where
   unfolding IsStrictlySortedBy
   rises_none = tt
 
-  pub rises_more : (k : K) (ks : List K) → ((j : K) → Contains ks j → R k j ≡ Less) → IsStrictlySortedBy R ks → IsStrictlySortedBy R (k ∷ ks)
+  pub rises_more : (k : K) (ks : List K) → ((j : K) → Contains ks j → R k j ≡ Less) → IsStrictlySortedBy R ks
+      → IsStrictlySortedBy R (k ∷ ks)
   unfolding IsStrictlySortedBy
   rises_more k ks above rising = (recursion_from_All (λ j. R k j ≡ Less) ks (all_from (λ j. R k j ≡ Less) ks above), rising)
 
-  pub rises_append : (ks js : List K) → IsStrictlySortedBy R ks → IsStrictlySortedBy R js → ((k j : K) → Contains ks k → Contains js j → R k j ≡ Less) → IsStrictlySortedBy R (ks ++ js)
+  pub rises_append : (ks js : List K) → IsStrictlySortedBy R ks → IsStrictlySortedBy R js
+      → ((k j : K) → Contains ks k → Contains js j → R k j ≡ Less) → IsStrictlySortedBy R (ks ++ js)
   rises_append [] js front back below = back
   rises_append (k ∷ ks) js front back below = rises_more k (ks ++ js)
-      (λ j there. ⊎_elim (λ in_ks. rises_above k ks front j in_ks) (λ in_js. below k j (has_first k ks) in_js) (Contains-append_cases ks js j there))
+      (λ j there. ⊎_elim (λ in_ks. rises_above k ks front j in_ks) (λ in_js. below k j (has_first k ks) in_js)
+      (Contains-append_cases ks js j there))
       (rises_append ks js (rises_rest k ks front) back (λ i j in_ks in_js. below i j (has_later k ks i in_ks) in_js))
 
   -- ---- the test of neighbours
@@ -56,6 +59,8 @@ module _ {K : Type 0} (R : K → K → Ordering) where
             let less : R k j ≡ Less = is_less (R k j) parts.0 in
             let rising = rest.0 parts.1 in
             rises_more k (j ∷ more) (λ i there. ⊎_elim
-            (λ same. subst (λ u. R k u ≡ Less) same less) (λ later. o.trans k j i less (rises_above j more rising i later)) (first_or_later j more i there)) rising,
-        λ rising. and_from (is_lt (R k j)) (rises R (j ∷ more)) (ap is_lt (rises_above k (j ∷ more) rising j (has_first j more))) (rest.1 (rises_rest k (j ∷ more) rising)),
+            (λ same. subst (λ u. R k u ≡ Less) same less) (λ later. o.trans k j i less (rises_above j more rising i later))
+            (first_or_later j more i there)) rising,
+        λ rising. and_from (is_lt (R k j)) (rises R (j ∷ more)) (ap is_lt (rises_above k (j ∷ more) rising j (has_first j more)))
+            (rest.1 (rises_rest k (j ∷ more) rising)),
       )

@@ -59,8 +59,10 @@ pub fn find<'a, T: Keyed>(items: &'a [T], key: &str) -> Option<&'a T>
 /// there.
 pub fn insert<T: Keyed + Drop>(items: &mut Vec<T>, item: T) -> Result<bool, AllocError>
     requires { IsInOrder byte_cmp T.key_of items.old.items }
-    ensures added { IfOk result (λ added. IsTrue added ↔ (find_key byte_cmp T.key_of items.old.items (T.key_of item) ≡ None)) }
-    ensures new { IfOk result (λ added. items.new.items ≡ (if added then with_one byte_cmp T.key_of items.old.items item else items.old.items)) }
+    ensures added { IfOk result (λ added. IsTrue added
+        ↔ (find_key byte_cmp T.key_of items.old.items (T.key_of item) ≡ None)) }
+    ensures new { IfOk result (λ added. items.new.items
+        ≡ (if added then with_one byte_cmp T.key_of items.old.items item else items.old.items)) }
     ensures err { OnErr result (items.new.items ≡ items.old.items) }
 {
     match place_of(items.as_slice(), item.key()) {

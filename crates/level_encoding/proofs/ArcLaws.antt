@@ -33,16 +33,19 @@ same-width s p q j = ap width (members_alike same exact_same (possible s) (below
 
 pub same-length : (s : Input) (p q : ℕ) → joined same (possible s) p q ≡ true → length (level s p) ≡ length (level s q)
 unfolding level
-same-length s p q j = length-row (level_start s p) (level_width s p) ∙ same-width s p q j ∙ sym (length-row (level_start s q) (level_width s q))
+same-length s p q j = length-row (level_start s p) (level_width s p) ∙ same-width s p q j
+    ∙ sym (length-row (level_start s q) (level_width s q))
 
 pub turn-length : (s : Input) (x : ℕ) (a : Arc) → is_inside s a ≡ true → length (row x (turns s a)) ≡ length (level s a.parent) - 1
 unfolding level turns
 turn-length s x a i = length-row x (turns s a) ∙ rw (i, length-row (level_start s a.parent) (level_width s a.parent)) refl
 
 -- the rules of an arc stand among those of all, with some turns
-pub arcs-at : (s : Input) (v : ℕ → Bool) (a : Arc) (x : ℕ) (arcs : List Arc) → list_all (eval v) (arcs_rules s x arcs) ≡ true → In a arcs → (y : ℕ) × (list_all (eval v) (arc_rules s y a) ≡ true)
+pub arcs-at : (s : Input) (v : ℕ → Bool) (a : Arc) (x : ℕ) (arcs : List Arc) → list_all (eval v) (arcs_rules s x arcs) ≡ true → In a arcs
+    → (y : ℕ) × (list_all (eval v) (arc_rules s y a) ≡ true)
 unfolding arcs_rules
 arcs-at s v a x [] m i = absurd i
 arcs-at s v a x (b ∷ arcs) m i =
-    let p = and_parts (list_all (eval v) (arc_rules s x b)) (list_all (eval v) (arcs_rules s (x + turns s b) arcs)) (sym (list_all-append (eval v) (arc_rules s x b) (arcs_rules s (x + turns s b) arcs)) ∙ m) in
+    let p = and_parts (list_all (eval v) (arc_rules s x b)) (list_all (eval v) (arcs_rules s (x + turns s b) arcs))
+    (sym (list_all-append (eval v) (arc_rules s x b) (arcs_rules s (x + turns s b) arcs)) ∙ m) in
     elim i [ inl e ↦ (x, rw e p.0) | inr t ↦ arcs-at s v a (x + turns s b) arcs p.1 t ]

@@ -29,7 +29,8 @@ all-agree : (n : ℕ) (v w : ℕ → Bool) → Agree n v w → (fs : List Statem
 all-agree n v w a [] b = refl
 all-agree n v w a (f ∷ fs) b = rw (eval-agree n v w a f b.0, all-agree n v w a fs b.1) refl
 
-pub assert_all-says : (fs : List Statement) (s : Clauses) → AllSaidBelow s.vars fs → Says s (assert_all s fs) (λ asked v. list_all (eval v) fs)
+pub assert_all-says : (fs : List Statement) (s : Clauses) → AllSaidBelow s.vars fs
+    → Says s (assert_all s fs) (λ asked v. list_all (eval v) fs)
 unfolding assert_all
 assert_all-says [] s b = Extends-refl s
 assert_all-says (f ∷ fs) s b =
@@ -43,7 +44,8 @@ pub assert_all-more : (s : Clauses) (fs : List Statement) → AllSaidBelow s.var
 assert_all-more s fs b = (assert_all-says fs s b).grows.more
 
 -- one formula further, what is left makes the same list
-pub each-step : (old new all : Clauses) (fs : List Statement) (i : ℕ) (f : Statement) → i < length fs → f ≡ get_or fs i f → new ≡ assert_on Structure old true f → assert_all old (drop i fs) ≡ all → assert_all new (drop (i + 1) fs) ≡ all
+pub each-step : (old new all : Clauses) (fs : List Statement) (i : ℕ) (f : Statement) → i < length fs → f ≡ get_or fs i f
+    → new ≡ assert_on Structure old true f → assert_all old (drop i fs) ≡ all → assert_all new (drop (i + 1) fs) ≡ all
 unfolding assert_all
 each-step old new all fs i f h e b q =
     ap (λ t. assert_all t (drop (i + 1) fs)) (b ∙ ap (assert_on Structure old true) e)

@@ -24,9 +24,11 @@ possible-from s a i = has_image ends_of s.arcs a (In-has a s.arcs i)
 
 pub chosen-from : (s : Input) (v : ℕ → Bool) (a : Arc) → In a s.arcs → lit_true v a.lit ≡ true → HasArc (chosen s v) a.parent a.child
 unfolding chosen
-chosen-from s v a i h = has_image ends_of (filter (λ b. lit_true v b.lit) s.arcs) a (in_filter (λ b. lit_true v b.lit) s.arcs a (In-has a s.arcs i) h)
+chosen-from s v a i h = has_image ends_of (filter (λ b. lit_true v b.lit) s.arcs) a
+    (in_filter (λ b. lit_true v b.lit) s.arcs a (In-has a s.arcs i) h)
 
-pub chosen-to : (s : Input) (v : ℕ → Bool) (p q : ℕ) → HasArc (chosen s v) p q → (a : Arc) × In a s.arcs × (a.parent ≡ p) × (a.child ≡ q) × (lit_true v a.lit ≡ true)
+pub chosen-to : (s : Input) (v : ℕ → Bool) (p q : ℕ) → HasArc (chosen s v) p q → (a : Arc) × In a s.arcs × (a.parent ≡ p) × (a.child ≡ q)
+    × (lit_true v a.lit ≡ true)
 unfolding chosen
 chosen-to s v p q h =
     let r = image_of ends_of (filter (λ b. lit_true v b.lit) s.arcs) (p, q) h in
@@ -82,27 +84,34 @@ leads-from s p q h t = and_from (is_target s q) (reaches same (possible s) p q) 
 abbrev pub starts : Input → ℕ → ℕ → Statement
 starts s q p = any_of (map (begins s q) (leaving s p))
 
-pub starts-to : (s : Input) (v : ℕ → Bool) (p q : ℕ) → eval v (starts s q p) ≡ true → (r : ℕ) × HasArc (chosen s v) p r × ((r ≡ q) ⊎ (eval v (path s r q) ≡ true))
+pub starts-to : (s : Input) (v : ℕ → Bool) (p q : ℕ) → eval v (starts s q p) ≡ true → (r : ℕ) × HasArc (chosen s v) p r
+    × ((r ≡ q) ⊎ (eval v (path s r q) ≡ true))
 unfolding begins
 starts-to s v p q h =
-    let f = any-to (λ a. eqb a.parent p && eval v (begins s q a)) s.arcs (sym (any_of-is v (begins s q) (λ a. eqb a.parent p) s.arcs) ∙ h) in
+    let f = any-to (λ a. eqb a.parent p && eval v (begins s q a)) s.arcs
+    (sym (any_of-is v (begins s q) (λ a. eqb a.parent p) s.arcs) ∙ h) in
     let t = and_parts (eqb f.0.parent p) (eval v (begins s q f.0)) f.2 in
     step f.0 f.1 (eqb-true f.0.parent p t.0) (cases_eq f.0.child q) t.1
   where
-    step : (a : Arc) → In a s.arcs → a.parent ≡ p → ((a.child ≡ q) ⊎ (a.child ≡ q → ⊥)) → eval v (begins s q a) ≡ true → (r : ℕ) × HasArc (chosen s v) p r × ((r ≡ q) ⊎ (eval v (path s r q) ≡ true))
+    step : (a : Arc) → In a s.arcs → a.parent ≡ p → ((a.child ≡ q) ⊎ (a.child ≡ q → ⊥)) → eval v (begins s q a) ≡ true → (r : ℕ)
+        × HasArc (chosen s v) p r × ((r ≡ q) ⊎ (eval v (path s r q) ≡ true))
     step a i e (inl d) u = (a.child, rw (← e) (chosen-from s v a i (rw (begins, eq-eqb a.child q d) at u)), inl d)
-    step a i e (inr d) u = let b = both-parts v (atom a.lit) (path s a.child q) (rw (begins, ne_eqb a.child q d) at u) in (a.child, rw (← e) (chosen-from s v a i b.0), inr b.1)
+    step a i e (inr d) u = let b = both-parts v (atom a.lit) (path s a.child q) (rw (begins, ne_eqb a.child q d) at u) in
+        (a.child, rw (← e) (chosen-from s v a i b.0), inr b.1)
 
-pub starts-from : (s : Input) (v : ℕ → Bool) (p q r : ℕ) → HasArc (chosen s v) p r → ((r ≡ q) ⊎ (eval v (path s r q) ≡ true)) → eval v (starts s q p) ≡ true
+pub starts-from : (s : Input) (v : ℕ → Bool) (p q r : ℕ) → HasArc (chosen s v) p r → ((r ≡ q) ⊎ (eval v (path s r q) ≡ true))
+    → eval v (starts s q p) ≡ true
 unfolding begins
 starts-from s v p q r h t =
     let c = chosen-to s v p r h in
     any_of-is v (begins s q) (λ a. eqb a.parent p) s.arcs
-    ∙ any-from (λ a. eqb a.parent p && eval v (begins s q a)) c.0 s.arcs c.1 (and_from (eqb c.0.parent p) (eval v (begins s q c.0)) (eq-eqb c.0.parent p c.2) (step c.0 c.3 c.4 (cases_eq c.0.child q)))
+    ∙ any-from (λ a. eqb a.parent p && eval v (begins s q a)) c.0 s.arcs c.1
+    (and_from (eqb c.0.parent p) (eval v (begins s q c.0)) (eq-eqb c.0.parent p c.2) (step c.0 c.3 c.4 (cases_eq c.0.child q)))
   where
     step : (a : Arc) → a.child ≡ r → lit_true v a.lit ≡ true → ((a.child ≡ q) ⊎ (a.child ≡ q → ⊥)) → eval v (begins s q a) ≡ true
     step a e l (inl d) = rw (begins, eq-eqb a.child q d) l
-    step a e l (inr d) = rw (begins, ne_eqb a.child q d) (both-from v (atom a.lit) (path s a.child q) l (elim t [ inl x ↦ absurd (d (e ∙ x)) | inr x ↦ rw e x ]))
+    step a e l (inr d) = rw (begins, ne_eqb a.child q d)
+        (both-from v (atom a.lit) (path s a.child q) l (elim t [ inl x ↦ absurd (d (e ∙ x)) | inr x ↦ rw e x ]))
 
 pub node-within : (s : Input) (v : ℕ → Bool) (i : ℕ) → eval v (node s i) ≡ true → i < numbers s
 unfolding node

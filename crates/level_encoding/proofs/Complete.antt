@@ -35,19 +35,22 @@ filter-agree f g [] h = refl
 filter-agree f g (x ∷ xs) h = rw (h x (inl refl), filter-agree f g xs (λ y i. h y (inr i))) refl
 
 -- variables in a row, by their values
-read-row : (v : ℕ → Bool) (a : ℕ) (bs : List Bool) → ((k : ℕ) → k < length bs → v (a + k) ≡ get_or bs k false) → map (eval v) (map (λ x. atom (lit_of x)) (range_with_len a (length bs))) ≡ bs
+read-row : (v : ℕ → Bool) (a : ℕ) (bs : List Bool) → ((k : ℕ) → k < length bs → v (a + k) ≡ get_or bs k false)
+    → map (eval v) (map (λ x. atom (lit_of x)) (range_with_len a (length bs))) ≡ bs
 read-row v a [] h = refl
 read-row v a (b ∷ bs) h =
     let e : a + 0 ≡ a = omega arith in
     let first : v a ≡ b = ap v (sym e) ∙ h 0 (omega arith) in
     rw (first, read-row v (a + 1) bs (λ k l. let d : a + 1 + k ≡ a + suc k = omega arith in ap v d ∙ h (suc k) (omega (arith, l)))) refl
 
-nodes-agree : (n : ℕ) (v w : ℕ → Bool) → ((x : ℕ) → x < n → v x ≡ w x) → (ls : List Lit) → All (λ l. var_of l < n) ls → (i : ℕ) → eval v (literal_at (slice_get ls i)) ≡ eval w (literal_at (slice_get ls i))
+nodes-agree : (n : ℕ) (v w : ℕ → Bool) → ((x : ℕ) → x < n → v x ≡ w x) → (ls : List Lit) → All (λ l. var_of l < n) ls → (i : ℕ)
+    → eval v (literal_at (slice_get ls i)) ≡ eval w (literal_at (slice_get ls i))
 nodes-agree n v w a [] b i = refl
 nodes-agree n v w a (l ∷ ls) b zero = lit-agree v w l (a (var_of l) (All-head (λ m. var_of m < n) l ls b))
 nodes-agree n v w a (l ∷ ls) b (suc i) = nodes-agree n v w a ls (All-tail (λ m. var_of m < n) l ls b) i
 
-module _ (s : Input) (v : ℕ → Bool) (right : IsRight s) (acyclic : IsAcyclic (HasArc (chosen s v))) (founded : IsFounded (HasArc (chosen s v)) (λ i. eval v (node s i)) (is_root s)) where
+module _ (s : Input) (v : ℕ → Bool) (right : IsRight s) (acyclic : IsAcyclic (HasArc (chosen s v)))
+    (founded : IsFounded (HasArc (chosen s v)) (λ i. eval v (node s i)) (is_root s)) where
   within : IsWithin (numbers s) (possible s)
   within = within-from s right
 
@@ -75,7 +78,8 @@ module _ (s : Input) (v : ℕ → Bool) (right : IsRight s) (acyclic : IsAcyclic
   extended x =
       cond (ltb x s.first) (v x)
       (cond (ltb x (level_start s (numbers s))) (row_at (level_width s) digit (numbers s) (x - s.first))
-      (cond (ltb x (turn_start s)) (row_at (ways s) (λ q. passing_at (leads s q) (leads_now q) (numbers s)) (numbers s) (x - level_start s (numbers s)))
+      (cond (ltb x (turn_start s)) (row_at (ways s) (λ q. passing_at (leads s q) (leads_now q) (numbers s)) (numbers s)
+      (x - level_start s (numbers s)))
       (turn_at s.arcs (x - turn_start s))))
 
   old : (x : ℕ) → x < s.first → v x ≡ extended x
@@ -87,14 +91,25 @@ module _ (s : Input) (v : ℕ → Bool) (right : IsRight s) (acyclic : IsAcyclic
 
   rank-small : (i : ℕ) → i < numbers s → rank_of i < 2 ^ level_width s i
   unfolding rank_of level_width
-  rank-small i h = omega (arith, rank_below same exact_same (possible s) (chosen s v) acyclic (below (numbers s)) i (number-has i h), width-enough (members same (possible s) (below (numbers s)) i))
+  rank-small i h =
+      omega (
+        arith,
+        rank_below same exact_same (possible s) (chosen s v) acyclic (below (numbers s)) i (number-has i h),
+        width-enough
+            (members same (possible s) (below (numbers s)) i),
+      )
 
   digit-at : (i k : ℕ) → i < numbers s → k < level_width s i → extended (level_start s i + k) ≡ digit i k
   unfolding extended level_start total
   digit-at i k a b =
       let x = s.first + total (level_width s) i + k in
       let d : x - s.first ≡ total (level_width s) i + k = omega arith in
-      rw (le-ltb x s.first (omega arith), lt-ltb x (s.first + total (level_width s) (numbers s)) (omega (arith, b, total-le (level_width s) (suc i) (numbers s) a)), d) (row_at-is (level_width s) digit (numbers s) i k a b)
+      rw (
+        le-ltb x s.first (omega arith),
+        lt-ltb x (s.first + total (level_width s) (numbers s))
+            (omega (arith, b, total-le (level_width s) (suc i) (numbers s) a)),
+        d,
+      ) (row_at-is (level_width s) digit (numbers s) i k a b)
 
   start-le : (i : ℕ) → s.first ≤ level_start s i
   unfolding level_start
@@ -111,15 +126,28 @@ module _ (s : Input) (v : ℕ → Bool) (right : IsRight s) (acyclic : IsAcyclic
       let x = level_start s (numbers s) + total (ways s) q + count (leads s q) p in
       let d : x - level_start s (numbers s) ≡ total (ways s) q + count (leads s q) p = omega arith in
       let l : count (leads s q) p < ways s q = count-up (leads s q) (numbers s) p n.0 h in
-      rw (le-ltb x s.first (omega (arith, start-le (numbers s))), le-ltb x (level_start s (numbers s)) (omega arith), lt-ltb x (turn_start s) (path-fits s q p n.1 n.0 h), d)
-      (row_at-is (ways s) (λ q. passing_at (leads s q) (leads_now q) (numbers s)) (numbers s) q (count (leads s q) p) n.1 l ∙ passing_at-is (leads s q) (leads_now q) (numbers s) p n.0 h)
+      rw (
+        le-ltb x s.first (omega (arith, start-le (numbers s))),
+        le-ltb x (level_start s (numbers s)) (omega arith),
+        lt-ltb x
+            (turn_start s) (path-fits s q p n.1 n.0 h),
+        d,
+      )
+      (row_at-is (ways s) (λ q. passing_at (leads s q) (leads_now q) (numbers s)) (numbers s) q (count (leads s q) p) n.1 l
+      ∙ passing_at-is (leads s q) (leads_now q) (numbers s) p n.0 h)
 
   turn-at : (k : ℕ) → extended (turn_start s + k) ≡ turn_at s.arcs k
   unfolding extended
   turn-at k =
       let x = turn_start s + k in
       let d : x - turn_start s ≡ k = omega arith in
-      rw (le-ltb x s.first (omega (arith, turns-behind, start-le (numbers s))), le-ltb x (level_start s (numbers s)) (omega (arith, turns-behind)), le-ltb x (turn_start s) (omega arith), d) refl
+      rw (
+        le-ltb x s.first (omega (arith, turns-behind, start-le (numbers s))),
+        le-ltb x (level_start s (numbers s))
+            (omega (arith, turns-behind)),
+        le-ltb x (turn_start s) (omega arith),
+        d,
+      ) refl
 
   lit-same : (a : Arc) → In a s.arcs → lit_true v a.lit ≡ lit_true extended a.lit
   lit-same a i = lit-agree v extended a.lit (old (var_of a.lit) (all-in (λ (b : Arc). var_of b.lit < s.first) a s.arcs right.arcs_old i))
@@ -143,13 +171,15 @@ module _ (s : Input) (v : ℕ → Bool) (right : IsRight s) (acyclic : IsAcyclic
   unfolding level digit bits
   level-is i h =
       let e : length (bits i) ≡ level_width s i = length-digits_of (level_width s i) (rank_of i) in
-      ap (λ n. map (eval extended) (map (λ x. atom (lit_of x)) (range_with_len (level_start s i) n))) (sym e) ∙ read-row extended (level_start s i) (bits i) (λ k l. digit-at i k h (omega (arith, l, e)))
+      ap (λ n. map (eval extended) (map (λ x. atom (lit_of x)) (range_with_len (level_start s i) n))) (sym e)
+      ∙ read-row extended (level_start s i) (bits i) (λ k l. digit-at i k h (omega (arith, l, e)))
 
   level-number : (i : ℕ) → i < numbers s → number (map (eval extended) (level s i)) ≡ rank_of i
   unfolding bits
   level-number i h = ap number (level-is i h) ∙ number-digits_of (level_width s i) (rank_of i) (rank-small i h)
 
-  arc-met : (a : Arc) → In a s.arcs → (x : ℕ) → ((k : ℕ) → k < turns s a → extended (x + k) ≡ turn a k) → list_all (eval extended) (arc_rules s x a) ≡ true
+  arc-met : (a : Arc) → In a s.arcs → (x : ℕ) → ((k : ℕ) → k < turns s a → extended (x + k) ≡ turn a k)
+      → list_all (eval extended) (arc_rules s x a) ≡ true
   unfolding arc_rules rank_of turn
   arc-met a i x values = go (cases_eq a.parent a.child)
     where
@@ -157,18 +187,26 @@ module _ (s : Input) (v : ℕ → Bool) (right : IsRight s) (acyclic : IsAcyclic
       took t = chosen-from s v a i (lit-same a i ∙ t)
 
       go : ((a.parent ≡ a.child) ⊎ (a.parent ≡ a.child → ⊥)) → list_all (eval extended) (arc_rules s x a) ≡ true
-      go (inl e) = rw (arc_rules, inside-self s a e, eq-eqb a.parent a.child e) (and_from (eval extended (opposite (atom a.lit))) true (opposite-from extended (atom a.lit) (λ t. acyclic a.parent (one_arc (HasArc (chosen s v)) a.parent a.parent (subst (HasArc (chosen s v) a.parent) (sym e) (took t))))) refl)
+      go (inl e) = rw (arc_rules, inside-self s a e, eq-eqb a.parent a.child e)
+          (and_from (eval extended (opposite (atom a.lit))) true
+          (opposite-from extended (atom a.lit) (λ t. acyclic a.parent
+          (one_arc (HasArc (chosen s v)) a.parent a.parent (subst (HasArc (chosen s v) a.parent) (sym e) (took t))))) refl)
       go (inr ne) = elim (cases_Bool (joined same (possible s) a.parent a.child)) [
         | inl j ↦
             let d = within a.parent a.child (possible-from s a i) in
             let t = inside-joined s a ne ∙ j in
-            rw (arc_rules, t) (rising-from extended (atom a.lit) (level s a.parent) (level s a.child) (row x (turns s a)) (same-length s a.parent a.child j) (turn-length s x a t)
-            (turns-from extended (level s a.parent) (level s a.child) x (turns s a) (λ k l. values k l ∙ rw (level-is a.parent d.0, level-is a.child d.1) refl))
-            (λ u. rw (level-number a.parent d.0, level-number a.child d.1) (rank_rises same exact_same (possible s) (chosen s v) acyclic (below (numbers s)) a.parent a.child (number-has a.parent d.0) (took u) j)))
+            rw (arc_rules, t) (rising-from extended (atom a.lit) (level s a.parent) (level s a.child) (row x (turns s a))
+            (same-length s a.parent a.child j) (turn-length s x a t)
+            (turns-from extended (level s a.parent) (level s a.child) x (turns s a) (λ k l. values k l
+            ∙ rw (level-is a.parent d.0, level-is a.child d.1) refl))
+            (λ u. rw (level-number a.parent d.0, level-number a.child d.1)
+            (rank_rises same exact_same (possible s) (chosen s v) acyclic (below (numbers s)) a.parent a.child
+            (number-has a.parent d.0) (took u) j)))
         | inr f ↦ rw (arc_rules, inside-joined s a ne ∙ f, ne_eqb a.parent a.child ne) refl
       ]
 
-  arcs-met : (x : ℕ) (arcs : List Arc) → ((a : Arc) → In a arcs → In a s.arcs) → ((k : ℕ) → extended (x + k) ≡ turn_at arcs k) → list_all (eval extended) (arcs_rules s x arcs) ≡ true
+  arcs-met : (x : ℕ) (arcs : List Arc) → ((a : Arc) → In a arcs → In a s.arcs) → ((k : ℕ) → extended (x + k) ≡ turn_at arcs k)
+      → list_all (eval extended) (arcs_rules s x arcs) ≡ true
   unfolding arcs_rules turn_at
   arcs-met x [] part values = refl
   arcs-met x (a ∷ arcs) part values =
@@ -200,10 +238,13 @@ module _ (s : Input) (v : ℕ → Bool) (right : IsRight s) (acyclic : IsAcyclic
           | inl r ↦ absurd (false≢true (sym e ∙ r))
           | inr r ↦
               let c = chosen-to s v r.0 i r.1 in
-              or_right (eval extended (opposite (node s i))) (eval extended ends) (any_of-is extended (λ a. atom a.lit) (λ a. eqb a.child i) s.arcs ∙
-              any-from (λ a. eqb a.child i && lit_true extended a.lit) c.0 s.arcs c.1 (and_from (eqb c.0.child i) (lit_true extended c.0.lit) (eq-eqb c.0.child i c.3) (sym (lit-same c.0 c.1) ∙ c.4)))
+              or_right (eval extended (opposite (node s i))) (eval extended ends)
+              (any_of-is extended (λ a. atom a.lit) (λ a. eqb a.child i) s.arcs ∙
+              any-from (λ a. eqb a.child i && lit_true extended a.lit) c.0 s.arcs c.1
+              (and_from (eqb c.0.child i) (lit_true extended c.0.lit) (eq-eqb c.0.child i c.3) (sym (lit-same c.0 c.1) ∙ c.4)))
         ]
-        | inr f ↦ or_left (eval extended (opposite (node s i))) (eval extended ends) (opposite-from extended (node s i) (λ t. false≢true (sym f ∙ t)))
+        | inr f ↦ or_left (eval extended (opposite (node s i))) (eval extended ends)
+            (opposite-from extended (node s i) (λ t. false≢true (sym f ∙ t)))
       ]
 
       go : (b : Bool) → is_root s i ≡ b → list_all (eval extended) (node_rules s i) ≡ true
@@ -227,14 +268,19 @@ module _ (s : Input) (v : ℕ → Bool) (right : IsRight s) (acyclic : IsAcyclic
   way-met : (p q : ℕ) → is_target s q ≡ true → list_all (eval extended) (way_rules s q p) ≡ true
   unfolding way_rules
   way-met p q target =
-      and_from (eval extended (or (opposite (path s p q)) (starts s q p))) (list_all (eval extended) (map (λ a. implies (begins s q a) (path s p q)) (leaving s p)))
+      and_from (eval extended (or (opposite (path s p q)) (starts s q p)))
+      (list_all (eval extended) (map (λ a. implies (begins s q a) (path s p q)) (leaving s p)))
       (first-or extended (path s p q) (starts s q p) (λ t. begun (path-of p q t)))
-      (all-map-from (eval extended) (λ a. implies (begins s q a) (path s p q)) (leaving s p) (λ a m. implies-from extended (begins s q a) (path s p q) (λ t.
+      (all-map-from (eval extended) (λ a. implies (begins s q a) (path s p q)) (leaving s p)
+      (λ a m. implies-from extended (begins s q a) (path s p q) (λ t.
       let d = filter-In (λ a. eqb a.parent p) a s.arcs m in
-      leading (any_of-is extended (begins s q) (λ a. eqb a.parent p) s.arcs ∙ any-from (λ a. eqb a.parent p && eval extended (begins s q a)) a s.arcs d.0 (and_from (eqb a.parent p) (eval extended (begins s q a)) d.1 t)))))
+      leading (any_of-is extended (begins s q) (λ a. eqb a.parent p) s.arcs
+      ∙ any-from (λ a. eqb a.parent p && eval extended (begins s q a)) a s.arcs d.0
+      (and_from (eqb a.parent p) (eval extended (begins s q a)) d.1 t)))))
     where
       begun : Path (HasArc (chosen s v)) p q → eval extended (starts s q p) ≡ true
-      begun t = let f = Path-first (chosen s v) p q t in starts-from s extended p q f.0 (also-chosen p f.0 f.1) (elim f.2 [ inl e ↦ inl e | inr u ↦ inr (path-to f.0 q target u) ])
+      begun t = let f = Path-first (chosen s v) p q t in
+          starts-from s extended p q f.0 (also-chosen p f.0 f.1) (elim f.2 [ inl e ↦ inl e | inr u ↦ inr (path-to f.0 q target u) ])
 
       leading : eval extended (starts s q p) ≡ true → eval extended (path s p q) ≡ true
       leading t =
@@ -259,6 +305,9 @@ module _ (s : Input) (v : ℕ → Bool) (right : IsRight s) (acyclic : IsAcyclic
         let b = flat_map (node_rules s) (below (numbers s)) in
         let c = flat_map (path_rules s) (below (numbers s)) in
         list_all-append f (a ++ b) c ∙ and_from (list_all f (a ++ b)) (list_all f c)
-        (list_all-append f a b ∙ and_from (list_all f a) (list_all f b) (arcs-met (turn_start s) s.arcs (λ a i. i) turn-at) (all-flat-from f (node_rules s) (below (numbers s)) (λ i m. node-met i)))
-        (all-flat-from f (path_rules s) (below (numbers s)) (λ q m. all-flat-from f (way_rules s q) (filter (leads s q) (below (numbers s))) (λ p i. way-met p q (target-of q p (filter-In (leads s q) p (below (numbers s)) i).1))));
+        (list_all-append f a b ∙ and_from (list_all f a) (list_all f b) (arcs-met (turn_start s) s.arcs (λ a i. i) turn-at)
+        (all-flat-from f (node_rules s) (below (numbers s)) (λ i m. node-met i)))
+        (all-flat-from f (path_rules s) (below (numbers s))
+        (λ q m. all-flat-from f (way_rules s q) (filter (leads s q) (below (numbers s)))
+        (λ p i. way-met p q (target-of q p (filter-In (leads s q) p (below (numbers s)) i).1))));
   }

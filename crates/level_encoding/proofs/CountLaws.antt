@@ -15,4 +15,8 @@ count-bound f (suc n) = omega (arith, count-bound f n, small (f n))
 pub total-le : (f : ℕ → ℕ) (i n : ℕ) → i ≤ n → total f i ≤ total f n
 unfolding total
 total-le f i zero h = let e : i ≡ 0 = omega arith in rw e (omega arith)
-total-le f i (suc n) h = elim (cases_lt i (suc n)) [ inl lt ↦ omega (arith, total-le f i n (omega arith)) | inr ge ↦ let e : i ≡ suc n = omega arith in rw e (omega arith) ]
+total-le f i (suc n) h = elim (cases_lt i (suc n)) [
+  | inl lt ↦ omega (arith, total-le f i n (omega arith))
+  | inr ge ↦ let e : i ≡ suc n =
+      omega arith in rw e (omega arith)
+]

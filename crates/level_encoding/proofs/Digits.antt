@@ -63,7 +63,8 @@ passing_at-is test g (suc n) k h t =
     elim (cases_lt k n) [
       | inl lt ↦
           let up = count-up test n k lt t in
-          rw (ne_eqb (count test n) (count test k) (λ e. omega (arith, up, e)), and_right (test n) false refl) (passing_at-is test g n k lt t)
+          rw (ne_eqb (count test n) (count test k) (λ e. omega (arith, up, e)), and_right (test n) false refl)
+          (passing_at-is test g n k lt t)
       | inr ge ↦ let e : k ≡ n = omega arith in rw (e, rw e at t, eq-eqb (count test n) (count test n) refl) refl
     ]
 

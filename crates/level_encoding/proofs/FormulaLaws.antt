@@ -102,8 +102,10 @@ number-digits_of zero x h = omega (arith, h)
 number-digits_of (suc w) x h =
     go (leb (2 ^ w) x) refl (number-digits_of w)
   where
-    go : (b : Bool) → leb (2 ^ w) x ≡ b → ((y : ℕ) → y < 2 ^ w → number (digits_of w y) ≡ y) → cond b (2 ^ length (digits_of w (x - cond b (2 ^ w) 0))) 0 + number (digits_of w (x - cond b (2 ^ w) 0)) ≡ x
-    go true e ih = let le = leb-true (2 ^ w) x e in let b : x < 2 ^ w * 2 = rw pow-suc at h in rw (length-digits_of w (x - 2 ^ w)) (omega (arith, le, ih (x - 2 ^ w) (omega (arith, b, le))))
+    go : (b : Bool) → leb (2 ^ w) x ≡ b → ((y : ℕ) → y < 2 ^ w → number (digits_of w y) ≡ y)
+        → cond b (2 ^ length (digits_of w (x - cond b (2 ^ w) 0))) 0 + number (digits_of w (x - cond b (2 ^ w) 0)) ≡ x
+    go true e ih = let le = leb-true (2 ^ w) x e in let b : x < 2 ^ w * 2 = rw pow-suc at h in
+        rw (length-digits_of w (x - 2 ^ w)) (omega (arith, le, ih (x - 2 ^ w) (omega (arith, b, le))))
     go false e ih = omega (arith, ih (x - 0) (omega (arith, leb-false (2 ^ w) x e)))
 
 -- clauses of two and three formulas whose first one is met
@@ -113,51 +115,71 @@ two-at v r g h t = elim (or_cases (eval v g) false (first-or-at v r (any_of (g �
 two-from : (v : ℕ → Bool) (r g : Statement) → (eval v r ≡ true → eval v g ≡ true) → eval v (any_of (opposite r ∷ g ∷ [])) ≡ true
 two-from v r g h = first-or v r (any_of (g ∷ [])) (λ t. or_left (eval v g) false (h t))
 
-three-at : (v : ℕ → Bool) (r f g : Statement) → eval v (any_of (opposite r ∷ f ∷ g ∷ [])) ≡ true → eval v r ≡ true → (eval v f ≡ true) ⊎ (eval v g ≡ true)
-three-at v r f g h t = elim (or_cases (eval v f) (eval v g || false) (first-or-at v r (any_of (f ∷ g ∷ [])) h t)) [ inl x ↦ inl x | inr x ↦ elim (or_cases (eval v g) false x) [ inl y ↦ inr y | inr y ↦ absurd (false≢true y) ] ]
+three-at : (v : ℕ → Bool) (r f g : Statement) → eval v (any_of (opposite r ∷ f ∷ g ∷ [])) ≡ true → eval v r ≡ true → (eval v f ≡ true)
+    ⊎ (eval v g ≡ true)
+three-at v r f g h t = elim (or_cases (eval v f) (eval v g || false) (first-or-at v r (any_of (f ∷ g ∷ [])) h t)) [
+  | inl x ↦ inl x
+  | inr x ↦
+      elim (or_cases (eval v g) false x) [ inl y ↦ inr y | inr y ↦ absurd (false≢true y) ]
+]
 
-three-from : (v : ℕ → Bool) (r f g : Statement) → (eval v r ≡ true → (eval v f ≡ true) ⊎ (eval v g ≡ true)) → eval v (any_of (opposite r ∷ f ∷ g ∷ [])) ≡ true
-three-from v r f g h = first-or v r (any_of (f ∷ g ∷ [])) (λ t. elim (h t) [ inl x ↦ or_left (eval v f) (eval v g || false) x | inr x ↦ or_right (eval v f) (eval v g || false) (or_left (eval v g) false x) ])
+three-from : (v : ℕ → Bool) (r f g : Statement) → (eval v r ≡ true → (eval v f ≡ true) ⊎ (eval v g ≡ true))
+    → eval v (any_of (opposite r ∷ f ∷ g ∷ [])) ≡ true
+three-from v r f g h = first-or v r (any_of (f ∷ g ∷ []))
+    (λ t. elim (h t) [
+      | inl x ↦ or_left (eval v f) (eval v g || false) x
+      | inr x ↦
+          or_right (eval v f) (eval v g || false) (or_left (eval v g) false x)
+    ])
 
 -- the number that digits show
 abbrev pub shown : (ℕ → Bool) → List Statement → ℕ
 shown v fs = number (map (eval v) fs)
 
 -- where no digit decides, the others do
-digit-less : (a b : Bool) (x y m : ℕ) → x < m → y < m → ((a ≡ true → ⊥) ⊎ (b ≡ true)) → ((a ≡ true → ⊥) ⊎ (x < y)) → ((b ≡ true) ⊎ (x < y)) → cond a m 0 + x < cond b m 0 + y
+digit-less : (a b : Bool) (x y m : ℕ) → x < m → y < m → ((a ≡ true → ⊥) ⊎ (b ≡ true)) → ((a ≡ true → ⊥) ⊎ (x < y)) → ((b ≡ true) ⊎ (x < y))
+    → cond a m 0 + x < cond b m 0 + y
 digit-less true true x y m k l p q r = elim q [ inl n ↦ absurd (n refl) | inr h ↦ omega (arith, h) ]
 digit-less true false x y m k l p q r = elim p [ inl n ↦ absurd (n refl) | inr h ↦ absurd (false≢true h) ]
 digit-less false true x y m k l p q r = omega arith
 digit-less false false x y m k l p q r = elim r [ inl h ↦ absurd (false≢true h) | inr h ↦ omega (arith, h) ]
 
 -- and back: a smaller number has no larger first digit, and only equal ones leave it to the others
-less-digit : (a b : Bool) (x y m : ℕ) → x < m → y < m → cond a m 0 + x < cond b m 0 + y → ((a ≡ false) ⊎ (b ≡ true)) × ((a ≡ false) ⊎ (x < y)) × ((b ≡ true) ⊎ (x < y))
+less-digit : (a b : Bool) (x y m : ℕ) → x < m → y < m → cond a m 0 + x < cond b m 0 + y → ((a ≡ false) ⊎ (b ≡ true))
+    × ((a ≡ false) ⊎ (x < y)) × ((b ≡ true) ⊎ (x < y))
 less-digit true true x y m k l h = (inr refl, inr (omega (arith, h)), inl refl)
 less-digit true false x y m k l h = absurd (omega (arith, h))
 less-digit false true x y m k l h = (inl refl, inl refl, inl refl)
 less-digit false false x y m k l h = (inl refl, inl refl, inr (omega (arith, h)))
 
-tails : (v : ℕ → Bool) (f g : Statement) (fs gs : List Statement) → length (f ∷ fs) ≡ length (g ∷ gs) → length (map (eval v) fs) ≡ length (map (eval v) gs)
+tails : (v : ℕ → Bool) (f g : Statement) (fs gs : List Statement) → length (f ∷ fs) ≡ length (g ∷ gs)
+    → length (map (eval v) fs) ≡ length (map (eval v) gs)
 tails v f g fs gs e = length-map fs (eval v) ∙ (let t : length fs ≡ length gs = omega (arith, e) in t) ∙ sym (length-map gs (eval v))
 
-small : (v : ℕ → Bool) (f g : Statement) (fs gs : List Statement) → length (f ∷ fs) ≡ length (g ∷ gs) → shown v fs < 2 ^ length (map (eval v) gs)
+small : (v : ℕ → Bool) (f g : Statement) (fs gs : List Statement) → length (f ∷ fs) ≡ length (g ∷ gs)
+    → shown v fs < 2 ^ length (map (eval v) gs)
 small v f g fs gs e = rw (← tails v f g fs gs e) (number-small (map (eval v) fs))
 
-pub rising-at : (v : ℕ → Bool) (r : Statement) (fs gs ts : List Statement) → length fs ≡ length gs → length ts ≡ length fs - 1 → list_all (eval v) (rising r fs gs ts) ≡ true → eval v r ≡ true → shown v fs < shown v gs
+pub rising-at : (v : ℕ → Bool) (r : Statement) (fs gs ts : List Statement) → length fs ≡ length gs → length ts ≡ length fs - 1
+    → list_all (eval v) (rising r fs gs ts) ≡ true → eval v r ≡ true → shown v fs < shown v gs
 unfolding rising number
 rising-at v r [] gs ts e n m h = absurd (opposite-at v r (and_parts (eval v (opposite r)) true m).0 h)
 rising-at v r (f ∷ fs) [] ts e n m h = absurd (omega (arith, e))
 rising-at v r (f ∷ fs) (g ∷ gs) [] e n m h =
     let p = and_parts (eval v (any_of (opposite r ∷ opposite f ∷ []))) (eval v (any_of (opposite r ∷ g ∷ [])) && true) m in
     let met = two-at v r g (and_parts (eval v (any_of (opposite r ∷ g ∷ []))) true p.1).0 h in
-    rw (tails v f g fs gs e) (digit-less (eval v f) (eval v g) (shown v fs) (shown v gs) (2 ^ length (map (eval v) gs)) (small v f g fs gs e) (number-small (map (eval v) gs))
+    rw (tails v f g fs gs e) (digit-less (eval v f) (eval v g) (shown v fs) (shown v gs) (2 ^ length (map (eval v) gs))
+    (small v f g fs gs e) (number-small (map (eval v) gs))
     (inr met) (inl (opposite-at v f (two-at v r (opposite f) p.0 h))) (inl met))
 rising-at v r (f ∷ fs) (g ∷ gs) (t ∷ ts) e n m h =
-    let p = and_parts (eval v (any_of (opposite r ∷ opposite f ∷ g ∷ []))) (eval v (any_of (opposite r ∷ opposite f ∷ t ∷ [])) && (eval v (any_of (opposite r ∷ g ∷ t ∷ [])) && list_all (eval v) (rising t fs gs ts))) m in
-    let q = and_parts (eval v (any_of (opposite r ∷ opposite f ∷ t ∷ []))) (eval v (any_of (opposite r ∷ g ∷ t ∷ [])) && list_all (eval v) (rising t fs gs ts)) p.1 in
+    let p = and_parts (eval v (any_of (opposite r ∷ opposite f ∷ g ∷ []))) (eval v (any_of (opposite r ∷ opposite f ∷ t ∷ []))
+    && (eval v (any_of (opposite r ∷ g ∷ t ∷ [])) && list_all (eval v) (rising t fs gs ts))) m in
+    let q = and_parts (eval v (any_of (opposite r ∷ opposite f ∷ t ∷ []))) (eval v (any_of (opposite r ∷ g ∷ t ∷ []))
+    && list_all (eval v) (rising t fs gs ts)) p.1 in
     let u = and_parts (eval v (any_of (opposite r ∷ g ∷ t ∷ []))) (list_all (eval v) (rising t fs gs ts)) q.1 in
     let others : eval v t ≡ true → shown v fs < shown v gs = rising-at v t fs gs ts (omega (arith, e)) (omega (arith, n)) u.1 in
-    rw (tails v f g fs gs e) (digit-less (eval v f) (eval v g) (shown v fs) (shown v gs) (2 ^ length (map (eval v) gs)) (small v f g fs gs e) (number-small (map (eval v) gs))
+    rw (tails v f g fs gs e) (digit-less (eval v f) (eval v g) (shown v fs) (shown v gs) (2 ^ length (map (eval v) gs))
+    (small v f g fs gs e) (number-small (map (eval v) gs))
     (elim (three-at v r (opposite f) g p.0 h) [ inl x ↦ inl (opposite-at v f x) | inr x ↦ inr x ])
     (elim (three-at v r (opposite f) t q.0 h) [ inl x ↦ inl (opposite-at v f x) | inr x ↦ inr (others x) ])
     (elim (three-at v r g t u.0 h) [ inl x ↦ inl x | inr x ↦ inr (others x) ]))
@@ -170,11 +192,15 @@ Turns v _ _ _ = Unit {0}
 untrue : (v : ℕ → Bool) (f : Statement) → eval v f ≡ false → eval v (opposite f) ≡ true
 untrue v f e = opposite-from v f (λ t. false≢true (sym e ∙ t))
 
-first-digit : (v : ℕ → Bool) (r f g : Statement) (fs gs : List Statement) → length (f ∷ fs) ≡ length (g ∷ gs) → (eval v r ≡ true → shown v (f ∷ fs) < shown v (g ∷ gs)) → eval v r ≡ true → ((eval v f ≡ false) ⊎ (eval v g ≡ true)) × ((eval v f ≡ false) ⊎ (shown v fs < shown v gs)) × ((eval v g ≡ true) ⊎ (shown v fs < shown v gs))
+first-digit : (v : ℕ → Bool) (r f g : Statement) (fs gs : List Statement) → length (f ∷ fs) ≡ length (g ∷ gs)
+    → (eval v r ≡ true → shown v (f ∷ fs) < shown v (g ∷ gs)) → eval v r ≡ true → ((eval v f ≡ false) ⊎ (eval v g ≡ true))
+    × ((eval v f ≡ false) ⊎ (shown v fs < shown v gs)) × ((eval v g ≡ true) ⊎ (shown v fs < shown v gs))
 unfolding number
-first-digit v r f g fs gs e h t = less-digit (eval v f) (eval v g) (shown v fs) (shown v gs) (2 ^ length (map (eval v) gs)) (small v f g fs gs e) (number-small (map (eval v) gs)) (rw (tails v f g fs gs e) at (h t))
+first-digit v r f g fs gs e h t = less-digit (eval v f) (eval v g) (shown v fs) (shown v gs) (2 ^ length (map (eval v) gs))
+    (small v f g fs gs e) (number-small (map (eval v) gs)) (rw (tails v f g fs gs e) at (h t))
 
-pub rising-from : (v : ℕ → Bool) (r : Statement) (fs gs ts : List Statement) → length fs ≡ length gs → length ts ≡ length fs - 1 → Turns v fs gs ts → (eval v r ≡ true → shown v fs < shown v gs) → list_all (eval v) (rising r fs gs ts) ≡ true
+pub rising-from : (v : ℕ → Bool) (r : Statement) (fs gs ts : List Statement) → length fs ≡ length gs → length ts ≡ length fs - 1
+    → Turns v fs gs ts → (eval v r ≡ true → shown v fs < shown v gs) → list_all (eval v) (rising r fs gs ts) ≡ true
 unfolding rising number
 rising-from v r [] [] ts e n m h = and_from (eval v (opposite r)) true (opposite-from v r (λ t. absurd (omega (arith, h t)))) refl
 rising-from v r [] (g ∷ gs) ts e n m h = absurd (omega (arith, e))
@@ -185,18 +211,23 @@ rising-from v r (f ∷ fs) (g ∷ gs) [] e n m h =
     let none : shown v gs < 2 ^ 0 = rw z at (number-small (map (eval v) gs)) in
     and_from (eval v (any_of (opposite r ∷ opposite f ∷ []))) (eval v (any_of (opposite r ∷ g ∷ [])) && true)
     (two-from v r (opposite f) (λ t. elim (d t).1 [ inl x ↦ untrue v f x | inr x ↦ absurd (omega (arith, none, x)) ]))
-    (and_from (eval v (any_of (opposite r ∷ g ∷ []))) true (two-from v r g (λ t. elim (d t).2 [ inl x ↦ x | inr x ↦ absurd (omega (arith, none, x)) ])) refl)
+    (and_from (eval v (any_of (opposite r ∷ g ∷ []))) true
+    (two-from v r g (λ t. elim (d t).2 [ inl x ↦ x | inr x ↦ absurd (omega (arith, none, x)) ])) refl)
 rising-from v r (f ∷ fs) (g ∷ gs) (t ∷ ts) e n m h =
     let d = first-digit v r f g fs gs e h in
-    and_from (eval v (any_of (opposite r ∷ opposite f ∷ g ∷ []))) (eval v (any_of (opposite r ∷ opposite f ∷ t ∷ [])) && (eval v (any_of (opposite r ∷ g ∷ t ∷ [])) && list_all (eval v) (rising t fs gs ts)))
+    and_from (eval v (any_of (opposite r ∷ opposite f ∷ g ∷ []))) (eval v (any_of (opposite r ∷ opposite f ∷ t ∷ []))
+    && (eval v (any_of (opposite r ∷ g ∷ t ∷ [])) && list_all (eval v) (rising t fs gs ts)))
     (three-from v r (opposite f) g (λ u. elim (d u).0 [ inl x ↦ inl (untrue v f x) | inr x ↦ inr x ]))
-    (and_from (eval v (any_of (opposite r ∷ opposite f ∷ t ∷ []))) (eval v (any_of (opposite r ∷ g ∷ t ∷ [])) && list_all (eval v) (rising t fs gs ts))
+    (and_from (eval v (any_of (opposite r ∷ opposite f ∷ t ∷ []))) (eval v (any_of (opposite r ∷ g ∷ t ∷ []))
+    && list_all (eval v) (rising t fs gs ts))
     (three-from v r (opposite f) t (λ u. elim (d u).1 [ inl x ↦ inl (untrue v f x) | inr x ↦ inr (m.0.1 x) ]))
     (and_from (eval v (any_of (opposite r ∷ g ∷ t ∷ []))) (list_all (eval v) (rising t fs gs ts))
     (three-from v r g t (λ u. elim (d u).2 [ inl x ↦ inl x | inr x ↦ inr (m.0.1 x) ]))
     (rising-from v t fs gs ts (omega (arith, e)) (omega (arith, n)) m.1 m.0.0)))
 
-pub turns-from : (v : ℕ → Bool) (fs gs : List Statement) (x n : ℕ) → ((k : ℕ) → k < n → v (x + k) ≡ ltb (number (drop (suc k) (map (eval v) fs))) (number (drop (suc k) (map (eval v) gs)))) → Turns v fs gs (row x n)
+pub turns-from : (v : ℕ → Bool) (fs gs : List Statement) (x n : ℕ)
+    → ((k : ℕ) → k < n → v (x + k) ≡ ltb (number (drop (suc k) (map (eval v) fs))) (number (drop (suc k) (map (eval v) gs))))
+    → Turns v fs gs (row x n)
 turns-from v [] gs x n h = tt
 turns-from v (f ∷ fs) [] x n h = tt
 turns-from v (f ∷ fs) (g ∷ gs) x zero h = tt

@@ -17,11 +17,19 @@ all-in P x (y ∷ ys) h i = elim i [ inl e ↦ rw e (All-head P y ys h) | inr t 
 
 pub any-from : {A : Type 0} (f : A → Bool) (x : A) (xs : List A) → In x xs → f x ≡ true → list_any f xs ≡ true
 any-from f x [] i h = absurd i
-any-from f x (y ∷ ys) i h = elim i [ inl e ↦ or_left (f y) (list_any f ys) (ap f (sym e) ∙ h) | inr t ↦ or_right (f y) (list_any f ys) (any-from f x ys t h) ]
+any-from f x (y ∷ ys) i h = elim i [
+  | inl e ↦ or_left (f y) (list_any f ys) (ap f (sym e) ∙ h)
+  | inr t ↦
+      or_right (f y) (list_any f ys) (any-from f x ys t h)
+]
 
 pub any-to : {A : Type 0} (f : A → Bool) (xs : List A) → list_any f xs ≡ true → (x : A) × In x xs × (f x ≡ true)
 any-to f [] h = absurd (false≢true h)
-any-to f (y ∷ ys) h = elim (or_cases (f y) (list_any f ys) h) [ inl t ↦ (y, inl refl, t) | inr t ↦ let r = any-to f ys t in (r.0, inr r.1, r.2) ]
+any-to f (y ∷ ys) h = elim (or_cases (f y) (list_any f ys) h) [
+  | inl t ↦ (y, inl refl, t)
+  | inr t ↦ let r = any-to f ys t in
+      (r.0, inr r.1, r.2)
+]
 
 pub all-at : {A : Type 0} (f : A → Bool) (x : A) (xs : List A) → list_all f xs ≡ true → In x xs → f x ≡ true
 all-at f x [] h i = absurd i
@@ -31,29 +39,38 @@ pub all-from : {A : Type 0} (f : A → Bool) (xs : List A) → ((x : A) → In x
 all-from f [] h = refl
 all-from f (y ∷ ys) h = and_from (f y) (list_all f ys) (h y (inl refl)) (all-from f ys (λ x i. h x (inr i)))
 
-pub all-flat-at : {A B : Type 0} (f : B → Bool) (g : A → List B) (x : A) (xs : List A) → list_all f (flat_map g xs) ≡ true → In x xs → list_all f (g x) ≡ true
+pub all-flat-at : {A B : Type 0} (f : B → Bool) (g : A → List B) (x : A) (xs : List A) → list_all f (flat_map g xs) ≡ true → In x xs
+    → list_all f (g x) ≡ true
 all-flat-at f g x [] h i = absurd i
 all-flat-at f g x (y ∷ ys) h i =
     let p = and_parts (list_all f (g y)) (list_all f (flat_map g ys)) (sym (list_all-append f (g y) (flat_map g ys)) ∙ h) in
     elim i [ inl e ↦ ap (λ z. list_all f (g z)) e ∙ p.0 | inr t ↦ all-flat-at f g x ys p.1 t ]
 
-pub all-flat-from : {A B : Type 0} (f : B → Bool) (g : A → List B) (xs : List A) → ((x : A) → In x xs → list_all f (g x) ≡ true) → list_all f (flat_map g xs) ≡ true
+pub all-flat-from : {A B : Type 0} (f : B → Bool) (g : A → List B) (xs : List A) → ((x : A) → In x xs → list_all f (g x) ≡ true)
+    → list_all f (flat_map g xs) ≡ true
 all-flat-from f g [] h = refl
-all-flat-from f g (y ∷ ys) h = list_all-append f (g y) (flat_map g ys) ∙ and_from (list_all f (g y)) (list_all f (flat_map g ys)) (h y (inl refl)) (all-flat-from f g ys (λ x i. h x (inr i)))
+all-flat-from f g (y ∷ ys) h = list_all-append f (g y) (flat_map g ys)
+    ∙ and_from (list_all f (g y)) (list_all f (flat_map g ys)) (h y (inl refl)) (all-flat-from f g ys (λ x i. h x (inr i)))
 
 -- some formula of the elements that pass
-pub any_of-is : {A : Type 0} (v : ℕ → Bool) (h : A → Statement) (t : A → Bool) (xs : List A) → eval v (any_of (map h (filter t xs))) ≡ list_any (λ x. t x && eval v (h x)) xs
+pub any_of-is : {A : Type 0} (v : ℕ → Bool) (h : A → Statement) (t : A → Bool) (xs : List A)
+    → eval v (any_of (map h (filter t xs))) ≡ list_any (λ x. t x && eval v (h x)) xs
 any_of-is v h t [] = refl
 any_of-is v h t (x ∷ xs) = go (t x) (any_of-is v h t xs)
   where
-    go : (b : Bool) → eval v (any_of (map h (filter t xs))) ≡ list_any (λ x. t x && eval v (h x)) xs → eval v (any_of (map h (cond b (x ∷ filter t xs) (filter t xs)))) ≡ ((b && eval v (h x)) || list_any (λ x. t x && eval v (h x)) xs)
+    go : (b : Bool) → eval v (any_of (map h (filter t xs))) ≡ list_any (λ x. t x && eval v (h x)) xs
+        → eval v (any_of (map h (cond b (x ∷ filter t xs) (filter t xs)))) ≡ ((b && eval v (h x)) || list_any (λ x. t x && eval v (h x)) xs)
     go true e = ap (λ r. eval v (h x) || r) e
     go false e = e
 
 -- numbers below a bound
 In-range : (a n k : ℕ) → a ≤ k → k < a + n → In k (range_with_len a n)
 In-range a zero k l h = absurd (omega arith)
-In-range a (suc n) k l h = elim (cases_eq k a) [ inl e ↦ inl e | inr ne ↦ inr (In-range (a + 1) n k (omega (arith, ne)) (omega (arith, h))) ]
+In-range a (suc n) k l h = elim (cases_eq k a) [
+  | inl e ↦ inl e
+  | inr ne ↦
+      inr (In-range (a + 1) n k (omega (arith, ne)) (omega (arith, h)))
+]
 
 pub In-below : (n k : ℕ) → k < n → In k (below n)
 In-below n k h = In-range 0 n k (omega arith) (omega (arith, h))
@@ -74,14 +91,17 @@ pub filter-In : {A : Type 0} (t : A → Bool) (x : A) (xs : List A) → In x (fi
 filter-In t x [] i = absurd i
 filter-In t x (y ∷ ys) i = go (t y) refl i (filter-In t x ys)
   where
-    go : (b : Bool) → t y ≡ b → In x (cond b (y ∷ filter t ys) (filter t ys)) → (In x (filter t ys) → In x ys × (t x ≡ true)) → In x (y ∷ ys) × (t x ≡ true)
+    go : (b : Bool) → t y ≡ b → In x (cond b (y ∷ filter t ys) (filter t ys)) → (In x (filter t ys) → In x ys × (t x ≡ true))
+        → In x (y ∷ ys) × (t x ≡ true)
     go true q i ih = elim i [ inl e ↦ (inl e, rw e q) | inr j ↦ let r = ih j in (inr r.0, r.1) ]
     go false q i ih = let r = ih i in (inr r.0, r.1)
 
-pub all-map-at : {A : Type 0} (f : Statement → Bool) (h : A → Statement) (x : A) (xs : List A) → list_all f (map h xs) ≡ true → In x xs → f (h x) ≡ true
+pub all-map-at : {A : Type 0} (f : Statement → Bool) (h : A → Statement) (x : A) (xs : List A) → list_all f (map h xs) ≡ true → In x xs
+    → f (h x) ≡ true
 all-map-at f h x xs m i = all-at (λ y. f (h y)) x xs (sym (list_all-map f h xs) ∙ m) i
 
-pub all-map-from : {A : Type 0} (f : Statement → Bool) (h : A → Statement) (xs : List A) → ((x : A) → In x xs → f (h x) ≡ true) → list_all f (map h xs) ≡ true
+pub all-map-from : {A : Type 0} (f : Statement → Bool) (h : A → Statement) (xs : List A) → ((x : A) → In x xs → f (h x) ≡ true)
+    → list_all f (map h xs) ≡ true
 all-map-from f h xs g = list_all-map f h xs ∙ all-from (λ y. f (h y)) xs g
 
 pub In-at : {A : Type 0} (xs : List A) (n : ℕ) (d : A) → n < length xs → In (get_or xs n d) xs

@@ -31,19 +31,27 @@ implies-below : (n : ℕ) (f g : Statement) → SaidBelow n f → SaidBelow n g 
 unfolding implies
 implies-below n f g a b = (opposite-below n f a, (b, tt))
 
-rising-below : (n : ℕ) (r : Statement) (fs gs ts : List Statement) → SaidBelow n r → AllSaidBelow n fs → AllSaidBelow n gs → AllSaidBelow n ts → AllSaidBelow n (rising r fs gs ts)
+rising-below : (n : ℕ) (r : Statement) (fs gs ts : List Statement) → SaidBelow n r → AllSaidBelow n fs → AllSaidBelow n gs
+    → AllSaidBelow n ts → AllSaidBelow n (rising r fs gs ts)
 unfolding rising
 rising-below n r [] gs ts h a b c = (opposite-below n r h, tt)
 rising-below n r (f ∷ fs) [] ts h a b c = (opposite-below n r h, tt)
-rising-below n r (f ∷ fs) (g ∷ gs) [] h a b c = ((opposite-below n r h, (opposite-below n f a.0, tt)), ((opposite-below n r h, (b.0, tt)), tt))
-rising-below n r (f ∷ fs) (g ∷ gs) (t ∷ ts) h a b c =
-    ((opposite-below n r h, (opposite-below n f a.0, (b.0, tt))), ((opposite-below n r h, (opposite-below n f a.0, (c.0, tt))), ((opposite-below n r h, (b.0, (c.0, tt))), rising-below n t fs gs ts c.0 a.1 b.1 c.1)))
+rising-below n r (f ∷ fs) (g ∷ gs) [] h a b c =
+    ((opposite-below n r h, (opposite-below n f a.0, tt)), ((opposite-below n r h, (b.0, tt)), tt))
+rising-below n r (f ∷ fs) (g ∷ gs) (t ∷ ts) h a b c = (
+  (opposite-below n r h, (opposite-below n f a.0, (b.0, tt))),
+  (
+    (opposite-below n r h, (opposite-below n f a.0, (c.0, tt))),
+    ((opposite-below n r h, (b.0, (c.0, tt))), rising-below n t fs gs ts c.0 a.1 b.1 c.1),
+  ),
+)
 
 all-append : (n : ℕ) (fs gs : List Statement) → AllSaidBelow n fs → AllSaidBelow n gs → AllSaidBelow n (fs ++ gs)
 all-append n [] gs a b = b
 all-append n (f ∷ fs) gs a b = (a.0, all-append n fs gs a.1 b)
 
-all-flat : {A : Type 0} (n : ℕ) (g : A → List Statement) (xs : List A) → ((x : A) → In x xs → AllSaidBelow n (g x)) → AllSaidBelow n (flat_map g xs)
+all-flat : {A : Type 0} (n : ℕ) (g : A → List Statement) (xs : List A) → ((x : A) → In x xs → AllSaidBelow n (g x))
+    → AllSaidBelow n (flat_map g xs)
 all-flat n g [] h = tt
 all-flat n g (x ∷ xs) h = all-append n (g x) (flat_map g xs) (h x (inl refl)) (all-flat n g xs (λ y i. h y (inr i)))
 
@@ -100,19 +108,23 @@ module _ (s : Input) (right : IsRight s) where
   unfolding arc_rules
   arc_rules-below x a i h = elim (cases_Bool (is_inside s a)) [
     | inl t ↦ let d = within a.parent a.child (possible-from s a i) in
-        rw (arc_rules, t) (rising-below (end s) (atom a.lit) (level s a.parent) (level s a.child) (row x (turns s a)) (arc-below a i) (level-below a.parent d.0) (level-below a.child d.1) (row-below x (turns s a) h))
+        rw (arc_rules, t) (rising-below (end s) (atom a.lit) (level s a.parent) (level s a.child) (row x (turns s a)) (arc-below a i)
+        (level-below a.parent d.0) (level-below a.child d.1) (row-below x (turns s a) h))
     | inr f ↦ elim (cases_Bool (eqb a.parent a.child)) [
       | inl e ↦ rw (arc_rules, f, e) (opposite-below (end s) (atom a.lit) (arc-below a i), tt)
       | inr g ↦ rw (arc_rules, f, g) tt
     ]
   ]
 
-  arcs_rules-below : (x : ℕ) (arcs : List Arc) → ((a : Arc) → In a arcs → In a s.arcs) → x + sum_by (turns s) arcs ≤ end s → AllSaidBelow (end s) (arcs_rules s x arcs)
+  arcs_rules-below : (x : ℕ) (arcs : List Arc) → ((a : Arc) → In a arcs → In a s.arcs) → x + sum_by (turns s) arcs ≤ end s
+      → AllSaidBelow (end s) (arcs_rules s x arcs)
   unfolding arcs_rules
   arcs_rules-below x [] part h = tt
   arcs_rules-below x (a ∷ arcs) part h =
       let e = sum_by-cons (turns s) a arcs in
-      all-append (end s) (arc_rules s x a) (arcs_rules s (x + turns s a) arcs) (arc_rules-below x a (part a (inl refl)) (omega (arith, h, e))) (arcs_rules-below (x + turns s a) arcs (λ b i. part b (inr i)) (omega (arith, h, e)))
+      all-append (end s) (arc_rules s x a) (arcs_rules s (x + turns s a) arcs)
+      (arc_rules-below x a (part a (inl refl)) (omega (arith, h, e)))
+      (arcs_rules-below (x + turns s a) arcs (λ b i. part b (inr i)) (omega (arith, h, e)))
 
   turns-fit : turn_start s + sum_by (turns s) s.arcs ≤ end s
   unfolding end
@@ -122,15 +134,29 @@ module _ (s : Input) (right : IsRight s) where
   unfolding node_rules
   node_rules-below i = elim (cases_Bool (is_root s i)) [
     | inl t ↦ rw (node_rules, t) tt
-    | inr f ↦ rw (node_rules, f) ((opposite-below (end s) (node s i) (node-below i), any-below (end s) (map (λ a. atom a.lit) (filter (λ a. eqb a.child i) s.arcs)) (all-map (end s) (λ a. atom a.lit) (filter (λ a. eqb a.child i) s.arcs) (λ a m. arc-below a (filter-In (λ a. eqb a.child i) a s.arcs m).0))), tt)
+    | inr f ↦ rw (node_rules, f) (
+      (
+        opposite-below (end s) (node s i) (node-below i),
+        any-below (end s) (map (λ a. atom a.lit) (filter (λ a. eqb a.child i) s.arcs))
+            (all-map (end s) (λ a. atom a.lit) (filter (λ a. eqb a.child i) s.arcs)
+            (λ a m. arc-below a (filter-In (λ a. eqb a.child i) a s.arcs m).0)),
+      ),
+      tt,
+    )
   ]
 
   pub way_rules-below : (q p : ℕ) → AllSaidBelow (end s) (way_rules s q p)
   unfolding way_rules
   way_rules-below q p =
-      let own : (a : Arc) → In a (leaving s p) → SaidBelow (end s) (begins s q a) = λ a i. step-below q a (filter-In (λ a. eqb a.parent p) a s.arcs i).0 in (
-        (opposite-below (end s) (path s p q) (path-below p q), any-below (end s) (map (begins s q) (leaving s p)) (all-map (end s) (begins s q) (leaving s p) own)),
-        all-map (end s) (λ a. implies (begins s q a) (path s p q)) (leaving s p) (λ a i. implies-below (end s) (begins s q a) (path s p q) (own a i) (path-below p q)),
+      let own : (a : Arc) → In a (leaving s p) → SaidBelow (end s) (begins s q a) =
+      λ a i. step-below q a (filter-In (λ a. eqb a.parent p) a s.arcs i).0 in (
+        (
+          opposite-below (end s) (path s p q) (path-below p q),
+          any-below (end s) (map (begins s q) (leaving s p))
+              (all-map (end s) (begins s q) (leaving s p) own),
+        ),
+        all-map (end s) (λ a. implies (begins s q a) (path s p q)) (leaving s p)
+            (λ a i. implies-below (end s) (begins s q a) (path s p q) (own a i) (path-below p q)),
       )
 
   path_rules-below : (q : ℕ) → AllSaidBelow (end s) (path_rules s q)
@@ -142,5 +168,7 @@ module _ (s : Input) (right : IsRight s) where
   constraints-below =
       let a = arcs_rules s (turn_start s) s.arcs in
       let b = flat_map (node_rules s) (below (numbers s)) in
-      all-append (end s) (a ++ b) (flat_map (path_rules s) (below (numbers s))) (all-append (end s) a b (arcs_rules-below (turn_start s) s.arcs (λ a i. i) turns-fit) (all-flat (end s) (node_rules s) (below (numbers s)) (λ i m. node_rules-below i)))
+      all-append (end s) (a ++ b) (flat_map (path_rules s) (below (numbers s)))
+      (all-append (end s) a b (arcs_rules-below (turn_start s) s.arcs (λ a i. i) turns-fit)
+      (all-flat (end s) (node_rules s) (below (numbers s)) (λ i m. node_rules-below i)))
       (all-flat (end s) (path_rules s) (below (numbers s)) (λ q m. path_rules-below q))

@@ -38,8 +38,10 @@ module _ (arcs : List (ℕ × ℕ)) where
   Path-first p q t = elim (first_arc (HasArc arcs) p q t) [ inl a ↦ (q, a, inl refl) | inr w ↦ (w.0, w.1, inr w.2) ]
 
   -- what a table of paths tells is what is computed
-  pub table-reaches : (n : ℕ) (table : PathMarks) → IsPathTable n arcs table → (p q : ℕ) → p < n → q < n → leads table p q ≡ reaches same arcs p q
-  table-reaches n table t p q a b = both (leads table p q) (reaches same arcs p q) (λ h. reaches-complete p q ((t.marks p q a b).0 h)) (λ h. (t.marks p q a b).1 (reaches-sound p q h))
+  pub table-reaches : (n : ℕ) (table : PathMarks) → IsPathTable n arcs table → (p q : ℕ) → p < n → q < n
+      → leads table p q ≡ reaches same arcs p q
+  table-reaches n table t p q a b = both (leads table p q) (reaches same arcs p q) (λ h. reaches-complete p q ((t.marks p q a b).0 h))
+      (λ h. (t.marks p q a b).1 (reaches-sound p q h))
     where
       both : (x y : Bool) → (x ≡ true → y ≡ true) → (y ≡ true → x ≡ true) → x ≡ y
       both true y f g = sym (f refl)
@@ -47,7 +49,8 @@ module _ (arcs : List (ℕ × ℕ)) where
       both false false f g = refl
 
   -- two numbers are joined where the table tells of paths both ways
-  pub table-joined : (n : ℕ) (table : PathMarks) → IsPathTable n arcs table → (p q : ℕ) → p < n → q < n → (p ≡ q → ⊥) → (leads table p q && leads table q p) ≡ joined same arcs p q
+  pub table-joined : (n : ℕ) (table : PathMarks) → IsPathTable n arcs table → (p q : ℕ) → p < n → q < n → (p ≡ q → ⊥)
+      → (leads table p q && leads table q p) ≡ joined same arcs p q
   unfolding joined
   table-joined n table t p q a b d = rw (ne_eqb p q d, table-reaches n table t p q a b, table-reaches n table t q p b a) refl
 

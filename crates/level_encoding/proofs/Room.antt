@@ -18,7 +18,8 @@ pub level-fits : (s : Input) (i : ℕ) → i < numbers s → level_start s i + l
 unfolding level_start end turn_start path_start total
 level-fits s i h = omega (arith, total-le (level_width s) (suc i) (numbers s) h)
 
-pub path-fits : (s : Input) (q p : ℕ) → q < numbers s → p < numbers s → leads s q p ≡ true → path_start s q + count (leads s q) p < turn_start s
+pub path-fits : (s : Input) (q p : ℕ) → q < numbers s → p < numbers s → leads s q p ≡ true
+    → path_start s q + count (leads s q) p < turn_start s
 unfolding path_start ways turn_start total
 path-fits s q p a b h = omega (arith, count-up (leads s q) (numbers s) p b h, total-le (ways s) (suc q) (numbers s) a)
 
@@ -56,7 +57,8 @@ total-small f m zero h = omega arith
 total-small f m (suc n) h = let e : suc n * m ≡ n * m + m = suc-mul n m in omega (arith, e, total-small f m n h, h n)
 
 pub members-few : (s : Input) (i : ℕ) → members same (possible s) (below (numbers s)) i ≤ numbers s
-members-few s i = omega (arith, count_by-le-length (λ p. joined same (possible s) p i) (below (numbers s)), length-range_with_len 0 (numbers s))
+members-few s i =
+    omega (arith, count_by-le-length (λ p. joined same (possible s) p i) (below (numbers s)), length-range_with_len 0 (numbers s))
 
 level_width-small : (s : Input) (i : ℕ) → level_width s i ≤ numbers s
 unfolding level_width
@@ -108,7 +110,8 @@ pub members-none : (s : Input) (q : ℕ) → members_to s q 0 ≡ 0
 unfolding members_to
 members-none s q = refl
 
-pub members-more : (s : Input) (q p : ℕ) → p < numbers s → members_to s q (p + 1) ≡ members_to s q p + cond (joined same (possible s) p q) 1 0
+pub members-more : (s : Input) (q p : ℕ) → p < numbers s
+    → members_to s q (p + 1) ≡ members_to s q p + cond (joined same (possible s) p q) 1 0
 unfolding members_to
 members-more s q p h =
     let f : ℕ → Bool = λ x. joined same (possible s) x q in
@@ -121,12 +124,14 @@ members-more s q p h =
 
 pub members-all : (s : Input) (q p : ℕ) → p ≡ numbers s → members_to s q p ≡ members same (possible s) (below (numbers s)) q
 unfolding members_to
-members-all s q p e = ap (count_by (λ x. joined same (possible s) x q)) (take_all p (below (numbers s)) (omega (arith, e, length-range_with_len 0 (numbers s))))
+members-all s q p e = ap (count_by (λ x. joined same (possible s) x q))
+    (take_all p (below (numbers s)) (omega (arith, e, length-range_with_len 0 (numbers s))))
 
 pub ruleset members_so_far = (members-none, members-more, members-all, members-few)
 
 -- a bound on the new variables that fits
-pub end-fits : (s : Input) (most : ℕ) → most ≡ s.first + 2 * (numbers s * numbers s) + length s.arcs * numbers s → most < 2 ^ 63 → end s < 2 ^ 63
+pub end-fits : (s : Input) (most : ℕ) → most ≡ s.first + 2 * (numbers s * numbers s) + length s.arcs * numbers s → most < 2 ^ 63
+    → end s < 2 ^ 63
 end-fits s most e h = omega (arith, e, h, end-small s)
 
 pub ruleset end_fits = (end-fits)

@@ -1,5 +1,5 @@
 -- Levels as digits in a row, and the rules of their comparison one digit further.
-use Rattle.std.proofs.Common.{◌≡◌, ◌≢◌, ℕ, zero, suc, ◌+◌, ◌-◌, ◌≤◌, List, [], ◌∷◌, ◌++◌, append_assoc, true, not, eqb, refl, sym, ap, arith}
+use Rattle.std.proofs.Common.{◌≡◌, ◌≢◌, ℕ, zero, suc, ◌+◌, ◌-◌, [], ◌∷◌, ◌++◌, append_assoc, true, not, eqb, refl, sym, arith}
 use Rattle.reachability.specs.Paths.{joined}
 use Rattle.clause_store.specs.declared.Lit.{Lit}
 use Rattle.gate_plans.specs.Gates.{lit_of}
@@ -11,17 +11,21 @@ use Rattle.level_encoding.specs.Input.{Input, IsRight, same, possible}
 use Rattle.level_encoding.specs.Encoding.{level_width, level_start, level, is_inside, turns}
 use Rattle.level_encoding.proofs.ArcLaws.{same-width}
 
-pub rising-none : (r : Lit) (p q t digits : ℕ) → digits ≡ 0 → rising (atom r) (row p digits) (row q digits) (row t (digits - 1)) ≡ opposite (atom r) ∷ []
+pub rising-none : (r : Lit) (p q t digits : ℕ) → digits ≡ 0
+    → rising (atom r) (row p digits) (row q digits) (row t (digits - 1)) ≡ opposite (atom r) ∷ []
 unfolding rising
 rising-none r p q t zero h = refl
 rising-none r p q t (suc digits) h = absurd (omega (arith, h))
 
-pub rising-one : (r : Lit) (p q t digits : ℕ) → digits ≡ 1 → rising (atom r) (row p digits) (row q digits) (row t (digits - 1)) ≡ last_rules (atom r) (atom (lit_of p)) (atom (lit_of q))
+pub rising-one : (r : Lit) (p q t digits : ℕ) → digits ≡ 1
+    → rising (atom r) (row p digits) (row q digits) (row t (digits - 1)) ≡ last_rules (atom r) (atom (lit_of p)) (atom (lit_of q))
 unfolding rising
 rising-one r p q t digits h = rw h refl
 
-pub rising-more : (r : Lit) (p q t digits : ℕ) → digits ≢ 0 → digits ≢ 1 → rising (atom r) (row p digits) (row q digits) (row t (digits - 1)) ≡
-    digit_rules (atom r) (atom (lit_of p)) (atom (lit_of q)) (atom (lit_of t)) ++ rising (atom (lit_of t)) (row (p + 1) (digits - 1)) (row (q + 1) (digits - 1)) (row (t + 1) (digits - 1 - 1))
+pub rising-more : (r : Lit) (p q t digits : ℕ) → digits ≢ 0 → digits ≢ 1
+    → rising (atom r) (row p digits) (row q digits) (row t (digits - 1)) ≡
+    digit_rules (atom r) (atom (lit_of p)) (atom (lit_of q)) (atom (lit_of t))
+    ++ rising (atom (lit_of t)) (row (p + 1) (digits - 1)) (row (q + 1) (digits - 1)) (row (t + 1) (digits - 1 - 1))
 unfolding rising
 rising-more r p q t zero h k = absurd (h refl)
 rising-more r p q t (suc zero) h k = absurd (k refl)
@@ -38,13 +42,16 @@ level-is s i = refl
 
 pub inside-width : (s : Input) (a : Arc) → IsRight s → is_inside s a ≡ true → level_width s a.child ≡ level_width s a.parent
 unfolding is_inside
-inside-width s a right h = sym (same-width s a.parent a.child (and_parts (not (eqb a.parent a.child)) (joined same (possible s) a.parent a.child) h).1)
+inside-width s a right h =
+    sym (same-width s a.parent a.child (and_parts (not (eqb a.parent a.child)) (joined same (possible s) a.parent a.child) h).1)
 
 pub inside-turns : (s : Input) (a : Arc) → is_inside s a ≡ true → turns s a ≡ level_width s a.parent - 1
 unfolding turns
 inside-turns s a h = rw h refl
 
 -- the rules of an arc, by where the levels stand
-pub level_rules-are : (s : Input) (a : Arc) → IsRight s → is_inside s a ≡ true → (p q w t : ℕ) → p ≡ level_start s a.parent → q ≡ level_start s a.child → w ≡ level_width s a.parent → rising (atom a.lit) (row p w) (row q w) (row t (w - 1)) ≡ rising (atom a.lit) (level s a.parent) (level s a.child) (row t (turns s a))
+pub level_rules-are : (s : Input) (a : Arc) → IsRight s → is_inside s a ≡ true → (p q w t : ℕ) → p ≡ level_start s a.parent
+    → q ≡ level_start s a.child → w ≡ level_width s a.parent
+    → rising (atom a.lit) (row p w) (row q w) (row t (w - 1)) ≡ rising (atom a.lit) (level s a.parent) (level s a.child) (row t (turns s a))
 unfolding level
 level_rules-are s a right i p q w t e f g = rw (e, f, g, inside-turns s a i, inside-width s a right i) refl

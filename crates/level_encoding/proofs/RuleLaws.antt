@@ -1,5 +1,5 @@
 -- Rules so far, one number further.
-use Rattle.std.proofs.Common.{◌≡◌, ℕ, zero, suc, ◌+◌, ◌<◌, ◌≤◌, Bool, true, false, cond, eqb, List, [], ◌∷◌, ◌++◌, length, get_or, drop, drop-cons, refl, sym, ap, ◌∙◌, subst, arith, add-one, zero-add, append_assoc, Option, Some, None}
+use Rattle.std.proofs.Common.{◌≡◌, ℕ, zero, suc, ◌+◌, ◌<◌, ◌≤◌, Bool, true, false, cond, eqb, List, [], ◌∷◌, ◌++◌, length, get_or, drop, drop-cons, refl, sym, ap, ◌∙◌, subst, arith, add-one, zero-add, Some, None}
 use Rattle.std.specs.Prelude.{is_some}
 use Rattle.std.specs.List.{All, filter, flat_map, range_with_len, sum_by}
 use Rattle.std.proofs.lemmas.List.{append-nil, drop_all}
@@ -19,7 +19,8 @@ use Rattle.level_encoding.specs.Input.{Input, IsRight, numbers}
 use Rattle.level_encoding.specs.Encoding.{below, leads, leaving, way, turns, turn_start, arc_rules, arcs_rules, node_rules, way_rules, path_rules, end}
 
 pub leaving-child : (s : Input) (p : ℕ) → IsRight s → All (λ a. a.child < numbers s) (leaving s p)
-leaving-child s p right = All-weaker (λ a. (a.parent < numbers s) × (a.child < numbers s)) (λ a. a.child < numbers s) (λ a h. h.1) (leaving s p) (All-filter (λ a. eqb a.parent p) (λ a. (a.parent < numbers s) × (a.child < numbers s)) s.arcs right.ends)
+leaving-child s p right = All-weaker (λ a. (a.parent < numbers s) × (a.child < numbers s)) (λ a. a.child < numbers s) (λ a h. h.1)
+    (leaving s p) (All-filter (λ a. eqb a.parent p) (λ a. (a.parent < numbers s) × (a.child < numbers s)) s.arcs right.ends)
 
 pub way-is_some : (s : Input) (q p : ℕ) → is_some (way s q p) ≡ leads s q p
 unfolding way
@@ -66,7 +67,8 @@ pub ruleset arcs_from_one = (leaving-child)
 -- the rules of the numbers below n
 below-more : (g : ℕ → List Statement) (n : ℕ) → flat_map g (below (n + 1)) ≡ flat_map g (below n) ++ g n
 below-more g n =
-    rw add-one (ap (flat_map g) (range-more 0 n ∙ ap (λ k. below n ++ k ∷ []) (zero-add n)) ∙ flat_map-append g (below n) (n ∷ []) ∙ ap (λ xs. flat_map g (below n) ++ xs) (append-nil (g n)))
+    rw add-one (ap (flat_map g) (range-more 0 n ∙ ap (λ k. below n ++ k ∷ []) (zero-add n)) ∙ flat_map-append g (below n) (n ∷ [])
+    ∙ ap (λ xs. flat_map g (below n) ++ xs) (append-nil (g n)))
 
 unfoldable pub node_rules_to : Input → ℕ → List Statement
 node_rules_to s n = flat_map (node_rules s) (below n)
@@ -103,27 +105,35 @@ target_rules-all s n e = rw e refl
 pub ruleset target_rules_so_far = (target_rules-none, target_rules-more, target_rules-all, assert_all-none, assert_all-append)
 
 -- the rules so far with those of the arcs that are left are all of them
-pub arcs_rules-all : (s : Input) (x n : ℕ) (arcs : List Arc) (now all : Clauses) → length arcs ≤ n → assert_all now (arcs_rules s x (drop n arcs)) ≡ all → now ≡ all
+pub arcs_rules-all : (s : Input) (x n : ℕ) (arcs : List Arc) (now all : Clauses) → length arcs ≤ n
+    → assert_all now (arcs_rules s x (drop n arcs)) ≡ all → now ≡ all
 unfolding arcs_rules assert_all
 arcs_rules-all s x n arcs now all h e = sym (ap (λ xs. assert_all now (arcs_rules s x xs)) (drop_all n arcs h)) ∙ e
 
-pub arcs_rules-step : (s : Input) (x t n : ℕ) (arcs : List Arc) (d : Arc) (old new all : Clauses) → n < length arcs → new ≡ assert_all old (arc_rules s x (get_or arcs n d)) → t ≡ turns s (get_or arcs n d) → assert_all old (arcs_rules s x (drop n arcs)) ≡ all → assert_all new (arcs_rules s (x + t) (drop (n + 1) arcs)) ≡ all
+pub arcs_rules-step : (s : Input) (x t n : ℕ) (arcs : List Arc) (d : Arc) (old new all : Clauses) → n < length arcs
+    → new ≡ assert_all old (arc_rules s x (get_or arcs n d)) → t ≡ turns s (get_or arcs n d)
+    → assert_all old (arcs_rules s x (drop n arcs)) ≡ all → assert_all new (arcs_rules s (x + t) (drop (n + 1) arcs)) ≡ all
 unfolding arcs_rules
 arcs_rules-step s x t n arcs d old new all h e f g =
     ap (λ y. assert_all y (arcs_rules s (x + t) (drop (n + 1) arcs))) e
     ∙ sym (assert_all-append old (arc_rules s x (get_or arcs n d)) (arcs_rules s (x + t) (drop (n + 1) arcs)))
     ∙ ap (λ y. assert_all old (arc_rules s x (get_or arcs n d) ++ arcs_rules s (x + y) (drop (n + 1) arcs))) f
-    ∙ sym (ap (λ xs. assert_all old (arcs_rules s x xs)) (drop-cons arcs n d h ∙ ap (λ k. get_or arcs n d ∷ drop k arcs) (sym (add-one n)))) ∙ g
+    ∙ sym (ap (λ xs. assert_all old (arcs_rules s x xs)) (drop-cons arcs n d h ∙ ap (λ k. get_or arcs n d ∷ drop k arcs) (sym (add-one n))))
+    ∙ g
 
-pub turns-fit : (s : Input) (x n : ℕ) (arcs : List Arc) (d : Arc) → n < length arcs → x + sum_by (turns s) (drop n arcs) ≡ end s → x + turns s (get_or arcs n d) ≤ end s
+pub turns-fit : (s : Input) (x n : ℕ) (arcs : List Arc) (d : Arc) → n < length arcs → x + sum_by (turns s) (drop n arcs) ≡ end s
+    → x + turns s (get_or arcs n d) ≤ end s
 turns-fit s x n arcs d h g = omega (arith, g, sum_by-drop_more (turns s) arcs n d h)
 
 -- an arc's rules are over variables that are there
-pub arc-below-at : (s : Input) → IsRight s → (x n : ℕ) (arcs : List Arc) (d : Arc) (vars : ℕ) → arcs ≡ s.arcs → n < length arcs → x + sum_by (turns s) (drop n arcs) ≡ end s → end s ≤ vars → AllSaidBelow vars (arc_rules s x (get_or arcs n d))
+pub arc-below-at : (s : Input) → IsRight s → (x n : ℕ) (arcs : List Arc) (d : Arc) (vars : ℕ) → arcs ≡ s.arcs → n < length arcs
+    → x + sum_by (turns s) (drop n arcs) ≡ end s → end s ≤ vars → AllSaidBelow vars (arc_rules s x (get_or arcs n d))
 arc-below-at s right x n arcs d vars e h t m =
-    AllSaidBelow-le (end s) vars (arc_rules s x (get_or arcs n d)) m (arc_rules-below s right x (get_or arcs n d) (subst (In (get_or arcs n d)) e (In-at arcs n d h)) (turns-fit s x n arcs d h t))
+    AllSaidBelow-le (end s) vars (arc_rules s x (get_or arcs n d)) m
+    (arc_rules-below s right x (get_or arcs n d) (subst (In (get_or arcs n d)) e (In-at arcs n d h)) (turns-fit s x n arcs d h t))
 
-pub turns-step : (s : Input) (x t n : ℕ) (arcs : List Arc) (d : Arc) → n < length arcs → t ≡ turns s (get_or arcs n d) → x + sum_by (turns s) (drop n arcs) ≡ end s → x + t + sum_by (turns s) (drop (n + 1) arcs) ≡ end s
+pub turns-step : (s : Input) (x t n : ℕ) (arcs : List Arc) (d : Arc) → n < length arcs → t ≡ turns s (get_or arcs n d)
+    → x + sum_by (turns s) (drop n arcs) ≡ end s → x + t + sum_by (turns s) (drop (n + 1) arcs) ≡ end s
 turns-step s x t n arcs d h f g = omega (arith, f, g, sum_by-drop_more (turns s) arcs n d h)
 
 pub end-is : (s : Input) → turn_start s + sum_by (turns s) s.arcs ≡ end s

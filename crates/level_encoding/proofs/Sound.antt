@@ -26,7 +26,9 @@ module _ (s : Input) (v : ℕ → Bool) (right : IsRight s) (starts_chosen : Sta
   level_value : ℕ → ℕ
   level_value i = number (map (eval v) (level s i))
 
-  parts : (list_all (eval v) (arcs_rules s (turn_start s) s.arcs) ≡ true) × (list_all (eval v) (flat_map (node_rules s) (below (numbers s))) ≡ true) × (list_all (eval v) (flat_map (path_rules s) (below (numbers s))) ≡ true)
+  parts : (list_all (eval v) (arcs_rules s (turn_start s) s.arcs) ≡ true)
+      × (list_all (eval v) (flat_map (node_rules s) (below (numbers s))) ≡ true)
+      × (list_all (eval v) (flat_map (path_rules s) (below (numbers s))) ≡ true)
   unfolding constraints
   parts =
       let a = arcs_rules s (turn_start s) s.arcs in
@@ -36,21 +38,27 @@ module _ (s : Input) (v : ℕ → Bool) (right : IsRight s) (starts_chosen : Sta
       let y = and_parts (list_all (eval v) a) (list_all (eval v) b) (sym (list_all-append (eval v) a b) ∙ x.0) in
       (y.0, y.1, x.1)
 
-  inside : (a : Arc) → In a s.arcs → lit_true v a.lit ≡ true → Path (HasArc (possible s)) a.child a.parent → level_value a.parent < level_value a.child
+  inside : (a : Arc) → In a s.arcs → lit_true v a.lit ≡ true → Path (HasArc (possible s)) a.child a.parent
+      → level_value a.parent < level_value a.child
   unfolding arc_rules level_value
   inside a i l back = let m = arcs-at s v a (turn_start s) s.arcs parts.0 i in go (cases_eq a.parent a.child) m.0 m.1
     where
-      go : ((a.parent ≡ a.child) ⊎ (a.parent ≡ a.child → ⊥)) → (x : ℕ) → list_all (eval v) (arc_rules s x a) ≡ true → level_value a.parent < level_value a.child
-      go (inl e) x h = absurd (opposite-at v (atom a.lit) (and_parts (eval v (opposite (atom a.lit))) true (rw (arc_rules, inside-self s a e, eq-eqb a.parent a.child e) at h)).0 l)
+      go : ((a.parent ≡ a.child) ⊎ (a.parent ≡ a.child → ⊥)) → (x : ℕ) → list_all (eval v) (arc_rules s x a) ≡ true
+          → level_value a.parent < level_value a.child
+      go (inl e) x h =
+          absurd (opposite-at v (atom a.lit) (and_parts (eval v (opposite (atom a.lit))) true
+          (rw (arc_rules, inside-self s a e, eq-eqb a.parent a.child e) at h)).0 l)
       go (inr ne) x h =
           let j = joined-from (possible s) a.parent a.child (one_arc (HasArc (possible s)) a.parent a.child (possible-from s a i)) back in
           let t = inside-joined s a ne ∙ j in
-          rising-at v (atom a.lit) (level s a.parent) (level s a.child) (row x (turns s a)) (same-length s a.parent a.child j) (turn-length s x a t) (rw (arc_rules, t) at h) l
+          rising-at v (atom a.lit) (level s a.parent) (level s a.child) (row x (turns s a)) (same-length s a.parent a.child j)
+          (turn-length s x a t) (rw (arc_rules, t) at h) l
 
   rises : (p q : ℕ) → HasArc (chosen s v) p q → Path (HasArc (possible s)) q p → level_value p < level_value q
   rises p q h back = let c = chosen-to s v p q h in go p q c.0 c.1 c.2 c.3 c.4 back
     where
-      go : (p q : ℕ) (a : Arc) → In a s.arcs → a.parent ≡ p → a.child ≡ q → lit_true v a.lit ≡ true → Path (HasArc (possible s)) q p → level_value p < level_value q
+      go : (p q : ℕ) (a : Arc) → In a s.arcs → a.parent ≡ p → a.child ≡ q → lit_true v a.lit ≡ true → Path (HasArc (possible s)) q p
+          → level_value p < level_value q
       go p q a i e d l back = rw (← e, ← d) (inside a i l (rw (e, d) back))
 
   acyclic : IsAcyclic (HasArc (chosen s v))
@@ -58,7 +66,8 @@ module _ (s : Input) (v : ℕ → Bool) (right : IsRight s) (starts_chosen : Sta
 
   back : (i : ℕ) → eval v (node s i) ≡ true → (is_root s i ≡ true) ⊎ ((p : ℕ) × HasArc (chosen s v) p i)
   unfolding node_rules
-  back i h = go (is_root s i) refl (all-flat-at (eval v) (node_rules s) i (below (numbers s)) parts.1 (In-below (numbers s) i (node-within s v i h)))
+  back i h = go (is_root s i) refl (all-flat-at (eval v) (node_rules s) i (below (numbers s)) parts.1
+      (In-below (numbers s) i (node-within s v i h)))
     where
       go : (b : Bool) → is_root s i ≡ b → list_all (eval v) (node_rules s i) ≡ true → (b ≡ true) ⊎ ((p : ℕ) × HasArc (chosen s v) p i)
       go true e t = inl refl
@@ -68,7 +77,8 @@ module _ (s : Input) (v : ℕ → Bool) (right : IsRight s) (starts_chosen : Sta
           elim (or_cases (eval v (opposite (node s i))) (eval v ends) (and_parts (eval v (opposite (node s i)) || eval v ends) true u).0) [
             | inl x ↦ absurd (opposite-at v (node s i) x h)
             | inr x ↦
-                let f = any-to (λ a. eqb a.child i && lit_true v a.lit) s.arcs (sym (any_of-is v (λ a. atom a.lit) (λ a. eqb a.child i) s.arcs) ∙ x) in
+                let f = any-to (λ a. eqb a.child i && lit_true v a.lit) s.arcs
+                (sym (any_of-is v (λ a. atom a.lit) (λ a. eqb a.child i) s.arcs) ∙ x) in
                 let y = and_parts (eqb f.0.child i) (lit_true v f.0.lit) f.2 in
                 inr (f.0.parent, subst (HasArc (chosen s v) f.0.parent) (eqb-true f.0.child i y.0) (chosen-from s v f.0 f.1 y.1))
           ]
@@ -84,34 +94,46 @@ module _ (s : Input) (v : ℕ → Bool) (right : IsRight s) (starts_chosen : Sta
   unfolding path_rules
   ways-met p q h =
       let d = leads-within s within p q h in
-      all-flat-at (eval v) (way_rules s q) p (filter (leads s q) (below (numbers s))) (all-flat-at (eval v) (path_rules s) q (below (numbers s)) parts.2 (In-below (numbers s) q d.1)) (In-filter (leads s q) p (below (numbers s)) (In-below (numbers s) p d.0) h)
+      all-flat-at (eval v) (way_rules s q) p (filter (leads s q) (below (numbers s)))
+      (all-flat-at (eval v) (path_rules s) q (below (numbers s)) parts.2 (In-below (numbers s) q d.1))
+      (In-filter (leads s q) p (below (numbers s)) (In-below (numbers s) p d.0) h)
 
   way-starts : (p q : ℕ) → eval v (path s p q) ≡ true → eval v (starts s q p) ≡ true
   unfolding way_rules
   way-starts p q t =
       let m = ways-met p q (path-leads s v p q t) in
-      first-or-at v (path s p q) (starts s q p) (and_parts (eval v (or (opposite (path s p q)) (starts s q p))) (list_all (eval v) (map (λ a. implies (begins s q a) (path s p q)) (leaving s p))) m).0 t
+      first-or-at v (path s p q) (starts s q p) (and_parts (eval v (or (opposite (path s p q)) (starts s q p)))
+      (list_all (eval v) (map (λ a. implies (begins s q a) (path s p q)) (leaving s p))) m).0 t
 
   starts-way : (p q : ℕ) → leads s q p ≡ true → eval v (starts s q p) ≡ true → eval v (path s p q) ≡ true
   unfolding way_rules
   starts-way p q h t =
-      let m = and_parts (eval v (or (opposite (path s p q)) (starts s q p))) (list_all (eval v) (map (λ a. implies (begins s q a) (path s p q)) (leaving s p))) (ways-met p q h) in
-      let f = any-to (λ a. eqb a.parent p && eval v (begins s q a)) s.arcs (sym (any_of-is v (begins s q) (λ a. eqb a.parent p) s.arcs) ∙ t) in
+      let m = and_parts (eval v (or (opposite (path s p q)) (starts s q p)))
+      (list_all (eval v) (map (λ a. implies (begins s q a) (path s p q)) (leaving s p))) (ways-met p q h) in
+      let f = any-to (λ a. eqb a.parent p && eval v (begins s q a)) s.arcs
+      (sym (any_of-is v (begins s q) (λ a. eqb a.parent p) s.arcs) ∙ t) in
       let y = and_parts (eqb f.0.parent p) (eval v (begins s q f.0)) f.2 in
-      implies-at v (begins s q f.0) (path s p q) (all-map-at (eval v) (λ a. implies (begins s q a) (path s p q)) f.0 (leaving s p) m.1 (In-filter (λ a. eqb a.parent p) f.0 s.arcs f.1 y.0)) y.1
+      implies-at v (begins s q f.0) (path s p q)
+      (all-map-at (eval v) (λ a. implies (begins s q a) (path s p q)) f.0 (leaving s p) m.1
+      (In-filter (λ a. eqb a.parent p) f.0 s.arcs f.1 y.0)) y.1
 
   pub exact : IsExact s v
   exact p q target = (
     told_by_path same exact_same (chosen s v) acyclic Told q owes p,
-    along (HasArc (chosen s v)) Told q (λ a h. starts-way a q (way a q h (inl refl)) (starts-from s v a q q h (inl refl))) (λ a r h t. starts-way a q (way a r h (inr t)) (starts-from s v a q r h (inr t))) p,
+    along (HasArc (chosen s v)) Told q (λ a h. starts-way a q (way a q h (inl refl)) (starts-from s v a q q h (inl refl)))
+        (λ a r h t. starts-way a q (way a r h (inr t)) (starts-from s v a q r h (inr t))) p,
   )
     where
       Told : ℕ → Type 0
       Told r = eval v (path s r q) ≡ true
 
-      owes : (r : ℕ) → eval v (path s r q) ≡ true → HasArc (chosen s v) r q ⊎ ((x : ℕ) × HasArc (chosen s v) r x × (eval v (path s x q) ≡ true))
-      owes r t = let w = starts-to s v r q (way-starts r q t) in elim w.2 [ inl e ↦ inl (subst (HasArc (chosen s v) r) e w.1) | inr u ↦ inr (w.0, w.1, u) ]
+      owes : (r : ℕ) → eval v (path s r q) ≡ true → HasArc (chosen s v) r q
+          ⊎ ((x : ℕ) × HasArc (chosen s v) r x × (eval v (path s x q) ≡ true))
+      owes r t = let w = starts-to s v r q (way-starts r q t) in
+          elim w.2 [ inl e ↦ inl (subst (HasArc (chosen s v) r) e w.1) | inr u ↦ inr (w.0, w.1, u) ]
 
       way : (a r : ℕ) → HasArc (chosen s v) a r → ((r ≡ q) ⊎ (eval v (path s r q) ≡ true)) → leads s q a ≡ true
-      way a r h (inl e) = leads-from s a q target (one_arc (HasArc (possible s)) a q (subst (HasArc (possible s) a) e (chosen-possible s v a r h)))
-      way a r h (inr t) = leads-from s a q target (arc_before (HasArc (possible s)) a r q (chosen-possible s v a r h) (leads-path s r q (path-leads s v r q t)))
+      way a r h (inl e) = leads-from s a q target
+          (one_arc (HasArc (possible s)) a q (subst (HasArc (possible s) a) e (chosen-possible s v a r h)))
+      way a r h (inr t) = leads-from s a q target
+          (arc_before (HasArc (possible s)) a r q (chosen-possible s v a r h) (leads-path s r q (path-leads s v r q t)))

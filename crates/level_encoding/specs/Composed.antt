@@ -16,7 +16,8 @@ row x digits = map (λ y. atom (lit_of y)) (range_with_len x digits)
 
 -- Where r holds, no digit decides against the first number, and the digit or the turn t decides for it.
 abbrev pub digit_rules : Statement → Statement → Statement → Statement → List Statement
-digit_rules r f g t = any_of (opposite r ∷ opposite f ∷ g ∷ []) ∷ any_of (opposite r ∷ opposite f ∷ t ∷ []) ∷ any_of (opposite r ∷ g ∷ t ∷ []) ∷ []
+digit_rules r f g t = any_of (opposite r ∷ opposite f ∷ g ∷ []) ∷ any_of (opposite r ∷ opposite f ∷ t ∷ [])
+    ∷ any_of (opposite r ∷ g ∷ t ∷ []) ∷ []
 
 -- the last digit decides
 abbrev pub last_rules : Statement → Statement → Statement → List Statement

@@ -32,7 +32,8 @@ pub record HasModel (s : Input) (rules : List Statement) (v : ℕ → Bool) : Ty
 -- the literal of each asked pair is true exactly where a path leads from the first to the second
 abbrev pub SaysPaths : Input → List (Option Lit) → (ℕ → Bool) → Type 0
 SaysPaths s paths v = (k : ℕ) (d : ℕ × ℕ) → k < length s.asked →
-    (eval v (literal_at (slice_index_or paths k None)) ≡ true) ↔ Path (HasArc (chosen s v)) (slice_index_or s.asked k d).0 (slice_index_or s.asked k d).1
+    (eval v (literal_at (slice_index_or paths k None)) ≡ true)
+    ↔ Path (HasArc (chosen s v)) (slice_index_or s.asked k d).0 (slice_index_or s.asked k d).1
 
 -- the variables of each formula are below a number
 abbrev pub AllSaidBelow : ℕ → List Statement → Type 0

@@ -53,7 +53,8 @@ fn add_level_rules(
     requires child { arc.now.child < numbers input.now }
     requires inside { is_inside input.now arc.now ≡ true }
     ensures { OnOk result (rules.new.items ≡ rules.old.items
-        ++ rising (atom arc.now.lit) (level input.now arc.now.parent) (level input.now arc.now.child) (row turn (turns input.now arc.now))) }
+        ++ rising (atom arc.now.lit) (level input.now arc.now.parent)
+        (level input.now arc.now.child) (row turn (turns input.now arc.now))) }
 {
     let parent = level_start(input, plan, arc.parent as usize);
     let child = level_start(input, plan, arc.child as usize);

@@ -49,7 +49,8 @@ pub(crate) fn implies(alloc: Global, f: Formula, g: Formula) -> Result<Formula, 
 
 /// A formula is false, or one of two variables or their negations is true.
 fn rule(alloc: Global, first: Lit, second: Lit, third: Option<Lit>) -> Result<Formula, AllocError>
-    ensures { IfOk result (λ f. f ≡ any_of (opposite (atom first) ∷ atom second ∷ map atom (option_to_list third))) }
+    ensures { IfOk result (λ f. f ≡ any_of
+        (opposite (atom first) ∷ atom second ∷ map atom (option_to_list third))) }
 {
     let mut cases = Vec::new(alloc);
     cases.push(Formula::lit(first).negated())?;
@@ -67,7 +68,8 @@ fn add_last_rules(
     q: Lit,
     rules: &mut Vec<Formula>,
 ) -> Result<(), AllocError>
-    ensures { OnOk result (rules.new.items ≡ rules.old.items ++ last_rules (atom first) (atom p) (atom q)) }
+    ensures { OnOk result (rules.new.items ≡ rules.old.items
+        ++ last_rules (atom first) (atom p) (atom q)) }
 {
     rules.push(rule(alloc, first, p.negated(), None)?)?;
     rules.push(rule(alloc, first, q, None)?)?;

@@ -33,12 +33,16 @@ pub fn levels(
     asked: &[(u64, u64)],
 ) -> Result<Vec<Option<Lit>>, AllocError>
     requires right { IsRight (input_of nodes.now roots.now arcs.now asked.now clauses.old.vars) }
-    requires asked { All (λ pair. (pair.0 < length nodes.now) × (pair.1 < length nodes.now)) asked.now }
-    ensures built { OnOk result (let s = input_of nodes.now roots.now arcs.now asked.now clauses.old.vars in
+    requires asked { All (λ pair. (pair.0 < length nodes.now)
+        × (pair.1 < length nodes.now)) asked.now }
+    ensures built { OnOk result (let s =
+        input_of nodes.now roots.now arcs.now asked.now clauses.old.vars in
         clauses.new ≡ levels_on s clauses.old) }
-    ensures paths { IfOk result (λ paths. let s = input_of nodes.now roots.now arcs.now asked.now clauses.old.vars in
+    ensures paths { IfOk result (λ paths. let s =
+        input_of nodes.now roots.now arcs.now asked.now clauses.old.vars in
         paths.items ≡ paths_of s) }
-    ensures levels { IfOk result (λ paths. let s = input_of nodes.now roots.now arcs.now asked.now clauses.old.vars in
+    ensures levels { IfOk result (λ paths. let s =
+        input_of nodes.now roots.now arcs.now asked.now clauses.old.vars in
         KeepsLevels s clauses.old clauses.new paths.items) }
 {
     let input = LevelInput::new(nodes, roots, arcs, asked, clauses.vars());
@@ -97,7 +101,8 @@ fn assert_input(
 #[tactic(auto, unfolding(crate::specs::Encoding::paths_of))]
 fn paths_of(alloc: Global, input: &LevelInput, plan: &Plan) -> Result<Vec<Option<Lit>>, AllocError>
     requires plan { IsPlan input.now plan.now }
-    requires asked { All (λ pair. (pair.0 < numbers input.now) × (pair.1 < numbers input.now)) input.now.asked }
+    requires asked { All (λ pair. (pair.0 < numbers input.now) × (pair.1 < numbers input.now))
+        input.now.asked }
     ensures { IfOk result (λ paths. paths.items ≡ paths_of input.now) }
 {
     let mut paths = Vec::new(alloc);

@@ -40,7 +40,14 @@ impl<'a> LevelInput<'a> {
         asked: &'a [(u64, u64)],
         first: u64,
     ) -> LevelInput<'a>
-        ensures { result ≡ record { nodes = nodes.now; roots = roots.now; arcs = arcs.now; asked = asked.now; first = first } }
+        ensures { result ≡ record {
+          nodes = nodes.now;
+          roots = roots.now;
+          arcs = arcs.now;
+          asked =
+              asked.now;
+          first = first;
+        } }
     {
         LevelInput {
             nodes,

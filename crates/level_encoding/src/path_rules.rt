@@ -95,7 +95,8 @@ fn path_begins(
     requires plan { IsPlan input.now plan.now }
     requires target { q < numbers input.now }
     requires number { p < numbers input.now }
-    ensures { IfOk result (λ f. f ≡ any_of (opposite (path input.now p q) ∷ map (begins input.now q) (leaving input.now p))) }
+    ensures { IfOk result (λ f. f ≡ any_of
+        (opposite (path input.now p q) ∷ map (begins input.now q) (leaving input.now p))) }
 {
     let mut cases = Vec::new(alloc);
     cases.push(path(alloc, input, plan, p, q).negated())?;

@@ -17,17 +17,21 @@ pub fn level_laws()
         → Meets v (constraints s) → IsSound s v }
     ensures exact { (s : Input) (v : ℕ → Bool) → IsRight s → StartsChosen s v
         → Meets v (constraints s) → IsExact s v }
-    ensures complete { (s : Input) (v : ℕ → Bool) → IsRight s → IsSound s v → HasModel s (constraints s) v }
+    ensures complete { (s : Input) (v : ℕ → Bool) → IsRight s → IsSound s v
+        → HasModel s (constraints s) v }
     ensures within { (s : Input) → IsRight s → AllSaidBelow (end s) (constraints s) }
-    ensures small { (s : Input) → end s ≤ s.first + 2 * (numbers s * numbers s) + length s.arcs * numbers s }
+    ensures small { (s : Input) → end s ≤ s.first + 2 * (numbers s * numbers s) + length
+        s.arcs * numbers s }
 {}
 
 /// Rows, computed.
 pub fn worked_levels()
     // One digit for each number of the loop, none for the tail; two numbers lead to it.
     ensures loop_and_tail { constraints loop_and_tail
-        ≡ any_of (opposite (holds 3) ∷ opposite (holds 6) ∷ []) ∷ any_of (opposite (holds 3) ∷ holds 7 ∷ [])
-        ∷ any_of (opposite (holds 4) ∷ opposite (holds 7) ∷ []) ∷ any_of (opposite (holds 4) ∷ holds 6 ∷ [])
+        ≡ any_of (opposite (holds 3) ∷ opposite (holds 6) ∷ [])
+        ∷ any_of (opposite (holds 3) ∷ holds 7 ∷ [])
+        ∷ any_of (opposite (holds 4) ∷ opposite (holds 7) ∷ [])
+        ∷ any_of (opposite (holds 4) ∷ holds 6 ∷ [])
         ∷ any_of (opposite (holds 1) ∷ holds 3 ∷ [])
         ∷ any_of (opposite (holds 2) ∷ holds 5 ∷ [])
         ∷ any_of (opposite (holds 8) ∷ both (holds 3) (holds 9) ∷ [])
@@ -38,7 +42,8 @@ pub fn worked_levels()
         ∷ [] }
     ensures last { end loop_and_tail ≡ 10 }
     // One of two arcs that lead to each other.
-    ensures broken { (v : ℕ → Bool) → Meets v (constraints loop_and_tail) → v 3 ≡ true → v 4 ≡ false }
+    ensures broken { (v : ℕ → Bool) → Meets v (constraints loop_and_tail) → v 3 ≡ true
+        → v 4 ≡ false }
     ensures taken { Meets (λ x. not (x == 4) && not (x == 6)) (constraints loop_and_tail) }
     // No arc leads from a number to itself.
     ensures own { constraints own_arc

@@ -32,15 +32,49 @@ external_again : (external : Option Text) → null_or (text_of Some) (external_d
 external_again None = refl
 external_again (Some prefix) = refl
 
-dependencies_sorted : (dependencies : List (Text × Kinds)) → All IsDependency dependencies → set_of Some (Some (codes "hash")) dependency_at (array (values_of (dependency_members dependencies))) ≡ Ok (by_hash dependencies)
+dependencies_sorted : (dependencies : List (Text × Kinds)) → All IsDependency dependencies
+    → set_of Some (Some (codes "hash")) dependency_at (array (values_of (dependency_members dependencies))) ≡ Ok (by_hash dependencies)
 dependencies_sorted dependencies each =
-    ap (λ ms. set_of Some (Some (codes "hash")) dependency_at (array (values_of ms))) (sym (same_members dependencies)) ∙ dependencies_again (by_hash dependencies) (still IsDependency dependencies each) (in_order dependencies)
+    ap (λ ms. set_of Some (Some (codes "hash")) dependency_at (array (values_of ms))) (sym (same_members dependencies))
+    ∙ dependencies_again (by_hash dependencies) (still IsDependency dependencies each) (in_order dependencies)
 
-pub node_again : (entry : Record) (origin : Origin) → IsRecord entry → IsOwn origin entry.hash → node_at (node_data entry origin) ≡ Ok (record { described = sorted entry; origin = origin })
+pub node_again : (entry : Record) (origin : Origin) → IsRecord entry → IsOwn origin entry.hash
+    → node_at (node_data entry origin) ≡ Ok (record { described = sorted entry; origin = origin })
 unfolding node_at head_at body_at front_at middle_at back_at node_data
 node_again entry Built fit own =
-    rw (compiler_again entry.compiler fit.compiler, dependencies_sorted entry.dependencies fit.dependencies, external_again entry.external, fit.hash, fit.name, fit.os, fit.target, variants_again entry.variants fit.variants fit.variant_order, fit.version) refl
+    rw (
+      compiler_again entry.compiler fit.compiler,
+      dependencies_sorted entry.dependencies fit.dependencies,
+      external_again entry.external,
+      fit.hash,
+      fit.name,
+      fit.os,
+      fit.target,
+      variants_again entry.variants fit.variants fit.variant_order,
+      fit.version,
+    ) refl
 node_again entry (External place) fit own =
-    rw (compiler_again entry.compiler fit.compiler, dependencies_sorted entry.dependencies fit.dependencies, external_again entry.external, fit.hash, fit.name, fit.os, fit.target, variants_again entry.variants fit.variants fit.variant_order, fit.version) refl
+    rw (
+      compiler_again entry.compiler fit.compiler,
+      dependencies_sorted entry.dependencies fit.dependencies,
+      external_again entry.external,
+      fit.hash,
+      fit.name,
+      fit.os,
+      fit.target,
+      variants_again entry.variants fit.variants fit.variant_order,
+      fit.version,
+    ) refl
 node_again entry (Installed hash) fit own =
-    rw (compiler_again entry.compiler fit.compiler, dependencies_sorted entry.dependencies fit.dependencies, external_again entry.external, fit.hash, fit.name, fit.os, fit.target, variants_again entry.variants fit.variants fit.variant_order, fit.version, own) refl
+    rw (
+      compiler_again entry.compiler fit.compiler,
+      dependencies_sorted entry.dependencies fit.dependencies,
+      external_again entry.external,
+      fit.hash,
+      fit.name,
+      fit.os,
+      fit.target,
+      variants_again entry.variants fit.variants fit.variant_order,
+      fit.version,
+      own,
+    ) refl

@@ -32,13 +32,16 @@ put_listed : (d : Dependency) (es : List Dependency) → put d.0 (dependency_dat
 put_listed d [] = refl
 put_listed d (e ∷ es) = go (byte_cmp d.0 e.0) refl (put_listed d es)
   where
-    go : (r : Ordering) → byte_cmp d.0 e.0 ≡ r → put d.0 (dependency_data d) (listed es) ≡ listed (placed d es) → match_ordering r (member d.0 (dependency_data d) (listed (e ∷ es))) (member e.0 (dependency_data d) (listed es)) (member e.0 (dependency_data e) (put d.0 (dependency_data d) (listed es)))
+    go : (r : Ordering) → byte_cmp d.0 e.0 ≡ r → put d.0 (dependency_data d) (listed es) ≡ listed (placed d es)
+        → match_ordering r (member d.0 (dependency_data d) (listed (e ∷ es))) (member e.0 (dependency_data d) (listed es))
+        (member e.0 (dependency_data e) (put d.0 (dependency_data d) (listed es)))
         ≡ listed (match_ordering r (d ∷ e ∷ es) (d ∷ es) (e ∷ placed d es))
     go Less is rest = refl
     go Equal is rest = ap (λ key. member key (dependency_data d) (listed es)) (sym (ties_are_equal d.0 e.0 is))
     go Greater is rest = ap (member e.0 (dependency_data e)) rest
 
-folded : (es ds : List Dependency) → fold (λ ms d. put d.0 (dependency_data d) ms) (listed es) ds ≡ listed (fold (λ sorted d. placed d sorted) es ds)
+folded : (es ds : List Dependency) → fold (λ ms d. put d.0 (dependency_data d) ms) (listed es) ds
+    ≡ listed (fold (λ sorted d. placed d sorted) es ds)
 folded es [] = refl
 folded es (d ∷ ds) = ap (λ ms. fold (λ ms d. put d.0 (dependency_data d) ms) ms ds) (put_listed d es) ∙ folded (placed d es) ds
 
@@ -46,12 +49,15 @@ keys_placed : (d : Dependency) (es : List Dependency) → map hash_in (placed d 
 keys_placed d [] = refl
 keys_placed d (e ∷ es) = go (byte_cmp d.0 e.0) refl (keys_placed d es)
   where
-    go : (r : Ordering) → byte_cmp d.0 e.0 ≡ r → map hash_in (placed d es) ≡ with_text (map hash_in es) d.0 → map hash_in (match_ordering r (d ∷ e ∷ es) (d ∷ es) (e ∷ placed d es)) ≡ match_ordering r (d.0 ∷ e.0 ∷ map hash_in es) (e.0 ∷ map hash_in es) (e.0 ∷ with_text (map hash_in es) d.0)
+    go : (r : Ordering) → byte_cmp d.0 e.0 ≡ r → map hash_in (placed d es) ≡ with_text (map hash_in es) d.0
+        → map hash_in (match_ordering r (d ∷ e ∷ es) (d ∷ es) (e ∷ placed d es)) ≡ match_ordering r (d.0 ∷ e.0 ∷ map hash_in es)
+        (e.0 ∷ map hash_in es) (e.0 ∷ with_text (map hash_in es) d.0)
     go Less is rest = refl
     go Equal is rest = ap (λ key. key ∷ map hash_in es) (ties_are_equal d.0 e.0 is)
     go Greater is rest = ap (λ keys. e.0 ∷ keys) rest
 
-order_from : (es ds : List Dependency) → IsInOrder byte_cmp hash_in es → IsInOrder byte_cmp hash_in (fold (λ sorted d. placed d sorted) es ds)
+order_from : (es ds : List Dependency) → IsInOrder byte_cmp hash_in es
+    → IsInOrder byte_cmp hash_in (fold (λ sorted d. placed d sorted) es ds)
 order_from es [] o = o
 order_from es (d ∷ ds) o = order_from (placed d es) ds (rw (keys_placed d es) (with_text_in_order (map hash_in es) d.0 o))
 
@@ -63,7 +69,8 @@ from_placed : (d : Dependency) (es : List Dependency) (q : Dependency) → Conta
 from_placed d [] q has = first_or_later d [] q has
 from_placed d (e ∷ es) q has = go (byte_cmp d.0 e.0) has (from_placed d es q)
   where
-    go : (r : Ordering) → Contains (match_ordering r (d ∷ e ∷ es) (d ∷ es) (e ∷ placed d es)) q → (Contains (placed d es) q → (d ≡ q) ⊎ Contains es q) → (d ≡ q) ⊎ Contains (e ∷ es) q
+    go : (r : Ordering) → Contains (match_ordering r (d ∷ e ∷ es) (d ∷ es) (e ∷ placed d es)) q
+        → (Contains (placed d es) q → (d ≡ q) ⊎ Contains es q) → (d ≡ q) ⊎ Contains (e ∷ es) q
     go Less h rest = first_or_later d (e ∷ es) q h
     go Equal h rest = ⊎_elim (λ same. inl same) (λ later. inr (has_later e es q later)) (first_or_later d es q h)
     go Greater h rest = ⊎_elim
@@ -71,7 +78,8 @@ from_placed d (e ∷ es) q has = go (byte_cmp d.0 e.0) has (from_placed d es q)
         (λ later. ⊎_elim (λ same. inl same) (λ there. inr (has_later e es q there)) (rest later))
         (first_or_later e (placed d es) q h)
 
-from_folded : (es ds : List Dependency) (q : Dependency) → Contains (fold (λ sorted d. placed d sorted) es ds) q → Contains es q ⊎ Contains ds q
+from_folded : (es ds : List Dependency) (q : Dependency) → Contains (fold (λ sorted d. placed d sorted) es ds) q → Contains es q
+    ⊎ Contains ds q
 from_folded es [] q has = inl has
 from_folded es (d ∷ ds) q has = ⊎_elim
     (λ early. ⊎_elim (λ same. inr (subst (Contains (d ∷ ds)) same (has_first d ds))) (λ old. inl old) (from_placed d es q early))
@@ -79,7 +87,9 @@ from_folded es (d ∷ ds) q has = ⊎_elim
     (from_folded (placed d es) ds q has)
 
 pub still : (P : Dependency → Type 0) (ds : List Dependency) → All P ds → All P (by_hash ds)
-still P ds all = all_from P (by_hash ds) (λ d has. ⊎_elim (λ none. absurd (lacks_all d none)) (λ there. All-contains P ds d all there) (from_folded [] ds d has))
+still P ds all =
+    all_from P (by_hash ds) (λ d has. ⊎_elim (λ none. absurd (lacks_all d none)) (λ there. All-contains P ds d all there)
+    (from_folded [] ds d has))
 
 -- what is written of them is the same
 pub same_members : (ds : List Dependency) → dependency_members (by_hash ds) ≡ dependency_members ds

@@ -32,18 +32,21 @@ module _ {X : Type 0} (key : X → Text) (f : X → Data) where
   members_by (x ∷ xs) = member (key x) (f x) (members_by xs)
 
   -- what is above all before it goes last
-  put_last : (done : List X) (x : X) (xs : List X) → IsInOrder byte_cmp key (done ++ x ∷ xs) → put (key x) (f x) (members_by done) ≡ members_by (done ++ x ∷ [])
+  put_last : (done : List X) (x : X) (xs : List X) → IsInOrder byte_cmp key (done ++ x ∷ xs)
+      → put (key x) (f x) (members_by done) ≡ members_by (done ++ x ∷ [])
   put_last [] x xs o = refl
   put_last (d ∷ done) x xs o =
       let all = done ++ x ∷ xs in
       rw (above (key d) (key x) (rises_above byte_cmp (key d) (map key all) o (key x) (has_image key all x (middle done x xs))))
       (ap (member (key d) (f d)) (put_last done x xs (rises_rest byte_cmp (key d) (map key all) o)))
 
-  behind : (done xs : List X) → IsInOrder byte_cmp key (done ++ xs) → fold (λ ms x. put (key x) (f x) ms) (members_by done) xs ≡ members_by (done ++ xs)
+  behind : (done xs : List X) → IsInOrder byte_cmp key (done ++ xs)
+      → fold (λ ms x. put (key x) (f x) ms) (members_by done) xs ≡ members_by (done ++ xs)
   behind done [] o = ap members_by (sym (append-nil done))
   behind done (x ∷ xs) o =
       let same = append_assoc done (x ∷ []) xs in
-      ap (λ ms. fold (λ ms x. put (key x) (f x) ms) ms xs) (put_last done x xs o) ∙ behind (done ++ x ∷ []) xs (subst (IsInOrder byte_cmp key) (sym same) o) ∙ ap members_by same
+      ap (λ ms. fold (λ ms x. put (key x) (f x) ms) ms xs) (put_last done x xs o)
+      ∙ behind (done ++ x ∷ []) xs (subst (IsInOrder byte_cmp key) (sym same) o) ∙ ap members_by same
 
   -- what is put one by one in order stays so
   pub written : (xs : List X) → IsInOrder byte_cmp key xs → fold (λ ms x. put (key x) (f x) ms) no_members xs ≡ members_by xs
@@ -54,12 +57,14 @@ module _ {X : Type 0} (key : X → Text) (f : X → Data) where
   values_written (x ∷ xs) = ap (item (f x)) (values_written xs)
 
   -- a list of what is read as it was written
-  pub items_again : (read : Data → Reading X) (i : ℕ) (xs : List X) → ((x : X) → Contains xs x → read (f x) ≡ Ok x) → items_from read i (items_of (map f xs)) ≡ Ok xs
+  pub items_again : (read : Data → Reading X) (i : ℕ) (xs : List X) → ((x : X) → Contains xs x → read (f x) ≡ Ok x)
+      → items_from read i (items_of (map f xs)) ≡ Ok xs
   items_again read i [] each = refl
   items_again read i (x ∷ xs) each = rw (each x (has_first x xs), items_again read (i + 1) xs (λ y has. each y (has_later x xs y has))) refl
 
 -- a map of what is read as it was written
-pub entries_again : {T : Type 0} (f : Text × T → Data) (means : Text → Option Text) (read : Data → Reading T) (xs : List (Text × T)) → ((x : Text × T) → Contains xs x → Has means x.0 × (read (f x) ≡ Ok x.1))
+pub entries_again : {T : Type 0} (f : Text × T → Data) (means : Text → Option Text) (read : Data → Reading T) (xs : List (Text × T))
+    → ((x : Text × T) → Contains xs x → Has means x.0 × (read (f x) ≡ Ok x.1))
     → entries_of means read (members_by (λ (x : Text × T). x.0) f xs) ≡ Ok xs
 entries_again f means read [] each = refl
 entries_again f means read (x ∷ xs) each =
@@ -67,11 +72,13 @@ entries_again f means read (x ∷ xs) each =
     rw (first.0, first.1, entries_again f means read xs (λ y has. each y (has_later x xs y has))) refl
 
 -- nothing stands twice in order
-no_tie : (before : List Text) (k : Text) → ((b : Text) → Contains before b → byte_cmp b k ≡ Less) → list_any (λ b. is_eq (byte_cmp b k)) before ≡ false
+no_tie : (before : List Text) (k : Text) → ((b : Text) → Contains before b → byte_cmp b k ≡ Less)
+    → list_any (λ b. is_eq (byte_cmp b k)) before ≡ false
 no_tie [] k low = refl
 no_tie (b ∷ before) k low = rw (low b (has_first b before)) (no_tie before k (λ c has. low c (has_later b before c has)))
 
-pub never_twice : (before ks : List Text) (i : ℕ) → ((b k : Text) → Contains before b → Contains ks k → byte_cmp b k ≡ Less) → IsStrictlySortedBy byte_cmp ks → twice_after byte_cmp before i ks ≡ None
+pub never_twice : (before ks : List Text) (i : ℕ) → ((b k : Text) → Contains before b → Contains ks k → byte_cmp b k ≡ Less)
+    → IsStrictlySortedBy byte_cmp ks → twice_after byte_cmp before i ks ≡ None
 never_twice before [] i low o = refl
 never_twice before (k ∷ ks) i low o =
     rw (no_tie before k (λ b has. low b k has (has_first k ks)))

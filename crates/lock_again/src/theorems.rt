@@ -26,36 +26,46 @@ ghost use Rattle.lock_again.specs.Again.{IsDependency, IsOwn, IsRecord, IsVarian
 
 /// What is written of variants and dependencies in their order is read as they.
 pub fn written_laws()
-    ensures variants { (variants : List (Text × List Text)) → All IsVariant variants → IsInOrder byte_cmp (λ v. v.0) variants
+    ensures variants { (variants : List (Text × List Text)) → All IsVariant variants
+        → IsInOrder byte_cmp (λ v. v.0) variants
         → map_of name_meaning values_at (object (variant_members variants)) ≡ Ok variants }
-    ensures dependencies { (dependencies : List (Text × Kinds)) → All IsDependency dependencies → IsInOrder byte_cmp (λ d. d.0) dependencies
-        → set_of Some (Some (codes "hash")) dependency_at (array (values_of (dependency_members dependencies))) ≡ Ok dependencies }
+    ensures dependencies { (dependencies : List (Text × Kinds)) → All IsDependency dependencies
+        → IsInOrder byte_cmp (λ d. d.0) dependencies
+        → set_of Some (Some (codes "hash")) dependency_at
+        (array (values_of (dependency_members dependencies))) ≡ Ok dependencies }
 {}
 
 /// A node is read as it was written, with its dependencies in byte order of their hashes, and these have no part in its hash.
 pub fn node_laws()
     ensures read { (entry : Record) (origin : Origin) → IsRecord entry → IsOwn origin entry.hash
-        → node_at (node_data entry origin) ≡ Ok (record { described = sorted entry; origin = origin }) }
+        → node_at (node_data entry origin)
+        ≡ Ok (record { described = sorted entry; origin = origin }) }
     ensures hash { (entry : Record) → right_hash (sorted entry) ≡ right_hash entry }
 {}
 
 /// The value that is written for a graph whose texts have their forms is read as its nodes, providers and roots, and so is each
 /// text of that value, as `write_lock` gives one.
 pub fn file_laws()
-    ensures value { (g : Content) (records : List Record) (roots : List Spec) → IsGraph g → IsFormed g records roots
+    ensures value { (g : Content) (records : List Record) (roots : List Spec) → IsGraph g
+        → IsFormed g records roots
         → file_at (lock_data g records roots) ≡ Ok (locked_file g records roots) }
-    ensures text { (g : Content) (records : List Record) (roots : List Spec) → IsGraph g → IsFormed g records roots
-        → (text : List ℕ) → IsJson text (lock_data g records roots) → (lock : Lock) → IsLock text lock
+    ensures text { (g : Content) (records : List Record) (roots : List Spec) → IsGraph g
+        → IsFormed g records roots
+        → (text : List ℕ) → IsJson text (lock_data g records roots) → (lock : Lock)
+        → IsLock text lock
         → IsLockOf (locked_file g records roots) lock }
 {}
 
 /// What is read of that file has the nodes, where each node is as its record says, and the providers and roots of the graph.
 pub fn graph_laws()
-    ensures nodes { (g : Content) (records : List Record) (roots : List Spec) (lock : Lock) → IsLockOf (locked_file g records roots) lock
+    ensures nodes { (g : Content) (records : List Record) (roots : List Spec) (lock : Lock)
+        → IsLockOf (locked_file g records roots) lock
         → ((node : Node) → Contains g.nodes node → graph_node (locked g records node) ≡ node)
         → (name : Text) → node_of lock.graph name ≡ node_of g name }
-    ensures providers { (g : Content) (records : List Record) (roots : List Spec) (lock : Lock) → IsLockOf (locked_file g records roots) lock
+    ensures providers { (g : Content) (records : List Record) (roots : List Spec) (lock : Lock)
+        → IsLockOf (locked_file g records roots) lock
         → (name : Text) → provider_of lock.graph name ≡ provider_of g name }
-    ensures roots { (g : Content) (records : List Record) (roots : List Spec) (lock : Lock) → IsLockOf (locked_file g records roots) lock
+    ensures roots { (g : Content) (records : List Record) (roots : List Spec) (lock : Lock)
+        → IsLockOf (locked_file g records roots) lock
         → lock.roots ≡ map (locked_root g) roots }
 {}

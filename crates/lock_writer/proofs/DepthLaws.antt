@@ -43,20 +43,23 @@ put_within n k d no_members p q = both (depth d) 0 n p (some n)
 put_within n k d (member l e ms) p q =
     let first = first_of (depth e) (members_depth ms) n q in
     let rest = second_of (depth e) (members_depth ms) n q in
-    elim (slice_cmp nat_cmp k l) as (λ r. members_depth (match_ordering r (member k d (member l e ms)) (member l d ms) (member l e (put k d ms))) ≤ n) [
+    elim (slice_cmp nat_cmp k l) as (λ r. members_depth
+    (match_ordering r (member k d (member l e ms)) (member l d ms) (member l e (put k d ms))) ≤ n) [
       | Less ↦ both (depth d) (members_depth (member l e ms)) n p q
       | Equal ↦ both (depth d) (members_depth ms) n p rest
       | Greater ↦ both (depth e) (members_depth (put k d ms)) n first (put_within n k d ms p rest)
     ]
 
-fold_within : {X : Type 0} (key : X → Text) (f : X → Data) (n : ℕ) (xs : List X) (ms : Members) → ((x : X) → depth (f x) ≤ n) → members_depth ms ≤ n
+fold_within : {X : Type 0} (key : X → Text) (f : X → Data) (n : ℕ) (xs : List X) (ms : Members) → ((x : X) → depth (f x) ≤ n)
+    → members_depth ms ≤ n
     → members_depth (fold (λ ms x. put (key x) (f x) ms) ms xs) ≤ n
 fold_within key f n [] ms each h = h
 fold_within key f n (x ∷ xs) ms each h = fold_within key f n xs (put (key x) (f x) ms) each (put_within n (key x) (f x) ms (each x) h)
 
 values_within : (n : ℕ) (ms : Members) → members_depth ms ≤ n → items_depth (values_of ms) ≤ n
 values_within n no_members h = h
-values_within n (member k d ms) h = both (depth d) (items_depth (values_of ms)) n (first_of (depth d) (members_depth ms) n h) (values_within n ms (second_of (depth d) (members_depth ms) n h))
+values_within n (member k d ms) h = both (depth d) (items_depth (values_of ms)) n (first_of (depth d) (members_depth ms) n h)
+    (values_within n ms (second_of (depth d) (members_depth ms) n h))
 
 -- ---- the parts of a node
 
@@ -81,11 +84,14 @@ dependency_within d = deeper _ 1 (both 0 _ 1 (some 1) (both _ 0 1 (texts_within 
 
 dependencies_within : (dependencies : List (Text × Kinds)) → suc (items_depth (values_of (dependency_members dependencies))) ≤ 3
 dependencies_within dependencies =
-    deeper _ 2 (values_within 2 (dependency_members dependencies) (fold_within (λ (d : Text × Kinds). d.0) dependency_data 2 dependencies no_members dependency_within (some 2)))
+    deeper _ 2 (values_within 2 (dependency_members dependencies)
+    (fold_within (λ (d : Text × Kinds). d.0) dependency_data 2 dependencies no_members dependency_within (some 2)))
 
 variants_within : (variants : List (Text × List Text)) → suc (members_depth (variant_members variants)) ≤ 3
 variants_within variants =
-    let within : members_depth (variant_members variants) ≤ 1 = fold_within (λ (v : Text × List Text). v.0) (λ (v : Text × List Text). texts_data v.1) 1 variants no_members (λ v. texts_within v.1) (some 1) in
+    let within : members_depth (variant_members variants) ≤ 1 =
+    fold_within (λ (v : Text × List Text). v.0) (λ (v : Text × List Text). texts_data v.1) 1 variants no_members
+    (λ v. texts_within v.1) (some 1) in
     omega (arith, within)
 
 node_within : (entry : Record) (origin : Origin) → depth (node_data entry origin) ≤ 4
@@ -107,11 +113,13 @@ node_within entry origin =
 -- ---- the whole
 
 nodes_within : (g : Content) (records : List Record) → suc (items_depth (items_of (map (data_of_node g records) g.nodes))) ≤ 5
-nodes_within g records = deeper _ 4 (items_within (data_of_node g records) 4 g.nodes (λ node. node_within (node_record g records node) node.origin))
+nodes_within g records =
+    deeper _ 4 (items_within (data_of_node g records) 4 g.nodes (λ node. node_within (node_record g records node) node.origin))
 
 providers_within : (providers : List (Text × Text)) → suc (members_depth (provider_members providers)) ≤ 5
 providers_within providers =
-    let within : members_depth (provider_members providers) ≤ 4 = fold_within (λ (p : Text × Text). p.0) (λ (p : Text × Text). string p.1) 4 providers no_members (λ p. some 4) (some 4) in
+    let within : members_depth (provider_members providers) ≤ 4 =
+    fold_within (λ (p : Text × Text). p.0) (λ (p : Text × Text). string p.1) 4 providers no_members (λ p. some 4) (some 4) in
     deeper _ 4 within
 
 roots_within : (g : Content) (roots : List Spec) → suc (items_depth (items_of (map (root_data g) roots))) ≤ 5
@@ -127,5 +135,7 @@ lock_within g records roots =
     (both _ _ 5 (some 5) (some 5)))))
 
 -- it is read again
-pub lock_shallow : (v : Data) (g : Content) (records : List Record) (roots : List Spec) → v ≡ lock_data g records roots → depth v ≤ max_depth
-lock_shallow v g records roots is = omega (arith, subst (λ d. depth d ≤ 6) (let back : lock_data g records roots ≡ v = cc in back) (lock_within g records roots))
+pub lock_shallow : (v : Data) (g : Content) (records : List Record) (roots : List Spec) → v ≡ lock_data g records roots
+    → depth v ≤ max_depth
+lock_shallow v g records roots is =
+    omega (arith, subst (λ d. depth d ≤ 6) (let back : lock_data g records roots ≡ v = cc in back) (lock_within g records roots))

@@ -46,21 +46,25 @@ node_float entry origin =
     (none_of _ _ (first_of _ _ behind_dependencies)
     (none_of _ _ (first_of _ _ behind_external) refl))))
 
-nodes_float : (g : Content) (records : List Record) (nodes : List Node) → items_have_float (items_of (map (data_of_node g records) nodes)) ≡ false
+nodes_float : (g : Content) (records : List Record) (nodes : List Node)
+    → items_have_float (items_of (map (data_of_node g records) nodes)) ≡ false
 nodes_float g records [] = refl
 nodes_float g records (node ∷ nodes) = none_of _ _ (node_float (node_record g records node) node.origin) (nodes_float g records nodes)
 
-put_float : (k : Text) (d : Data) (ms : Members) → has_float d ≡ false → members_have_float ms ≡ false → members_have_float (put k d ms) ≡ false
+put_float : (k : Text) (d : Data) (ms : Members) → has_float d ≡ false → members_have_float ms ≡ false
+    → members_have_float (put k d ms) ≡ false
 put_float k d no_members f h = none_of _ _ f refl
 put_float k d (member l e ms) f h =
     let rest = put_float k d ms f (second_of _ _ h) in
-    elim (slice_cmp nat_cmp k l) as (λ r. members_have_float (match_ordering r (member k d (member l e ms)) (member l d ms) (member l e (put k d ms))) ≡ false) [
+    elim (slice_cmp nat_cmp k l) as (λ r. members_have_float
+    (match_ordering r (member k d (member l e ms)) (member l d ms) (member l e (put k d ms))) ≡ false) [
       | Less ↦ none_of _ _ f h
       | Equal ↦ none_of _ _ f (second_of _ _ h)
       | Greater ↦ none_of _ _ (first_of _ _ h) rest
     ]
 
-providers_float : (providers : List (Text × Text)) (ms : Members) → members_have_float ms ≡ false → members_have_float (fold (λ ms p. put p.0 (string p.1) ms) ms providers) ≡ false
+providers_float : (providers : List (Text × Text)) (ms : Members) → members_have_float ms ≡ false
+    → members_have_float (fold (λ ms p. put p.0 (string p.1) ms) ms providers) ≡ false
 providers_float [] ms h = h
 providers_float (p ∷ providers) ms h = providers_float providers (put p.0 (string p.1) ms) (put_float p.0 (string p.1) ms refl h)
 
@@ -76,5 +80,6 @@ lock_float g records roots =
     (none_of _ _ (roots_float g roots) refl))
 
 -- the text of a value without floats
-pub written : (v d : Data) (text : List ℕ) → v ≡ d → has_float d ≡ false → (has_float v ≡ false → text ≡ compact_text v) → text ≡ compact_text d
+pub written : (v d : Data) (text : List ℕ) → v ≡ d → has_float d ≡ false → (has_float v ≡ false → text ≡ compact_text v)
+    → text ≡ compact_text d
 written v d text is none told = subst (λ w. text ≡ compact_text w) is (told (ap has_float is ∙ none))

@@ -94,9 +94,11 @@ module _ (g : Content) (graph : IsGraph g) where
     settled (suc k) name has w (suc j) le =
         same_at (hash_within j g) (hash_within k g) name (node_of g name)
         (λ node found. (find_sound nat_list_cmp_total ties_are_equal name_of g.nodes name node found).1)
-        (λ edge from. settled k edge.child (child_there name edge from) (one_less _ _ _ (child_waits name edge from) w) j (both_less j k le))
+        (λ edge from. settled k edge.child (child_there name edge from) (one_less _ _ _ (child_waits name edge from) w) j
+        (both_less j k le))
 
-    one_step : (steps : ℕ) (name : Text) (node : Node) → node_of g name ≡ Some node → hash_within (suc steps) g name ≡ hash_over g (hash_within steps g) node
+    one_step : (steps : ℕ) (name : Text) (node : Node) → node_of g name ≡ Some node
+        → hash_within (suc steps) g name ≡ hash_over g (hash_within steps g) node
     unfolding hash_within
     one_step steps name node found = ap (hash_at g (hash_within steps g)) found
 

@@ -28,17 +28,20 @@ pub all_at : {X : Type 0} (P : X → Type 0) (xs : List X) (i : ℕ) (x : X) →
 all_at P xs i x all lt is = subst P (sym is) (all i x lt)
 
 -- two lists place by place, with one more in each
-pub zip_more : {A B : Type 0} (R : A → B → Type 0) (xs : List A) (i : ℕ) (x : A) (ys : List B) (y : B) → i < length xs → x ≡ get_or xs i x → AllZip R (take i xs) ys → R x y → AllZip R (take (i + 1) xs) (ys ++ y ∷ [])
+pub zip_more : {A B : Type 0} (R : A → B → Type 0) (xs : List A) (i : ℕ) (x : A) (ys : List B) (y : B) → i < length xs → x ≡ get_or xs i x
+    → AllZip R (take i xs) ys → R x y → AllZip R (take (i + 1) xs) (ys ++ y ∷ [])
 zip_more R xs i x ys y lt is so_far here = rw (take_more xs i x lt, ← is) (zip_push R (take i xs) ys x y so_far here)
 
-pub zip_at : {A B : Type 0} (R : A → B → Type 0) (xs : List A) (ys : List B) (i : ℕ) (d : A) (e : B) → AllZip R xs ys → i < length xs → R (get_or xs i d) (get_or ys i e)
+pub zip_at : {A B : Type 0} (R : A → B → Type 0) (xs : List A) (ys : List B) (i : ℕ) (d : A) (e : B) → AllZip R xs ys → i < length xs
+    → R (get_or xs i d) (get_or ys i e)
 zip_at R [] ys i d e all lt = absurd (omega (arith, lt))
 zip_at R (x ∷ xs) [] i d e all lt = elim all [ ]
 zip_at R (x ∷ xs) (y ∷ ys) zero d e all lt = all.0
 zip_at R (x ∷ xs) (y ∷ ys) (suc i) d e all lt = zip_at R xs ys i d e all.1 (omega (arith, lt))
 
 -- the hash that a record has is no part of its text
-pub hash_free : (node : Node) (a b : Text) (dependencies : List (Text × Kinds)) → right_hash (record_of_node node a dependencies) ≡ right_hash (record_of_node node b dependencies)
+pub hash_free : (node : Node) (a b : Text) (dependencies : List (Text × Kinds))
+    → right_hash (record_of_node node a dependencies) ≡ right_hash (record_of_node node b dependencies)
 unfolding canonical
 hash_free node a b dependencies = refl
 
@@ -54,16 +57,25 @@ module _ (g : Content) where
   name_there name place at = (place, at.0, at.1)
 
   -- what the place of a node tells of it
-  pub placed : IsGraph g → (place : ℕ) (node : Node) → place < length g.nodes → node ≡ get_or g.nodes place node → IsAt (names_of g) node.name place × (node_of g node.name ≡ Some node)
-  placed graph place node lt is = (node_at place node lt is, (found_iff nat_list_cmp_total ties_are_equal name_of g.nodes node.name node graph.nodes).1 ((place, lt, sym is), refl))
+  pub placed : IsGraph g → (place : ℕ) (node : Node) → place < length g.nodes → node ≡ get_or g.nodes place node
+      → IsAt (names_of g) node.name place × (node_of g node.name ≡ Some node)
+  placed graph place node lt is = (
+    node_at place node lt is,
+    (found_iff nat_list_cmp_total ties_are_equal name_of g.nodes node.name node graph.nodes).1
+        ((place, lt, sym is), refl),
+  )
 
-  pub children_at : (children : List (List ℕ)) (place : ℕ) (node : Node) (places : List ℕ) → AllZip (λ node places. AreChildren g (edges_from g node.name) places) g.nodes children
-      → place < length g.nodes → node ≡ get_or g.nodes place node → places ≡ get_or children place places → AreChildren g (edges_from g node.name) places
+  pub children_at : (children : List (List ℕ)) (place : ℕ) (node : Node) (places : List ℕ)
+      → AllZip (λ node places. AreChildren g (edges_from g node.name) places) g.nodes children
+      → place < length g.nodes → node ≡ get_or g.nodes place node → places ≡ get_or children place places
+      → AreChildren g (edges_from g node.name) places
   children_at children place node places zip lt is is_places =
       let at = zip_at (λ (n : Node) ps. AreChildren g (edges_from g n.name) ps) g.nodes children place node places zip lt in
-      subst (λ (n : Node). AreChildren g (edges_from g n.name) places) (sym is) (subst (AreChildren g (edges_from g (get_or g.nodes place node).name)) (sym is_places) at)
+      subst (λ (n : Node). AreChildren g (edges_from g n.name) places) (sym is)
+      (subst (AreChildren g (edges_from g (get_or g.nodes place node).name)) (sym is_places) at)
 
-  hash_named : (nodes : List Node) (place : ℕ) → place < length nodes → node_hash g (get_or (map name_of nodes) place []) ≡ get_or (map (λ (node : Node). node_hash g node.name) nodes) place []
+  hash_named : (nodes : List Node) (place : ℕ) → place < length nodes
+      → node_hash g (get_or (map name_of nodes) place []) ≡ get_or (map (λ (node : Node). node_hash g node.name) nodes) place []
   hash_named [] place lt = absurd (omega (arith, lt))
   hash_named (node ∷ nodes) zero lt = refl
   hash_named (node ∷ nodes) (suc place) lt = hash_named nodes place (omega (arith, lt))
@@ -74,10 +86,13 @@ module _ (g : Content) where
       let lt : place < length g.nodes = rw (← length-map g.nodes name_of) at.0 in
       sym (hash_named g.nodes place lt) ∙ ap (node_hash g) (get_or_default (names_of g) place [] name at.0 ∙ at.1)
 
-  pub place_within : (hashes : List Text) (name : Text) (place : ℕ) → hashes ≡ all_hashes g → IsAt (names_of g) name place → place < length hashes
-  place_within hashes name place is at = rw (is, length-map g.nodes (λ (node : Node). node_hash g node.name), ← length-map g.nodes name_of) at.0
+  pub place_within : (hashes : List Text) (name : Text) (place : ℕ) → hashes ≡ all_hashes g → IsAt (names_of g) name place
+      → place < length hashes
+  place_within hashes name place is at = rw (is, length-map g.nodes (λ (node : Node). node_hash g node.name), ← length-map g.nodes name_of)
+      at.0
 
-  pub hash_of_place : (hashes : List Text) (name : Text) (place : ℕ) (hash : Text) → hashes ≡ all_hashes g → IsAt (names_of g) name place → hash ≡ get_or hashes place hash → hash ≡ node_hash g name
+  pub hash_of_place : (hashes : List Text) (name : Text) (place : ℕ) (hash : Text) → hashes ≡ all_hashes g → IsAt (names_of g) name place
+      → hash ≡ get_or hashes place hash → hash ≡ node_hash g name
   hash_of_place hashes name place hash is at found =
       let lt = place_within hashes name place is at in
       found ∙ get_or_default hashes place hash [] lt ∙ ap (λ l. get_or l place []) is ∙ hash_there name place at
@@ -86,14 +101,16 @@ module _ (g : Content) where
   hashes_long hashes is = ap length is ∙ length-map g.nodes (λ (node : Node). node_hash g node.name)
 
   pub all_hashed : (hashes : List Text) (edges : List Edge) → hashes ≡ all_hashes g → All (λ edge. IsHashAt g hashes edge.child) edges
-  all_hashed hashes edges is = all_from (λ (e : Edge). IsHashAt g hashes e.child) edges (λ e has place at. ap (λ l. get_or l place []) is ∙ hash_there e.child place at)
+  all_hashed hashes edges is = all_from (λ (e : Edge). IsHashAt g hashes e.child) edges (λ e has place at. ap (λ l. get_or l place []) is
+      ∙ hash_there e.child place at)
 
   pub all_there : IsGraph g → (name : Text) → All (λ edge. HasNode g edge.child) (edges_from g name)
   all_there graph name = all_from (λ (e : Edge). HasNode g e.child) (edges_from g name) (child_there g graph name)
 
   -- ---- before the first round, and behind the last
 
-  pub start_right : (hashes : List Text) (done : List Bool) (places : ℕ) → places ≡ length g.nodes → length hashes ≡ places → done ≡ replicate places false → AreHashes g hashes done
+  pub start_right : (hashes : List Text) (done : List Bool) (places : ℕ) → places ≡ length g.nodes → length hashes ≡ places
+      → done ≡ replicate places false → AreHashes g hashes done
   start_right hashes done places count each is = record {
     each = each ∙ count;
     marks = ap length is ∙ length-replicate places false ∙ count;
@@ -103,7 +120,8 @@ module _ (g : Content) where
         absurd (false≢true (sym no ∙ told));
   }
 
-  pub all_right : (hashes : List Text) (done : List Bool) → AreHashes g hashes done → ((place : ℕ) → place < length g.nodes → IsTrue (is_done done place)) → hashes ≡ all_hashes g
+  pub all_right : (hashes : List Text) (done : List Bool) → AreHashes g hashes done
+      → ((place : ℕ) → place < length g.nodes → IsTrue (is_done done place)) → hashes ≡ all_hashes g
   all_right hashes done are all =
       ext_get_or [] hashes (all_hashes g) (are.each ∙ sym (length-map g.nodes (λ (node : Node). node_hash g node.name))) (λ place lt.
       let lt_nodes : place < length g.nodes = rw (← are.each) lt in
@@ -113,16 +131,20 @@ module _ (g : Content) where
       are.right name place at (all place lt_nodes) ∙ hash_named g.nodes place lt_nodes)
 
   -- where all children are done
-  pub all_done : (edges : List Edge) (places : List ℕ) (done : List Bool) → AreChildren g edges places → ((e : Edge) (p : ℕ) → Contains edges e → IsAt (names_of g) e.child p → IsTrue (is_done done p)) → list_all (is_done done) places ≡ true
+  pub all_done : (edges : List Edge) (places : List ℕ) (done : List Bool) → AreChildren g edges places
+      → ((e : Edge) (p : ℕ) → Contains edges e → IsAt (names_of g) e.child p → IsTrue (is_done done p))
+      → list_all (is_done done) places ≡ true
   all_done [] [] done children told = refl
   all_done [] (q ∷ qs) done children told = elim children [ ]
   all_done (x ∷ xs) [] done children told = elim children [ ]
-  all_done (x ∷ xs) (q ∷ qs) done children told = and_from _ _ (told x q (has_first x xs) children.0) (all_done xs qs done children.1 (λ e p has. told e p (has_later x xs e has)))
+  all_done (x ∷ xs) (q ∷ qs) done children told =
+      and_from _ _ (told x q (has_first x xs) children.0) (all_done xs qs done children.1 (λ e p has. told e p (has_later x xs e has)))
 
   module _ (graph : IsGraph g) (hashes : List Text) (done : List Bool) (are : AreHashes g hashes done) where
     -- ---- children
 
-    pub child_known : (edges : List Edge) (places : List ℕ) → AreChildren g edges places → list_all (is_done done) places ≡ true → (e : Edge) → Contains edges e → IsHashAt g hashes e.child
+    pub child_known : (edges : List Edge) (places : List ℕ) → AreChildren g edges places → list_all (is_done done) places ≡ true
+        → (e : Edge) → Contains edges e → IsHashAt g hashes e.child
     child_known [] places children all e has = absurd (lacks_all e has)
     child_known (x ∷ xs) [] children all e has = elim children [ ]
     child_known (x ∷ xs) (p ∷ ps) children all e has =
@@ -134,8 +156,10 @@ module _ (g : Content) where
         (λ later. child_known xs ps children.1 parts.1 e later)
         (first_or_later x xs e has)
 
-    pub children_known : (edges : List Edge) (places : List ℕ) → AreChildren g edges places → list_all (is_done done) places ≡ true → All (λ edge. IsHashAt g hashes edge.child) edges
-    children_known edges places children all = all_from (λ (edge : Edge). IsHashAt g hashes edge.child) edges (child_known edges places children all)
+    pub children_known : (edges : List Edge) (places : List ℕ) → AreChildren g edges places → list_all (is_done done) places ≡ true
+        → All (λ edge. IsHashAt g hashes edge.child) edges
+    children_known edges places children all =
+        all_from (λ (edge : Edge). IsHashAt g hashes edge.child) edges (child_known edges places children all)
 
     child_within : (edges : List Edge) (places : List ℕ) → AreChildren g edges places → (p : ℕ) → Contains places p → p < length done
     child_within [] [] children p has = absurd (lacks_all p has)
@@ -151,22 +175,26 @@ module _ (g : Content) where
 
     -- ---- one hash more
 
-    pub one_more : IsAcyclic (JoinedIn g) → (place : ℕ) (node : Node) (hash : Text) → IsAt (names_of g) node.name place → node_of g node.name ≡ Some node
+    pub one_more : IsAcyclic (JoinedIn g) → (place : ℕ) (node : Node) (hash : Text) → IsAt (names_of g) node.name place
+        → node_of g node.name ≡ Some node
         → hash ≡ hash_over g (node_hash g) node → AreHashes g (set hashes place hash) (set done place true)
     one_more acyclic place node hash there found made = record {
       each = length-set hashes place hash ∙ are.each;
       marks = length-set done place true ∙ are.marks;
       right = λ name q at told. ⊎_elim
           (λ (same : q ≡ place).
-          let named : node.name ≡ name = sym there.1 ∙ get_or_default (names_of g) place node.name name there.0 ∙ ap (λ k. get_or (names_of g) k name) (sym same) ∙ at.1 in
-          rw same (get_or-set_same hashes place hash [] (omega (arith, there.0, length-map g.nodes name_of, are.each))) ∙ made ∙ sym (hash_from_children g graph acyclic node.name node found) ∙ ap (node_hash g) named)
+          let named : node.name ≡ name = sym there.1 ∙ get_or_default (names_of g) place node.name name there.0
+          ∙ ap (λ k. get_or (names_of g) k name) (sym same) ∙ at.1 in
+          rw same (get_or-set_same hashes place hash [] (omega (arith, there.0, length-map g.nodes name_of, are.each))) ∙ made
+          ∙ sym (hash_from_children g graph acyclic node.name node found) ∙ ap (node_hash g) named)
           (λ (other : q ≢ place).
           get_or-set_other hashes place q hash [] other ∙ are.right name q at (sym (get_or-set_other done place q true false other) ∙ told))
           (cases_eq q place);
     }
 
     pub place_there : (name : Text) (place : ℕ) → IsAt (names_of g) name place → (place < length hashes) × (place < length done)
-    place_there name place there = (omega (arith, there.0, length-map g.nodes name_of, are.each), omega (arith, there.0, length-map g.nodes name_of, are.marks))
+    place_there name place there =
+        (omega (arith, there.0, length-map g.nodes name_of, are.each), omega (arith, there.0, length-map g.nodes name_of, are.marks))
 
   pub kept_all : (done : List Bool) → Keeps done done
   kept_all done q told = told
@@ -186,7 +214,8 @@ module _ (g : Content) (graph : IsGraph g) (acyclic : IsAcyclic (JoinedIn g)) wh
   pub none_waits : (done : List Bool) → DoneWithin g 0 done
   none_waits done name place at waits lt = absurd (waits_some g graph acyclic name (name_there g name place at) waits)
 
-  pub all_within : (done : List Bool) (places rounds : ℕ) → places ≡ length g.nodes → places ≤ rounds → DoneWithin g rounds done → (place : ℕ) → place < length g.nodes → IsTrue (is_done done place)
+  pub all_within : (done : List Bool) (places rounds : ℕ) → places ≡ length g.nodes → places ≤ rounds → DoneWithin g rounds done
+      → (place : ℕ) → place < length g.nodes → IsTrue (is_done done place)
   all_within done places rounds count enough within place lt =
       let name = get_or (names_of g) place [] in
       let lt_names : place < length (names_of g) = rw (length-map g.nodes name_of) lt in
@@ -201,7 +230,8 @@ module _ (g : Content) (graph : IsGraph g) (acyclic : IsAcyclic (JoinedIn g)) wh
       → DoneBefore g end (rounds + 1) done → DoneBefore g (end + 1) (rounds + 1) new
   one_further old done new end rounds node places there children within kept keeps found before name place at waits less = ⊎_elim
       (λ (same : place ≡ end).
-      let named : node.name ≡ name = sym there.1 ∙ get_or_default (names_of g) end node.name name there.0 ∙ ap (λ k. get_or (names_of g) k name) (sym same) ∙ at.1 in
+      let named : node.name ≡ name = sym there.1 ∙ get_or_default (names_of g) end node.name name there.0
+      ∙ ap (λ k. get_or (names_of g) k name) (sym same) ∙ at.1 in
       subst (λ p. IsTrue (is_done new p)) (sym same) (found (all_done g (edges_from g node.name) places done children (λ e p has at_child.
       let from : Contains (edges_from g name) e = subst (λ n. Contains (edges_from g n) e) named has in
       let less_child = child_waits g graph acyclic name e from in

@@ -34,19 +34,24 @@ one_unit : (o : Option ℕ) (high p q : ℕ → Option (List ℕ)) (r s : Option
     → option_and_then (λ u. cond (is_high_surrogate u) (p u) (cond (is_low_surrogate u) None (prepend (encode_utf8 u) r))) o
     ≡ option_and_then (λ u. cond (is_high_surrogate u) (q u) (cond (is_low_surrogate u) None (prepend (encode_utf8 u) s))) o
 one_unit None high p q r s same rest = refl
-one_unit (Some u) high p q r s same rest = ap₂ (λ h t. cond (is_high_surrogate u) h (cond (is_low_surrogate u) None (prepend (encode_utf8 u) t))) (same u) rest
+one_unit (Some u) high p q r s same rest =
+    ap₂ (λ h t. cond (is_high_surrogate u) h (cond (is_low_surrogate u) None (prepend (encode_utf8 u) t))) (same u) rest
 
 content_fed : (w : Within) (xs : List ℕ) → content w (fed xs) ≡ content w xs
 unfolding content short_escape
 content_fed plain [] = refl
-content_fed plain (x ∷ xs) = ap₂ (λ a p. cond (x == 34) (Some []) (cond (x == 92) a (cond (nat_lt x 32) None (prepend (x ∷ []) p)))) (content_fed after_backslash xs) (content_fed plain xs)
+content_fed plain (x ∷ xs) = ap₂ (λ a p. cond (x == 34) (Some []) (cond (x == 92) a (cond (nat_lt x 32) None (prepend (x ∷ []) p))))
+    (content_fed after_backslash xs) (content_fed plain xs)
 content_fed after_backslash [] = refl
-content_fed after_backslash (x ∷ xs) = ap₂ (λ u p. cond (x == 117) u (option_and_then (λ c. prepend (c ∷ []) p) (short_escape x))) (content_fed after_u xs) (content_fed plain xs)
+content_fed after_backslash (x ∷ xs) = ap₂ (λ u p. cond (x == 117) u (option_and_then (λ c. prepend (c ∷ []) p) (short_escape x)))
+    (content_fed after_u xs) (content_fed plain xs)
 content_fed after_u [] = refl
 content_fed after_u (a ∷ []) = refl
 content_fed after_u (a ∷ b ∷ []) = refl
 content_fed after_u (a ∷ b ∷ c ∷ []) = rw (no_unit a b c) refl
-content_fed after_u (a ∷ b ∷ c ∷ d ∷ xs) = one_unit (code_unit a b c d) (λ u. None) (λ u. content (after_high u) (fed xs)) (λ u. content (after_high u) xs) _ _ (λ u. content_fed (after_high u) xs) (content_fed plain xs)
+content_fed after_u (a ∷ b ∷ c ∷ d ∷ xs) =
+    one_unit (code_unit a b c d) (λ u. None) (λ u. content (after_high u) (fed xs)) (λ u. content (after_high u) xs) _ _
+    (λ u. content_fed (after_high u) xs) (content_fed plain xs)
 content_fed (after_high h) [] = refl
 content_fed (after_high h) (s ∷ []) = refl
 content_fed (after_high h) (s ∷ u ∷ []) = refl
@@ -54,7 +59,9 @@ content_fed (after_high h) (s ∷ u ∷ a ∷ []) = refl
 content_fed (after_high h) (s ∷ u ∷ a ∷ b ∷ []) = refl
 content_fed (after_high h) (s ∷ u ∷ a ∷ b ∷ c ∷ []) = rw (no_unit a b c) (either_none ((s == 92) && (u == 117)))
 content_fed (after_high h) (s ∷ u ∷ a ∷ b ∷ c ∷ d ∷ xs) =
-    ap (λ p. cond ((s == 92) && (u == 117)) (option_and_then (λ l. cond (is_low_surrogate l) (prepend (encode_utf8 (surrogate_pair h l)) p) None) (code_unit a b c d)) None) (content_fed plain xs)
+    ap (λ p. cond ((s == 92) && (u == 117)) (option_and_then
+    (λ l. cond (is_low_surrogate l) (prepend (encode_utf8 (surrogate_pair h l)) p) None) (code_unit a b c d)) None)
+    (content_fed plain xs)
 
 -- ---- words
 
@@ -86,14 +93,16 @@ abbrev Leaves : ℕ → Option (List ℕ) → Option (List ℕ) → Type 0
 Leaves n None p = p ≡ None
 Leaves n (Some r) p = (p ≡ Some (fed r)) × (length r ≤ n)
 
-by_count : (t : List ℕ) (n : ℕ) → n ≤ length t → (b : Bool) → Leaves (length t) (cond b None (Some (drop n t))) (cond b None (Some (drop n (fed t))))
+by_count : (t : List ℕ) (n : ℕ) → n ≤ length t → (b : Bool)
+    → Leaves (length t) (cond b None (Some (drop n t))) (cond b None (Some (drop n (fed t))))
 by_count t n le true = refl
 by_count t n le false = (ap Some (drop_fed n t le), drop_within n t)
 
 digits : (t : List ℕ) → Leaves (length t) (after_digits t) (after_digits (fed t))
 digits t =
     let n = prefix_len is_ascii_digit t in
-    subst (λ m. Leaves (length t) (after_digits t) (cond (m == 0) None (Some (drop m (fed t))))) (sym (run_same t)) (by_count t n (prefix_len-le-length is_ascii_digit t) (n == 0))
+    subst (λ m. Leaves (length t) (after_digits t) (cond (m == 0) None (Some (drop m (fed t))))) (sym (run_same t))
+    (by_count t n (prefix_len-le-length is_ascii_digit t) (n == 0))
 
 same_head : (c : ℕ) (t : List ℕ) → (10 == c) ≡ (32 == c) → (head (fed t) == c) ≡ (head t == c)
 same_head c [] e = e
@@ -114,36 +123,42 @@ either a b t p q e = go (or_cases _ _ e)
     go (inl h) = one a t p h
     go (inr h) = one b t q h
 
-optional : (t : List ℕ) (b : Bool) → (b ≡ true → IsLess t) → (cond b (drop 1 (fed t)) (fed t) ≡ fed (cond b (drop 1 t) t)) × (length (cond b (drop 1 t) t) ≤ length t)
+optional : (t : List ℕ) (b : Bool) → (b ≡ true → IsLess t) → (cond b (drop 1 (fed t)) (fed t) ≡ fed (cond b (drop 1 t) t))
+    × (length (cond b (drop 1 t) t) ≤ length t)
 optional t true f = f refl
 optional t false f = (refl, omega arith)
 
 -- a part behind a front that was passed
-then : (n : ℕ) (u v : List ℕ) (f : List ℕ → Option (List ℕ)) → v ≡ fed u → length u ≤ n → Leaves (length u) (f u) (f (fed u)) → Leaves n (f u) (f v)
+then : (n : ℕ) (u v : List ℕ) (f : List ℕ → Option (List ℕ)) → v ≡ fed u → length u ≤ n → Leaves (length u) (f u) (f (fed u))
+    → Leaves n (f u) (f v)
 then n u v f is le = go (f u)
   where
     go : (o : Option (List ℕ)) → Leaves (length u) o (f (fed u)) → Leaves n o (f v)
     go None h = ap f is ∙ h
     go (Some r) h = (ap f is ∙ h.0, omega (arith, h.1, le))
 
-by_test : (n : ℕ) (b c : Bool) (x y p q : Option (List ℕ)) → c ≡ b → (b ≡ true → Leaves n x p) → Leaves n y q → Leaves n (cond b x y) (cond c p q)
+by_test : (n : ℕ) (b c : Bool) (x y p q : Option (List ℕ)) → c ≡ b → (b ≡ true → Leaves n x p) → Leaves n y q
+    → Leaves n (cond b x y) (cond c p q)
 by_test n true true x y p q e f g = f refl
 by_test n false false x y p q e f g = g
 by_test n true false x y p q e f g = absurd (false≢true e)
 by_test n false true x y p q e f g = absurd (true≢false e)
 
-test_same : (t : List ℕ) (b c : Bool) → c ≡ b → (b ≡ true → IsLess t) → (cond c (drop 1 (fed t)) (fed t) ≡ fed (cond b (drop 1 t) t)) × (length (cond b (drop 1 t) t) ≤ length t)
+test_same : (t : List ℕ) (b c : Bool) → c ≡ b → (b ≡ true → IsLess t) → (cond c (drop 1 (fed t)) (fed t) ≡ fed (cond b (drop 1 t) t))
+    × (length (cond b (drop 1 t) t) ≤ length t)
 test_same t b c e f = (ap (λ d. cond d (drop 1 (fed t)) (fed t)) e ∙ (optional t b f).0, (optional t b f).1)
 
 whole : (t : List ℕ) → Leaves (length t) (after_whole t) (after_whole (fed t))
-whole t = by_test (length t) (head t == 48) _ (Some (drop 1 t)) _ _ _ (same_head 48 t refl) (λ e. let s = one 48 t refl e in (ap Some s.0, s.1)) (digits t)
+whole t = by_test (length t) (head t == 48) _ (Some (drop 1 t)) _ _ _ (same_head 48 t refl) (λ e. let s = one 48 t refl e in
+    (ap Some s.0, s.1)) (digits t)
 
 fraction : (t : List ℕ) → Leaves (length t) (after_fraction t) (after_fraction (fed t))
 fraction t =
     by_test (length t) (head t == 46) _ _ (Some t) _ _ (same_head 46 t refl)
     (λ e. let s = one 46 t refl e in then (length t) (drop 1 t) _ after_digits s.0 s.1 (digits (drop 1 t))) (refl, omega arith)
 
-either_head : (a b : ℕ) (t : List ℕ) → (10 == a) ≡ (32 == a) → (10 == b) ≡ (32 == b) → ((head (fed t) == a) || (head (fed t) == b)) ≡ ((head t == a) || (head t == b))
+either_head : (a b : ℕ) (t : List ℕ) → (10 == a) ≡ (32 == a) → (10 == b) ≡ (32 == b)
+    → ((head (fed t) == a) || (head (fed t) == b)) ≡ ((head t == a) || (head t == b))
 either_head a b t p q = ap₂ (λ x y. x || y) (same_head a t p) (same_head b t q)
 
 signed : (t : List ℕ) → Leaves (length t) (after_digits (after_sign t)) (after_digits (after_sign (fed t)))
@@ -154,9 +169,11 @@ signed t =
 exponent : (t : List ℕ) → Leaves (length t) (after_exponent t) (after_exponent (fed t))
 exponent t =
     by_test (length t) ((head t == 101) || (head t == 69)) _ _ (Some t) _ _ (either_head 101 69 t refl refl)
-    (λ e. let s = either 101 69 t refl refl e in then (length t) (drop 1 t) _ (λ u. after_digits (after_sign u)) s.0 s.1 (signed (drop 1 t))) (refl, omega arith)
+    (λ e. let s = either 101 69 t refl refl e in
+    then (length t) (drop 1 t) _ (λ u. after_digits (after_sign u)) s.0 s.1 (signed (drop 1 t))) (refl, omega arith)
 
-behind : (n : ℕ) (f : List ℕ → Option (List ℕ)) → ((u : List ℕ) → Leaves (length u) (f u) (f (fed u))) → (o p : Option (List ℕ)) → Leaves n o p → Leaves n (option_and_then f o) (option_and_then f p)
+behind : (n : ℕ) (f : List ℕ → Option (List ℕ)) → ((u : List ℕ) → Leaves (length u) (f u) (f (fed u))) → (o p : Option (List ℕ))
+    → Leaves n o p → Leaves n (option_and_then f o) (option_and_then f p)
 behind n f each None p h = ap (option_and_then f) h
 behind n f each (Some r) p h = subst (λ q. Leaves n (f r) (option_and_then f q)) (sym h.0) (then n r (fed r) f refl h.1 (each r))
 
@@ -165,12 +182,14 @@ unfolding after_number
 all_parts t =
     let n = length t in
     let s = test_same t _ _ (same_head 45 t refl) (one 45 t refl) in
-    behind n after_exponent exponent _ _ (behind n after_fraction fraction _ _ (then n (after_minus t) _ after_whole s.0 s.1 (whole (after_minus t))))
+    behind n after_exponent exponent _ _ (behind n after_fraction fraction _ _
+    (then n (after_minus t) _ after_whole s.0 s.1 (whole (after_minus t))))
 
 number_fed : (t : List ℕ) (o p : Option (List ℕ)) → Leaves (length t) o p → number_before (fed t) p ≡ number_before t o
 number_fed t None p h = ap (number_before (fed t)) h
 number_fed t (Some r) p h =
-    let size : length (fed t) - length (fed r) ≡ length t - length r = omega (arith, length-append t (10 ∷ []), length-append r (10 ∷ [])) in
+    let size : length (fed t) - length (fed r) ≡ length t - length r =
+    omega (arith, length-append t (10 ∷ []), length-append r (10 ∷ [])) in
     let within : length t - length r ≤ length t = omega arith in
     ap (number_before (fed t)) h.0
     ∙ ap₂ (λ e n. cond e (number (take n (fed t))) bad) (ends_fed r) size
@@ -182,13 +201,16 @@ IsPlain [] = Unit {0}
 IsPlain (c ∷ cs) = (nat_eq c 10 ≡ false) × IsPlain cs
 
 name_fed : (name t : List ℕ) → IsPlain name
-    → (starts_with nat_eq (fed t) name && ends_word (drop (length name) (fed t))) ≡ (starts_with nat_eq t name && ends_word (drop (length name) t))
+    → (starts_with nat_eq (fed t) name && ends_word (drop (length name) (fed t)))
+    ≡ (starts_with nat_eq t name && ends_word (drop (length name) t))
 name_fed [] t h = ends_fed t
 name_fed (c ∷ cs) [] h = rw h.0 refl
 name_fed (c ∷ cs) (x ∷ xs) h = go (nat_eq c x) (name_fed cs xs h.1)
   where
-    go : (b : Bool) → (starts_with nat_eq (fed xs) cs && ends_word (drop (length cs) (fed xs))) ≡ (starts_with nat_eq xs cs && ends_word (drop (length cs) xs))
-        → ((b && starts_with nat_eq (fed xs) cs) && ends_word (drop (length cs) (fed xs))) ≡ ((b && starts_with nat_eq xs cs) && ends_word (drop (length cs) xs))
+    go : (b : Bool) → (starts_with nat_eq (fed xs) cs && ends_word (drop (length cs) (fed xs)))
+        ≡ (starts_with nat_eq xs cs && ends_word (drop (length cs) xs))
+        → ((b && starts_with nat_eq (fed xs) cs) && ends_word (drop (length cs) (fed xs)))
+        ≡ ((b && starts_with nat_eq xs cs) && ends_word (drop (length cs) xs))
     go true e = e
     go false e = refl
 
@@ -196,13 +218,20 @@ word_fed : (x : ℕ) (xs : List ℕ) → word (x ∷ fed xs) ≡ word (x ∷ xs)
 unfolding word
 word_fed x xs =
     let t = x ∷ xs in
-    ap (λ e. cond (x == 116) (cond e (boolean true) bad) (cond (x == 102) (literal ascii.false_text (boolean false) (fed t)) (cond (x == 110) (literal ascii.null_text null (fed t)) (number_before (fed t) (after_number (fed t))))))
+    ap (λ e. cond (x == 116) (cond e (boolean true) bad)
+    (cond (x == 102) (literal ascii.false_text (boolean false) (fed t))
+    (cond (x == 110) (literal ascii.null_text null (fed t)) (number_before (fed t) (after_number (fed t))))))
     (name_fed ascii.true_text t (refl, (refl, (refl, (refl, tt)))))
-    ∙ ap (λ e. cond (x == 116) (literal ascii.true_text (boolean true) t) (cond (x == 102) (cond e (boolean false) bad) (cond (x == 110) (literal ascii.null_text null (fed t)) (number_before (fed t) (after_number (fed t))))))
+    ∙ ap (λ e. cond (x == 116) (literal ascii.true_text (boolean true) t)
+    (cond (x == 102) (cond e (boolean false) bad)
+    (cond (x == 110) (literal ascii.null_text null (fed t)) (number_before (fed t) (after_number (fed t))))))
     (name_fed ascii.false_text t (refl, (refl, (refl, (refl, (refl, tt))))))
-    ∙ ap (λ e. cond (x == 116) (literal ascii.true_text (boolean true) t) (cond (x == 102) (literal ascii.false_text (boolean false) t) (cond (x == 110) (cond e null bad) (number_before (fed t) (after_number (fed t))))))
+    ∙ ap (λ e. cond (x == 116) (literal ascii.true_text (boolean true) t)
+    (cond (x == 102) (literal ascii.false_text (boolean false) t)
+    (cond (x == 110) (cond e null bad) (number_before (fed t) (after_number (fed t))))))
     (name_fed ascii.null_text t (refl, (refl, (refl, (refl, tt)))))
-    ∙ ap (λ w. cond (x == 116) (literal ascii.true_text (boolean true) t) (cond (x == 102) (literal ascii.false_text (boolean false) t) (cond (x == 110) (literal ascii.null_text null t) w)))
+    ∙ ap (λ w. cond (x == 116) (literal ascii.true_text (boolean true) t)
+    (cond (x == 102) (literal ascii.false_text (boolean false) t) (cond (x == 110) (literal ascii.null_text null t) w)))
     (number_fed t (after_number t) (after_number (fed t)) (all_parts t))
 
 -- ---- the whole
@@ -235,4 +264,5 @@ lex_fed in_escape [] = refl
 lex_fed m (x ∷ xs) = byte_fed m (class x) x xs (λ next. lex_fed next xs)
 
 pub read_fed : (text : List ℕ) → read (text ++ 10 ∷ []) ≡ read text
-read_fed text = ap (λ ls. option_and_then of_json (option_and_then (λ p. json.if_last p.0 p.1) (json.value max_depth (punctuate fresh ls)))) (lex_fed between text)
+read_fed text = ap (λ ls. option_and_then of_json (option_and_then (λ p. json.if_last p.0 p.1) (json.value max_depth (punctuate fresh ls))))
+    (lex_fed between text)

@@ -30,7 +30,8 @@ use Rattle.lock_writer.specs.Tests.{can_be_written, has_text, is_of_node, is_off
 use Rattle.lock_writer.specs.Texts.{CanBeWritten, IsOfNode, IsRecorded}
 
 -- a test of all elements tells what each tells
-all_decide : {X : Type 0} (p : X → Bool) (P : X → Type 0) → ((x : X) → Decides (p x) (P x)) → (xs : List X) → Decides (list_all p xs) (All P xs)
+all_decide : {X : Type 0} (p : X → Bool) (P : X → Type 0) → ((x : X) → Decides (p x) (P x)) → (xs : List X)
+    → Decides (list_all p xs) (All P xs)
 all_decide p P told xs = (
   λ e. All-weaker (λ x. p x ≡ true) P (λ x. (told x).0) xs (AllPass-from_list_all p xs e),
   λ all. list_all-from_AllPass p xs (All-weaker P (λ x. p x ≡ true) (λ x. (told x).1) xs all),
@@ -73,23 +74,28 @@ module _ (g : Content) (graph : IsGraph g) where
 
   pub told : (records : List Record) (roots : List Spec) → Decides (can_be_written g records roots) (CanBeWritten g records roots)
   told records roots =
-      let recorded = all_decide (λ (node : Node). is_recorded records node.origin) (λ (node : Node). IsRecorded records node.origin) (λ node. recorded_decides records node.origin) g.nodes in
+      let recorded = all_decide (λ (node : Node). is_recorded records node.origin) (λ (node : Node). IsRecorded records node.origin)
+      (λ node. recorded_decides records node.origin) g.nodes in
       let named = all_decide (is_of_node g) (IsOfNode g) (λ root. has_decides g (word_text root.top.name)) roots in
       let texts = all_decide has_text (λ (root : Spec). IsUtf8 (spec_text root)) text_decides roots in (
         λ e.
             let p3 = and_parts _ _ e in let p2 = and_parts _ _ p3.0 in let p1 = and_parts _ _ p2.0 in
             record { acyclic = off_decides.0 p3.1; named = named.0 p1.1; texts = texts.0 p2.1; installed = recorded.0 p1.0 },
-        λ can. and_from _ _ (and_from _ _ (and_from _ _ (recorded.1 can.installed) (named.1 can.named)) (texts.1 can.texts)) (off_decides.1 can.acyclic),
+        λ can. and_from _ _ (and_from _ _ (and_from _ _ (recorded.1 can.installed) (named.1 can.named)) (texts.1 can.texts))
+            (off_decides.1 can.acyclic),
       )
 
 -- ---- what a call answered
 
-pub told_ok : {E : Type 0} (g : Content) (records : List Record) (roots : List Spec) (r : Result Bool E) → IsGraph g → IfOk r (λ is. is ≡ can_be_written g records roots) → IfOk r (λ is. IsTrue is ↔ CanBeWritten g records roots)
+pub told_ok : {E : Type 0} (g : Content) (records : List Record) (roots : List Spec) (r : Result Bool E) → IsGraph g
+    → IfOk r (λ is. is ≡ can_be_written g records roots) → IfOk r (λ is. IsTrue is ↔ CanBeWritten g records roots)
 told_ok g records roots (Ok is) graph same =
     let decides = told g graph records roots in
     (λ e. decides.0 (sym same ∙ e), λ can. same ∙ decides.1 can)
 told_ok g records roots (Err e) graph same = tt
 
-pub text_told : {A E : Type 0} (r : Result A E) (bytes : List ℕ) (P : A → Type 0) (Q : E → Type 0) (is : Bool) → MatchResult r (λ s. P s × IsUtf8 bytes) (λ e. (IsUtf8 bytes → ⊥) × Q e) → is ≡ is_ok r → is ≡ is_utf8 bytes
+pub text_told : {A E : Type 0} (r : Result A E) (bytes : List ℕ) (P : A → Type 0) (Q : E → Type 0) (is : Bool)
+    → MatchResult r (λ s. P s × IsUtf8 bytes) (λ e. (IsUtf8 bytes → ⊥) × Q e) → is ≡ is_ok r → is ≡ is_utf8 bytes
 text_told (Ok s) bytes P Q is told same = same ∙ sym (is_utf8-from_IsUtf8 bytes told.1)
-text_told (Err e) bytes P Q is told same = same ∙ sym (false_from_ne_true (is_utf8 bytes) (λ right. told.0 (IsUtf8-from_is_utf8 bytes right)))
+text_told (Err e) bytes P Q is told same =
+    same ∙ sym (false_from_ne_true (is_utf8 bytes) (λ right. told.0 (IsUtf8-from_is_utf8 bytes right)))

@@ -31,7 +31,8 @@ is_done done place = slice_index_or done place false
 pub record AreHashes (g : Content) (hashes : List Text) (done : List Bool) : Type 0 where
   pub each : length hashes ≡ length g.nodes
   pub marks : length done ≡ length g.nodes
-  pub right : (name : Text) (place : ℕ) → IsAt (names_of g) name place → IsTrue (is_done done place) → slice_index_or hashes place [] ≡ node_hash g name
+  pub right : (name : Text) (place : ℕ) → IsAt (names_of g) name place → IsTrue (is_done done place)
+      → slice_index_or hashes place [] ≡ node_hash g name
 
 -- how many rounds a node waits at most: one more than each of its children
 abbrev pub waits : Content → Text → ℕ
@@ -39,7 +40,8 @@ waits g name = length g.nodes - level bytes_eq (arcs_of g) (names_of g) name
 
 -- all nodes before the end are done that wait no longer than so many rounds
 abbrev pub DoneBefore : Content → ℕ → ℕ → List Bool → Type 0
-DoneBefore g end rounds done = (name : Text) (place : ℕ) → IsAt (names_of g) name place → waits g name ≤ rounds → place < end → IsTrue (is_done done place)
+DoneBefore g end rounds done = (name : Text) (place : ℕ) → IsAt (names_of g) name place → waits g name ≤ rounds → place < end
+    → IsTrue (is_done done place)
 
 abbrev pub DoneWithin : Content → ℕ → List Bool → Type 0
 DoneWithin g = DoneBefore g (length g.nodes)

@@ -29,4 +29,5 @@ is_off_cycles g node = not (reaches_in g node.name node.name)
 
 abbrev pub can_be_written : Content → List Record → List Spec → Bool
 can_be_written g records roots =
-    list_all (λ node. is_recorded records node.origin) g.nodes && list_all (is_of_node g) roots && list_all has_text roots && list_all (is_off_cycles g) g.nodes
+    list_all (λ node. is_recorded records node.origin) g.nodes && list_all (is_of_node g) roots && list_all has_text roots
+    && list_all (is_off_cycles g) g.nodes

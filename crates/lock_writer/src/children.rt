@@ -11,7 +11,9 @@ use std::alloc::{AllocError, Global};
 
 /// For each node the places of its children, in the order of its edges.
 pub(crate) fn children_of(alloc: Global, graph: &Graph) -> Result<Vec<List<usize>>, AllocError>
-    ensures { IfOk result (λ children. AllZip (λ node places. AreChildren graph.now (edges_from graph.now node.name) places) graph.now.nodes children.items) }
+    ensures { IfOk result (λ children. AllZip
+        (λ node places. AreChildren graph.now (edges_from graph.now node.name) places)
+        graph.now.nodes children.items) }
 {
     let mut children = Vec::new(alloc);
     for node in graph.nodes() {

@@ -61,10 +61,12 @@ fn find_hashes(
     done: &mut Vec<bool>,
 ) -> Result<(), AllocError>
     requires acyclic { IsAcyclic (JoinedIn graph.now) }
-    requires children { AllZip (λ node places. AreChildren graph.now (edges_from graph.now node.name) places) graph.now.nodes children.now }
+    requires children { AllZip (λ node places. AreChildren graph.now (edges_from graph.now node.name) places)
+        graph.now.nodes children.now }
     requires right { AreHashes graph.now hashes.old.items done.old.items }
     ensures right { OnOk result (AreHashes graph.now hashes.new.items done.new.items) }
-    ensures more { OnOk result ((rounds : ℕ) → DoneWithin graph.now rounds done.old.items → DoneWithin graph.now (rounds + 1) done.new.items) }
+    ensures more { OnOk result ((rounds : ℕ) → DoneWithin graph.now rounds done.old.items
+        → DoneWithin graph.now (rounds + 1) done.new.items) }
 {
     let nodes = graph.nodes();
     for place in 0..nodes.len() {
@@ -94,7 +96,8 @@ fn find_hash(
     requires right { AreHashes graph.now hashes.old.items done.old.items }
     ensures right { OnOk result (AreHashes graph.now hashes.new.items done.new.items) }
     ensures kept { OnOk result (Keeps done.old.items done.new.items) }
-    ensures found { OnOk result (IsTrue (list_all (is_done done.old.items) children.now) → IsTrue (is_done done.new.items place)) }
+    ensures found { OnOk result (IsTrue (list_all (is_done done.old.items) children.now)
+        → IsTrue (is_done done.new.items place)) }
 {
     if is_done(done.as_slice(), place) || !are_done(children, done.as_slice()) {
         return Ok(());
@@ -122,7 +125,8 @@ fn is_done(done: &[bool], place: usize) -> bool
 
 /// The hash of a node, where those of its children are known.
 fn hash_of(alloc: Global, graph: &Graph, node: &Node, hashes: &[Hash]) -> Result<Hash, AllocError>
-    requires children { All (λ edge. IsHashAt graph.now hashes.now edge.child) (edges_from graph.now node.now.name) }
+    requires children { All (λ edge. IsHashAt graph.now hashes.now edge.child)
+        (edges_from graph.now node.now.name) }
     requires graph { IsGraph graph.now }
     requires each { length hashes.now ≡ length graph.now.nodes }
     ensures { IfOk result (λ hash. hash ≡ hash_over graph.now (node_hash graph.now) node.now) }

@@ -33,7 +33,8 @@ pub fn write_lock(
 ) -> Result<Vec<u8>, AllocError>
     requires { CanBeWritten graph.now database.now roots.now }
     ensures text { IfOk result (λ text. text.items ≡ lock_text graph.now database.now roots.now) }
-    ensures read { IfOk result (λ text. IsJson text.items (lock_data graph.now database.now roots.now)) }
+    ensures read { IfOk result (λ text. IsJson text.items
+        (lock_data graph.now database.now roots.now)) }
 {
     let value = lock_value(alloc, graph, database, roots)?;
     let mut text = value.to_vec(alloc)?;
@@ -68,7 +69,8 @@ fn nodes_value(
 ) -> Result<Value, AllocError>
     requires hashes { hashes.now ≡ all_hashes graph.now }
     requires installed { All (λ node. IsRecorded database.now node.origin) graph.now.nodes }
-    ensures { IfOk result (λ value. view value ≡ array (items_of (map (data_of_node graph.now database.now) graph.now.nodes))) }
+    ensures { IfOk result (λ value. view value
+        ≡ array (items_of (map (data_of_node graph.now database.now) graph.now.nodes))) }
 {
     let mut values = Vec::new(alloc);
     for node in graph.nodes() {
@@ -150,7 +152,8 @@ fn roots_value(
     requires hashes { hashes.now ≡ all_hashes graph.now }
     requires roots { All (IsOfNode graph.now) roots.now }
     requires texts { All (λ root. IsUtf8 (spec_text root)) roots.now }
-    ensures { IfOk result (λ value. view value ≡ array (items_of (map (root_data graph.now) roots.now))) }
+    ensures { IfOk result (λ value. view value
+        ≡ array (items_of (map (root_data graph.now) roots.now))) }
 {
     Ok(Value::Array(root_values(alloc, graph, roots, hashes)?))
 }
@@ -164,7 +167,8 @@ fn root_values(
     requires hashes { hashes.now ≡ all_hashes graph.now }
     requires roots { All (IsOfNode graph.now) roots.now }
     requires texts { All (λ root. IsUtf8 (spec_text root)) roots.now }
-    ensures { IfOk result (λ values. items_view values.items ≡ items_of (map (root_data graph.now) roots.now)) }
+    ensures { IfOk result (λ values. items_view values.items
+        ≡ items_of (map (root_data graph.now) roots.now)) }
 {
     let mut values = Vec::new(alloc);
     for root in roots {

@@ -30,7 +30,8 @@ module _ {X K : Type 0} {R : K → K → Ordering} (o : IsTotalOrder R) (exact :
   is_tie Greater e = absurd (false≢true e)
 
   -- x comes first where nothing is found, and else what is found
-  swapped : (e : Bool) (x : X) (found r : Option X) → (e ≡ true → found ≡ None) → later (cond e (Some x) found) r ≡ later found (cond e (Some x) r)
+  swapped : (e : Bool) (x : X) (found r : Option X) → (e ≡ true → found ≡ None)
+      → later (cond e (Some x) found) r ≡ later found (cond e (Some x) r)
   swapped true x found r none = rw (none refl) refl
   swapped false x found r none = refl
 
@@ -40,26 +41,33 @@ module _ {X K : Type 0} {R : K → K → Ordering} (o : IsTotalOrder R) (exact :
   kept false x found r some = refl
 
   -- an element more is added where its key is not there, and what is found first is the same
-  pub taken : (xs rest : List X) (x : X) (b : Bool) (new : List X) → IsTrue b ↔ (find_key R key xs (key x) ≡ None) → new ≡ cond b (with_one R key xs x) xs
+  pub taken : (xs rest : List X) (x : X) (b : Bool) (new : List X) → IsTrue b ↔ (find_key R key xs (key x) ≡ None)
+      → new ≡ cond b (with_one R key xs x) xs
       → (k : K) → later (find_key R key new k) (find_key R key rest k) ≡ later (find_key R key xs k) (find_key R key (x ∷ rest) k)
   taken xs rest x true new tells is k =
       let absent = tells.0 refl in
       rw (is, find-with_one o exact key xs x k absent)
-      (swapped (eq_by_cmp R (key x) k) x (find_key R key xs k) (find_key R key rest k) (λ e. ap (find_key R key xs) (sym (exact (key x) k (is_tie _ e))) ∙ absent))
+      (swapped (eq_by_cmp R (key x) k) x (find_key R key xs k) (find_key R key rest k)
+      (λ e. ap (find_key R key xs) (sym (exact (key x) k (is_tie _ e))) ∙ absent))
   taken xs rest x false new tells is k =
       rw is (kept (eq_by_cmp R (key x) k) x (find_key R key xs k) (find_key R key rest k)
       (λ e none. false≢true (tells.1 (ap (find_key R key xs) (exact (key x) k (is_tie _ e)) ∙ none))))
 
 -- the rest without its first, which was added
-pub one_less : {X K : Type 0} (R : K → K → Ordering) (key : X → K) (old new before rest all : List X) (x : X) → Collected R key old x new → before ≡ x ∷ rest → Collects R key old before all → Collects R key new rest all
-one_less R key old new before rest all x adds is collects k = adds rest k ∙ ap (λ xs. later (find_key R key old k) (find_key R key xs k)) (sym is) ∙ collects k
+pub one_less : {X K : Type 0} (R : K → K → Ordering) (key : X → K) (old new before rest all : List X) (x : X) → Collected R key old x new
+    → before ≡ x ∷ rest → Collects R key old before all → Collects R key new rest all
+one_less R key old new before rest all x adds is collects k =
+    adds rest k ∙ ap (λ xs. later (find_key R key old k) (find_key R key xs k)) (sym is) ∙ collects k
 
-pub none_left : {X K : Type 0} (R : K → K → Ordering) (key : X → K) (done rest all : List X) → rest ≡ [] → Collects R key done rest all → (k : K) → find_key R key done k ≡ find_key R key all k
-none_left R key done rest all is collects k = sym (later_none (find_key R key done k)) ∙ ap (λ xs. later (find_key R key done k) (find_key R key xs k)) (sym is) ∙ collects k
+pub none_left : {X K : Type 0} (R : K → K → Ordering) (key : X → K) (done rest all : List X) → rest ≡ [] → Collects R key done rest all
+    → (k : K) → find_key R key done k ≡ find_key R key all k
+none_left R key done rest all is collects k = sym (later_none (find_key R key done k))
+    ∙ ap (λ xs. later (find_key R key done k) (find_key R key xs k)) (sym is) ∙ collects k
 
 -- ---- the parts of a graph
 
-pub node_taken : (old new : Content) (node : Node) (added : Bool) → IsTrue added ↔ (node_of old node.name ≡ None) → new ≡ cond added (with_node old node) old
+pub node_taken : (old new : Content) (node : Node) (added : Bool) → IsTrue added ↔ (node_of old node.name ≡ None)
+    → new ≡ cond added (with_node old node) old
     → Collected byte_cmp name_of old.nodes node new.nodes × (new.edges ≡ old.edges) × (new.providers ≡ old.providers)
 node_taken old new node true tells is = (
   λ rest k. taken nat_list_cmp_total ties_are_equal name_of old.nodes rest node true new.nodes tells (ap (λ (g : Content). g.nodes) is) k,
@@ -72,30 +80,42 @@ node_taken old new node false tells is = (
   ap (λ (g : Content). g.providers) is,
 )
 
-pub edge_taken : (old new : Content) (edge : Edge) (added : Bool) → HasEnds old edge → IsTrue added ↔ ((edge_of old edge.parent edge.child ≡ None) × HasNode old edge.parent × HasNode old edge.child)
-    → new ≡ cond added (with_edge old edge) old → Collected pair_cmp ends_of old.edges edge new.edges × (new.nodes ≡ old.nodes) × (new.providers ≡ old.providers)
+pub edge_taken : (old new : Content) (edge : Edge) (added : Bool) → HasEnds old edge → IsTrue added
+    ↔ ((edge_of old edge.parent edge.child ≡ None) × HasNode old edge.parent × HasNode old edge.child)
+    → new ≡ cond added (with_edge old edge) old → Collected pair_cmp ends_of old.edges edge new.edges × (new.nodes ≡ old.nodes)
+    × (new.providers ≡ old.providers)
 edge_taken old new edge true ends tells is = (
-  λ rest k. taken pair_total pair_exact ends_of old.edges rest edge true new.edges (λ t. (tells.0 t).0, λ none. tells.1 (none, ends.0, ends.1)) (ap (λ (g : Content). g.edges) is) k,
+  λ rest k. taken pair_total pair_exact ends_of old.edges rest edge true new.edges
+      (λ t. (tells.0 t).0, λ none. tells.1 (none, ends.0, ends.1)) (ap (λ (g : Content). g.edges) is) k,
   ap (λ (g : Content). g.nodes) is,
   ap (λ (g : Content). g.providers) is,
 )
 edge_taken old new edge false ends tells is = (
-  λ rest k. taken pair_total pair_exact ends_of old.edges rest edge false new.edges (λ t. (tells.0 t).0, λ none. tells.1 (none, ends.0, ends.1)) (ap (λ (g : Content). g.edges) is) k,
+  λ rest k. taken pair_total pair_exact ends_of old.edges rest edge false new.edges
+      (λ t. (tells.0 t).0, λ none. tells.1 (none, ends.0, ends.1)) (ap (λ (g : Content). g.edges) is) k,
   ap (λ (g : Content). g.nodes) is,
   ap (λ (g : Content). g.providers) is,
 )
 
-pub provider_taken : (old new : Content) (name provider : Text) (added : Bool) → HasNode old provider → IsTrue added ↔ ((provider_of old name ≡ None) × HasNode old provider)
-    → new ≡ cond added (with_provider old name provider) old → Collected byte_cmp virtual_of old.providers (name, provider) new.providers × (new.nodes ≡ old.nodes) × (new.edges ≡ old.edges)
+pub provider_taken : (old new : Content) (name provider : Text) (added : Bool) → HasNode old provider → IsTrue added
+    ↔ ((provider_of old name ≡ None) × HasNode old provider)
+    → new ≡ cond added (with_provider old name provider) old → Collected byte_cmp virtual_of old.providers (name, provider) new.providers
+    × (new.nodes ≡ old.nodes) × (new.edges ≡ old.edges)
 provider_taken old new name provider true there tells is = (
-  λ rest k. taken nat_list_cmp_total ties_are_equal virtual_of old.providers rest (name, provider) true new.providers
-      (λ t. none_from_map (λ (p : Text × Text). p.1) (find_key byte_cmp virtual_of old.providers name) (tells.0 t).0, λ none. tells.1 (ap (λ o. option_map (λ (p : Text × Text). p.1) o) none, there)) (ap (λ (g : Content). g.providers) is) k,
+  λ rest k. taken nat_list_cmp_total ties_are_equal virtual_of old.providers rest (name, provider) true new.providers (
+    λ t. none_from_map (λ (p : Text × Text). p.1) (find_key byte_cmp virtual_of old.providers name) (tells.0 t).0,
+    λ none. tells.1
+        (ap (λ o. option_map (λ (p : Text × Text). p.1) o) none, there),
+  ) (ap (λ (g : Content). g.providers) is) k,
   ap (λ (g : Content). g.nodes) is,
   ap (λ (g : Content). g.edges) is,
 )
 provider_taken old new name provider false there tells is = (
-  λ rest k. taken nat_list_cmp_total ties_are_equal virtual_of old.providers rest (name, provider) false new.providers
-      (λ t. none_from_map (λ (p : Text × Text). p.1) (find_key byte_cmp virtual_of old.providers name) (tells.0 t).0, λ none. tells.1 (ap (λ o. option_map (λ (p : Text × Text). p.1) o) none, there)) (ap (λ (g : Content). g.providers) is) k,
+  λ rest k. taken nat_list_cmp_total ties_are_equal virtual_of old.providers rest (name, provider) false new.providers (
+    λ t. none_from_map (λ (p : Text × Text). p.1) (find_key byte_cmp virtual_of old.providers name) (tells.0 t).0,
+    λ none. tells.1
+        (ap (λ o. option_map (λ (p : Text × Text). p.1) o) none, there),
+  ) (ap (λ (g : Content). g.providers) is) k,
   ap (λ (g : Content). g.nodes) is,
   ap (λ (g : Content). g.edges) is,
 )
@@ -103,10 +123,12 @@ provider_taken old new name provider false there tells is = (
 -- ---- names with hashes
 
 pub hash_taken : (old new : List (Text × Text)) (x : Text × Text) (added : Bool) → IsInOrder byte_cmp (λ (h : Text × Text). h.0) old
-    → IsTrue added ↔ (find_key byte_cmp (λ (h : Text × Text). h.0) old x.0 ≡ None) → new ≡ cond added (with_one byte_cmp (λ (h : Text × Text). h.0) old x) old
+    → IsTrue added ↔ (find_key byte_cmp (λ (h : Text × Text). h.0) old x.0 ≡ None)
+    → new ≡ cond added (with_one byte_cmp (λ (h : Text × Text). h.0) old x) old
     → IsInOrder byte_cmp (λ (h : Text × Text). h.0) new × Collected byte_cmp (λ (h : Text × Text). h.0) old x new
 hash_taken old new x true order tells is = (
-  subst (IsInOrder byte_cmp (λ (h : Text × Text). h.0)) (sym is) (in_order-with_one nat_list_cmp_total ties_are_equal (λ (h : Text × Text). h.0) old x order),
+  subst (IsInOrder byte_cmp (λ (h : Text × Text). h.0)) (sym is)
+      (in_order-with_one nat_list_cmp_total ties_are_equal (λ (h : Text × Text). h.0) old x order),
   λ rest k. taken nat_list_cmp_total ties_are_equal (λ (h : Text × Text). h.0) old rest x true new tells is k,
 )
 hash_taken old new x false order tells is = (

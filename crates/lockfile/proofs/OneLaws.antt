@@ -6,13 +6,12 @@ use Rattle.json_readers.specs.Json.{IsJson}
 use Rattle.json_readers.specs.declared.fault.Misfit.{Misfit}
 use Rattle.variant_values.specs.Texts.{byte_cmp}
 use Rattle.keyed_lists.specs.Keyed.{IsInOrder, find_key}
-use Rattle.keyed_lists.specs.Laws.{IsKeyOrder}
 use Rattle.graph_core.specs.Graphs.{Text, Content, IsGraph, node_of, edge_of, provider_of}
 use Rattle.reuse_db.specs.Canonical.{right_hash}
 use Rattle.reuse_db.specs.declared.record.Record.{Record}
-use Rattle.lockfile.specs.Faults.{twice_named, wrongly_hashed, dangling, IsSound, IsFileFault, IsMisfit, IsFaultOf, IsLockFault}
+use Rattle.lockfile.specs.Faults.{twice_named, wrongly_hashed, dangling, IsSound, IsFileFault, IsFaultOf, IsLockFault}
 use Rattle.lockfile.specs.Files.{file_at}
-use Rattle.lockfile.specs.Locks.{IsGraphOf, AreHashesOf, IsLockOf, IsLock}
+use Rattle.lockfile.specs.Locks.{IsGraphOf, IsLockOf, IsLock}
 use Rattle.lockfile.specs.declared.fault.LockFault.{LockFault}
 use Rattle.lockfile.specs.declared.fault.LockFault.TheVariants.{NotJson, WrongKind, TwiceNamed, HashDiffers, Dangling, OutOfMemory}
 use Rattle.lockfile.specs.declared.file.File.{File}
@@ -23,13 +22,15 @@ use Rattle.lockfile.specs.declared.lock.Lock.{Lock}
 -- graphs that answer alike are one, and so are lists in order
 pub record AnswersOnce : Type 0 where
   pub graphs : (a b : Content) → IsGraph a → IsGraph b → ((name : Text) → node_of a name ≡ node_of b name)
-      → ((parent child : Text) → edge_of a parent child ≡ edge_of b parent child) → ((name : Text) → provider_of a name ≡ provider_of b name) → a ≡ b
+      → ((parent child : Text) → edge_of a parent child ≡ edge_of b parent child)
+      → ((name : Text) → provider_of a name ≡ provider_of b name) → a ≡ b
   pub hashes : (xs ys : List (Text × Text)) → IsInOrder byte_cmp (λ h. h.0) xs → IsInOrder byte_cmp (λ h. h.0) ys
       → ((k : Text) → find_key byte_cmp (λ h. h.0) xs k ≡ find_key byte_cmp (λ h. h.0) ys k) → xs ≡ ys
 
 graph_one : AnswersOnce → (file : File) (a b : Content) → IsGraphOf file a → IsGraphOf file b → a ≡ b
 graph_one laws file a b p q =
-    laws.graphs a b p.whole q.whole (λ name. p.nodes name ∙ sym (q.nodes name)) (λ parent child. p.edges (parent, child) ∙ sym (q.edges (parent, child)))
+    laws.graphs a b p.whole q.whole (λ name. p.nodes name ∙ sym (q.nodes name)) (λ parent child. p.edges (parent, child)
+    ∙ sym (q.edges (parent, child)))
     (λ name. ap (option_map (λ (provider : Text × Text). provider.1)) (p.providers name ∙ sym (q.providers name)))
 
 same_lock : (a b : Lock) → a.graph ≡ b.graph → a.roots ≡ b.roots → a.hashes ≡ b.hashes → a ≡ b
@@ -99,7 +100,8 @@ some_one : {A : Type 0} (o : Option A) (x y : A) → o ≡ Some x → o ≡ Some
 some_one {A = A} o x y p q = let is : (let T : Type 0 = Option A in let l : T = Some x in let r : T = Some y in l ≡ r) = sym p ∙ q in cc
 
 value_one : (d e : Data) (f g : LockFault) → d ≡ e → IsFaultOf d f → IsFaultOf e g → f ≢ OutOfMemory → g ≢ OutOfMemory → f ≡ g
-value_one d e f g same p q other not = some_one (by_value (file_at e)) f g (ap (λ v. by_value (file_at v)) (sym same) ∙ is_by_value d f p other) (is_by_value e g q not)
+value_one d e f g same p q other not = some_one (by_value (file_at e)) f g (ap (λ v. by_value (file_at v)) (sym same)
+    ∙ is_by_value d f p other) (is_by_value e g q not)
 
 pub fault_one : (bytes : List ℕ) (f g : LockFault) → IsLockFault bytes f → IsLockFault bytes g → f ≢ OutOfMemory → g ≢ OutOfMemory → f ≡ g
 fault_one bytes f g (inl is) q other not = absurd (other is)
@@ -107,18 +109,22 @@ fault_one bytes f g (inr p) (inl is) other not = absurd (not is)
 fault_one bytes f g (inr (inl p)) (inr (inl q)) other not = p.0 ∙ sym q.0
 fault_one bytes f g (inr (inl p)) (inr (inr (e, json, q))) other not = absurd (p.1 e json)
 fault_one bytes f g (inr (inr (d, json, p))) (inr (inl q)) other not = absurd (q.1 d json)
-fault_one bytes f g (inr (inr (d, json, p))) (inr (inr (e, too, q))) other not = value_one d e f g (json_one bytes d e json too) p q other not
+fault_one bytes f g (inr (inr (d, json, p))) (inr (inr (e, too, q))) other not =
+    value_one d e f g (json_one bytes d e json too) p q other not
 
 -- ---- not both
 
 none_or_some : {A B : Type 0} (o : Option A) (x : A) → o ≡ None → o ≡ Some x → B
-none_or_some {A = A} o x p q = absurd (let is : (let T : Type 0 = Option A in let l : T = None in let r : T = Some x in l ≡ r) = sym p ∙ q in cc)
+none_or_some {A = A} o x p q = absurd (let is : (let T : Type 0 = Option A in let l : T = None in let r : T = Some x in l ≡ r) =
+    sym p ∙ q in cc)
 
-lock_or_fault : (bytes : List ℕ) (d : Data) (file : File) (f : LockFault) → IsJson bytes d → file_at d ≡ Ok file → IsSound file → f ≢ OutOfMemory → IsLockFault bytes f → ⊥
+lock_or_fault : (bytes : List ℕ) (d : Data) (file : File) (f : LockFault) → IsJson bytes d → file_at d ≡ Ok file → IsSound file
+    → f ≢ OutOfMemory → IsLockFault bytes f → ⊥
 lock_or_fault bytes d file f json is sound other (inl h) = other h
 lock_or_fault bytes d file f json is sound other (inr (inl q)) = q.1 d json
 lock_or_fault bytes d file f json is sound other (inr (inr (e, too, q))) =
-    none_or_some (by_value (file_at d)) f (rw is (no_fault_in file sound)) (ap (λ v. by_value (file_at v)) (json_one bytes d e json too) ∙ is_by_value e f q other)
+    none_or_some (by_value (file_at d)) f (rw is (no_fault_in file sound)) (ap (λ v. by_value (file_at v)) (json_one bytes d e json too)
+    ∙ is_by_value e f q other)
 
 other_than : (f : LockFault) → (f ≢ OutOfMemory → ⊥) → f ≡ OutOfMemory
 other_than NotJson h = absurd (h (λ e. absurd cc))

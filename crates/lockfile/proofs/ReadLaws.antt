@@ -52,12 +52,14 @@ odd_ok : {T : Type 0} (key : List ℕ) (odd : Option (List ℕ)) (r : Reading T)
 odd_ok key None r x e = e
 odd_ok key (Some k) r x e = unless_ok (is_le (slice_cmp nat_cmp k key)) _ r x e
 
-needed_ok : {T : Type 0} (read : Data → Reading T) (found : Option Data) (x : T) → read_needed read found ≡ Ok x → (d : Data) × (read d ≡ Ok x)
+needed_ok : {T : Type 0} (read : Data → Reading T) (found : Option Data) (x : T) → read_needed read found ≡ Ok x → (d : Data)
+    × (read d ≡ Ok x)
 needed_ok read None x e = absurd (no_ok _ x _ refl e)
 needed_ok read (Some d) x e = (d, e)
 
 -- what stands at a key was read
-field_ok : {T : Type 0} (read : Data → Reading T) (odd : Option (List ℕ)) (key : List ℕ) (ms : Members) (x : T) → field read odd key ms ≡ Ok x → (d : Data) × (read d ≡ Ok x)
+field_ok : {T : Type 0} (read : Data → Reading T) (odd : Option (List ℕ)) (key : List ℕ) (ms : Members) (x : T)
+    → field read odd key ms ≡ Ok x → (d : Data) × (read d ≡ Ok x)
 field_ok read odd key ms x e = needed_ok read (get_member key ms) x (below_ok key _ x (odd_ok key odd _ x e))
 
 given_ok : {T : Type 0} (r : Option T) (x : T) → given r ≡ Ok x → r ≡ Some x
@@ -71,7 +73,8 @@ form_ok true r x e = e
 form_ok false r x e = absurd (no_ok _ x _ refl e)
 
 -- each entry of a map was read
-entries_ok : {T : Type 0} (means : List ℕ → Option (List ℕ)) (read : Data → Reading T) (ms : Members) (xs : List (List ℕ × T)) → entries_of means read ms ≡ Ok xs
+entries_ok : {T : Type 0} (means : List ℕ → Option (List ℕ)) (read : Data → Reading T) (ms : Members) (xs : List (List ℕ × T))
+    → entries_of means read ms ≡ Ok xs
     → (x : List ℕ × T) → Contains xs x → (d : Data) × (read d ≡ Ok x.1)
 entries_ok means read no_members xs e x has =
     let none : [] ≡ xs = cc in
@@ -81,7 +84,11 @@ entries_ok means read (member key d ms) xs e x has =
     let rest = bind_ok (entries_of means read ms) _ xs first.2 in
     let is : (key, first.0) ∷ rest.0 ≡ xs = let same = rest.2 in cc in
     ⊎_elim
-    (λ same. (d, subst (λ (p : List ℕ × _). read d ≡ Ok p.1) same (form_ok (is_some (means key)) (read d) first.0 (below_ok key _ first.0 first.1))))
+    (λ same. (
+      d,
+      subst (λ (p : List ℕ × _). read d ≡ Ok p.1) same
+          (form_ok (is_some (means key)) (read d) first.0 (below_ok key _ first.0 first.1)),
+    ))
     (λ later. entries_ok means read ms rest.0 rest.1 x later)
     (first_or_later (key, first.0) rest.0 x (subst (λ l. Contains l x) (sym is) has))
 
@@ -117,7 +124,9 @@ of_names names q has = ⊎_elim (λ none. absurd (lacks_all q none)) (λ there. 
 
 -- ---- the whole
 
-provider_ok : (nodes : List LockedNode) (d : Data) (providers : List (Text × Text)) → map_of name_meaning (text_of (among (with_texts [] (names_of nodes)))) d ≡ Ok providers → All (λ provider. Contains (names_of nodes) provider.1) providers
+provider_ok : (nodes : List LockedNode) (d : Data) (providers : List (Text × Text))
+    → map_of name_meaning (text_of (among (with_texts [] (names_of nodes)))) d ≡ Ok providers
+    → All (λ provider. Contains (names_of nodes) provider.1) providers
 provider_ok nodes d providers e =
     let members = bind_ok (members_of d) _ providers e in
     let names = with_texts [] (names_of nodes) in
@@ -139,7 +148,9 @@ provided d file e =
 
 -- ---- nodes
 
-pub node_read : (d : Data) (ms : Members) (odd : Option Text) (head : Head) (body : Body) (described : Record) (origin : Origin) → members_of d ≡ Ok ms → odd ≡ first_odd node_keys ms → head_at odd ms ≡ Ok head
-    → body_at odd ms ≡ Ok body → back_at head.front body.middle odd ms ≡ Ok described → origin ≡ origin_by head.entry body.origin body.middle.hash → node_at d ≡ Ok (record { described = described; origin = origin })
+pub node_read : (d : Data) (ms : Members) (odd : Option Text) (head : Head) (body : Body) (described : Record) (origin : Origin)
+    → members_of d ≡ Ok ms → odd ≡ first_odd node_keys ms → head_at odd ms ≡ Ok head
+    → body_at odd ms ≡ Ok body → back_at head.front body.middle odd ms ≡ Ok described
+    → origin ≡ origin_by head.entry body.origin body.middle.hash → node_at d ≡ Ok (record { described = described; origin = origin })
 unfolding node_at
 node_read d ms odd head body described origin members is first second third by = rw (members, ← is, first, second, third, by) refl

@@ -85,7 +85,8 @@ abbrev pub IsHashFault : List LockedNode → LockFault → Type 0
 IsHashFault nodes NotJson = ⊥
 IsHashFault nodes (WrongKind at) = ⊥
 IsHashFault nodes (TwiceNamed name) = ⊥
-IsHashFault nodes (HashDiffers written computed) = (entry : Record) × (wrongly_hashed nodes ≡ Some entry) × (written ≡ entry.hash) × (computed ≡ right_hash entry)
+IsHashFault nodes (HashDiffers written computed) = (entry : Record) × (wrongly_hashed nodes ≡ Some entry) × (written ≡ entry.hash)
+    × (computed ≡ right_hash entry)
 IsHashFault nodes (Dangling parent child) = ⊥
 IsHashFault nodes OutOfMemory = Unit {0}
 
@@ -96,7 +97,8 @@ IsFileFault file (WrongKind at) = ⊥
 IsFileFault file (TwiceNamed name) = twice_named file.nodes ≡ Some name
 IsFileFault file (HashDiffers written computed) = (twice_named file.nodes ≡ None)
     × ((entry : Record) × (wrongly_hashed file.nodes ≡ Some entry) × (written ≡ entry.hash) × (computed ≡ right_hash entry))
-IsFileFault file (Dangling parent child) = (twice_named file.nodes ≡ None) × (wrongly_hashed file.nodes ≡ None) × (dangling file ≡ Some (parent, child))
+IsFileFault file (Dangling parent child) = (twice_named file.nodes ≡ None) × (wrongly_hashed file.nodes ≡ None)
+    × (dangling file ≡ Some (parent, child))
 IsFileFault file OutOfMemory = Unit {0}
 
 -- the first value that has not its form

@@ -45,7 +45,8 @@ origin_by (Some entry) text hash = External entry
 origin_by None text hash = if bytes_eq text (codes "installed") then Installed hash else Built
 
 abbrev pub node_keys : List Text
-node_keys = codes "compiler" ∷ codes "dependencies" ∷ codes "entry" ∷ codes "external" ∷ codes "hash" ∷ codes "name" ∷ codes "origin" ∷ codes "os" ∷ codes "target" ∷ codes "variants" ∷ codes "version" ∷ []
+node_keys = codes "compiler" ∷ codes "dependencies" ∷ codes "entry" ∷ codes "external" ∷ codes "hash" ∷ codes "name" ∷ codes "origin"
+    ∷ codes "os" ∷ codes "target" ∷ codes "variants" ∷ codes "version" ∷ []
 
 -- its keys up to `entry`
 unfoldable pub head_at : Option Text → Members → Reading Head

@@ -33,7 +33,8 @@ graph_nodes nodes = map graph_node nodes
 pub record IsGraphOf (file : File) (g : Content) : Type 0 where
   pub whole : IsGraph g
   pub nodes : (name : Text) → node_of g name ≡ find_key byte_cmp name_of (graph_nodes file.nodes) name
-  pub edges : (ends : Text × Text) → find_key pair_cmp ends_of g.edges ends ≡ find_key pair_cmp ends_of (all_edges file.nodes file.nodes) ends
+  pub edges : (ends : Text × Text) → find_key pair_cmp ends_of g.edges ends ≡ find_key pair_cmp ends_of
+      (all_edges file.nodes file.nodes) ends
   pub providers : (name : Text) → find_key byte_cmp virtual_of g.providers name ≡ find_key byte_cmp virtual_of file.providers name
 
 -- a name with its hash

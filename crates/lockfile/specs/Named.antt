@@ -26,7 +26,8 @@ later (Some first) second = Some first
 
 -- an element was added unless its key was there: what was found behind the old ones first is found behind the new ones
 abbrev pub Collected : {X K : Type 0} → (K → K → Ordering) → (X → K) → List X → X → List X → Type 0
-Collected {X} {K} cmp key old x new = (rest : List X) (k : K) → later (find_key cmp key new k) (find_key cmp key rest k) ≡ later (find_key cmp key old k) (find_key cmp key (x ∷ rest) k)
+Collected {X} {K} cmp key old x new = (rest : List X) (k : K)
+    → later (find_key cmp key new k) (find_key cmp key rest k) ≡ later (find_key cmp key old k) (find_key cmp key (x ∷ rest) k)
 
 -- what is found in those that were added, or else in the rest, is found first in all
 abbrev pub Collects : {X K : Type 0} → (K → K → Ordering) → (X → K) → List X → List X → List X → Type 0

@@ -105,7 +105,8 @@ fn edge_to(
     child: &(Hash, Kinds),
     name: &Word,
 ) -> Result<Edge, AllocError>
-    ensures { IfOk result (λ edge. Some edge ≡ edge_to node.now.described.name child.now (Some name.now)) }
+    ensures { IfOk result (λ edge. Some edge ≡ edge_to node.now.described.name child.now
+        (Some name.now)) }
 {
     Ok(Edge {
         parent: node.described.name.duplicate(alloc)?,

@@ -58,7 +58,8 @@ fn read_providers(
     odd: Option<&str>,
     nodes: &List<LockedNode>,
 ) -> Result<List<(Word, Word)>, JsonFault>
-    ensures { Gives result (providers_at nodes.now (option_map (λ k. k.now) odd.entry) (members_view members.now.entries)) }
+    ensures { Gives result (providers_at nodes.now (option_map (λ k. k.now) odd.entry)
+        (members_view members.now.entries)) }
 {
     let names = names_in(alloc, nodes.as_slice())?;
     let form = MapOf {
@@ -74,7 +75,8 @@ fn read_roots(
     members: &Map<String, Value>,
     odd: Option<&str>,
 ) -> Result<List<(Word, Hash)>, JsonFault>
-    ensures { Gives result (roots_at (option_map (λ k. k.now) odd.entry) (members_view members.now.entries)) }
+    ensures { Gives result (roots_at (option_map (λ k. k.now) odd.entry)
+        (members_view members.now.entries)) }
 {
     let roots = field(alloc, members, odd, "roots", &ListOf(RootForm))?;
     let _version = field(alloc, members, odd, "version", &VersionOne)?;

@@ -45,7 +45,8 @@ fn whole(graph: &Graph)
 }
 
 fn graph_of_nodes(alloc: Global, nodes: &[LockedNode]) -> Result<Graph, AllocError>
-    ensures nodes { IfOk result (λ g. (name : List ℕ) → node_of g name ≡ find_key byte_cmp name_of (graph_nodes nodes.now) name) }
+    ensures nodes { IfOk result (λ g. (name : List ℕ)
+        → node_of g name ≡ find_key byte_cmp name_of (graph_nodes nodes.now) name) }
     ensures edges { IfOk result (λ g. g.edges ≡ []) }
     ensures providers { IfOk result (λ g. g.providers ≡ []) }
 {
@@ -85,7 +86,9 @@ fn graph_node(alloc: Global, node: &LockedNode) -> Result<Node, AllocError>
 fn add_edges(alloc: Global, graph: &mut Graph, edges: &[Edge]) -> Result<(), AllocError>
     requires none { graph.old.edges ≡ [] }
     requires ends { All (HasEnds graph.old) edges.now }
-    ensures edges { OnOk result ((ends : List ℕ × List ℕ) → find_key pair_cmp ends_of graph.new.edges ends ≡ find_key pair_cmp ends_of edges.now ends) }
+    ensures edges { OnOk result ((ends : List ℕ × List ℕ)
+        → find_key pair_cmp ends_of graph.new.edges ends ≡ find_key pair_cmp ends_of
+        edges.now ends) }
     ensures nodes { OnOk result (graph.new.nodes ≡ graph.old.nodes) }
     ensures providers { OnOk result (graph.new.providers ≡ graph.old.providers) }
 {
@@ -123,7 +126,9 @@ fn add_providers(
 ) -> Result<(), AllocError>
     requires none { graph.old.providers ≡ [] }
     requires nodes { All (λ provider. HasNode graph.old provider.1) providers.now }
-    ensures providers { OnOk result ((name : List ℕ) → find_key byte_cmp virtual_of graph.new.providers name ≡ find_key byte_cmp virtual_of providers.now name) }
+    ensures providers { OnOk result ((name : List ℕ)
+        → find_key byte_cmp virtual_of graph.new.providers name ≡ find_key byte_cmp virtual_of
+        providers.now name) }
     ensures nodes { OnOk result (graph.new.nodes ≡ graph.old.nodes) }
     ensures edges { OnOk result (graph.new.edges ≡ graph.old.edges) }
 {
@@ -137,7 +142,8 @@ fn add_providers(
 
 fn push_provider(graph: &mut Graph, name: Word, by: Word) -> Result<(), AllocError>
     requires { HasNode graph.old by }
-    ensures providers { OnOk result (Collected byte_cmp virtual_of graph.old.providers (name, by) graph.new.providers) }
+    ensures providers { OnOk result
+        (Collected byte_cmp virtual_of graph.old.providers (name, by) graph.new.providers) }
     ensures nodes { OnOk result (graph.new.nodes ≡ graph.old.nodes) }
     ensures edges { OnOk result (graph.new.edges ≡ graph.old.edges) }
 {
@@ -163,7 +169,8 @@ pub(crate) fn hashes_of(
 fn push_hash(hashes: &mut Vec<(Word, Hash)>, name: Word, hash: Hash) -> Result<(), AllocError>
     requires { IsInOrder byte_cmp (λ h. h.0) hashes.old.items }
     ensures order { OnOk result (IsInOrder byte_cmp (λ h. h.0) hashes.new.items) }
-    ensures found { OnOk result (Collected byte_cmp (λ h. h.0) hashes.old.items (name, hash) hashes.new.items) }
+    ensures found { OnOk result (Collected byte_cmp (λ h. h.0) hashes.old.items (name, hash)
+        hashes.new.items) }
 {
     let added = insert(hashes, (name, hash))?;
     Ok(())

@@ -48,7 +48,8 @@ pub fn read_lock(alloc: Global, bytes: &[u8]) -> Result<Lock, LockFault>
 }
 
 fn read_value(alloc: Global, value: &Value) -> Result<Lock, LockFault>
-    ensures found { IfOk result (λ lock. (file : File) × (file_at (view value.now) ≡ Ok file) × IsLockOf file lock) }
+    ensures found { IfOk result (λ lock. (file : File) × (file_at (view value.now) ≡ Ok file)
+        × IsLockOf file lock) }
     ensures fault { IfErr result (IsFaultOf (view value.now)) }
 {
     match FileForm.read(alloc, value) {

@@ -33,7 +33,9 @@ fn add_name(
     names: &mut BTreeMap<String, Word>,
     node: &LockedNode,
 ) -> Result<(), AllocError>
-    ensures { OnOk result ((q : List ℕ) → get_by_text names.new q ≡ update bytes_eq (get_by_text names.old) node.now.described.hash (Some node.now.described.name) q) }
+    ensures { OnOk result ((q : List ℕ)
+        → get_by_text names.new q ≡ update bytes_eq (get_by_text names.old) node.now.described.hash
+        (Some node.now.described.name) q) }
 {
     let hash = String::from_str(alloc, node.described.hash.as_str())?;
     let name = node.described.name.duplicate(alloc)?;

@@ -76,7 +76,8 @@ fn read_head(
     members: &Map<String, Value>,
     odd: Option<&str>,
 ) -> Result<Head, JsonFault>
-    ensures { Gives result (head_at (option_map (λ k. k.now) odd.entry) (members_view members.now.entries)) }
+    ensures { Gives result (head_at (option_map (λ k. k.now) odd.entry)
+        (members_view members.now.entries)) }
 {
     let front = read_front(alloc, members, odd)?;
     let form = EntryForm {
@@ -92,7 +93,8 @@ fn read_body(
     members: &Map<String, Value>,
     odd: Option<&str>,
 ) -> Result<Body, JsonFault>
-    ensures { Gives result (body_at (option_map (λ k. k.now) odd.entry) (members_view members.now.entries)) }
+    ensures { Gives result (body_at (option_map (λ k. k.now) odd.entry)
+        (members_view members.now.entries)) }
 {
     let middle = read_middle(alloc, members, odd)?;
     let origin = field(alloc, members, odd, "origin", &Text(OriginText))?;
@@ -109,7 +111,8 @@ fn is_external(members: &Map<String, Value>) -> bool
 }
 
 fn origin_in<'v>(members: &'v Map<String, Value>) -> Option<&'v str>
-    ensures { option_map (λ t. t.now) result ≡ option_and_then as_str (get_member (codes "origin") (members_view members.now.entries)) }
+    ensures { option_map (λ t. t.now) result ≡ option_and_then as_str
+        (get_member (codes "origin") (members_view members.now.entries)) }
 {
     member(members, "origin")?.as_str()
 }

@@ -15,9 +15,11 @@ use spec_hash::Hash;
 /// want of memory alone.
 pub fn lock_laws()
     ensures one_reading { (bytes : List ℕ) (a b : Lock) → IsLock bytes a → IsLock bytes b → a ≡ b }
-    ensures one_fault { (bytes : List ℕ) (f g : LockFault) → IsLockFault bytes f → IsLockFault bytes g
+    ensures one_fault { (bytes : List ℕ) (f g : LockFault) → IsLockFault bytes f
+        → IsLockFault bytes g
         → f ≢ OutOfMemory → g ≢ OutOfMemory → f ≡ g }
-    ensures right { (bytes : List ℕ) (lock : Lock) (f : LockFault) → IsLock bytes lock → IsLockFault bytes f
+    ensures right { (bytes : List ℕ) (lock : Lock) (f : LockFault) → IsLock bytes lock
+        → IsLockFault bytes f
         → f ≡ OutOfMemory }
 {
     graph_laws();

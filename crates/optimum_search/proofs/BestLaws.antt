@@ -12,7 +12,10 @@ use Rattle.optimum_search.specs.declared.found.Found.TheVariants.{Optimal, Refut
 use Rattle.optimum_search.specs.Finding.{IsFound, IsBest}
 use Rattle.clause_store.proofs.Entries.{Meets-all}
 
-pub best : (s : Clauses) (bits : List Lit) (budget : ℕ) (found : Found) → AllClauses (clauses_of s.entries) → IsFound s bits budget found → IsBest s bits budget found
-best s bits budget (Optimal model log) i f = λ v m b. certificate_least s.vars (clauses_of s.entries) bits (bits_at (values_in model) bits) log v i f.2 ((Meets-all v s.entries).0 m) b
+pub best : (s : Clauses) (bits : List Lit) (budget : ℕ) (found : Found) → AllClauses (clauses_of s.entries) → IsFound s bits budget found
+    → IsBest s bits budget found
+best s bits budget (Optimal model log) i f =
+    λ v m b. certificate_least s.vars (clauses_of s.entries) bits (bits_at (values_in model) bits) log v i f.2
+    ((Meets-all v s.entries).0 m) b
 best s bits budget (Refuted log) i f = λ v m. refutation_none s.vars (clauses_of s.entries) bits log v i f.0 ((Meets-all v s.entries).0 m)
 best s bits budget (Spent log) i f = spent_budget s.vars (clauses_of s.entries) bits budget log f

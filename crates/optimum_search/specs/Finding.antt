@@ -17,7 +17,8 @@ MeetsAll v s = Meets (λ d. true) v s.entries
 -- what is learnt is over the variables of the clauses, so that the log may be written
 abbrev pub IsFound : Clauses → List Lit → ℕ → Found → Type 0
 IsFound s bits budget (Optimal model log) =
-    (length model ≡ s.vars) × MeetsAll (values_in model) s × IsCertificate s.vars (clauses_of s.entries) bits (bits_at (values_in model) bits) log × AreOver s.vars log
+    (length model ≡ s.vars) × MeetsAll (values_in model) s
+    × IsCertificate s.vars (clauses_of s.entries) bits (bits_at (values_in model) bits) log × AreOver s.vars log
 IsFound s bits budget (Refuted log) = IsRefutation s.vars (clauses_of s.entries) bits log × AreOver s.vars log
 IsFound s bits budget (Spent log) = IsSpentLog s.vars (clauses_of s.entries) bits budget log
 

@@ -16,9 +16,13 @@ use Rattle.outside_desk.specs.FileMap.{file_of, files_of}
 abbrev pub items_of : Option (Vec ℕ Global) → Option (List ℕ)
 items_of file = option_map (λ v. v.items) file
 
-pub find_file : (es : List (String Global × Vec ℕ Global)) (q : List ℕ) → find (slice_cmp nat_cmp) q (map file_of es) ≡ items_of (lookup (is_at (text_cmp q)) es)
+pub find_file : (es : List (String Global × Vec ℕ Global)) (q : List ℕ)
+    → find (slice_cmp nat_cmp) q (map file_of es) ≡ items_of (lookup (is_at (text_cmp q)) es)
 find_file [] q = refl
-find_file (e ∷ es) q = rw (find_file es q) (elim (is_at (text_cmp q) e.0) as (λ b. cond b (Some e.1.items) (items_of (lookup (is_at (text_cmp q)) es)) ≡ items_of (cond b (Some e.1) (lookup (is_at (text_cmp q)) es))) [ true ↦ refl | false ↦ refl ])
+find_file (e ∷ es) q =
+    rw (find_file es q) (elim (is_at (text_cmp q) e.0) as
+    (λ b. cond b (Some e.1.items) (items_of (lookup (is_at (text_cmp q)) es))
+    ≡ items_of (cond b (Some e.1) (lookup (is_at (text_cmp q)) es))) [ true ↦ refl | false ↦ refl ])
 
 -- what the files have at a path
 pub get-files_of : (m : BTreeMap (String Global) (Vec ℕ Global)) (q : List ℕ) → get (files_of m) q ≡ items_of (get_by_text m q)
@@ -29,7 +33,8 @@ chosen_items true v f = refl
 chosen_items false v f = refl
 
 -- a map that was changed at one path stands for the files with that file
-pub files_of-put : (m n : BTreeMap (String Global) (Vec ℕ Global)) (path : List ℕ) (v : Vec ℕ Global) → ((q : List ℕ) → get_by_text n q ≡ update bytes_eq (get_by_text m) path (Some v) q) → files_of n ≡ insert (files_of m) path v.items
+pub files_of-put : (m n : BTreeMap (String Global) (Vec ℕ Global)) (path : List ℕ) (v : Vec ℕ Global)
+    → ((q : List ℕ) → get_by_text n q ≡ update bytes_eq (get_by_text m) path (Some v) q) → files_of n ≡ insert (files_of m) path v.items
 files_of-put m n path v h = same_map nat_list_cmp_total (slice_cmp-IsAntisymmetric nat_cmp-IsAntisymmetric) _ _ (λ q.
     get-files_of n q ∙ ap items_of (h q) ∙ chosen_items (bytes_eq path q) v (get_by_text m q)
     ∙ ap (λ f. cond (bytes_eq path q) (Some v.items) f) (sym (get-files_of m q))

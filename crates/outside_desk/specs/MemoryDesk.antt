@@ -16,7 +16,14 @@ pub record DeskState : Type 0 where
   pub put_faults : ℕ
 
 abbrev pub desk_state : MemoryDesk → DeskState
-desk_state desk = record { files = desk.map; next_call = desk.calls.next; failing = desk.calls.failing.items; faults = desk.faults; put_faults = desk.put_faults }
+desk_state desk = record {
+  files = desk.map;
+  next_call = desk.calls.next;
+  failing = desk.calls.failing.items;
+  faults =
+      desk.faults;
+  put_faults = desk.put_faults;
+}
 
 -- the next call is to fail
 abbrev pub IsToFail : DeskState → Type 0
@@ -36,7 +43,11 @@ first_half bytes = take (length bytes / 2) bytes
 
 -- a put that failed left the first half of the bytes
 abbrev pub after_put_fault : DeskState → List ℕ → List ℕ → DeskState
-after_put_fault state path bytes = record (counted state) { files = insert state.files path (first_half bytes); put_faults = one_more state.put_faults }
+after_put_fault state path bytes = record (counted state) {
+  files = insert state.files path (first_half bytes);
+  put_faults =
+      one_more state.put_faults;
+}
 
 -- a put left the bytes
 abbrev pub after_put : DeskState → List ℕ → List ℕ → DeskState

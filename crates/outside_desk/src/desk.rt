@@ -40,9 +40,11 @@ pub trait Desk {
         out: &mut [u8],
     ) -> Result<usize, DeskFault>
         ensures bound { IfOk result (λ n. n ≤ length out.new) }
-        ensures bytes { IfSome (files self.old) (λ m. ReadsAt (get m path.now) from out.new result) }
+        ensures bytes { IfSome (files self.old)
+            (λ m. ReadsAt (get m path.now) from out.new result) }
         ensures same { files self.new ≡ files self.old }
-        ensures cause { Counts (faults self.old) (faults self.new) (IsErrOf result DeskFault.Failed) }
+        ensures cause { Counts (faults self.old) (faults self.new)
+            (IsErrOf result DeskFault.Failed) }
         ensures put_faults { put_faults self.new ≡ put_faults self.old };
 
     /// The names in the folder at `path`: the distinct texts that stand between `path/` and the next `/`,
@@ -53,7 +55,8 @@ pub trait Desk {
         ensures names { IfSome (files self.old) (λ m. Lists m path.now result) }
         ensures order { IfOk result (λ names. AreInOrder (map string_bytes names.items)) }
         ensures same { files self.new ≡ files self.old }
-        ensures cause { Counts (faults self.old) (faults self.new) (IsErrOf result DeskFault.Failed) }
+        ensures cause { Counts (faults self.old) (faults self.new)
+            (IsErrOf result DeskFault.Failed) }
         ensures put_faults { put_faults self.new ≡ put_faults self.old };
 
     /// Makes the file at `path` hold `bytes`, and leaves all other files.
@@ -62,10 +65,12 @@ pub trait Desk {
     /// changed. Never `Missing`.
     fn put(&mut self, alloc: Global, path: &str, bytes: &[u8]) -> Result<(), DeskFault>
         ensures ok { OnOk result (files self.new ≡ with_file (files self.old) path.now bytes.now) }
-        ensures failed { IsErrOf result DeskFault.Failed → MayHold (files self.old) (files self.new) path.now bytes.now }
+        ensures failed { IsErrOf result DeskFault.Failed
+            → MayHold (files self.old) (files self.new) path.now bytes.now }
         ensures memory { IsErrOf result DeskFault.OutOfMemory → files self.new ≡ files self.old }
         ensures never_missing { IsErrOf result DeskFault.Missing → ⊥ }
-        ensures cause { Counts (put_faults self.old) (put_faults self.new) (IsErrOf result DeskFault.Failed) }
+        ensures cause { Counts (put_faults self.old) (put_faults self.new)
+            (IsErrOf result DeskFault.Failed) }
         ensures faults { faults self.new ≡ faults self.old };
 
     /// Each count fits 64 bits.

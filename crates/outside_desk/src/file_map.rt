@@ -73,7 +73,8 @@ impl FileMap {
 
     /// The names in a folder.
     fn names_below(&self, folder: &str) -> Result<Vec<String>, AllocError>
-        ensures names { IfOk result (λ names. map_list string_bytes names.items ≡ names_in self.now folder.now) }
+        ensures names { IfOk result (λ names. map_list string_bytes names.items
+            ≡ names_in self.now folder.now) }
         ensures order { IfOk result (λ names. AreInOrder (map_list string_bytes names.items)) }
     {
         let mut names = Names::new(self.alloc);

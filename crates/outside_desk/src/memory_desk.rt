@@ -36,7 +36,14 @@ impl MemoryDesk {
 
     /// A desk with no files, no calls that are to fail and no faults.
     pub fn new(alloc: Global) -> MemoryDesk
-        ensures { desk_state result ≡ record { files = map.empty; next_call = 0; failing = []; faults = 0; put_faults = 0 } }
+        ensures { desk_state result ≡ record {
+          files = map.empty;
+          next_call = 0;
+          failing =
+              [];
+          faults = 0;
+          put_faults = 0;
+        } }
     {
         MemoryDesk {
             map: FileMap::new(alloc),
@@ -48,7 +55,10 @@ impl MemoryDesk {
 
     /// Makes the file at the path hold the bytes, which is no call. Where memory is short, nothing changes.
     pub fn add(&mut self, path: &str, bytes: &[u8]) -> Result<(), AllocError>
-        ensures ok { OnOk result (desk_state self.new ≡ record (desk_state self.old) { files = map.insert (desk_state self.old).files path.now bytes.now }) }
+        ensures ok { OnOk result (desk_state self.new ≡ record (desk_state self.old) {
+          files =
+              map.insert (desk_state self.old).files path.now bytes.now;
+        }) }
         ensures err { OnErr result (desk_state self.new ≡ desk_state self.old) }
     {
         self.map.put(path, bytes)
@@ -56,7 +66,10 @@ impl MemoryDesk {
 
     /// Lets the call of that number fail. The first call has the number 0. Where memory is short, nothing changes.
     pub fn fail_call(&mut self, call: u64) -> Result<(), AllocError>
-        ensures ok { OnOk result (desk_state self.new ≡ record (desk_state self.old) { failing = (desk_state self.old).failing ++ call ∷ [] }) }
+        ensures ok { OnOk result (desk_state self.new ≡ record (desk_state self.old) {
+          failing =
+              (desk_state self.old).failing ++ call ∷ [];
+        }) }
         ensures err { OnErr result (desk_state self.new ≡ desk_state self.old) }
     {
         self.calls.fail(call)

@@ -25,7 +25,13 @@ impl MemorySink {
 
     /// A sink with nothing said, no calls that are to fail and no faults.
     pub fn new(alloc: Global) -> MemorySink
-        ensures { sink_state result ≡ record { said = []; next_call = 0; failing = []; faults = 0 } }
+        ensures { sink_state result ≡ record {
+          said = [];
+          next_call = 0;
+          failing =
+              [];
+          faults = 0;
+        } }
     {
         MemorySink {
             bytes: Vec::new(alloc),
@@ -36,7 +42,10 @@ impl MemorySink {
 
     /// Lets the call of that number fail. The first call has the number 0. Where memory is short, nothing changes.
     pub fn fail_call(&mut self, call: u64) -> Result<(), AllocError>
-        ensures ok { OnOk result (sink_state self.new ≡ record (sink_state self.old) { failing = (sink_state self.old).failing ++ call ∷ [] }) }
+        ensures ok { OnOk result (sink_state self.new ≡ record (sink_state self.old) {
+          failing =
+              (sink_state self.old).failing ++ call ∷ [];
+        }) }
         ensures err { OnErr result (sink_state self.new ≡ sink_state self.old) }
     {
         self.calls.fail(call)

@@ -109,7 +109,8 @@ impl<'a, R: Files> RealDesk<'a, R, R::File> {
 
     /// The fault for an error of a reading or a listing, which is counted where it is `Failed`.
     fn fault(&mut self, error: &Error) -> DeskFault
-        ensures faults { CountsEach (real_faults self.old) (real_faults self.new) (result ≡ DeskFault.Failed) }
+        ensures faults { CountsEach (real_faults self.old) (real_faults self.new)
+            (result ≡ DeskFault.Failed) }
         ensures put_faults { real_put_faults self.new ≡ real_put_faults self.old }
     {
         let fault = fault_of(error);
@@ -141,7 +142,8 @@ impl<'a, R: Files> Desk for RealDesk<'a, R, R::File> {
         out: &mut [u8],
     ) -> Result<usize, DeskFault>
         ensures bound { IfOk result (λ n. n ≤ length out.new) }
-        ensures faults { CountsEach (real_faults self.old) (real_faults self.new) (IsErrOf result DeskFault.Failed) }
+        ensures faults { CountsEach (real_faults self.old) (real_faults self.new)
+            (IsErrOf result DeskFault.Failed) }
         ensures put_faults { real_put_faults self.new ≡ real_put_faults self.old }
     {
         match self.read_piece(alloc, path, from, out) {
@@ -152,7 +154,8 @@ impl<'a, R: Files> Desk for RealDesk<'a, R, R::File> {
 
     fn list(&mut self, alloc: Global, path: &str) -> Result<Vec<String>, DeskFault>
         ensures order { IfOk result (λ names. AreInOrder (map string_bytes names.items)) }
-        ensures faults { CountsEach (real_faults self.old) (real_faults self.new) (IsErrOf result DeskFault.Failed) }
+        ensures faults { CountsEach (real_faults self.old) (real_faults self.new)
+            (IsErrOf result DeskFault.Failed) }
         ensures put_faults { real_put_faults self.new ≡ real_put_faults self.old }
     {
         match list_folder(alloc, self.rt, path) {
@@ -163,7 +166,8 @@ impl<'a, R: Files> Desk for RealDesk<'a, R, R::File> {
 
     fn put(&mut self, _: Global, path: &str, bytes: &[u8]) -> Result<(), DeskFault>
         ensures never_missing { IsErrOf result DeskFault.Missing → ⊥ }
-        ensures put_faults { CountsEach (real_put_faults self.old) (real_put_faults self.new) (IsErrOf result DeskFault.Failed) }
+        ensures put_faults { CountsEach (real_put_faults self.old) (real_put_faults self.new)
+            (IsErrOf result DeskFault.Failed) }
         ensures faults { real_faults self.new ≡ real_faults self.old }
     {
         match put_file(self.rt, path, bytes) {

@@ -68,7 +68,8 @@ fn read_once<F: Read>(file: &mut F, out: &mut [u8]) -> Result<usize, Error>
 /// Writes all of the bytes, or a front of them and then an error. A writing that takes none is an error.
 pub fn write_whole<W: Write>(writer: &mut W, bytes: &[u8]) -> Result<(), Error>
     ensures ok { OnOk result (Appends (W.contents writer.old) (W.contents writer.new) bytes.now) }
-    ensures err { OnErr result (AppendsPart (W.contents writer.old) (W.contents writer.new) bytes.now) }
+    ensures err { OnErr result (AppendsPart (W.contents writer.old)
+        (W.contents writer.new) bytes.now) }
 {
     let mut rest = bytes;
     'writings: for _ in 0..u64::MAX {

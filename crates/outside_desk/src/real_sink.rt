@@ -46,10 +46,13 @@ impl<W: Write + Drop> Sink for RealSink<W> {
     ghost faults_fit = { λ sink. sink.faults_fit };
 
     fn say(&mut self, _: Global, bytes: &[u8]) -> Result<(), SinkFault>
-        ensures ok { OnOk result (Appends (W.contents (real_sink_writer self.old)) (W.contents (real_sink_writer self.new)) bytes.now) }
-        ensures err { OnErr result (AppendsPart (W.contents (real_sink_writer self.old)) (W.contents (real_sink_writer self.new)) bytes.now) }
+        ensures ok { OnOk result (Appends (W.contents (real_sink_writer self.old))
+            (W.contents (real_sink_writer self.new)) bytes.now) }
+        ensures err { OnErr result (AppendsPart (W.contents (real_sink_writer self.old))
+            (W.contents (real_sink_writer self.new)) bytes.now) }
         ensures memory { IsErrOf result SinkFault.OutOfMemory → ⊥ }
-        ensures faults { CountsEach (real_sink_faults self.old) (real_sink_faults self.new) (IsErrOf result SinkFault.Failed) }
+        ensures faults { CountsEach (real_sink_faults self.old) (real_sink_faults self.new)
+            (IsErrOf result SinkFault.Failed) }
     {
         match write_whole(&mut self.writer, bytes) {
             Ok(()) => Ok(()),

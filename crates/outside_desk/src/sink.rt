@@ -26,9 +26,11 @@ pub trait Sink {
     /// After `Failed` a front of them was appended. After `OutOfMemory` none was.
     fn say(&mut self, alloc: Global, bytes: &[u8]) -> Result<(), SinkFault>
         ensures ok { OnOk result (said self.new ≡ and_said (said self.old) bytes.now) }
-        ensures failed { IsErrOf result SinkFault.Failed → SaysPart (said self.old) (said self.new) bytes.now }
+        ensures failed { IsErrOf result SinkFault.Failed
+            → SaysPart (said self.old) (said self.new) bytes.now }
         ensures memory { IsErrOf result SinkFault.OutOfMemory → said self.new ≡ said self.old }
-        ensures cause { Counts (faults self.old) (faults self.new) (IsErrOf result SinkFault.Failed) };
+        ensures cause { Counts (faults self.old) (faults self.new)
+            (IsErrOf result SinkFault.Failed) };
 
     /// The count fits 64 bits.
     ghost faults_fit: { (sink : Self) → faults sink < 2 ^ 64 };

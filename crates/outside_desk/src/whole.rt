@@ -23,7 +23,8 @@ pub fn read_whole<D: Desk>(
     ensures bytes { IfSome (D.files desk.old) (λ m. ReadsWhole (get m path.now) limit result) }
     ensures limit { IfOk result (λ v. length v.items ≤ limit) }
     ensures same { D.files desk.new ≡ D.files desk.old }
-    ensures cause { Counts (D.faults desk.old) (D.faults desk.new) (IsErrOf result ReadFault.Failed) }
+    ensures cause { Counts (D.faults desk.old) (D.faults desk.new)
+        (IsErrOf result ReadFault.Failed) }
     ensures put_faults { D.put_faults desk.new ≡ D.put_faults desk.old }
 {
     let mut bytes = Vec::new(alloc);

@@ -16,9 +16,12 @@ use Rattle.reuse_db.specs.declared.record.Record.{Record}
 use Rattle.problem.specs.Assembled.{is_assembled}
 use Rattle.problem.specs.Problems.{problem_of}
 
-pub assembled : (recipes : List Recipe) (settings : Settings) (database : List Record) (roots : List Spec) → AreInOrder recipes → list_all is_right_recipe recipes ≡ true → list_all (λ spec. is_some spec.top.name) roots ≡ true → is_assembled (problem_of recipes settings database roots) ≡ true
+pub assembled : (recipes : List Recipe) (settings : Settings) (database : List Record) (roots : List Spec) → AreInOrder recipes
+    → list_all is_right_recipe recipes ≡ true → list_all (λ spec. is_some spec.top.name) roots ≡ true
+    → is_assembled (problem_of recipes settings database roots) ≡ true
 unfolding is_assembled
 assembled recipes settings database roots order right named =
     let names = map (λ (recipe : Recipe). recipe.name) recipes in
     let rising : rises byte_cmp names ≡ true = (rises_decides byte_cmp nat_list_cmp_total names).1 order in
-    and_from (rises byte_cmp names && list_all is_right_recipe recipes) (list_all (λ spec. is_some spec.top.name) roots) (and_from (rises byte_cmp names) (list_all is_right_recipe recipes) rising right) named
+    and_from (rises byte_cmp names && list_all is_right_recipe recipes) (list_all (λ spec. is_some spec.top.name) roots)
+    (and_from (rises byte_cmp names) (list_all is_right_recipe recipes) rising right) named

@@ -18,7 +18,8 @@ exact a b e = grind arith
 
 in_order : (numbers kept : List ℕ) → IsStrictlySortedBy nat_cmp kept → IsStrictlySortedBy nat_cmp (fold (insert_key nat_cmp) kept numbers)
 in_order [] kept ordered = ordered
-in_order (n ∷ numbers) kept ordered = in_order numbers (insert_key nat_cmp kept n) (IsStrictlySortedBy-insert_key nat_cmp_total kept n ordered)
+in_order (n ∷ numbers) kept ordered = in_order numbers (insert_key nat_cmp kept n)
+    (IsStrictlySortedBy-insert_key nat_cmp_total kept n ordered)
 
 has : (numbers kept : List ℕ) (q : ℕ) → Contains (fold (insert_key nat_cmp) kept numbers) q ↔ (Contains numbers q ⊎ Contains kept q)
 has [] kept q = (λ h. inr h, λ h. ⊎_elim (λ no. absurd (lacks_all q no)) (λ there. there) h)
@@ -26,28 +27,36 @@ has (n ∷ numbers) kept q =
     let cons = Contains-cons n numbers q in
     let adds = Contains-insert_key nat_cmp_total exact kept n q in
     let rest = has numbers (insert_key nat_cmp kept n) q in (
-      λ h. ⊎_elim (λ later. inl (cons.1 (inr later))) (λ there. ⊎_elim (λ is. inl (cons.1 (inl is))) (λ old. inr old) (adds.0 there)) (rest.0 h),
-      λ h. ⊎_elim (λ new. ⊎_elim (λ is. rest.1 (inr (adds.1 (inl is)))) (λ later. rest.1 (inl later)) (cons.0 new)) (λ old. rest.1 (inr (adds.1 (inr old)))) h,
+      λ h. ⊎_elim (λ later. inl (cons.1 (inr later))) (λ there. ⊎_elim (λ is. inl (cons.1 (inl is))) (λ old. inr old) (adds.0 there))
+          (rest.0 h),
+      λ h. ⊎_elim (λ new. ⊎_elim (λ is. rest.1 (inr (adds.1 (inl is)))) (λ later. rest.1 (inl later)) (cons.0 new))
+          (λ old. rest.1 (inr (adds.1 (inr old)))) h,
     )
 
-pub once : (numbers sorted : List ℕ) → IsPermutation numbers sorted → IsSorted nat_cmp sorted → dedup (λ x y. x == y) sorted ≡ fold (insert_key nat_cmp) [] numbers
-once numbers sorted moved order = same_keys nat_cmp_total _ _ (IsStrictlySortedBy-dedup nat_cmp_total unsigned_ties sorted order) (in_order numbers [] (rises_none nat_cmp)) (λ q.
+pub once : (numbers sorted : List ℕ) → IsPermutation numbers sorted → IsSorted nat_cmp sorted
+    → dedup (λ x y. x == y) sorted ≡ fold (insert_key nat_cmp) [] numbers
+once numbers sorted moved order = same_keys nat_cmp_total _ _ (IsStrictlySortedBy-dedup nat_cmp_total unsigned_ties sorted order)
+    (in_order numbers [] (rises_none nat_cmp)) (λ q.
     let all = has numbers [] q in (
-      λ h. all.1 (inl (Contains-permutation sorted numbers q (IsPermutation-sym numbers sorted moved) (Contains-from_dedup (λ x y. x == y) sorted q h))),
-      λ h. ⊎_elim (λ there. Contains-dedup nat_eq_equiv (λ x y e. (unsigned_Decides x y).0 e) sorted q (Contains-permutation numbers sorted q moved there)) (λ no. absurd (lacks_all q no)) (all.0 h),
+      λ h. all.1 (inl (Contains-permutation sorted numbers q (IsPermutation-sym numbers sorted moved)
+          (Contains-from_dedup (λ x y. x == y) sorted q h))),
+      λ h. ⊎_elim (λ there. Contains-dedup nat_eq_equiv (λ x y e. (unsigned_Decides x y).0 e) sorted q
+          (Contains-permutation numbers sorted q moved there)) (λ no. absurd (lacks_all q no)) (all.0 h),
     ))
 
 -- ---- the roots
 
 range_more : (a n : ℕ) → range_with_len a (suc n) ≡ range_with_len a n ++ (a + n) ∷ []
 range_more a zero = let e : a ≡ a + 0 = omega arith in ap (λ (k : ℕ). k ∷ []) e
-range_more a (suc n) = let e : a + 1 + n ≡ a + suc n = omega arith in ap (λ l. a ∷ l) (range_more (a + 1) n ∙ ap (λ (k : ℕ). range_with_len (a + 1) n ++ k ∷ []) e)
+range_more a (suc n) = let e : a + 1 + n ≡ a + suc n = omega arith in
+    ap (λ l. a ∷ l) (range_more (a + 1) n ∙ ap (λ (k : ℕ). range_with_len (a + 1) n ++ k ∷ []) e)
 
 map_more : {X Y : Type 0} (f : X → Y) (xs : List X) (x : X) → map f (xs ++ x ∷ []) ≡ map f xs ++ f x ∷ []
 map_more f [] x = refl
 map_more f (y ∷ ys) x = ap (λ l. f y ∷ l) (map_more f ys x)
 
-pub roots_more : (list more : List Demand) (i : ℕ) → list ≡ map Root (range_with_len 0 i) → more ≡ list ++ Root i ∷ [] → more ≡ map Root (range_with_len 0 (i + 1))
+pub roots_more : (list more : List Demand) (i : ℕ) → list ≡ map Root (range_with_len 0 i) → more ≡ list ++ Root i ∷ []
+    → more ≡ map Root (range_with_len 0 (i + 1))
 roots_more list more i is grown =
     let next : i + 1 ≡ suc i = omega arith in
     let last : 0 + i ≡ i = omega arith in
@@ -61,5 +70,7 @@ pub flat_step : {X A : Type 0} (f : X → List A) (xs : List X) (i : ℕ) (x : X
     → more ≡ acc ++ f x → acc ++ flat_map f (drop i xs) ≡ whole → more ++ flat_map f (drop (i + 1) xs) ≡ whole
 flat_step f xs i x acc more whole lt is grown before =
     let next : suc i ≡ i + 1 = omega arith in
-    let split : drop i xs ≡ x ∷ drop (i + 1) xs = drop-cons xs i x lt ∙ ap (λ y. y ∷ drop (suc i) xs) (sym is) ∙ ap (λ (n : ℕ). x ∷ drop n xs) next in
-    ap (λ l. l ++ flat_map f (drop (i + 1) xs)) grown ∙ append_assoc acc (f x) (flat_map f (drop (i + 1) xs)) ∙ ap (λ l. acc ++ flat_map f l) (sym split) ∙ before
+    let split : drop i xs ≡ x ∷ drop (i + 1) xs = drop-cons xs i x lt ∙ ap (λ y. y ∷ drop (suc i) xs) (sym is)
+    ∙ ap (λ (n : ℕ). x ∷ drop n xs) next in
+    ap (λ l. l ++ flat_map f (drop (i + 1) xs)) grown ∙ append_assoc acc (f x) (flat_map f (drop (i + 1) xs))
+    ∙ ap (λ l. acc ++ flat_map f l) (sym split) ∙ before

@@ -1,5 +1,5 @@
 -- What holds of each problem that was put together from right parts.
-use Rattle.std.specs.Prelude.{Bool, true, ◌&&◌, map, is_some}
+use Rattle.std.specs.Prelude.{Bool, ◌&&◌, map, is_some}
 use Rattle.std.specs.List.{list_all}
 use Rattle.variant_values.specs.Texts.{byte_cmp}
 use Rattle.keyed_lists.specs.Keyed.{rises}

@@ -18,11 +18,13 @@ is_some_list (x ∷ xs) = true
 -- a recipe, an external or a record has the name
 unfoldable pub is_known : Problem → Text → Bool
 is_known problem name =
-    is_some (recipe_at problem name) || is_some_list (externals_in (entry_of problem name)) || list_any (λ entry. bytes_eq entry.name name) problem.database
+    is_some (recipe_at problem name) || is_some_list (externals_in (entry_of problem name))
+    || list_any (λ entry. bytes_eq entry.name name) problem.database
 
 -- the packages whose recipe provides the virtual
 abbrev pub possible_providers : Problem → Text → List Text
-possible_providers problem name = map (λ recipe. recipe.name) (filter (λ recipe. list_any (λ row. bytes_eq row.name name) recipe.provides) problem.recipes)
+possible_providers problem name = map (λ recipe. recipe.name)
+    (filter (λ recipe. list_any (λ row. bytes_eq row.name name) recipe.provides) problem.recipes)
 
 -- the packages to which a `depends_on` on the name may lead
 abbrev pub possible_children : Problem → Option Text → List Text

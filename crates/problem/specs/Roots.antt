@@ -30,7 +30,8 @@ name_fault problem (Some name) =
     else Some (UnknownRoot name)
 
 abbrev pub root_fault : Problem → Spec → Option ProblemFault
-root_fault problem spec = option_or (name_fault problem spec.top.name) (option_map WrongPlatform (wrong_platform problem.settings.platform (spec.top ∷ spec.below)))
+root_fault problem spec = option_or (name_fault problem spec.top.name)
+    (option_map WrongPlatform (wrong_platform problem.settings.platform (spec.top ∷ spec.below)))
 
 abbrev pub first_fault : Problem → List Spec → Option ProblemFault
 first_fault problem [] = None

@@ -113,7 +113,8 @@ fn platform_fault(
     platform: &str,
     spec: &Spec,
 ) -> Result<Option<ProblemFault>, AllocError>
-    ensures { IfOk result (λ fault. fault ≡ option_map WrongPlatform (wrong_platform platform.now (spec.now.top ∷ spec.now.below))) }
+    ensures { IfOk result (λ fault. fault ≡ option_map WrongPlatform
+        (wrong_platform platform.now (spec.now.top ∷ spec.now.below))) }
 {
     match wrong_platform(platform, spec) {
         Some(word) => Ok(Some(ProblemFault::WrongPlatform(word.duplicate(alloc)?))),

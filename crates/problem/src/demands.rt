@@ -16,7 +16,8 @@ pub fn demands_of(
     roots: usize,
     recipes: &[Recipe],
 ) -> Result<List<Demand>, AllocError>
-    ensures { IfOk result (λ list. list ≡ map Root (range_with_len 0 roots) ++ directives_of recipes.now) }
+    ensures { IfOk result (λ list. list ≡ map Root (range_with_len 0 roots)
+        ++ directives_of recipes.now) }
 {
     let mut list = roots_of(alloc, roots)?;
     for recipe in recipes {
@@ -67,7 +68,8 @@ fn numbers_of(alloc: Global, recipe: &Recipe) -> Result<Vec<u64>, AllocError>
 }
 
 fn add_depends(numbers: &mut Vec<u64>, rows: &[DependRow]) -> Result<(), AllocError>
-    ensures { OnOk result (numbers.new.items ≡ numbers.old.items ++ map (λ row. row.number) rows.now) }
+    ensures { OnOk result (numbers.new.items ≡ numbers.old.items
+        ++ map (λ row. row.number) rows.now) }
 {
     for row in rows {
         numbers.push(row.number)?;
@@ -76,7 +78,8 @@ fn add_depends(numbers: &mut Vec<u64>, rows: &[DependRow]) -> Result<(), AllocEr
 }
 
 fn add_conflicts(numbers: &mut Vec<u64>, rows: &[ConflictRow]) -> Result<(), AllocError>
-    ensures { OnOk result (numbers.new.items ≡ numbers.old.items ++ map (λ row. row.number) rows.now) }
+    ensures { OnOk result (numbers.new.items ≡ numbers.old.items
+        ++ map (λ row. row.number) rows.now) }
 {
     for row in rows {
         numbers.push(row.number)?;
@@ -85,7 +88,8 @@ fn add_conflicts(numbers: &mut Vec<u64>, rows: &[ConflictRow]) -> Result<(), All
 }
 
 fn add_requirements(numbers: &mut Vec<u64>, rows: &[RequireRow]) -> Result<(), AllocError>
-    ensures { OnOk result (numbers.new.items ≡ numbers.old.items ++ map (λ row. row.number) rows.now) }
+    ensures { OnOk result (numbers.new.items ≡ numbers.old.items
+        ++ map (λ row. row.number) rows.now) }
 {
     for row in rows {
         numbers.push(row.number)?;

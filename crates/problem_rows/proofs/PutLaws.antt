@@ -16,7 +16,8 @@ use Rattle.virtuals.specs.Virtuals.{AreInOrder, name_of}
 abbrev pub with_recipe : List Recipe → Recipe → List Recipe
 with_recipe = with_one byte_cmp name_of
 
-one_right : (xs : List Recipe) (x : Recipe) → list_all is_right_recipe xs ≡ true → is_right_recipe x ≡ true → list_all is_right_recipe (with_recipe xs x) ≡ true
+one_right : (xs : List Recipe) (x : Recipe) → list_all is_right_recipe xs ≡ true → is_right_recipe x ≡ true
+    → list_all is_right_recipe (with_recipe xs x) ≡ true
 one_right [] x all this = and_from (is_right_recipe x) true this refl
 one_right (y ∷ ys) x all this =
     let parts = and_parts (is_right_recipe y) (list_all is_right_recipe ys) all in
@@ -27,7 +28,8 @@ one_right (y ∷ ys) x all this =
       | Greater ↦ and_from (is_right_recipe y) (list_all is_right_recipe (with_recipe ys x)) parts.0 rest
     ]
 
-pub put_right : (added : Bool) (xs : List Recipe) (x : Recipe) → list_all is_right_recipe xs ≡ true → is_right_recipe x ≡ true → list_all is_right_recipe (cond added (with_recipe xs x) xs) ≡ true
+pub put_right : (added : Bool) (xs : List Recipe) (x : Recipe) → list_all is_right_recipe xs ≡ true → is_right_recipe x ≡ true
+    → list_all is_right_recipe (cond added (with_recipe xs x) xs) ≡ true
 put_right true xs x all this = one_right xs x all this
 put_right false xs x all this = all
 

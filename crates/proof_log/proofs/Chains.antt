@@ -24,13 +24,16 @@ IsResolvent-same a c b r p s d = record {
   );
 }
 
-DerivesFrom-same : (known : List (List Lit)) (a c : List Lit) (ids : List ℕ) (stated : List Lit) → SameLits a c → DerivesFrom known a ids stated → DerivesFrom known c ids stated
+DerivesFrom-same : (known : List (List Lit)) (a c : List Lit) (ids : List ℕ) (stated : List Lit) → SameLits a c
+    → DerivesFrom known a ids stated → DerivesFrom known c ids stated
 DerivesFrom-same known a c [] stated s d = λ l h. d l (s l ∙ h)
 DerivesFrom-same known a c (id ∷ ids) stated s d = (d.0, d.1, d.2, d.3, IsResolvent-same a c d.0 d.1 d.2 s d.4, d.5)
 
 -- two resolvents of the same clauses are one set
 resolvents-same : (a b r q : List Lit) (p o : Lit) → IsResolvent a b r p → IsResolvent a b q o → SameLits r q
-resolvents-same a b r q p o d e l = iff-same (has r l) (has q l) (λ h. (e.union l).1 (let k = (d.union l).0 h in (k.0, λ x. k.1 (x ∙ sym same)))) (λ h. (d.union l).1 (let k = (e.union l).0 h in (k.0, λ x. k.1 (x ∙ same))))
+resolvents-same a b r q p o d e l = iff-same (has r l) (has q l)
+    (λ h. (e.union l).1 (let k = (d.union l).0 h in (k.0, λ x. k.1 (x ∙ sym same))))
+    (λ h. (d.union l).1 (let k = (e.union l).0 h in (k.0, λ x. k.1 (x ∙ same))))
   where
     same : var_of p ≡ var_of o
     same = e.only p d.clash
@@ -48,31 +51,38 @@ contained-has (k ∷ a) b e l h =
 
 pub has-contained : (a b : List Lit) → ((l : Lit) → has a l ≡ true → has b l ≡ true) → contained a b ≡ true
 has-contained [] b f = refl
-has-contained (k ∷ a) b f = and_from (has b k) (contained a b) (f k (or_left (lit_eq k k) (has a k) (lit_eq-refl k))) (has-contained a b (λ l h. f l (or_right (lit_eq k l) (has a l) h)))
+has-contained (k ∷ a) b f = and_from (has b k) (contained a b) (f k (or_left (lit_eq k k) (has a k) (lit_eq-refl k)))
+    (has-contained a b (λ l h. f l (or_right (lit_eq k l) (has a l) h)))
 
-clause-at : (known : List (List Lit)) (k : ℕ) → k < length known → AllClauses known → (slice_get known k ≡ Some (unwrap_or (slice_get known k) [])) × IsClause (unwrap_or (slice_get known k) [])
+clause-at : (known : List (List Lit)) (k : ℕ) → k < length known → AllClauses known
+    → (slice_get known k ≡ Some (unwrap_or (slice_get known k) [])) × IsClause (unwrap_or (slice_get known k) [])
 clause-at [] k h i = absurd (omega arith)
 clause-at (c ∷ cs) zero h i = (refl, i.0)
 clause-at (c ∷ cs) (suc k) h i = clause-at cs k (omega arith) i.1
 
-clause_at-is : (known : List (List Lit)) (id : ℕ) → 0 < id → id ≤ length known → AllClauses known → (at_id known id ≡ Some (clause_at known id)) × IsClause (clause_at known id)
+clause_at-is : (known : List (List Lit)) (id : ℕ) → 0 < id → id ≤ length known → AllClauses known
+    → (at_id known id ≡ Some (clause_at known id)) × IsClause (clause_at known id)
 clause_at-is known id h k i = let r = clause-at known (id - 1) (omega arith) i in (get-at_id known id (clause_at known id) h r.0, r.1)
 
 one : (c : List Lit) → IsClause c → OneSign c
 one c i l m h k e = one_sign c l m i h k e
 
-fault_from-none : (known : List (List Lit)) (ids : List ℕ) (stated a : List Lit) → AllClauses known → IdsIn (length known) ids → IsClause a → fault_from known ids stated a ≡ None → DerivesFrom known a ids stated
+fault_from-none : (known : List (List Lit)) (ids : List ℕ) (stated a : List Lit) → AllClauses known → IdsIn (length known) ids → IsClause a
+    → fault_from known ids stated a ≡ None → DerivesFrom known a ids stated
 fault_from-none known [] stated a i n j e =
     elim (cases_Bool (contained a stated)) [
       | inl t ↦ contained-has a stated t
       | inr f ↦ absurd (none-some NotContained (sym (rw f at e)))
     ]
-fault_from-none known (id ∷ ids) stated a i n j e = go (resolved a (clause_at known id)) refl e (λ r k f. fault_from-none known ids stated r i n.2 k f)
+fault_from-none known (id ∷ ids) stated a i n j e =
+    go (resolved a (clause_at known id)) refl e (λ r k f. fault_from-none known ids stated r i n.2 k f)
   where
     b : List Lit
     b = clause_at known id
 
-    go : (r : Resolved) → resolved a b ≡ r → after_step (fault_from known ids stated) r ≡ None → ((r : List Lit) → IsClause r → fault_from known ids stated r ≡ None → DerivesFrom known r ids stated) → DerivesFrom known a (id ∷ ids) stated
+    go : (r : Resolved) → resolved a b ≡ r → after_step (fault_from known ids stated) r ≡ None
+        → ((r : List Lit) → IsClause r → fault_from known ids stated r ≡ None → DerivesFrom known r ids stated)
+        → DerivesFrom known a (id ∷ ids) stated
     go no_pivot q f ih = absurd (none-some NoPivot (sym f))
     go two_pivots q f ih = absurd (none-some TwoPivots (sym f))
     go (result r) q f ih =
@@ -80,7 +90,8 @@ fault_from-none known (id ∷ ids) stated a i n j e = go (resolved a (clause_at 
         let d = resolved-result a b r j k.1 q in
         (b, r, d.0, k.0, d.1, ih r d.2 f)
 
-none-fault_from : (known : List (List Lit)) (ids : List ℕ) (stated a : List Lit) → AllClauses known → IdsIn (length known) ids → IsClause a → DerivesFrom known a ids stated → fault_from known ids stated a ≡ None
+none-fault_from : (known : List (List Lit)) (ids : List ℕ) (stated a : List Lit) → AllClauses known → IdsIn (length known) ids → IsClause a
+    → DerivesFrom known a ids stated → fault_from known ids stated a ≡ None
 none-fault_from known [] stated a i n j d = rw (has-contained a stated d) refl
 none-fault_from known (id ∷ ids) stated a i n j d = go (resolved a b) refl (λ r k f. none-fault_from known ids stated r i n.2 k f)
   where
@@ -96,7 +107,8 @@ none-fault_from known (id ∷ ids) stated a i n j d = go (resolved a b) refl (λ
     resolvent : IsResolvent a b d.1 d.2
     resolvent = let P : List Lit → Type 0 = λ c. IsResolvent a c d.1 d.2 in subst P same d.4
 
-    go : (r : Resolved) → resolved a b ≡ r → ((r : List Lit) → IsClause r → DerivesFrom known r ids stated → fault_from known ids stated r ≡ None) → after_step (fault_from known ids stated) r ≡ None
+    go : (r : Resolved) → resolved a b ≡ r → ((r : List Lit) → IsClause r → DerivesFrom known r ids stated
+        → fault_from known ids stated r ≡ None) → after_step (fault_from known ids stated) r ≡ None
     go no_pivot q ih = absurd (resolved-no_pivot a b q d.2 resolvent.clash)
     go two_pivots q ih =
         let t = resolved-two_pivots a b (one b k.1) q in
@@ -106,10 +118,12 @@ none-fault_from known (id ∷ ids) stated a i n j d = go (resolved a b) refl (λ
         ih r e.2 (DerivesFrom-same known d.1 r ids stated (resolvents-same a b d.1 r d.2 e.0 resolvent e.1) d.5)
 
 -- the check finds no fault exactly where the chain derives the stated clause
-pub chain_fault-is : (known : List (List Lit)) (chain : List ℕ) (stated : List Lit) → AllClauses known → IdsIn (length known) chain → (chain_fault known chain stated ≡ None) ↔ IsDerived known chain stated
+pub chain_fault-is : (known : List (List Lit)) (chain : List ℕ) (stated : List Lit) → AllClauses known → IdsIn (length known) chain
+    → (chain_fault known chain stated ≡ None) ↔ IsDerived known chain stated
 chain_fault-is known [] stated i n = ((λ e. absurd (none-some NotContained (sym e))), (λ d. absurd d))
 chain_fault-is known (id ∷ ids) stated i n =
     let k = clause_at-is known id n.0 n.1 i in (
       (λ e. (clause_at known id, k.0, fault_from-none known ids stated (clause_at known id) i n.2 k.1 e)),
-      (λ d. none-fault_from known ids stated (clause_at known id) i n.2 k.1 (let P : List Lit → Type 0 = λ c. DerivesFrom known c ids stated in subst P (same_Some d.0 (clause_at known id) (sym d.1 ∙ k.0)) d.2)),
+      (λ d. none-fault_from known ids stated (clause_at known id) i n.2 k.1 (let P : List Lit → Type 0 =
+          λ c. DerivesFrom known c ids stated in subst P (same_Some d.0 (clause_at known id) (sym d.1 ∙ k.0)) d.2)),
     )

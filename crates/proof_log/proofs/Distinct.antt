@@ -12,12 +12,14 @@ use Rattle.proof_log.specs.Logs.{IsDistinct, AreDistinct, AreUseful}
 use Rattle.proof_log.proofs.Useful.{useful-new}
 use Rattle.proof_log.proofs.Logs.{EachLine-map}
 
-pub new-apart : (known : List (List Lit)) (c : List Lit) (k : ℕ) (d : List Lit) → IsNew known c → slice_get known k ≡ Some d → SameLits d c → ⊥
+pub new-apart : (known : List (List Lit)) (c : List Lit) (k : ℕ) (d : List Lit) → IsNew known c → slice_get known k ≡ Some d
+    → SameLits d c → ⊥
 new-apart [] c k d w e s = none-some d e
 new-apart (x ∷ known) c zero d w e s = w.0 (subst (λ y. SameLits y c) (sym (same_Some x d e)) s)
 new-apart (x ∷ known) c (suc k) d w e s = new-apart known c k d w.1 e s
 
-pub get-front : (known : List (List Lit)) (c : List Lit) (k : ℕ) (d : List Lit) → slice_get known k ≡ Some d → slice_get (known ++ c ∷ []) k ≡ Some d
+pub get-front : (known : List (List Lit)) (c : List Lit) (k : ℕ) (d : List Lit) → slice_get known k ≡ Some d
+    → slice_get (known ++ c ∷ []) k ≡ Some d
 get-front [] c k d e = absurd (none-some d e)
 get-front (x ∷ known) c zero d e = e
 get-front (x ∷ known) c (suc k) d e = get-front known c k d e
@@ -27,7 +29,8 @@ get-last [] c = refl
 get-last (x ∷ known) c = get-last known c
 
 -- what was known stays known
-pub get-kept : (known : List (List Lit)) (o : Option (List Lit)) (k : ℕ) (d : List Lit) → slice_get known k ≡ Some d → slice_get (with_added known o) k ≡ Some d
+pub get-kept : (known : List (List Lit)) (o : Option (List Lit)) (k : ℕ) (d : List Lit) → slice_get known k ≡ Some d
+    → slice_get (with_added known o) k ≡ Some d
 get-kept known None k d e = e
 get-kept known (Some c) k d e = get-front known c k d e
 
@@ -50,9 +53,11 @@ Within rivals known = (k : ℕ) (d : List Lit) → slice_get rivals k ≡ Some d
 
 new-within : (rivals known : List (List Lit)) (c : List Lit) → Within rivals known → IsNew known c → IsNew rivals c
 new-within [] known c w n = tt
-new-within (d ∷ ds) known c w n = ((λ s. let j = w zero d refl in new-apart known c j.0 d n j.1 s), new-within ds known c (λ k e q. w (suc k) e q) n)
+new-within (d ∷ ds) known c w n =
+    ((λ s. let j = w zero d refl in new-apart known c j.0 d n j.1 s), new-within ds known c (λ k e q. w (suc k) e q) n)
 
-get-added : (xs : List (List Lit)) (c : List Lit) (k : ℕ) (d : List Lit) → slice_get (xs ++ c ∷ []) k ≡ Some d → (slice_get xs k ≡ Some d) ⊎ (c ≡ d)
+get-added : (xs : List (List Lit)) (c : List Lit) (k : ℕ) (d : List Lit) → slice_get (xs ++ c ∷ []) k ≡ Some d
+    → (slice_get xs k ≡ Some d) ⊎ (c ≡ d)
 get-added [] c zero d e = inr (same_Some c d e)
 get-added [] c (suc k) d e = absurd (none-some d e)
 get-added (x ∷ xs) c zero d e = inl e
@@ -74,10 +79,14 @@ module _ (bits : List Lit) (rivals known : List (List Lit)) (w : Within rivals k
   within-added Spent = within-kept None
   within-added End = within-kept None
 
-distinct-from : (bits : List Lit) (rivals known : List (List Lit)) (n : ℕ) (ls : List Line) → Within rivals known → EachLine (λ k m. OfLearnt (IsNew k)) bits known n ls → AreDistinct rivals ls
+distinct-from : (bits : List Lit) (rivals known : List (List Lit)) (n : ℕ) (ls : List Line) → Within rivals known
+    → EachLine (λ k m. OfLearnt (IsNew k)) bits known n ls → AreDistinct rivals ls
 distinct-from bits rivals known n [] w a = tt
-distinct-from bits rivals known n (l ∷ ls) w a =
-    (one l a.0, distinct-from bits (with_added rivals (learnt l)) (with_added known (added bits l)) (n + settles l) ls (within-added bits rivals known w l) a.1)
+distinct-from bits rivals known n (l ∷ ls) w a = (
+  one l a.0,
+  distinct-from bits (with_added rivals (learnt l)) (with_added known (added bits l)) (n + settles l) ls
+      (within-added bits rivals known w l) a.1,
+)
   where
     one : (l : Line) → OfLearnt (IsNew known) l → IsDistinct rivals (learnt l)
     one (Learnt id c chain) h = new-within rivals known c w h

@@ -19,13 +19,15 @@ rest-is None given more = refl
 rest-is (Some l) given more = append_assoc given (l ∷ []) more
 
 -- one more line, with the literal of the bit that it settles and the clause that it adds
-module _ (vars : ℕ) (input : List (List Lit)) (count : ℕ) (given : List Lit) (known : List (List Lit)) (lines : List Line) (lit : Option Lit) (l : Line) (c : Option (List Lit))
+module _ (vars : ℕ) (input : List (List Lit)) (count : ℕ) (given : List Lit) (known : List (List Lit)) (lines : List Line)
+    (lit : Option Lit) (l : Line) (c : Option (List Lit))
     (g : IsGrowing vars input count given known lines) (open_log : IsOpen lines)
     (bit : length (with_added given lit) ≡ length given + settles l)
     (holds : (more : List Lit) → LineHolds (with_added given lit ++ more) known (length given) l)
     (useful : OfLearnt (IsUseful known) l)
     (adds : (more : List Lit) → added (with_added given lit ++ more) l ≡ c) where
-  here : (more : List Lit) → LineHolds (given ++ rest-of lit more) (known_after (given ++ rest-of lit more) input lines) (settled_after 0 lines) l
+  here : (more : List Lit) → LineHolds (given ++ rest-of lit more) (known_after (given ++ rest-of lit more) input lines)
+      (settled_after 0 lines) l
   here more =
       let a = subst (λ bits. LineHolds bits known (length given) l) (rest-is lit given more) (holds more) in
       let b = subst (λ k. LineHolds (given ++ rest-of lit more) k (length given) l) (sym (g.knows (rest-of lit more))) a in
@@ -40,10 +42,12 @@ module _ (vars : ℕ) (input : List (List Lit)) (count : ℕ) (given : List Lit)
     sound = λ more h.
         let e = rest-is lit given more in
         subst (λ bits. IsSound vars input bits (lines ++ l ∷ [])) (sym e)
-        (IsSound-push vars input (given ++ rest-of lit more) lines l (g.sound (rest-of lit more) (ap length (sym e) ∙ h)) open_log (here more));
+        (IsSound-push vars input (given ++ rest-of lit more) lines l (g.sound (rest-of lit more) (ap length (sym e) ∙ h))
+        open_log (here more));
     useful = λ more.
         subst (λ bits. AreUseful input bits (lines ++ l ∷ [])) (sym (rest-is lit given more))
-        (EachLine-push (λ k n. OfLearnt (IsUseful k)) (given ++ rest-of lit more) input 0 lines l (g.useful (rest-of lit more)) (of-use more));
+        (EachLine-push (λ k n. OfLearnt (IsUseful k)) (given ++ rest-of lit more) input 0 lines l (g.useful (rest-of lit more))
+        (of-use more));
     knows = λ more.
         let e = rest-is lit given more in
         subst (λ bits. known_after bits input (lines ++ l ∷ []) ≡ with_added known c) (sym e)
@@ -63,7 +67,8 @@ pub record IsOverBits (vars : ℕ) (input : List (List Lit)) (bits : List Lit) (
   pub useful : AreUseful input bits lines
   pub knows : known_after bits input lines ≡ known
 
-pub growing-over : (vars : ℕ) (input : List (List Lit)) (count : ℕ) (given : List Lit) (known : List (List Lit)) (lines : List Line) (bits : List Lit) (n : ℕ) →
+pub growing-over : (vars : ℕ) (input : List (List Lit)) (count : ℕ) (given : List Lit) (known : List (List Lit)) (lines : List Line)
+    (bits : List Lit) (n : ℕ) →
     IsGrowing vars input count given known lines → count ≡ length bits → given ≡ take n bits → IsOverBits vars input bits known lines
 growing-over vars input count given known lines bits n g whole first =
     let e : given ++ drop n bits ≡ bits = ap (λ xs. xs ++ drop n bits) first ∙ take-append-drop n bits in

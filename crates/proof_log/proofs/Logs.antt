@@ -7,12 +7,14 @@ use Rattle.proof_log.specs.Known.{EachClause}
 use Rattle.proof_log.specs.Lines.{added, with_added, settles, ends, known_after, settled_after, learnt_in, learnt_count, AllLearnt, AllLines, LastIs, OfLearnt, EachLine, EndsLast, IsOpen}
 use Rattle.proof_log.specs.Logs.{IsSound, LineHolds}
 
-pub EachLine-push : (P : List (List Lit) → ℕ → Line → Type 0) (bits : List Lit) (known : List (List Lit)) (n : ℕ) (ls : List Line) (l : Line) →
+pub EachLine-push : (P : List (List Lit) → ℕ → Line → Type 0) (bits : List Lit) (known : List (List Lit)) (n : ℕ)
+    (ls : List Line) (l : Line) →
     EachLine P bits known n ls → P (known_after bits known ls) (settled_after n ls) l → EachLine P bits known n (ls ++ l ∷ [])
 EachLine-push P bits known n [] l a h = (h, tt)
 EachLine-push P bits known n (k ∷ ls) l a h = (a.0, EachLine-push P bits (with_added known (added bits k)) (n + settles k) ls l a.1 h)
 
-pub known_after-push : (bits : List Lit) (known : List (List Lit)) (ls : List Line) (l : Line) → known_after bits known (ls ++ l ∷ []) ≡ with_added (known_after bits known ls) (added bits l)
+pub known_after-push : (bits : List Lit) (known : List (List Lit)) (ls : List Line) (l : Line)
+    → known_after bits known (ls ++ l ∷ []) ≡ with_added (known_after bits known ls) (added bits l)
 known_after-push bits known [] l = refl
 known_after-push bits known (k ∷ ls) l = known_after-push bits (with_added known (added bits k)) ls l
 
@@ -62,9 +64,11 @@ learnt-all P f (l ∷ ls) a = (one l a.0, learnt-all P f ls a.1)
 
 pub all-added : (P : Line → Type 0) → ((id : ℕ) (c : _) (chain : _) → P (Learnt id c chain)) → (lines old more : List Line) (l : Line) →
     lines ≡ (old ++ more) ++ l ∷ [] → AllLearnt more → AllLines P old → P l → AllLines P lines
-all-added P f lines old more l e a h p = subst (AllLines P) (sym e) (AllLines-append P (old ++ more) (l ∷ []) (AllLines-append P old more h (learnt-all P f more a)) (p, tt))
+all-added P f lines old more l e a h p = subst (AllLines P) (sym e)
+    (AllLines-append P (old ++ more) (l ∷ []) (AllLines-append P old more h (learnt-all P f more a)) (p, tt))
 
-pub all-learnt : (P : Line → Type 0) → ((id : ℕ) (c : _) (chain : _) → P (Learnt id c chain)) → (old more : List Line) → AllLearnt more → AllLines P old → AllLines P (old ++ more)
+pub all-learnt : (P : Line → Type 0) → ((id : ℕ) (c : _) (chain : _) → P (Learnt id c chain)) → (old more : List Line) → AllLearnt more
+    → AllLines P old → AllLines P (old ++ more)
 all-learnt P f old more a h = AllLines-append P old more h (learnt-all P f more a)
 
 pub IsOpen-push : (ls : List Line) (l : Line) → IsOpen ls → ends l ≡ false → IsOpen (ls ++ l ∷ [])
@@ -80,11 +84,13 @@ EndsLast-push (k ∷ ls) l a h = ((λ e. absurd (clash (ends k) a.0 e)), EndsLas
 
 -- one more line that holds keeps an open log sound
 pub IsSound-push : (vars : ℕ) (input : List (List Lit)) (bits : List Lit) (ls : List Line) (l : Line) →
-    IsSound vars input bits ls → IsOpen ls → LineHolds bits (known_after bits input ls) (settled_after 0 ls) l → IsSound vars input bits (ls ++ l ∷ [])
+    IsSound vars input bits ls → IsOpen ls → LineHolds bits (known_after bits input ls) (settled_after 0 ls) l
+    → IsSound vars input bits (ls ++ l ∷ [])
 IsSound-push vars input bits [] l s o h = absurd s
 IsSound-push vars input bits (k ∷ ls) l s o h = go k s.0 o h
   where
-    go : (k : Line) → k ≡ Header vars (length input) (length bits) → IsOpen (k ∷ ls) → LineHolds bits (known_after bits input (k ∷ ls)) (settled_after 0 (k ∷ ls)) l → IsSound vars input bits (k ∷ (ls ++ l ∷ []))
+    go : (k : Line) → k ≡ Header vars (length input) (length bits) → IsOpen (k ∷ ls)
+        → LineHolds bits (known_after bits input (k ∷ ls)) (settled_after 0 (k ∷ ls)) l → IsSound vars input bits (k ∷ (ls ++ l ∷ []))
     go (Header v c b) e o h = (e, EachLine-push (LineHolds bits) bits input 0 ls l s.1 h, EndsLast-push ls l o.1 s.2)
     go (Learnt id c chain) e o h = cc
     go (Zero id b) e o h = cc
@@ -93,9 +99,12 @@ IsSound-push vars input bits (k ∷ ls) l s o h = go k s.0 o h
     go Spent e o h = cc
     go End e o h = cc
 
-pub EachLine-map : (P Q : List (List Lit) → ℕ → Line → Type 0) (bits : List Lit) → ((known : List (List Lit)) (n : ℕ) (l : Line) → P known n l → Q known n l) → (known : List (List Lit)) (n : ℕ) (ls : List Line) → EachLine P bits known n ls → EachLine Q bits known n ls
+pub EachLine-map : (P Q : List (List Lit) → ℕ → Line → Type 0) (bits : List Lit)
+    → ((known : List (List Lit)) (n : ℕ) (l : Line) → P known n l → Q known n l) → (known : List (List Lit)) (n : ℕ) (ls : List Line)
+    → EachLine P bits known n ls → EachLine Q bits known n ls
 EachLine-map P Q bits f known n [] a = tt
-EachLine-map P Q bits f known n (l ∷ ls) a = (f known n l a.0, EachLine-map P Q bits f (with_added known (added bits l)) (n + settles l) ls a.1)
+EachLine-map P Q bits f known n (l ∷ ls) a =
+    (f known n l a.0, EachLine-map P Q bits f (with_added known (added bits l)) (n + settles l) ls a.1)
 
 -- a fact of all that is known in the end is one of what was known at first, and of what each line adds
 abbrev pub IfAdded : (List Lit → Type 0) → Option (List Lit) → Type 0
@@ -107,16 +116,21 @@ module _ (P : List Lit → Type 0) where
   EachClause-front [] c a = (tt, a.0)
   EachClause-front (d ∷ cs) c a = let r = EachClause-front cs c a.1 in ((a.0, r.0), r.1)
 
-  pub known-each : (bits : List Lit) (known : List (List Lit)) (n : ℕ) (ls : List Line) → EachClause P (known_after bits known ls) → EachClause P known × EachLine (λ k m l. IfAdded P (added bits l)) bits known n ls
+  pub known-each : (bits : List Lit) (known : List (List Lit)) (n : ℕ) (ls : List Line) → EachClause P (known_after bits known ls)
+      → EachClause P known × EachLine (λ k m l. IfAdded P (added bits l)) bits known n ls
   known-each bits known n [] a = (a, tt)
   known-each bits known n (l ∷ ls) a = go (added bits l) refl (known-each bits (with_added known (added bits l)) (n + settles l) ls a)
     where
-      go : (o : Option (List Lit)) → added bits l ≡ o → EachClause P (with_added known (added bits l)) × EachLine (λ k m x. IfAdded P (added bits x)) bits (with_added known (added bits l)) (n + settles l) ls → EachClause P known × EachLine (λ k m x. IfAdded P (added bits x)) bits known n (l ∷ ls)
+      go : (o : Option (List Lit)) → added bits l ≡ o → EachClause P (with_added known (added bits l))
+          × EachLine (λ k m x. IfAdded P (added bits x)) bits (with_added known (added bits l)) (n + settles l) ls → EachClause P known
+          × EachLine (λ k m x. IfAdded P (added bits x)) bits known n (l ∷ ls)
       go None e h = (subst (λ x. EachClause P (with_added known x)) e h.0, (subst (IfAdded P) (sym e) tt, h.1))
-      go (Some c) e h = let f = EachClause-front known c (subst (λ x. EachClause P (with_added known x)) e h.0) in (f.0, (subst (IfAdded P) (sym e) f.1, h.1))
+      go (Some c) e h = let f = EachClause-front known c (subst (λ x. EachClause P (with_added known x)) e h.0) in
+          (f.0, (subst (IfAdded P) (sym e) f.1, h.1))
 
   -- so it is one of each learnt clause
-  pub learnt-each : (bits : List Lit) (known : List (List Lit)) (ls : List Line) → EachClause P (known_after bits known ls) → AllLines (OfLearnt P) ls
+  pub learnt-each : (bits : List Lit) (known : List (List Lit)) (ls : List Line) → EachClause P (known_after bits known ls)
+      → AllLines (OfLearnt P) ls
   learnt-each bits known ls a = go known 0 ls (known-each bits known 0 ls a).1
     where
       one : (l : Line) → IfAdded P (added bits l) → OfLearnt P l
@@ -128,6 +142,7 @@ module _ (P : List Lit → Type 0) where
       one Spent h = tt
       one End h = tt
 
-      go : (known : List (List Lit)) (n : ℕ) (ls : List Line) → EachLine (λ k m l. IfAdded P (added bits l)) bits known n ls → AllLines (OfLearnt P) ls
+      go : (known : List (List Lit)) (n : ℕ) (ls : List Line) → EachLine (λ k m l. IfAdded P (added bits l)) bits known n ls
+          → AllLines (OfLearnt P) ls
       go known n [] a = tt
       go known n (l ∷ ls) a = (one l a.0, go (with_added known (added bits l)) (n + settles l) ls a.1)

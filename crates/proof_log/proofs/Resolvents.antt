@@ -22,7 +22,8 @@ flipped v l p q = go l.positive (v (var_of l)) p q
     go false false p q = false≢true q
 
 -- a resolvent holds wherever both clauses do
-pub resolvent_holds : (v : ℕ → Bool) (a b r : List Lit) (p : Lit) → OneSign a → OneSign b → IsResolvent a b r p → clause_true v a ≡ true → clause_true v b ≡ true → clause_true v r ≡ true
+pub resolvent_holds : (v : ℕ → Bool) (a b r : List Lit) (p : Lit) → OneSign a → OneSign b → IsResolvent a b r p → clause_true v a ≡ true
+    → clause_true v b ≡ true → clause_true v r ≡ true
 resolvent_holds v a b r p i j d s t =
     let x = true-has v a s in
     let y = true-has v b t in
@@ -57,12 +58,14 @@ abbrev pub AllOneSign : List (List Lit) → Type 0
 AllOneSign [] = Unit {0}
 AllOneSign (c ∷ cs) = OneSign c × AllOneSign cs
 
-known-at : (v : ℕ → Bool) (known : List (List Lit)) (k : ℕ) (c : List Lit) → AllTrue v known → AllOneSign known → slice_get known k ≡ Some c → (clause_true v c ≡ true) × OneSign c
+known-at : (v : ℕ → Bool) (known : List (List Lit)) (k : ℕ) (c : List Lit) → AllTrue v known → AllOneSign known → slice_get known k ≡ Some c
+    → (clause_true v c ≡ true) × OneSign c
 known-at v [] k c t o e = absurd (none-some c e)
 known-at v (d ∷ ds) zero c t o e = let q = same_Some d c e in (rw (← q) t.0, subst OneSign q o.0)
 known-at v (d ∷ ds) (suc k) c t o e = known-at v ds k c t.1 o.1 e
 
-derives_from_holds : (v : ℕ → Bool) (known : List (List Lit)) (a : List Lit) (ids : List ℕ) (stated : List Lit) → AllTrue v known → AllOneSign known → OneSign a → clause_true v a ≡ true → DerivesFrom known a ids stated → clause_true v stated ≡ true
+derives_from_holds : (v : ℕ → Bool) (known : List (List Lit)) (a : List Lit) (ids : List ℕ) (stated : List Lit) → AllTrue v known
+    → AllOneSign known → OneSign a → clause_true v a ≡ true → DerivesFrom known a ids stated → clause_true v stated ≡ true
 derives_from_holds v known a [] stated t o i h d = let x = true-has v a h in has-true v stated x.0 (d x.0 x.1) x.2
 derives_from_holds v known a (id ∷ ids) stated t o i h d =
     let k = known-at v known (id - 1) d.0 t o (at_id-get known id d.0 d.3).1 in
@@ -70,7 +73,8 @@ derives_from_holds v known a (id ∷ ids) stated t o i h d =
     (resolvent_one_sign a d.0 d.1 d.2 i k.1 d.4) (resolvent_holds v a d.0 d.1 d.2 i k.1 d.4 h k.0) d.5
 
 -- a derived clause holds wherever the known clauses do
-pub derived_holds : (v : ℕ → Bool) (known : List (List Lit)) (chain : List ℕ) (stated : List Lit) → AllOneSign known → IsDerived known chain stated → AllTrue v known → clause_true v stated ≡ true
+pub derived_holds : (v : ℕ → Bool) (known : List (List Lit)) (chain : List ℕ) (stated : List Lit) → AllOneSign known
+    → IsDerived known chain stated → AllTrue v known → clause_true v stated ≡ true
 derived_holds v known [] stated o d t = absurd d
 derived_holds v known (id ∷ ids) stated o d t =
     let k = known-at v known (id - 1) d.0 t o (at_id-get known id d.0 d.1).1 in
@@ -124,7 +128,8 @@ module _ (a b r : List Lit) (p : Lit) (e : with_lits (without (var_of p) a) (wit
   only-from o l c =
       elim (cases_eq (var_of l) (var_of p)) [
         | inl t ↦ t
-        | inr ne ↦ absurd (not-opposite l (o l (negation l) ((union-from l).1 (inl c.0, ne)) ((union-from (negation l)).1 (inr c.1, ne)) refl))
+        | inr ne ↦ absurd
+            (not-opposite l (o l (negation l) ((union-from l).1 (inl c.0, ne)) ((union-from (negation l)).1 (inr c.1, ne)) refl))
       ]
 
 one_sign-without : (x : ℕ) (c : List Lit) → OneSign c → OneSign (without x c)
@@ -134,7 +139,8 @@ one_sign-without x c o l m h k e = o l m (without-parts x c l h).0 (without-part
 pub resolved-result : (a b r : List Lit) → IsClause a → IsClause b → resolved a b ≡ result r → (p : Lit) × IsResolvent a b r p × IsClause r
 resolved-result a b r i j e = go (first_clash a b) refl e
   where
-    some : (l : Lit) → first_clash a b ≡ Some l → (o : Option (List Lit)) → with_lits (without (var_of l) a) (without (var_of l) b) ≡ o → union_or_clash o ≡ result r → (p : Lit) × IsResolvent a b r p × IsClause r
+    some : (l : Lit) → first_clash a b ≡ Some l → (o : Option (List Lit)) → with_lits (without (var_of l) a) (without (var_of l) b) ≡ o
+        → union_or_clash o ≡ result r → (p : Lit) × IsResolvent a b r p × IsClause r
     some l q None w f = absurd (two-result r f)
       where
         two-result : (r : List Lit) → two_pivots ≡ result r → ⊥
@@ -142,8 +148,16 @@ resolved-result a b r i j e = go (first_clash a b) refl e
     some l q (Some d) w f =
         let same : d ≡ r = cc in
         let w' : with_lits (without (var_of l) a) (without (var_of l) b) ≡ Some r = w ∙ ap Some same in
-        let k : IsClause r = IsClause-with_lits (without (var_of l) a) (without (var_of l) b) r (IsClause-without (var_of l) a i) w' in
-        (l, record { clash = first_clash-Some a b l q; only = only-from a b r l w' (λ x y h g t. one_sign r x y k h g t); union = union-from a b r l w' }, k)
+        let k : IsClause r = IsClause-with_lits (without (var_of l) a) (without (var_of l) b) r (IsClause-without (var_of l) a i) w' in (
+          l,
+          record {
+            clash = first_clash-Some a b l q;
+            only = only-from a b r l w' (λ x y h g t. one_sign r x y k h g t);
+            union =
+                union-from a b r l w';
+          },
+          k,
+        )
 
     go : (o : Option Lit) → first_clash a b ≡ o → resolved_at o a b ≡ result r → (p : Lit) × IsResolvent a b r p × IsClause r
     go None q f = absurd (no-result r f)
@@ -164,10 +178,12 @@ resolved-no_pivot a b e l c = go (first_clash a b) refl e
     go (Some k) q f = some (with_lits (without (var_of k) a) (without (var_of k) b)) f
 
 -- two variables clash
-pub resolved-two_pivots : (a b : List Lit) → OneSign b → resolved a b ≡ two_pivots → (l : Lit) × (m : Lit) × Clashes a b l × Clashes a b m × (var_of l ≢ var_of m)
+pub resolved-two_pivots : (a b : List Lit) → OneSign b → resolved a b ≡ two_pivots → (l : Lit) × (m : Lit) × Clashes a b l × Clashes a b m
+    × (var_of l ≢ var_of m)
 resolved-two_pivots a b j e = go (first_clash a b) refl e
   where
-    some : (l : Lit) → first_clash a b ≡ Some l → (o : Option (List Lit)) → with_lits (without (var_of l) a) (without (var_of l) b) ≡ o → union_or_clash o ≡ two_pivots → (x : Lit) × (m : Lit) × Clashes a b x × Clashes a b m × (var_of x ≢ var_of m)
+    some : (l : Lit) → first_clash a b ≡ Some l → (o : Option (List Lit)) → with_lits (without (var_of l) a) (without (var_of l) b) ≡ o
+        → union_or_clash o ≡ two_pivots → (x : Lit) × (m : Lit) × Clashes a b x × Clashes a b m × (var_of x ≢ var_of m)
     some l q None w f =
         let s = union-clash (without (var_of l) a) (without (var_of l) b) (one_sign-without (var_of l) b j) w in
         let t = without-parts (var_of l) b s.0 s.1 in
@@ -178,7 +194,8 @@ resolved-two_pivots a b j e = go (first_clash a b) refl e
         result-two : (r : List Lit) → result r ≡ two_pivots → ⊥
         result-two r f = cc
 
-    go : (o : Option Lit) → first_clash a b ≡ o → resolved_at o a b ≡ two_pivots → (x : Lit) × (m : Lit) × Clashes a b x × Clashes a b m × (var_of x ≢ var_of m)
+    go : (o : Option Lit) → first_clash a b ≡ o → resolved_at o a b ≡ two_pivots → (x : Lit) × (m : Lit) × Clashes a b x × Clashes a b m
+        × (var_of x ≢ var_of m)
     go None q f = absurd (no-two f)
       where
         no-two : no_pivot ≡ two_pivots → ⊥

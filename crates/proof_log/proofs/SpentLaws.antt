@@ -84,23 +84,45 @@ module _ (n : ℕ) where
     distinct : AllPairs (λ x y. x ≢ y) xs
     later : (k : ℕ) (d : List Lit) → slice_get known k ≡ Some d → IsClause d → AllBelow n d → All (λ y. number n d ≢ y) xs
 
-  skip : (known : List (List Lit)) (o : Option (List Lit)) (xs : List ℕ) (count : ℕ) → AreCounted (with_added known o) xs count → AreCounted known xs (0 + count)
-  skip known o xs count a = record { size = let s = a.size in omega (arith, s); small = a.small; distinct = a.distinct; later = λ k d e. a.later k d (get-kept known o k d e) }
-
-  learn : (known : List (List Lit)) (c : List Lit) (xs : List ℕ) (count : ℕ) → IsClause c → AllBelow n c → IsNew known c → AreCounted (known ++ c ∷ []) xs count → AreCounted known (number n c ∷ xs) (1 + count)
-  learn known c xs count i b w a = record {
+  skip : (known : List (List Lit)) (o : Option (List Lit)) (xs : List ℕ) (count : ℕ) → AreCounted (with_added known o) xs count
+      → AreCounted known xs (0 + count)
+  skip known o xs count a = record {
     size = let s = a.size in omega (arith, s);
-    small = λ q h. elim (or_cases (eqb q (number n c)) (list_any (eqb q) xs) h) [ inl e ↦ let f : q ≡ number n c = eqb-true q (number n c) e in let g = number-small n c in omega (arith, f, g) | inr t ↦ a.small q t ];
-    distinct = AllPairs-cons (λ x y. x ≢ y) (number n c) xs (a.later (length known) c (get-last known c) i b) a.distinct;
-    later = λ k d e j r. All-cons (λ y. number n d ≢ y) (number n c) xs (λ f. new-apart known c k d w e (same-number n d c j i r b f)) (a.later k d (get-front known c k d e) j r);
+    small = a.small;
+    distinct = a.distinct;
+    later =
+        λ k d e. a.later k d (get-kept known o k d e);
   }
 
-  counted : (bits : List Lit) (known : List (List Lit)) (m : ℕ) (ls : List Line) → EachLine (LineHolds bits) bits known m ls → EachLine (λ k m. OfLearnt (IsNew k)) bits known m ls → AreOver n ls → AreCounted known (numbers ls) (learnt_in ls)
+  learn : (known : List (List Lit)) (c : List Lit) (xs : List ℕ) (count : ℕ) → IsClause c → AllBelow n c → IsNew known c
+      → AreCounted (known ++ c ∷ []) xs count → AreCounted known (number n c ∷ xs) (1 + count)
+  learn known c xs count i b w a = record {
+    size = let s = a.size in omega (arith, s);
+    small = λ q h. elim (or_cases (eqb q (number n c)) (list_any (eqb q) xs) h) [
+      | inl e ↦ let f : q ≡ number n c =
+          eqb-true q (number n c) e in let g = number-small n c in omega (arith, f, g)
+      | inr t ↦ a.small q t
+    ];
+    distinct = AllPairs-cons (λ x y. x ≢ y) (number n c) xs (a.later (length known) c (get-last known c) i b) a.distinct;
+    later = λ k d e j r. All-cons (λ y. number n d ≢ y) (number n c) xs (λ f. new-apart known c k d w e (same-number n d c j i r b f))
+        (a.later k d (get-front known c k d e) j r);
+  }
+
+  counted : (bits : List Lit) (known : List (List Lit)) (m : ℕ) (ls : List Line) → EachLine (LineHolds bits) bits known m ls
+      → EachLine (λ k m. OfLearnt (IsNew k)) bits known m ls → AreOver n ls → AreCounted known (numbers ls) (learnt_in ls)
   unfolding numbers
-  counted bits known m [] h w r = record { size = refl; small = λ q e. absurd (false≢true e); distinct = λ i j d lt below. absurd (omega (arith, lt, below)); later = λ k d e j r. All-nil _ }
+  counted bits known m [] h w r = record {
+    size = refl;
+    small = λ q e. absurd (false≢true e);
+    distinct =
+        λ i j d lt below. absurd (omega (arith, lt, below));
+    later = λ k d e j r. All-nil _;
+  }
   counted bits known m (l ∷ ls) h w r = go l h w r (counted bits (with_added known (added bits l)) (m + settles l) ls h.1 w.1 r.1)
     where
-      go : (l : Line) → EachLine (LineHolds bits) bits known m (l ∷ ls) → EachLine (λ k m. OfLearnt (IsNew k)) bits known m (l ∷ ls) → AreOver n (l ∷ ls) → AreCounted (with_added known (added bits l)) (numbers ls) (learnt_in ls) → AreCounted known (numbers (l ∷ ls)) (learnt_in (l ∷ ls))
+      go : (l : Line) → EachLine (LineHolds bits) bits known m (l ∷ ls) → EachLine (λ k m. OfLearnt (IsNew k)) bits known m (l ∷ ls)
+          → AreOver n (l ∷ ls) → AreCounted (with_added known (added bits l)) (numbers ls) (learnt_in ls)
+          → AreCounted known (numbers (l ∷ ls)) (learnt_in (l ∷ ls))
       go (Learnt id c chain) h w r a = learn known c (numbers ls) (learnt_in ls) h.0.1 r.0 w.0 a
       go (Header x y z) h w r a = skip known None (numbers ls) (learnt_in ls) a
       go (Zero id b) h w r a = skip known (added bits (Zero id b)) (numbers ls) (learnt_in ls) a
@@ -109,14 +131,17 @@ module _ (n : ℕ) where
       go Spent h w r a = skip known None (numbers ls) (learnt_in ls) a
       go End h w r a = skip known None (numbers ls) (learnt_in ls) a
 
-spent_bound : (vars : ℕ) (input : List (List Lit)) (bits : List Lit) (budget : ℕ) (lines : List Line) → IsSpentLog vars input bits budget lines → budget < 3 ^ vars
+spent_bound : (vars : ℕ) (input : List (List Lit)) (bits : List Lit) (budget : ℕ) (lines : List Line)
+    → IsSpentLog vars input bits budget lines → budget < 3 ^ vars
 spent_bound vars input bits budget [] s = absurd s.sound
 spent_bound vars input bits budget (l ∷ ls) s = go l s.sound.0 (useful-news input bits (l ∷ ls) s.useful) s.in_range s.count
   where
-    go : (l : Line) → l ≡ Header vars (length input) (length bits) → EachLine (λ k m. OfLearnt (IsNew k)) bits input 0 (l ∷ ls) → AreOver vars (l ∷ ls) → learnt_in (l ∷ ls) ≡ budget + 1 → budget < 3 ^ vars
+    go : (l : Line) → l ≡ Header vars (length input) (length bits) → EachLine (λ k m. OfLearnt (IsNew k)) bits input 0 (l ∷ ls)
+        → AreOver vars (l ∷ ls) → learnt_in (l ∷ ls) ≡ budget + 1 → budget < 3 ^ vars
     go (Header x y z) e w r q =
         let a = counted vars bits input 0 ls s.sound.1 w.1 r.1 in
-        let b = length-le_from_distinct_below (numbers vars ls) (3 ^ vars) (IsDistinct-from_AllPairs Decides-eqb (numbers vars ls) a.distinct) a.small in
+        let b = length-le_from_distinct_below (numbers vars ls) (3 ^ vars)
+        (IsDistinct-from_AllPairs Decides-eqb (numbers vars ls) a.distinct) a.small in
         let c = a.size in
         omega (arith, b, c, q)
     go (Learnt id c chain) e w r q = cc
@@ -126,5 +151,7 @@ spent_bound vars input bits budget (l ∷ ls) s = go l s.sound.0 (useful-news in
     go Spent e w r q = cc
     go End e w r q = cc
 
-pub spent_budget : (vars : ℕ) (input : List (List Lit)) (bits : List Lit) (budget : ℕ) (lines : List Line) → IsSpentLog vars input bits budget lines → (budget < 3 ^ vars) × (budget < length lines)
-spent_budget vars input bits budget lines s = (spent_bound vars input bits budget lines s, let l = learnt_in-le lines in let c = s.count in omega (arith, l, c))
+pub spent_budget : (vars : ℕ) (input : List (List Lit)) (bits : List Lit) (budget : ℕ) (lines : List Line)
+    → IsSpentLog vars input bits budget lines → (budget < 3 ^ vars) × (budget < length lines)
+spent_budget vars input bits budget lines s =
+    (spent_bound vars input bits budget lines s, let l = learnt_in-le lines in let c = s.count in omega (arith, l, c))

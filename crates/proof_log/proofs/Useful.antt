@@ -16,7 +16,8 @@ has-var (k ∷ s) l h =
       | inr t ↦ or_right (eqb (var_of k) (var_of l)) (has_var s (var_of l)) (has-var s l t)
     ]
 
-module _ (clause : List Lit) (lit : Lit) (s : List Lit) (consistent : IsConsistent s) (free : has_var s (var_of lit) ≡ false) (others : (l : Lit) → has clause l ≡ true → l ≢ lit → has s (negation l) ≡ true) where
+module _ (clause : List Lit) (lit : Lit) (s : List Lit) (consistent : IsConsistent s) (free : has_var s (var_of lit) ≡ false)
+    (others : (l : Lit) → has clause l ≡ true → l ≢ lit → has s (negation l) ≡ true) where
   -- the clause itself has no true literal and one free variable
   other_var : (l : Lit) → has clause l ≡ true → var_of l ≢ var_of lit → has_var s (var_of l) ≡ true
   other_var l h ne = has-var s (negation l) (others l h (λ e. ne (ap var_of e)))
@@ -38,7 +39,16 @@ module _ (clause : List Lit) (lit : Lit) (s : List Lit) (consistent : IsConsiste
   new-from (d ∷ ds) t = (
     (λ same. elim t.0 [
       | inl x ↦ not_true (record { lit = x.lit; stands = sym (same x.lit) ∙ x.stands; holds = x.holds })
-      | inr p ↦ not_pair (record { first = p.first; second = p.second; has_first = sym (same p.first) ∙ p.has_first; has_second = sym (same p.second) ∙ p.has_second; first_free = p.first_free; second_free = p.second_free; apart = p.apart })
+      | inr p ↦ not_pair (record {
+        first = p.first;
+        second = p.second;
+        has_first = sym (same p.first) ∙ p.has_first;
+        has_second =
+            sym (same p.second) ∙ p.has_second;
+        first_free = p.first_free;
+        second_free = p.second_free;
+        apart = p.apart;
+      })
     ]),
     new-from ds t.1,
   )

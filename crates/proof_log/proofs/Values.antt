@@ -13,7 +13,8 @@ use Rattle.proof_log.specs.Logs.{LineHolds, IsSound}
 use Rattle.proof_log.specs.Certificates.{bits_at, HasValue}
 use Rattle.proof_log.proofs.Logs.{IfAdded, known-each}
 
-pub value-at : (v : ℕ → Bool) (bits : List Lit) (b : ℕ) (l : Lit) (t : Bool) → slice_get bits b ≡ Some l → lit_true v l ≡ t → slice_get (bits_at v bits) b ≡ Some t
+pub value-at : (v : ℕ → Bool) (bits : List Lit) (b : ℕ) (l : Lit) (t : Bool) → slice_get bits b ≡ Some l → lit_true v l ≡ t
+    → slice_get (bits_at v bits) b ≡ Some t
 value-at v bits b l t e f = slice_get-map (lit_true v) bits b ∙ ap (option_map (lit_true v)) e ∙ ap Some f
 
 false-under : (p t : Bool) → (cond (not p) t (not t) || false) ≡ true → cond p t (not t) ≡ false
@@ -30,14 +31,16 @@ module _ (v : ℕ → Bool) where
   abbrev pub Holds : List Lit → Type 0
   Holds c = clause_true v c ≡ true
 
-  valued-from : (bits : List Lit) (known : List (List Lit)) (n : ℕ) (ls : List Line) → EachLine (LineHolds bits) bits known n ls → EachLine (λ k m l. IfAdded Holds (added bits l)) bits known n ls → AllLines (HasValue (bits_at v bits)) ls
+  valued-from : (bits : List Lit) (known : List (List Lit)) (n : ℕ) (ls : List Line) → EachLine (LineHolds bits) bits known n ls
+      → EachLine (λ k m l. IfAdded Holds (added bits l)) bits known n ls → AllLines (HasValue (bits_at v bits)) ls
   valued-from bits known n [] h a = tt
   valued-from bits known n (l ∷ ls) h a = (one l h.0 a.0, valued-from bits (with_added known (added bits l)) (n + settles l) ls h.1 a.1)
     where
       one : (l : Line) → LineHolds bits known n l → IfAdded Holds (added bits l) → HasValue (bits_at v bits) l
       one (Zero id b) h a =
           let e : slice_get bits b ≡ Some h.2 = ap (slice_get bits) h.1 ∙ h.3 in
-          value-at v bits b h.2 false e (false-under h.2.positive (v (var_of h.2)) (subst (λ o. IfAdded Holds (option_map (λ l. negation l ∷ []) o)) e a))
+          value-at v bits b h.2 false e (false-under h.2.positive (v (var_of h.2))
+          (subst (λ o. IfAdded Holds (option_map (λ l. negation l ∷ []) o)) e a))
       one (One id b chain) h a =
           let e : slice_get bits b ≡ Some h.2 = ap (slice_get bits) h.1 ∙ h.3 in
           value-at v bits b h.2 true e (true-under (lit_true v h.2) (subst (λ o. IfAdded Holds (option_map (λ l. l ∷ []) o)) e a))
@@ -48,11 +51,13 @@ module _ (v : ℕ → Bool) where
       one End h a = tt
 
   -- an assignment that meets all that is known in the end has the bits that the log settles
-  pub known-valued : (vars : ℕ) (input : List (List Lit)) (bits : List Lit) (ls : List Line) → IsSound vars input bits ls → AllTrue v (known_after bits input ls) → AllTrue v input × AllLines (HasValue (bits_at v bits)) ls
+  pub known-valued : (vars : ℕ) (input : List (List Lit)) (bits : List Lit) (ls : List Line) → IsSound vars input bits ls
+      → AllTrue v (known_after bits input ls) → AllTrue v input × AllLines (HasValue (bits_at v bits)) ls
   known-valued vars input bits [] s a = absurd s
   known-valued vars input bits (l ∷ ls) s a = go l s.0 a
     where
-      go : (l : Line) → l ≡ Header vars (length input) (length bits) → AllTrue v (known_after bits input (l ∷ ls)) → AllTrue v input × AllLines (HasValue (bits_at v bits)) (l ∷ ls)
+      go : (l : Line) → l ≡ Header vars (length input) (length bits) → AllTrue v (known_after bits input (l ∷ ls)) → AllTrue v input
+          × AllLines (HasValue (bits_at v bits)) (l ∷ ls)
       go (Header x y z) e a = let k = known-each Holds bits input 0 ls a in (k.0, (tt, valued-from bits input 0 ls s.1 k.1))
       go (Learnt id c chain) e a = cc
       go (Zero id b) e a = cc

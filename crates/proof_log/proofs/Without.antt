@@ -18,7 +18,8 @@ without-met x k l h e =
     and-false true = refl
     and-false false = refl
 
-without-kept : (x : ℕ) (k l : Lit) (h : Bool) → (var_of k ≡ x → ⊥) → (lit_eq k l || (h && not (eqb (var_of l) x))) ≡ ((lit_eq k l || h) && not (eqb (var_of l) x))
+without-kept : (x : ℕ) (k l : Lit) (h : Bool) → (var_of k ≡ x → ⊥)
+    → (lit_eq k l || (h && not (eqb (var_of l) x))) ≡ ((lit_eq k l || h) && not (eqb (var_of l) x))
 without-kept x k l h ne =
     elim (cases_Bool (lit_eq k l)) [
       | inl t ↦ rw (t, ne_eqb (var_of l) x (λ e. ne (ap var_of (same_lit k l t) ∙ e))) refl

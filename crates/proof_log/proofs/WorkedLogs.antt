@@ -20,20 +20,35 @@ derived = (chain_fault-is two (1 ∷ 2 ∷ []) (pos 2 ∷ []) in-order (omega ar
 
 pub certificate : IsCertificate 2 two two_bits (true ∷ false ∷ []) two_log
 certificate = record {
-  sound = (refl, ((refl, refl, pos 2, refl, derived), ((refl, refl, pos 1, refl), (refl, tt))), ((λ e. absurd (false≢true e)), ((λ e. absurd (false≢true e)), ((λ e. refl), tt))));
+  sound = (
+    refl,
+    ((refl, refl, pos 2, refl, derived), ((refl, refl, pos 1, refl), (refl, tt))),
+    ((λ e. absurd (false≢true e)), ((λ e. absurd (false≢true e)), ((λ e. refl), tt))),
+  );
   distinct = (tt, (tt, (tt, (tt, tt))));
   valued = (tt, (refl, (refl, (tt, tt))));
   last = refl;
 }
 
 in-order-four : AllClauses four
-in-order-four = (((omega arith, tt), (tt, tt)), (((omega arith, tt), (tt, tt)), (((omega arith, tt), (tt, tt)), (((omega arith, tt), (tt, tt)), tt))))
+in-order-four =
+    (((omega arith, tt), (tt, tt)), (((omega arith, tt), (tt, tt)), (((omega arith, tt), (tt, tt)), (((omega arith, tt), (tt, tt)), tt))))
 
 derived-four : IsDerived four (1 ∷ 2 ∷ []) (pos 1 ∷ [])
-derived-four = (chain_fault-is four (1 ∷ 2 ∷ []) (pos 1 ∷ []) in-order-four (omega arith, omega arith, (omega arith, omega arith, tt))).0 refl
+derived-four = (chain_fault-is four (1 ∷ 2 ∷ []) (pos 1 ∷ []) in-order-four (omega arith, omega arith, (omega arith, omega arith, tt))).0
+    refl
 
 pair : (a b : Lit) → var_of a ≡ 0 → var_of b ≡ 1 → has (a ∷ b ∷ []) a ≡ true → has (a ∷ b ∷ []) b ≡ true → FreePair [] (a ∷ b ∷ [])
-pair a b p q h k = record { first = a; second = b; has_first = h; has_second = k; first_free = refl; second_free = refl; apart = λ e. omega (arith, e, p, q) }
+pair a b p q h k = record {
+  first = a;
+  second = b;
+  has_first = h;
+  has_second = k;
+  first_free = refl;
+  second_free = refl;
+  apart =
+      λ e. omega (arith, e, p, q);
+}
 
 useful-four : IsUseful four (pos 1 ∷ [])
 useful-four = record {
@@ -43,7 +58,13 @@ useful-four = record {
   consistent = λ l h k. absurd (false≢true h);
   free = refl;
   others = λ l h ne. absurd (ne (sym (same_one l h)));
-  settled = (inr (pair (pos 1) (pos 2) refl refl refl refl), (inr (pair (pos 1) (neg 2) refl refl refl refl), (inr (pair (neg 1) (pos 2) refl refl refl refl), (inr (pair (neg 1) (neg 2) refl refl refl refl), tt))));
+  settled = (
+    inr (pair (pos 1) (pos 2) refl refl refl refl),
+    (
+      inr (pair (pos 1) (neg 2) refl refl refl refl),
+      (inr (pair (neg 1) (pos 2) refl refl refl refl), (inr (pair (neg 1) (neg 2) refl refl refl refl), tt)),
+    ),
+  );
 }
   where
     same_one : (l : Lit) → has (pos 1 ∷ []) l ≡ true → pos 1 ≡ l

@@ -22,9 +22,11 @@ no-zero : (known : List (List Lit)) (id : ℕ) (c : List Lit) → at_id known id
 no-zero known zero c e = absurd (none-some c e)
 no-zero known (suc k) c e = ap not (ne_eqb (suc k) 0 (λ h. omega (arith, h)))
 
-derives-ids : (known : List (List Lit)) (a : List Lit) (ids : List ℕ) (stated : List Lit) → DerivesFrom known a ids stated → no_zero ids ≡ true
+derives-ids : (known : List (List Lit)) (a : List Lit) (ids : List ℕ) (stated : List Lit) → DerivesFrom known a ids stated
+    → no_zero ids ≡ true
 derives-ids known a [] stated d = refl
-derives-ids known a (id ∷ ids) stated d = and_from (not (id == 0)) (no_zero ids) (no-zero known id d.0 d.3) (derives-ids known d.1 ids stated d.5)
+derives-ids known a (id ∷ ids) stated d = and_from (not (id == 0)) (no_zero ids) (no-zero known id d.0 d.3)
+    (derives-ids known d.1 ids stated d.5)
 
 -- a chain that derives has an id, and no id 0
 chain-written : (known : List (List Lit)) (chain : List ℕ) (stated : List Lit) → IsDerived known chain stated → is_chain chain ≡ true
@@ -36,11 +38,14 @@ chain-written known (id ∷ ids) stated d =
 lits-written : (n : ℕ) (c : List Lit) → n < 2 ^ 64 → AllBelow n c → list_all (λ l. nat_lt (var_of l) (2 ^ 64 - 1)) c ≡ true
 lits-written n [] h b = refl
 lits-written n (l ∷ c) h b =
-    and_from (nat_lt (var_of l) (2 ^ 64 - 1)) (list_all (λ k. nat_lt (var_of k) (2 ^ 64 - 1)) c) (lt-ltb (var_of l) (2 ^ 64 - 1) (let x = b.0 in omega (arith, x, h))) (lits-written n c h b.1)
+    and_from (nat_lt (var_of l) (2 ^ 64 - 1)) (list_all (λ k. nat_lt (var_of k) (2 ^ 64 - 1)) c)
+    (lt-ltb (var_of l) (2 ^ 64 - 1) (let x = b.0 in omega (arith, x, h))) (lits-written n c h b.1)
 
 module _ (n : ℕ) (small : n < 2 ^ 64) (bits : List Lit) where
   line-written : (known : List (List Lit)) (k : ℕ) (l : Line) → LineHolds bits known k l → OfLearnt (AllBelow n) l → may_write l ≡ true
-  line-written known k (Learnt id c chain) h b = and_from (list_all (λ l. nat_lt (var_of l) (2 ^ 64 - 1)) c) (is_chain chain) (lits-written n c small b) (chain-written known chain c h.2)
+  line-written known k (Learnt id c chain) h b =
+      and_from (list_all (λ l. nat_lt (var_of l) (2 ^ 64 - 1)) c) (is_chain chain) (lits-written n c small b)
+      (chain-written known chain c h.2)
   line-written known k (One id b chain) h o = chain-written known chain (h.2 ∷ []) h.4
   line-written known k (Unsat chain) h o = chain-written known chain [] h
   line-written known k (Header x y z) h o = refl
@@ -48,11 +53,14 @@ module _ (n : ℕ) (small : n < 2 ^ 64) (bits : List Lit) where
   line-written known k Spent h o = refl
   line-written known k End h o = refl
 
-  lines-written : (known : List (List Lit)) (k : ℕ) (ls : List Line) → EachLine (LineHolds bits) bits known k ls → AreOver n ls → AllLines (λ l. may_write l ≡ true) ls
+  lines-written : (known : List (List Lit)) (k : ℕ) (ls : List Line) → EachLine (LineHolds bits) bits known k ls → AreOver n ls
+      → AllLines (λ l. may_write l ≡ true) ls
   lines-written known k [] h o = tt
-  lines-written known k (l ∷ ls) h o = (line-written known k l h.0 o.0, lines-written (with_added known (added bits l)) (k + settles l) ls h.1 o.1)
+  lines-written known k (l ∷ ls) h o =
+      (line-written known k l h.0 o.0, lines-written (with_added known (added bits l)) (k + settles l) ls h.1 o.1)
 
-pub sound-written : (vars : ℕ) (input : List (List Lit)) (bits : List Lit) (lines : List Line) → vars < 2 ^ 64 → IsSound vars input bits lines → AreOver vars lines → AllLines (λ l. may_write l ≡ true) lines
+pub sound-written : (vars : ℕ) (input : List (List Lit)) (bits : List Lit) (lines : List Line) → vars < 2 ^ 64
+    → IsSound vars input bits lines → AreOver vars lines → AllLines (λ l. may_write l ≡ true) lines
 sound-written vars input bits [] small s o = absurd s
 sound-written vars input bits (l ∷ ls) small s o = (first l s.0, lines-written vars small bits input 0 ls s.1 o.1)
   where

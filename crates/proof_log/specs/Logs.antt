@@ -12,7 +12,8 @@ use Rattle.proof_log.specs.Lines.{with_added, learnt, known_after, settled_after
 abbrev pub LineHolds : List Lit → List (List Lit) → ℕ → Line → Type 0
 LineHolds bits known n (Learnt id c chain) = (id ≡ length known + 1) × IsClause c × IsDerived known chain c
 LineHolds bits known n (Zero id b) = (id ≡ length known + 1) × (b ≡ n) × (l : Lit) × (slice_get bits n ≡ Some l)
-LineHolds bits known n (One id b chain) = (id ≡ length known + 1) × (b ≡ n) × (l : Lit) × (slice_get bits n ≡ Some l) × IsDerived known chain (l ∷ [])
+LineHolds bits known n (One id b chain) = (id ≡ length known + 1) × (b ≡ n) × (l : Lit) × (slice_get bits n ≡ Some l)
+    × IsDerived known chain (l ∷ [])
 LineHolds bits known n (Unsat chain) = IsDerived known chain []
 LineHolds bits known n Spent = Unit {0}
 LineHolds bits known n End = n ≡ length bits
@@ -39,7 +40,8 @@ AreUseful input bits lines = EachLine (λ known n. OfLearnt (IsUseful known)) bi
 
 -- a log that grows, with the literals of the bits that were settled so far: whichever literals the bits to come have,
 -- it is sound, its learnt clauses are useful, and it makes these clauses known
-pub record IsGrowing (vars : ℕ) (input : List (List Lit)) (bits : ℕ) (given : List Lit) (known : List (List Lit)) (lines : List Line) : Type 0 where
+pub record IsGrowing (vars : ℕ) (input : List (List Lit)) (bits : ℕ) (given : List Lit) (known : List (List Lit))
+    (lines : List Line) : Type 0 where
   pub settled : settled_after 0 lines ≡ length given
   pub sound : (more : List Lit) → length (given ++ more) ≡ bits → IsSound vars input (given ++ more) lines
   pub useful : (more : List Lit) → AreUseful input (given ++ more) lines

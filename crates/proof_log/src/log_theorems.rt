@@ -17,7 +17,8 @@ ghost use Rattle.proof_log.specs.Worked.{pos, neg, five, four, four_log, two, tw
 /// where the chain derives the stated clause. A useful clause is new.
 pub fn derivation_laws()
     ensures holds { (known : List (List Lit)) (chain : List ℕ) (stated : List Lit) (v : ℕ → Bool) →
-        AllClauses known → IsDerived known chain stated → AllTrue v known → clause_true v stated ≡ true }
+        AllClauses known → IsDerived known chain stated → AllTrue v known
+        → clause_true v stated ≡ true }
     ensures checked { (known : List (List Lit)) (chain : List ℕ) (stated : List Lit) →
         AllClauses known → IdsIn (length known) chain →
         (chain_fault known chain stated ≡ None) ↔ IsDerived known chain stated }
@@ -28,12 +29,15 @@ pub fn derivation_laws()
 /// clauses that a log refutes. A budget that was spent is below 3 to the number of variables, and
 /// below the number of lines. Useful clauses are distinct.
 pub fn log_laws()
-    ensures least { (vars : ℕ) (input : List (List Lit)) (bits : List Lit) (values : List Bool) (lines : List Line)
+    ensures least { (vars : ℕ) (input : List (List Lit)) (bits : List Lit) (values : List Bool)
+        (lines : List Line)
         (v : ℕ → Bool) → AllClauses input → IsCertificate vars input bits values lines →
         AllTrue v input → IsBelow (bits_at v bits) values → ⊥ }
-    ensures refuted { (vars : ℕ) (input : List (List Lit)) (bits : List Lit) (lines : List Line) (v : ℕ → Bool) →
+    ensures refuted { (vars : ℕ) (input : List (List Lit)) (bits : List Lit) (lines : List Line)
+        (v : ℕ → Bool) →
         AllClauses input → IsRefutation vars input bits lines → AllTrue v input → ⊥ }
-    ensures spent { (vars : ℕ) (input : List (List Lit)) (bits : List Lit) (budget : ℕ) (lines : List Line) →
+    ensures spent { (vars : ℕ) (input : List (List Lit)) (bits : List Lit) (budget : ℕ)
+        (lines : List Line) →
         IsSpentLog vars input bits budget lines → (budget < 3 ^ vars) × (budget < length lines) }
     ensures distinct { (input : List (List Lit)) (bits : List Lit) (lines : List Line) →
         AreUseful input bits lines → AreDistinct input lines }

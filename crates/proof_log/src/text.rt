@@ -54,7 +54,8 @@ pub fn may_write(line: &Line) -> bool
 }
 
 fn push_number(fields: &mut Vec<Field>, value: u64) -> Result<(), AllocError>
-    ensures { OnOk result (fields.new.items ≡ fields.old.items ++ record { minus = false; value = value } ∷ []) }
+    ensures { OnOk result (fields.new.items ≡ fields.old.items
+        ++ record { minus = false; value = value } ∷ []) }
 {
     fields.push(Field {
         minus: false,

@@ -19,21 +19,30 @@ pub fn text_laws()
 
 /// The text of lines that may be written is read as these lines, and after a bad line nothing counts.
 pub fn reading_laws()
-    ensures reads_back { (lines : List Line) → AreWritable lines → reading (log_text lines) ≡ record { lines = lines; rest = []; failed = false } }
-    ensures one_line { (bytes text : List ℕ) → (reading bytes).rest ≡ [] → (reading bytes).failed ≡ false → list_all (λ b. not (b == 10)) text ≡ true → reading (bytes ++ (text ++ 10 ∷ [])) ≡ with_line (record { lines = (reading bytes).lines; rest = text; failed = false }) (line_of text) }
-    ensures stays { (bytes more : List ℕ) → (reading bytes).failed ≡ true → reading (bytes ++ more) ≡ reading bytes }
+    ensures reads_back { (lines : List Line) → AreWritable lines
+        → reading (log_text lines) ≡ record { lines = lines; rest = []; failed = false } }
+    ensures one_line { (bytes text : List ℕ) → (reading bytes).rest ≡ []
+        → (reading bytes).failed ≡ false → list_all (λ b. not (b == 10)) text ≡ true
+        → reading (bytes ++ (text ++ 10 ∷ []))
+        ≡ with_line (record { lines = (reading bytes).lines; rest = text; failed = false })
+        (line_of text) }
+    ensures stays { (bytes more : List ℕ) → (reading bytes).failed ≡ true
+        → reading (bytes ++ more) ≡ reading bytes }
 {}
 
 /// The lines of a sound log over variables that have numbers may be written.
 pub fn written_laws()
-    ensures { (vars : ℕ) (input : List (List Lit)) (bits : List Lit) (lines : List Line) → vars < 2 ^ 64 →
-        IsSound vars input bits lines → AreOver vars lines → AllLines (λ l. may_write l ≡ true) lines }
+    ensures { (vars : ℕ) (input : List (List Lit)) (bits : List Lit) (lines : List Line)
+        → vars < 2 ^ 64 →
+        IsSound vars input bits lines → AreOver vars lines
+        → AllLines (λ l. may_write l ≡ true) lines }
 {}
 
 /// Texts of lines, and texts that spell none, computed.
 pub fn worked_lines()
     ensures header { line_of (codes "p 1 2 4 0") ≡ Some (Header 2 4 0) }
-    ensures learnt { line_of (codes "l 5 1 -3 0 1 2 0") ≡ Some (Learnt 5 (pos 1 ∷ neg 3 ∷ []) (1 ∷ 2 ∷ [])) }
+    ensures learnt { line_of (codes "l 5 1 -3 0 1 2 0")
+        ≡ Some (Learnt 5 (pos 1 ∷ neg 3 ∷ []) (1 ∷ 2 ∷ [])) }
     ensures learnt_empty { line_of (codes "l 5 0 4 0") ≡ Some (Learnt 5 [] (4 ∷ [])) }
     ensures zero_bit { line_of (codes "z 6 0") ≡ Some (Zero 6 0) }
     ensures one_bit { line_of (codes "o 7 1 2 0") ≡ Some (One 7 1 (2 ∷ [])) }

@@ -16,7 +16,8 @@ bits_at len words place d lt = get_or-map-range_with_len (is_set words) 0 len pl
 
 pub no_bits : (len count : ℕ) → len < 64 * count → bits_of len (replicate count 0) ≡ replicate len false
 no_bits len count room =
-    ext_get_or false (bits_of len (replicate count 0)) (replicate len false) (length-bits_of len (replicate count 0) ∙ sym (length-replicate len false)) (λ i lt.
+    ext_get_or false (bits_of len (replicate count 0)) (replicate len false) (length-bits_of len (replicate count 0)
+    ∙ sym (length-replicate len false)) (λ i lt.
     let below : i < len = omega (arith, lt, length-bits_of len (replicate count 0)) in
     let word : i / 64 < count = omega arith in
     bits_at len (replicate count 0) i false below
@@ -29,10 +30,12 @@ with_bit word bit = bit_or word (1 * 2 ^ bit % 2 ^ 64)
 pub one_more_bit : (len : ℕ) (words : List ℕ) (place : ℕ) → place < len → place / 64 < length words
     → bits_of len (set words (place / 64) (with_bit (get_or words (place / 64) 0) (place % 64))) ≡ set (bits_of len words) place true
 one_more_bit len words place lt word =
-    ext_get_or false (bits_of len after) (set (bits_of len words) place true) (length-bits_of len after ∙ sym (length-set (bits_of len words) place true ∙ length-bits_of len words)) (λ i below.
+    ext_get_or false (bits_of len after) (set (bits_of len words) place true) (length-bits_of len after
+    ∙ sym (length-set (bits_of len words) place true ∙ length-bits_of len words)) (λ i below.
     let i_lt : i < len = omega (arith, below, length-bits_of len after) in
     bits_at len after i false i_lt ∙ ⊎_elim
-    (λ (e : i ≡ place). rw e (set_here ∙ sym (get_or-set_same (bits_of len words) place true false (omega (arith, lt, length-bits_of len words)))))
+    (λ (e : i ≡ place). rw e (set_here
+    ∙ sym (get_or-set_same (bits_of len words) place true false (omega (arith, lt, length-bits_of len words)))))
     (λ other. set_there i other ∙ sym (get_or-set_other (bits_of len words) place i true false other ∙ bits_at len words i false i_lt))
     (cases_eq i place))
   where
@@ -40,13 +43,22 @@ one_more_bit len words place lt word =
     after = set words (place / 64) (with_bit (get_or words (place / 64) 0) (place % 64))
 
     set_here : is_set after place ≡ true
-    set_here = rw (get_or-set_same words (place / 64) (with_bit (get_or words (place / 64) 0) (place % 64)) 0 word, bit_at_set_same w64 (get_or words (place / 64) 0) (place % 64) (omega arith)) refl
+    set_here = rw (
+      get_or-set_same words (place / 64) (with_bit (get_or words (place / 64) 0) (place % 64)) 0 word,
+      bit_at_set_same w64
+          (get_or words (place / 64) 0) (place % 64) (omega arith),
+    ) refl
 
     set_there : (i : ℕ) → (i ≡ place → let none : Type 0 = ⊥ in none) → is_set after i ≡ is_set words i
     set_there i other = ⊎_elim
         (λ (row : i / 64 ≡ place / 64).
         let bit : i % 64 ≢ place % 64 = λ e. other (omega (arith, row, e)) in
-        rw (row, get_or-set_same words (place / 64) (with_bit (get_or words (place / 64) 0) (place % 64)) 0 word, bit_at_set_other w64 (get_or words (place / 64) 0) (place % 64) (omega arith) (i % 64) bit) refl)
+        rw (
+          row,
+          get_or-set_same words (place / 64) (with_bit (get_or words (place / 64) 0) (place % 64)) 0 word,
+          bit_at_set_other w64
+              (get_or words (place / 64) 0) (place % 64) (omega arith) (i % 64) bit,
+        ) refl)
         (λ row. rw (get_or-set_other words (place / 64) (i / 64) (with_bit (get_or words (place / 64) 0) (place % 64)) 0 row) refl)
         (cases_eq (i / 64) (place / 64))
 

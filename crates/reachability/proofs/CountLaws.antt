@@ -29,7 +29,15 @@ module _ {X : Type 0} where
 
     pub count_le : (xs : List X) → count_by p xs ≤ count_by q xs
     count_le [] = omega arith
-    count_le (x ∷ xs) = omega (arith, sum_by-cons (λ y. cond (p y) 1 0) x xs, sum_by-cons (λ y. cond (q y) 1 0) x xs, count_le xs, one_le (p x) (q x) (implies x))
+    count_le (x ∷ xs) =
+        omega (
+          arith,
+          sum_by-cons (λ y. cond (p y) 1 0) x xs,
+          sum_by-cons (λ y. cond (q y) 1 0) x xs,
+          count_le xs,
+          one_le (p x)
+              (q x) (implies x),
+        )
 
     pub count_less : (xs : List X) (x : X) → Contains xs x → p x ≡ false → q x ≡ true → count_by p xs < count_by q xs
     count_less [] x h p_no q_yes = absurd (omega (arith, h.1))
@@ -37,19 +45,31 @@ module _ {X : Type 0} where
         let by_p = sum_by-cons (λ z. cond (p z) 1 0) y ys in
         let by_q = sum_by-cons (λ z. cond (q z) 1 0) y ys in
         ⊎_elim
-        (λ e. let none = tested (p y) false (ap p e ∙ p_no) in let one = tested (q y) true (ap q e ∙ q_yes) in omega (arith, by_p, by_q, count_le ys, none, one))
+        (λ e. let none = tested (p y) false (ap p e ∙ p_no) in let one = tested (q y) true (ap q e ∙ q_yes) in
+        omega (arith, by_p, by_q, count_le ys, none, one))
         (λ later. omega (arith, by_p, by_q, count_less ys x later p_no q_yes, one_le (p y) (q y) (implies y)))
         (first_or_later y ys x h)
 
   -- ---- an element of the least number
 
   pub least : (f : X → ℕ) (x : X) (xs : List X) → (m : X) × Contains (x ∷ xs) m × ((y : X) → Contains (x ∷ xs) y → f m ≤ f y)
-  least f x [] = (x, has_first x [], λ y h. ⊎_elim (λ e. rw e (omega arith)) (λ later. absurd (omega (arith, later.1))) (first_or_later x [] y h))
+  least f x [] =
+      (x, has_first x [], λ y h. ⊎_elim (λ e. rw e (omega arith)) (λ later. absurd (omega (arith, later.1))) (first_or_later x [] y h))
   least f x (z ∷ zs) =
       let low = least f z zs in
       ⊎_elim
-      (λ (le : f x ≤ f low.0). (x, has_first x (z ∷ zs), λ y h. ⊎_elim (λ e. rw e (omega arith)) (λ later. omega (arith, le, low.2 y later)) (first_or_later x (z ∷ zs) y h)))
-      (λ (gt : f low.0 < f x). (low.0, has_later x (z ∷ zs) low.0 low.1, λ y h. ⊎_elim (λ e. rw (← e) (omega (arith, gt))) (λ later. low.2 y later) (first_or_later x (z ∷ zs) y h)))
+      (λ (le : f x ≤ f low.0). (
+        x,
+        has_first x (z ∷ zs),
+        λ y h. ⊎_elim (λ e. rw e (omega arith)) (λ later. omega (arith, le, low.2 y later))
+            (first_or_later x (z ∷ zs) y h),
+      ))
+      (λ (gt : f low.0 < f x). (
+        low.0,
+        has_later x (z ∷ zs) low.0 low.1,
+        λ y h. ⊎_elim (λ e. rw (← e) (omega (arith, gt)))
+            (λ later. low.2 y later) (first_or_later x (z ∷ zs) y h),
+      ))
       (cases_le (f x) (f low.0))
     where
       cases_le : (a b : ℕ) → (a ≤ b) ⊎ (b < a)
@@ -57,7 +77,8 @@ module _ {X : Type 0} where
 
 pub has_image : {X Y : Type 0} (f : X → Y) (xs : List X) (x : X) → Contains xs x → Contains (map f xs) (f x)
 has_image f [] x h = absurd (omega (arith, h.1))
-has_image f (y ∷ ys) x h = ⊎_elim (λ e. subst (Contains (map f (y ∷ ys))) (ap f e) (has_first (f y) (map f ys))) (λ later. has_later (f y) (map f ys) (f x) (has_image f ys x later)) (first_or_later y ys x h)
+has_image f (y ∷ ys) x h = ⊎_elim (λ e. subst (Contains (map f (y ∷ ys))) (ap f e) (has_first (f y) (map f ys)))
+    (λ later. has_later (f y) (map f ys) (f x) (has_image f ys x later)) (first_or_later y ys x h)
 
 pub image_of : {X Y : Type 0} (f : X → Y) (xs : List X) (y : Y) → Contains (map f xs) y → (x : X) × Contains xs x × (f x ≡ y)
 image_of f [] y there = absurd (omega (arith, there.1))

@@ -18,14 +18,17 @@ no_heads n = record {
 }
   where
     empty : (n p : ℕ) → get_or (replicate n []) p [] ≡ let none : List ℕ = [] in none
-    empty n p = ⊎_elim (λ lt. get_or-replicate n p [] [] lt) (λ le. get_or_past (replicate n []) p [] (omega (arith, le, length-replicate {A = List ℕ} n []))) (cases_lt p n)
+    empty n p = ⊎_elim (λ lt. get_or-replicate n p [] [] lt)
+        (λ le. get_or_past (replicate n []) p [] (omega (arith, le, length-replicate {A = List ℕ} n []))) (cases_lt p n)
 
-pub one_more_arc : (n : ℕ) (arcs : List (ℕ × ℕ)) (heads : List (List ℕ)) (a b : ℕ) → a < n → AreHeads n arcs heads → AreHeads n (arcs ++ (a, b) ∷ []) (set heads a (get_or heads a [] ++ b ∷ []))
+pub one_more_arc : (n : ℕ) (arcs : List (ℕ × ℕ)) (heads : List (List ℕ)) (a b : ℕ) → a < n → AreHeads n arcs heads
+    → AreHeads n (arcs ++ (a, b) ∷ []) (set heads a (get_or heads a [] ++ b ∷ []))
 one_more_arc n arcs heads a b lt are = record {
   each = length-set heads a (get_or heads a [] ++ b ∷ []) ∙ are.each;
   same = λ p q. ⊎_elim
       (λ e.
-      let at : get_or (set heads a (get_or heads a [] ++ b ∷ [])) p [] ≡ get_or heads a [] ++ b ∷ [] = rw e (get_or-set_same heads a (get_or heads a [] ++ b ∷ []) [] (omega (arith, lt, are.each))) in (
+      let at : get_or (set heads a (get_or heads a [] ++ b ∷ [])) p [] ≡ get_or heads a [] ++ b ∷ [] =
+      rw e (get_or-set_same heads a (get_or heads a [] ++ b ∷ []) [] (omega (arith, lt, are.each))) in (
         λ leads. ⊎_elim
             (λ old. Contains-append_left arcs ((a, b) ∷ []) (p, q) ((are.same p q).0 (subst (λ x. LeadsTo heads x q) (sym e) old)))
             (λ is. subst (Contains (arcs ++ (a, b) ∷ [])) (λ i. (sym e i, is i)) (Contains-push arcs (a, b)))
@@ -38,14 +41,18 @@ one_more_arc n arcs heads a b lt are = record {
       (λ other.
       let at = get_or-set_other heads a p (get_or heads a [] ++ b ∷ []) [] other in (
         λ leads. Contains-append_left arcs ((a, b) ∷ []) (p, q) ((are.same p q).0 (subst (λ l. Contains l q) at leads)),
-        λ arc. subst (λ l. Contains l q) (sym at) (⊎_elim (λ old. (are.same p q).1 old) (λ is. absurd (other (sym (ap (λ x. x.0) is)))) (Contains-push_cases arcs (a, b) (p, q) arc)),
+        λ arc. subst (λ l. Contains l q) (sym at) (⊎_elim (λ old. (are.same p q).1 old) (λ is. absurd (other (sym (ap (λ x. x.0) is))))
+            (Contains-push_cases arcs (a, b) (p, q) arc)),
       ))
       (cases_eq p a);
 }
 
-pub heads_within : (n : ℕ) (arcs : List (ℕ × ℕ)) (heads : List (List ℕ)) → All (λ arc. (arc.0 < n) × (arc.1 < n)) arcs → AreHeads n arcs heads → AreWithin heads
+pub heads_within : (n : ℕ) (arcs : List (ℕ × ℕ)) (heads : List (List ℕ)) → All (λ arc. (arc.0 < n) × (arc.1 < n)) arcs
+    → AreHeads n arcs heads → AreWithin heads
 heads_within n arcs heads within are k d lt j e in_list =
-    let leads : LeadsTo heads k (get_or (get_or heads k d) j e) = subst (λ l. Contains l (get_or (get_or heads k d) j e)) (get_or_default heads k d [] lt) (Contains-get_or (get_or heads k d) j e in_list) in
+    let leads : LeadsTo heads k (get_or (get_or heads k d) j e) =
+    subst (λ l. Contains l (get_or (get_or heads k d) j e)) (get_or_default heads k d [] lt)
+    (Contains-get_or (get_or heads k d) j e in_list) in
     omega (arith, (All-contains (λ arc. (arc.0 < n) × (arc.1 < n)) arcs _ within ((are.same k _).0 leads)).1, are.each)
 
 -- ---- keys and places
@@ -74,18 +81,23 @@ module _ {A B : Type 0} (R : A → B → Type 0) where
   zip_push (w ∷ ws) (z ∷ zs) x y all r = (all.0, zip_push ws zs x y all.1 r)
 
 -- a path goes over to what stands for its keys, where each key has one that stands for it
-carried_by : {K L : Type 0} (Joins : K → K → Type 0) (Others : L → L → Type 0) (Stands : K → L → Type 0) → ((p : K) (a b : L) → Stands p a → Stands p b → a ≡ b)
-    → ((p q : K) → Joins p q → (a : L) × (b : L) × Stands p a × Stands q b × Others a b) → (p q : K) (b : L) → Stands q b → Path Joins p q → (a : L) → Stands p a → Path Others a b
+carried_by : {K L : Type 0} (Joins : K → K → Type 0) (Others : L → L → Type 0) (Stands : K → L → Type 0)
+    → ((p : K) (a b : L) → Stands p a → Stands p b → a ≡ b)
+    → ((p q : K) → Joins p q → (a : L) × (b : L) × Stands p a × Stands q b × Others a b) → (p q : K) (b : L) → Stands q b → Path Joins p q
+    → (a : L) → Stands p a → Path Others a b
 carried_by Joins Others Stands one arcs p q b to path = along Joins (λ x. (a : _) → Stands x a → Path Others a b) q
-    (λ x arc a at. let w = arcs x q arc in one_arc Others a b (subst (λ y. Others a y) (one q _ _ w.3 to) (subst (λ y. Others y w.1) (one x _ _ w.2 at) w.4)))
-    (λ x y arc rest a at. let w = arcs x y arc in arc_before Others a w.1 b (subst (λ z. Others z w.1) (one x _ _ w.2 at) w.4) (rest w.1 w.3)) p path
+    (λ x arc a at. let w = arcs x q arc in
+    one_arc Others a b (subst (λ y. Others a y) (one q _ _ w.3 to) (subst (λ y. Others y w.1) (one x _ _ w.2 at) w.4)))
+    (λ x y arc rest a at. let w = arcs x y arc in
+    arc_before Others a w.1 b (subst (λ z. Others z w.1) (one x _ _ w.2 at) w.4) (rest w.1 w.3)) p path
 
 module _ {K : Type 0} (keys : List K) (arcs : List (K × K)) (numbers : List (ℕ × ℕ)) (numbered : AreNumbered keys arcs numbers) where
   one_key : (i : ℕ) (p q : K) → IsAt keys p i → IsAt keys q i → p ≡ q
   one_key i p q a b = sym a.1 ∙ get_or_default keys i p q a.0 ∙ b.1
 
   pub numbers_within : All (λ number. (number.0 < length keys) × (number.1 < length keys)) numbers
-  numbers_within k d lt = let w = zip_from _ arcs numbers numbered (get_or numbers k d) (Contains-get_or numbers k d lt) in (w.1.0.0, w.1.1.0)
+  numbers_within k d lt = let w = zip_from _ arcs numbers numbered (get_or numbers k d) (Contains-get_or numbers k d lt) in
+      (w.1.0.0, w.1.1.0)
 
   pub number_path : AreOnce keys → (p q : K) (i j : ℕ) → IsAt keys p i → IsAt keys q j → Path (HasArc numbers) i j ↔ Path (HasArc arcs) p q
   number_path once p q i j at_i at_j = (
@@ -96,7 +108,8 @@ module _ {K : Type 0} (keys : List K) (arcs : List (K × K)) (numbers : List (�
   )
 
 -- a search over numbered arcs tells of paths between keys
-pub told_by_marks : {K : Type 0} (keys : List K) (arcs : List (K × K)) (numbers : List (ℕ × ℕ)) (heads : List (List ℕ)) (marks : _) → AreNumbered keys arcs numbers → AreHeads (length keys) numbers heads → AreOnce keys
+pub told_by_marks : {K : Type 0} (keys : List K) (arcs : List (K × K)) (numbers : List (ℕ × ℕ)) (heads : List (List ℕ)) (marks : _)
+    → AreNumbered keys arcs numbers → AreHeads (length keys) numbers heads → AreOnce keys
     → (p q : K) (i j : ℕ) → IsAt keys p i → IsAt keys q j → MarksReached heads i marks → IsMarked marks j ↔ Path (HasArc arcs) p q
 told_by_marks keys arcs numbers heads marks numbered are once p q i j at_i at_j told =
     let over = number_path keys arcs numbers numbered once p q i j at_i at_j in (

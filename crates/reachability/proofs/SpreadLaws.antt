@@ -21,8 +21,11 @@ module _ {X : Type 0} (p : X → Bool) where
   in_filter [] x there passes = absurd (omega (arith, there.1))
   in_filter (y ∷ ys) x there passes =
       elim (cases_Bool (p y)) [
-        | inl is ↦ rw is (⊎_elim (λ e. subst (Contains (y ∷ filter p ys)) e (has_first y (filter p ys))) (λ later. has_later y (filter p ys) x (in_filter ys x later passes)) (first_or_later y ys x there))
-        | inr not_it ↦ rw not_it (⊎_elim (λ e. absurd (false≢true (sym not_it ∙ ap p e ∙ passes))) (λ later. in_filter ys x later passes) (first_or_later y ys x there))
+        | inl is ↦ rw is (⊎_elim (λ e. subst (Contains (y ∷ filter p ys)) e (has_first y (filter p ys)))
+            (λ later. has_later y (filter p ys) x (in_filter ys x later passes)) (first_or_later y ys x there))
+        | inr not_it ↦
+            rw not_it (⊎_elim (λ e. absurd (false≢true (sym not_it ∙ ap p e ∙ passes))) (λ later. in_filter ys x later passes)
+            (first_or_later y ys x there))
       ]
 
 module _ {K : Type 0} (same : K → K → Bool) (exact : (x y : K) → Decides (same x y) (x ≡ y)) where
@@ -65,7 +68,8 @@ module _ {K : Type 0} (same : K → K → Bool) (exact : (x y : K) → Decides (
     Begins q x = IsNext q ⊎ ((among same tails x ≡ false) × Path Others x q)
 
     next : (p q : K) → Contains tails p → Path (HasArc arcs) p q → IsNext q
-    next p q there path = ⊎_elim (λ is. is) (λ w. absurd (false≢true (sym w.0 ∙ (among_decides tails p).1 there))) (along (HasArc arcs) (Begins q) q one more p path)
+    next p q there path = ⊎_elim (λ is. is) (λ w. absurd (false≢true (sym w.0 ∙ (among_decides tails p).1 there)))
+        (along (HasArc arcs) (Begins q) q one more p path)
       where
         one : (x : K) → HasArc arcs x q → Begins q x
         one x arc = ⊎_elim
@@ -91,7 +95,8 @@ module _ {K : Type 0} (same : K → K → Bool) (exact : (x y : K) → Decides (
 
   -- ---- all rounds
 
-  spread-from : (rounds : ℕ) (arcs : List (K × K)) (tails : List K) (q : K) → Contains (spread same rounds arcs tails) q → (p : K) × Contains tails p × Path (HasArc arcs) p q
+  spread-from : (rounds : ℕ) (arcs : List (K × K)) (tails : List K) (q : K) → Contains (spread same rounds arcs tails) q → (p : K)
+      × Contains tails p × Path (HasArc arcs) p q
   unfolding spread
   spread-from zero arcs tails q there = absurd (omega (arith, there.1))
   spread-from (suc rounds) arcs [] q there = absurd (omega (arith, there.1))
@@ -107,9 +112,11 @@ module _ {K : Type 0} (same : K → K → Bool) (exact : (x y : K) → Decides (
       (w.0, w.1, arc_before (HasArc arcs) w.0 behind.0 q w.2 path))
       (Contains-append_cases heads (spread same rounds (arcs_left same arcs tails) heads) q there)
 
-  spread-has : (rounds : ℕ) (arcs : List (K × K)) (tails : List K) → length arcs ≤ rounds → (p q : K) → Contains tails p → Path (HasArc arcs) p q → Contains (spread same rounds arcs tails) q
+  spread-has : (rounds : ℕ) (arcs : List (K × K)) (tails : List K) → length arcs ≤ rounds → (p q : K) → Contains tails p
+      → Path (HasArc arcs) p q → Contains (spread same rounds arcs tails) q
   unfolding spread
-  spread-has zero arcs tails le p q there path = absurd (⊎_elim (λ arc. omega (arith, le, arc.1)) (λ w. omega (arith, le, w.1.1)) (first_arc (HasArc arcs) p q path))
+  spread-has zero arcs tails le p q there path =
+      absurd (⊎_elim (λ arc. omega (arith, le, arc.1)) (λ w. omega (arith, le, w.1.1)) (first_arc (HasArc arcs) p q path))
   spread-has (suc rounds) arcs [] le p q there path = absurd (omega (arith, there.1))
   spread-has (suc rounds) arcs (tail ∷ rest) le p q there path =
       let tails = tail ∷ rest in

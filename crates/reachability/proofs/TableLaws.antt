@@ -40,7 +40,8 @@ module _ (heads : List (List ℕ)) where
           first.fresh k (omega (arith, after)) ((row.others k (inr (omega (arith, after, is)))).0 marked);
     }
 
-pub all_rows : (n : ℕ) (arcs : List (ℕ × ℕ)) (heads : List (List ℕ)) (marks : List Bool) → AreHeads n arcs heads → AreFirstRows heads n n marks → IsPathTable n arcs (record { places = n; marks = marks })
+pub all_rows : (n : ℕ) (arcs : List (ℕ × ℕ)) (heads : List (List ℕ)) (marks : List Bool) → AreHeads n arcs heads
+    → AreFirstRows heads n n marks → IsPathTable n arcs (record { places = n; marks = marks })
 all_rows n arcs heads marks are first = record {
   each = λ i. n;
   marks = λ p q p_lt q_lt.
@@ -55,7 +56,8 @@ place_within n len p q is p_lt q_lt = omega (arith, is, mul-add-lt p n q n p_lt 
 
 -- ---- keys
 
-pub key_table : {K : Type 0} (keys : List K) (arcs : List (K × K)) (numbers : List (ℕ × ℕ)) (table : PathMarks) → AreNumbered keys arcs numbers → AreOnce keys → IsPathTable (length keys) numbers table → IsKeyTable keys arcs table
+pub key_table : {K : Type 0} (keys : List K) (arcs : List (K × K)) (numbers : List (ℕ × ℕ)) (table : PathMarks)
+    → AreNumbered keys arcs numbers → AreOnce keys → IsPathTable (length keys) numbers table → IsKeyTable keys arcs table
 key_table keys arcs numbers table numbered once are = record {
   each = are.each;
   marks = λ p q i j at_i at_j.

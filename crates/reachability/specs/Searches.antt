@@ -13,7 +13,8 @@ pub record Visits (base : ℕ) (places : List ℕ) (marks new_marks : List Bool)
   pub visited : All (λ q. IsMarked new_marks (base + q)) places
   pub kept : (k : ℕ) → IsMarked marks k → IsMarked new_marks k
   pub still_waiting : (q : ℕ) → Contains waiting q → Contains new_waiting q
-  pub from_marked : (k : ℕ) → IsMarked new_marks k → IsMarked marks k ⊎ ((q : ℕ) × (k ≡ base + q) × Contains places q × Contains new_waiting q)
+  pub from_marked : (k : ℕ) → IsMarked new_marks k → IsMarked marks k
+      ⊎ ((q : ℕ) × (k ≡ base + q) × Contains places q × Contains new_waiting q)
   pub from_waiting : (q : ℕ) → Contains new_waiting q → Contains waiting q ⊎ (Contains places q × IsMarked new_marks (base + q))
   pub work : left new_marks new_waiting ≡ left marks waiting
 

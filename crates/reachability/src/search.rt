@@ -73,7 +73,8 @@ fn visit(
 ) -> Result<(), AllocError>
     requires within { All (λ q. base + q < length marks.old) places.now }
     requires fits { length marks.old < 2 ^ 64 }
-    ensures { OnOk result (Visits base places.now marks.old marks.new waiting.old.items waiting.new.items) }
+    ensures { OnOk result (Visits base places.now marks.old marks.new waiting.old.items
+        waiting.new.items) }
 {
     for place in places {
         let mark = base + *place;

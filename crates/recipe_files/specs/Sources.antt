@@ -5,7 +5,7 @@ use Rattle.outside_desk.specs.Files.{Files}
 use Rattle.outside_desk.specs.Listing.{names_in}
 use Rattle.spec_grammar.specs.Signs.{is_name}
 use Rattle.recipe_reader.specs.declared.files.RecipeFile.{RecipeFile}
-use Rattle.run_answers.specs.Stages.{◌>>=◌, check}
+use Rattle.run_answers.specs.Stages.{◌>>=◌}
 use Rattle.run_answers.specs.declared.refusal.Refusal.{Refusal}
 use Rattle.run_answers.specs.declared.refusal.Refusal.TheVariants as refusals
 use Rattle.run_answers.specs.declared.stop.ReadStop.{ReadStop}

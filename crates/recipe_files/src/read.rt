@@ -27,8 +27,12 @@ fn read_entry<D: Desk>(
     name: &str,
     sources: &mut Sources,
 ) -> Result<(), ReadStop>
-    ensures left { IfSome (D.files desk.old) (λ files. Leaves (with_entry sources.old name.now (recipe_at files repo.now name.now)) sources.new result) }
-    ensures order { (names : List (List ℕ)) → IsInByteOrder (names_of sources.old ++ name.now ∷ names) → OnOk result (IsInByteOrder (names_of sources.new ++ names)) }
+    ensures left { IfSome (D.files desk.old)
+        (λ files. Leaves (with_entry sources.old name.now (recipe_at files repo.now name.now))
+        sources.new result) }
+    ensures order { (names : List (List ℕ))
+        → IsInByteOrder (names_of sources.old ++ name.now ∷ names)
+        → OnOk result (IsInByteOrder (names_of sources.new ++ names)) }
     ensures path { FailsInside repo.now result }
     ensures no_usage { EndsInUsage result → ⊥ }
     ensures same { D.files desk.new ≡ D.files desk.old }
@@ -56,7 +60,9 @@ fn read_entries<D: Desk>(
     names: &[String],
 ) -> Result<Sources, ReadStop>
     requires { AreInOrder (map string_bytes names.now) }
-    ensures read { IfSome (D.files desk.old) (λ files. Gives result (Is (with_entries files repo.now no_files (map string_bytes names.now)))) }
+    ensures read { IfSome (D.files desk.old)
+        (λ files. Gives result
+        (Is (with_entries files repo.now no_files (map string_bytes names.now)))) }
     ensures order { IfOk result (λ sources. IsInByteOrder (names_of sources)) }
     ensures path { FailsInside repo.now result }
     ensures no_usage { EndsInUsage result → ⊥ }

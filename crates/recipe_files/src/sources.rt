@@ -43,7 +43,8 @@ fn push_file(
     name: &str,
     bytes: Vec<u8>,
 ) -> Result<(), AllocError>
-    ensures { OnOk result (map source_of files.new ≡ map source_of files.old ++ (name.now, bytes.items) ∷ []) }
+    ensures { OnOk result (map source_of files.new ≡ map source_of files.old
+        ++ (name.now, bytes.items) ∷ []) }
 {
     let name = Word::new(alloc, name)?;
     files.push(RecipeFile { name, bytes })?;
@@ -85,7 +86,8 @@ impl Sources {
     /// What one more file is answered by that has more than 1 MiB.
     #[tactic(auto, unfolding(crate::specs::Sources::with_file))]
     pub(crate) fn refuse(&self, alloc: Global, name: &str) -> Result<(), ReadStop>
-        ensures left { (bytes : List ℕ) → 2 ^ 20 < length bytes → Leaves (with_file self.now name.now bytes) self.now result }
+        ensures left { (bytes : List ℕ) → 2 ^ 20 < length bytes
+            → Leaves (with_file self.now name.now bytes) self.now result }
         ensures stops { OnOk result ⊥ }
         ensures no_fault { EndsInReadFault result → ⊥ }
         ensures no_usage { EndsInUsage result → ⊥ }

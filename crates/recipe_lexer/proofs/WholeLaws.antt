@@ -54,28 +54,50 @@ Fresh line s = (s.line ≡ line) × (s.brackets ≡ []) × Ends false s
 stand_put : (k : TokenKind) (from to : ℕ) (s : State) → stand_of (put k from to s).tokens ≡ after (stand_of s.tokens) k
 stand_put k from to s = fold-append after_token (At false [] 0) s.tokens (record { kind = k; start = from; end = to } ∷ [])
 
-put_stand : (k : TokenKind) (from to : ℕ) (s : State) (stand : Stand) → stand_of s.tokens ≡ stand → stand_of (put k from to s).tokens ≡ after stand k
+put_stand : (k : TokenKind) (from to : ℕ) (s : State) (stand : Stand) → stand_of s.tokens ≡ stand
+    → stand_of (put k from to s).tokens ≡ after stand k
 put_stand k from to s stand e = stand_put k from to s ∙ ap (λ (now : Stand). after now k) e
 
 -- ---- indentation
 
-dedents_fresh : (line : Line) (from place n : ℕ) (indents : List ℕ) (s : State) → s.indents ≡ indents → Fresh line s → IfOk (dedents from place n indents s) (Fresh line)
-dedents_fresh line from place n [] s e f = cond_all (λ r. IfOk r (Fresh line)) (n == 0) (Ok s) (Err (fault.BadIndent from)) (λ e. f) (λ e. tt)
+dedents_fresh : (line : Line) (from place n : ℕ) (indents : List ℕ) (s : State) → s.indents ≡ indents → Fresh line s
+    → IfOk (dedents from place n indents s) (Fresh line)
+dedents_fresh line from place n [] s e f =
+    cond_all (λ r. IfOk r (Fresh line)) (n == 0) (Ok s) (Err (fault.BadIndent from)) (λ e. f) (λ e. tt)
 dedents_fresh line from place n (i ∷ indents) s e f =
     let t : State = put kind.Dedent place place (record s { indents = indents }) in
     let ends : Ends false s = f.2 in
-    let at : stand_of s.tokens ≡ At false [] (suc (length indents)) = ends.0 ∙ ap (λ (os : List Opened). At false (map partner os) (length s.indents)) (f.1) ∙ ap (λ (is : List ℕ). At false [] (length is)) e in
+    let at : stand_of s.tokens ≡ At false [] (suc (length indents)) =
+    ends.0 ∙ ap (λ (os : List Opened). At false (map partner os) (length s.indents)) (f.1)
+    ∙ ap (λ (is : List ℕ). At false [] (length is)) e in
     let some : Positive (i ∷ indents) = rw e at (ends.1) in
-    let fresh : Fresh line t = (f.0, f.1, (rw (f.1) (put_stand kind.Dedent place place (record s { indents = indents }) (At false [] (suc (length indents))) at), some.1)) in
-    cond_all (λ r. IfOk r (Fresh line)) (n == i) (Ok s) (cond (nat_lt i n) (Err (fault.BadIndent from)) (dedents from place n indents t)) (λ e. f) (λ e.
+    let fresh : Fresh line t = (
+      f.0,
+      f.1,
+      (
+        rw (f.1) (put_stand kind.Dedent place place (record s { indents = indents }) (At false [] (suc (length indents))) at),
+        some.1,
+      ),
+    ) in
+    cond_all (λ r. IfOk r (Fresh line)) (n == i) (Ok s) (cond (nat_lt i n) (Err (fault.BadIndent from)) (dedents from place n indents t))
+    (λ e. f) (λ e.
     cond_all (λ r. IfOk r (Fresh line)) (nat_lt i n) (Err (fault.BadIndent from)) (dedents from place n indents t) (λ e. tt) (λ e.
     dedents_fresh line from place n indents t refl fresh))
 
 deeper_inside : (from place n : ℕ) (colon : Bool) (s : State) → 0 < n → Fresh Begun s → IfOk (deeper from place n colon s) Inside
 deeper_inside from place n true s some f =
     let ends : Ends false s = f.2 in
-    let at : stand_of s.tokens ≡ At false [] (length s.indents) = ends.0 ∙ ap (λ (os : List Opened). At false (map partner os) (length s.indents)) (f.1) in
-    (f.0, (false, (rw (f.1) (put_stand kind.Indent from place (record s { indents = n ∷ s.indents }) (At false [] (length s.indents)) at), (some, ends.1))))
+    let at : stand_of s.tokens ≡ At false [] (length s.indents) =
+    ends.0 ∙ ap (λ (os : List Opened). At false (map partner os) (length s.indents)) (f.1) in (
+      f.0,
+      (
+        false,
+        (
+          rw (f.1) (put_stand kind.Indent from place (record s { indents = n ∷ s.indents }) (At false [] (length s.indents)) at),
+          (some, ends.1),
+        ),
+      ),
+    )
 deeper_inside from place n false s some f = tt
 
 fresh_inside : (s : State) → Fresh Begun s → Inside s
@@ -85,10 +107,13 @@ indented_inside : (from place : ℕ) (white : List ℕ) (s : State) → Fresh Be
 unfolding indented indent
 indented_inside from place white s f =
     let n : ℕ = spaces white in
-    cond_all (λ r. IfOk r Inside) (nat_lt (prefix_len is_no_tab white) (length white)) (Err (fault.BadIndent (from + prefix_len is_no_tab white))) (cond (nat_lt (top s.indents) n) (deeper from place n s.colon s) (dedents from place n s.indents s)) (λ e. tt) (λ e.
+    cond_all (λ r. IfOk r Inside) (nat_lt (prefix_len is_no_tab white) (length white))
+    (Err (fault.BadIndent (from + prefix_len is_no_tab white)))
+    (cond (nat_lt (top s.indents) n) (deeper from place n s.colon s) (dedents from place n s.indents s)) (λ e. tt) (λ e.
     cond_all (λ r. IfOk r Inside) (nat_lt (top s.indents) n) (deeper from place n s.colon s) (dedents from place n s.indents s)
     (λ e. deeper_inside from place n s.colon s (omega (arith, leb-true (suc (top s.indents)) n e)) f)
-    (λ e. ok_map (Fresh Begun) Inside (dedents from place n s.indents s) (dedents_fresh Begun from place n s.indents s refl f) fresh_inside))
+    (λ e. ok_map (Fresh Begun) Inside (dedents from place n s.indents s) (dedents_fresh Begun from place n s.indents s refl f)
+    fresh_inside))
 
 begin_line : (bytes : List ℕ) (line : Line) (s : State) → s.line ≡ line → ReadyIn line s → IfOk (begin_by bytes line s) Inside
 begin_line bytes Begun s e r = (e, (true, r))
@@ -106,24 +131,31 @@ begun_ready s e ends = rw e ends
 
 word_ready : (from to : ℕ) (s : State) → Inside s → Ready (put_solid kind.Word from to false s)
 word_ready from to s (e, (begun, ends)) =
-    begun_ready (put_solid kind.Word from to false s) e (put_stand kind.Word from to (record s { colon = false }) (At begun (map partner s.brackets) (length s.indents)) ends.0, ends.1)
+    begun_ready (put_solid kind.Word from to false s) e
+    (put_stand kind.Word from to (record s { colon = false }) (At begun (map partner s.brackets) (length s.indents)) ends.0, ends.1)
 
 text_ready : (from to : ℕ) (s : State) → Inside s → Ready (put_solid kind.Text from to false s)
 text_ready from to s (e, (begun, ends)) =
-    begun_ready (put_solid kind.Text from to false s) e (put_stand kind.Text from to (record s { colon = false }) (At begun (map partner s.brackets) (length s.indents)) ends.0, ends.1)
+    begun_ready (put_solid kind.Text from to false s) e
+    (put_stand kind.Text from to (record s { colon = false }) (At begun (map partner s.brackets) (length s.indents)) ends.0, ends.1)
 
 -- behind the step of a sign on the brackets, its token gives the state's brackets
 abbrev pub Signs : ℕ → State → Type 0
-Signs b s = (s.line ≡ Begun) × (after (stand_of s.tokens) (kind.Op b) ≡ At true (map partner s.brackets) (length s.indents)) × Positive s.indents
+Signs b s = (s.line ≡ Begun) × (after (stand_of s.tokens) (kind.Op b) ≡ At true (map partner s.brackets) (length s.indents))
+    × Positive s.indents
 
-close_signs : (place b : ℕ) (brackets : List Opened) (s : State) (blocks : ℕ) → s.line ≡ Begun → Positive s.indents → blocks ≡ length s.indents → s.brackets ≡ brackets → (after (stand_of s.tokens) (kind.Op b) ≡ by_closing b (map partner brackets) blocks) → IfOk (close place b brackets s) (Signs b)
+close_signs : (place b : ℕ) (brackets : List Opened) (s : State) (blocks : ℕ) → s.line ≡ Begun → Positive s.indents
+    → blocks ≡ length s.indents → s.brackets ≡ brackets
+    → (after (stand_of s.tokens) (kind.Op b) ≡ by_closing b (map partner brackets) blocks) → IfOk (close place b brackets s) (Signs b)
 close_signs place b [] s blocks e some same is sign = tt
 close_signs place b (inner ∷ brackets) s blocks e some same is sign =
     cond_all (λ r. IfOk r (Signs b)) (inner.closing == b) (Ok (record s { brackets = brackets })) (Err (fault.OpenBracket place))
     (λ fits. (e, sign ∙ rw (fits, same) refl, some))
     (λ fits. tt)
 
-bracket_signs : (place b : ℕ) (closes : Option ℕ) (s : State) → s.line ≡ Begun → Positive s.indents → (after (stand_of s.tokens) (kind.Op b) ≡ by_sign b closes (map partner s.brackets) (length s.indents)) → IfOk (bracket_by place b closes s) (Signs b)
+bracket_signs : (place b : ℕ) (closes : Option ℕ) (s : State) → s.line ≡ Begun → Positive s.indents
+    → (after (stand_of s.tokens) (kind.Op b) ≡ by_sign b closes (map partner s.brackets) (length s.indents))
+    → IfOk (bracket_by place b closes s) (Signs b)
 bracket_signs place b (Some c) s e some sign = (e, sign, some)
 bracket_signs place b None s e some sign =
     cond_all (λ r. IfOk r (Signs b)) (is_closing b) (close place b s.brackets s) (Ok s)
@@ -132,22 +164,27 @@ bracket_signs place b None s e some sign =
 
 sign_signs : (place b : ℕ) (s : State) → Inside s → IfOk (bracket place b s) (Signs b)
 unfolding bracket
-sign_signs place b s (e, (begun, ends)) = bracket_signs place b (closing b) s e ends.1 (ap (λ (now : Stand). after now (kind.Op b)) (ends.0))
+sign_signs place b s (e, (begun, ends)) = bracket_signs place b (closing b) s e ends.1
+    (ap (λ (now : Stand). after now (kind.Op b)) (ends.0))
 
 op_ready : (b from to : ℕ) (colon : Bool) (s : State) → Signs b s → Ready (put_solid (kind.Op b) from to colon s)
-op_ready b from to colon s f = begun_ready (put_solid (kind.Op b) from to colon s) f.0 (stand_put (kind.Op b) from to (record s { colon = colon }) ∙ f.1, f.2)
+op_ready b from to colon s f = begun_ready (put_solid (kind.Op b) from to colon s) f.0
+    (stand_put (kind.Op b) from to (record s { colon = colon }) ∙ f.1, f.2)
 
 -- ---- pieces
 
-white_ready : (from to : ℕ) (line : Line) (s : State) → ReadyIn line s → ReadyIn (white_by from to line) (record s { line = white_by from to line })
+white_ready : (from to : ℕ) (line : Line) (s : State) → ReadyIn line s
+    → ReadyIn (white_by from to line) (record s { line = white_by from to line })
 white_ready from to Begun s r = r
 white_ready from to (Blank low high) s r =
     cond_all (λ line. ReadyIn line (record s { line = line })) (high == from) (Blank low to) (Blank low high) (λ e. r) (λ e. r)
 
-line_end_ready : (from to : ℕ) (brackets : List Opened) (line : Line) (s : State) → s.brackets ≡ brackets → s.line ≡ line → ReadyIn line s → Ready (line_end_by from to brackets line s)
+line_end_ready : (from to : ℕ) (brackets : List Opened) (line : Line) (s : State) → s.brackets ≡ brackets → s.line ≡ line → ReadyIn line s
+    → Ready (line_end_by from to brackets line s)
 line_end_ready from to (inner ∷ brackets) line s e is r = subst (λ (now : Line). ReadyIn now s) (sym is) r
 line_end_ready from to [] Begun s e is r =
-    let at : stand_of s.tokens ≡ At true [] (length s.indents) = r.0 ∙ ap (λ (os : List Opened). At true (map partner os) (length s.indents)) e in
+    let at : stand_of s.tokens ≡ At true [] (length s.indents) =
+    r.0 ∙ ap (λ (os : List Opened). At true (map partner os) (length s.indents)) e in
     (e, (rw e (put_stand kind.NewLine from to (record s { line = Blank to to }) (At true [] (length s.indents)) at), r.1))
 line_end_ready from to [] (Blank low high) s e is r = r
 
@@ -180,22 +217,28 @@ lay_ready bytes (p ∷ ps) s r = ok_then Ready Ready (step bytes p s) (lay bytes
 abbrev pub Ended : State → Type 0
 Ended s = stand_of s.tokens ≡ At false [] 0
 
-dedents_all : (from place : ℕ) (indents : List ℕ) (s : State) → Positive indents → stand_of s.tokens ≡ At false [] (length indents) → IfOk (dedents from place 0 indents s) Ended
+dedents_all : (from place : ℕ) (indents : List ℕ) (s : State) → Positive indents → stand_of s.tokens ≡ At false [] (length indents)
+    → IfOk (dedents from place 0 indents s) Ended
 dedents_all from place [] s some at = at
 dedents_all from place (i ∷ indents) s some at =
     let no : 0 ≡ i → ⊥ = λ e. omega (arith, e, some.0) in
     let t : State = put kind.Dedent place place (record s { indents = indents }) in
-    rw (ne_eqb 0 i no, le-ltb i 0 (omega arith)) (dedents_all from place indents t some.1 (put_stand kind.Dedent place place (record s { indents = indents }) (At false [] (suc (length indents))) at))
+    rw (ne_eqb 0 i no, le-ltb i 0 (omega arith))
+    (dedents_all from place indents t some.1 (put_stand kind.Dedent place place (record s { indents = indents })
+    (At false [] (suc (length indents))) at))
 
-last_ended : (to : ℕ) (line : Line) (s : State) → s.brackets ≡ [] → ReadyIn line s → stand_of (last_line to line s).tokens ≡ At false [] (length s.indents)
-last_ended to Begun s e r = put_stand kind.NewLine to to s (At true [] (length s.indents)) (r.0 ∙ ap (λ (os : List Opened). At true (map partner os) (length s.indents)) e)
+last_ended : (to : ℕ) (line : Line) (s : State) → s.brackets ≡ [] → ReadyIn line s
+    → stand_of (last_line to line s).tokens ≡ At false [] (length s.indents)
+last_ended to Begun s e r = put_stand kind.NewLine to to s (At true [] (length s.indents)) (r.0
+    ∙ ap (λ (os : List Opened). At true (map partner os) (length s.indents)) e)
 last_ended to (Blank low high) s e r = (r.1).0 ∙ ap (λ (os : List Opened). At false (map partner os) (length s.indents)) e
 
 ready_positive : (line : Line) (s : State) → ReadyIn line s → Positive s.indents
 ready_positive Begun s r = r.1
 ready_positive (Blank low high) s r = (r.1).1
 
-finish_whole_by : (to : ℕ) (brackets : List Opened) (s : State) → s.brackets ≡ brackets → Ready s → IfOk (finish_by to brackets s) (λ t. AreWhole t.tokens)
+finish_whole_by : (to : ℕ) (brackets : List Opened) (s : State) → s.brackets ≡ brackets → Ready s
+    → IfOk (finish_by to brackets s) (λ t. AreWhole t.tokens)
 finish_whole_by to (inner ∷ brackets) s e r = tt
 finish_whole_by to [] s e r =
     let t : State = last_line to s.line s in

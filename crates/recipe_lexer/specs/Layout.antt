@@ -176,7 +176,14 @@ tokens bytes = if is_utf8 bytes then text_tokens bytes else Err fault.NotUtf8
 -- ---- the lexer of the program, as a state
 
 abbrev pub view : Lexer → State
-view l = record { line = l.line; brackets = reverse l.brackets.items; indents = reverse l.indents.items; colon = l.colon; tokens = l.tokens.items }
+view l = record {
+  line = l.line;
+  brackets = reverse l.brackets.items;
+  indents = reverse l.indents.items;
+  colon = l.colon;
+  tokens =
+      l.tokens.items;
+}
 
 -- what a call did, unless memory ran out
 abbrev pub Fails : {X : Type 0} → LexFault → Result X LexFault → Type 0

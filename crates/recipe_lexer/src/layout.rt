@@ -49,7 +49,8 @@ fn bracket(lexer: &mut Lexer, place: u64, b: u8) -> Result<(), LexFault>
 
 /// A word, a string or a sign is put.
 fn put_solid(lexer: &mut Lexer, kind: TokenKind, piece: Piece, colon: bool) -> Result<(), LexFault>
-    ensures { Gives result lexer.new (Ok (put_solid kind piece.start piece.end colon (view lexer.old))) }
+    ensures { Gives result lexer.new
+        (Ok (put_solid kind piece.start piece.end colon (view lexer.old))) }
 {
     lexer.colon = colon;
     put(lexer, kind, piece.start, piece.end)
@@ -128,7 +129,9 @@ fn finish(lexer: &mut Lexer, end: u64) -> Result<(), LexFault>
 
 /// The whole text.
 fn read(lexer: &mut Lexer, bytes: &[u8]) -> Result<(), LexFault>
-    ensures { Gives result lexer.new (then_do (lay bytes.now (pieces 0 0 bytes.now) (view lexer.old)) (finish (length bytes.now))) }
+    ensures { Gives result lexer.new
+        (then_do (lay bytes.now (pieces 0 0 bytes.now) (view lexer.old))
+        (finish (length bytes.now))) }
 {
     match lay(lexer, bytes) {
         Ok(()) => finish(lexer, bytes.len() as u64),

@@ -86,7 +86,8 @@ pub(crate) fn dedents(
     place: u64,
     spaces: u64,
 ) -> Result<(), LexFault>
-    ensures { Gives result lexer.new (dedents start place spaces (view lexer.old).indents (view lexer.old)) }
+    ensures { Gives result lexer.new
+        (dedents start place spaces (view lexer.old).indents (view lexer.old)) }
 {
     loop {
         match lexer.indents.last().copied() {
@@ -155,7 +156,8 @@ pub(crate) fn begin(lexer: &mut Lexer, bytes: &[u8]) -> Result<(), LexFault>
 
 /// A line feed comes: inside brackets and in lines without a token it gives nothing.
 pub(crate) fn line_end(lexer: &mut Lexer, start: u64, end: u64) -> Result<(), LexFault>
-    ensures { Gives result lexer.new (Ok (line_end_by start end (view lexer.old).brackets lexer.old.line (view lexer.old))) }
+    ensures { Gives result lexer.new
+        (Ok (line_end_by start end (view lexer.old).brackets lexer.old.line (view lexer.old))) }
 {
     if !lexer.brackets.is_empty() {
         return Ok(());

@@ -13,7 +13,8 @@ ghost use Rattle.recipe_lexer.specs.declared.token.LexFault.TheVariants.{NotUtf8
 #[tactic(auto, unfolding(crate::specs::Layout::text_tokens, crate::specs::Layout::pieces, crate::specs::Layout::lay, crate::specs::Layout::step, crate::specs::Layout::begin, crate::specs::Layout::indented, crate::specs::Layout::indent, crate::specs::Layout::bracket, crate::specs::Layout::finish, crate::specs::Pieces::first_piece, crate::specs::Pieces::solid, crate::specs::Pieces::string, crate::specs::Pieces::text_end, crate::specs::Pieces::closes, crate::specs::Pieces::breaks))]
 pub fn worked_tokens()
     // A string that its line does not end.
-    ensures unclosed { text_tokens (codes "class X(Package):\n    version(\"1.0)\n") ≡ Err (OpenString 30) }
+    ensures unclosed { text_tokens (codes "class X(Package):\n    version(\"1.0)\n")
+        ≡ Err (OpenString 30) }
     // No text.
     ensures empty { text_tokens ([]) ≡ Ok (token End 0 0 ∷ []) }
     // Blank lines and comment lines, with tabs, give nothing.
@@ -45,7 +46,8 @@ pub fn worked_tokens()
     // An open bracket comes last.
     ensures open_yields { text_tokens (codes "(\n)a\n  b") ≡ Err (BadIndent 5) }
     // A tab comes before a return to no line.
-    ensures tab_first { text_tokens (codes "if:\n    a\n  " ++ 9 ∷ codes "b\n") ≡ Err (BadIndent 12) }
+    ensures tab_first { text_tokens (codes "if:\n    a\n  " ++ 9 ∷ codes "b\n")
+        ≡ Err (BadIndent 12) }
     // Deeper without a colon.
     ensures deeper { text_tokens (codes "a\n  b\n") ≡ Err (BadIndent 2) }
     // A return to no earlier indentation.
@@ -61,11 +63,14 @@ pub fn worked_tokens()
 /// What holds of all files: a file has tokens or a fault, and one of them. Its tokens stand in order,
 /// each a slice of the file, and make whole lines, blocks and brackets.
 pub fn laws()
-    ensures one_list { (bytes : List ℕ) (a b : List Token) → tokens bytes ≡ Ok a → tokens bytes ≡ Ok b → a ≡ b }
-    ensures one_fault { (bytes : List ℕ) (a b : LexFault) → tokens bytes ≡ Err a → tokens bytes ≡ Err b → a ≡ b }
+    ensures one_list { (bytes : List ℕ) (a b : List Token) → tokens bytes ≡ Ok a
+        → tokens bytes ≡ Ok b → a ≡ b }
+    ensures one_fault { (bytes : List ℕ) (a b : LexFault) → tokens bytes ≡ Err a
+        → tokens bytes ≡ Err b → a ≡ b }
     ensures either { (bytes : List ℕ) (a : List Token) (fault : LexFault) → tokens bytes ≡ Ok a →
         tokens bytes ≢ Err fault }
-    ensures in_order { (bytes : List ℕ) → IfOk (tokens bytes) (λ found. InOrder 0 (length bytes) found) }
+    ensures in_order { (bytes : List ℕ)
+        → IfOk (tokens bytes) (λ found. InOrder 0 (length bytes) found) }
     // Each line has a token that is no block's; a block begins and ends before the first one of a line,
     // a closing bracket fits the innermost open one, and all that begins ends.
     ensures whole { (bytes : List ℕ) → IfOk (tokens bytes) (λ found. AreWhole found) }

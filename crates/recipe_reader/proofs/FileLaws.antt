@@ -1,5 +1,5 @@
 -- The first file that has a fault, and what the recipes of files have.
-use Rattle.std.proofs.Common.{◌≡◌, ◌∙◌, ℕ, ◌<◌, true, List, [], ◌∷◌, length, take, map, get_or, refl, sym, ap, subst, zero, suc, arith}
+use Rattle.std.proofs.Common.{◌≡◌, ℕ, ◌<◌, true, List, [], ◌∷◌, length, take, map, get_or, refl, sym, ap, subst, zero, suc, arith}
 use Rattle.std.specs.Prelude.{Ok, Some, IfOk}
 use Rattle.std.specs.List.{list_all, slice_get}
 use Rattle.std.proofs.lemmas.Bool.{and_from}
@@ -17,26 +17,32 @@ slice_at [] i x h is = absurd (omega (arith, h))
 slice_at (y ∷ xs) zero x h is = ap (λ (z : _). Some z) (sym is)
 slice_at (y ∷ xs) (suc i) x h is = slice_at xs i x (omega arith) is
 
-pub first_fault : (place : ℕ) (e : RecipeFault) (file : RecipeFile) (files : List RecipeFile) (recipes : List Recipe) → place < length files → file ≡ get_or files place file → map recipe_in_file (take place files) ≡ map Ok recipes → Fails e (recipe_in_file file) → FailsAt place e files
+pub first_fault : (place : ℕ) (e : RecipeFault) (file : RecipeFile) (files : List RecipeFile) (recipes : List Recipe) → place < length files
+    → file ≡ get_or files place file → map recipe_in_file (take place files) ≡ map Ok recipes → Fails e (recipe_in_file file)
+    → FailsAt place e files
 first_fault place fault.OutOfMemory file files recipes h is before fails = tt
-first_fault place e file files recipes h is before fails = record { recipes = recipes; before = before; file = file; is = slice_at files place file h is; faulty = fails }
+first_fault place e file files recipes h is before fails =
+    record { recipes = recipes; before = before; file = file; is = slice_at files place file h is; faulty = fails }
 
 -- ---- recipes of files
 
 heads_are : {X : Type 0} (x y : X) (xs ys : List X) → x ∷ xs ≡ y ∷ ys → (x ≡ y) × (xs ≡ ys)
 heads_are x y xs ys e = (cc, cc)
 
-pub all_right : (files : List RecipeFile) (recipes : List Recipe) → map recipe_in_file files ≡ map Ok recipes → list_all is_right_recipe recipes ≡ true
+pub all_right : (files : List RecipeFile) (recipes : List Recipe) → map recipe_in_file files ≡ map Ok recipes
+    → list_all is_right_recipe recipes ≡ true
 all_right files [] are = refl
 all_right [] (recipe ∷ recipes) are = absurd cc
 all_right (file ∷ files) (recipe ∷ recipes) are =
     let both = heads_are (recipe_in_file file) (Ok recipe) (map recipe_in_file files) (map Ok recipes) are in
-    and_from (is_right_recipe recipe) (list_all is_right_recipe recipes) (right file.name file.bytes.items recipe both.0) (all_right files recipes both.1)
+    and_from (is_right_recipe recipe) (list_all is_right_recipe recipes) (right file.name file.bytes.items recipe both.0)
+    (all_right files recipes both.1)
 
 file_named : (file : RecipeFile) (recipe : Recipe) → recipe_in_file file ≡ Ok recipe → recipe.name ≡ file.name
 file_named file recipe is = subst (λ (a : Step Recipe). IfOk a (λ r. r.name ≡ file.name)) is (named file.name file.bytes.items)
 
-pub all_named : (files : List RecipeFile) (recipes : List Recipe) → map recipe_in_file files ≡ map Ok recipes → map (λ recipe. recipe.name) recipes ≡ map (λ file. file.name) files
+pub all_named : (files : List RecipeFile) (recipes : List Recipe) → map recipe_in_file files ≡ map Ok recipes
+    → map (λ recipe. recipe.name) recipes ≡ map (λ file. file.name) files
 all_named [] [] are = refl
 all_named [] (recipe ∷ recipes) are = absurd cc
 all_named (file ∷ files) [] are = absurd cc

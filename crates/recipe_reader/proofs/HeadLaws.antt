@@ -40,7 +40,8 @@ none_cond false x e = cc
 
 own_none : (s : Spec) (place : ℕ) (text : List ℕ) → own_fault s place text ≡ None → IsLocal s
 own_none s place text e =
-    nil_from_length s.below (eqb-true (length s.below) 0 (none_cond (eqb (length s.below) 0) (nested_of place (condition_at true place text)) e))
+    nil_from_length s.below (eqb-true (length s.below) 0
+    (none_cond (eqb (length s.below) 0) (nested_of place (condition_at true place text)) e))
 
 pub head_is : (around : Option Head) (place : ℕ) (text : List ℕ) → IsAround around → IfOk (head around place text) IsHead
 head_is around place text h =

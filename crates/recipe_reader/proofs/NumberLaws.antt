@@ -1,6 +1,6 @@
 -- Numbers of directives: they rise in each list, and differ.
-use Rattle.std.proofs.Common.{◌≡◌, ◌≢◌, ◌∙◌, ℕ, ◌+◌, ◌<◌, ◌≤◌, Bool, true, false, List, [], ◌∷◌, ◌++◌, length, map, fold, refl, sym, ap, subst, arith, append_assoc}
-use Rattle.std.specs.Prelude.{nat_le, ◌&&◌}
+use Rattle.std.proofs.Common.{◌≡◌, ◌≢◌, ◌∙◌, ℕ, ◌+◌, ◌<◌, true, List, [], ◌∷◌, ◌++◌, length, map, fold, refl, sym, ap, subst, arith, append_assoc}
+use Rattle.std.specs.Prelude.{nat_le}
 use Rattle.std.specs.List.{AllByRecursion}
 use Rattle.std.specs.Cmp.{nat_cmp_is}
 use Rattle.std.specs.Ordering.{nat_cmp, is_lt, match_ordering}
@@ -9,7 +9,7 @@ use Rattle.std.specs.declared.cmp.Ordering.TheVariants.{Less, Equal, Greater}
 use Rattle.std.specs.BTreeSet.{insert_key}
 use Rattle.std.specs.FinMap.{nat_cmp-IsAntisymmetric}
 use Rattle.std.proofs.lemmas.Bool.{and_parts, and_from, le-leb}
-use Rattle.std.proofs.lemmas.List.{append-nil, map-append}
+use Rattle.std.proofs.lemmas.List.{append-nil}
 use Rattle.keyed_lists.specs.Keyed.{rises}
 use Rattle.recipe_reader.specs.Kept.{climbs}
 use Rattle.directive_arguments.proofs.ListLaws.{all_append, all_push, all_weaker}
@@ -101,7 +101,8 @@ module _ (a b c : List ℕ) (n : ℕ) (differ : Differ (a ++ b ++ c)) (in_a : Be
   all_below = all_append (λ k. k < n) (a ++ b) c (all_append (λ k. k < n) a b in_a in_b) in_c
 
   between : (xs ys after : List ℕ) → a ++ b ++ c ≡ xs ++ ys → after ≡ xs ++ n ∷ ys → Differ after
-  between xs ys after before now = subst Differ (sym now) (differ_between xs ys n (subst Differ before differ) (subst (Below n) before all_below))
+  between xs ys after before now = subst Differ (sym now)
+      (differ_between xs ys n (subst Differ before differ) (subst (Below n) before all_below))
 
   pub differ_first : Differ ((a ++ n ∷ []) ++ b ++ c)
   differ_first = between a (b ++ c) _ (append_assoc a b c) (append_assoc (a ++ n ∷ []) b c ∙ append_assoc a (n ∷ []) (b ++ c))
@@ -118,7 +119,8 @@ put_length : (acc : List ℕ) (k : ℕ) → Lacks k acc → length (insert_key n
 put_length [] k lacks = refl
 put_length (x ∷ acc) k lacks = by (nat_cmp k x) refl (put_length acc k lacks.1)
   where
-    by : (r : Ordering) → nat_cmp k x ≡ r → length (insert_key nat_cmp acc k) ≡ length acc + 1 → length (match_ordering r (k ∷ x ∷ acc) (x ∷ acc) (x ∷ insert_key nat_cmp acc k)) ≡ length (x ∷ acc) + 1
+    by : (r : Ordering) → nat_cmp k x ≡ r → length (insert_key nat_cmp acc k) ≡ length acc + 1
+        → length (match_ordering r (k ∷ x ∷ acc) (x ∷ acc) (x ∷ insert_key nat_cmp acc k)) ≡ length (x ∷ acc) + 1
     by Less e rest = omega arith
     by Equal e rest = absurd (lacks.0 (sym (nat_cmp-IsAntisymmetric k x e)))
     by Greater e rest = omega (arith, rest)
@@ -127,16 +129,19 @@ put_lacks : (acc : List ℕ) (k j : ℕ) → Lacks j acc → (k ≢ j) → Lacks
 put_lacks [] k j lacks ne = (ne, tt)
 put_lacks (x ∷ acc) k j lacks ne = by (nat_cmp k x) (put_lacks acc k j lacks.1 ne)
   where
-    by : (r : Ordering) → Lacks j (insert_key nat_cmp acc k) → Lacks j (match_ordering r (k ∷ x ∷ acc) (x ∷ acc) (x ∷ insert_key nat_cmp acc k))
+    by : (r : Ordering) → Lacks j (insert_key nat_cmp acc k)
+        → Lacks j (match_ordering r (k ∷ x ∷ acc) (x ∷ acc) (x ∷ insert_key nat_cmp acc k))
     by Less rest = (ne, lacks)
     by Equal rest = lacks
     by Greater rest = (lacks.0, rest)
 
-all_lack : (acc ks : List ℕ) (k : ℕ) → Lacks k ks → AllByRecursion (λ j. Lacks j acc) ks → AllByRecursion (λ j. Lacks j (insert_key nat_cmp acc k)) ks
+all_lack : (acc ks : List ℕ) (k : ℕ) → Lacks k ks → AllByRecursion (λ j. Lacks j acc) ks
+    → AllByRecursion (λ j. Lacks j (insert_key nat_cmp acc k)) ks
 all_lack acc [] k lacks all = tt
 all_lack acc (j ∷ ks) k lacks all = (put_lacks acc k j all.0 (λ e. lacks.0 (sym e)), all_lack acc ks k lacks.1 all.1)
 
-put_all : (ks acc : List ℕ) → Differ ks → AllByRecursion (λ k. Lacks k acc) ks → length (fold (insert_key nat_cmp) acc ks) ≡ length acc + length ks
+put_all : (ks acc : List ℕ) → Differ ks → AllByRecursion (λ k. Lacks k acc) ks
+    → length (fold (insert_key nat_cmp) acc ks) ≡ length acc + length ks
 put_all [] acc d apart = omega arith
 put_all (k ∷ ks) acc d apart =
     let rest = put_all ks (insert_key nat_cmp acc k) d.1 (all_lack acc ks k d.0 apart.1) in

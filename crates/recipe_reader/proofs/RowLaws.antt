@@ -72,7 +72,8 @@ name_in_is : (o : Option (List ℕ)) → IsSome o → IfSome o IsName → IsName
 name_in_is None some is = absurd cc
 name_in_is (Some w) some is = is
 
-numbers_provided : (number : ℕ) (when : Condition) (parts : List Part) → map (λ row. row.number) (map (provided number when) parts) ≡ map (λ p. number) parts
+numbers_provided : (number : ℕ) (when : Condition) (parts : List Part)
+    → map (λ row. row.number) (map (provided number when) parts) ≡ map (λ p. number) parts
 numbers_provided number when [] = refl
 numbers_provided number when (p ∷ parts) = ap (λ l. number ∷ l) (numbers_provided number when parts)
 
@@ -108,10 +109,23 @@ module _ (owner : List ℕ) where
   pub rows_more : (n : ℕ) (declared : Texts) (recipe : Recipe) → KeepsRows n declared recipe → KeepsRows (n + 1) declared recipe
   rows_more n declared recipe k = record {
     name = k.name;
-    versions = record { texts = k.versions.texts; distinct = k.versions.distinct; numbers = numbered_more n (map (λ (r : VersionRow). r.number) recipe.versions) k.versions.numbers };
-    variants = record { each = k.variants.each; numbers = numbered_more n (map (λ (r : VariantRow). r.number) recipe.variants) k.variants.numbers };
+    versions = record {
+      texts = k.versions.texts;
+      distinct = k.versions.distinct;
+      numbers =
+          numbered_more n (map (λ (r : VersionRow). r.number) recipe.versions) k.versions.numbers;
+    };
+    variants = record {
+      each = k.variants.each;
+      numbers =
+          numbered_more n (map (λ (r : VariantRow). r.number) recipe.variants) k.variants.numbers;
+    };
     depends = record { each = k.depends.each; numbers = numbered_more n (depend_numbers recipe) k.depends.numbers };
-    provides = record { each = k.provides.each; numbers = climbing_more n (map (λ (r : ProvideRow). r.number) recipe.provides) k.provides.numbers };
+    provides = record {
+      each = k.provides.each;
+      numbers =
+          climbing_more n (map (λ (r : ProvideRow). r.number) recipe.provides) k.provides.numbers;
+    };
     conflicts = numbered_more n (conflict_numbers recipe) k.conflicts;
     requirements = numbered_more n (require_numbers recipe) k.requirements;
     apart = k.apart;
@@ -119,7 +133,8 @@ module _ (owner : List ℕ) where
 
   -- ---- version
 
-  version_keeps : (b : Bool) (place number : ℕ) (v : List ℕ) (o : Options) (s : State) → Keeps number s → list_any (bytes_eq v) s.declared ≡ b
+  version_keeps : (b : Bool) (place number : ℕ) (v : List ℕ) (o : Options) (s : State) → Keeps number s
+      → list_any (bytes_eq v) s.declared ≡ b
       → IfOk (cond b (Err (fault.TwiceVersion place)) (Ok (record s {
         declared = s.declared ++ v ∷ [];
         recipe = record s.recipe {
@@ -136,7 +151,8 @@ module _ (owner : List ℕ) where
           versions = record {
             texts = map-append (λ (r : VersionRow). r.version) s.recipe.versions (row ∷ []) ∙ ap (λ l. l ++ v ∷ []) k.rows.versions.texts;
             distinct = distinct_push s.declared v k.rows.versions.distinct e;
-            numbers = numbered_push number (map (λ (r : VersionRow). r.number) s.recipe.versions) (map (λ (r : VersionRow). r.number) (s.recipe.versions ++ row ∷ []))
+            numbers = numbered_push number (map (λ (r : VersionRow). r.number) s.recipe.versions)
+                (map (λ (r : VersionRow). r.number) (s.recipe.versions ++ row ∷ []))
                 (map-append (λ (r : VersionRow). r.number) s.recipe.versions (row ∷ [])) k.rows.versions.numbers;
           };
           variants = more.variants;
@@ -149,7 +165,8 @@ module _ (owner : List ℕ) where
         heads = k.heads;
       }
 
-  pub add_version_keeps : (place number : ℕ) (v : Option (List ℕ)) (o : Options) (s : State) → Keeps number s → IfOk (add_version place number v o s) (Keeps (number + 1))
+  pub add_version_keeps : (place number : ℕ) (v : Option (List ℕ)) (o : Options) (s : State) → Keeps number s
+      → IfOk (add_version place number v o s) (Keeps (number + 1))
   add_version_keeps place number None o s k = tt
   add_version_keeps place number (Some v) o s k = version_keeps (list_any (bytes_eq v) s.declared) place number v o s k refl
 
@@ -158,16 +175,26 @@ module _ (owner : List ℕ) where
   abbrev pub KeepsWith : ℕ → State → Recipe → Type 0
   KeepsWith next s recipe = KeepsRows next s.declared recipe
 
-  with_variant_keeps : (place number : ℕ) (name : List ℕ) (shape : Option Shape) (when : Condition) (s : State) → IsName name → IfSome shape IsShape → Keeps number s → IfOk (with_variant place number name shape when s.recipe) (KeepsWith (number + 1) s)
+  with_variant_keeps : (place number : ℕ) (name : List ℕ) (shape : Option Shape) (when : Condition) (s : State) → IsName name
+      → IfSome shape IsShape → Keeps number s → IfOk (with_variant place number name shape when s.recipe) (KeepsWith (number + 1) s)
   with_variant_keeps place number name None when s named is k = tt
   with_variant_keeps place number name (Some shape) when s named is k =
       let more = rows_more number s.declared s.recipe k.rows in
-      let row : VariantRow = record { name = name; kind = shape.kind; values = shape.values; default = shape.default; when = when; number = number } in record {
+      let row : VariantRow = record {
+        name = name;
+        kind = shape.kind;
+        values = shape.values;
+        default = shape.default;
+        when = when;
+        number =
+            number;
+      } in record {
         name = k.rows.name;
         versions = more.versions;
         variants = record {
           each = all_push IsVariantRow s.recipe.variants row k.rows.variants.each (is, named);
-          numbers = numbered_push number (map (λ (r : VariantRow). r.number) s.recipe.variants) (map (λ (r : VariantRow). r.number) (s.recipe.variants ++ row ∷ []))
+          numbers = numbered_push number (map (λ (r : VariantRow). r.number) s.recipe.variants)
+              (map (λ (r : VariantRow). r.number) (s.recipe.variants ++ row ∷ []))
               (map-append (λ (r : VariantRow). r.number) s.recipe.variants (row ∷ [])) k.rows.variants.numbers;
         };
         depends = more.depends;
@@ -177,55 +204,67 @@ module _ (owner : List ℕ) where
         apart = more.apart;
       }
 
-  pub add_variant_keeps : (place number : ℕ) (name : Option (List ℕ)) (o : Options) (when : Condition) (s : State) → IfSome name IsName → Keeps number s → IfOk (add_variant place number name o when s.recipe) (KeepsWith (number + 1) s)
+  pub add_variant_keeps : (place number : ℕ) (name : Option (List ℕ)) (o : Options) (when : Condition) (s : State) → IfSome name IsName
+      → Keeps number s → IfOk (add_variant place number name o when s.recipe) (KeepsWith (number + 1) s)
   add_variant_keeps place number None o when s named k = tt
-  add_variant_keeps place number (Some name) o when s named k = with_variant_keeps place number name (shape o) when s named (shape_is o.default o.multi o.values) k
+  add_variant_keeps place number (Some name) o when s named k =
+      with_variant_keeps place number name (shape o) when s named (shape_is o.default o.multi o.values) k
 
   -- ---- depends_on
 
-  depends_by : (b : Bool) (next : ℕ) (s : State) (recipe more : Recipe) → KeepsWith next s recipe → KeepsWith next s more → IfOk (cond b (ok recipe) (ok more)) (KeepsWith next s)
+  depends_by : (b : Bool) (next : ℕ) (s : State) (recipe more : Recipe) → KeepsWith next s recipe → KeepsWith next s more
+      → IfOk (cond b (ok recipe) (ok more)) (KeepsWith next s)
   depends_by true next s recipe more k m = k
   depends_by false next s recipe more k m = m
 
-  pub add_depends_keeps : (place number : ℕ) (p : Option Part) (kinds : Kinds) (when : Condition) (s : State) → IfSome p IsNamed → Keeps number s → IfOk (add_depends place number p kinds when s.recipe) (KeepsWith (number + 1) s)
+  pub add_depends_keeps : (place number : ℕ) (p : Option Part) (kinds : Kinds) (when : Condition) (s : State) → IfSome p IsNamed
+      → Keeps number s → IfOk (add_depends place number p kinds when s.recipe) (KeepsWith (number + 1) s)
   add_depends_keeps place number None kinds when s named k = tt
   add_depends_keeps place number (Some p) kinds when s named k =
       let more = rows_more number s.declared s.recipe k.rows in
       let row : DependRow = record { part = p; kinds = kinds; when = when; number = number } in
       let numbers = map-append (λ (r : DependRow). r.number) s.recipe.depends (row ∷ []) in
-      depends_by (is_passed_over kinds p) (number + 1) s s.recipe (record s.recipe { depends = s.recipe.depends ++ row ∷ [] }) more (record {
+      depends_by (is_passed_over kinds p) (number + 1) s s.recipe (record s.recipe { depends = s.recipe.depends ++ row ∷ [] })
+      more (record {
         name = k.rows.name;
         versions = more.versions;
         variants = more.variants;
         depends = record {
           each = all_push IsDependRow s.recipe.depends row k.rows.depends.each named.some;
-          numbers = numbered_push number (depend_numbers s.recipe) (map (λ (r : DependRow). r.number) (s.recipe.depends ++ row ∷ [])) numbers k.rows.depends.numbers;
+          numbers = numbered_push number (depend_numbers s.recipe) (map (λ (r : DependRow). r.number) (s.recipe.depends ++ row ∷ []))
+              numbers k.rows.depends.numbers;
         };
         provides = more.provides;
         conflicts = more.conflicts;
         requirements = more.requirements;
         apart = subst (λ l. Differ (l ++ conflict_numbers s.recipe ++ require_numbers s.recipe)) (sym numbers)
-            (differ_first (depend_numbers s.recipe) (conflict_numbers s.recipe) (require_numbers s.recipe) number k.rows.apart k.rows.depends.numbers.below k.rows.conflicts.below k.rows.requirements.below);
+            (differ_first (depend_numbers s.recipe) (conflict_numbers s.recipe) (require_numbers s.recipe) number k.rows.apart
+            k.rows.depends.numbers.below k.rows.conflicts.below k.rows.requirements.below);
       })
 
   -- ---- provides
 
-  unless_empty : (b : Bool) (e : RecipeFault) (next : ℕ) (s : State) (more : Recipe) → KeepsWith next s more → IfOk (cond b (Err e) (Ok more)) (KeepsWith next s)
+  unless_empty : (b : Bool) (e : RecipeFault) (next : ℕ) (s : State) (more : Recipe) → KeepsWith next s more
+      → IfOk (cond b (Err e) (Ok more)) (KeepsWith next s)
   unless_empty true e next s more k = tt
   unless_empty false e next s more k = k
 
-  pub add_provides_keeps : (place number : ℕ) (parts : List Part) (when : Condition) (s : State) → AllByRecursion IsNamed parts → AllByRecursion IsLocal when.specs → Keeps number s → IfOk (add_provides place number parts when s.recipe) (KeepsWith (number + 1) s)
+  pub add_provides_keeps : (place number : ℕ) (parts : List Part) (when : Condition) (s : State) → AllByRecursion IsNamed parts
+      → AllByRecursion IsLocal when.specs → Keeps number s → IfOk (add_provides place number parts when s.recipe) (KeepsWith (number + 1) s)
   add_provides_keeps place number parts when s named local k =
       let more = rows_more number s.declared s.recipe k.rows in
       let rows = map (provided number when) parts in
-      unless_empty (eqb (length parts) 0) (fault.BadArgument place) (number + 1) s (record s.recipe { provides = s.recipe.provides ++ rows }) (record {
+      unless_empty (eqb (length parts) 0) (fault.BadArgument place) (number + 1) s
+      (record s.recipe { provides = s.recipe.provides ++ rows }) (record {
         name = k.rows.name;
         versions = more.versions;
         variants = more.variants;
         depends = more.depends;
         provides = record {
-          each = all_append IsProvideRow s.recipe.provides rows k.rows.provides.each (all_map IsNamed IsProvideRow (provided number when) (λ p is. (local, name_in_is p.name is.some is.name)) parts named);
-          numbers = subst (IsClimbing (number + 1)) (sym (map-append (λ (r : ProvideRow). r.number) s.recipe.provides rows ∙ ap (λ l. map (λ (r : ProvideRow). r.number) s.recipe.provides ++ l) (numbers_provided number when parts)))
+          each = all_append IsProvideRow s.recipe.provides rows k.rows.provides.each
+              (all_map IsNamed IsProvideRow (provided number when) (λ p is. (local, name_in_is p.name is.some is.name)) parts named);
+          numbers = subst (IsClimbing (number + 1)) (sym (map-append (λ (r : ProvideRow). r.number) s.recipe.provides rows
+              ∙ ap (λ l. map (λ (r : ProvideRow). r.number) s.recipe.provides ++ l) (numbers_provided number when parts)))
               (climbing_append number (map (λ (r : ProvideRow). r.number) s.recipe.provides) parts more.provides.numbers);
         };
         conflicts = more.conflicts;
@@ -235,7 +274,8 @@ module _ (owner : List ℕ) where
 
   -- ---- conflicts and requires
 
-  pub add_conflict_keeps : (place number : ℕ) (spec : Option Spec) (when : Condition) (s : State) → Keeps number s → IfOk (add_conflict place number spec when s.recipe) (KeepsWith (number + 1) s)
+  pub add_conflict_keeps : (place number : ℕ) (spec : Option Spec) (when : Condition) (s : State) → Keeps number s
+      → IfOk (add_conflict place number spec when s.recipe) (KeepsWith (number + 1) s)
   add_conflict_keeps place number None when s k = tt
   add_conflict_keeps place number (Some spec) when s k =
       let more = rows_more number s.declared s.recipe k.rows in
@@ -246,32 +286,39 @@ module _ (owner : List ℕ) where
         variants = more.variants;
         depends = more.depends;
         provides = more.provides;
-        conflicts = numbered_push number (conflict_numbers s.recipe) (map (λ (r : ConflictRow). r.number) (s.recipe.conflicts ++ row ∷ [])) numbers k.rows.conflicts;
+        conflicts = numbered_push number (conflict_numbers s.recipe) (map (λ (r : ConflictRow). r.number) (s.recipe.conflicts ++ row ∷ []))
+            numbers k.rows.conflicts;
         requirements = more.requirements;
         apart = subst (λ l. Differ (depend_numbers s.recipe ++ l ++ require_numbers s.recipe)) (sym numbers)
-            (differ_second (depend_numbers s.recipe) (conflict_numbers s.recipe) (require_numbers s.recipe) number k.rows.apart k.rows.depends.numbers.below k.rows.conflicts.below k.rows.requirements.below);
+            (differ_second (depend_numbers s.recipe) (conflict_numbers s.recipe) (require_numbers s.recipe) number k.rows.apart
+            k.rows.depends.numbers.below k.rows.conflicts.below k.rows.requirements.below);
       }
 
-  pub add_requirement_keeps : (place number : ℕ) (specs : List Spec) (one_of : Bool) (when : Condition) (s : State) → Keeps number s → IfOk (add_requirement place number specs one_of when s.recipe) (KeepsWith (number + 1) s)
+  pub add_requirement_keeps : (place number : ℕ) (specs : List Spec) (one_of : Bool) (when : Condition) (s : State) → Keeps number s
+      → IfOk (add_requirement place number specs one_of when s.recipe) (KeepsWith (number + 1) s)
   add_requirement_keeps place number specs one_of when s k =
       let more = rows_more number s.declared s.recipe k.rows in
       let row : RequireRow = record { specs = specs; one_of = one_of; when = when; number = number } in
       let numbers = map-append (λ (r : RequireRow). r.number) s.recipe.requirements (row ∷ []) in
-      unless_empty (eqb (length specs) 0) (fault.BadArgument place) (number + 1) s (record s.recipe { requirements = s.recipe.requirements ++ row ∷ [] }) (record {
+      unless_empty (eqb (length specs) 0) (fault.BadArgument place) (number + 1) s
+      (record s.recipe { requirements = s.recipe.requirements ++ row ∷ [] }) (record {
         name = k.rows.name;
         versions = more.versions;
         variants = more.variants;
         depends = more.depends;
         provides = more.provides;
         conflicts = more.conflicts;
-        requirements = numbered_push number (require_numbers s.recipe) (map (λ (r : RequireRow). r.number) (s.recipe.requirements ++ row ∷ [])) numbers k.rows.requirements;
+        requirements = numbered_push number (require_numbers s.recipe)
+            (map (λ (r : RequireRow). r.number) (s.recipe.requirements ++ row ∷ [])) numbers k.rows.requirements;
         apart = subst (λ l. Differ (depend_numbers s.recipe ++ conflict_numbers s.recipe ++ l)) (sym numbers)
-            (differ_third (depend_numbers s.recipe) (conflict_numbers s.recipe) (require_numbers s.recipe) number k.rows.apart k.rows.depends.numbers.below k.rows.conflicts.below k.rows.requirements.below);
+            (differ_third (depend_numbers s.recipe) (conflict_numbers s.recipe) (require_numbers s.recipe) number k.rows.apart
+            k.rows.depends.numbers.below k.rows.conflicts.below k.rows.requirements.below);
       })
 
   -- ---- the state
 
-  pub into_keeps : (next : ℕ) (s : State) (step : Step Recipe) → AllByRecursion IsHead s.heads → IfOk step (KeepsWith next s) → IfOk (into s step) (Keeps next)
+  pub into_keeps : (next : ℕ) (s : State) (step : Step Recipe) → AllByRecursion IsHead s.heads → IfOk step (KeepsWith next s)
+      → IfOk (into s step) (Keeps next)
   into_keeps next s (Ok recipe) heads k = record { rows = k; heads = heads }
   into_keeps next s (Err e) heads k = tt
 

@@ -22,27 +22,43 @@ fails_along e a b same h = sym same ∙ h
 
 -- ---- items
 
-pub items_here : (bytes : List ℕ) (tokens : List Token) (number : ℕ) (xs : List Item) (i : ℕ) (x : Item) (s : State) → i < length xs → x ≡ get_or xs i x → read_items bytes tokens number (drop i xs) s ≡ then_do (item bytes tokens number x s) (read_items bytes tokens (count x number) (drop (i + 1) xs))
+pub items_here : (bytes : List ℕ) (tokens : List Token) (number : ℕ) (xs : List Item) (i : ℕ) (x : Item) (s : State) → i < length xs
+    → x ≡ get_or xs i x → read_items bytes tokens number (drop i xs) s ≡ then_do (item bytes tokens number x s)
+    (read_items bytes tokens (count x number) (drop (i + 1) xs))
 unfolding read_items
 items_here bytes tokens number xs i x s h is = rw (drop_here xs i x h is) refl
 
-pub items_past : (bytes : List ℕ) (tokens : List Token) (number : ℕ) (xs : List Item) (i : ℕ) (s : State) → length xs ≤ i → read_items bytes tokens number (drop i xs) s ≡ Ok s
+pub items_past : (bytes : List ℕ) (tokens : List Token) (number : ℕ) (xs : List Item) (i : ℕ) (s : State) → length xs ≤ i
+    → read_items bytes tokens number (drop i xs) s ≡ Ok s
 unfolding read_items
 items_past bytes tokens number xs i s h = rw (drop_past xs i h) refl
 
-pub items_ok : (bytes : List ℕ) (tokens : List Token) (number : ℕ) (xs : List Item) (i : ℕ) (x : Item) (s t : State) (all : Step State) → i < length xs → x ≡ get_or xs i x → read_items bytes tokens number (drop i xs) s ≡ all → item bytes tokens number x s ≡ Ok t → read_items bytes tokens (count x number) (drop (i + 1) xs) t ≡ all
-items_ok bytes tokens number xs i x s t all h is inv took = let here = items_here bytes tokens number xs i x s h is in let then_t = rw took at here in sym then_t ∙ inv
+pub items_ok : (bytes : List ℕ) (tokens : List Token) (number : ℕ) (xs : List Item) (i : ℕ) (x : Item) (s t : State) (all : Step State)
+    → i < length xs → x ≡ get_or xs i x → read_items bytes tokens number (drop i xs) s ≡ all → item bytes tokens number x s ≡ Ok t
+    → read_items bytes tokens (count x number) (drop (i + 1) xs) t ≡ all
+items_ok bytes tokens number xs i x s t all h is inv took = let here = items_here bytes tokens number xs i x s h is in let then_t =
+    rw took at here in sym then_t ∙ inv
 
-pub items_err : (bytes : List ℕ) (tokens : List Token) (number : ℕ) (xs : List Item) (i : ℕ) (x : Item) (s : State) (all : Step State) (e : RecipeFault) → i < length xs → x ≡ get_or xs i x → read_items bytes tokens number (drop i xs) s ≡ all → Fails e (item bytes tokens number x s) → Fails e all
-items_err bytes tokens number xs i x s all e h is inv fails = fails_along e _ _ (sym (items_here bytes tokens number xs i x s h is) ∙ inv) (fails_then e (item bytes tokens number x s) (read_items bytes tokens (count x number) (drop (i + 1) xs)) fails)
+pub items_err : (bytes : List ℕ) (tokens : List Token) (number : ℕ) (xs : List Item) (i : ℕ) (x : Item) (s : State) (all : Step State)
+    (e : RecipeFault) → i < length xs → x ≡ get_or xs i x → read_items bytes tokens number (drop i xs) s ≡ all
+    → Fails e (item bytes tokens number x s) → Fails e all
+items_err bytes tokens number xs i x s all e h is inv fails =
+    fails_along e _ _ (sym (items_here bytes tokens number xs i x s h is) ∙ inv)
+    (fails_then e (item bytes tokens number x s) (read_items bytes tokens (count x number) (drop (i + 1) xs)) fails)
 
 get_same : {X : Type 0} (xs : List X) (i : ℕ) (d e : X) → i < length xs → get_or xs i d ≡ get_or xs i e
 get_same [] i d e h = absurd (omega (arith, h))
 get_same (x ∷ xs) zero d e h = refl
 get_same (x ∷ xs) (suc i) d e h = get_same xs i d e (omega arith)
 
-pub items_ok_at : (bytes : List ℕ) (tokens : List Token) (number : ℕ) (xs : List Item) (i : ℕ) (d : Item) (s t : State) (all : Step State) → i < length xs → read_items bytes tokens number (drop i xs) s ≡ all → item bytes tokens number (get_or xs i d) s ≡ Ok t → read_items bytes tokens (count (get_or xs i d) number) (drop (i + 1) xs) t ≡ all
-items_ok_at bytes tokens number xs i d s t all h inv took = items_ok bytes tokens number xs i (get_or xs i d) s t all h (get_same xs i d (get_or xs i d) h) inv took
+pub items_ok_at : (bytes : List ℕ) (tokens : List Token) (number : ℕ) (xs : List Item) (i : ℕ) (d : Item) (s t : State) (all : Step State)
+    → i < length xs → read_items bytes tokens number (drop i xs) s ≡ all → item bytes tokens number (get_or xs i d) s ≡ Ok t
+    → read_items bytes tokens (count (get_or xs i d) number) (drop (i + 1) xs) t ≡ all
+items_ok_at bytes tokens number xs i d s t all h inv took =
+    items_ok bytes tokens number xs i (get_or xs i d) s t all h (get_same xs i d (get_or xs i d) h) inv took
 
-pub items_err_at : (bytes : List ℕ) (tokens : List Token) (number : ℕ) (xs : List Item) (i : ℕ) (d : Item) (s : State) (all : Step State) (e : RecipeFault) → i < length xs → read_items bytes tokens number (drop i xs) s ≡ all → Fails e (item bytes tokens number (get_or xs i d) s) → Fails e all
-items_err_at bytes tokens number xs i d s all e h inv fails = items_err bytes tokens number xs i (get_or xs i d) s all e h (get_same xs i d (get_or xs i d) h) inv fails
+pub items_err_at : (bytes : List ℕ) (tokens : List Token) (number : ℕ) (xs : List Item) (i : ℕ) (d : Item) (s : State) (all : Step State)
+    (e : RecipeFault) → i < length xs → read_items bytes tokens number (drop i xs) s ≡ all
+    → Fails e (item bytes tokens number (get_or xs i d) s) → Fails e all
+items_err_at bytes tokens number xs i d s all e h inv fails =
+    items_err bytes tokens number xs i (get_or xs i d) s all e h (get_same xs i d (get_or xs i d) h) inv fails

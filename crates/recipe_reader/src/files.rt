@@ -49,7 +49,8 @@ fn read_all(alloc: Global, files: &[RecipeFile]) -> Result<List<Recipe>, (u64, R
 pub fn read_recipes(alloc: Global, files: &[RecipeFile]) -> Result<List<Recipe>, (u64, RecipeFault)>
     ensures found { IfOk result (λ recipes. map recipe_in_file files.now ≡ map Ok recipes) }
     ensures right { IfOk result (λ recipes. list_all is_right_recipe recipes ≡ true) }
-    ensures names { IfOk result (λ recipes. map (λ recipe. recipe.name) recipes ≡ map (λ file. file.name) files.now) }
+    ensures names { IfOk result (λ recipes. map (λ recipe. recipe.name) recipes
+        ≡ map (λ file. file.name) files.now) }
     ensures fault { IfErr result (λ fault. FailsAt fault.0 fault.1 files.now) }
 {
     match read_all(alloc, files) {

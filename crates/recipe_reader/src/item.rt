@@ -34,7 +34,8 @@ fn innermost(heads: &List<Head>, depth: u64) -> Option<&Head>
 
 /// The conditions of a head, and one more where there is one.
 fn when_of(alloc: Global, around: Option<&Head>, own: Option<Spec>) -> Result<Condition, AllocError>
-    ensures { IfOk result (λ when. when.specs ≡ when_in (option_copied around.entry) ++ option_to_list own) }
+    ensures { IfOk result (λ when. when.specs ≡ when_in (option_copied around.entry)
+        ++ option_to_list own) }
 {
     let mut when = match around {
         None => Condition {
@@ -124,7 +125,8 @@ fn read_head(
     texts: &[Token],
     around: Option<&Head>,
 ) -> Result<Head, RecipeFault>
-    ensures { Is result (then_do (as_step (text_of bytes.now texts.now)) (head (option_copied around.entry) (start_of texts.now))) }
+    ensures { Is result (then_do (as_step (text_of bytes.now texts.now))
+        (head (option_copied around.entry) (start_of texts.now))) }
 {
     match read_text(alloc, bytes, texts) {
         Ok(text) => head(alloc, around, start_of(texts), text.as_str().as_bytes()),
@@ -173,7 +175,9 @@ fn add_given(
     depth: u64,
     state: &mut State,
 ) -> Result<(), RecipeFault>
-    ensures { Gives result state.new (add directive place number given.old (when_of (innermost state.old.heads depth) given.old) state.old) }
+    ensures { Gives result state.new
+        (add directive place number given.old
+        (when_of (innermost state.old.heads depth) given.old) state.old) }
 {
     let own = given.options.when.take();
     let when = when_of(alloc, innermost(&state.heads, depth), own)?;
@@ -192,7 +196,9 @@ fn call(
     depth: u64,
     state: &mut State,
 ) -> Result<(), RecipeFault>
-    ensures { Gives result state.new (call bytes.now directive place number segments (innermost state.old.heads depth) state.old) }
+    ensures { Gives result state.new
+        (call bytes.now directive place number segments
+        (innermost state.old.heads depth) state.old) }
 {
     may_stand(directive, innermost(&state.heads, depth), place)?;
     let mut given = arguments(alloc, bytes, directive, segments)?;

@@ -10,5 +10,6 @@ ghost use Rattle.recipe_reader.specs.Kept.{IsKept};
 /// have names.
 pub fn recipe_laws()
     ensures kept { (name bytes : List ℕ) → IfOk (recipe_of name bytes) IsKept }
-    ensures named { (name bytes : List ℕ) → IfOk (recipe_of name bytes) (λ recipe. recipe.name ≡ name) }
+    ensures named { (name bytes : List ℕ)
+        → IfOk (recipe_of name bytes) (λ recipe. recipe.name ≡ name) }
 {}

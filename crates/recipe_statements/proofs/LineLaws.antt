@@ -35,7 +35,8 @@ top_fits : (from to : ℕ) (bs : List Block) → BlocksFit from to bs → (m : �
 top_fits from to [] fits = (from, omega arith, fits)
 top_fits from to (b ∷ bs) fits = fits
 
-add_fits : (line : Line) (has : Bool) (to : ℕ) (bs : List Block) → BlocksFit (line_end line) to bs → BlocksFit line.first to (add line has bs)
+add_fits : (line : Line) (has : Bool) (to : ℕ) (bs : List Block) → BlocksFit (line_end line) to bs
+    → BlocksFit line.first to (add line has bs)
 add_fits line false to bs fits =
     let t = top_fits (line_end line) to bs fits in (t.0, (omega arith, t.1), t.2)
 add_fits line true to bs fits =
@@ -45,10 +46,18 @@ add_fits line true to bs fits =
 blocks_to : (from to there : ℕ) (bs : List Block) → to ≡ there → BlocksFit from to bs → BlocksFit from there bs
 blocks_to from to there bs e fits = subst (λ (n : ℕ). BlocksFit from n bs) e fits
 
-blocks_by : (k : TokenKind) (first : ℕ) (front : List Token) (t : Token) (rest : List Token) → BlocksFit (first + length front + 1) (first + length front + length (t ∷ rest)) (blocks (first + length front + 1) [] rest) → BlocksFit first (first + length front + length (t ∷ rest)) (blocks first (front ++ t ∷ []) rest) → BlocksFit first (first + length front + length (t ∷ rest)) (ended k (record { first = first; tokens = front }) rest (blocks (cond (is_between k) (first + length front + 1) first) (cond (is_between k) [] (front ++ t ∷ [])) rest))
+blocks_by : (k : TokenKind) (first : ℕ) (front : List Token) (t : Token) (rest : List Token)
+    → BlocksFit (first + length front + 1) (first + length front + length (t ∷ rest)) (blocks (first + length front + 1) [] rest)
+    → BlocksFit first (first + length front + length (t ∷ rest)) (blocks first (front ++ t ∷ []) rest)
+    → BlocksFit first (first + length front + length (t ∷ rest))
+    (ended k (record { first = first; tokens = front }) rest
+    (blocks (cond (is_between k) (first + length front + 1) first) (cond (is_between k) [] (front ++ t ∷ [])) rest))
 blocks_by kind.NewLine first front t rest next more =
-    add_fits (record { first = first; tokens = front }) (begins rest) (first + length front + length (t ∷ rest)) (blocks (first + length front + 1) [] rest) next
-blocks_by kind.Indent first front t rest next more = blocks_earlier first (first + length front + 1) (first + length front + length (t ∷ rest)) (blocks (first + length front + 1) [] rest) (omega arith) next
+    add_fits (record { first = first; tokens = front }) (begins rest) (first + length front + length (t ∷ rest))
+    (blocks (first + length front + 1) [] rest) next
+blocks_by kind.Indent first front t rest next more =
+    blocks_earlier first (first + length front + 1) (first + length front + length (t ∷ rest)) (blocks (first + length front + 1) [] rest)
+    (omega arith) next
 blocks_by kind.Dedent first front t rest next more = (first + length front + 1, omega arith, next)
 blocks_by kind.Word first front t rest next more = more
 blocks_by kind.Text first front t rest next more = more
@@ -65,7 +74,8 @@ blocks_fit first front (t ∷ rest) =
     let one : List Token = front ++ t ∷ [] in
     blocks_by t.kind first front t rest
     (blocks_to next (next + length none + length rest) to (blocks next none rest) (omega arith) (blocks_fit next none rest))
-    (blocks_to first (first + length one + length rest) to (blocks first one rest) (omega (arith, length-append front (t ∷ []))) (blocks_fit first one rest))
+    (blocks_to first (first + length one + length rest) to (blocks first one rest) (omega (arith, length-append front (t ∷ [])))
+    (blocks_fit first one rest))
 
 followed_fits : (from m to : ℕ) (a b : Block) → LinesFit from m a → LinesFit m to b → LinesFit from to (followed a b)
 followed_fits from m to Empty b a_fits b_fits = lines_earlier from m to b a_fits b_fits
@@ -80,4 +90,5 @@ all_fits from to (b ∷ bs) (m, first, others_fit) = followed_fits from m to b (
 pub file_fits : (tokens : List Token) → LinesFit 0 (length tokens) (file_of tokens)
 file_fits tokens =
     let none : List Token = [] in
-    all_fits 0 (length tokens) (blocks 0 none tokens) (blocks_to 0 (0 + length none + length tokens) (length tokens) (blocks 0 none tokens) (omega arith) (blocks_fit 0 none tokens))
+    all_fits 0 (length tokens) (blocks 0 none tokens)
+    (blocks_to 0 (0 + length none + length tokens) (length tokens) (blocks 0 none tokens) (omega arith) (blocks_fit 0 none tokens))

@@ -35,7 +35,8 @@ behind_le : (item : Item) → depth_of item ≤ depth_behind item
 behind_le (With first last depth) = omega arith
 behind_le (Call first last depth) = omega arith
 
-nested_append : (most depth : ℕ) (xs ys : List Item) → depth ≤ most → AreNested most xs → AreInside depth xs → AreNested depth ys → AreNested most (xs ++ ys)
+nested_append : (most depth : ℕ) (xs ys : List Item) → depth ≤ most → AreNested most xs → AreInside depth xs → AreNested depth ys
+    → AreNested most (xs ++ ys)
 nested_append most depth [] ys le xs_nested xs_inside ys_nested = nested_more depth most ys le ys_nested
 nested_append most depth (x ∷ xs) ys le xs_nested xs_inside ys_nested =
     (xs_nested.0, nested_append (depth_behind x) depth xs ys (omega (arith, behind_le x, xs_inside.0)) xs_nested.1 xs_inside.1 ys_nested)
@@ -49,14 +50,16 @@ join_fit depth (Ok xs) (Ok ys) x y = (nested_append depth depth xs ys (omega ari
 join_fit depth (Ok xs) (Err e) x y = tt
 join_fit depth (Err e) b x y = tt
 
-plain_fit : (form : PlainForm) (line : Line) (depth : ℕ) (rest : Items) → IfOk rest (Fit depth) → IfOk (plain_items form line depth rest) (Fit depth)
+plain_fit : (form : PlainForm) (line : Line) (depth : ℕ) (rest : Items) → IfOk rest (Fit depth)
+    → IfOk (plain_items form line depth rest) (Fit depth)
 plain_fit plain.Passed line depth rest fits = fits
 plain_fit plain.Directive line depth rest fits =
     join_fit depth (Ok (call line depth ∷ [])) rest ((omega arith, tt), (omega arith, tt)) fits
 plain_fit plain.Other line depth rest fits = tt
 
 -- a head, and the items of its block
-with_fit : (line : Line) (depth : ℕ) (inner rest : Items) → IfOk inner (Fit (depth + 1)) → IfOk rest (Fit depth) → IfOk (join (Ok (with_head line depth ∷ [])) (join inner rest)) (Fit depth)
+with_fit : (line : Line) (depth : ℕ) (inner rest : Items) → IfOk inner (Fit (depth + 1)) → IfOk rest (Fit depth)
+    → IfOk (join (Ok (with_head line depth ∷ [])) (join inner rest)) (Fit depth)
 with_fit line depth (Ok xs) (Ok ys) x y = (
   (omega arith, nested_append (depth + 1) depth xs ys (omega arith) x.0 (inside_more depth (depth + 1) xs (omega arith) x.1) y.0),
   (omega arith, inside_append depth xs ys (inside_more depth (depth + 1) xs (omega arith) x.1) y.1),
@@ -64,27 +67,33 @@ with_fit line depth (Ok xs) (Ok ys) x y = (
 with_fit line depth (Ok xs) (Err e) x y = tt
 with_fit line depth (Err e) rest x y = tt
 
-headed_fit : (form : HeadForm) (line : Line) (depth : ℕ) (inner rest : Items) → IfOk inner (Fit (depth + 1)) → IfOk rest (Fit depth) → IfOk (headed_items form line depth inner rest) (Fit depth)
+headed_fit : (form : HeadForm) (line : Line) (depth : ℕ) (inner rest : Items) → IfOk inner (Fit (depth + 1)) → IfOk rest (Fit depth)
+    → IfOk (headed_items form line depth inner rest) (Fit depth)
 headed_fit head.Passed line depth inner rest inside fits = fits
 headed_fit head.Class line depth inner rest inside fits = tt
 headed_fit head.When line depth inner rest inside fits =
     let more = with_fit line depth inner rest inside fits in
-    elim (nat_lt depth deepest) as (λ c. IfOk (cond c (join (Ok (with_head line depth ∷ [])) (join inner rest)) (Err (fault.TooDeep (place line)))) (Fit depth)) [ true ↦ more | false ↦ tt ]
+    elim (nat_lt depth deepest) as
+    (λ c. IfOk (cond c (join (Ok (with_head line depth ∷ [])) (join inner rest)) (Err (fault.TooDeep (place line)))) (Fit depth))
+    [ true ↦ more | false ↦ tt ]
 headed_fit head.Other line depth inner rest inside fits = tt
 
 body_fits : (bytes : List ℕ) (depth : ℕ) (block : Block) → IfOk (body bytes depth block) (Fit depth)
 unfolding body
 body_fits bytes depth Empty = (tt, tt)
-body_fits bytes depth (Plain line rest) = plain_fit (plain_form bytes line.tokens) line depth (body bytes depth rest) (body_fits bytes depth rest)
+body_fits bytes depth (Plain line rest) = plain_fit (plain_form bytes line.tokens) line depth (body bytes depth rest)
+    (body_fits bytes depth rest)
 body_fits bytes depth (Headed line inner rest) =
-    headed_fit (head_form bytes line.tokens) line depth (body bytes (depth + 1) inner) (body bytes depth rest) (body_fits bytes (depth + 1) inner) (body_fits bytes depth rest)
+    headed_fit (head_form bytes line.tokens) line depth (body bytes (depth + 1) inner) (body bytes depth rest)
+    (body_fits bytes (depth + 1) inner) (body_fits bytes depth rest)
 
 outer_plain_fit : (form : PlainForm) (line : Line) (rest : Items) → IfOk rest (Fit 0) → IfOk (outer_plain form line rest) (Fit 0)
 outer_plain_fit plain.Passed line rest fits = fits
 outer_plain_fit plain.Directive line rest fits = tt
 outer_plain_fit plain.Other line rest fits = tt
 
-outer_headed_fit : (form : HeadForm) (line : Line) (seen : Bool) (inner rest : Items) → IfOk inner (Fit 0) → IfOk rest (Fit 0) → IfOk (outer_headed form line seen inner rest) (Fit 0)
+outer_headed_fit : (form : HeadForm) (line : Line) (seen : Bool) (inner rest : Items) → IfOk inner (Fit 0) → IfOk rest (Fit 0)
+    → IfOk (outer_headed form line seen inner rest) (Fit 0)
 outer_headed_fit head.Passed line seen inner rest inside fits = fits
 outer_headed_fit head.Class line false inner rest inside fits = join_fit 0 inner rest inside fits
 outer_headed_fit head.Class line true inner rest inside fits = tt
@@ -98,10 +107,12 @@ end_fits false = tt
 outer_fits : (bytes : List ℕ) (seen : Bool) (block : Block) → IfOk (outer bytes seen block) (Fit 0)
 unfolding outer
 outer_fits bytes seen Empty = end_fits seen
-outer_fits bytes seen (Plain line rest) = outer_plain_fit (plain_form bytes line.tokens) line (outer bytes seen rest) (outer_fits bytes seen rest)
+outer_fits bytes seen (Plain line rest) = outer_plain_fit (plain_form bytes line.tokens) line (outer bytes seen rest)
+    (outer_fits bytes seen rest)
 outer_fits bytes seen (Headed line inner rest) =
     let after : Bool = seen || is_class (head_form bytes line.tokens) in
-    outer_headed_fit (head_form bytes line.tokens) line seen (body bytes 0 inner) (outer bytes after rest) (body_fits bytes 0 inner) (outer_fits bytes after rest)
+    outer_headed_fit (head_form bytes line.tokens) line seen (body bytes 0 inner) (outer bytes after rest) (body_fits bytes 0 inner)
+    (outer_fits bytes after rest)
 
 nested_of : (found : Items) → IfOk found (Fit 0) → IfOk found (AreNested 0)
 nested_of (Ok xs) fits = fits.0

@@ -43,7 +43,8 @@ directive_long : (bytes : List ℕ) (tokens : List Token) → plain_form bytes t
 unfolding plain_form
 directive_long bytes [] is = absurd cc
 directive_long bytes (t ∷ []) is =
-    absurd (passed_or (are_texts (t ∷ []) || is_definition bytes (t ∷ []) || is_passed_by_start bytes (t ∷ [])) (call_form (called bytes (t ∷ []))) (λ e. cc) is)
+    absurd (passed_or (are_texts (t ∷ []) || is_definition bytes (t ∷ []) || is_passed_by_start bytes (t ∷ []))
+    (call_form (called bytes (t ∷ []))) (λ e. cc) is)
 directive_long bytes (t ∷ u ∷ rest) is = omega arith
 
 passed_or_other : (c : Bool) → cond c head.Passed head.Other ≡ head.When → ⊥
@@ -58,47 +59,63 @@ when_long bytes (t ∷ u ∷ rest) is = omega arith
 
 -- ---- blocks
 
-plain_order : (form : PlainForm) (line : Line) (depth from to : ℕ) (rest : Items) → (form ≡ plain.Directive → 1 < length line.tokens) → from ≤ line.first → IfOk rest (AreInOrder (line_end line) to) → IfOk (plain_items form line depth rest) (AreInOrder from to)
+plain_order : (form : PlainForm) (line : Line) (depth from to : ℕ) (rest : Items) → (form ≡ plain.Directive → 1 < length line.tokens)
+    → from ≤ line.first → IfOk rest (AreInOrder (line_end line) to) → IfOk (plain_items form line depth rest) (AreInOrder from to)
 plain_order plain.Passed line depth from to rest long start ordered = ok_earlier from (line_end line) to rest (omega (arith, start)) ordered
 plain_order plain.Directive line depth from to rest long start ordered =
     join_order from (line_end line) to (Ok (call line depth ∷ [])) rest (start, omega (arith, long refl), omega (arith, long refl)) ordered
 plain_order plain.Other line depth from to rest long start ordered = tt
 
-with_order : (line : Line) (depth from m to : ℕ) (inner rest : Items) → 1 < length line.tokens → from ≤ line.first → IfOk inner (AreInOrder (line_end line) m) → IfOk rest (AreInOrder m to) → IfOk (join (Ok (with_head line depth ∷ [])) (join inner rest)) (AreInOrder from to)
+with_order : (line : Line) (depth from m to : ℕ) (inner rest : Items) → 1 < length line.tokens → from ≤ line.first
+    → IfOk inner (AreInOrder (line_end line) m) → IfOk rest (AreInOrder m to)
+    → IfOk (join (Ok (with_head line depth ∷ [])) (join inner rest)) (AreInOrder from to)
 with_order line depth from m to inner rest long start inside ordered =
-    join_order from (line_end line) to (Ok (with_head line depth ∷ [])) (join inner rest) (start, omega (arith, long), omega (arith, long)) (join_order (line_end line) m to inner rest inside ordered)
+    join_order from (line_end line) to (Ok (with_head line depth ∷ [])) (join inner rest) (start, omega (arith, long), omega (arith, long))
+    (join_order (line_end line) m to inner rest inside ordered)
 
 order_le : (from to : ℕ) (b : Block) → LinesFit from to b → from ≤ to
 order_le from to Empty fits = fits
 order_le from to (Plain line rest) fits = omega (arith, fits.0, order_le (line_end line) to rest fits.1)
-order_le from to (Headed line inner rest) (start, (m, inside, behind)) = omega (arith, start, order_le (line_end line) m inner inside, order_le m to rest behind)
+order_le from to (Headed line inner rest) (start, (m, inside, behind)) =
+    omega (arith, start, order_le (line_end line) m inner inside, order_le m to rest behind)
 
-headed_order : (form : HeadForm) (line : Line) (depth from m to : ℕ) (inner rest : Items) → (form ≡ head.When → 1 < length line.tokens) → from ≤ line.first → line_end line ≤ m → IfOk inner (AreInOrder (line_end line) m) → IfOk rest (AreInOrder m to) → IfOk (headed_items form line depth inner rest) (AreInOrder from to)
-headed_order head.Passed line depth from m to inner rest long start le inside ordered = ok_earlier from m to rest (omega (arith, start, le)) ordered
+headed_order : (form : HeadForm) (line : Line) (depth from m to : ℕ) (inner rest : Items) → (form ≡ head.When → 1 < length line.tokens)
+    → from ≤ line.first → line_end line ≤ m → IfOk inner (AreInOrder (line_end line) m) → IfOk rest (AreInOrder m to)
+    → IfOk (headed_items form line depth inner rest) (AreInOrder from to)
+headed_order head.Passed line depth from m to inner rest long start le inside ordered =
+    ok_earlier from m to rest (omega (arith, start, le)) ordered
 headed_order head.Class line depth from m to inner rest long start le inside ordered = tt
 headed_order head.When line depth from m to inner rest long start le inside ordered =
     let more = with_order line depth from m to inner rest (long refl) start inside ordered in
-    elim (nat_lt depth deepest) as (λ c. IfOk (cond c (join (Ok (with_head line depth ∷ [])) (join inner rest)) (Err (fault.TooDeep (place line)))) (AreInOrder from to)) [ true ↦ more | false ↦ tt ]
+    elim (nat_lt depth deepest) as
+    (λ c. IfOk (cond c (join (Ok (with_head line depth ∷ [])) (join inner rest)) (Err (fault.TooDeep (place line))))
+    (AreInOrder from to)) [ true ↦ more | false ↦ tt ]
 headed_order head.Other line depth from m to inner rest long start le inside ordered = tt
 
 body_order : (bytes : List ℕ) (depth from to : ℕ) (b : Block) → LinesFit from to b → IfOk (body bytes depth b) (AreInOrder from to)
 unfolding body
 body_order bytes depth from to Empty fits = fits
 body_order bytes depth from to (Plain line rest) fits =
-    plain_order (plain_form bytes line.tokens) line depth from to (body bytes depth rest) (directive_long bytes line.tokens) fits.0 (body_order bytes depth (line_end line) to rest fits.1)
+    plain_order (plain_form bytes line.tokens) line depth from to (body bytes depth rest) (directive_long bytes line.tokens) fits.0
+    (body_order bytes depth (line_end line) to rest fits.1)
 body_order bytes depth from to (Headed line inner rest) (start, (m, inside, behind)) =
-    headed_order (head_form bytes line.tokens) line depth from m to (body bytes (depth + 1) inner) (body bytes depth rest) (when_long bytes line.tokens) start (order_le (line_end line) m inner inside)
+    headed_order (head_form bytes line.tokens) line depth from m to (body bytes (depth + 1) inner) (body bytes depth rest)
+    (when_long bytes line.tokens) start (order_le (line_end line) m inner inside)
     (body_order bytes (depth + 1) (line_end line) m inner inside) (body_order bytes depth m to rest behind)
 
 -- ---- the outer level
 
-outer_plain_order : (form : PlainForm) (line : Line) (from to : ℕ) (rest : Items) → from ≤ line.first → IfOk rest (AreInOrder (line_end line) to) → IfOk (outer_plain form line rest) (AreInOrder from to)
+outer_plain_order : (form : PlainForm) (line : Line) (from to : ℕ) (rest : Items) → from ≤ line.first
+    → IfOk rest (AreInOrder (line_end line) to) → IfOk (outer_plain form line rest) (AreInOrder from to)
 outer_plain_order plain.Passed line from to rest start ordered = ok_earlier from (line_end line) to rest (omega (arith, start)) ordered
 outer_plain_order plain.Directive line from to rest start ordered = tt
 outer_plain_order plain.Other line from to rest start ordered = tt
 
-outer_headed_order : (form : HeadForm) (line : Line) (seen : Bool) (from m to : ℕ) (inner rest : Items) → from ≤ line.first → line_end line ≤ m → IfOk inner (AreInOrder (line_end line) m) → IfOk rest (AreInOrder m to) → IfOk (outer_headed form line seen inner rest) (AreInOrder from to)
-outer_headed_order head.Passed line seen from m to inner rest start le inside ordered = ok_earlier from m to rest (omega (arith, start, le)) ordered
+outer_headed_order : (form : HeadForm) (line : Line) (seen : Bool) (from m to : ℕ) (inner rest : Items) → from ≤ line.first
+    → line_end line ≤ m → IfOk inner (AreInOrder (line_end line) m) → IfOk rest (AreInOrder m to)
+    → IfOk (outer_headed form line seen inner rest) (AreInOrder from to)
+outer_headed_order head.Passed line seen from m to inner rest start le inside ordered =
+    ok_earlier from m to rest (omega (arith, start, le)) ordered
 outer_headed_order head.Class line false from m to inner rest start le inside ordered =
     join_order from m to inner rest (ok_earlier from (line_end line) m inner (omega (arith, start)) inside) ordered
 outer_headed_order head.Class line true from m to inner rest start le inside ordered = tt
@@ -113,10 +130,12 @@ outer_order : (bytes : List ℕ) (seen : Bool) (from to : ℕ) (b : Block) → L
 unfolding outer
 outer_order bytes seen from to Empty fits = end_order seen from to fits
 outer_order bytes seen from to (Plain line rest) fits =
-    outer_plain_order (plain_form bytes line.tokens) line from to (outer bytes seen rest) fits.0 (outer_order bytes seen (line_end line) to rest fits.1)
+    outer_plain_order (plain_form bytes line.tokens) line from to (outer bytes seen rest) fits.0
+    (outer_order bytes seen (line_end line) to rest fits.1)
 outer_order bytes seen from to (Headed line inner rest) (start, (m, inside, behind)) =
     let after : Bool = seen || is_class (head_form bytes line.tokens) in
-    outer_headed_order (head_form bytes line.tokens) line seen from m to (body bytes 0 inner) (outer bytes after rest) start (order_le (line_end line) m inner inside)
+    outer_headed_order (head_form bytes line.tokens) line seen from m to (body bytes 0 inner) (outer bytes after rest) start
+    (order_le (line_end line) m inner inside)
     (body_order bytes 0 (line_end line) m inner inside) (outer_order bytes after m to rest behind)
 
 pub items_in_order : (bytes : List ℕ) (tokens : List Token) → IfOk (items bytes tokens) (AreInOrder 0 (length tokens))

@@ -19,7 +19,8 @@ abbrev pub Agrees : List ℕ → List Block → Items → Step → Type 0
 Agrees bytes following all (Ok t) = remaining bytes t following ≡ all
 Agrees bytes following all (Err e) = all ≡ Err e
 
-agrees_by : (bytes : List ℕ) (following : List Block) (a b : Items) (step : Step) → a ≡ b → Agrees bytes following b step → Agrees bytes following a step
+agrees_by : (bytes : List ℕ) (following : List Block) (a b : Items) (step : Step) → a ≡ b → Agrees bytes following b step
+    → Agrees bytes following a step
 agrees_by bytes following a b (Ok t) e agrees = agrees ∙ sym e
 agrees_by bytes following a b (Err f) e agrees = e ∙ agrees
 
@@ -34,24 +35,31 @@ sub_suc n = omega arith
 abbrev pub at : Bool → ℕ → ℕ → ℕ → List Item → State
 at seen level passed first items = record { seen = seen; level = level; passed = passed; first = first; items = items }
 
-closed_by : (bytes : List ℕ) (seen : Bool) (level passed first : ℕ) (items : List Item) (following : List Block) → remaining bytes (closed (at seen level passed first items)) following ≡ remaining bytes (at seen level passed first items) (Empty ∷ following)
+closed_by : (bytes : List ℕ) (seen : Bool) (level passed first : ℕ) (items : List Item) (following : List Block)
+    → remaining bytes (closed (at seen level passed first items)) following ≡ remaining bytes (at seen level passed first items)
+    (Empty ∷ following)
 unfolding closed remaining rest_of body
 closed_by bytes seen level (suc n) first items following = rw (some_passed n, sub_suc n) refl
 closed_by bytes seen zero zero first items following = refl
 closed_by bytes seen (suc d) zero first items following = rw (sub_suc d, join_none) refl
 
-pub closed_law : (bytes : List ℕ) (s : State) (following : List Block) → remaining bytes (closed s) following ≡ remaining bytes s (Empty ∷ following)
+pub closed_law : (bytes : List ℕ) (s : State) (following : List Block)
+    → remaining bytes (closed s) following ≡ remaining bytes s (Empty ∷ following)
 closed_law bytes s following = closed_by bytes s.seen s.level s.passed s.first s.items following
 
 -- ---- a line
 
-plain_outer : (bytes : List ℕ) (line : Line) (form : PlainForm) (seen : Bool) (first : ℕ) (items : List Item) (bs : List Block) → Agrees bytes bs (join (Ok items) (outer_plain form line (outer bytes seen (all_of bs)))) (took_plain form line (at seen zero zero first items))
+plain_outer : (bytes : List ℕ) (line : Line) (form : PlainForm) (seen : Bool) (first : ℕ) (items : List Item) (bs : List Block)
+    → Agrees bytes bs (join (Ok items) (outer_plain form line (outer bytes seen (all_of bs))))
+    (took_plain form line (at seen zero zero first items))
 unfolding remaining rest_of
 plain_outer bytes line plain.Passed seen first items bs = refl
 plain_outer bytes line plain.Directive seen first items bs = refl
 plain_outer bytes line plain.Other seen first items bs = refl
 
-plain_body : (bytes : List ℕ) (line : Line) (form : PlainForm) (seen : Bool) (d first : ℕ) (items : List Item) (bs : List Block) → Agrees bytes bs (join (Ok items) (join (plain_items form line d (body bytes d (top bs))) (rest_of bytes seen d (others bs)))) (took_plain form line (at seen (suc d) zero first items))
+plain_body : (bytes : List ℕ) (line : Line) (form : PlainForm) (seen : Bool) (d first : ℕ) (items : List Item) (bs : List Block)
+    → Agrees bytes bs (join (Ok items) (join (plain_items form line d (body bytes d (top bs))) (rest_of bytes seen d (others bs))))
+    (took_plain form line (at seen (suc d) zero first items))
 unfolding remaining rest_of
 plain_body bytes line plain.Passed seen d first items bs = refl
 plain_body bytes line plain.Directive seen d first items bs =
@@ -60,18 +68,26 @@ plain_body bytes line plain.Directive seen d first items bs =
     ∙ ap (join (Ok items)) (join_assoc (Ok (call line d ∷ [])) (body bytes d (top bs)) (rest_of bytes seen d (others bs))))
 plain_body bytes line plain.Other seen d first items bs = refl
 
-headed_outer : (bytes : List ℕ) (line : Line) (form : HeadForm) (seen : Bool) (first : ℕ) (items : List Item) (bs : List Block) → Agrees bytes bs (join (Ok items) (outer_headed form line seen (body bytes 0 (top bs)) (outer bytes (seen || is_class form) (all_of (others bs))))) (took_headed form line (at seen zero zero first items))
+headed_outer : (bytes : List ℕ) (line : Line) (form : HeadForm) (seen : Bool) (first : ℕ) (items : List Item) (bs : List Block)
+    → Agrees bytes bs
+    (join (Ok items) (outer_headed form line seen (body bytes 0 (top bs)) (outer bytes (seen || is_class form) (all_of (others bs)))))
+    (took_headed form line (at seen zero zero first items))
 unfolding remaining rest_of
-headed_outer bytes line head.Passed true first items bs = ap (λ (b : List Block). join (Ok items) (outer bytes true (all_of b))) (sym (drop_others 0 bs))
-headed_outer bytes line head.Passed false first items bs = ap (λ (b : List Block). join (Ok items) (outer bytes false (all_of b))) (sym (drop_others 0 bs))
+headed_outer bytes line head.Passed true first items bs =
+    ap (λ (b : List Block). join (Ok items) (outer bytes true (all_of b))) (sym (drop_others 0 bs))
+headed_outer bytes line head.Passed false first items bs =
+    ap (λ (b : List Block). join (Ok items) (outer bytes false (all_of b))) (sym (drop_others 0 bs))
 headed_outer bytes line head.Class true first items bs = refl
 headed_outer bytes line head.Class false first items bs = refl
 headed_outer bytes line head.When seen first items bs = refl
 headed_outer bytes line head.Other seen first items bs = refl
 
-headed_body : (bytes : List ℕ) (line : Line) (form : HeadForm) (seen : Bool) (d first : ℕ) (items : List Item) (bs : List Block) → Agrees bytes bs (join (Ok items) (join (headed_items form line d (body bytes (d + 1) (top bs)) (body bytes d (top (others bs)))) (rest_of bytes seen d (others (others bs))))) (took_headed form line (at seen (suc d) zero first items))
+headed_body : (bytes : List ℕ) (line : Line) (form : HeadForm) (seen : Bool) (d first : ℕ) (items : List Item) (bs : List Block)
+    → Agrees bytes bs (join (Ok items) (join (headed_items form line d (body bytes (d + 1) (top bs)) (body bytes d (top (others bs))))
+    (rest_of bytes seen d (others (others bs))))) (took_headed form line (at seen (suc d) zero first items))
 unfolding remaining rest_of
-headed_body bytes line head.Passed seen d first items bs = ap (λ (b : List Block). join (Ok items) (join (body bytes d (top b)) (rest_of bytes seen d (others b)))) (sym (drop_others 0 bs))
+headed_body bytes line head.Passed seen d first items bs =
+    ap (λ (b : List Block). join (Ok items) (join (body bytes d (top b)) (rest_of bytes seen d (others b)))) (sym (drop_others 0 bs))
 headed_body bytes line head.Class seen d first items bs = rw (ne_eqb (suc d) 0 (omega arith)) refl
 headed_body bytes line head.When seen d first items bs =
     let w : Item = with_head line d in
@@ -80,36 +96,52 @@ headed_body bytes line head.When seen d first items bs =
     let more : Items = rest_of bytes seen d (others (others bs)) in
     let one : d + 1 ≡ suc d = omega arith in
     let two : suc d + 1 ≡ suc (suc d) = omega arith in
-    let deeper : join (Ok (items ++ w ∷ [])) (join inner (join rest more)) ≡ join (Ok items) (join (join (Ok (w ∷ [])) (join inner rest)) more) =
-    join_push items w (join inner (join rest more)) ∙ ap (join (Ok items)) (ap (join (Ok (w ∷ []))) (join_assoc inner rest more) ∙ join_assoc (Ok (w ∷ [])) (join inner rest) more) in
+    let deeper : join (Ok (items ++ w ∷ [])) (join inner (join rest more))
+    ≡ join (Ok items) (join (join (Ok (w ∷ [])) (join inner rest)) more) =
+    join_push items w (join inner (join rest more))
+    ∙ ap (join (Ok items)) (ap (join (Ok (w ∷ []))) (join_assoc inner rest more) ∙ join_assoc (Ok (w ∷ [])) (join inner rest) more) in
     rw (ne_eqb (suc d) 0 (omega arith), sub_suc d, one, two)
-    (elim (nat_lt d deepest) as (λ c. Agrees bytes bs (join (Ok items) (join (cond c (join (Ok (w ∷ [])) (join inner rest)) (Err (fault.TooDeep (place line)))) more)) (cond c (Ok (at seen (suc (suc d)) zero first (items ++ w ∷ []))) (Err (fault.TooDeep (place line))))) [ true ↦ deeper | false ↦ refl ])
+    (elim (nat_lt d deepest) as (λ c. Agrees bytes bs
+    (join (Ok items) (join (cond c (join (Ok (w ∷ [])) (join inner rest)) (Err (fault.TooDeep (place line)))) more))
+    (cond c (Ok (at seen (suc (suc d)) zero first (items ++ w ∷ []))) (Err (fault.TooDeep (place line))))) [
+      | true ↦
+          deeper
+      | false ↦ refl
+    ])
 headed_body bytes line head.Other seen d first items bs = refl
 
 -- ---- a line, in any state
 
-plain_law : (bytes : List ℕ) (line : Line) (seen : Bool) (level first : ℕ) (items : List Item) (bs : List Block) → Agrees bytes bs (remaining bytes (at seen level zero first items) (add line false bs)) (took_plain (plain_form bytes line.tokens) line (at seen level zero first items))
+plain_law : (bytes : List ℕ) (line : Line) (seen : Bool) (level first : ℕ) (items : List Item) (bs : List Block)
+    → Agrees bytes bs (remaining bytes (at seen level zero first items) (add line false bs))
+    (took_plain (plain_form bytes line.tokens) line (at seen level zero first items))
 unfolding remaining rest_of outer body
 plain_law bytes line seen zero first items bs =
     let form : PlainForm = plain_form bytes line.tokens in
     rw (top_followed bs) (plain_outer bytes line form seen first items bs)
 plain_law bytes line seen (suc d) first items bs = plain_body bytes line (plain_form bytes line.tokens) seen d first items bs
 
-headed_law : (bytes : List ℕ) (line : Line) (seen : Bool) (level first : ℕ) (items : List Item) (bs : List Block) → Agrees bytes bs (remaining bytes (at seen level zero first items) (add line true bs)) (took_headed (head_form bytes line.tokens) line (at seen level zero first items))
+headed_law : (bytes : List ℕ) (line : Line) (seen : Bool) (level first : ℕ) (items : List Item) (bs : List Block)
+    → Agrees bytes bs (remaining bytes (at seen level zero first items) (add line true bs))
+    (took_headed (head_form bytes line.tokens) line (at seen level zero first items))
 unfolding remaining rest_of outer body
 headed_law bytes line seen zero first items bs =
     rw (top_followed (others bs)) (headed_outer bytes line (head_form bytes line.tokens) seen first items bs)
 headed_law bytes line seen (suc d) first items bs = headed_body bytes line (head_form bytes line.tokens) seen d first items bs
 
-took_by : (bytes : List ℕ) (line : Line) (has : Bool) (seen : Bool) (level passed first : ℕ) (items : List Item) (bs : List Block) → Agrees bytes bs (remaining bytes (at seen level passed first items) (add line has bs)) (took bytes line has (at seen level passed first items))
+took_by : (bytes : List ℕ) (line : Line) (has : Bool) (seen : Bool) (level passed first : ℕ) (items : List Item) (bs : List Block)
+    → Agrees bytes bs (remaining bytes (at seen level passed first items) (add line has bs))
+    (took bytes line has (at seen level passed first items))
 unfolding took remaining
 took_by bytes line false seen level (suc n) first items bs =
     rw (some_passed n) (ap (λ (b : List Block). join (Ok items) (rest_of bytes seen level b)) (sym (drop_others n bs)))
 took_by bytes line true seen level (suc n) first items bs =
     let two : suc n + 1 ≡ suc (suc n) = omega arith in
-    rw (some_passed n, two) (ap (λ (b : List Block). join (Ok items) (rest_of bytes seen level b)) (sym (drop_others (suc n) bs) ∙ sym (drop_others n (others bs))))
+    rw (some_passed n, two) (ap (λ (b : List Block). join (Ok items) (rest_of bytes seen level b)) (sym (drop_others (suc n) bs)
+    ∙ sym (drop_others n (others bs))))
 took_by bytes line false seen level zero first items bs = plain_law bytes line seen level first items bs
 took_by bytes line true seen level zero first items bs = headed_law bytes line seen level first items bs
 
-pub took_law : (bytes : List ℕ) (line : Line) (has : Bool) (s : State) (bs : List Block) → Agrees bytes bs (remaining bytes s (add line has bs)) (took bytes line has s)
+pub took_law : (bytes : List ℕ) (line : Line) (has : Bool) (s : State) (bs : List Block)
+    → Agrees bytes bs (remaining bytes s (add line has bs)) (took bytes line has s)
 took_law bytes line has s bs = took_by bytes line has s.seen s.level s.passed s.first s.items bs

@@ -32,7 +32,8 @@ take_one (suc n) [] t rest e = absurd cc
 take_one zero (x ∷ xs) t rest e = let same : x ≡ t = cc in ap (λ (y : Token). y ∷ []) same
 take_one (suc n) (x ∷ xs) t rest e = ap (λ (ys : List Token). x ∷ ys) (take_one n xs t rest e)
 
-pub between_more : (tokens : List Token) (first i : ℕ) (t : Token) (rest : List Token) → first ≤ i → drop i tokens ≡ t ∷ rest → between tokens first (i + 1) ≡ between tokens first i ++ t ∷ []
+pub between_more : (tokens : List Token) (first i : ℕ) (t : Token) (rest : List Token) → first ≤ i → drop i tokens ≡ t ∷ rest
+    → between tokens first (i + 1) ≡ between tokens first i ++ t ∷ []
 between_more tokens first i t rest le e =
     let more : i + 1 - first ≡ suc (i - first) = omega arith in
     let there : first + (i - first) ≡ i = omega arith in
@@ -51,42 +52,55 @@ abbrev pub Keeps : List ℕ → List Token → ℕ → Items → Step → Type 0
 Keeps bytes tokens i all (Ok t) = whole bytes tokens i t ≡ all
 Keeps bytes tokens i all (Err e) = all ≡ Err e
 
-keeps_first : (bytes : List ℕ) (tokens : List Token) (i : ℕ) (all : Items) (step : Step) → Agrees bytes (blocks (i + 1) [] (drop (i + 1) tokens)) all step → Keeps bytes tokens (i + 1) all (then_first (i + 1) step)
+keeps_first : (bytes : List ℕ) (tokens : List Token) (i : ℕ) (all : Items) (step : Step)
+    → Agrees bytes (blocks (i + 1) [] (drop (i + 1) tokens)) all step → Keeps bytes tokens (i + 1) all (then_first (i + 1) step)
 unfolding whole remaining
 keeps_first bytes tokens i all (Ok t) agrees = rw (between_none tokens (i + 1)) agrees
 keeps_first bytes tokens i all (Err e) agrees = agrees
 
 -- a token of a line
-more : (bytes : List ℕ) (tokens : List Token) (i : ℕ) (s : State) (t : Token) → s.first ≤ i → drop i tokens ≡ t ∷ drop (i + 1) tokens → whole bytes tokens (i + 1) s ≡ remaining bytes s (blocks s.first (between tokens s.first i ++ t ∷ []) (drop (i + 1) tokens))
+more : (bytes : List ℕ) (tokens : List Token) (i : ℕ) (s : State) (t : Token) → s.first ≤ i → drop i tokens ≡ t ∷ drop (i + 1) tokens
+    → whole bytes tokens (i + 1) s ≡ remaining bytes s (blocks s.first (between tokens s.first i ++ t ∷ []) (drop (i + 1) tokens))
 unfolding whole
-more bytes tokens i s t le e = ap (λ (front : List Token). remaining bytes s (blocks s.first front (drop (i + 1) tokens))) (between_more tokens s.first i t (drop (i + 1) tokens) le e)
+more bytes tokens i s t le e = ap (λ (front : List Token). remaining bytes s (blocks s.first front (drop (i + 1) tokens)))
+    (between_more tokens s.first i t (drop (i + 1) tokens) le e)
 
-by_kind : (bytes : List ℕ) (tokens : List Token) (i : ℕ) (s : State) (t : Token) (k : TokenKind) → s.first ≤ i → i < length tokens → drop i tokens ≡ t ∷ drop (i + 1) tokens → let front : List Token = between tokens s.first i in Keeps bytes tokens (i + 1) (remaining bytes s (ended k (record { first = s.first; tokens = front }) (drop (i + 1) tokens) (blocks (cond (is_between k) (s.first + length front + 1) s.first) (cond (is_between k) [] (front ++ t ∷ [])) (drop (i + 1) tokens)))) (stepped bytes tokens i k s)
+by_kind : (bytes : List ℕ) (tokens : List Token) (i : ℕ) (s : State) (t : Token) (k : TokenKind) → s.first ≤ i → i < length tokens
+    → drop i tokens ≡ t ∷ drop (i + 1) tokens → let front : List Token = between tokens s.first i in
+    Keeps bytes tokens (i + 1) (remaining bytes s
+    (ended k (record { first = s.first; tokens = front }) (drop (i + 1) tokens)
+    (blocks (cond (is_between k) (s.first + length front + 1) s.first) (cond (is_between k) [] (front ++ t ∷ [])) (drop (i + 1) tokens))))
+    (stepped bytes tokens i k s)
 by_kind bytes tokens i s t kind.NewLine le lt e =
     let line : Line = record { first = s.first; tokens = between tokens s.first i } in
     let rest : List Token = drop (i + 1) tokens in
     rw (length_between tokens s.first i le (omega arith))
-    (keeps_first bytes tokens i (remaining bytes s (add line (begins rest) (blocks (i + 1) [] rest))) (took bytes line (begins rest) s) (took_law bytes line (begins rest) s (blocks (i + 1) [] rest)))
+    (keeps_first bytes tokens i (remaining bytes s (add line (begins rest) (blocks (i + 1) [] rest))) (took bytes line (begins rest) s)
+    (took_law bytes line (begins rest) s (blocks (i + 1) [] rest)))
 by_kind bytes tokens i s t kind.Indent le lt e =
     rw (length_between tokens s.first i le (omega arith))
     (keeps_first bytes tokens i (remaining bytes s (blocks (i + 1) [] (drop (i + 1) tokens))) (Ok s) refl)
 by_kind bytes tokens i s t kind.Dedent le lt e =
     rw (length_between tokens s.first i le (omega arith))
-    (keeps_first bytes tokens i (remaining bytes s (Empty ∷ blocks (i + 1) [] (drop (i + 1) tokens))) (Ok (closed s)) (closed_law bytes s (blocks (i + 1) [] (drop (i + 1) tokens))))
+    (keeps_first bytes tokens i (remaining bytes s (Empty ∷ blocks (i + 1) [] (drop (i + 1) tokens))) (Ok (closed s))
+    (closed_law bytes s (blocks (i + 1) [] (drop (i + 1) tokens))))
 by_kind bytes tokens i s t kind.Word le lt e = more bytes tokens i s t le e
 by_kind bytes tokens i s t kind.Text le lt e = more bytes tokens i s t le e
 by_kind bytes tokens i s t (kind.Op b) le lt e = more bytes tokens i s t le e
 by_kind bytes tokens i s t kind.End le lt e = more bytes tokens i s t le e
 
-pub step_keeps : (bytes : List ℕ) (tokens : List Token) (i : ℕ) (s : State) (t : Token) → s.first ≤ i → i < length tokens → drop i tokens ≡ t ∷ drop (i + 1) tokens → Keeps bytes tokens (i + 1) (whole bytes tokens i s) (stepped bytes tokens i t.kind s)
+pub step_keeps : (bytes : List ℕ) (tokens : List Token) (i : ℕ) (s : State) (t : Token) → s.first ≤ i → i < length tokens
+    → drop i tokens ≡ t ∷ drop (i + 1) tokens → Keeps bytes tokens (i + 1) (whole bytes tokens i s) (stepped bytes tokens i t.kind s)
 unfolding whole blocks
 step_keeps bytes tokens i s t le lt e = rw e (by_kind bytes tokens i s t t.kind le lt e)
 
 -- what a call of a step says, in terms of what is still to come
-pub ok_keeps : {X : Type 0} (x : X) (new : Reader) (bytes : List ℕ) (tokens : List Token) (i : ℕ) (all : Items) (step : Step) → Gives {X = X} (Ok x) new step → Keeps bytes tokens i all step → whole bytes tokens i (view new) ≡ all
+pub ok_keeps : {X : Type 0} (x : X) (new : Reader) (bytes : List ℕ) (tokens : List Token) (i : ℕ) (all : Items) (step : Step)
+    → Gives {X = X} (Ok x) new step → Keeps bytes tokens i all step → whole bytes tokens i (view new) ≡ all
 ok_keeps x new bytes tokens i all step gives keeps = subst (Keeps bytes tokens i all) gives keeps
 
-pub err_fails : (f : StatementFault) (bytes : List ℕ) (tokens : List Token) (i : ℕ) (all : Items) (step : Step) → Fails f step → Keeps bytes tokens i all step → Fails f all
+pub err_fails : (f : StatementFault) (bytes : List ℕ) (tokens : List Token) (i : ℕ) (all : Items) (step : Step) → Fails f step
+    → Keeps bytes tokens i all step → Fails f all
 err_fails fault.OutOfMemory bytes tokens i all step gives keeps = tt
 err_fails (fault.Unsupported p) bytes tokens i all step gives keeps = subst (Keeps bytes tokens i all) gives keeps
 err_fails fault.NoClass bytes tokens i all step gives keeps = subst (Keeps bytes tokens i all) gives keeps
@@ -104,22 +118,27 @@ finished_by : (found : List Item) (seen : Bool) → join (Ok found) (at_end seen
 finished_by found true = ap (λ (xs : List Item). let r : Items = Ok xs in r) (append-nil found)
 finished_by found false = refl
 
-pub whole_end : (bytes : List ℕ) (tokens : List Token) (i : ℕ) (s : State) → length tokens ≤ i → whole bytes tokens i s ≡ finished s.items s.seen
+pub whole_end : (bytes : List ℕ) (tokens : List Token) (i : ℕ) (s : State) → length tokens ≤ i
+    → whole bytes tokens i s ≡ finished s.items s.seen
 unfolding whole blocks remaining
 whole_end bytes tokens i s le =
-    rw (drop_all i tokens le, drop-nil {A = Block} s.passed) (ap (join (Ok s.items)) (rest_end bytes s.seen s.level) ∙ finished_by s.items s.seen)
+    rw (drop_all i tokens le, drop-nil {A = Block} s.passed) (ap (join (Ok s.items)) (rest_end bytes s.seen s.level)
+    ∙ finished_by s.items s.seen)
 
-pub whole_start : (bytes : List ℕ) (tokens : List Token) (found : List Item) → found ≡ [] → whole bytes tokens 0 (record { seen = false; level = 0; passed = 0; first = 0; items = found }) ≡ items bytes tokens
+pub whole_start : (bytes : List ℕ) (tokens : List Token) (found : List Item) → found ≡ []
+    → whole bytes tokens 0 (record { seen = false; level = 0; passed = 0; first = 0; items = found }) ≡ items bytes tokens
 unfolding whole remaining rest_of items
 whole_start bytes tokens found e = rw e (join_none (outer bytes false (all_of (blocks 0 [] tokens))))
 
 -- ---- brackets
 
-pub behind_more : (inner now i : ℕ) (tokens : List Token) (t : Token) → drop i tokens ≡ t ∷ drop (i + 1) tokens → turned inner t.kind ≡ Some now → behind inner (drop i tokens) ≡ behind now (drop (i + 1) tokens)
+pub behind_more : (inner now i : ℕ) (tokens : List Token) (t : Token) → drop i tokens ≡ t ∷ drop (i + 1) tokens
+    → turned inner t.kind ≡ Some now → behind inner (drop i tokens) ≡ behind now (drop (i + 1) tokens)
 unfolding behind
 behind_more inner now i tokens t e turns = rw (e, turns) refl
 
-pub behind_closed : (inner i : ℕ) (tokens : List Token) (t : Token) → drop i tokens ≡ t ∷ drop (i + 1) tokens → turned inner t.kind ≡ None → behind inner (drop i tokens) ≡ Some (drop (i + 1) tokens)
+pub behind_closed : (inner i : ℕ) (tokens : List Token) (t : Token) → drop i tokens ≡ t ∷ drop (i + 1) tokens → turned inner t.kind ≡ None
+    → behind inner (drop i tokens) ≡ Some (drop (i + 1) tokens)
 unfolding behind
 behind_closed inner i tokens t e turns = rw (e, turns) refl
 

@@ -95,7 +95,8 @@ unfoldable pub outer : List ℕ → Bool → Block → Items
 outer bytes seen Empty = at_end seen
 outer bytes seen (Plain line rest) = outer_plain (plain_form bytes line.tokens) line (outer bytes seen rest)
 outer bytes seen (Headed line inner rest) =
-    outer_headed (head_form bytes line.tokens) line seen (body bytes 0 inner) (outer bytes (seen || is_class (head_form bytes line.tokens)) rest)
+    outer_headed (head_form bytes line.tokens) line seen (body bytes 0 inner)
+    (outer bytes (seen || is_class (head_form bytes line.tokens)) rest)
 
 -- the items of the file with these tokens, or its first fault
 unfoldable pub items : List ℕ → List Token → Items

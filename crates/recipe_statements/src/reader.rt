@@ -54,7 +54,8 @@ fn take_plain(
 ) -> Result<(), StatementFault>
     requires { first + length line.now < 2 ^ 64 }
     ensures room { reader.new.passed ≡ reader.old.passed }
-    ensures step { Gives result reader.new (took_plain form (record { first = first; tokens = line.now }) (view reader.old)) }
+    ensures step { Gives result reader.new
+        (took_plain form (record { first = first; tokens = line.now }) (view reader.old)) }
 {
     match form {
         PlainForm::Passed => Ok(()),
@@ -88,7 +89,8 @@ fn take_when(reader: &mut Reader, first: usize, line: &[Token]) -> Result<(), St
     requires room { first + length line.now < 2 ^ 64 }
     requires inside { 0 < reader.old.level }
     ensures room { reader.new.passed ≡ reader.old.passed }
-    ensures step { Gives result reader.new (took_when (record { first = first; tokens = line.now }) (view reader.old)) }
+    ensures step { Gives result reader.new
+        (took_when (record { first = first; tokens = line.now }) (view reader.old)) }
 {
     let depth = reader.level - 1;
     if depth >= DEEPEST {
@@ -112,7 +114,8 @@ fn take_headed(
 ) -> Result<(), StatementFault>
     requires { first + length line.now < 2 ^ 64 }
     ensures room { reader.new.passed ≤ reader.old.passed + 1 }
-    ensures step { Gives result reader.new (took_headed form (record { first = first; tokens = line.now }) (view reader.old)) }
+    ensures step { Gives result reader.new
+        (took_headed form (record { first = first; tokens = line.now }) (view reader.old)) }
 {
     match form {
         HeadForm::Passed => {
@@ -128,7 +131,10 @@ fn take_headed(
 /// Counts a block that is passed over.
 fn pass_block(reader: &mut Reader, has_block: bool)
     requires { reader.old.passed + 1 < 2 ^ 64 }
-    ensures { view reader.new ≡ record (view reader.old) { passed = if has_block then reader.old.passed + 1 else reader.old.passed } }
+    ensures { view reader.new ≡ record (view reader.old) {
+      passed =
+          if has_block then reader.old.passed + 1 else reader.old.passed;
+    } }
 {
     if has_block {
         reader.passed += 1;
@@ -147,7 +153,8 @@ fn take_line(
     requires place { first + length line.now < 2 ^ 64 }
     requires room { reader.old.passed + 1 < 2 ^ 64 }
     ensures room { reader.new.passed ≤ reader.old.passed + 1 }
-    ensures step { Gives result reader.new (took bytes.now (record { first = first; tokens = line.now }) has_block (view reader.old)) }
+    ensures step { Gives result reader.new
+        (took bytes.now (record { first = first; tokens = line.now }) has_block (view reader.old)) }
 {
     if reader.passed > 0 {
         pass_block(reader, has_block);

@@ -15,7 +15,8 @@ pub fn laws()
         items bytes tokens ≡ Ok a → items bytes tokens ≡ Ok b → a ≡ b }
     ensures one_fault { (bytes : List ℕ) (tokens : List Token) (a b : StatementFault) →
         items bytes tokens ≡ Err a → items bytes tokens ≡ Err b → a ≡ b }
-    ensures either { (bytes : List ℕ) (tokens : List Token) (a : List Item) (fault : StatementFault) →
+    ensures either { (bytes : List ℕ) (tokens : List Token) (a : List Item) (fault : StatementFault)
+        →
         items bytes tokens ≡ Ok a → items bytes tokens ≢ Err fault }
     ensures in_order { (bytes : List ℕ) (tokens : List Token) →
         IfOk (items bytes tokens) (λ found. AreInOrder 0 (length tokens) found) }

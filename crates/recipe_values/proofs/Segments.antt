@@ -24,14 +24,18 @@ last_left all xs s is e = rw is (last_of xs s ∙ ap (λ (b : Bool). xs ++ cond 
 
 -- ---- members
 
-pub elements_more : (found : List Element) (bytes : List ℕ) (segments more : List Segment) (s : Segment) (r : Reading) → segments ≡ s ∷ more → value_of bytes s ≡ Ok r → join (Ok found) (elements bytes segments) ≡ join (Ok (found ++ element r ∷ [])) (elements bytes more)
+pub elements_more : (found : List Element) (bytes : List ℕ) (segments more : List Segment) (s : Segment) (r : Reading) → segments ≡ s ∷ more
+    → value_of bytes s ≡ Ok r → join (Ok found) (elements bytes segments) ≡ join (Ok (found ++ element r ∷ [])) (elements bytes more)
 unfolding elements
-elements_more found bytes segments more s r is e = rw (is, e) (more_read found (found ++ element r ∷ []) (Ok (element r ∷ [])) (elements bytes more) refl)
+elements_more found bytes segments more s r is e =
+    rw (is, e) (more_read found (found ++ element r ∷ []) (Ok (element r ∷ [])) (elements bytes more) refl)
 
-pub elements_fail : (found : List Element) (place : ℕ) (bytes : List ℕ) (segments more : List Segment) (s : Segment) → segments ≡ s ∷ more → value_of bytes s ≡ Err place → join (Ok found) (elements bytes segments) ≡ Err place
+pub elements_fail : (found : List Element) (place : ℕ) (bytes : List ℕ) (segments more : List Segment) (s : Segment) → segments ≡ s ∷ more
+    → value_of bytes s ≡ Err place → join (Ok found) (elements bytes segments) ≡ Err place
 unfolding elements
 elements_fail found place bytes segments more s is e = rw (is, e) (not_read found place (Err place) (elements bytes more) refl)
 
-pub elements_end : (found : List Element) (bytes : List ℕ) (segments : List Segment) → segments ≡ [] → join (Ok found) (elements bytes segments) ≡ Ok found
+pub elements_end : (found : List Element) (bytes : List ℕ) (segments : List Segment) → segments ≡ []
+    → join (Ok found) (elements bytes segments) ≡ Ok found
 unfolding elements
 elements_end found bytes segments is = rw is (join_nil (Ok found))

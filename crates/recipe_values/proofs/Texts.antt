@@ -28,29 +28,39 @@ no_text place w h = no_text_by (is_utf8 w) place w (λ e. h (IsUtf8-from_is_utf8
 abbrev pub nothing : Token
 nothing = record { kind = Word; start = 0; end = 0 }
 
-pub byte_more : (old new : List ℕ) (place i : ℕ) (taken : Bool) (bytes : List ℕ) → i < length bytes → join (Ok old) (byte_text (place + i) taken (get_or bytes i 0)) ≡ Ok new → join (Ok old) (decoded (place + i) taken (drop i bytes)) ≡ join (Ok new) (decoded (place + (i + 1)) (not taken && get_or bytes i 0 == 92) (drop (i + 1) bytes))
+pub byte_more : (old new : List ℕ) (place i : ℕ) (taken : Bool) (bytes : List ℕ) → i < length bytes
+    → join (Ok old) (byte_text (place + i) taken (get_or bytes i 0)) ≡ Ok new
+    → join (Ok old) (decoded (place + i) taken (drop i bytes))
+    ≡ join (Ok new) (decoded (place + (i + 1)) (not taken && get_or bytes i 0 == 92) (drop (i + 1) bytes))
 unfolding decoded
 byte_more old new place i taken bytes lt e =
     let next : place + i + 1 ≡ place + (i + 1) = omega arith in
     rw (drop_more bytes i 0 lt, next) (more_read old new (byte_text (place + i) taken (get_or bytes i 0)) _ e)
 
-pub byte_fails : (old : List ℕ) (place i fault : ℕ) (taken : Bool) (bytes : List ℕ) → i < length bytes → join (Ok old) (byte_text (place + i) taken (get_or bytes i 0)) ≡ Err fault → join (Ok old) (decoded (place + i) taken (drop i bytes)) ≡ Err fault
+pub byte_fails : (old : List ℕ) (place i fault : ℕ) (taken : Bool) (bytes : List ℕ) → i < length bytes
+    → join (Ok old) (byte_text (place + i) taken (get_or bytes i 0)) ≡ Err fault
+    → join (Ok old) (decoded (place + i) taken (drop i bytes)) ≡ Err fault
 unfolding decoded
 byte_fails old place i fault taken bytes lt e =
     rw (drop_more bytes i 0 lt) (not_read old fault (byte_text (place + i) taken (get_or bytes i 0)) _ e)
 
-pub bytes_end : (text : List ℕ) (place i : ℕ) (taken : Bool) (bytes : List ℕ) → length bytes ≤ i → join (Ok text) (decoded place taken (drop i bytes)) ≡ Ok text
+pub bytes_end : (text : List ℕ) (place i : ℕ) (taken : Bool) (bytes : List ℕ) → length bytes ≤ i
+    → join (Ok text) (decoded place taken (drop i bytes)) ≡ Ok text
 unfolding decoded
 bytes_end text place i taken bytes le = rw (drop_all i bytes le) (join_nil (Ok text))
 
-pub string_more : (old new : List ℕ) (i : ℕ) (bytes : List ℕ) (tokens : List Token) (t : Token) → drop i tokens ≡ t ∷ drop (i + 1) tokens → join (Ok old) (string bytes t) ≡ Ok new → join (Ok old) (strings bytes (drop i tokens)) ≡ join (Ok new) (strings bytes (drop (i + 1) tokens))
+pub string_more : (old new : List ℕ) (i : ℕ) (bytes : List ℕ) (tokens : List Token) (t : Token) → drop i tokens ≡ t ∷ drop (i + 1) tokens
+    → join (Ok old) (string bytes t) ≡ Ok new → join (Ok old) (strings bytes (drop i tokens))
+    ≡ join (Ok new) (strings bytes (drop (i + 1) tokens))
 unfolding strings
 string_more old new i bytes tokens t is e = rw is (more_read old new (string bytes t) _ e)
 
-pub string_fails : (old : List ℕ) (i fault : ℕ) (bytes : List ℕ) (tokens : List Token) (t : Token) → drop i tokens ≡ t ∷ drop (i + 1) tokens → join (Ok old) (string bytes t) ≡ Err fault → join (Ok old) (strings bytes (drop i tokens)) ≡ Err fault
+pub string_fails : (old : List ℕ) (i fault : ℕ) (bytes : List ℕ) (tokens : List Token) (t : Token) → drop i tokens ≡ t ∷ drop (i + 1) tokens
+    → join (Ok old) (string bytes t) ≡ Err fault → join (Ok old) (strings bytes (drop i tokens)) ≡ Err fault
 unfolding strings
 string_fails old i fault bytes tokens t is e = rw is (not_read old fault (string bytes t) _ e)
 
-pub strings_end : (text : List ℕ) (i : ℕ) (bytes : List ℕ) (tokens : List Token) → length tokens ≤ i → join (Ok text) (strings bytes (drop i tokens)) ≡ Ok text
+pub strings_end : (text : List ℕ) (i : ℕ) (bytes : List ℕ) (tokens : List Token) → length tokens ≤ i
+    → join (Ok text) (strings bytes (drop i tokens)) ≡ Ok text
 unfolding strings
 strings_end text i bytes tokens le = rw (drop_all i tokens le) (join_nil (Ok text))

@@ -1,5 +1,5 @@
 -- What a record's object says. Its keys go in byte order, missing and unknown ones among them, and each fault is a wrong kind.
-use Rattle.std.specs.Prelude.{ℕ, List, [], ◌∷◌, codes, Option, Some, None, Ok}
+use Rattle.std.specs.Prelude.{List, [], ◌∷◌, codes, Option, Some, None, Ok}
 use Rattle.variant_values.specs.Texts.{with_texts}
 use Rattle.serde_json.specs.Data.{Data, Members}
 use Rattle.json_readers.specs.Faults.{Reading, ◌>>=◌}
@@ -85,7 +85,8 @@ back_at front middle odd ms = do
 -- ---- the whole
 
 abbrev pub keys : List Text
-keys = codes "compiler" ∷ codes "dependencies" ∷ codes "external" ∷ codes "hash" ∷ codes "name" ∷ codes "os" ∷ codes "target" ∷ codes "variants" ∷ codes "version" ∷ []
+keys = codes "compiler" ∷ codes "dependencies" ∷ codes "external" ∷ codes "hash" ∷ codes "name" ∷ codes "os" ∷ codes "target"
+    ∷ codes "variants" ∷ codes "version" ∷ []
 
 -- an object with just these keys
 unfoldable pub record_at : Data → Reading Record

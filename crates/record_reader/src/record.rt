@@ -67,7 +67,8 @@ pub fn read_front(
     members: &Map<String, Value>,
     odd: Option<&str>,
 ) -> Result<Front, JsonFault>
-    ensures { Gives result (front_at (option_map (λ k. k.now) odd.entry) (members_view members.now.entries)) }
+    ensures { Gives result (front_at (option_map (λ k. k.now) odd.entry)
+        (members_view members.now.entries)) }
 {
     let compiler = field(alloc, members, odd, "compiler", &NullOr(CompilerForm))?;
     let form = SetOf {
@@ -89,7 +90,8 @@ pub fn read_middle(
     members: &Map<String, Value>,
     odd: Option<&str>,
 ) -> Result<Middle, JsonFault>
-    ensures { Gives result (middle_at (option_map (λ k. k.now) odd.entry) (members_view members.now.entries)) }
+    ensures { Gives result (middle_at (option_map (λ k. k.now) odd.entry)
+        (members_view members.now.entries)) }
 {
     let external = field(alloc, members, odd, "external", &NullOr(Text(AnyText)))?;
     let hash = field(alloc, members, odd, "hash", &HashText)?;
@@ -110,7 +112,8 @@ pub fn read_back(
     front: Front,
     middle: Middle,
 ) -> Result<Record, JsonFault>
-    ensures { Gives result (back_at front middle (option_map (λ k. k.now) odd.entry) (members_view members.now.entries)) }
+    ensures { Gives result (back_at front middle (option_map (λ k. k.now) odd.entry)
+        (members_view members.now.entries)) }
 {
     let os = field(alloc, members, odd, "os", &Text(ValueText))?;
     let target = field(alloc, members, odd, "target", &Text(ValueText))?;

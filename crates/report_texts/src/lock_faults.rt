@@ -11,7 +11,8 @@ use std::alloc::{AllocError, Global};
 
 /// A name with two hashes.
 fn two_hashes(alloc: Global, name: &str, first: &str, second: &str) -> Result<String, AllocError>
-    ensures { IfOk result (λ text. string_bytes text ≡ texts.two_hashes name.now first.now second.now) }
+    ensures { IfOk result (λ text. string_bytes text ≡ texts.two_hashes name.now
+        first.now second.now) }
 {
     format!(in alloc; "{name} {first} {second}")
 }

@@ -20,12 +20,16 @@ pub not_found : (records : List Record) (hash : Text) → (Contains (hashes_of r
 not_found [] hash lacks = refl
 not_found (entry ∷ records) hash lacks =
     let rest = not_found records hash (λ there. lacks (has_later entry.hash (hashes_of records) hash there)) in
-    let other : bytes_eq entry.hash hash ≡ false = false_from_ne_true (bytes_eq entry.hash hash) (λ same. lacks (subst (Contains (entry.hash ∷ hashes_of records)) ((bytes_decides entry.hash hash).0 same) (has_first entry.hash (hashes_of records)))) in
+    let other : bytes_eq entry.hash hash ≡ false =
+    false_from_ne_true (bytes_eq entry.hash hash)
+    (λ same. lacks (subst (Contains (entry.hash ∷ hashes_of records)) ((bytes_decides entry.hash hash).0 same)
+    (has_first entry.hash (hashes_of records)))) in
     rw other rest
 
 -- ---- the first that has it
 
-pub found_at : (records : List Record) (hash : Text) (i : ℕ) (entry : Record) → i < length records → entry ≡ get_or records i entry → entry.hash ≡ hash
+pub found_at : (records : List Record) (hash : Text) (i : ℕ) (entry : Record) → i < length records → entry ≡ get_or records i entry
+    → entry.hash ≡ hash
     → ((j : ℕ) → j < i → (get_or records j entry).hash ≡ hash → ⊥) → record_of records hash ≡ Some entry
 found_at [] hash i entry lt is has first = absurd (omega (arith, lt))
 found_at (e ∷ es) hash zero entry lt is has first =
@@ -33,7 +37,8 @@ found_at (e ∷ es) hash zero entry lt is has first =
     rw same (ap (λ (r : Record). Some r) (sym is))
 found_at (e ∷ es) hash (suc i) entry lt is has first =
     let rest = found_at es hash i entry (omega (arith, lt)) is has (λ j less. first (suc j) (omega (arith, less))) in
-    let other : bytes_eq e.hash hash ≡ false = false_from_ne_true (bytes_eq e.hash hash) (λ same. first 0 (omega arith) ((bytes_decides e.hash hash).0 same)) in
+    let other : bytes_eq e.hash hash ≡ false =
+    false_from_ne_true (bytes_eq e.hash hash) (λ same. first 0 (omega arith) ((bytes_decides e.hash hash).0 same)) in
     rw other rest
 
 -- ---- hashes that are known
@@ -42,14 +47,16 @@ pub known_test : (hashes : List Text) (hash : Text) → Contains hashes hash →
 known_test [] hash there = absurd (omega (arith, there.1))
 known_test (h ∷ hs) hash there = ⊎_elim
     (λ same. rw ((bytes_decides hash h).1 (sym same)) refl)
-    (λ later. let rest = known_test hs hash later in elim (bytes_eq hash h) as (λ b. (b || list_any (bytes_eq hash) hs) ≡ true) [ true ↦ refl | false ↦ rest ])
+    (λ later. let rest = known_test hs hash later in
+    elim (bytes_eq hash h) as (λ b. (b || list_any (bytes_eq hash) hs) ≡ true) [ true ↦ refl | false ↦ rest ])
     (first_or_later h hs hash there)
 
 pub unknown_test : (hashes : List Text) (hash : Text) → (Contains hashes hash → ⊥) → list_any (bytes_eq hash) hashes ≡ false
 unknown_test [] hash lacks = refl
 unknown_test (h ∷ hs) hash lacks =
     let rest = unknown_test hs hash (λ there. lacks (has_later h hs hash there)) in
-    let other : bytes_eq hash h ≡ false = false_from_ne_true (bytes_eq hash h) (λ same. lacks (subst (Contains (h ∷ hs)) (sym ((bytes_decides hash h).0 same)) (has_first h hs))) in
+    let other : bytes_eq hash h ≡ false = false_from_ne_true (bytes_eq hash h)
+    (λ same. lacks (subst (Contains (h ∷ hs)) (sym ((bytes_decides hash h).0 same)) (has_first h hs))) in
     rw other rest
 
 -- ---- by the map of places
@@ -77,14 +84,25 @@ module _ (records : List Record) (m : BTreeMap (String Global) ℕ) (are : ArePl
   pub none_there : (hash : Text) → get_by_text m hash ≡ None → record_of records hash ≡ None
   none_there hash none = not_found records hash (lacks_hash (hashes_of records) m are hash none)
 
-  pub one_there : HasNoTwice records → (hash : Text) (i : ℕ) (entry : Record) → get_by_text m hash ≡ Some i → entry ≡ get_or records i entry → record_of records hash ≡ Some entry
+  pub one_there : HasNoTwice records → (hash : Text) (i : ℕ) (entry : Record) → get_by_text m hash ≡ Some i → entry ≡ get_or records i entry
+      → record_of records hash ≡ Some entry
   one_there once hash i entry some is =
       let at = (are hash i).0 some in
       let lt = within hash i some in
-      let has : entry.hash ≡ hash = ap (λ (e : Record). e.hash) is ∙ sym (get_or-map (λ (e : Record). e.hash) records i entry hash lt) ∙ at.1 in
+      let has : entry.hash ≡ hash = ap (λ (e : Record). e.hash) is ∙ sym (get_or-map (λ (e : Record). e.hash) records i entry hash lt)
+      ∙ at.1 in
       found_at records hash i entry lt is has (λ j less same.
-      let earlier : Contains (take i (hashes_of records)) hash = (j, omega (arith, length-take i (hashes_of records), at.0, less), get_or-take i (hashes_of records) j hash less ∙ get_or-map (λ (e : Record). e.hash) records j entry hash (omega (arith, less, lt)) ∙ same) in
-      once i (lt, λ d. subst (λ (h : Text). Contains (take i (hashes_of records)) h) (sym has ∙ ap (λ (e : Record). e.hash) (is ∙ get_or_default records i entry d lt)) earlier))
+      let earlier : Contains (take i (hashes_of records)) hash = (
+        j,
+        omega (arith, length-take i (hashes_of records), at.0, less),
+        get_or-take i (hashes_of records) j hash less
+            ∙ get_or-map (λ (e : Record). e.hash) records j entry hash (omega (arith, less, lt)) ∙ same,
+      ) in
+      once i (
+        lt,
+        λ d. subst (λ (h : Text). Contains (take i (hashes_of records)) h) (sym has
+            ∙ ap (λ (e : Record). e.hash) (is ∙ get_or_default records i entry d lt)) earlier,
+      ))
 
   pub got_there : HasNoTwice records → (hash : Text) (i : ℕ) → get_by_text m hash ≡ Some i → slice_get records i ≡ record_of records hash
   got_there once hash i some = go (slice_get records i) refl
@@ -93,6 +111,7 @@ module _ (records : List Record) (m : BTreeMap (String Global) ℕ) (are : ArePl
       go (Some entry) got = sym (one_there once hash i entry some (get_or_got records i entry got))
       go None got = absurd (not_got records i (within hash i some) got)
 
-  pub told_known : (hash : Text) (o : Option ℕ) (is : Bool) → o ≡ get_by_text m hash → is ≡ is_some o → is ≡ list_any (bytes_eq hash) (hashes_of records)
+  pub told_known : (hash : Text) (o : Option ℕ) (is : Bool) → o ≡ get_by_text m hash → is ≡ is_some o
+      → is ≡ list_any (bytes_eq hash) (hashes_of records)
   told_known hash (Some i) is e told = told ∙ sym (known hash i (sym e))
   told_known hash None is e told = told ∙ sym (lost hash (sym e))

@@ -14,7 +14,8 @@ use Rattle.graph_core.specs.declared.node.Compiler.{Compiler}
 use Rattle.reuse_db.specs.Canonical.{texts_data, compiler_data, external_data, dependency_data, dependency_members, kind_texts, values_of, record_data}
 use Rattle.reuse_db.specs.declared.record.Record.{Record}
 
-pub values_seen : (entries : List (String Global × Value)) → items_of (map view (map (λ e. e.1) entries)) ≡ values_of (members_of (map (λ e. (e.0, view e.1)) entries))
+pub values_seen : (entries : List (String Global × Value))
+    → items_of (map view (map (λ e. e.1) entries)) ≡ values_of (members_of (map (λ e. (e.0, view e.1)) entries))
 values_seen [] = refl
 values_seen (e ∷ entries) = ap (item (view e.1)) (values_seen entries)
 
@@ -36,26 +37,32 @@ texts_float : (texts : List Text) → items_have_float (items_of (map string tex
 texts_float [] = refl
 texts_float (text ∷ texts) = texts_float texts
 
-put_float : (k : Text) (d : Data) (ms : Members) → has_float d ≡ false → members_have_float ms ≡ false → members_have_float (put k d ms) ≡ false
+put_float : (k : Text) (d : Data) (ms : Members) → has_float d ≡ false → members_have_float ms ≡ false
+    → members_have_float (put k d ms) ≡ false
 put_float k d no_members f h = none_of _ _ f refl
 put_float k d (member l e ms) f h =
     let rest = put_float k d ms f (second_of _ _ h) in
-    elim (slice_cmp nat_cmp k l) as (λ r. members_have_float (match_ordering r (member k d (member l e ms)) (member l d ms) (member l e (put k d ms))) ≡ false) [
+    elim (slice_cmp nat_cmp k l) as (λ r. members_have_float
+    (match_ordering r (member k d (member l e ms)) (member l d ms) (member l e (put k d ms))) ≡ false) [
       | Less ↦ none_of _ _ f h
       | Equal ↦ none_of _ _ f (second_of _ _ h)
       | Greater ↦ none_of _ _ (first_of _ _ h) rest
     ]
 
-variants_float : (variants : List (Text × List Text)) (ms : Members) → members_have_float ms ≡ false → members_have_float (fold (λ ms v. put v.0 (texts_data v.1) ms) ms variants) ≡ false
+variants_float : (variants : List (Text × List Text)) (ms : Members) → members_have_float ms ≡ false
+    → members_have_float (fold (λ ms v. put v.0 (texts_data v.1) ms) ms variants) ≡ false
 variants_float [] ms h = h
-variants_float (v ∷ variants) ms h = variants_float variants (put v.0 (texts_data v.1) ms) (put_float v.0 (texts_data v.1) ms (texts_float v.1) h)
+variants_float (v ∷ variants) ms h = variants_float variants (put v.0 (texts_data v.1) ms)
+    (put_float v.0 (texts_data v.1) ms (texts_float v.1) h)
 
 dependency_float : (d : Text × Kinds) → has_float (dependency_data d) ≡ false
 dependency_float d = none_of _ _ (texts_float (kind_texts d.1)) refl
 
-dependencies_float : (dependencies : List (Text × Kinds)) (ms : Members) → members_have_float ms ≡ false → members_have_float (fold (λ ms d. put d.0 (dependency_data d) ms) ms dependencies) ≡ false
+dependencies_float : (dependencies : List (Text × Kinds)) (ms : Members) → members_have_float ms ≡ false
+    → members_have_float (fold (λ ms d. put d.0 (dependency_data d) ms) ms dependencies) ≡ false
 dependencies_float [] ms h = h
-dependencies_float (d ∷ dependencies) ms h = dependencies_float dependencies (put d.0 (dependency_data d) ms) (put_float d.0 (dependency_data d) ms (dependency_float d) h)
+dependencies_float (d ∷ dependencies) ms h =
+    dependencies_float dependencies (put d.0 (dependency_data d) ms) (put_float d.0 (dependency_data d) ms (dependency_float d) h)
 
 values_float : (ms : Members) → members_have_float ms ≡ false → items_have_float (values_of ms) ≡ false
 values_float no_members h = refl

@@ -16,7 +16,8 @@ texts_data texts = array (items_of (map string texts))
 
 abbrev pub compiler_data : Option Compiler → Data
 compiler_data None = null
-compiler_data (Some compiler) = object (member (codes "name") (string compiler.name) (member (codes "version") (string compiler.version) no_members))
+compiler_data (Some compiler) =
+    object (member (codes "name") (string compiler.name) (member (codes "version") (string compiler.version) no_members))
 
 abbrev pub external_data : Option Text → Data
 external_data None = null

@@ -30,7 +30,8 @@ HasNoTwice records = (place : ℕ) → IsTwice records place → ⊥
 
 -- the first record that has the hash of one before it has this one
 abbrev pub IsFirstTwice : List Record → Text → Type 0
-IsFirstTwice records hash = (place : ℕ) × IsTwice records place × ((k : ℕ) → k < place → IsTwice records k → ⊥) × HoldsAt (λ entry. entry.hash ≡ hash) records place
+IsFirstTwice records hash = (place : ℕ) × IsTwice records place × ((k : ℕ) → k < place → IsTwice records k → ⊥)
+    × HoldsAt (λ entry. entry.hash ≡ hash) records place
 
 -- a link or run child that is none of these
 abbrev pub is_lost : List Text → (Text × Kinds) → Bool
@@ -49,7 +50,8 @@ dangling hashes (entry ∷ more) = lost_or entry (find (is_lost hashes) entry.de
 abbrev pub IsHashFault : List Record → DbFault → Type 0
 IsHashFault records NotJson = ⊥
 IsHashFault records (WrongKind pointer) = ⊥
-IsHashFault records (HashDiffers written computed) = (entry : Record) × (differing records ≡ Some entry) × (written ≡ entry.hash) × (computed ≡ right_hash entry)
+IsHashFault records (HashDiffers written computed) = (entry : Record) × (differing records ≡ Some entry) × (written ≡ entry.hash)
+    × (computed ≡ right_hash entry)
 IsHashFault records (TwiceHash hash) = ⊥
 IsHashFault records (Dangling parent child) = ⊥
 IsHashFault records OutOfMemory = Unit {0}
@@ -66,9 +68,11 @@ IsTwiceFault records OutOfMemory = Unit {0}
 abbrev pub IsDatabaseFault : List Record → DbFault → Type 0
 IsDatabaseFault records NotJson = ⊥
 IsDatabaseFault records (WrongKind pointer) = ⊥
-IsDatabaseFault records (HashDiffers written computed) = (entry : Record) × (differing records ≡ Some entry) × (written ≡ entry.hash) × (computed ≡ right_hash entry)
+IsDatabaseFault records (HashDiffers written computed) = (entry : Record) × (differing records ≡ Some entry) × (written ≡ entry.hash)
+    × (computed ≡ right_hash entry)
 IsDatabaseFault records (TwiceHash hash) = (differing records ≡ None) × IsFirstTwice records hash
-IsDatabaseFault records (Dangling parent child) = (differing records ≡ None) × HasNoTwice records × (dangling (hashes_of records) records ≡ Some (parent, child))
+IsDatabaseFault records (Dangling parent child) = (differing records ≡ None) × HasNoTwice records
+    × (dangling (hashes_of records) records ≡ Some (parent, child))
 IsDatabaseFault records OutOfMemory = Unit {0}
 
 -- records without a fault

@@ -41,7 +41,9 @@ fn add_place(
     hash: &str,
     place: usize,
 ) -> Result<(), AllocError>
-    ensures { OnOk result ((q : List ℕ) → get_by_text places.new q ≡ update bytes_eq (get_by_text places.old) hash.now (Some place) q) }
+    ensures { OnOk result ((q : List ℕ)
+        → get_by_text places.new q ≡ update bytes_eq (get_by_text places.old) hash.now
+        (Some place) q) }
 {
     places.insert(String::from_str(alloc, hash)?, place)?;
     Ok(())

@@ -138,7 +138,8 @@ fn dependencies_by_hash(
 }
 
 fn values_in(alloc: Global, map: Map<String, Value>) -> Result<Vec<Value>, AllocError>
-    ensures { IfOk result (λ values. items_view values.items ≡ values_of (members_view map.entries)) }
+    ensures { IfOk result (λ values. items_view values.items
+        ≡ values_of (members_view map.entries)) }
 {
     let mut values = Vec::new(alloc);
     for value in map.into_values() {
@@ -148,7 +149,8 @@ fn values_in(alloc: Global, map: Map<String, Value>) -> Result<Vec<Value>, Alloc
 }
 
 fn dependencies_value(alloc: Global, dependencies: &[(Hash, Kinds)]) -> Result<Value, AllocError>
-    ensures { IfOk result (λ value. view value ≡ array (values_of (dependency_members dependencies.now))) }
+    ensures { IfOk result (λ value. view value
+        ≡ array (values_of (dependency_members dependencies.now))) }
 {
     let map = dependencies_by_hash(alloc, dependencies)?;
     Ok(Value::Array(values_in(alloc, map)?))

@@ -50,10 +50,17 @@ abbrev pub prefix_of_a_built_node : Content
 prefix_of_a_built_node = with_nodes hdf5_node (record zlib_node { prefix = Some (codes "/opt") })
 
 abbrev pub kind_left_out : Content
-kind_left_out = record realistic_graph { edges = edge (codes "hdf5") (codes "mpich") to_build_and_link ∷ edge (codes "hdf5") (codes "zlib") to_link ∷ [] }
+kind_left_out = record realistic_graph {
+  edges =
+      edge (codes "hdf5") (codes "mpich") to_build_and_link ∷ edge (codes "hdf5") (codes "zlib") to_link ∷ [];
+}
 
 abbrev pub kind_not_asked_for : Content
-kind_not_asked_for = record realistic_graph { edges = edge (codes "hdf5") (codes "mpich") to_build_and_link ∷ edge (codes "hdf5") (codes "zlib") (record { build = true; link = true; run = true }) ∷ [] }
+kind_not_asked_for = record realistic_graph {
+  edges =
+      edge (codes "hdf5") (codes "mpich") to_build_and_link
+      ∷ edge (codes "hdf5") (codes "zlib") (record { build = true; link = true; run = true }) ∷ [];
+}
 
 abbrev pub edge_not_asked_for : Content
 edge_not_asked_for = record realistic_graph { edges = realistic_graph.edges ++ edge (codes "mpich") (codes "zlib") to_link ∷ [] }
@@ -91,7 +98,13 @@ abbrev pub with_pmi : Problem
 with_pmi = record realistic {
   recipes = hdf5
       ∷ record (mpi_of (codes "mpich") (codes "4.1.2" ∷ [])) {
-        provides = record { name = codes "mpi"; versions = None; when = always; number = 2 } ∷ record { name = codes "pmi"; versions = None; when = always; number = 3 } ∷ [];
+        provides = record { name = codes "mpi"; versions = None; when = always; number = 2 } ∷ record {
+          name = codes "pmi";
+          versions =
+              None;
+          when = always;
+          number = 3;
+        } ∷ [];
       }
       ∷ recipe (codes "zlib") (version 0 (codes "1.3") ∷ []) ∷ [];
 }

@@ -70,7 +70,16 @@ abbrev pub depends_on : ℕ → Part → Kinds → Condition → DependRow
 depends_on number part kinds condition = record { part = part; kinds = kinds; when = condition; number = number }
 
 abbrev pub recipe : Text → List VersionRow → Recipe
-recipe name versions = record { name = name; versions = versions; variants = []; depends = []; provides = []; conflicts = []; requirements = [] }
+recipe name versions = record {
+  name = name;
+  versions = versions;
+  variants = [];
+  depends = [];
+  provides = [];
+  conflicts =
+      [];
+  requirements = [];
+}
 
 -- ---- problems
 

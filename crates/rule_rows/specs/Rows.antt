@@ -20,7 +20,11 @@ hdf5 = record (recipe (codes "hdf5") (version 0 (codes "1.14.3") ∷ version 1 (
   variants = flag 2 (codes "mpi") (codes "false") ∷ flag 3 (codes "shared") (codes "true") ∷ [];
   depends = depends_on 4 (at (Range (Some (codes "1.2")) None ∷ []) (named (codes "zlib"))) to_build_and_link always
       ∷ depends_on 5 (named (codes "mpi")) to_build_and_link (when (on (codes "mpi") (empty_part None))) ∷ [];
-  conflicts = record { spec = spec (record (empty_part None) { compiler = Some (codes "gcc", Some (Range None (Some (codes "4")) ∷ [])) }); when = always; number = 6 } ∷ [];
+  conflicts = record {
+    spec = spec (record (empty_part None) { compiler = Some (codes "gcc", Some (Range None (Some (codes "4")) ∷ [])) });
+    when = always;
+    number = 6;
+  } ∷ [];
 }
 
 abbrev pub mpi_of : Text → List Text → Recipe
@@ -32,13 +36,18 @@ abbrev pub realistic : Problem
 realistic = record (problem
     (hdf5 ∷ mpi_of (codes "mpich") (codes "4.1.2" ∷ codes "3.4.3" ∷ []) ∷ mpi_of (codes "openmpi") (codes "4.1.6" ∷ [])
     ∷ recipe (codes "zlib") (version 0 (codes "1.3") ∷ version 1 (codes "1.2.13") ∷ []) ∷ [])
-    (record { top = on (codes "mpi") (at (Range (Some (codes "1.10")) None ∷ []) (named (codes "hdf5"))); below = named (codes "mpich") ∷ [] } ∷ [])) {
+    (record {
+      top = on (codes "mpi") (at (Range (Some (codes "1.10")) None ∷ []) (named (codes "hdf5")));
+      below =
+          named (codes "mpich") ∷ [];
+    } ∷ [])) {
       settings = record standard { providers = (codes "mpi", codes "openmpi" ∷ codes "mpich" ∷ []) ∷ [] };
     }
 
 abbrev pub realistic_graph : Content
 realistic_graph = record {
-  nodes = built (codes "hdf5") (codes "1.14.3") (is_on (codes "mpi") ∷ is_on (codes "shared") ∷ []) ∷ built (codes "mpich") (codes "4.1.2") [] ∷ built (codes "zlib") (codes "1.3") [] ∷ [];
+  nodes = built (codes "hdf5") (codes "1.14.3") (is_on (codes "mpi") ∷ is_on (codes "shared") ∷ [])
+      ∷ built (codes "mpich") (codes "4.1.2") [] ∷ built (codes "zlib") (codes "1.3") [] ∷ [];
   edges = edge (codes "hdf5") (codes "mpich") to_build_and_link ∷ edge (codes "hdf5") (codes "zlib") to_build_and_link ∷ [];
   providers = (codes "mpi", codes "mpich") ∷ [];
 }
@@ -49,13 +58,20 @@ abbrev pub old_compiler : Problem
 old_compiler = record (problem
     (record (recipe (codes "x") (version 0 (codes "1.0") ∷ [])) {
       variants = flag 1 (codes "s") (codes "true") ∷ [];
-      conflicts = record { spec = spec (record (empty_part None) { compiler = Some (codes "gcc", Some (Range None (Some (codes "4")) ∷ [])) }); when = when (on (codes "s") (empty_part None)); number = 2 } ∷ [];
+      conflicts = record {
+        spec =
+            spec (record (empty_part None) { compiler = Some (codes "gcc", Some (Range None (Some (codes "4")) ∷ [])) });
+        when =
+            when (on (codes "s") (empty_part None));
+        number = 2;
+      } ∷ [];
     } ∷ []) (spec (named (codes "x")) ∷ [])) {
       settings = record standard { compilers = record { compiler = compiler (codes "4.8.5"); os = None; targets = None } ∷ [] };
     }
 
 abbrev pub old_compiler_graph : List (Text × List Text) → Content
-old_compiler_graph variants = graph (record (built (codes "x") (codes "1.0") variants) { compiler = Some (compiler (codes "4.8.5")) } ∷ []) []
+old_compiler_graph variants = graph (record (built (codes "x") (codes "1.0") variants) { compiler = Some (compiler (codes "4.8.5")) } ∷ [])
+    []
 
 -- ---- a cycle beside the root
 
@@ -63,7 +79,8 @@ abbrev pub single : Text → Text → Recipe
 single name child = record (recipe name (version 0 (codes "1") ∷ [])) { depends = depends_on 1 (named child) to_build_and_link always ∷ [] }
 
 abbrev pub beside : Problem
-beside = problem (single (codes "a") (codes "b") ∷ single (codes "b") (codes "a") ∷ recipe (codes "c") (version 0 (codes "1") ∷ []) ∷ []) (spec (named (codes "c")) ∷ [])
+beside = problem (single (codes "a") (codes "b") ∷ single (codes "b") (codes "a") ∷ recipe (codes "c") (version 0 (codes "1") ∷ []) ∷ [])
+    (spec (named (codes "c")) ∷ [])
 
 abbrev pub one_node : Content
 one_node = graph (built (codes "c") (codes "1") [] ∷ []) []
@@ -79,7 +96,13 @@ abbrev pub one_of_two : Problem
 one_of_two = problem
     (record (recipe (codes "x") (version 0 (codes "1") ∷ [])) {
       variants = flag 1 (codes "p") (codes "true") ∷ flag 2 (codes "q") (codes "true") ∷ [];
-      requirements = record { specs = spec (on (codes "p") (empty_part None)) ∷ spec (on (codes "q") (empty_part None)) ∷ []; one_of = true; when = always; number = 3 } ∷ [];
+      requirements = record {
+        specs = spec (on (codes "p") (empty_part None)) ∷ spec (on (codes "q") (empty_part None)) ∷ [];
+        one_of =
+            true;
+        when = always;
+        number = 3;
+      } ∷ [];
     } ∷ []) (spec (named (codes "x")) ∷ [])
 
 abbrev pub one_of_graph : List (Text × List Text) → Content
@@ -110,7 +133,8 @@ with_run = record (problem
     (record (recipe (codes "t") (version 0 (codes "1") ∷ [])) { depends = depends_on 1 (named (codes "u")) to_run always ∷ [] }
     ∷ recipe (codes "u") (version 0 (codes "2.0") ∷ version 1 (codes "1.0") ∷ []) ∷ [])
     (spec (named (codes "t")) ∷ [])) {
-      database = kept (codes "hu") (codes "u") (codes "1.0") [] ∷ kept (codes "ht") (codes "t") (codes "1") ((codes "hu", to_run) ∷ []) ∷ [];
+      database = kept (codes "hu") (codes "u") (codes "1.0") [] ∷ kept (codes "ht") (codes "t") (codes "1") ((codes "hu", to_run) ∷ [])
+          ∷ [];
     }
 
 abbrev pub with_run_graph : Content
@@ -137,13 +161,24 @@ with_external = record (problem (app ∷ two_zlibs ∷ []) (spec (named (codes "
 
 abbrev pub external_graph : Content
 external_graph = graph
-    (built (codes "app") (codes "1") [] ∷ record (built (codes "zlib") (codes "1.2.11") []) { compiler = None; prefix = Some (codes "/usr"); origin = External 0 } ∷ [])
+    (built (codes "app") (codes "1") [] ∷ record (built (codes "zlib") (codes "1.2.11") []) {
+      compiler = None;
+      prefix =
+          Some (codes "/usr");
+      origin = External 0;
+    } ∷ [])
     (edge (codes "app") (codes "zlib") to_build_and_link ∷ [])
 
 -- ---- the same, where a newer child is asked for
 
 abbrev pub with_newer : Problem
-with_newer = record with_run { roots = record { top = named (codes "t"); below = at (Range (Some (codes "2")) None ∷ []) (named (codes "u")) ∷ [] } ∷ [] }
+with_newer = record with_run {
+  roots = record {
+    top = named (codes "t");
+    below =
+        at (Range (Some (codes "2")) None ∷ []) (named (codes "u")) ∷ [];
+  } ∷ [];
+}
 
 abbrev pub newer_graph : Content
 newer_graph = graph (built (codes "t") (codes "1") [] ∷ built (codes "u") (codes "2.0") [] ∷ []) (edge (codes "t") (codes "u") to_run ∷ [])

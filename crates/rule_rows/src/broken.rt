@@ -13,39 +13,54 @@ ghost use Rattle.rule_rows.specs.Broken.{broken_rules, undeclared_version, varia
 pub fn broken_nodes()
     ensures none { broken_rules realistic realistic_graph ≡ [] }
     ensures buildable { broken_rules not_buildable realistic_graph ≡ Rule.Buildable ∷ [] }
-    ensures buildable_at { verdict not_buildable realistic_graph ≡ Verdict.Broken Rule.Buildable (codes "zlib") 0 }
+    ensures buildable_at { verdict not_buildable realistic_graph ≡ Verdict.Broken Rule.Buildable
+        (codes "zlib") 0 }
     ensures version { broken_rules realistic undeclared_version ≡ Rule.Version ∷ [] }
-    ensures version_at { verdict realistic undeclared_version ≡ Verdict.Broken Rule.Version (codes "zlib") 0 }
+    ensures version_at { verdict realistic undeclared_version ≡ Verdict.Broken Rule.Version
+        (codes "zlib") 0 }
     ensures variant { broken_rules realistic variant_left_out ≡ Rule.Variant ∷ [] }
-    ensures variant_at { verdict realistic variant_left_out ≡ Verdict.Broken Rule.Variant (codes "hdf5") 0 }
+    ensures variant_at { verdict realistic variant_left_out ≡ Verdict.Broken Rule.Variant
+        (codes "hdf5") 0 }
     ensures order { broken_rules realistic variants_out_of_order ≡ Rule.Variant ∷ [] }
     ensures value { broken_rules realistic value_not_allowed ≡ Rule.Variant ∷ [] }
     ensures compiler { broken_rules realistic other_compiler ≡ Rule.Compiler ∷ [] }
-    ensures compiler_at { verdict realistic other_compiler ≡ Verdict.Broken Rule.Compiler (codes "zlib") 0 }
+    ensures compiler_at { verdict realistic other_compiler ≡ Verdict.Broken Rule.Compiler
+        (codes "zlib") 0 }
     ensures no_compiler { broken_rules realistic no_compiler ≡ Rule.Compiler ∷ [] }
     ensures machine { broken_rules realistic other_os ≡ Rule.Machine ∷ [] }
     ensures machine_at { verdict realistic other_os ≡ Verdict.Broken Rule.Machine (codes "zlib") 0 }
     ensures kept { broken_rules realistic prefix_of_a_built_node ≡ Rule.Kept ∷ [] }
-    ensures kept_at { verdict realistic prefix_of_a_built_node ≡ Verdict.Broken Rule.Kept (codes "zlib") 0 }
+    ensures kept_at { verdict realistic prefix_of_a_built_node ≡ Verdict.Broken Rule.Kept
+        (codes "zlib") 0 }
 {}
 
 /// The rules of roots and directives, one by one.
 pub fn broken_directives()
     ensures root { broken_rules newer_root realistic_graph ≡ Rule.Root ∷ [] }
-    ensures root_at { verdict newer_root realistic_graph ≡ Verdict.Broken Rule.Root (codes "hdf5") 0 }
+    ensures root_at { verdict newer_root realistic_graph ≡ Verdict.Broken Rule.Root
+        (codes "hdf5") 0 }
     ensures edge { broken_rules realistic kind_left_out ≡ Rule.Edge ∷ [] }
     ensures edge_at { verdict realistic kind_left_out ≡ Verdict.Broken Rule.Edge (codes "hdf5") 4 }
     ensures kind { broken_rules realistic kind_not_asked_for ≡ Rule.ExtraEdge ∷ [] }
-    ensures kind_at { verdict realistic kind_not_asked_for ≡ Verdict.Broken Rule.ExtraEdge (codes "hdf5") 0 }
+    ensures kind_at { verdict realistic kind_not_asked_for ≡ Verdict.Broken Rule.ExtraEdge
+        (codes "hdf5") 0 }
     ensures extra { broken_rules realistic edge_not_asked_for ≡ Rule.ExtraEdge ∷ [] }
-    ensures extra_at { verdict realistic edge_not_asked_for ≡ Verdict.Broken Rule.ExtraEdge (codes "mpich") 0 }
+    ensures extra_at { verdict realistic edge_not_asked_for ≡ Verdict.Broken Rule.ExtraEdge
+        (codes "mpich") 0 }
     ensures constraint { broken_rules older_zlib older_zlib_graph ≡ Rule.Constraint ∷ [] }
-    ensures constraint_at { verdict older_zlib older_zlib_graph ≡ Verdict.Broken Rule.Constraint (codes "hdf5") 4 }
-    ensures conflict { broken_rules old_compiler (old_compiler_graph (is_on (codes "s") ∷ [])) ≡ Rule.Conflict ∷ [] }
-    ensures conflict_at { verdict old_compiler (old_compiler_graph (is_on (codes "s") ∷ [])) ≡ Verdict.Broken Rule.Conflict (codes "x") 2 }
-    ensures requirement { broken_rules one_of_two (one_of_graph (is_on (codes "p") ∷ is_on (codes "q") ∷ [])) ≡ Rule.Requirement ∷ [] }
-    ensures requirement_at { verdict one_of_two (one_of_graph (is_on (codes "p") ∷ is_on (codes "q") ∷ [])) ≡ Verdict.Broken Rule.Requirement (codes "x") 3 }
-    ensures neither { broken_rules one_of_two (one_of_graph (is_off (codes "p") ∷ is_off (codes "q") ∷ [])) ≡ Rule.Requirement ∷ [] }
+    ensures constraint_at { verdict older_zlib older_zlib_graph ≡ Verdict.Broken Rule.Constraint
+        (codes "hdf5") 4 }
+    ensures conflict { broken_rules old_compiler (old_compiler_graph (is_on (codes "s") ∷ []))
+        ≡ Rule.Conflict ∷ [] }
+    ensures conflict_at { verdict old_compiler (old_compiler_graph (is_on (codes "s") ∷ []))
+        ≡ Verdict.Broken Rule.Conflict (codes "x") 2 }
+    ensures requirement { broken_rules one_of_two
+        (one_of_graph (is_on (codes "p") ∷ is_on (codes "q") ∷ [])) ≡ Rule.Requirement ∷ [] }
+    ensures requirement_at { verdict one_of_two
+        (one_of_graph (is_on (codes "p") ∷ is_on (codes "q") ∷ []))
+        ≡ Verdict.Broken Rule.Requirement (codes "x") 3 }
+    ensures neither { broken_rules one_of_two
+        (one_of_graph (is_off (codes "p") ∷ is_off (codes "q") ∷ [])) ≡ Rule.Requirement ∷ [] }
 {}
 
 /// The rules of providers and of the graph as a whole, one by one.
@@ -53,14 +68,18 @@ pub fn broken_directives()
 /// No graph breaks `Provider` alone: where a built node uses the virtual, its directive asks for a provision too, and
 /// else `UnusedProvider` is broken besides.
 pub fn broken_wholes()
-    ensures provider { broken_rules realistic provider_that_does_not ≡ Rule.Provider ∷ Rule.UnusedProvider ∷ [] }
-    ensures provider_at { verdict realistic provider_that_does_not ≡ Verdict.Broken Rule.Provider (codes "pmi") 0 }
+    ensures provider { broken_rules realistic provider_that_does_not ≡ Rule.Provider
+        ∷ Rule.UnusedProvider ∷ [] }
+    ensures provider_at { verdict realistic provider_that_does_not ≡ Verdict.Broken Rule.Provider
+        (codes "pmi") 0 }
     ensures used { valid with_pmi realistic_graph ≡ true }
     ensures unused { broken_rules with_pmi pmi_nobody_uses ≡ Rule.UnusedProvider ∷ [] }
-    ensures unused_at { verdict with_pmi pmi_nobody_uses ≡ Verdict.Broken Rule.UnusedProvider (codes "pmi") 0 }
+    ensures unused_at { verdict with_pmi pmi_nobody_uses ≡ Verdict.Broken Rule.UnusedProvider
+        (codes "pmi") 0 }
     ensures cycle { broken_rules asked_cycle cycle_of_two ≡ Rule.Cycle ∷ [] }
     ensures cycle_at { verdict asked_cycle cycle_of_two ≡ Verdict.Broken Rule.Cycle (codes "a") 0 }
     ensures unreachable { broken_rules realistic node_nobody_needs ≡ Rule.Unreachable ∷ [] }
-    ensures unreachable_at { verdict realistic node_nobody_needs ≡ Verdict.Broken Rule.Unreachable (codes "openmpi") 0 }
+    ensures unreachable_at { verdict realistic node_nobody_needs ≡ Verdict.Broken Rule.Unreachable
+        (codes "openmpi") 0 }
     ensures graphs { is_graph node_nobody_needs ≡ true }
 {}

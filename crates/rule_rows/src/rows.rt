@@ -21,15 +21,19 @@ pub fn realistic_row()
     ensures valid { valid realistic realistic_graph ≡ true }
     ensures assembled { is_assembled realistic ≡ true }
     ensures kept { verdict realistic realistic_graph ≡ Verdict.Valid }
-    ensures closed { is_closed realistic (codes "hdf5" ∷ codes "mpich" ∷ codes "openmpi" ∷ codes "zlib" ∷ []) ≡ true }
-    ensures costs { vector realistic realistic_graph ≡ vector_of ((3, 1) ∷ (5, 1) ∷ (7, 1) ∷ (16, 3) ∷ []) }
+    ensures closed { is_closed realistic
+        (codes "hdf5" ∷ codes "mpich" ∷ codes "openmpi" ∷ codes "zlib" ∷ []) ≡ true }
+    ensures costs { vector realistic realistic_graph
+        ≡ vector_of ((3, 1) ∷ (5, 1) ∷ (7, 1) ∷ (16, 3) ∷ []) }
 {}
 
 /// The compiler is old, so a variant is off against its default.
 pub fn variant_row()
     ensures valid { valid old_compiler (old_compiler_graph (is_off (codes "s") ∷ [])) ≡ true }
-    ensures conflict { keeps Rule.Conflict old_compiler (old_compiler_graph (is_on (codes "s") ∷ [])) ≡ false }
-    ensures costs { vector old_compiler (old_compiler_graph (is_off (codes "s") ∷ [])) ≡ vector_of ((3, 1) ∷ (5, 1) ∷ (16, 1) ∷ []) }
+    ensures conflict { keeps Rule.Conflict old_compiler
+        (old_compiler_graph (is_on (codes "s") ∷ [])) ≡ false }
+    ensures costs { vector old_compiler (old_compiler_graph (is_off (codes "s") ∷ []))
+        ≡ vector_of ((3, 1) ∷ (5, 1) ∷ (16, 1) ∷ []) }
 {}
 
 /// `c` alone, and beside two packages that need each other.
@@ -37,25 +41,34 @@ pub fn cycle_beside_row()
     ensures valid { valid beside one_node ≡ true }
     ensures costs { vector beside one_node ≡ vector_of ((16, 1) ∷ []) }
     ensures verdict { verdict beside with_cycle ≡ Verdict.Broken Rule.Cycle (codes "a") 0 }
-    ensures fewer { valid_for (Demand.Root 0 ∷ []) (with_roots (named (codes "a") ∷ []) beside) (graph (built (codes "a") (codes "1") [] ∷ []) []) ≡ true }
+    ensures fewer { valid_for (Demand.Root 0 ∷ []) (with_roots (named (codes "a") ∷ []) beside)
+        (graph (built (codes "a") (codes "1") [] ∷ []) []) ≡ true }
     ensures cycle { keeps Rule.Cycle beside with_cycle ≡ false }
     ensures unreachable { keeps Rule.Unreachable beside with_cycle ≡ false }
 {}
 
 /// Exactly one of two variants is on.
 pub fn one_of_row()
-    ensures both { keeps Rule.Requirement one_of_two (one_of_graph (is_on (codes "p") ∷ is_on (codes "q") ∷ [])) ≡ false }
-    ensures none { keeps Rule.Requirement one_of_two (one_of_graph (is_off (codes "p") ∷ is_off (codes "q") ∷ [])) ≡ false }
-    ensures first { valid one_of_two (one_of_graph (is_on (codes "p") ∷ is_off (codes "q") ∷ [])) ≡ true }
-    ensures second { valid one_of_two (one_of_graph (is_off (codes "p") ∷ is_on (codes "q") ∷ [])) ≡ true }
-    ensures costs { vector one_of_two (one_of_graph (is_on (codes "p") ∷ is_off (codes "q") ∷ [])) ≡ vector_of ((3, 1) ∷ (5, 1) ∷ (16, 1) ∷ []) }
+    ensures both { keeps Rule.Requirement one_of_two
+        (one_of_graph (is_on (codes "p") ∷ is_on (codes "q") ∷ [])) ≡ false }
+    ensures none { keeps Rule.Requirement one_of_two
+        (one_of_graph (is_off (codes "p") ∷ is_off (codes "q") ∷ [])) ≡ false }
+    ensures first { valid one_of_two (one_of_graph (is_on (codes "p") ∷ is_off (codes "q") ∷ []))
+        ≡ true }
+    ensures second { valid one_of_two (one_of_graph (is_off (codes "p") ∷ is_on (codes "q") ∷ []))
+        ≡ true }
+    ensures costs { vector one_of_two (one_of_graph (is_on (codes "p") ∷ is_off (codes "q") ∷ []))
+        ≡ vector_of ((3, 1) ∷ (5, 1) ∷ (16, 1) ∷ []) }
 {}
 
 /// A child is installed, in an older version.
 pub fn installed_row()
     ensures valid { valid with_installed installed_graph ≡ true }
-    ensures root { valid (with_roots (named (codes "zlib") ∷ []) with_installed) (graph (installed (codes "h") (codes "zlib") (codes "1.2.11") ∷ []) []) ≡ true }
-    ensures root_costs { vector (with_roots (named (codes "zlib") ∷ []) with_installed) (graph (installed (codes "h") (codes "zlib") (codes "1.2.11") ∷ []) []) ≡ vector_of ((18, 1) ∷ []) }
+    ensures root { valid (with_roots (named (codes "zlib") ∷ []) with_installed)
+        (graph (installed (codes "h") (codes "zlib") (codes "1.2.11") ∷ []) []) ≡ true }
+    ensures root_costs { vector (with_roots (named (codes "zlib") ∷ []) with_installed)
+        (graph (installed (codes "h") (codes "zlib") (codes "1.2.11") ∷ []) [])
+        ≡ vector_of ((18, 1) ∷ []) }
     ensures costs { vector with_installed installed_graph ≡ vector_of ((16, 1) ∷ (27, 1) ∷ []) }
 {}
 
@@ -68,10 +81,14 @@ pub fn run_child_row()
     ensures older { keeps Rule.Root with_newer with_run_graph ≡ false }
 
     // What is no graph, or no right problem, is told.
-    ensures no_graph { is_graph (graph (installed (codes "hu") (codes "u") (codes "1.0") ∷ installed (codes "ht") (codes "t") (codes "1") ∷ []) []) ≡ false }
+    ensures no_graph { is_graph (graph (installed (codes "hu") (codes "u") (codes "1.0")
+        ∷ installed (codes "ht") (codes "t") (codes "1") ∷ []) []) ≡ false }
     ensures no_end { is_graph (graph [] (edge (codes "t") (codes "u") to_run ∷ [])) ≡ false }
-    ensures not_assembled { is_assembled (problem (single (codes "b") (codes "a") ∷ single (codes "a") (codes "b") ∷ []) []) ≡ false }
-    ensures clash { clash (recipe (codes "mpi") [] ∷ realistic.recipes) ≡ Some (recipe (codes "mpi") []) }
+    ensures not_assembled { is_assembled
+        (problem (single (codes "b") (codes "a") ∷ single (codes "a") (codes "b") ∷ []) [])
+        ≡ false }
+    ensures clash { clash (recipe (codes "mpi") [] ∷ realistic.recipes)
+        ≡ Some (recipe (codes "mpi") []) }
     ensures left_out { keeps Rule.Kept with_run without_run_graph ≡ false }
 {}
 
@@ -84,7 +101,12 @@ pub fn external_row()
 /// Roots that are refused.
 pub fn root_rows()
     ensures right { roots_fault realistic ≡ None }
-    ensures unknown { roots_fault (with_roots (named (codes "nosuch") ∷ []) realistic) ≡ Some (ProblemFault.UnknownRoot (codes "nosuch")) }
-    ensures is_virtual { roots_fault (with_roots (named (codes "zlib") ∷ named (codes "mpi") ∷ []) realistic) ≡ Some (ProblemFault.VirtualRoot (codes "mpi")) }
-    ensures platform { roots_fault (with_roots (record (named (codes "zlib")) { platform = Some (codes "darwin") } ∷ []) realistic) ≡ Some (ProblemFault.WrongPlatform (codes "darwin")) }
+    ensures unknown { roots_fault (with_roots (named (codes "nosuch") ∷ []) realistic)
+        ≡ Some (ProblemFault.UnknownRoot (codes "nosuch")) }
+    ensures is_virtual { roots_fault
+        (with_roots (named (codes "zlib") ∷ named (codes "mpi") ∷ []) realistic)
+        ≡ Some (ProblemFault.VirtualRoot (codes "mpi")) }
+    ensures platform { roots_fault
+        (with_roots (record (named (codes "zlib")) { platform = Some (codes "darwin") } ∷ [])
+        realistic) ≡ Some (ProblemFault.WrongPlatform (codes "darwin")) }
 {}

@@ -8,10 +8,12 @@ module _ {X : Type 0} (p test : X → Bool) where
   all-filter [] = refl
   all-filter (x ∷ xs) =
       let rest = all-filter xs in
-      elim (p x) as (λ b. (implies b (test x) && list_all (λ y. implies (p y) (test y)) xs) ≡ list_all test (cond b (x ∷ filter p xs) (filter p xs))) [ true ↦ ap (λ b. test x && b) rest | false ↦ rest ]
+      elim (p x) as (λ b. (implies b (test x) && list_all (λ y. implies (p y) (test y)) xs)
+      ≡ list_all test (cond b (x ∷ filter p xs) (filter p xs))) [ true ↦ ap (λ b. test x && b) rest | false ↦ rest ]
 
   pub any-filter : (xs : List X) → list_any (λ x. p x && test x) xs ≡ list_any test (filter p xs)
   any-filter [] = refl
   any-filter (x ∷ xs) =
       let rest = any-filter xs in
-      elim (p x) as (λ b. ((b && test x) || list_any (λ y. p y && test y) xs) ≡ list_any test (cond b (x ∷ filter p xs) (filter p xs))) [ true ↦ ap (λ b. test x || b) rest | false ↦ rest ]
+      elim (p x) as (λ b. ((b && test x) || list_any (λ y. p y && test y) xs) ≡ list_any test (cond b (x ∷ filter p xs) (filter p xs)))
+      [ true ↦ ap (λ b. test x || b) rest | false ↦ rest ]

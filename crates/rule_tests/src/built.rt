@@ -61,7 +61,8 @@ fn supports(entry: &CompilerEntry, node: &Node) -> bool
 }
 
 fn has_compiler(entries: &[CompilerEntry], compiler: &Compiler, node: &Node) -> bool
-    ensures { result ≡ list_any (λ entry. same_compiler entry.compiler compiler.now && supports entry node.now) entries.now }
+    ensures { result ≡ list_any (λ entry. same_compiler entry.compiler compiler.now
+        && supports entry node.now) entries.now }
 {
     entries.iter().any(|entry| same_compiler(&entry.compiler, compiler) && supports(entry, node))
 }

@@ -42,7 +42,8 @@ pub(crate) fn covers(kinds: Kinds, wanted: Kinds) -> bool
 }
 
 fn has_edge(graph: &Explored, node: &Node, child: &Node, kinds: Kinds) -> bool
-    ensures { result ≡ is_some_and (edge_of graph.now node.now.name child.now.name) (λ e. covers e.kinds kinds) }
+    ensures { result ≡ is_some_and (edge_of graph.now node.now.name child.now.name)
+        (λ e. covers e.kinds kinds) }
 {
     match graph.graph().edge(node.name.as_str(), child.name.as_str()) {
         Some(edge) => covers(edge.kinds, kinds),
@@ -51,7 +52,9 @@ fn has_edge(graph: &Explored, node: &Node, child: &Node, kinds: Kinds) -> bool
 }
 
 fn has_asked_edge(problem: &Problem, graph: &Explored, node: &Node, row: &DependRow) -> bool
-    ensures { result ≡ is_some_and (asked_by problem.now graph.now row.now) (λ child. is_some_and (edge_of graph.now node.now.name child.name) (λ e. covers e.kinds row.now.kinds)) }
+    ensures { result ≡ is_some_and (asked_by problem.now graph.now row.now)
+        (λ child. is_some_and (edge_of graph.now node.now.name child.name)
+        (λ e. covers e.kinds row.now.kinds)) }
 {
     match asked_by(problem, graph, row) {
         Some(child) => has_edge(graph, node, child, row.kinds),
@@ -77,7 +80,8 @@ pub fn keeps_edge(
 }
 
 fn is_suited(problem: &Problem, graph: &Explored, row: &DependRow, name: &str) -> bool
-    ensures { result ≡ is_some_and (asked_node (world_of problem.now) graph.now name.now) (suits (world_of problem.now) row.now.part name.now) }
+    ensures { result ≡ is_some_and (asked_node (world_of problem.now) graph.now name.now)
+        (suits (world_of problem.now) row.now.part name.now) }
 {
     let world = problem.world();
     match asked_node(&world, graph.graph(), name) {
@@ -87,7 +91,9 @@ fn is_suited(problem: &Problem, graph: &Explored, row: &DependRow, name: &str) -
 }
 
 fn suits_asked(problem: &Problem, graph: &Explored, row: &DependRow) -> bool
-    ensures { result ≡ is_some_and row.now.part.name (λ name. is_some_and (asked_node (world_of problem.now) graph.now name) (suits (world_of problem.now) row.now.part name)) }
+    ensures { result ≡ is_some_and row.now.part.name
+        (λ name. is_some_and (asked_node (world_of problem.now) graph.now name)
+        (suits (world_of problem.now) row.now.part name)) }
 {
     match &row.part.name {
         Some(name) => is_suited(problem, graph, row, name.as_str()),
@@ -104,7 +110,8 @@ pub fn keeps_constraint(
     node: &Node,
     row: &DependRow,
 ) -> Result<bool, AllocError>
-    ensures { IfOk result (λ answer. answer ≡ keeps_constraint problem.now graph.now node.now row.now) }
+    ensures { IfOk result (λ answer. answer ≡ keeps_constraint problem.now graph.now
+        node.now row.now) }
 {
     if !applies(alloc, problem, graph, &row.when, node)? {
         return Ok(true);
@@ -119,7 +126,8 @@ fn spec_holds(
     node: &Node,
     spec: &Spec,
 ) -> Result<bool, AllocError>
-    ensures { IfOk result (λ answer. answer ≡ holds (world_of problem.now) spec.now graph.now node.now.name) }
+    ensures { IfOk result (λ answer. answer ≡ holds (world_of problem.now) spec.now graph.now
+        node.now.name) }
 {
     let world = problem.world();
     holds(alloc, &world, spec, graph, node.name.as_str())
@@ -134,7 +142,8 @@ pub fn keeps_conflict(
     node: &Node,
     row: &ConflictRow,
 ) -> Result<bool, AllocError>
-    ensures { IfOk result (λ answer. answer ≡ keeps_conflict problem.now graph.now node.now row.now) }
+    ensures { IfOk result (λ answer. answer ≡ keeps_conflict problem.now graph.now
+        node.now row.now) }
 {
     if !applies(alloc, problem, graph, &row.when, node)? {
         return Ok(true);
@@ -149,7 +158,8 @@ fn count_held(
     node: &Node,
     specs: &[Spec],
 ) -> Result<usize, AllocError>
-    ensures { IfOk result (λ count. count ≡ count_by (λ spec. holds (world_of problem.now) spec graph.now node.now.name) specs.now) }
+    ensures { IfOk result (λ count. count
+        ≡ count_by (λ spec. holds (world_of problem.now) spec graph.now node.now.name) specs.now) }
 {
     let mut count = 0;
     for spec in specs {
@@ -167,7 +177,8 @@ fn some_holds(
     node: &Node,
     specs: &[Spec],
 ) -> Result<bool, AllocError>
-    ensures { IfOk result (λ answer. answer ≡ list_any (λ spec. holds (world_of problem.now) spec graph.now node.now.name) specs.now) }
+    ensures { IfOk result (λ answer. answer
+        ≡ list_any (λ spec. holds (world_of problem.now) spec graph.now node.now.name) specs.now) }
 {
     for spec in specs {
         if spec_holds(alloc, problem, graph, node, spec)? {
@@ -201,7 +212,8 @@ pub fn keeps_requirement(
     node: &Node,
     row: &RequireRow,
 ) -> Result<bool, AllocError>
-    ensures { IfOk result (λ answer. answer ≡ keeps_requirement problem.now graph.now node.now row.now) }
+    ensures { IfOk result (λ answer. answer ≡ keeps_requirement problem.now graph.now
+        node.now row.now) }
 {
     if !applies(alloc, problem, graph, &row.when, node)? {
         return Ok(true);

@@ -18,7 +18,8 @@ use problem::Problem;
 use std::alloc::{AllocError, Global};
 
 fn is_asked_child(problem: &Problem, graph: &Explored, child: &str, row: &DependRow) -> bool
-    ensures { result ≡ is_some_and (asked_by problem.now graph.now row.now) (λ asked. bytes_eq asked.name child.now) }
+    ensures { result ≡ is_some_and (asked_by problem.now graph.now row.now)
+        (λ asked. bytes_eq asked.name child.now) }
 {
     match asked_by(problem, graph, row) {
         Some(asked) => asked.name.as_str() == child,
@@ -34,7 +35,8 @@ fn asks(
     child: &str,
     row: &DependRow,
 ) -> Result<bool, AllocError>
-    ensures { IfOk result (λ answer. answer ≡ asks problem.now graph.now node.now child.now row.now) }
+    ensures { IfOk result (λ answer. answer ≡ asks problem.now graph.now node.now
+        child.now row.now) }
 {
     Ok(
         applies(alloc, problem, graph, &row.when, node)?
@@ -60,7 +62,8 @@ fn asked_kinds(
     child: &str,
     rows: &[DependRow],
 ) -> Result<Kinds, AllocError>
-    ensures { IfOk result (λ kinds. kinds ≡ asked_kinds (filter (asks problem.now graph.now node.now child.now) rows.now)) }
+    ensures { IfOk result (λ kinds. kinds
+        ≡ asked_kinds (filter (asks problem.now graph.now node.now child.now) rows.now)) }
 {
     let mut kinds = Kinds {
         build: false,
@@ -105,7 +108,8 @@ fn all_asked(
     node: &Node,
     edges: &[Edge],
 ) -> Result<bool, AllocError>
-    ensures { IfOk result (λ answer. answer ≡ list_all (is_asked problem.now graph.now node.now) edges.now) }
+    ensures { IfOk result (λ answer. answer
+        ≡ list_all (is_asked problem.now graph.now node.now) edges.now) }
 {
     for edge in edges {
         if !is_asked(alloc, problem, graph, node, edge)? {

@@ -29,7 +29,8 @@ fn later<'a>(
     name: &str,
     last: Option<&'a VariantRow>,
 ) -> Option<&'a VariantRow>
-    ensures { option_copied result ≡ (if bytes_eq row.now.name name.now then Some row.now else option_copied last.entry) }
+    ensures { option_copied result
+        ≡ (if bytes_eq row.now.name name.now then Some row.now else option_copied last.entry) }
 {
     if row.name.as_str() == name {
         Some(row)
@@ -87,7 +88,8 @@ fn variant_names(
     written: &[(Word, ValueSet)],
     rows: &[VariantRow],
 ) -> Result<ValueSet, AllocError>
-    ensures { IfOk result (λ names. names ≡ with_texts [] (map (λ v. v.0) written.now ++ map (λ row. row.name) rows.now)) }
+    ensures { IfOk result (λ names. names
+        ≡ with_texts [] (map (λ v. v.0) written.now ++ map (λ row. row.name) rows.now)) }
 {
     let mut names = names_of(alloc, written)?;
     add_names(alloc, &mut names, rows)?;
@@ -100,7 +102,8 @@ fn completed_each(
     rows: &[VariantRow],
     names: &[Word],
 ) -> Result<List<(Word, ValueSet)>, AllocError>
-    ensures { IfOk result (λ variants. variants ≡ map (λ v. (v, completed written.now rows.now v)) names.now) }
+    ensures { IfOk result (λ variants. variants
+        ≡ map (λ v. (v, completed written.now rows.now v)) names.now) }
 {
     let mut variants = List::new(alloc);
     for name in names {
@@ -115,7 +118,8 @@ fn completed_all(
     written: &[(Word, ValueSet)],
     rows: &[VariantRow],
 ) -> Result<List<(Word, ValueSet)>, AllocError>
-    ensures { IfOk result (λ variants. variants ≡ map (λ v. (v, completed written.now rows.now v)) (with_texts [] (map (λ v. v.0) written.now ++ map (λ row. row.name) rows.now))) }
+    ensures { IfOk result (λ variants. variants ≡ map (λ v. (v, completed written.now rows.now v))
+        (with_texts [] (map (λ v. v.0) written.now ++ map (λ row. row.name) rows.now))) }
 {
     let names = variant_names(alloc, written, rows)?;
     completed_each(alloc, written, rows, names.values())
@@ -140,7 +144,8 @@ fn first_target(alloc: Global, entries: &[TargetEntry]) -> Result<Word, AllocErr
 }
 
 fn os_of(alloc: Global, problem: &Problem, written: &Option<Word>) -> Result<Word, AllocError>
-    ensures { IfOk result (λ text. text ≡ unwrap_or written.now (first_text problem.now.settings.os)) }
+    ensures { IfOk result (λ text. text ≡ unwrap_or written.now
+        (first_text problem.now.settings.os)) }
 {
     match written {
         Some(word) => word.duplicate(alloc),
@@ -149,7 +154,8 @@ fn os_of(alloc: Global, problem: &Problem, written: &Option<Word>) -> Result<Wor
 }
 
 fn target_of(alloc: Global, problem: &Problem, written: &Option<Word>) -> Result<Word, AllocError>
-    ensures { IfOk result (λ text. text ≡ unwrap_or written.now (first_text (map (λ t. t.name) problem.now.settings.targets))) }
+    ensures { IfOk result (λ text. text ≡ unwrap_or written.now
+        (first_text (map (λ t. t.name) problem.now.settings.targets))) }
 {
     match written {
         Some(word) => word.duplicate(alloc),

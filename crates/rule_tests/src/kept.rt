@@ -28,7 +28,8 @@ use std::alloc::{AllocError, Global};
 // ---- externals
 
 fn external_at<'a>(problem: &'a Problem, name: &str, place: u64) -> Option<&'a ExternalEntry>
-    ensures { option_copied result ≡ slice_get (externals_in (entry_of problem.now name.now)) place }
+    ensures { option_copied result
+        ≡ slice_get (externals_in (entry_of problem.now name.now)) place }
 {
     match entry_of(problem, name) {
         Some(entry) => entry.externals.as_slice().get(place as usize),
@@ -43,7 +44,8 @@ fn same_external(
     place: u64,
     entry: &ExternalEntry,
 ) -> Result<bool, AllocError>
-    ensures { IfOk result (λ answer. answer ≡ same_attributes node.now (external_node problem.now node.now.name place entry.now)) }
+    ensures { IfOk result (λ answer. answer ≡ same_attributes node.now
+        (external_node problem.now node.now.name place entry.now)) }
 {
     let whole = external_node(alloc, problem, &node.name, place, entry)?;
     Ok(same_attributes(node, &whole))
@@ -55,7 +57,9 @@ fn is_external(
     node: &Node,
     place: u64,
 ) -> Result<bool, AllocError>
-    ensures { IfOk result (λ answer. answer ≡ is_some_and (slice_get (externals_in (entry_of problem.now node.now.name)) place) (λ entry. same_attributes node.now (external_node problem.now node.now.name place entry))) }
+    ensures { IfOk result (λ answer. answer
+        ≡ is_some_and (slice_get (externals_in (entry_of problem.now node.now.name)) place)
+        (λ entry. same_attributes node.now (external_node problem.now node.now.name place entry))) }
 {
     match external_at(problem, node.name.as_str(), place) {
         Some(entry) => same_external(alloc, problem, node, place, entry),
@@ -163,7 +167,8 @@ fn keeps_each(
     name: &str,
     dependencies: &[(Hash, Kinds)],
 ) -> bool
-    ensures { result ≡ list_all (λ d. implies (d.1.link || d.1.run) (keeps_child problem.now graph.now name.now d)) dependencies.now }
+    ensures { result ≡ list_all (λ d. implies (d.1.link || d.1.run)
+        (keeps_child problem.now graph.now name.now d)) dependencies.now }
 {
     dependencies
         .iter()
@@ -176,13 +181,15 @@ fn keeps_children(
     name: &str,
     dependencies: &[(Hash, Kinds)],
 ) -> bool
-    ensures { result ≡ list_all (keeps_child problem.now graph.now name.now) (filter (λ d. d.1.link || d.1.run) dependencies.now) }
+    ensures { result ≡ list_all (keeps_child problem.now graph.now name.now)
+        (filter (λ d. d.1.link || d.1.run) dependencies.now) }
 {
     keeps_each(problem, graph, name, dependencies)
 }
 
 fn is_named(problem: &Problem, hash: &Hash, name: &Word) -> bool
-    ensures { result ≡ is_some_and (record_at problem.now hash.now) (λ child. bytes_eq child.name name.now) }
+    ensures { result ≡ is_some_and (record_at problem.now hash.now)
+        (λ child. bytes_eq child.name name.now) }
 {
     match record_at(problem, hash) {
         Some(child) => child.name.as_str() == name.as_str(),
@@ -191,7 +198,9 @@ fn is_named(problem: &Problem, hash: &Hash, name: &Word) -> bool
 }
 
 fn some_named(problem: &Problem, dependencies: &[(Hash, Kinds)], name: &Word) -> bool
-    ensures { result ≡ list_any (λ d. (d.1.link || d.1.run) && is_some_and (record_at problem.now d.0) (λ child. bytes_eq child.name name.now)) dependencies.now }
+    ensures { result ≡ list_any (λ d. (d.1.link || d.1.run)
+        && is_some_and (record_at problem.now d.0) (λ child. bytes_eq child.name name.now))
+        dependencies.now }
 {
     dependencies
         .iter()
@@ -217,7 +226,8 @@ fn keeps_record(
     node: &Node,
     entry: &Record,
 ) -> Result<bool, AllocError>
-    ensures { IfOk result (λ answer. answer ≡ keeps_record problem.now graph.now node.now entry.now) }
+    ensures { IfOk result (λ answer. answer ≡ keeps_record problem.now graph.now
+        node.now entry.now) }
 {
     let name = node.name.as_str();
     let same = same_installed(alloc, node, entry)?;
@@ -236,7 +246,8 @@ fn keeps_external(
     node: &Node,
     place: u64,
 ) -> Result<bool, AllocError>
-    ensures { IfOk result (λ answer. answer ≡ keeps_origin problem.now graph.now node.now (External place)) }
+    ensures { IfOk result (λ answer. answer ≡ keeps_origin problem.now graph.now node.now
+        (External place)) }
 {
     let same = is_external(alloc, problem, node, place)?;
     Ok(same && is_no_edge(graph.graph().edges_from(node.name.as_str())))
@@ -249,7 +260,8 @@ fn keeps_installed(
     node: &Node,
     hash: &Hash,
 ) -> Result<bool, AllocError>
-    ensures { IfOk result (λ answer. answer ≡ keeps_origin problem.now graph.now node.now (Installed hash.now)) }
+    ensures { IfOk result (λ answer. answer ≡ keeps_origin problem.now graph.now node.now
+        (Installed hash.now)) }
 {
     match record_at(problem, hash) {
         Some(entry) => keeps_record(alloc, problem, graph, node, entry),

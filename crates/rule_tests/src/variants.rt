@@ -25,7 +25,8 @@ fn governed_names(
     node: &Node,
     rows: &[VariantRow],
 ) -> Result<Vec<Word>, AllocError>
-    ensures { IfOk result (λ names. names.items ≡ map (λ row. row.name) (filter (λ row. applies problem.now graph.now row.when node.now) rows.now)) }
+    ensures { IfOk result (λ names. names.items ≡ map (λ row. row.name)
+        (filter (λ row. applies problem.now graph.now row.when node.now) rows.now)) }
 {
     let mut names = Vec::new(alloc);
     for row in rows {
@@ -110,7 +111,8 @@ fn is_allowed(
     node: &Node,
     variant: &(Word, ValueSet),
 ) -> Result<bool, AllocError>
-    ensures { IfOk result (λ answer. answer ≡ is_allowed problem.now graph.now node.now variant.now) }
+    ensures { IfOk result (λ answer. answer ≡ is_allowed problem.now graph.now node.now
+        variant.now) }
 {
     let world = problem.world();
     match governing(alloc, &world, graph, node.name.as_str(), variant.0.as_str())? {
@@ -126,7 +128,8 @@ fn all_allowed(
     node: &Node,
     variants: &[(Word, ValueSet)],
 ) -> Result<bool, AllocError>
-    ensures { IfOk result (λ answer. answer ≡ list_all (is_allowed problem.now graph.now node.now) variants.now) }
+    ensures { IfOk result (λ answer. answer ≡ list_all (is_allowed problem.now graph.now node.now)
+        variants.now) }
 {
     for variant in variants {
         if !is_allowed(alloc, problem, graph, node, variant)? {

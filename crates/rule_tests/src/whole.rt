@@ -48,7 +48,9 @@ fn some_asks(
     name: &str,
     rows: &[DependRow],
 ) -> Result<bool, AllocError>
-    ensures { IfOk result (λ answer. answer ≡ list_any (λ row. is_some_and row.part.name (bytes_eq name.now) && applies problem.now graph.now row.when node.now) rows.now) }
+    ensures { IfOk result (λ answer. answer
+        ≡ list_any (λ row. is_some_and row.part.name (bytes_eq name.now)
+        && applies problem.now graph.now row.when node.now) rows.now) }
 {
     for row in rows {
         if is_named(row, name) && applies(alloc, problem, graph, &row.when, node)? {
@@ -93,7 +95,8 @@ fn some_uses(
     p: &(Word, Word),
     nodes: &[Node],
 ) -> Result<bool, AllocError>
-    ensures { IfOk result (λ answer. answer ≡ list_any (uses problem.now graph.now p.now) nodes.now) }
+    ensures { IfOk result (λ answer. answer
+        ≡ list_any (uses problem.now graph.now p.now) nodes.now) }
 {
     for node in nodes {
         if uses(alloc, problem, graph, p, node)? {
@@ -135,7 +138,8 @@ pub fn keeps_no_cycle(alloc: Global, graph: &Explored, node: &Node) -> Result<bo
 }
 
 fn starts(alloc: Global, graph: &Explored, root: &str, name: &str) -> Result<bool, AllocError>
-    ensures { IfOk result (λ answer. answer ≡ (bytes_eq root.now name.now || reaches_in graph.now root.now name.now)) }
+    ensures { IfOk result (λ answer. answer
+        ≡ (bytes_eq root.now name.now || reaches_in graph.now root.now name.now)) }
 {
     Ok(root == name || graph.leads(alloc, root, name)?)
 }

@@ -1,5 +1,5 @@
 -- The recipes of files, by what reading them answered.
-use Rattle.std.proofs.Common.{◌≡◌, refl, sym, ap, ◌∙◌, ℕ, zero, suc, List, [], ◌∷◌, map, take, Option, Some, None, Result, Ok, Err}
+use Rattle.std.proofs.Common.{◌≡◌, refl, ap, ◌∙◌, ℕ, zero, suc, List, [], ◌∷◌, map, take, Option, Some, Result, Ok, Err}
 use Rattle.std.specs.List.{slice_get}
 use Rattle.std.specs.Prelude.{get_or}
 use Rattle.std.proofs.lemmas.Option.{get_or_from_slice_get}
@@ -7,10 +7,9 @@ use Rattle.conditions.specs.declared.recipe.Recipe.{Recipe}
 use Rattle.recipe_reader.specs.Files.{recipe_in_file, IsFirstFault}
 use Rattle.recipe_reader.specs.declared.fault.RecipeFault.{RecipeFault}
 use Rattle.recipe_reader.specs.declared.files.RecipeFile.{RecipeFile}
-use Rattle.run_answers.specs.declared.refusal.Refusal.{Refusal}
 use Rattle.run_answers.specs.declared.refusal.Refusal.TheVariants as refusals
 use Rattle.recipe_files.specs.Sources.{Source, source_of}
-use Rattle.run_input.specs.Recipes.{or_bad, recipes_of}
+use Rattle.run_input.specs.Recipes.{recipes_of}
 
 abbrev Read : Type 0
 Read = Result Recipe RecipeFault
@@ -21,14 +20,20 @@ heads x y xs ys e = cc
 tails : {A : Type 0} (x y : A) (xs ys : List A) → (let T : Type 0 = List A in let a : T = x ∷ xs in let b : T = y ∷ ys in a ≡ b) → xs ≡ ys
 tails x y xs ys e = cc
 
-pub all_read : (files : List RecipeFile) (recipes : List Recipe) → map recipe_in_file files ≡ map Ok recipes → recipes_of (map source_of files) ≡ Ok recipes
+pub all_read : (files : List RecipeFile) (recipes : List Recipe) → map recipe_in_file files ≡ map Ok recipes
+    → recipes_of (map source_of files) ≡ Ok recipes
 all_read [] [] e = refl
 all_read [] (r ∷ recipes) e = absurd cc
 all_read (f ∷ files) [] e = absurd cc
 all_read (f ∷ files) (r ∷ recipes) e =
-    rw (heads (recipe_in_file f) (Ok r) (map recipe_in_file files) (map Ok recipes) e, all_read files recipes (tails (recipe_in_file f) (Ok r) (map recipe_in_file files) (map Ok recipes) e)) refl
+    rw (
+      heads (recipe_in_file f) (Ok r) (map recipe_in_file files) (map Ok recipes) e,
+      all_read files recipes
+          (tails (recipe_in_file f) (Ok r) (map recipe_in_file files) (map Ok recipes) e),
+    ) refl
 
-at_front : (f : RecipeFile) (files : List RecipeFile) (e : RecipeFault) → recipe_in_file f ≡ Err e → recipes_of (map source_of (f ∷ files)) ≡ Err (refusals.BadRecipe f.name e)
+at_front : (f : RecipeFile) (files : List RecipeFile) (e : RecipeFault) → recipe_in_file f ≡ Err e
+    → recipes_of (map source_of (f ∷ files)) ≡ Err (refusals.BadRecipe f.name e)
 at_front f files e h = rw h refl
 
 some_same : {A : Type 0} (x y : A) → (let T : Type 0 = Option A in let a : T = Some x in let b : T = Some y in a ≡ b) → x ≡ y
@@ -44,20 +49,24 @@ bad_at (suc place) (f ∷ files) [] file e before is faulty = absurd cc
 bad_at (suc place) (f ∷ files) (r ∷ recipes) file e before is faulty =
     rw (
       heads (recipe_in_file f) (Ok r) (map recipe_in_file (take place files)) (map Ok recipes) before,
-      bad_at place files recipes file e (tails (recipe_in_file f) (Ok r) (map recipe_in_file (take place files)) (map Ok recipes) before) is faulty,
+      bad_at place files recipes file e (tails (recipe_in_file f) (Ok r) (map recipe_in_file (take place files)) (map Ok recipes) before) is
+          faulty,
     ) refl
 
 -- the file at this place is the one with the fault
-pub first_bad : (place : ℕ) (e : RecipeFault) (files : List RecipeFile) (file : RecipeFile) → IsFirstFault place e files → file ≡ get_or files place file → recipes_of (map source_of files) ≡ Err (refusals.BadRecipe file.name e)
+pub first_bad : (place : ℕ) (e : RecipeFault) (files : List RecipeFile) (file : RecipeFile) → IsFirstFault place e files
+    → file ≡ get_or files place file → recipes_of (map source_of files) ≡ Err (refusals.BadRecipe file.name e)
 first_bad place e files file first is =
     let same : file ≡ first.file = is ∙ get_or_from_slice_get files place first.file file first.is in
     rw same (bad_at place files first.recipes first.file e first.before first.is first.faulty)
 
-sources_named : (files : List RecipeFile) → map (λ (file : RecipeFile). file.name) files ≡ map (λ (source : Source). source.0) (map source_of files)
+sources_named : (files : List RecipeFile) → map (λ (file : RecipeFile). file.name) files ≡ map (λ (source : Source). source.0)
+    (map source_of files)
 sources_named [] = refl
 sources_named (f ∷ files) = ap (λ names. f.name ∷ names) (sources_named files)
 
 -- recipes have the names of their files
-pub named_alike : (files : List RecipeFile) (recipes : List Recipe) → map (λ (recipe : Recipe). recipe.name) recipes ≡ map (λ (file : RecipeFile). file.name) files
+pub named_alike : (files : List RecipeFile) (recipes : List Recipe)
+    → map (λ (recipe : Recipe). recipe.name) recipes ≡ map (λ (file : RecipeFile). file.name) files
     → map (λ (recipe : Recipe). recipe.name) recipes ≡ map (λ (source : Source). source.0) (map source_of files)
 named_alike files recipes e = e ∙ sources_named files

@@ -15,4 +15,5 @@ pub all_named : (text : List ℕ) (specs : List Spec)
     → Spells Specs text specs → are_named specs ≡ true
 all_named text specs law spells =
     list_all-from_AllPass (λ (spec : Spec). is_some spec.top.name) specs
-    (All-weaker (Contains specs) (λ spec. is_some spec.top.name ≡ true) (λ spec inside. (law Specs text specs spec spells inside).0 refl) specs (All-contains_itself specs))
+    (All-weaker (Contains specs) (λ spec. is_some spec.top.name ≡ true) (λ spec inside. (law Specs text specs spec spells inside).0 refl)
+    specs (All-contains_itself specs))

@@ -1,5 +1,5 @@
 -- A command names one input at most.
-use Rattle.std.proofs.Common.{◌≡◌, ◌≢◌, ℕ, List, ap, sym, ◌∙◌, Result, Ok, Err}
+use Rattle.std.proofs.Common.{◌≡◌, ◌≢◌, ℕ, List, ap, sym, ◌∙◌, Ok, Err}
 use Rattle.spec_grammar.specs.Reading.{Spells}
 use Rattle.spec_grammar.specs.Faults.{IsFault}
 use Rattle.spec_grammar.specs.declared.mode.Mode.TheVariants.{Specs}
@@ -24,14 +24,16 @@ use Rattle.run_input.specs.declared.repository.Parts.{Parts}
 -- what holds of reading specs
 pub record ReadsOnce : Type 0 where
   pub reading : (text : List ℕ) (a b : List Spec) → Spells Specs text a → Spells Specs text b → a ≡ b
-  pub refusal : (text : List ℕ) (a b : SpecFault) → IsFault Specs text a → IsFault Specs text b → a ≢ fault.OutOfMemory → b ≢ fault.OutOfMemory → a ≡ b
+  pub refusal : (text : List ℕ) (a b : SpecFault) → IsFault Specs text a → IsFault Specs text b → a ≢ fault.OutOfMemory
+      → b ≢ fault.OutOfMemory → a ≡ b
   pub right : (text : List ℕ) (specs : List Spec) (e : SpecFault) → Spells Specs text specs → IsFault Specs text e → e ≡ fault.OutOfMemory
 
 one_specs : ReadsOnce → (text : List ℕ) → IsOne (SpecsOf text)
 one_specs laws text (Ok a) (Ok b) p q = ap Ok (laws.reading text a b p q)
 one_specs laws text (Ok a) (Err b) p (e, is, other, same) = absurd (other (laws.right text a e p is))
 one_specs laws text (Err a) (Ok b) (e, is, other, same) q = absurd (other (laws.right text b e q is))
-one_specs laws text (Err a) (Err b) (e, is, other, same) (f, as_well, not, too) = ap Err (same ∙ ap refusals.BadSpecs (laws.refusal text e f is as_well other not) ∙ sym too)
+one_specs laws text (Err a) (Err b) (e, is, other, same) (f, as_well, not, too) =
+    ap Err (same ∙ ap refusals.BadSpecs (laws.refusal text e f is as_well other not) ∙ sym too)
 
 one_roots : ReadsOnce → (work : Work) (text : List ℕ) → IsOne (RootsOf work text)
 one_roots laws work text =
@@ -39,29 +41,38 @@ one_roots laws work text =
     (λ done. one_then (SpecsOf text) (λ specs. Is (roots_of work specs)) (one_specs laws text) (λ specs. one_is (roots_of work specs)))
 
 one_requested : ReadsOnce → (recipes : List Recipe) (work : Work) (spec : List ℕ) → IsOne (Requested recipes work spec)
-one_requested laws recipes work spec = one_then (Is (apart_of recipes)) (λ done. RootsOf work spec) (one_is (apart_of recipes)) (λ done. one_roots laws work spec)
+one_requested laws recipes work spec = one_then (Is (apart_of recipes)) (λ done. RootsOf work spec) (one_is (apart_of recipes))
+    (λ done. one_roots laws work spec)
 
 one_over : ReadsOnce → (sources : List Source) (work : Work) (spec : List ℕ) → IsOne (Over sources work spec)
 one_over laws sources work spec =
-    one_then (Is (recipes_of sources)) (λ recipes. Then (Requested recipes work spec) (λ roots. Is (Ok (recipes, roots)))) (one_is (recipes_of sources))
-    (λ recipes. one_then (Requested recipes work spec) (λ roots. Is (Ok (recipes, roots))) (one_requested laws recipes work spec) (λ roots. one_is (Ok (recipes, roots))))
+    one_then (Is (recipes_of sources)) (λ recipes. Then (Requested recipes work spec) (λ roots. Is (Ok (recipes, roots))))
+    (one_is (recipes_of sources))
+    (λ recipes. one_then (Requested recipes work spec) (λ roots. Is (Ok (recipes, roots))) (one_requested laws recipes work spec)
+    (λ roots. one_is (Ok (recipes, roots))))
 
 one_in_repository : ReadsOnce → (files : Files) (command : Command) → IsOne (InRepository files command)
 one_in_repository laws files command =
     one_then (Is (pile_of files command.repo)) (λ pile. OverPile pile command.work command.spec) (one_is (pile_of files command.repo))
-    (λ pile. one_then (Over pile.files command.work command.spec) (λ read. Is (Ok (parts_of pile read))) (one_over laws pile.files command.work command.spec) (λ read. one_is (Ok (parts_of pile read))))
+    (λ pile. one_then (Over pile.files command.work command.spec) (λ read. Is (Ok (parts_of pile read)))
+    (one_over laws pile.files command.work command.spec) (λ read. one_is (Ok (parts_of pile read))))
 
 one_if_built : ReadsOnce → (files : Files) (command : Command) → IsOne (IfBuilt files command)
 one_if_built laws files command =
-    one_then (Is (built_of command)) (λ done. InRepository files command) (one_is (built_of command)) (λ done. one_in_repository laws files command)
+    one_then (Is (built_of command)) (λ done. InRepository files command) (one_is (built_of command))
+    (λ done. one_in_repository laws files command)
 
 one_input : (settings : Settings) (parts : Parts) → IsOne (InputBy settings parts)
 one_input settings parts =
-    one_then (Is (posed_by parts.recipes settings parts.roots)) (λ problem. Is (Ok (input_of parts.sources problem))) (one_is (posed_by parts.recipes settings parts.roots))
+    one_then (Is (posed_by parts.recipes settings parts.roots)) (λ problem. Is (Ok (input_of parts.sources problem)))
+    (one_is (posed_by parts.recipes settings parts.roots))
     (λ problem. one_is (Ok (input_of parts.sources problem)))
 
 -- a command names one input at most, or is due one refusal
-pub one_read : ((files : Files) (path : List ℕ) → IsOne (SettingsAt files path)) → ReadsOnce → (files : Files) (command : Command) → IsOne (Reads files command)
+pub one_read : ((files : Files) (path : List ℕ) → IsOne (SettingsAt files path)) → ReadsOnce → (files : Files) (command : Command)
+    → IsOne (Reads files command)
 one_read one_settings laws files command =
-    one_then (SettingsAt files command.settings) (λ settings. Then (IfBuilt files command) (λ parts. InputBy settings parts)) (one_settings files command.settings)
-    (λ settings. one_then (IfBuilt files command) (λ parts. InputBy settings parts) (one_if_built laws files command) (λ parts. one_input settings parts))
+    one_then (SettingsAt files command.settings) (λ settings. Then (IfBuilt files command) (λ parts. InputBy settings parts))
+    (one_settings files command.settings)
+    (λ settings. one_then (IfBuilt files command) (λ parts. InputBy settings parts) (one_if_built laws files command)
+    (λ parts. one_input settings parts))

@@ -16,20 +16,25 @@ use Rattle.run_input.specs.Inputs.{OverPile, InRepository, IfBuilt, InputBy, Rea
 
 -- a repository
 pub in_repository : (before : Option Files) (command : Command) (pile : Pile) (result : Result Parts ReadStop)
-    → IfSome before (λ files. Gives {T = Pile} (Ok pile) (Is (pile_of files command.repo))) → Gives result (OverPile pile command.work command.spec)
+    → IfSome before (λ files. Gives {T = Pile} (Ok pile) (Is (pile_of files command.repo)))
+    → Gives result (OverPile pile command.work command.spec)
     → IfSome before (λ files. Gives result (InRepository files command))
 in_repository None command pile result read over = tt
-in_repository (Some files) command pile result read over = then_gives (Is (pile_of files command.repo)) (λ p. OverPile p command.work command.spec) pile result read over
+in_repository (Some files) command pile result read over =
+    then_gives (Is (pile_of files command.repo)) (λ p. OverPile p command.work command.spec) pile result read over
 
 -- the settings and the parts
 read_here : (files : Files) (command : Command) (settings : Settings) (parts : Parts) (result : Result Input ReadStop)
-    → SettingsAt files command.settings (Ok settings) → IfBuilt files command (Ok parts) → Gives result (InputBy settings parts) → Gives result (Reads files command)
+    → SettingsAt files command.settings (Ok settings) → IfBuilt files command (Ok parts) → Gives result (InputBy settings parts)
+    → Gives result (Reads files command)
 read_here files command settings parts result site built posed =
     then_gives (SettingsAt files command.settings) (λ s. Then (IfBuilt files command) (λ p. InputBy s p)) settings result site
     (then_gives (IfBuilt files command) (λ p. InputBy settings p) parts result built posed)
 
-pub input_read : (before between : Option Files) (command : Command) (path : List ℕ) → path ≡ command.settings → (settings : Settings) (parts : Parts) (result : Result Input ReadStop)
-    → between ≡ before → IfSome before (λ files. Gives {T = Settings} (Ok settings) (SettingsAt files path)) → IfSome between (λ files. Gives {T = Parts} (Ok parts) (IfBuilt files command))
+pub input_read : (before between : Option Files) (command : Command) (path : List ℕ) → path ≡ command.settings
+    → (settings : Settings) (parts : Parts) (result : Result Input ReadStop)
+    → between ≡ before → IfSome before (λ files. Gives {T = Settings} (Ok settings) (SettingsAt files path))
+    → IfSome between (λ files. Gives {T = Parts} (Ok parts) (IfBuilt files command))
     → Gives result (InputBy settings parts) → IfSome before (λ files. Gives result (Reads files command))
 input_read None between command path at settings parts result same site built posed = tt
 input_read (Some files) between command path at settings parts result same site built posed =

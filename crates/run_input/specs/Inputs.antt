@@ -1,5 +1,5 @@
 -- What a run reads before the command's own work, or the first refusal.
-use Rattle.std.specs.Prelude.{◌≡◌, ◌⊎◌, ℕ, List, [], Option, Some, None, Result, Ok, Err}
+use Rattle.std.specs.Prelude.{◌⊎◌, ℕ, List, [], Option, Some, None, Result, Ok, Err}
 use Rattle.outside_desk.specs.Files.{Files}
 use Rattle.spec_grammar.specs.declared.part.Spec.{Spec}
 use Rattle.site_settings.specs.declared.settings.Settings.{Settings}

@@ -95,7 +95,8 @@ pub fn read_input<D: Desk>(
     command: &Command<'_>,
 ) -> Result<Input, ReadStop>
     ensures read { IfSome (D.files desk.old) (λ files. Gives result (Reads files command.now)) }
-    ensures roots { IfOk result (λ input. RootsOf command.now.work command.now.spec (Ok input.problem.roots)) }
+    ensures roots { IfOk result (λ input. RootsOf command.now.work command.now.spec
+        (Ok input.problem.roots)) }
     ensures path { FailsAtInput command.now result }
     ensures no_usage { EndsInUsage result → ⊥ }
     ensures same { D.files desk.new ≡ D.files desk.old }

@@ -61,7 +61,8 @@ fn stop_at(
 pub fn recipes_of(alloc: Global, files: &[RecipeFile]) -> Result<List<Recipe>, ReadStop>
     ensures read { Gives result (Is (recipes_of (map source_of files.now))) }
     ensures right { IfOk result (λ recipes. list_all is_right_recipe recipes ≡ true) }
-    ensures names { IfOk result (λ recipes. map name_of recipes ≡ map (λ source. source.0) (map source_of files.now)) }
+    ensures names { IfOk result (λ recipes. map name_of recipes ≡ map (λ source. source.0)
+        (map source_of files.now)) }
     ensures no_usage { EndsInUsage result → ⊥ }
     ensures no_fault { EndsInReadFault result → ⊥ }
 {

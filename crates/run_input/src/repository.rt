@@ -60,7 +60,8 @@ fn read_over(
 ) -> Result<(List<Recipe>, List<Spec>), ReadStop>
     ensures read { Gives result (Over (map source_of files.now) work spec.now) }
     ensures right { IfOk result (λ read. list_all is_right_recipe read.0 ≡ true) }
-    ensures names { IfOk result (λ read. map virtuals.name_of read.0 ≡ map (λ source. source.0) (map source_of files.now)) }
+    ensures names { IfOk result (λ read. map virtuals.name_of read.0 ≡ map (λ source. source.0)
+        (map source_of files.now)) }
     ensures roots { IfOk result (λ read. RootsOf work spec.now (Ok read.1)) }
     ensures named { IfOk result (λ read. are_named read.1 ≡ true) }
     ensures no_usage { EndsInUsage result → ⊥ }
@@ -100,7 +101,8 @@ fn read_repository<D: Desk>(
     desk: &mut D,
     command: &Command<'_>,
 ) -> Result<Parts, ReadStop>
-    ensures read { IfSome (D.files desk.old) (λ files. Gives result (InRepository files command.now)) }
+    ensures read { IfSome (D.files desk.old)
+        (λ files. Gives result (InRepository files command.now)) }
     ensures order { IfOk result (λ parts. AreInOrder parts.recipes) }
     ensures right { IfOk result (λ parts. list_all is_right_recipe parts.recipes ≡ true) }
     ensures roots { IfOk result (λ parts. RootsOf command.now.work command.now.spec (Ok parts.roots)) }

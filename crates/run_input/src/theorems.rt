@@ -12,7 +12,8 @@ use spec_grammar::reading_laws;
 
 /// A command names one input at most over files, or is due one refusal at most.
 pub fn input_laws()
-    ensures one { (files : Files) (command : Command) (a b : Result Input Refusal) → Reads files command a
+    ensures one { (files : Files) (command : Command) (a b : Result Input Refusal)
+        → Reads files command a
         → Reads files command b → a ≡ b }
 {
     reading_laws();

@@ -57,7 +57,8 @@ greater Equal h e = cc
 greater Greater h e = cc
 
 -- the choice is no heavier than either
-chosen_step : IsTotalOrder weight_cmp → (t : Bool) (a b : List ℕ) → is_lt (weight_cmp b a) ≡ t → NoLess a (cond t b a) × NoLess b (cond t b a)
+chosen_step : IsTotalOrder weight_cmp → (t : Bool) (a b : List ℕ) → is_lt (weight_cmp b a) ≡ t → NoLess a (cond t b a)
+    × NoLess b (cond t b a)
 chosen_step t true a b is = (greater _ (t.antisymm a b ∙ ap ordering_reverse (is_less (weight_cmp b a) is)), no_less_self t b)
 chosen_step t false a b is = (no_less_self t a, not_less (weight_cmp b a) is)
 
@@ -77,11 +78,13 @@ pub record IsLightest (set : Option (List VersionItem)) (best : List ℕ) (versi
   pub least : AllByRecursion (λ w. is_wanted set w ≡ true → NoLess w r) versions
   pub inside : (r ≡ best) ⊎ (Contains versions r × (is_wanted set r ≡ true))
 
-chosen_inside : (t : Bool) (set : Option (List VersionItem)) (best v r : List ℕ) (vs : List (List ℕ)) → is_wanted set v ≡ true → r ≡ cond t v best → (r ≡ best) ⊎ (Contains (v ∷ vs) r × (is_wanted set r ≡ true))
+chosen_inside : (t : Bool) (set : Option (List VersionItem)) (best v r : List ℕ) (vs : List (List ℕ)) → is_wanted set v ≡ true
+    → r ≡ cond t v best → (r ≡ best) ⊎ (Contains (v ∷ vs) r × (is_wanted set r ≡ true))
 chosen_inside true set best v r vs is e = inr (in_head v r vs e, rw e is)
 chosen_inside false set best v r vs is e = inl e
 
-from_some : IsTotalOrder weight_cmp → (set : Option (List VersionItem)) (best : List ℕ) (versions : List (List ℕ)) → (r : List ℕ) × IsLightest set best versions r
+from_some : IsTotalOrder weight_cmp → (set : Option (List VersionItem)) (best : List ℕ) (versions : List (List ℕ)) → (r : List ℕ)
+    × IsLightest set best versions r
 from_some t set best [] = (best, record { result = refl; below = no_less_self t best; least = tt; inside = inl refl })
 from_some t set best (v ∷ vs) = elim (cases_Bool (is_wanted set v)) [
   | inl is ↦
@@ -116,13 +119,16 @@ from_some t set best (v ∷ vs) = elim (cases_Bool (is_wanted set v)) [
 -- what the fold over all gives
 abbrev pub Folded : Option (List VersionItem) → List (List ℕ) → Option (List ℕ) → Type 0
 Folded set versions None = AllByRecursion (λ w. is_wanted set w ≡ false) versions
-Folded set versions (Some r) = Contains versions r × (is_wanted set r ≡ true) × AllByRecursion (λ w. is_wanted set w ≡ true → NoLess w r) versions
+Folded set versions (Some r) = Contains versions r × (is_wanted set r ≡ true)
+    × AllByRecursion (λ w. is_wanted set w ≡ true → NoLess w r) versions
 
-folded_more : (set : Option (List VersionItem)) (v : List ℕ) (vs : List (List ℕ)) (o : Option (List ℕ)) → is_wanted set v ≡ false → Folded set vs o → Folded set (v ∷ vs) o
+folded_more : (set : Option (List VersionItem)) (v : List ℕ) (vs : List (List ℕ)) (o : Option (List ℕ)) → is_wanted set v ≡ false
+    → Folded set vs o → Folded set (v ∷ vs) o
 folded_more set v vs None not h = (not, h)
 folded_more set v vs (Some r) not (inside, is, least) = (in_tail v r vs inside, is, (λ yes. true_false (is_wanted set v) yes not, least))
 
-folded : IsTotalOrder weight_cmp → (set : Option (List VersionItem)) (versions : List (List ℕ)) → Folded set versions (fold (picked set) None versions)
+folded : IsTotalOrder weight_cmp → (set : Option (List VersionItem)) (versions : List (List ℕ))
+    → Folded set versions (fold (picked set) None versions)
 folded t set [] = tt
 folded t set (v ∷ vs) = elim (cases_Bool (is_wanted set v)) [
   | inl is ↦
@@ -153,30 +159,42 @@ one_le true false h = absurd (let e = h refl in cc)
 one_le false n h = omega arith
 
 -- what comes before a version comes before what is no lighter than it
-before_both : IsTotalOrder weight_cmp → (v best other : List ℕ) → NoLess other best → is_lt (weight_cmp v best) ≡ true → is_lt (weight_cmp v other) ≡ true
+before_both : IsTotalOrder weight_cmp → (v best other : List ℕ) → NoLess other best → is_lt (weight_cmp v best) ≡ true
+    → is_lt (weight_cmp v other) ≡ true
 before_both t v best other no_less lt = elim (cases_Bool (is_lt (weight_cmp v other))) [
   | inl is ↦ is
   | inr not ↦ absurd (no_less_trans t v other best (not_less (weight_cmp v other) not) no_less (is_less (weight_cmp v best) lt))
 ]
 
-weight_le : IsTotalOrder weight_cmp → (best other : List ℕ) → NoLess other best → (versions : List (List ℕ)) → weight_of versions best ≤ weight_of versions other
+weight_le : IsTotalOrder weight_cmp → (best other : List ℕ) → NoLess other best → (versions : List (List ℕ))
+    → weight_of versions best ≤ weight_of versions other
 weight_le t best other no_less [] = omega arith
 weight_le t best other no_less (v ∷ vs) =
     let first = one_le (is_lt (weight_cmp v best)) (is_lt (weight_cmp v other)) (before_both t v best other no_less) in
-    omega (arith, first, weight_le t best other no_less vs, sum_by-cons (λ w. cond (is_lt (weight_cmp w best)) 1 0) v vs, sum_by-cons (λ w. cond (is_lt (weight_cmp w other)) 1 0) v vs)
+    omega (
+      arith,
+      first,
+      weight_le t best other no_less vs,
+      sum_by-cons (λ w. cond (is_lt (weight_cmp w best)) 1 0) v vs,
+      sum_by-cons
+          (λ w. cond (is_lt (weight_cmp w other)) 1 0) v vs,
+    )
 
 -- the fold gives the best
 abbrev pub Best : Option (List VersionItem) → List (List ℕ) → Option (List ℕ) → Type 0
 Best set declared None = HasNone set declared
 Best set declared (Some best) = IsBest set declared best
 
-best_from : IsTotalOrder weight_cmp → (set : Option (List VersionItem)) (declared : List (List ℕ)) (o : Option (List ℕ)) → Folded set declared o → Best set declared o
+best_from : IsTotalOrder weight_cmp → (set : Option (List VersionItem)) (declared : List (List ℕ)) (o : Option (List ℕ))
+    → Folded set declared o → Best set declared o
 best_from t set declared None h = All-from_recursion _ declared h
 best_from t set declared (Some r) (inside, is, least) = record {
   declares = inside;
   wanted = is;
-  least = All-weaker (λ w. is_wanted set w ≡ true → NoLess w r) (λ w. is_wanted set w ≡ true → weight_of declared r ≤ weight_of declared w) (λ w no_less yes. weight_le t r w (no_less yes) declared) declared (All-from_recursion _ declared least);
+  least = All-weaker (λ w. is_wanted set w ≡ true → NoLess w r) (λ w. is_wanted set w ≡ true → weight_of declared r ≤ weight_of declared w)
+      (λ w no_less yes. weight_le t r w (no_less yes) declared) declared (All-from_recursion _ declared least);
 }
 
-pub best_is : IsTotalOrder version_cmp → (set : Option (List VersionItem)) (declared : List (List ℕ)) (o : Option (List ℕ)) → o ≡ fold (picked set) None declared → Best set declared o
+pub best_is : IsTotalOrder version_cmp → (set : Option (List VersionItem)) (declared : List (List ℕ)) (o : Option (List ℕ))
+    → o ≡ fold (picked set) None declared → Best set declared o
 best_is total set declared o e = rw e (best_from (weight_total total) set declared _ (folded (weight_total total) set declared))

@@ -31,18 +31,24 @@ listed : {A : Type 0} (f : A → Data) → ((x : A) → has_float (f x) ≡ fals
 listed f none [] = refl
 listed f none (x ∷ xs) = no_or _ _ (none x) (listed f none xs)
 
-put_step : (o : Ordering) (k l : List ℕ) (d e : Data) (ms rest : Members) → has_float d ≡ false → has_float e ≡ false → members_have_float ms ≡ false → members_have_float rest ≡ false → members_have_float (match_ordering o (member k d (member l e ms)) (member l d ms) (member l e rest)) ≡ false
+put_step : (o : Ordering) (k l : List ℕ) (d e : Data) (ms rest : Members) → has_float d ≡ false → has_float e ≡ false
+    → members_have_float ms ≡ false → members_have_float rest ≡ false
+    → members_have_float (match_ordering o (member k d (member l e ms)) (member l d ms) (member l e rest)) ≡ false
 put_step Less k l d e ms rest hd he hms hrest = no_or _ _ hd (no_or _ _ he hms)
 put_step Equal k l d e ms rest hd he hms hrest = no_or _ _ hd hms
 put_step Greater k l d e ms rest hd he hms hrest = no_or _ _ he hrest
 
-put_has_none : (k : List ℕ) (d : Data) (ms : Members) → has_float d ≡ false → members_have_float ms ≡ false → members_have_float (put k d ms) ≡ false
+put_has_none : (k : List ℕ) (d : Data) (ms : Members) → has_float d ≡ false → members_have_float ms ≡ false
+    → members_have_float (put k d ms) ≡ false
 put_has_none k d no_members hd hms = no_or _ _ hd refl
-put_has_none k d (member l e ms) hd hms = put_step (slice_cmp nat_cmp k l) k l d e ms (put k d ms) hd (first_of _ _ hms) (second_of _ _ hms) (put_has_none k d ms hd (second_of _ _ hms))
+put_has_none k d (member l e ms) hd hms = put_step (slice_cmp nat_cmp k l) k l d e ms (put k d ms) hd (first_of _ _ hms) (second_of _ _ hms)
+    (put_has_none k d ms hd (second_of _ _ hms))
 
-variants_have_none : (ms : Members) (vs : List (List ℕ × List (List ℕ))) → members_have_float ms ≡ false → members_have_float (fold with_variant ms vs) ≡ false
+variants_have_none : (ms : Members) (vs : List (List ℕ × List (List ℕ))) → members_have_float ms ≡ false
+    → members_have_float (fold with_variant ms vs) ≡ false
 variants_have_none ms [] h = h
-variants_have_none ms (v ∷ vs) h = variants_have_none (with_variant ms v) vs (put_has_none v.0 (array (strings v.1)) ms (listed string (λ x. refl) v.1) h)
+variants_have_none ms (v ∷ vs) h = variants_have_none (with_variant ms v) vs
+    (put_has_none v.0 (array (strings v.1)) ms (listed string (λ x. refl) v.1) h)
 
 compiler_has_none : (c : Option Compiler) → has_float (compiler_data c) ≡ false
 unfolding compiler_data

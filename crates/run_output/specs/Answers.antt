@@ -57,7 +57,8 @@ report_of problem version = report_text (node_of problem.wanted.name version ∷
 -- ---- answers, where the lock file is to stand at `path`
 
 -- there is a graph: the lock file is that of a best version, and its lines were said
-pub record IsSolved (path : List ℕ) (problem : Problem) (before after : Option Files) (out_before out_after : Option (List ℕ)) : Type 0 where
+pub record IsSolved (path : List ℕ) (problem : Problem) (before after : Option Files)
+    (out_before out_after : Option (List ℕ)) : Type 0 where
   pub version : List ℕ
   pub best : IsBest problem.wanted.versions problem.declared version
   pub lock : after ≡ with_file before path (lock_of problem.wanted version)
@@ -73,7 +74,8 @@ pub record IsUnsolved (problem : Problem) (before after : Option Files) (out_bef
   pub out : out_after ≡ and_said out_before unsatisfiable_line
 
 -- the put failed: the lock file is as it was or holds a front of its text, and nothing was said
-pub record IsHalfPut (path : List ℕ) (problem : Problem) (before after : Option Files) (out_before out_after : Option (List ℕ)) : Type 0 where
+pub record IsHalfPut (path : List ℕ) (problem : Problem) (before after : Option Files)
+    (out_before out_after : Option (List ℕ)) : Type 0 where
   pub version : List ℕ
   pub best : IsBest problem.wanted.versions problem.declared version
   pub lock : MayHold before after path (lock_of problem.wanted version)
@@ -87,7 +89,8 @@ pub record IsLocked (path : List ℕ) (problem : Problem) (before after : Option
 
 -- the sink failed: the lock file is whole, or no declared version is wanted and no file changed
 abbrev pub IsUnsaid : List ℕ → Problem → Option Files → Option Files → Type 0
-IsUnsaid path problem before after = IsLocked path problem before after ⊎ (HasNone problem.wanted.versions problem.declared × (after ≡ before))
+IsUnsaid path problem before after = IsLocked path problem before after
+    ⊎ (HasNone problem.wanted.versions problem.declared × (after ≡ before))
 
 -- the lock file is as it was or holds a front of its text, the whole of it among them
 pub record HoldsFront (path : List ℕ) (problem : Problem) (before after : Option Files) : Type 0 where
@@ -139,7 +142,8 @@ HasNoGraph (tasks.Report numbers) before after out_before out_after = ⊥
 abbrev pub Writes : List ℕ → Task → Option Files → Option Files → Option (List ℕ) → Option (List ℕ) → Result Answer WriteStop → Type 0
 Writes path task before after out_before out_after (Ok answers.Solved) = IsFinished path task before after out_before out_after
 Writes path task before after out_before out_after (Ok answers.Unsolved) = HasNoGraph task before after out_before out_after
-Writes path task before after out_before out_after (Err (writes.Put at)) = (at ≡ path) × IsHalfDone path task before after out_before out_after
+Writes path task before after out_before out_after (Err (writes.Put at)) =
+    (at ≡ path) × IsHalfDone path task before after out_before out_after
 Writes path task before after out_before out_after (Err writes.Output) = IsUntold path task before after
 Writes path task before after out_before out_after (Err writes.NoMemory) = Unit {0}
 

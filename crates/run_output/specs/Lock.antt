@@ -21,7 +21,8 @@ variants_data variants = fold with_variant no_members variants
 
 unfoldable pub compiler_data : Option Compiler → Data
 compiler_data None = null
-compiler_data (Some compiler) = object (member (codes "name") (string compiler.name) (member (codes "version") (string compiler.version) no_members))
+compiler_data (Some compiler) =
+    object (member (codes "name") (string compiler.name) (member (codes "version") (string compiler.version) no_members))
 
 -- the record of a node without its hash
 abbrev pub record_members : BuiltNode → Members

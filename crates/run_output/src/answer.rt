@@ -91,7 +91,8 @@ fn unsatisfiable_text() -> &'static str
 fn put_lock<D: Desk>(alloc: Global, desk: &mut D, path: &str, text: &str) -> Result<(), WriteStop>
     ensures left { Puts path.now text.now (D.files desk.old) (D.files desk.new) result }
     ensures held { MayHold (D.files desk.old) (D.files desk.new) path.now text.now }
-    ensures others { IfSome (D.files desk.old) (λ files. ChangesOnly path.now files (D.files desk.new)) }
+    ensures others { IfSome (D.files desk.old)
+        (λ files. ChangesOnly path.now files (D.files desk.new)) }
     ensures faults { D.faults desk.new ≡ D.faults desk.old }
     ensures cause { Counts (D.put_faults desk.old) (D.put_faults desk.new) (EndsInPutFault result) }
 {
@@ -123,7 +124,8 @@ fn node_texts(
     node: &BuiltNode,
 ) -> Result<(String, Vec<u8>), AllocError>
     requires { node.now ≡ node_of problem.now.wanted.name version.now }
-    ensures lock { IfOk result (λ texts. string_bytes texts.0 ≡ lock_of problem.now.wanted version.now) }
+    ensures lock { IfOk result (λ texts. string_bytes texts.0 ≡ lock_of problem.now.wanted
+        version.now) }
     ensures report { IfOk result (λ texts. texts.1.items ≡ report_of problem.now version.now) }
 {
     let lock = lock_by(alloc, &problem.wanted.text, node)?;
@@ -138,7 +140,8 @@ fn solved_texts(
     problem: &Problem,
     version: &Version,
 ) -> Result<(String, Vec<u8>), AllocError>
-    ensures lock { IfOk result (λ texts. string_bytes texts.0 ≡ lock_of problem.now.wanted version.now) }
+    ensures lock { IfOk result (λ texts. string_bytes texts.0 ≡ lock_of problem.now.wanted
+        version.now) }
     ensures report { IfOk result (λ texts. texts.1.items ≡ report_of problem.now version.now) }
 {
     let node = built_node(alloc, &problem.wanted.name, version)?;
@@ -157,9 +160,12 @@ fn write_solved<D: Desk, O: Sink>(
     out: &mut O,
 ) -> Result<Answer, WriteStop>
     requires { IsBest problem.now.wanted.versions problem.now.declared best.now }
-    ensures left { Writes lock.now (tasks.Solve problem.now) (D.files desk.old) (D.files desk.new) (O.said out.old) (O.said out.new) result }
-    ensures held { (D.files desk.new ≡ D.files desk.old) ⊎ HoldsFront lock.now problem.now (D.files desk.old) (D.files desk.new) }
-    ensures others { IfSome (D.files desk.old) (λ files. ChangesOnly lock.now files (D.files desk.new)) }
+    ensures left { Writes lock.now (tasks.Solve problem.now) (D.files desk.old) (D.files desk.new)
+        (O.said out.old) (O.said out.new) result }
+    ensures held { (D.files desk.new ≡ D.files desk.old)
+        ⊎ HoldsFront lock.now problem.now (D.files desk.old) (D.files desk.new) }
+    ensures others { IfSome (D.files desk.old)
+        (λ files. ChangesOnly lock.now files (D.files desk.new)) }
     ensures faults { D.faults desk.new ≡ D.faults desk.old }
     ensures put { Counts (D.put_faults desk.old) (D.put_faults desk.new) (EndsInPutFault result) }
     ensures said { Counts (O.faults out.old) (O.faults out.new) (EndsInOutputFault result) }
@@ -178,9 +184,12 @@ fn write_best<D: Desk, O: Sink>(
     desk: &mut D,
     out: &mut O,
 ) -> Result<Answer, WriteStop>
-    ensures left { Writes lock.now (tasks.Solve problem.now) (D.files desk.old) (D.files desk.new) (O.said out.old) (O.said out.new) result }
-    ensures held { (D.files desk.new ≡ D.files desk.old) ⊎ HoldsFront lock.now problem.now (D.files desk.old) (D.files desk.new) }
-    ensures others { IfSome (D.files desk.old) (λ files. ChangesOnly lock.now files (D.files desk.new)) }
+    ensures left { Writes lock.now (tasks.Solve problem.now) (D.files desk.old) (D.files desk.new)
+        (O.said out.old) (O.said out.new) result }
+    ensures held { (D.files desk.new ≡ D.files desk.old)
+        ⊎ HoldsFront lock.now problem.now (D.files desk.old) (D.files desk.new) }
+    ensures others { IfSome (D.files desk.old)
+        (λ files. ChangesOnly lock.now files (D.files desk.new)) }
     ensures faults { D.faults desk.new ≡ D.faults desk.old }
     ensures put { Counts (D.put_faults desk.old) (D.put_faults desk.new) (EndsInPutFault result) }
     ensures said { Counts (O.faults out.old) (O.faults out.new) (EndsInOutputFault result) }
@@ -206,7 +215,8 @@ fn verdict_text(alloc: Global, numbers: &[u64]) -> Result<Vec<u8>, AllocError>
 
 /// Says what is said of a lock file.
 fn write_verdict<O: Sink>(alloc: Global, numbers: &[u64], out: &mut O) -> Result<Answer, WriteStop>
-    ensures said { OnOk result (O.said out.new ≡ and_said (O.said out.old) (verdict_text numbers.now)) }
+    ensures said { OnOk result (O.said out.new ≡ and_said (O.said out.old)
+        (verdict_text numbers.now)) }
     ensures solved { IfOk result (λ answer. answer ≡ Answer.Solved) }
     ensures cause { Counts (O.faults out.old) (O.faults out.new) (EndsInOutputFault result) }
     ensures no_put { EndsInPutFault result → ⊥ }
@@ -224,9 +234,12 @@ pub fn write_answer<D: Desk, O: Sink>(
     desk: &mut D,
     out: &mut O,
 ) -> Result<Answer, WriteStop>
-    ensures left { Writes lock.now task.now (D.files desk.old) (D.files desk.new) (O.said out.old) (O.said out.new) result }
-    ensures held { (D.files desk.new ≡ D.files desk.old) ⊎ KeepsFront lock.now task.now (D.files desk.old) (D.files desk.new) }
-    ensures others { IfSome (D.files desk.old) (λ files. ChangesOnly lock.now files (D.files desk.new)) }
+    ensures left { Writes lock.now task.now (D.files desk.old) (D.files desk.new) (O.said out.old)
+        (O.said out.new) result }
+    ensures held { (D.files desk.new ≡ D.files desk.old)
+        ⊎ KeepsFront lock.now task.now (D.files desk.old) (D.files desk.new) }
+    ensures others { IfSome (D.files desk.old)
+        (λ files. ChangesOnly lock.now files (D.files desk.new)) }
     ensures faults { D.faults desk.new ≡ D.faults desk.old }
     ensures put { Counts (D.put_faults desk.old) (D.put_faults desk.new) (EndsInPutFault result) }
     ensures said { Counts (O.faults out.old) (O.faults out.new) (EndsInOutputFault result) }

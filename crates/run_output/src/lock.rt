@@ -55,7 +55,8 @@ fn put_text(
     key: &str,
     text: &str,
 ) -> Result<(), AllocError>
-    ensures { OnOk result (members_view members.new.entries ≡ with_member key.now (string text.now) (members_view members.old.entries)) }
+    ensures { OnOk result (members_view members.new.entries ≡ with_member key.now (string text.now)
+        (members_view members.old.entries)) }
 {
     put(members, alloc, key, Value::try_from_str(alloc, text)?)
 }

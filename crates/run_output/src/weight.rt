@@ -61,7 +61,8 @@ fn lightest<'a>(set: &Option<VersionSet>, declared: &'a [Version]) -> Option<&'a
 
 /// A declared version of the least weight among those that are wanted, and none where none is.
 pub fn best_of<'a>(set: &Option<VersionSet>, declared: &'a [Version]) -> Option<&'a Version>
-    ensures { MatchOption result (HasNone set.now declared.now) (λ best. IsBest set.now declared.now best.now) }
+    ensures { MatchOption result (HasNone set.now declared.now)
+        (λ best. IsBest set.now declared.now best.now) }
 {
     laws();
     lightest(set, declared)
@@ -79,8 +80,10 @@ pub fn weight_of(declared: &[Version], version: &Version) -> usize
 
 /// A version's weight is its place, from 0, in the sort of the declared versions.
 pub fn weights_are_places()
-    ensures { (declared sorted : List (List ℕ)) (place : ℕ) (version : List ℕ) → IsPermutation declared sorted
-        → IsStrictlySortedBy weight_cmp sorted → slice_get sorted place ≡ Some version → weight_of declared version ≡ place }
+    ensures { (declared sorted : List (List ℕ)) (place : ℕ) (version : List ℕ)
+        → IsPermutation declared sorted
+        → IsStrictlySortedBy weight_cmp sorted → slice_get sorted place ≡ Some version
+        → weight_of declared version ≡ place }
 {
     laws();
 }

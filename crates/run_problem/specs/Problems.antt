@@ -1,5 +1,5 @@
 -- The problem of one package over what was read, or why it is not built yet.
-use Rattle.std.specs.Prelude.{ℕ, ◌==◌, List, length, Bool, false, not, ◌||◌, ◌&&◌, map, Option, Some, None, option_and_then, Result, Ok, Err}
+use Rattle.std.specs.Prelude.{ℕ, ◌==◌, List, length, Bool, false, not, ◌||◌, ◌&&◌, map, Option, Some, None, option_and_then, Result, Ok}
 use Rattle.std.specs.List.{list_all, find}
 use Rattle.std.specs.Str.{bytes_eq}
 use Rattle.conditions.specs.declared.recipe.Recipe.{Recipe}

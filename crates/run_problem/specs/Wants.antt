@@ -1,5 +1,5 @@
 -- What the roots of a run want: one package by a spec of its versions.
-use Rattle.std.specs.Prelude.{ℕ, List, [], ◌∷◌, Option, Some, None, Result, Ok}
+use Rattle.std.specs.Prelude.{List, [], ◌∷◌, Option, Some, None, Result, Ok}
 use Rattle.spec_grammar.specs.Canonical.{word_text, spec_text}
 use Rattle.spec_grammar.specs.declared.part.Spec.{Spec}
 use Rattle.run_answers.specs.Stages.{◌>>=◌, or_refuse}

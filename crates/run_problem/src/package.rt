@@ -52,7 +52,8 @@ fn first_named<'a>(files: &'a [RecipeFile], name: &str) -> Option<&'a RecipeFile
 
 /// The file of a package.
 fn file_named<'a>(files: &'a [RecipeFile], name: &str) -> Option<&'a RecipeFile>
-    ensures { option_map source_of (option_copied result) ≡ source_named (map source_of files.now) name.now }
+    ensures { option_map source_of (option_copied result)
+        ≡ source_named (map source_of files.now) name.now }
 {
     first_named(files, name)
 }

@@ -1,5 +1,5 @@
 -- A path names one settings at most.
-use Rattle.std.proofs.Common.{◌≡◌, ◌≢◌, ℕ, List, Bool, true, false, ap, sym, ◌∙◌, Result, Ok, Err}
+use Rattle.std.proofs.Common.{◌≡◌, ◌≢◌, ℕ, List, Bool, true, false, ap, sym, ◌∙◌, Ok, Err}
 use Rattle.outside_desk.specs.Files.{Files}
 use Rattle.site_settings.specs.Standard.{standard}
 use Rattle.site_settings.specs.declared.settings.Settings.{Settings}

@@ -21,7 +21,8 @@ const SETTINGS_LIMIT: u64 = 1 << 24;
 #[tactic(auto, unfolding(crate::specs::Sites::bytes_at))]
 fn read_bytes<D: Desk>(alloc: Global, desk: &mut D, path: &str) -> Result<Vec<u8>, ReadStop>
     requires { is_dash path.now ≡ false }
-    ensures read { IfSome (D.files desk.old) (λ files. GivesBytes (bytes_at files path.now) result) }
+    ensures read { IfSome (D.files desk.old)
+        (λ files. GivesBytes (bytes_at files path.now) result) }
     ensures path { FailsThere path.now result }
     ensures no_usage { EndsInUsage result → ⊥ }
     ensures same { D.files desk.new ≡ D.files desk.old }

@@ -10,7 +10,8 @@ use settings_reader::settings_laws;
 
 /// A path names one settings at most, or is due one refusal at most.
 pub fn site_laws()
-    ensures one { (files : Files) (path : List ℕ) (a b : Result Settings Refusal) → SettingsAt files path a → SettingsAt files path b → a ≡ b }
+    ensures one { (files : Files) (path : List ℕ) (a b : Result Settings Refusal)
+        → SettingsAt files path a → SettingsAt files path b → a ≡ b }
 {
     settings_laws();
 }

@@ -20,11 +20,15 @@ OneVerdict = (files : Files) (path : List ℕ) (problem : Problem) → IsOne (Ju
 
 one_by : OneVerdict → (work : Work) (files : Files) (lock : List ℕ) (input : Input) → IsOne (TaskBy work files lock input)
 one_by one_verdict works.Concretize files lock input =
-    one_then (Is (problem_in input)) (λ problem. Is (Ok (tasks.Solve problem))) (one_is (problem_in input)) (λ problem. one_is (Ok (tasks.Solve problem)))
+    one_then (Is (problem_in input)) (λ problem. Is (Ok (tasks.Solve problem))) (one_is (problem_in input))
+    (λ problem. one_is (Ok (tasks.Solve problem)))
 one_by one_verdict works.Judge files lock input =
-    one_then (Judges files lock input.problem) (λ numbers. Is (Ok (tasks.Report numbers))) (one_verdict files lock input.problem) (λ numbers. one_is (Ok (tasks.Report numbers)))
+    one_then (Judges files lock input.problem) (λ numbers. Is (Ok (tasks.Report numbers))) (one_verdict files lock input.problem)
+    (λ numbers. one_is (Ok (tasks.Report numbers)))
 
-pub one_posed : ((files : Files) (command : Command) → IsOne (Reads files command)) → OneVerdict → (files : Files) (words : List (List ℕ)) → IsOne (Poses files words)
+pub one_posed : ((files : Files) (command : Command) → IsOne (Reads files command)) → OneVerdict → (files : Files) (words : List (List ℕ))
+    → IsOne (Poses files words)
 one_posed one_read one_verdict files words =
     one_then (Is (order_of words)) (Named files) (one_is (order_of words))
-    (λ command. one_then (Reads files command) (TaskBy command.work files command.lock) (one_read files command) (one_by one_verdict command.work files command.lock))
+    (λ command. one_then (Reads files command) (TaskBy command.work files command.lock) (one_read files command)
+    (one_by one_verdict command.work files command.lock))

@@ -15,8 +15,10 @@ use Rattle.run_task.specs.Tasks.{TaskBy}
 use Rattle.run_task.specs.declared.task.Task.{Task}
 use Rattle.run_task.specs.declared.task.Task.TheVariants as tasks
 
-pub judged_stop : (before : Option Files) (command : Command) (path : List ℕ) (input : Input) (stop : ReadStop) → command.work ≡ works.Judge → path ≡ command.lock
-    → IfSome before (λ files. Gives {T = List ℕ} (Err stop) (Judges files path input.problem)) → IfSome before (λ files. Gives {T = Task} (Err stop) (TaskBy command.work files command.lock input))
+pub judged_stop : (before : Option Files) (command : Command) (path : List ℕ) (input : Input) (stop : ReadStop) → command.work ≡ works.Judge
+    → path ≡ command.lock
+    → IfSome before (λ files. Gives {T = List ℕ} (Err stop) (Judges files path input.problem))
+    → IfSome before (λ files. Gives {T = Task} (Err stop) (TaskBy command.work files command.lock input))
 judged_stop None command path input stop work lock read = tt
 judged_stop (Some files) command path input stop work lock read =
     subst (λ (w : Work). Gives {T = Task} (Err stop) (TaskBy w files command.lock input)) (sym work)

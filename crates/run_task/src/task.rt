@@ -36,7 +36,8 @@ fn task_by<D: Desk>(
     input: &Input,
 ) -> Result<Task, ReadStop>
     requires { All (λ spec. IsUtf8 (spec_text spec)) input.now.problem.roots }
-    ensures read { IfSome (D.files desk.old) (λ files. Gives result (TaskBy command.now.work files command.now.lock input.now)) }
+    ensures read { IfSome (D.files desk.old)
+        (λ files. Gives result (TaskBy command.now.work files command.now.lock input.now)) }
     ensures work { IfOk result (λ task. IsOf command.now.work task) }
     ensures path { FailsAtTask command.now result }
     ensures no_usage { EndsInUsage result → ⊥ }
@@ -70,7 +71,8 @@ pub fn read_task<D: Desk>(
 ) -> Result<Task, ReadStop>
     ensures read { IfSome (D.files desk.old) (λ files. Gives result (Named files command.now)) }
     ensures work { IfOk result (λ task. IsOf command.now.work task) }
-    ensures roots { IfOk result (λ task. (roots : List Spec) × RootsOf command.now.work command.now.spec (Ok roots)) }
+    ensures roots { IfOk result (λ task. (roots : List Spec)
+        × RootsOf command.now.work command.now.spec (Ok roots)) }
     ensures path { FailsAtTask command.now result }
     ensures no_usage { EndsInUsage result → ⊥ }
     ensures same { D.files desk.new ≡ D.files desk.old }

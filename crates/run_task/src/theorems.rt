@@ -11,7 +11,8 @@ use run_verdict::verdict_laws;
 
 /// Words name one task at most over files, or are due one refusal at most.
 pub fn task_laws()
-    ensures one { (files : Files) (words : List (List ℕ)) (a b : Result Task Refusal) → Poses files words a
+    ensures one { (files : Files) (words : List (List ℕ)) (a b : Result Task Refusal)
+        → Poses files words a
         → Poses files words b → a ≡ b }
 {
     input_laws();

@@ -1,5 +1,5 @@
 -- Of a lock file one thing is said at most.
-use Rattle.std.proofs.Common.{◌≡◌, ◌≢◌, ℕ, List, ap, sym, ◌∙◌, Result, Ok, Err}
+use Rattle.std.proofs.Common.{◌≡◌, ◌≢◌, ℕ, List, ap, sym, ◌∙◌, Ok, Err}
 use Rattle.outside_desk.specs.Files.{Files}
 use Rattle.lockfile.specs.Locks.{IsLock}
 use Rattle.lockfile.specs.Faults.{IsLockFault}

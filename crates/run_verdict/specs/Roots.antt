@@ -1,5 +1,5 @@
 -- Whether the roots of a lock file are those that are asked for, with the hashes of their nodes.
-use Rattle.std.specs.Prelude.{Bool, true, false, ◌&&◌, List, [], ◌∷◌, find, option_map, option_and_then, Option, Some, None}
+use Rattle.std.specs.Prelude.{Bool, true, false, ◌&&◌, List, [], ◌∷◌, find, option_map, option_and_then, Option}
 use Rattle.std.specs.Str.{bytes_eq}
 use Rattle.condition_rules.specs.Words.{is_some_and}
 use Rattle.graph_core.specs.Graphs.{Text}

@@ -17,7 +17,8 @@ const LOCK_LIMIT: u64 = (1 << 63) - 1;
 /// The bytes of the file at a path.
 #[tactic(auto, unfolding(crate::specs::Locks::bytes_at))]
 fn read_bytes<D: Desk>(alloc: Global, desk: &mut D, path: &str) -> Result<Vec<u8>, ReadStop>
-    ensures read { IfSome (D.files desk.old) (λ files. GivesBytes (bytes_at files path.now) result) }
+    ensures read { IfSome (D.files desk.old)
+        (λ files. GivesBytes (bytes_at files path.now) result) }
     ensures path { FailsAtLock path.now result }
     ensures no_usage { EndsInUsage result → ⊥ }
     ensures same { D.files desk.new ≡ D.files desk.old }

@@ -10,7 +10,8 @@ use lockfile::lock_laws;
 
 /// Of a lock file one thing is said at most, or one refusal is due at most.
 pub fn verdict_laws()
-    ensures one { (files : Files) (path : List ℕ) (problem : Problem) (a b : Result (List ℕ) Refusal)
+    ensures one { (files : Files) (path : List ℕ) (problem : Problem)
+        (a b : Result (List ℕ) Refusal)
         → Judges files path problem a → Judges files path problem b → a ≡ b }
 {
     lock_laws();

@@ -73,7 +73,8 @@ pub fn read_verdict<D: Desk>(
     path: &str,
     problem: &Problem,
 ) -> Result<[u64; 31], ReadStop>
-    ensures read { IfSome (D.files desk.old) (λ files. Gives result (Judges files path.now problem.now)) }
+    ensures read { IfSome (D.files desk.old)
+        (λ files. Gives result (Judges files path.now problem.now)) }
     ensures path { FailsAtLock path.now result }
     ensures no_usage { EndsInUsage result → ⊥ }
     ensures same { D.files desk.new ≡ D.files desk.old }

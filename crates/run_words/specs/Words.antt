@@ -48,13 +48,31 @@ unless_wrong c = if is_wrong c then None else Some c
 -- the command that the words behind `concretize` make
 abbrev pub concretize_of : List (List ℕ) → Option Command
 concretize_of (repo ∷ settings ∷ database ∷ lock ∷ cert ∷ first ∷ more) =
-    unless_wrong (record { work = works.Concretize; repo = repo; settings = settings; database = database; lock = lock; cert = cert; spec = joined_words first more })
+    unless_wrong (record {
+      work = works.Concretize;
+      repo = repo;
+      settings = settings;
+      database = database;
+      lock = lock;
+      cert = cert;
+      spec =
+          joined_words first more;
+    })
 concretize_of few = None
 
 -- the command that the words behind `judge` make
 abbrev pub judge_of : List (List ℕ) → Option Command
 judge_of (repo ∷ settings ∷ database ∷ lock ∷ first ∷ more) =
-    unless_wrong (record { work = works.Judge; repo = repo; settings = settings; database = database; lock = lock; cert = codes "-"; spec = joined_words first more })
+    unless_wrong (record {
+      work = works.Judge;
+      repo = repo;
+      settings = settings;
+      database = database;
+      lock = lock;
+      cert = codes "-";
+      spec =
+          joined_words first more;
+    })
 judge_of few = None
 
 -- the command that the words are

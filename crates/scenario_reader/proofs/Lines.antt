@@ -25,7 +25,10 @@ lines_of-nil = refl
 abbrev pub BeginsWith : List ℕ → List ℕ → List ℕ → Type 0
 BeginsWith text line rest = lines_of text ≡ line ∷ lines_of rest
 
-step : (t : Bool) (b : ℕ) (bs : List ℕ) → (b == 10) ≡ t → (until bs < length bs → BeginsWith bs (take (until bs) bs) (drop (suc (until bs)) bs)) → cond (not t) (1 + until bs) 0 < length (b ∷ bs) → BeginsWith (b ∷ bs) (take (cond (not t) (1 + until bs) 0) (b ∷ bs)) (drop (suc (cond (not t) (1 + until bs) 0)) (b ∷ bs))
+step : (t : Bool) (b : ℕ) (bs : List ℕ) → (b == 10) ≡ t
+    → (until bs < length bs → BeginsWith bs (take (until bs) bs) (drop (suc (until bs)) bs))
+    → cond (not t) (1 + until bs) 0 < length (b ∷ bs)
+    → BeginsWith (b ∷ bs) (take (cond (not t) (1 + until bs) 0) (b ∷ bs)) (drop (suc (cond (not t) (1 + until bs) 0)) (b ∷ bs))
 step true b bs is rest fits = rw (lines_of-cons b bs, is) refl
 step false b bs is rest fits = rw (one_more (until bs)) (lines_of-cons b bs ∙ rw (is, rest (omega arith)) refl)
 
@@ -33,7 +36,8 @@ pub first_line : (text : List ℕ) → until text < length text → BeginsWith t
 first_line [] fits = absurd (omega arith)
 first_line (b ∷ bs) fits = step (b == 10) b bs refl (first_line bs) fits
 
-only : (t : Bool) (b : ℕ) (bs : List ℕ) → (b == 10) ≡ t → (until bs ≡ length bs → 0 < length bs → lines_of bs ≡ bs ∷ []) → cond (not t) (1 + until bs) 0 ≡ length (b ∷ bs) → lines_of (b ∷ bs) ≡ (b ∷ bs) ∷ []
+only : (t : Bool) (b : ℕ) (bs : List ℕ) → (b == 10) ≡ t → (until bs ≡ length bs → 0 < length bs → lines_of bs ≡ bs ∷ [])
+    → cond (not t) (1 + until bs) 0 ≡ length (b ∷ bs) → lines_of (b ∷ bs) ≡ (b ∷ bs) ∷ []
 only true b bs is rest all = absurd (omega arith)
 only false b [] is rest all = rw (lines_of-cons b [], is, lines_of-nil) refl
 only false b (d ∷ ds) is rest all = rw (lines_of-cons b (d ∷ ds), is, rest (omega arith) (omega arith)) refl
@@ -48,7 +52,8 @@ Counts text n = n ≡ length (take_while (λ b. not (b == 10)) text)
 counted : (text : List ℕ) (n : ℕ) → Counts text n → n ≡ until text
 counted text n e = e ∙ length-prefix_len (λ b. not (b == 10)) text
 
-pub cut_line : (text line rest more : List ℕ) (n : ℕ) → Counts text n → line ≡ take n text → rest ≡ drop n text → more ≡ drop 1 rest → 0 < length rest → BeginsWith text line more
+pub cut_line : (text line rest more : List ℕ) (n : ℕ) → Counts text n → line ≡ take n text → rest ≡ drop n text → more ≡ drop 1 rest
+    → 0 < length rest → BeginsWith text line more
 cut_line text line rest more n count is_line is_rest is_more some =
     let left : length rest ≡ length text - n = rw is_rest (length-drop n text) in
     let same : n ≡ until text = counted text n count in
@@ -60,7 +65,8 @@ empty_lines : (rest : List ℕ) → length rest ≡ 0 → lines_of rest ≡ []
 empty_lines [] none = lines_of-nil
 empty_lines (b ∷ bs) none = absurd (omega arith)
 
-pub cut_last : (text line rest : List ℕ) (n : ℕ) → Counts text n → n ≤ length text → line ≡ take n text → rest ≡ drop n text → length rest ≡ 0 → 0 < length text → BeginsWith text line rest
+pub cut_last : (text line rest : List ℕ) (n : ℕ) → Counts text n → n ≤ length text → line ≡ take n text → rest ≡ drop n text
+    → length rest ≡ 0 → 0 < length text → BeginsWith text line rest
 cut_last text line rest n count fits is_line is_rest none some =
     let left : length rest ≡ length text - n = rw is_rest (length-drop n text) in
     let all : n ≡ length text = omega (arith, left, none, fits) in
@@ -74,5 +80,6 @@ pub begins : (text : List ℕ) → sections_after 1 (record { done = []; current
 unfolding sections_of
 begins text = refl
 
-pub ends : (number : ℕ) (draft : Draft) (rest : List ℕ) → length rest ≡ 0 → sections_after number draft (lines_of rest) ≡ Ok (closed draft).done
+pub ends : (number : ℕ) (draft : Draft) (rest : List ℕ) → length rest ≡ 0
+    → sections_after number draft (lines_of rest) ≡ Ok (closed draft).done
 ends number draft rest none = rw (empty_lines rest none) refl

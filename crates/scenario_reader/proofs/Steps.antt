@@ -31,7 +31,8 @@ pub unquoted_at : (mode : Mode) (text : List ℕ × List ℕ) (line : List ℕ) 
 unquoted_at mode text line i b lt is = rw (drop_more line i 0 lt, ← is) refl
 
 pub number_at : (value : ℕ) (digits : List ℕ) (i : ℕ) (b : ℕ) → i < length digits → b ≡ get_or digits i 0
-    → number_from value (drop i digits) ≡ cond (is_ascii_digit b && nat_lt value 100000000) (number_from (value * 10 + (b - 48)) (drop (i + 1) digits)) None
+    → number_from value (drop i digits) ≡ cond (is_ascii_digit b && nat_lt value 100000000)
+    (number_from (value * 10 + (b - 48)) (drop (i + 1) digits)) None
 number_at value digits i b lt is = rw (drop_more digits i 0 lt, ← is) refl
 
 pub find_at : (kind : Kind) (entries : List Entry) (i : ℕ) (entry : Entry) → i < length entries → entry ≡ get_or entries i entry
@@ -39,10 +40,12 @@ pub find_at : (kind : Kind) (entries : List Entry) (i : ℕ) (entry : Entry) →
 find_at kind entries i entry lt is = rw (left_at entries i entry lt is) refl
 
 pub files_at : (kind : Kind) (entries : List Entry) (i : ℕ) (entry : Entry) → i < length entries → entry ≡ get_or entries i entry
-    → files_of kind (drop i entries) ≡ cond (is_kind entry.kind kind) ((entry.path, content_of entry) ∷ files_of kind (drop (i + 1) entries)) (files_of kind (drop (i + 1) entries))
+    → files_of kind (drop i entries) ≡ cond (is_kind entry.kind kind)
+    ((entry.path, content_of entry) ∷ files_of kind (drop (i + 1) entries)) (files_of kind (drop (i + 1) entries))
 files_at kind entries i entry lt is = rw (left_at entries i entry lt is) refl
 
-pub each_at : {A : Type 0} (at : ℕ × List ℕ → Result A Fault) (items : List (ℕ × List ℕ)) (i : ℕ) (item : ℕ × List ℕ) → i < length items → item ≡ get_or items i item
+pub each_at : {A : Type 0} (at : ℕ × List ℕ → Result A Fault) (items : List (ℕ × List ℕ)) (i : ℕ) (item : ℕ × List ℕ) → i < length items
+    → item ≡ get_or items i item
     → each at (drop i items) ≡ and_then (λ a. and_then (λ more. Ok (a ∷ more)) (each at (drop (i + 1) items))) (at item)
 each_at at items i item lt is = rw (left_at items i item lt is) refl
 

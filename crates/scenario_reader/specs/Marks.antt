@@ -18,7 +18,8 @@ has_front front line = nat_le (length front) (length line) && bytes_eq (take (le
 
 -- a line has this front, and ` --` at its end
 abbrev pub is_framed : List ℕ → List ℕ → Bool
-is_framed front line = nat_le (length front + 3) (length line) && (bytes_eq (take (length front) line) front && bytes_eq (drop (length line - 3) line) end)
+is_framed front line = nat_le (length front + 3) (length line)
+    && (bytes_eq (take (length front) line) front && bytes_eq (drop (length line - 3) line) end)
 
 -- what stands between these two
 abbrev pub between : List ℕ → List ℕ → List ℕ

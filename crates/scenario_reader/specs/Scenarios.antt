@@ -95,7 +95,8 @@ said_of None = []
 -- the files of the sections of that kind, in their order
 abbrev pub files_of : Kind → List Entry → List (List ℕ × List ℕ)
 files_of kind [] = []
-files_of kind (entry ∷ entries) = if is_kind entry.kind kind then (entry.path, content_of entry) ∷ files_of kind entries else files_of kind entries
+files_of kind (entry ∷ entries) = if is_kind entry.kind kind then (entry.path, content_of entry)
+    ∷ files_of kind entries else files_of kind entries
 
 -- ---- the whole
 

@@ -30,7 +30,8 @@ struct Quote {
 
 /// Does what a byte says.
 fn act(quote: &mut Quote, act: Act) -> Result<(), AllocError>
-    ensures { OnOk result ((quote.new.made.items, quote.new.part.items) ≡ acted act (quote.old.made.items, quote.old.part.items)) }
+    ensures { OnOk result ((quote.new.made.items, quote.new.part.items)
+        ≡ acted act (quote.old.made.items, quote.old.part.items)) }
 {
     match act {
         Act::Nothing => Ok(()),
@@ -46,7 +47,9 @@ fn act(quote: &mut Quote, act: Act) -> Result<(), AllocError>
 /// Reads a line into nothing, and answers how often its last part counts.
 #[tactic(auto, using(crate::proofs::Steps::unquoted_at))]
 fn read_parts(line: &[u8], quote: &mut Quote) -> Result<Option<u64>, AllocError>
-    ensures { IfOk result (λ times. option_map (λ n. quote.new.made.items ++ repeat n quote.new.part.items) times ≡ unquoted Mode.Start (quote.old.made.items, quote.old.part.items) line.now) }
+    ensures { IfOk result (λ times. option_map
+        (λ n. quote.new.made.items ++ repeat n quote.new.part.items) times ≡ unquoted Mode.Start
+        (quote.old.made.items, quote.old.part.items) line.now) }
 {
     let mut mode = Mode::Start;
     for b in line {

@@ -31,12 +31,14 @@ pub each_none : {T : Type 0} (tells : List ℕ → Data → Told T) (whole : Lis
 each_none tells whole = record { to = λ out h. let P : Outcome (List _) → Type 0 = AreEach tells whole in subst P (sym (after_none out)) h }
 
 -- one value more
-each_cons : {T : Type 0} (tells : List ℕ → Data → Told T) (key : List ℕ) (d : Data) (rest : List (List ℕ × Data)) (x : T) (out : Outcome (List T))
+each_cons : {T : Type 0} (tells : List ℕ → Data → Told T) (key : List ℕ) (d : Data) (rest : List (List ℕ × Data)) (x : T)
+    (out : Outcome (List T))
     → Below key (tells key d) (Ok x) → AreEach tells rest out → AreEach tells ((key, d) ∷ rest) (after (x ∷ []) out)
 each_cons tells key d rest x (Ok xs) below h = record { step = Ok x; told = below; goes = record { step = Ok xs; told = h; goes = refl } }
 each_cons tells key d rest x (Err m) below h = record { step = Ok x; told = below; goes = record { step = Err m; told = h; goes = refl } }
 
-pub each_more : {T : Type 0} (tells : List ℕ → Data → Told T) (whole : List (List ℕ × Data)) (key : List ℕ) (d : Data) (rest : List (List ℕ × Data)) (read new : List T) (x : T)
+pub each_more : {T : Type 0} (tells : List ℕ → Data → Told T) (whole : List (List ℕ × Data)) (key : List ℕ) (d : Data)
+    (rest : List (List ℕ × Data)) (read new : List T) (x : T)
     → Continues tells whole ((key, d) ∷ rest) read → Below key (tells key d) (Ok x) → new ≡ read ++ x ∷ [] → Continues tells whole rest new
 each_more tells whole key d rest read new x was below is = record {
   to = λ out h.
@@ -44,13 +46,17 @@ each_more tells whole key d rest read new x was below is = record {
       rw is (subst P (after_more read x out) (was.to (after (x ∷ []) out) (each_cons tells key d rest x out below h)));
 }
 
-pub each_stop : {T : Type 0} (tells : List ℕ → Data → Told T) (whole : List (List ℕ × Data)) (key : List ℕ) (d : Data) (rest : List (List ℕ × Data)) (read : List T) (s : Stop)
-    → Continues tells whole ((key, d) ∷ rest) read → Tells {T = T} (Err s) (Below key (tells key d)) → Tells {T = List T} (Err s) (AreEach tells whole)
+pub each_stop : {T : Type 0} (tells : List ℕ → Data → Told T) (whole : List (List ℕ × Data)) (key : List ℕ) (d : Data)
+    (rest : List (List ℕ × Data)) (read : List T) (s : Stop)
+    → Continues tells whole ((key, d) ∷ rest) read → Tells {T = T} (Err s) (Below key (tells key d))
+    → Tells {T = List T} (Err s) (AreEach tells whole)
 each_stop tells whole key d rest read (stop.Misread m) was below = was.to (Err m) (record { step = Err m; told = below; goes = refl })
 each_stop tells whole key d rest read stop.OutOfMemory was below = tt
 
-pub each_end : {T : Type 0} (tells : List ℕ → Data → Told T) (whole : List (List ℕ × Data)) (read : List T) → Continues tells whole [] read → AreEach tells whole (Ok read)
-each_end tells whole read was = let P : List _ → Type 0 = λ xs. AreEach tells whole (Ok xs) in subst P (append-nil read) (was.to (Ok []) refl)
+pub each_end : {T : Type 0} (tells : List ℕ → Data → Told T) (whole : List (List ℕ × Data)) (read : List T) → Continues tells whole [] read
+    → AreEach tells whole (Ok read)
+each_end tells whole read was = let P : List _ → Type 0 = λ xs. AreEach tells whole (Ok xs) in
+    subst P (append-nil read) (was.to (Ok []) refl)
 
 -- ---- where a loop goes over the members of an object, whose keys come as words
 
@@ -58,21 +64,26 @@ each_end tells whole read was = let P : List _ → Type 0 = λ xs. AreEach tells
 abbrev pub Before : {T : Type 0} (tells : List ℕ → Data → Told T) (whole : List (List ℕ × Data)) (ms : Members) (read : List T) → Type 0
 Before tells whole ms read = Continues tells whole (members_of ms) read
 
-pub member_more : {T : Type 0} (tells : List ℕ → Data → Told T) (whole : List (List ℕ × Data)) (key word : List ℕ) (d : Data) (now rest : Members) (read new : List T) (x : T)
-    → Before tells whole now read → now ≡ member key d rest → word ≡ key → Below word (tells word d) (Ok x) → new ≡ read ++ x ∷ [] → Before tells whole rest new
+pub member_more : {T : Type 0} (tells : List ℕ → Data → Told T) (whole : List (List ℕ × Data)) (key word : List ℕ) (d : Data)
+    (now rest : Members) (read new : List T) (x : T)
+    → Before tells whole now read → now ≡ member key d rest → word ≡ key → Below word (tells word d) (Ok x) → new ≡ read ++ x ∷ []
+    → Before tells whole rest new
 member_more tells whole key word d now rest read new x was is same below more =
     let P : Members → Type 0 = λ ms. Before tells whole ms read in
     let Q : List ℕ → Type 0 = λ k. Before tells whole (member k d rest) read in
     each_more tells whole word d (members_of rest) read new x (subst Q (sym same) (subst P is was)) below more
 
-pub member_stop : {T : Type 0} (tells : List ℕ → Data → Told T) (whole : List (List ℕ × Data)) (key word : List ℕ) (d : Data) (now rest : Members) (read : List T) (s : Stop)
-    → Before tells whole now read → now ≡ member key d rest → word ≡ key → Tells {T = T} (Err s) (Below word (tells word d)) → Tells {T = List T} (Err s) (AreEach tells whole)
+pub member_stop : {T : Type 0} (tells : List ℕ → Data → Told T) (whole : List (List ℕ × Data)) (key word : List ℕ) (d : Data)
+    (now rest : Members) (read : List T) (s : Stop)
+    → Before tells whole now read → now ≡ member key d rest → word ≡ key → Tells {T = T} (Err s) (Below word (tells word d))
+    → Tells {T = List T} (Err s) (AreEach tells whole)
 member_stop tells whole key word d now rest read s was is same below =
     let P : Members → Type 0 = λ ms. Before tells whole ms read in
     let Q : List ℕ → Type 0 = λ k. Before tells whole (member k d rest) read in
     each_stop tells whole word d (members_of rest) read s (subst Q (sym same) (subst P is was)) below
 
-pub member_end : {T : Type 0} (tells : List ℕ → Data → Told T) (whole : List (List ℕ × Data)) (now : Members) (read : List T) → Before tells whole now read → now ≡ no_members → AreEach tells whole (Ok read)
+pub member_end : {T : Type 0} (tells : List ℕ → Data → Told T) (whole : List (List ℕ × Data)) (now : Members) (read : List T)
+    → Before tells whole now read → now ≡ no_members → AreEach tells whole (Ok read)
 member_end tells whole now read was is =
     let P : Members → Type 0 = λ ms. Before tells whole ms read in
     each_end tells whole read (subst P is was)

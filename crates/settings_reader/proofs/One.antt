@@ -29,7 +29,8 @@ done_one x a b h k = h ∙ sym k
 pub below_one : {T : Type 0} (key : List ℕ) (told : Told T) → IsOne told → IsOne (Below key told)
 below_one key told one a b h k = h.is ∙ ap (raised key) (one h.inner k.inner h.right k.right) ∙ sym k.is
 
-goes_one : {A B : Type 0} (step : Outcome A) (next : A → Told B) → ((x : A) → IsOne (next x)) → (a b : Outcome B) → Goes step next a → Goes step next b → a ≡ b
+goes_one : {A B : Type 0} (step : Outcome A) (next : A → Told B) → ((x : A) → IsOne (next x)) → (a b : Outcome B) → Goes step next a
+    → Goes step next b → a ≡ b
 goes_one (Ok x) next one a b h k = one x a b h k
 goes_one (Err m) next one a b h k = h ∙ sym k
 
@@ -40,12 +41,15 @@ then_one first next first_one next_one a b h k =
 
 -- ---- lists
 
-pub each_one : {T : Type 0} (tells : List ℕ → Data → Told T) → ((key : List ℕ) (d : Data) → IsOne (tells key d)) → (vs : List (List ℕ × Data)) → IsOne (AreEach tells vs)
+pub each_one : {T : Type 0} (tells : List ℕ → Data → Told T) → ((key : List ℕ) (d : Data) → IsOne (tells key d))
+    → (vs : List (List ℕ × Data)) → IsOne (AreEach tells vs)
 each_one tells one [] = done_one []
 each_one tells one (v ∷ vs) =
-    then_one (Below v.0 (tells v.0 v.1)) _ (below_one v.0 (tells v.0 v.1) (one v.0 v.1)) (λ x. then_one (AreEach tells vs) _ (each_one tells one vs) (λ xs. done_one (x ∷ xs)))
+    then_one (Below v.0 (tells v.0 v.1)) _ (below_one v.0 (tells v.0 v.1) (one v.0 v.1))
+    (λ x. then_one (AreEach tells vs) _ (each_one tells one vs) (λ xs. done_one (x ∷ xs)))
 
-pub optional_one : {T : Type 0} (tells : Data → Told (List T)) → ((d : Data) → IsOne (tells d)) → (found : Option Data) → IsOne (IsOptional tells found)
+pub optional_one : {T : Type 0} (tells : Data → Told (List T)) → ((d : Data) → IsOne (tells d)) → (found : Option Data)
+    → IsOne (IsOptional tells found)
 optional_one tells one None = done_one []
 optional_one tells one (Some d) = one d
 
@@ -66,8 +70,10 @@ set_in_one laws (Some text) a b h k = set_one laws text a b h k
 
 pub record ReadsSpecsOnce : Type 0 where
   pub once : (text : List ℕ) (a b : List Spec) → Spells Specs text a → Spells Specs text b → a ≡ b
-  pub one_fault : (text : List ℕ) (a b : SpecFault) → IsFault Specs text a → IsFault Specs text b → a ≢ spec.OutOfMemory → b ≢ spec.OutOfMemory → a ≡ b
-  pub right : (text : List ℕ) (specs : List Spec) (fault : SpecFault) → Spells Specs text specs → IsFault Specs text fault → fault ≡ spec.OutOfMemory
+  pub one_fault : (text : List ℕ) (a b : SpecFault) → IsFault Specs text a → IsFault Specs text b → a ≢ spec.OutOfMemory
+      → b ≢ spec.OutOfMemory → a ≡ b
+  pub right : (text : List ℕ) (specs : List Spec) (fault : SpecFault) → Spells Specs text specs → IsFault Specs text fault
+      → fault ≡ spec.OutOfMemory
 
 read_one : ReadsSpecsOnce → (text : List ℕ) (a b : Result (List Spec) SpecFault) → IsReadAs text a → IsReadAs text b → a ≡ b
 read_one laws text (Ok a) (Ok b) h k = ap Ok (laws.once text a b h k)

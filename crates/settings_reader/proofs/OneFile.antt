@@ -15,7 +15,7 @@ use Rattle.settings_reader.specs.Versions.{IsVersionSet}
 use Rattle.settings_reader.specs.Externals as external_spec
 use Rattle.settings_reader.specs.Externals.{IsDescribed, IsExternal}
 use Rattle.settings_reader.specs.Packages as package_spec
-use Rattle.settings_reader.specs.Packages.{AreEntries, ArePackages, ArePackagesAt, IsPackage}
+use Rattle.settings_reader.specs.Packages.{ArePackages, ArePackagesAt, IsPackage}
 use Rattle.settings_reader.specs.Order.{head_of, tail_of}
 use Rattle.settings_reader.specs.Settings as settings
 use Rattle.settings_reader.specs.Settings.{IsSettings, IsTable}
@@ -26,27 +26,35 @@ use Rattle.settings_reader.specs.declared.fault.SettingsFault.TheVariants as fau
 use Rattle.settings_reader.proofs.One.{IsOne, ReadsSetsOnce, ReadsSpecsOnce, said_one, done_one, below_one, then_one, each_one, optional_one, set_in_one, described_one}
 
 list_one : {T : Type 0} (tells : Data → Told T) → ((d : Data) → IsOne (tells d)) → (d : Data) → IsOne (IsList tells d)
-list_one tells one d = then_one (said (given (as_array d))) _ (said_one (given (as_array d))) (λ ds. each_one (λ key. tells) (λ key. one) (items_at 0 ds))
+list_one tells one d = then_one (said (given (as_array d))) _ (said_one (given (as_array d)))
+    (λ ds. each_one (λ key. tells) (λ key. one) (items_at 0 ds))
 
-list_at_one : {T : Type 0} (tells : Data → Told T) → ((d : Data) → IsOne (tells d)) → (key : List ℕ) (ms : Members) → IsOne (IsListAt tells key ms)
-list_at_one tells one key ms = below_one key (IsOptional (IsList tells) (get_member key ms)) (optional_one (IsList tells) (list_one tells one) (get_member key ms))
+list_at_one : {T : Type 0} (tells : Data → Told T) → ((d : Data) → IsOne (tells d)) → (key : List ℕ) (ms : Members)
+    → IsOne (IsListAt tells key ms)
+list_at_one tells one key ms = below_one key (IsOptional (IsList tells) (get_member key ms))
+    (optional_one (IsList tells) (list_one tells one) (get_member key ms))
 
 external_one : ReadsSpecsOnce → (name platform : List ℕ) (d : Data) → IsOne (IsExternal name platform d)
 external_one laws name platform d =
     then_one (said (known external_spec.keys d)) _ (said_one (known external_spec.keys d)) (λ ms.
     then_one (said (need (text_of Some) (codes "spec") ms)) _ (said_one (need (text_of Some) (codes "spec") ms)) (λ text.
-    then_one (Below (codes "spec") (IsDescribed name platform text)) _ (below_one (codes "spec") (IsDescribed name platform text) (described_one laws name platform text)) (λ d.
-    then_one (said (need (text_of Some) (codes "prefix") ms)) _ (said_one (need (text_of Some) (codes "prefix") ms)) (λ prefix. done_one _))))
+    then_one (Below (codes "spec") (IsDescribed name platform text)) _
+    (below_one (codes "spec") (IsDescribed name platform text) (described_one laws name platform text)) (λ d.
+    then_one (said (need (text_of Some) (codes "prefix") ms)) _ (said_one (need (text_of Some) (codes "prefix") ms))
+    (λ prefix. done_one _))))
 
 package_one : ReadsSetsOnce → ReadsSpecsOnce → (name platform : List ℕ) (d : Data) → IsOne (IsPackage name platform d)
 package_one sets specs name platform d =
     then_one (said (known package_spec.keys d)) _ (said_one (known package_spec.keys d)) (λ ms.
-    then_one (IsListAt IsVersionSet (codes "versions") ms) _ (list_at_one IsVersionSet (λ v. set_in_one sets (as_str v)) (codes "versions") ms) (λ versions.
+    then_one (IsListAt IsVersionSet (codes "versions") ms) _
+    (list_at_one IsVersionSet (λ v. set_in_one sets (as_str v)) (codes "versions") ms) (λ versions.
     then_one (said (may truth_value (codes "buildable") ms)) _ (said_one (may truth_value (codes "buildable") ms)) (λ buildable.
-    then_one (IsListAt (IsExternal name platform) (codes "externals") ms) _ (list_at_one (IsExternal name platform) (external_one specs name platform) (codes "externals") ms) (λ externals. done_one _))))
+    then_one (IsListAt (IsExternal name platform) (codes "externals") ms) _
+    (list_at_one (IsExternal name platform) (external_one specs name platform) (codes "externals") ms) (λ externals. done_one _))))
 
 packages_one : ReadsSetsOnce → ReadsSpecsOnce → (platform : List ℕ) (d : Data) → IsOne (ArePackages platform d)
-packages_one sets specs platform d = then_one (said (named name_meaning d)) _ (said_one (named name_meaning d)) (λ ms. each_one _ (λ name. package_one sets specs name platform) (members_of ms))
+packages_one sets specs platform d = then_one (said (named name_meaning d)) _ (said_one (named name_meaning d))
+    (λ ms. each_one _ (λ name. package_one sets specs name platform) (members_of ms))
 
 pub settings_one : ReadsSetsOnce → ReadsSpecsOnce → (d : Data) → IsOne (IsSettings d)
 settings_one sets specs d =
@@ -54,7 +62,9 @@ settings_one sets specs d =
     then_one (said (head_of ms)) _ (said_one (head_of ms)) (λ head.
     then_one (IsTable head.targets) _ (λ a b h k. h ∙ sym k) (λ targets.
     then_one (said (tail_of ms)) _ (said_one (tail_of ms)) (λ tail.
-    then_one (ArePackagesAt head.platform ms) _ (below_one (codes "packages") _ (optional_one (ArePackages head.platform) (packages_one sets specs head.platform) (get_member (codes "packages") ms))) (λ packages. done_one _)))))
+    then_one (ArePackagesAt head.platform ms) _
+    (below_one (codes "packages") _ (optional_one (ArePackages head.platform) (packages_one sets specs head.platform)
+    (get_member (codes "packages") ms))) (λ packages. done_one _)))))
 
 -- ---- files
 
@@ -78,9 +88,11 @@ file_one sets specs bytes a b h k = ap (ok_or a) (same_one sets specs h.0 k.0 (O
 
 first_one : ReadsSetsOnce → ReadsSpecsOnce → (d e : Data) (f g : SettingsFault) → d ≡ e → IsFirstFault d f → IsFirstFault e g → f ≡ g
 first_one sets specs d e f g is h k =
-    h.is ∙ ap (λ m. with_pointer m.what m.at) (ap (err_or h.misread) (same_one sets specs d e (Err h.misread) (Err k.misread) is h.first k.first)) ∙ sym k.is
+    h.is ∙ ap (λ m. with_pointer m.what m.at) (ap (err_or h.misread)
+    (same_one sets specs d e (Err h.misread) (Err k.misread) is h.first k.first)) ∙ sym k.is
 
-pub fault_one : ReadsSetsOnce → ReadsSpecsOnce → (bytes : List ℕ) (f g : SettingsFault) → IsFileFault bytes f → IsFileFault bytes g → f ≢ fault.OutOfMemory → g ≢ fault.OutOfMemory → f ≡ g
+pub fault_one : ReadsSetsOnce → ReadsSpecsOnce → (bytes : List ℕ) (f g : SettingsFault) → IsFileFault bytes f → IsFileFault bytes g
+    → f ≢ fault.OutOfMemory → g ≢ fault.OutOfMemory → f ≡ g
 fault_one sets specs bytes f g (inl h) k nf ng = absurd (nf h)
 fault_one sets specs bytes f g (inr h) (inl k) nf ng = absurd (ng k)
 fault_one sets specs bytes f g (inr (inl h)) (inr (inl k)) nf ng = h.0 ∙ sym k.0
@@ -91,8 +103,10 @@ fault_one sets specs bytes f g (inr (inr h)) (inr (inr k)) nf ng = first_one set
 ok_is_not_err : {T E : Type 0} (x : T) (e : E) → Ok x ≡ Err e → ⊥
 ok_is_not_err x e h = cc
 
-pub right_one : ReadsSetsOnce → ReadsSpecsOnce → (bytes : List ℕ) (settings : Settings) (f : SettingsFault) → IsOfFile bytes settings → IsFileFault bytes f → f ≡ fault.OutOfMemory
+pub right_one : ReadsSetsOnce → ReadsSpecsOnce → (bytes : List ℕ) (settings : Settings) (f : SettingsFault) → IsOfFile bytes settings
+    → IsFileFault bytes f → f ≡ fault.OutOfMemory
 right_one sets specs bytes settings f h (inl k) = k
 right_one sets specs bytes settings f h (inr (inl k)) = absurd (k.1 h.0 h.1)
 right_one sets specs bytes settings f h (inr (inr k)) =
-    absurd (ok_is_not_err settings k.2.misread (same_one sets specs h.0 k.0 (Ok settings) (Err k.2.misread) (json_one bytes h.0 k.0 h.1 k.1) h.2 k.2.first))
+    absurd (ok_is_not_err settings k.2.misread
+    (same_one sets specs h.0 k.0 (Ok settings) (Err k.2.misread) (json_one bytes h.0 k.0 h.1 k.1) h.2 k.2.first))

@@ -58,7 +58,8 @@ is_nothing (part ∷ parts) = false
 
 -- a spec of this name and platform, without `^`
 abbrev pub is_alone : List ℕ → List ℕ → Spec → Bool
-is_alone name platform spec = is_nothing spec.below && is_word spec.top.name name && (is_none spec.top.platform || is_word spec.top.platform platform)
+is_alone name platform spec = is_nothing spec.below && is_word spec.top.name name
+    && (is_none spec.top.platform || is_word spec.top.platform platform)
 
 -- what the one spec says
 abbrev pub only_described : List ℕ → List ℕ → List Spec → Option Described
@@ -90,7 +91,15 @@ pub record IsDescribed (name platform text : List ℕ) (out : Outcome Described)
 -- ---- an entry
 
 abbrev pub with_prefix : Described → List ℕ → ExternalEntry
-with_prefix d prefix = record { version = d.version; variants = d.variants; compiler = d.compiler; os = d.os; target = d.target; prefix = prefix }
+with_prefix d prefix = record {
+  version = d.version;
+  variants = d.variants;
+  compiler = d.compiler;
+  os = d.os;
+  target =
+      d.target;
+  prefix = prefix;
+}
 
 abbrev pub keys : List (List ℕ)
 keys = codes "prefix" ∷ codes "spec" ∷ []

@@ -12,7 +12,8 @@ use Rattle.settings_reader.specs.declared.stop.What.TheVariants.{Targets}
 use Rattle.site_settings.specs.declared.settings.Settings.{Settings}
 
 abbrev pub keys : List (List ℕ)
-keys = codes "compilers" ∷ codes "conflict_budget" ∷ codes "os" ∷ codes "packages" ∷ codes "platform" ∷ codes "providers" ∷ codes "targets" ∷ []
+keys = codes "compilers" ∷ codes "conflict_budget" ∷ codes "os" ∷ codes "packages" ∷ codes "platform" ∷ codes "providers"
+    ∷ codes "targets" ∷ []
 
 -- the targets, or their fault, which has no pointer
 abbrev pub table_or : List TargetEntry → Option TargetFault → Outcome (List TargetEntry)
@@ -30,4 +31,13 @@ IsSettings d = do
   targets ← IsTable head.targets
   tail ← said (tail_of ms)
   packages ← ArePackagesAt head.platform ms
-  done (record { platform = head.platform; conflict_budget = head.conflict_budget; os = head.os; targets = targets; compilers = tail.compilers; providers = tail.providers; packages = packages })
+  done (record {
+    platform = head.platform;
+    conflict_budget = head.conflict_budget;
+    os = head.os;
+    targets = targets;
+    compilers =
+        tail.compilers;
+    providers = tail.providers;
+    packages = packages;
+  })

@@ -15,10 +15,13 @@ use version_order::set_reading_laws;
 /// A file says one thing at most: one settings, or one fault besides want of memory. A file of settings is
 /// refused for want of memory alone.
 pub fn settings_laws()
-    ensures one_reading { (bytes : List ℕ) (a b : Settings) → IsOfFile bytes a → IsOfFile bytes b → a ≡ b }
-    ensures one_fault { (bytes : List ℕ) (f g : SettingsFault) → IsFileFault bytes f → IsFileFault bytes g
+    ensures one_reading { (bytes : List ℕ) (a b : Settings) → IsOfFile bytes a
+        → IsOfFile bytes b → a ≡ b }
+    ensures one_fault { (bytes : List ℕ) (f g : SettingsFault) → IsFileFault bytes f
+        → IsFileFault bytes g
         → f ≢ SettingsFault.OutOfMemory → g ≢ SettingsFault.OutOfMemory → f ≡ g }
-    ensures right { (bytes : List ℕ) (settings : Settings) (f : SettingsFault) → IsOfFile bytes settings
+    ensures right { (bytes : List ℕ) (settings : Settings) (f : SettingsFault)
+        → IsOfFile bytes settings
         → IsFileFault bytes f → f ≡ SettingsFault.OutOfMemory }
 {
     set_reading_laws();
@@ -33,7 +36,8 @@ pub fn worked_settings()
     ensures empty { IsFirstFault (object (member (codes "os") (array no_items) no_members))
         (SettingsFault.Empty (codes "/os")) }
     // {"color":1}
-    ensures unknown { IsFirstFault (object (member (codes "color") (number (unsigned 1)) no_members))
+    ensures unknown { IsFirstFault
+        (object (member (codes "color") (number (unsigned 1)) no_members))
         (SettingsFault.UnknownKey (codes "/color")) }
     // {"targets":[{"name":"a","parents":["a"]}]}
     ensures cyclic { IsFirstFault

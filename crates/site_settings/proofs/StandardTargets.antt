@@ -15,6 +15,7 @@ none_is_some : (found : Option TargetFault) (fault : TargetFault) → found ≡ 
 none_is_some found fault h k = cc
 
 -- so only want of memory is left
-pub only_memory : (entries : List TargetEntry) (fault : TargetFault) → entries ≡ targets → (fault ≡ OutOfMemory) ⊎ (fault_of entries ≡ Some fault) → fault ≡ OutOfMemory
+pub only_memory : (entries : List TargetEntry) (fault : TargetFault) → entries ≡ targets → (fault ≡ OutOfMemory)
+    ⊎ (fault_of entries ≡ Some fault) → fault ≡ OutOfMemory
 only_memory entries fault is (inl h) = h
 only_memory entries fault is (inr h) = none_is_some (fault_of entries) fault (ap fault_of is ∙ are_right) h

@@ -21,4 +21,13 @@ abbrev pub compilers : List CompilerEntry
 compilers = record { compiler = record { name = codes "gcc"; version = codes "12.3.0" }; os = None; targets = None } ∷ []
 
 abbrev pub standard : Settings
-standard = record { platform = platform; conflict_budget = conflict_budget; os = os; targets = targets; compilers = compilers; providers = []; packages = [] }
+standard = record {
+  platform = platform;
+  conflict_budget = conflict_budget;
+  os = os;
+  targets = targets;
+  compilers = compilers;
+  providers =
+      [];
+  packages = [];
+}

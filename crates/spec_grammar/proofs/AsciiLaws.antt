@@ -56,11 +56,13 @@ end_ascii (Some w) h = version_ascii w h
 range_ascii : (item : VersionItem) → IsRange item → IsAscii (spell_range item)
 range_ascii (range.Exact w) h = IsAscii-cons 61 w (omega arith) (version_ascii w h)
 range_ascii (range.Prefix w) h = version_ascii w h
-range_ascii (range.Range low high) h = IsAscii-append (written low) (58 ∷ written high) (end_ascii low h.0) (IsAscii-cons 58 (written high) (omega arith) (end_ascii high h.1))
+range_ascii (range.Range low high) h = IsAscii-append (written low) (58 ∷ written high) (end_ascii low h.0)
+    (IsAscii-cons 58 (written high) (omega arith) (end_ascii high h.1))
 
 ranges_ascii : (items : List VersionItem) → AllByRecursion IsRange items → IsAscii (spell_ranges items)
 ranges_ascii [] h = IsAscii-nil
-ranges_ascii (x ∷ items) h = IsAscii-cons 44 _ (omega arith) (IsAscii-append (spell_range x) (spell_ranges items) (range_ascii x h.0) (ranges_ascii items h.1))
+ranges_ascii (x ∷ items) h = IsAscii-cons 44 _ (omega arith)
+    (IsAscii-append (spell_range x) (spell_ranges items) (range_ascii x h.0) (ranges_ascii items h.1))
 
 list_ascii : (items : List VersionItem) → AllByRecursion IsRange items → IsAscii (spelling items)
 list_ascii [] h = IsAscii-nil
@@ -70,7 +72,8 @@ list_ascii (x ∷ items) h = IsAscii-append (spell_range x) (spell_ranges items)
 
 more_ascii : (values : List (List ℕ)) → AllByRecursion IsValue values → IsAscii (spell_more values)
 more_ascii [] h = IsAscii-nil
-more_ascii (v ∷ values) h = IsAscii-cons 44 _ (omega arith) (IsAscii-append v (spell_more values) (bytes_ascii v (value_run v h.0)) (more_ascii values h.1))
+more_ascii (v ∷ values) h = IsAscii-cons 44 _ (omega arith)
+    (IsAscii-append v (spell_more values) (bytes_ascii v (value_run v h.0)) (more_ascii values h.1))
 
 mark_ascii : (mark : Mark) → mark_byte mark < 128
 mark_ascii Plus = omega arith
@@ -82,9 +85,11 @@ item_ascii (Name w) h = name_ascii w h
 item_ascii (Versions items) h = IsAscii-cons 64 _ (omega arith) (list_ascii items h.each)
 item_ascii (Variant mark w) h = IsAscii-cons (mark_byte mark) w (mark_ascii mark) (name_ascii w h)
 item_ascii (Compiler w None) h = IsAscii-cons 37 _ (omega arith) (IsAscii-append w [] (name_ascii w h.0) IsAscii-nil)
-item_ascii (Compiler w (Some items)) h = IsAscii-cons 37 _ (omega arith) (IsAscii-append w _ (name_ascii w h.0) (IsAscii-cons 64 _ (omega arith) (list_ascii items h.1.each)))
+item_ascii (Compiler w (Some items)) h = IsAscii-cons 37 _ (omega arith)
+    (IsAscii-append w _ (name_ascii w h.0) (IsAscii-cons 64 _ (omega arith) (list_ascii items h.1.each)))
 item_ascii (Key w []) h = absurd h.1
-item_ascii (Key w (v ∷ values)) h = IsAscii-append w _ (name_ascii w h.0) (IsAscii-cons 61 _ (omega arith) (IsAscii-append v (spell_more values) (bytes_ascii v (value_run v h.1.0)) (more_ascii values h.1.1)))
+item_ascii (Key w (v ∷ values)) h = IsAscii-append w _ (name_ascii w h.0)
+    (IsAscii-cons 61 _ (omega arith) (IsAscii-append v (spell_more values) (bytes_ascii v (value_run v h.1.0)) (more_ascii values h.1.1)))
 item_ascii Caret h = IsAscii-cons 94 [] (omega arith) IsAscii-nil
 
 -- ---- texts
@@ -94,9 +99,12 @@ white_ascii gap h = kind_ascii is_white white_byte gap h
 
 steps_ascii : (mode : Mode) (last : Option Item) (steps : List Step) → AreRight mode last steps → IsAscii (spell_steps steps)
 steps_ascii mode last [] h = IsAscii-nil
-steps_ascii mode last (s ∷ steps) h = IsAscii-append _ (spell_steps steps) (IsAscii-append s.gap (spell s.item) (white_ascii s.gap h.0.white) (item_ascii s.item h.0.form.0)) (steps_ascii mode (Some s.item) steps h.1)
+steps_ascii mode last (s ∷ steps) h = IsAscii-append _ (spell_steps steps)
+    (IsAscii-append s.gap (spell s.item) (white_ascii s.gap h.0.white) (item_ascii s.item h.0.form.0))
+    (steps_ascii mode (Some s.item) steps h.1)
 
 pub right_ascii : (mode : Mode) (text : List ℕ) (specs : List Spec) → Spells mode text specs → IsAscii text
 right_ascii mode text specs spells =
     let cut = spells.is.cut in
-    rw cut.spelled (IsAscii-append (spell_steps spells.read.steps) spells.read.trail (steps_ascii mode None spells.read.steps cut.right) (white_ascii spells.read.trail cut.white))
+    rw cut.spelled (IsAscii-append (spell_steps spells.read.steps) spells.read.trail (steps_ascii mode None spells.read.steps cut.right)
+    (white_ascii spells.read.trail cut.white))

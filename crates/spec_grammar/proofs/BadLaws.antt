@@ -14,23 +14,27 @@ dark_stop : (text : List ℕ) → IsDark text → Stop is_white text
 dark_stop [] h = absurd h
 dark_stop (b ∷ text) h = stop_cons is_white b text h
 
-pub item_cuts : (mode : Mode) (text : List ℕ) (p : ℕ) (read : Read) → IsItemAt mode text p read → Cuts mode None text read.steps read.trail (drop p text)
+pub item_cuts : (mode : Mode) (text : List ℕ) (p : ℕ) (read : Read) → IsItemAt mode text p read
+    → Cuts mode None text read.steps read.trail (drop p text)
 item_cuts mode text p read at = record {
   right = at.before.cut.right;
   white = at.before.cut.white;
-  spelled = sym (take-append-drop p text) ∙ ap (λ (l : List ℕ). l ++ drop p text) at.before.cut.spelled ∙ append_assoc (spell_steps read.steps) read.trail (drop p text);
+  spelled = sym (take-append-drop p text) ∙ ap (λ (l : List ℕ). l ++ drop p text) at.before.cut.spelled
+      ∙ append_assoc (spell_steps read.steps) read.trail (drop p text);
   over = at.over;
   dark = dark_stop (drop p text) at.dark;
 }
 
-pub no_rest : {A : Type 0} {mode : Mode} {steps : List Step} {trail : List ℕ} {others : List Step} → GoesOnWith mode None steps trail [] others → A
+pub no_rest : {A : Type 0} {mode : Mode} {steps : List Step} {trail : List ℕ} {others : List Step}
+    → GoesOnWith mode None steps trail [] others → A
 no_rest g = some_item g.step.item g.tail g.first.form.0 (sym g.first.cut)
 
 pub rest_dark : {A : Type 0} (text : List ℕ) → IsDark text → text ≡ [] → A
 rest_dark [] h e = absurd h
 rest_dark (b ∷ text) h e = cons_none b text e
 
-pub form_cuts : (mode : Mode) (text : List ℕ) (steps : List Step) (trail : List ℕ) → IsCut mode text steps trail → Cuts mode None text steps trail []
+pub form_cuts : (mode : Mode) (text : List ℕ) (steps : List Step) (trail : List ℕ) → IsCut mode text steps trail
+    → Cuts mode None text steps trail []
 form_cuts mode text steps trail cut = record {
   right = cut.right;
   white = cut.white;
@@ -41,11 +45,13 @@ form_cuts mode text steps trail cut = record {
 
 -- no right text has, behind what was read, a rest with no item at its front
 no_form : (mode : Mode) (text : List ℕ) (read : Read) (rest : List ℕ) → Cuts mode None text read.steps read.trail rest → IsDark rest
-    → ((item : Item) (behind : List ℕ) → IsFirst rest item behind → may_stand mode (place_of read) (has_gap read) (kind_of item) ≡ true → ⊥) → HasForm mode text → ⊥
+    → ((item : Item) (behind : List ℕ) → IsFirst rest item behind → may_stand mode (place_of read) (has_gap read) (kind_of item) ≡ true → ⊥)
+    → HasForm mode text → ⊥
 no_form mode text read rest cuts dark none (steps, trail, cut, end) =
     elim (compare mode None text read.steps read.trail rest steps trail [] cuts (form_cuts mode text steps trail cut)) [
       | inl same ↦ rest_dark rest dark same.2
-      | inr (inl g) ↦ none g.step.item g.tail g.first (subst (λ (l : List ℕ). may_stand mode (place_of read) (is_some_gap l) (kind_of g.step.item) ≡ true) g.gap g.right.stands)
+      | inr (inl g) ↦ none g.step.item g.tail g.first
+          (subst (λ (l : List ℕ). may_stand mode (place_of read) (is_some_gap l) (kind_of g.step.item) ≡ true) g.gap g.right.stands)
       | inr (inr g) ↦ no_rest g
     ]
 
@@ -56,13 +62,17 @@ white_bracket b h = grind (arith, nat_tests)
 
 caret_over : (trail : List ℕ) → AreWhite trail → IsOver Caret (trail ++ 97 ∷ [])
 caret_over [] h = λ b more e on. true_false (97 == 91) (ap (λ (c : ℕ). c == 91) (two_cons _ _ _ _ e).0 ∙ on) refl
-caret_over (c ∷ trail) h = λ b more e on. true_false (c == 91) (ap (λ (d : ℕ). d == 91) (two_cons _ _ _ _ e).0 ∙ on) (white_bracket c (and_parts (is_white c) (list_all is_white trail) h).0)
+caret_over (c ∷ trail) h = λ b more e on. true_false (c == 91) (ap (λ (d : ℕ). d == 91) (two_cons _ _ _ _ e).0 ∙ on)
+    (white_bracket c (and_parts (is_white c) (list_all is_white trail) h).0)
 
-whole_form : (mode : Mode) (steps : List Step) (trail : List ℕ) → AreRight mode None steps → AreWhite trail → may_end mode (before_of (last_of None steps)) ≡ true → Begins (HasForm mode) (spell_steps steps ++ trail)
-whole_form mode steps trail are white end = ([], (steps, trail, record { right = are; white = white; spelled = append-nil (spell_steps steps ++ trail) }, end))
+whole_form : (mode : Mode) (steps : List Step) (trail : List ℕ) → AreRight mode None steps → AreWhite trail
+    → may_end mode (before_of (last_of None steps)) ≡ true → Begins (HasForm mode) (spell_steps steps ++ trail)
+whole_form mode steps trail are white end =
+    ([], (steps, trail, record { right = are; white = white; spelled = append-nil (spell_steps steps ++ trail) }, end))
 
 -- with one step more, the text may end
-with_step : (mode : Mode) (steps : List Step) (s : Step) → AreRight mode None steps → IsRightStep mode (last_of None steps) s → may_end mode (before_item s.item) ≡ true → HasForm mode (spell_steps steps ++ spell_step s)
+with_step : (mode : Mode) (steps : List Step) (s : Step) → AreRight mode None steps → IsRightStep mode (last_of None steps) s
+    → may_end mode (before_item s.item) ≡ true → HasForm mode (spell_steps steps ++ spell_step s)
 with_step mode steps s are is end = (
   steps ++ s ∷ [],
   [],
@@ -70,30 +80,47 @@ with_step mode steps s are is end = (
   ap (λ (l : Option Item). may_end mode (before_of l)) (last_append None steps (s ∷ [])) ∙ end,
 )
 
-name_step : (mode : Mode) (steps : List Step) (trail : List ℕ) (last : Option Item) → last_of None steps ≡ last → AreRight mode None steps → AreWhite trail → IsOverLast last (trail ++ 97 ∷ []) → may_stand mode (before_of last) (is_some_gap trail) (kind_of (Name (97 ∷ []))) ≡ true
+name_step : (mode : Mode) (steps : List Step) (trail : List ℕ) (last : Option Item) → last_of None steps ≡ last → AreRight mode None steps
+    → AreWhite trail → IsOverLast last (trail ++ 97 ∷ [])
+    → may_stand mode (before_of last) (is_some_gap trail) (kind_of (Name (97 ∷ []))) ≡ true
     → HasForm mode (spell_steps steps ++ (trail ++ 97 ∷ []))
 name_step mode steps trail last e are white over may =
-    with_step mode steps (record { gap = trail; item = Name (97 ∷ []) }) are (record { white = white; form = (refl, tt); stands = rw e may; over = rw e over }) refl
+    with_step mode steps (record { gap = trail; item = Name (97 ∷ []) }) are
+    (record { white = white; form = (refl, tt); stands = rw e may; over = rw e over }) refl
 
-complete_by : (mode : Mode) (steps : List Step) (trail : List ℕ) (last : Option Item) → last_of None steps ≡ last → AreRight mode None steps → AreWhite trail → Begins (HasForm mode) (spell_steps steps ++ trail)
+complete_by : (mode : Mode) (steps : List Step) (trail : List ℕ) (last : Option Item) → last_of None steps ≡ last → AreRight mode None steps
+    → AreWhite trail → Begins (HasForm mode) (spell_steps steps ++ trail)
 complete_by mode steps trail None e are white = elim (cases_Bool (needs_name mode)) [
-  | inl needs ↦ (97 ∷ [], subst (HasForm mode) (sym (append_assoc (spell_steps steps) trail (97 ∷ []))) (name_step mode steps trail None e are white tt refl))
+  | inl needs ↦ (
+    97 ∷ [],
+    subst (HasForm mode) (sym (append_assoc (spell_steps steps) trail (97 ∷ [])))
+        (name_step mode steps trail None e are white tt refl),
+  )
   | inr not_needed ↦ whole_form mode steps trail are white (ap (λ (l : Option Item). may_end mode (before_of l)) e ∙ rw not_needed refl)
 ]
-complete_by mode steps trail (Some Caret) e are white = (97 ∷ [], subst (HasForm mode) (sym (append_assoc (spell_steps steps) trail (97 ∷ []))) (name_step mode steps trail (Some Caret) e are white (caret_over trail white) refl))
-complete_by mode steps trail (Some item) e are white = whole_form mode steps trail are white (ap (λ (l : Option Item). may_end mode (before_of l)) e)
+complete_by mode steps trail (Some Caret) e are white = (
+  97 ∷ [],
+  subst (HasForm mode) (sym (append_assoc (spell_steps steps) trail (97 ∷ [])))
+      (name_step mode steps trail (Some Caret) e are white (caret_over trail white) refl),
+)
+complete_by mode steps trail (Some item) e are white =
+    whole_form mode steps trail are white (ap (λ (l : Option Item). may_end mode (before_of l)) e)
 
 complete : (mode : Mode) (text : List ℕ) (steps : List Step) (trail : List ℕ) → IsCut mode text steps trail → Begins (HasForm mode) text
-complete mode text steps trail cut = subst (Begins (HasForm mode)) (sym cut.spelled) (complete_by mode steps trail (last_of None steps) refl cut.right cut.white)
+complete mode text steps trail cut = subst (Begins (HasForm mode)) (sym cut.spelled)
+    (complete_by mode steps trail (last_of None steps) refl cut.right cut.white)
 
 -- ---- the same byte
 
-over_byte : (last : Option Item) (trail : List ℕ) (b : ℕ) (r s : List ℕ) → IsOverLast last (trail ++ b ∷ r) → IsOverLast last (trail ++ b ∷ s)
+over_byte : (last : Option Item) (trail : List ℕ) (b : ℕ) (r s : List ℕ) → IsOverLast last (trail ++ b ∷ r)
+    → IsOverLast last (trail ++ b ∷ s)
 over_byte None trail b r s over = tt
 over_byte (Some item) [] b r s over = λ c more e. over c r (ap (λ (x : ℕ). x ∷ r) (two_cons _ _ _ _ e).0)
-over_byte (Some item) (t ∷ trail) b r s over = λ c more e. over c (trail ++ b ∷ r) (ap (λ (x : ℕ). x ∷ (trail ++ b ∷ r)) (two_cons _ _ _ _ e).0)
+over_byte (Some item) (t ∷ trail) b r s over =
+    λ c more e. over c (trail ++ b ∷ r) (ap (λ (x : ℕ). x ∷ (trail ++ b ∷ r)) (two_cons _ _ _ _ e).0)
 
-over_last_byte : (last : Option Item) (trail : List ℕ) (b : ℕ) (a c r s : List ℕ) → a ≡ b ∷ r → c ≡ b ∷ s → IsOverLast last (trail ++ a) → IsOverLast last (trail ++ c)
+over_last_byte : (last : Option Item) (trail : List ℕ) (b : ℕ) (a c r s : List ℕ) → a ≡ b ∷ r → c ≡ b ∷ s → IsOverLast last (trail ++ a)
+    → IsOverLast last (trail ++ c)
 over_last_byte last trail b a c r s e f over = rw f (over_byte last trail b r s (rw e at over))
 
 dark_byte : (b : ℕ) (a c r s : List ℕ) → a ≡ b ∷ r → c ≡ b ∷ s → IsDark a → IsDark c
@@ -103,27 +130,48 @@ dark_cons : (rest : List ℕ) → IsDark rest → (b : ℕ) × (r : List ℕ) ×
 dark_cons [] h = absurd h
 dark_cons (b ∷ r) h = (b, r, refl)
 
-item_begins : (mode : Mode) (text : List ℕ) (p : ℕ) (read : Read) (k : ℕ) → IsItemAt mode text p read → p ≤ length text → IsViable mode (place_of read) (has_gap read) (drop p text) (suc k) → Begins (HasForm mode) (take (p + suc k) text)
+item_begins : (mode : Mode) (text : List ℕ) (p : ℕ) (read : Read) (k : ℕ) → IsItemAt mode text p read → p ≤ length text
+    → IsViable mode (place_of read) (has_gap read) (drop p text) (suc k) → Begins (HasForm mode) (take (p + suc k) text)
 item_begins mode text p read k at le v =
     let d = dark_cons (drop p text) at.dark in
     let spelled : spell v.item ≡ d.0 ∷ (take k d.1 ++ v.tail) = sym v.cut ∙ ap (λ (l : List ℕ). take (suc k) l ++ v.tail) d.2 in
     let step : Step = record { gap = read.trail; item = v.item } in
-    let right : IsRightStep mode (last_item read) step = record { white = at.before.cut.white; form = v.form; stands = v.stands; over = over_last_byte (last_item read) read.trail d.0 (drop p text) (spell v.item) d.1 (take k d.1 ++ v.tail) d.2 spelled at.over } in
+    let right : IsRightStep mode (last_item read) step =
+    record {
+      white = at.before.cut.white;
+      form = v.form;
+      stands = v.stands;
+      over =
+          over_last_byte (last_item read) read.trail d.0 (drop p text) (spell v.item) d.1 (take k d.1 ++ v.tail) d.2 spelled at.over;
+    } in
     let steps = read.steps ++ step ∷ [] in
-    let cut : IsCut mode (spell_steps steps) steps [] = record { right = right_append mode None read.steps (step ∷ []) at.before.cut.right (right, tt); white = refl; spelled = sym (append-nil (spell_steps steps)) } in
+    let cut : IsCut mode (spell_steps steps) steps [] =
+    record {
+      right = right_append mode None read.steps (step ∷ []) at.before.cut.right (right, tt);
+      white = refl;
+      spelled =
+          sym (append-nil (spell_steps steps));
+    } in
     let done = complete mode (spell_steps steps) steps [] cut in
     let text_is : take (p + suc k) text ++ v.tail ≡ spell_steps steps =
     ap (λ (l : List ℕ). l ++ v.tail) (take-add p (suc k) text) ∙ append_assoc (take p text) (take (suc k) (drop p text)) v.tail
-    ∙ ap (λ (l : List ℕ). take p text ++ l) v.cut ∙ ap (λ (l : List ℕ). l ++ spell v.item) at.before.cut.spelled ∙ append_assoc (spell_steps read.steps) read.trail (spell v.item) ∙ sym (spell_one read.steps step) in
-    (v.tail ++ done.0, subst (HasForm mode) (ap (λ (l : List ℕ). l ++ done.0) (sym text_is) ∙ append_assoc (take (p + suc k) text) v.tail done.0) done.1)
+    ∙ ap (λ (l : List ℕ). take p text ++ l) v.cut ∙ ap (λ (l : List ℕ). l ++ spell v.item) at.before.cut.spelled
+    ∙ append_assoc (spell_steps read.steps) read.trail (spell v.item) ∙ sym (spell_one read.steps step) in (
+      v.tail ++ done.0,
+      subst (HasForm mode) (ap (λ (l : List ℕ). l ++ done.0) (sym text_is)
+          ∙ append_assoc (take (p + suc k) text) v.tail done.0) done.1,
+    )
 
-front_begins : (mode : Mode) (text : List ℕ) (p : ℕ) (read : Read) (q : ℕ) → IsItemAt mode text p read → p ≤ length text → (q ≡ 0) ⊎ IsViable mode (place_of read) (has_gap read) (drop p text) q → Begins (HasForm mode) (take (p + q) text)
-front_begins mode text p read zero at le v = let none : p + 0 ≡ p = omega arith in rw none (complete mode (take p text) read.steps read.trail at.before.cut)
+front_begins : (mode : Mode) (text : List ℕ) (p : ℕ) (read : Read) (q : ℕ) → IsItemAt mode text p read → p ≤ length text → (q ≡ 0)
+    ⊎ IsViable mode (place_of read) (has_gap read) (drop p text) q → Begins (HasForm mode) (take (p + q) text)
+front_begins mode text p read zero at le v = let none : p + 0 ≡ p = omega arith in
+    rw none (complete mode (take p text) read.steps read.trail at.before.cut)
 front_begins mode text p read (suc k) at le (inl no_more) = absurd (omega (arith, no_more))
 front_begins mode text p read (suc k) at le (inr v) = item_begins mode text p read k at le v
 
 -- a longer front is none of a right text
-not_further : (mode : Mode) (text : List ℕ) (p : ℕ) (read : Read) (q k : ℕ) (more : List ℕ) → IsItemAt mode text p read → p ≤ length text → IsStuckHere mode (place_of read) (has_gap read) (drop p text) q → p + q < k → k ≤ length text → HasForm mode (take k text ++ more) → ⊥
+not_further : (mode : Mode) (text : List ℕ) (p : ℕ) (read : Read) (q k : ℕ) (more : List ℕ) → IsItemAt mode text p read → p ≤ length text
+    → IsStuckHere mode (place_of read) (has_gap read) (drop p text) q → p + q < k → k ≤ length text → HasForm mode (take k text ++ more) → ⊥
 not_further mode text p read q k more at le stuck gt within right =
     let rest : List ℕ = drop p text in
     let d = dark_cons rest at.dark in
@@ -137,7 +185,8 @@ not_further mode text p read q k more at le stuck gt within right =
     ∙ append_assoc (take p text) (take (q + 1) rest ++ take j (drop (q + 1) rest)) more
     ∙ ap (λ (l : List ℕ). take p text ++ l) (append_assoc (take (q + 1) rest) (take j (drop (q + 1) rest)) more) in
     let one : q + 1 ≡ suc q = omega arith in
-    let first : here ≡ d.0 ∷ (take q d.1 ++ tail) = ap (λ (i : ℕ). take i rest ++ tail) one ∙ ap (λ (l : List ℕ). take (suc q) l ++ tail) d.2 in
+    let first : here ≡ d.0 ∷ (take q d.1 ++ tail) = ap (λ (i : ℕ). take i rest ++ tail) one
+    ∙ ap (λ (l : List ℕ). take (suc q) l ++ tail) d.2 in
     let cuts : Cuts mode None (take k text ++ more) read.steps read.trail here = record {
       right = at.before.cut.right;
       white = at.before.cut.white;
@@ -148,11 +197,13 @@ not_further mode text p read q k more at le stuck gt within right =
     no_form mode (take k text ++ more) read here cuts (dark_byte d.0 rest here d.1 (take q d.1 ++ tail) d.2 first at.dark)
     (λ item behind. stuck.none tail (λ short. absurd (omega (arith, length-drop p text, short))) item behind) right
 
-pub bad_at : (mode : Mode) (text : List ℕ) (p : ℕ) (read : Read) (q : ℕ) → IsItemAt mode text p read → p ≤ length text → IsStuckHere mode (place_of read) (has_gap read) (drop p text) q → IsBadAt (HasForm mode) text (p + q)
+pub bad_at : (mode : Mode) (text : List ℕ) (p : ℕ) (read : Read) (q : ℕ) → IsItemAt mode text p read → p ≤ length text
+    → IsStuckHere mode (place_of read) (has_gap read) (drop p text) q → IsBadAt (HasForm mode) text (p + q)
 bad_at mode text p read q at le stuck =
     let own = varied_own (drop p text) q in
     record {
-      wrong = no_form mode text read (drop p text) (item_cuts mode text p read at) at.dark (λ item behind first. stuck.none own.0 own.1 item behind (subst (λ (l : List ℕ). IsFirst l item behind) (sym own.2) first));
+      wrong = no_form mode text read (drop p text) (item_cuts mode text p read at) at.dark
+          (λ item behind first. stuck.none own.0 own.1 item behind (subst (λ (l : List ℕ). IsFirst l item behind) (sym own.2) first));
       front = record {
         within = omega (arith, stuck.within, length-drop p text);
         begins = front_begins mode text p read q at le stuck.viable;
@@ -179,16 +230,20 @@ first_ends mode_is.Condition = refl
 first_ends mode_is.LocalCondition = refl
 first_ends mode = refl
 
-pub bad_end : (mode : Mode) (text : List ℕ) (read : Read) → IsRead mode text read → read.draft.part ≡ None → IsBadAt (HasForm mode) text (length text)
+pub bad_end : (mode : Mode) (text : List ℕ) (read : Read) → IsRead mode text read → read.draft.part ≡ None
+    → IsBadAt (HasForm mode) text (length text)
 bad_end mode text read is none =
-    let ends = steps_keep mode (λ place draft. is_some draft.part ≡ may_end mode place) (λ last s a b right ranges h. part_after mode s.item a b) None read.steps (begin mode) read.draft is.cut.right is.ranges (first_ends mode) is.value in
+    let ends = steps_keep mode (λ place draft. is_some draft.part ≡ may_end mode place)
+    (λ last s a b right ranges h. part_after mode s.item a b) None read.steps (begin mode) read.draft is.cut.right is.ranges
+    (first_ends mode) is.value in
     let open_ : may_end mode (before_of (last_of None read.steps)) ≡ false = sym ends ∙ ap is_some none in
     record {
-      wrong = λ (steps, trail, cut, end). elim (compare mode None text read.steps read.trail [] steps trail [] (form_cuts mode text read.steps read.trail is.cut) (form_cuts mode text steps trail cut)) [
-        | inl same ↦ true_false (may_end mode (before_of (last_of None steps))) end (rw same.0 at open_)
-        | inr (inl g) ↦ no_rest g
-        | inr (inr g) ↦ no_rest g
-      ];
+      wrong = λ (steps, trail, cut, end). elim (compare mode None text read.steps read.trail [] steps trail []
+          (form_cuts mode text read.steps read.trail is.cut) (form_cuts mode text steps trail cut)) [
+            | inl same ↦ true_false (may_end mode (before_of (last_of None steps))) end (rw same.0 at open_)
+            | inr (inl g) ↦ no_rest g
+            | inr (inr g) ↦ no_rest g
+          ];
       front = record {
         within = omega arith;
         begins = rw (take_all (length text) text (omega arith)) (complete mode text read.steps read.trail is.cut);

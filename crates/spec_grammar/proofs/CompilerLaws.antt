@@ -98,22 +98,27 @@ compiler_stuck text e = record {
   cut = refl;
 }
 
-pub compiler_alone : (text : List ℕ) (n : ℕ) → n ≡ name_length text → 0 < n → starts_with_byte 64 (drop n text) ≡ false → IsCutOff (37 ∷ text) (Compiler (take n text) None) (1 + n)
+pub compiler_alone : (text : List ℕ) (n : ℕ) → n ≡ name_length text → 0 < n → starts_with_byte 64 (drop n text) ≡ false
+    → IsCutOff (37 ∷ text) (Compiler (take n text) None) (1 + n)
 compiler_alone text n e lt behind = record {
   within = omega (arith, name_length-le text);
   first = rw (drop_one 37 n text) (record {
-    cut = ap (λ (l : List ℕ). 37 ∷ l) (sym (take-append-drop n text) ∙ ap (λ (l : List ℕ). l ++ drop n text) (sym (append-nil (take n text))));
+    cut = ap (λ (l : List ℕ). 37 ∷ l) (sym (take-append-drop n text)
+        ∙ ap (λ (l : List ℕ). l ++ drop n text) (sym (append-nil (take n text))));
     form = ((name_front text n e lt, tt), tt);
-    over = λ b more here on. true_false (is_name_byte b || b == 64) on (or_from (is_name_byte b) (b == 64) (name_stop text n e lt b more here) (starts_not 64 (drop n text) behind b more here));
+    over = λ b more here on. true_false (is_name_byte b || b == 64) on
+        (or_from (is_name_byte b) (b == 64) (name_stop text n e lt b more here) (starts_not 64 (drop n text) behind b more here));
   });
   ranges = refl;
 }
 
-compiler_first : (text : List ℕ) (n m : ℕ) (items : List VersionItem) (list : List ℕ) → n ≡ name_length text → 0 < n → drop n text ≡ 64 ∷ list → IsListAt list items m → IsFirst (37 ∷ text) (Compiler (take n text) (Some items)) (drop m list)
+compiler_first : (text : List ℕ) (n m : ℕ) (items : List VersionItem) (list : List ℕ) → n ≡ name_length text → 0 < n
+    → drop n text ≡ 64 ∷ list → IsListAt list items m → IsFirst (37 ∷ text) (Compiler (take n text) (Some items)) (drop m list)
 compiler_first text n m items list e lt behind at = record {
   cut = ap (λ (l : List ℕ). 37 ∷ l) (
       sym (take-append-drop n text)
-      ∙ ap (λ (l : List ℕ). take n text ++ l) (behind ∙ ap (λ (l : List ℕ). 64 ∷ l) (sym (take-append-drop m list) ∙ ap (λ (l : List ℕ). l ++ drop m list) at.reads.spelled))
+      ∙ ap (λ (l : List ℕ). take n text ++ l) (behind
+      ∙ ap (λ (l : List ℕ). 64 ∷ l) (sym (take-append-drop m list) ∙ ap (λ (l : List ℕ). l ++ drop m list) at.reads.spelled))
       ∙ sym (append_assoc (take n text) (64 ∷ spelling items) (drop m list)));
   form = ((name_front text n e lt, reads_own (take m list) items at.reads), tt);
   over = list_over list m items at.longest at.reads.spelled;
@@ -127,16 +132,19 @@ drop_two b n m text list e =
 length_two : (b n : ℕ) (text list : List ℕ) → drop n text ≡ b ∷ list → n + 1 + length list ≡ length text
 length_two b n text list e = omega (arith, ap length e, length-drop n text)
 
-pub compiler_read : (text : List ℕ) (n m : ℕ) (items : List VersionItem) (list : List ℕ) → n ≡ name_length text → 0 < n → drop n text ≡ 64 ∷ list → IsListAt list items m → first_empty 0 items ≡ None
+pub compiler_read : (text : List ℕ) (n m : ℕ) (items : List VersionItem) (list : List ℕ) → n ≡ name_length text → 0 < n
+    → drop n text ≡ 64 ∷ list → IsListAt list items m → first_empty 0 items ≡ None
     → IsCutOff (37 ∷ text) (Compiler (take n text) (Some items)) (2 + n + m)
 compiler_read text n m items list e lt behind at none = record {
   within = omega (arith, at.longest.within, length_two 64 n text list behind);
   first = rw (drop_two 64 n m text list behind) (compiler_first text n m items list e lt behind at);
-  ranges = ap (λ (k : ℕ). first_empty k items) (omega (arith, length-take n text, name_length-le text)) ∙ empty_past items 0 (2 + n) None none;
+  ranges = ap (λ (k : ℕ). first_empty k items) (omega (arith, length-take n text, name_length-le text))
+      ∙ empty_past items 0 (2 + n) None none;
 }
 
 -- the LIST behind `%NAME@` is none
-no_varied_compiler : (list : List ℕ) (q : ℕ) (more : List ℕ) → IsLongestFront IsList list q → (IsList (take q list) → ⊥) → Varies list q more → (w : List ℕ) (items : Option (List VersionItem)) (item : Item) (rest : List ℕ) → item ≡ Compiler w items
+no_varied_compiler : (list : List ℕ) (q : ℕ) (more : List ℕ) → IsLongestFront IsList list q → (IsList (take q list) → ⊥)
+    → Varies list q more → (w : List ℕ) (items : Option (List VersionItem)) (item : Item) (rest : List ℕ) → item ≡ Compiler w items
     → 64 ∷ varied list q more ≡ spell_list items ++ rest → (text : List ℕ) → IsFirst text item rest → ⊥
 no_varied_compiler list q more front not_list varies w None item rest same there text first =
     let f = subst (λ (i : Item). IsFirst text i rest) same first in
@@ -145,7 +153,8 @@ no_varied_compiler list q more front not_list varies w (Some items) item rest sa
     let f = subst (λ (i : Item). IsFirst text i rest) same first in
     no_varied_list list q more front not_list varies items rest (two_cons _ _ _ _ there).1 f.form.0.1 f.over
 
-compiler_list_stuck : (text : List ℕ) (n : ℕ) (list : List ℕ) (q : ℕ) → n ≡ name_length text → 0 < n → drop n text ≡ 64 ∷ list → IsLongestFront IsList list q → (IsList (take q list) → ⊥) → IsStuck (37 ∷ text) (2 + n + q)
+compiler_list_stuck : (text : List ℕ) (n : ℕ) (list : List ℕ) (q : ℕ) → n ≡ name_length text → 0 < n → drop n text ≡ 64 ∷ list
+    → IsLongestFront IsList list q → (IsList (take q list) → ⊥) → IsStuck (37 ∷ text) (2 + n + q)
 compiler_list_stuck text n list q e lt behind front not_list =
     let le : n ≤ length text = omega (arith, name_length-le text) in
     let done = front.begins in
@@ -155,20 +164,24 @@ compiler_list_stuck text n list q e lt behind front not_list =
       none = λ more varies item rest first.
           let inner = varies_cons 37 text (n + 1 + q) more varies in
           let t : List ℕ = take n text ++ 64 ∷ varied list q more in
-          let there = subst (λ (l : List ℕ). IsFirst l item rest) (varied_cons 37 text (n + 1 + q) more ∙ ap (λ (l : List ℕ). 37 ∷ l) (varied_behind text n 64 list q more le behind)) first in
+          let there = subst (λ (l : List ℕ). IsFirst l item rest) (varied_cons 37 text (n + 1 + q) more
+          ∙ ap (λ (l : List ℕ). 37 ∷ l) (varied_behind text n 64 list q more le behind)) first in
           let named = named_again text n 64 (varied list q more) e lt refl in
           let a = at_compiler t item rest there in
           let c = name_cut t a.w _ a.cut a.is a.stop in
           let same : 64 ∷ varied list q more ≡ spell_list a.items ++ rest = sym named.behind ∙ ap (λ (k : ℕ). drop k t) named.len ∙ c.1 in
-          no_varied_compiler list q more front not_list (varies_behind text n 64 list q more behind inner) a.w a.items item rest a.same same (37 ∷ t) there;
+          no_varied_compiler list q more front not_list (varies_behind text n 64 list q more behind inner) a.w a.items item rest a.same same
+          (37 ∷ t) there;
       tail = done.0;
       item = Compiler (take n text) (Some done.1.0);
       form = ((name_front text n e lt, reads_own (take q list ++ done.0) done.1.0 done.1.1), tt);
       kind = refl;
-      cut = take_one 37 (n + 1 + q) text done.0 ∙ ap (λ (l : List ℕ). 37 ∷ l) (take_behind text n 64 list q done.0 le behind ∙ ap (λ (l : List ℕ). take n text ++ 64 ∷ l) done.1.1.spelled);
+      cut = take_one 37 (n + 1 + q) text done.0 ∙ ap (λ (l : List ℕ). 37 ∷ l) (take_behind text n 64 list q done.0 le behind
+          ∙ ap (λ (l : List ℕ). take n text ++ 64 ∷ l) done.1.1.spelled);
     })
 
-pub compiler_moved : (text : List ℕ) (n : ℕ) (list : List ℕ) (e : SpecFault) → n ≡ name_length text → 0 < n → drop n text ≡ 64 ∷ list → IsListFault list e → IsItemFault (37 ∷ text) (moved (2 + n) e)
+pub compiler_moved : (text : List ℕ) (n : ℕ) (list : List ℕ) (e : SpecFault) → n ≡ name_length text → 0 < n → drop n text ≡ 64 ∷ list
+    → IsListFault list e → IsItemFault (37 ∷ text) (moved (2 + n) e)
 compiler_moved text n list (fault.Expected q) e lt behind h = compiler_list_stuck text n list q e lt behind h.0 h.1
 compiler_moved text n list (fault.BadVersion q) e lt behind h = (
   Compiler (take n text) (Some h.0),

@@ -19,18 +19,23 @@ pub record Left (words : List (List ℕ)) (rest : List ℕ) (all : List (List �
   pub spelled : rest ≡ spell_values (first ∷ others)
 
 abbrev pub IsSoFar : List ℕ → List (List ℕ) → List ℕ → Type 0
-IsSoFar text words rest = (first : List ℕ) (others : List (List ℕ)) → AreValues (first ∷ others) → text ≡ spell_values (first ∷ others) → Left words rest (first ∷ others)
+IsSoFar text words rest = (first : List ℕ) (others : List (List ℕ)) → AreValues (first ∷ others) → text ≡ spell_values (first ∷ others)
+    → Left words rest (first ∷ others)
 
 -- these are all
 abbrev pub IsSoFarAll : List ℕ → List (List ℕ) → Type 0
-IsSoFarAll text words = (first : List ℕ) (others : List (List ℕ)) → AreValues (first ∷ others) → text ≡ spell_values (first ∷ others) → words ≡ first ∷ others
+IsSoFarAll text words = (first : List ℕ) (others : List (List ℕ)) → AreValues (first ∷ others) → text ≡ spell_values (first ∷ others)
+    → words ≡ first ∷ others
 
-front_is : (rest g : List ℕ) (left : List (List ℕ)) (n : ℕ) → IsValue g → rest ≡ g ++ spell_more left → n ≡ prefix_len is_value_byte rest → (take n rest ≡ g) × (drop n rest ≡ spell_more left)
+front_is : (rest g : List ℕ) (left : List (List ℕ)) (n : ℕ) → IsValue g → rest ≡ g ++ spell_more left → n ≡ prefix_len is_value_byte rest
+    → (take n rest ≡ g) × (drop n rest ≡ spell_more left)
 front_is rest g left n h e k =
-    let len : n ≡ length g = k ∙ ap (prefix_len is_value_byte) e ∙ run_is is_value_byte g (spell_more left) (value_run g h) (more_stop left) in
+    let len : n ≡ length g = k ∙ ap (prefix_len is_value_byte) e
+    ∙ run_is is_value_byte g (spell_more left) (value_run g h) (more_stop left) in
     (ap (take n) e ∙ take_at g (spell_more left) n (sym len), ap (drop n) e ∙ drop_at g (spell_more left) n (sym len))
 
-all_case : (words : List (List ℕ)) (rest : List ℕ) (n : ℕ) (all : List (List ℕ)) (g : List ℕ) (left : List (List ℕ)) → words ++ g ∷ left ≡ all → AreValues (g ∷ left) → rest ≡ spell_values (g ∷ left)
+all_case : (words : List (List ℕ)) (rest : List ℕ) (n : ℕ) (all : List (List ℕ)) (g : List ℕ) (left : List (List ℕ))
+    → words ++ g ∷ left ≡ all → AreValues (g ∷ left) → rest ≡ spell_values (g ∷ left)
     → n ≡ prefix_len is_value_byte rest → drop n rest ≡ [] → words ++ take n rest ∷ [] ≡ all
 all_case words rest n all g [] j are e k none =
     let f = front_is rest g [] n are.0 e k in
@@ -40,13 +45,15 @@ all_case words rest n all g (h ∷ left) j are e k none =
     cons_none 44 (h ++ spell_more left) (sym f.1 ∙ none)
 
 -- the last value
-pub so_far_all : (text : List ℕ) (words : List (List ℕ)) (rest : List ℕ) (n : ℕ) → IsSoFar text words rest → n ≡ prefix_len is_value_byte rest → drop n rest ≡ []
+pub so_far_all : (text : List ℕ) (words : List (List ℕ)) (rest : List ℕ) (n : ℕ) → IsSoFar text words rest
+    → n ≡ prefix_len is_value_byte rest → drop n rest ≡ []
     → IsSoFarAll text (words ++ take n rest ∷ [])
 so_far_all text words rest n so_far k none first others are e =
     let l = so_far first others are e in
     all_case words rest n (first ∷ others) l.first l.others l.joined l.are l.spelled k none
 
-more_case : (words : List (List ℕ)) (rest : List ℕ) (n b : ℕ) (next : List ℕ) (all : List (List ℕ)) (g : List ℕ) (left : List (List ℕ)) → words ++ g ∷ left ≡ all → AreValues (g ∷ left) → rest ≡ spell_values (g ∷ left)
+more_case : (words : List (List ℕ)) (rest : List ℕ) (n b : ℕ) (next : List ℕ) (all : List (List ℕ)) (g : List ℕ) (left : List (List ℕ))
+    → words ++ g ∷ left ≡ all → AreValues (g ∷ left) → rest ≡ spell_values (g ∷ left)
     → n ≡ prefix_len is_value_byte rest → drop n rest ≡ b ∷ next → Left (words ++ take n rest ∷ []) next all
 more_case words rest n b next all g [] j are e k some =
     let f = front_is rest g [] n are.0 e k in
@@ -62,7 +69,8 @@ more_case words rest n b next all g (h ∷ left) j are e k some =
     }
 
 -- one value more
-pub so_far_more : (text : List ℕ) (words : List (List ℕ)) (rest : List ℕ) (n b : ℕ) (next : List ℕ) → IsSoFar text words rest → n ≡ prefix_len is_value_byte rest → drop n rest ≡ b ∷ next
+pub so_far_more : (text : List ℕ) (words : List (List ℕ)) (rest : List ℕ) (n b : ℕ) (next : List ℕ) → IsSoFar text words rest
+    → n ≡ prefix_len is_value_byte rest → drop n rest ≡ b ∷ next
     → IsSoFar text (words ++ take n rest ∷ []) next
 so_far_more text words rest n b next so_far k some first others are e =
     let l = so_far first others are e in

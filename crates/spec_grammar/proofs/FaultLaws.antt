@@ -9,16 +9,20 @@ use Rattle.spec_grammar.proofs.BadLaws.{bad_at, bad_end}
 use Rattle.spec_grammar.proofs.StandLaws.{Stands}
 use Rattle.spec_grammar.proofs.StepLaws.{some_of}
 
-item_at : (mode : Mode) (text : List ℕ) (at : ℕ) (draft : Draft) (before : Before) (gap : Bool) → (s : Stands mode text at draft before gap) → at < length text → IsItemAt mode text at s.read
+item_at : (mode : Mode) (text : List ℕ) (at : ℕ) (draft : Draft) (before : Before) (gap : Bool) → (s : Stands mode text at draft before gap)
+    → at < length text → IsItemAt mode text at s.read
 item_at mode text at draft before gap s lt = record { before = s.is; dark = s.dark lt; over = s.over }
 
 -- the form at the place, by what stands before it
-form_here : (mode : Mode) (text : List ℕ) (at : ℕ) (draft : Draft) (before : Before) (gap : Bool) (form : Option Form) → (s : Stands mode text at draft before gap) → form_at mode (may_name mode before gap) (drop at text) ≡ form
+form_here : (mode : Mode) (text : List ℕ) (at : ℕ) (draft : Draft) (before : Before) (gap : Bool) (form : Option Form)
+    → (s : Stands mode text at draft before gap) → form_at mode (may_name mode before gap) (drop at text) ≡ form
     → form_at mode (may_name mode (place_of s.read) (has_gap s.read)) (drop at text) ≡ form
 form_here mode text at draft before gap form s e = rw (s.before_is, s.gap_is) e
 
-pub twice : (mode : Mode) (text : List ℕ) (at n : ℕ) (draft : Draft) (before : Before) (gap : Bool) (item : Item) → Stands mode text at draft before gap → at < length text
-    → form_at mode (may_name mode before gap) (drop at text) ≡ None → IsAllowedItem mode before gap (drop at text) item n → take_item item draft ≡ None → IsFault mode text (fault.TwiceSet at)
+pub twice : (mode : Mode) (text : List ℕ) (at n : ℕ) (draft : Draft) (before : Before) (gap : Bool) (item : Item)
+    → Stands mode text at draft before gap → at < length text
+    → form_at mode (may_name mode before gap) (drop at text) ≡ None → IsAllowedItem mode before gap (drop at text) item n
+    → take_item item draft ≡ None → IsFault mode text (fault.TwiceSet at)
 twice mode text at n draft before gap item s lt form taken none = (
   at,
   s.read,
@@ -30,7 +34,8 @@ twice mode text at n draft before gap item s lt form taken none = (
   ),
 )
 
-pub fault_here : (mode : Mode) (text : List ℕ) (at : ℕ) (draft : Draft) (before : Before) (gap : Bool) (e : SpecFault) → Stands mode text at draft before gap → at < length text
+pub fault_here : (mode : Mode) (text : List ℕ) (at : ℕ) (draft : Draft) (before : Before) (gap : Bool) (e : SpecFault)
+    → Stands mode text at draft before gap → at < length text
     → IsFaultHere mode before gap (drop at text) e → IsFault mode text (moved at e)
 fault_here mode text at draft before gap (fault.Unsupported q form) s lt h =
     let at_place : at + q ≡ at = omega (arith, h.0) in
@@ -39,10 +44,23 @@ fault_here mode text at draft before gap (fault.Expected q) s lt h =
     let here : IsStuckHere mode (place_of s.read) (has_gap s.read) (drop at text) q = rw (s.before_is, s.gap_is) h.1 in
     let own = varied_own (drop at text) q in (
       bad_at mode text at s.read q (item_at mode text at draft before gap s lt) s.within here,
-      inl (at, s.read, item_at mode text at draft before gap s lt, (form_here mode text at draft before gap None s h.0, λ item rest first. here.none own.0 own.1 item rest (subst (λ (l : List ℕ). IsFirst l item rest) (sym own.2) first))),
+      inl (
+        at,
+        s.read,
+        item_at mode text at draft before gap s lt,
+        (
+          form_here mode text at draft before gap None s h.0,
+          λ item rest first. here.none own.0 own.1 item rest
+              (subst (λ (l : List ℕ). IsFirst l item rest) (sym own.2) first),
+        ),
+      ),
     )
-fault_here mode text at draft before gap (fault.BadVersion q) s lt h =
-    (at, s.read, item_at mode text at draft before gap s lt, (form_here mode text at draft before gap None s h.0, (h.1.0, h.1.1, q, h.1.2, rw (s.before_is, s.gap_is) h.1.3, h.1.4, refl)))
+fault_here mode text at draft before gap (fault.BadVersion q) s lt h = (
+  at,
+  s.read,
+  item_at mode text at draft before gap s lt,
+  (form_here mode text at draft before gap None s h.0, (h.1.0, h.1.1, q, h.1.2, rw (s.before_is, s.gap_is) h.1.3, h.1.4, refl)),
+)
 fault_here mode text at draft before gap (fault.TwiceSet q) s lt h = absurd h
 fault_here mode text at draft before gap fault.OutOfMemory s lt h = tt
 
@@ -53,15 +71,24 @@ place_of_list : (items : List VersionItem) (p q : ℕ) → AreListed items → f
 place_of_list items p q are e = omega (arith, empty_below items p q e, more_length (spelling items) items are)
 
 place_within : (item : Item) (rest text : List ℕ) (q : ℕ) → IsFirst text item rest → empty_place item ≡ Some q → q ≤ length text
-place_within (Versions items) rest text q first e = omega (arith, place_of_list items 1 q first.form.0 e, ap length first.cut, length-append (spelling items) rest)
+place_within (Versions items) rest text q first e =
+    omega (arith, place_of_list items 1 q first.form.0 e, ap length first.cut, length-append (spelling items) rest)
 place_within (Compiler w (Some items)) rest text q first e =
-    omega (arith, place_of_list items (length w + 2) q first.form.0.1 e, ap length first.cut, length-append (w ++ 64 ∷ spelling items) rest, length-append w (64 ∷ spelling items))
+    omega (
+      arith,
+      place_of_list items (length w + 2) q first.form.0.1 e,
+      ap length first.cut,
+      length-append (w ++ 64 ∷ spelling items) rest,
+      length-append w (64 ∷ spelling items),
+    )
 place_within item rest text q first e = absurd (none-some q e)
 
-pub fits : (mode : Mode) (text : List ℕ) (at : ℕ) (before : Before) (gap : Bool) (e : SpecFault) → at ≤ length text → length text < 2 ^ 64 → IsFaultHere mode before gap (drop at text) e → Fits at e
+pub fits : (mode : Mode) (text : List ℕ) (at : ℕ) (before : Before) (gap : Bool) (e : SpecFault) → at ≤ length text → length text < 2 ^ 64
+    → IsFaultHere mode before gap (drop at text) e → Fits at e
 fits mode text at before gap (fault.Unsupported q form) le small h = omega (arith, h.0)
 fits mode text at before gap (fault.Expected q) le small h = omega (arith, h.1.within, length-drop at text)
-fits mode text at before gap (fault.BadVersion q) le small h = omega (arith, place_within h.1.0 h.1.1 (drop at text) q h.1.2 h.1.4, length-drop at text)
+fits mode text at before gap (fault.BadVersion q) le small h =
+    omega (arith, place_within h.1.0 h.1.1 (drop at text) q h.1.2 h.1.4, length-drop at text)
 fits mode text at before gap (fault.TwiceSet q) le small h = absurd h
 fits mode text at before gap fault.OutOfMemory le small h = tt
 
@@ -74,7 +101,8 @@ none_of : {A B : Type 0} (f : A → B) (o : Option A) → option_map f o ≡ Non
 none_of f None e = refl
 none_of f (Some a) e = absurd cc
 
-pub ends_early : (mode : Mode) (text : List ℕ) (at : ℕ) (draft : Draft) (before : Before) (gap : Bool) → Stands mode text at draft before gap → length text ≤ at → option_map (finish draft) draft.part ≡ None
+pub ends_early : (mode : Mode) (text : List ℕ) (at : ℕ) (draft : Draft) (before : Before) (gap : Bool)
+    → Stands mode text at draft before gap → length text ≤ at → option_map (finish draft) draft.part ≡ None
     → IsFault mode text (fault.Expected at)
 ends_early mode text at draft before gap s le e =
     let read = whole mode text at s.read le s.is in
@@ -82,8 +110,16 @@ ends_early mode text at draft before gap s le e =
     let end : length text ≡ at = omega (arith, s.within) in
     (subst (λ (k : ℕ). IsBadAt (HasForm mode) text k) end (bad_end mode text s.read read none), inr (s.read, read, none))
 
-pub spells : (mode : Mode) (text : List ℕ) (at : ℕ) (draft : Draft) (before : Before) (gap : Bool) (specs : List Spec) → Stands mode text at draft before gap → length text ≤ at → option_map (finish draft) draft.part ≡ Some specs
+pub spells : (mode : Mode) (text : List ℕ) (at : ℕ) (draft : Draft) (before : Before) (gap : Bool) (specs : List Spec)
+    → Stands mode text at draft before gap → length text ≤ at → option_map (finish draft) draft.part ≡ Some specs
     → Spells mode text specs
 spells mode text at draft before gap specs s le e =
     let f = some_of (finish draft) draft.part specs e in
-    record { read = s.read; is = whole mode text at s.read le s.is; part = f.0; last = ap (λ (d : Draft). d.part) s.draft_is ∙ f.1; are = sym f.2 ∙ ap (λ (d : Draft). finish d f.0) (sym s.draft_is) }
+    record {
+      read = s.read;
+      is = whole mode text at s.read le s.is;
+      part = f.0;
+      last = ap (λ (d : Draft). d.part) s.draft_is ∙ f.1;
+      are =
+          sym f.2 ∙ ap (λ (d : Draft). finish d f.0) (sym s.draft_is);
+    }

@@ -11,7 +11,8 @@ use Rattle.spec_grammar.proofs.AskLaws.{may_behind}
 start_signs : (b : ℕ) → is_start b ≡ true → (nat_eq 43 b ≡ false) × (nat_eq 126 b ≡ false) × (nat_eq 45 b ≡ false)
 start_signs b h = (grind (arith, nat_tests), grind (arith, nat_tests), grind (arith, nat_tests))
 
-variant_none : (mode : Mode) (named : Bool) (mark : Mark) (b : ℕ) (w : List ℕ) → is_start b ≡ true → may_have_all mode ≡ true → form_at mode named (mark_byte mark ∷ b ∷ w) ≡ None
+variant_none : (mode : Mode) (named : Bool) (mark : Mark) (b : ℕ) (w : List ℕ) → is_start b ≡ true → may_have_all mode ≡ true
+    → form_at mode named (mark_byte mark ∷ b ∷ w) ≡ None
 unfolding form_at form_of_sign
 variant_none mode named Plus b w h all = let s = start_signs b h in rw (s.0, all) refl
 variant_none mode named Tilde b w h all = let s = start_signs b h in rw (s.1, all) refl
@@ -42,33 +43,39 @@ behind_none : (mode : Mode) (named : Bool) (w rest : List ℕ) → IsOver (Name 
 unfolding form_behind
 behind_none mode named w [] over = refl
 behind_none mode named w (b ∷ rest) over =
-    let other : is_name_end b ≡ false = false_from_ne_true (is_name_end b) (λ is. over b rest refl (or_right (is_name_byte b) (is_name_end b) is)) in
+    let other : is_name_end b ≡ false = false_from_ne_true (is_name_end b)
+    (λ is. over b rest refl (or_right (is_name_byte b) (is_name_end b) is)) in
     let e = ends_apart b other in
     rw (e.0, e.1, e.2) refl
 
-value_apart : (b : ℕ) → is_value_byte b ≡ true → (nat_eq 61 b ≡ false) × (nat_eq 42 b ≡ false) × (nat_eq 34 b ≡ false) × (nat_eq 39 b ≡ false)
+value_apart : (b : ℕ) → is_value_byte b ≡ true → (nat_eq 61 b ≡ false) × (nat_eq 42 b ≡ false) × (nat_eq 34 b ≡ false)
+    × (nat_eq 39 b ≡ false)
 value_apart b h = (grind (arith, nat_tests), grind (arith, nat_tests), grind (arith, nat_tests), grind (arith, nat_tests))
 
 no_flags : (k : KeyKind) (values : List (List ℕ)) → Takes k values → is_flags k ≡ false
 no_flags key.Flags values h = absurd h
 no_flags k values h = refl
 
-value_behind : (mode : Mode) (named : Bool) (w : List ℕ) (b : ℕ) (more : List ℕ) → is_value_byte b ≡ true → is_flags (key_of w) ≡ false → may_have_all mode ≡ true → form_behind mode named w (61 ∷ b ∷ more) ≡ None
+value_behind : (mode : Mode) (named : Bool) (w : List ℕ) (b : ℕ) (more : List ℕ) → is_value_byte b ≡ true → is_flags (key_of w) ≡ false
+    → may_have_all mode ≡ true → form_behind mode named w (61 ∷ b ∷ more) ≡ None
 unfolding form_behind
 value_behind mode named w b more h flags all =
     let e = value_apart b h in
     rw (e.0, e.1, e.2, e.3, flags, all) refl
 
-key_behind : (mode : Mode) (named : Bool) (w : List ℕ) (values : List (List ℕ)) (rest : List ℕ) → AreValues values → Takes (key_of w) values → may_have_all mode ≡ true → form_behind mode named w (61 ∷ (spell_values values ++ rest)) ≡ None
+key_behind : (mode : Mode) (named : Bool) (w : List ℕ) (values : List (List ℕ)) (rest : List ℕ) → AreValues values → Takes (key_of w) values
+    → may_have_all mode ≡ true → form_behind mode named w (61 ∷ (spell_values values ++ rest)) ≡ None
 key_behind mode named w [] rest are takes all = absurd are
 key_behind mode named w ([] ∷ values) rest are takes all = absurd (let h = are.0 in cc)
 key_behind mode named w ((b ∷ v) ∷ values) rest are takes all =
-    value_behind mode named w b ((v ++ spell_more values) ++ rest) (and_parts (is_value_byte b) (list_all is_value_byte v) are.0).0 (no_flags (key_of w) _ takes) all
+    value_behind mode named w b ((v ++ spell_more values) ++ rest) (and_parts (is_value_byte b) (list_all is_value_byte v) are.0).0
+    (no_flags (key_of w) _ takes) all
 
 zero_not : (n : ℕ) → 0 < n → nat_eq n 0 ≡ false
 zero_not n lt = grind (arith, nat_tests)
 
-with_name : (mode : Mode) (named : Bool) (w rest : List ℕ) → IsName w → Stop is_name_byte rest → form_behind mode named w rest ≡ None → form_at mode named (w ++ rest) ≡ None
+with_name : (mode : Mode) (named : Bool) (w rest : List ℕ) → IsName w → Stop is_name_byte rest → form_behind mode named w rest ≡ None
+    → form_at mode named (w ++ rest) ≡ None
 unfolding form_at
 with_name mode named w rest h stop none =
     let c = name_cut (w ++ rest) w rest refl h stop in
@@ -76,17 +83,25 @@ with_name mode named w rest h stop none =
     rw (other, c.0, c.1) none
 
 -- the start of a NAME behind a mark
-name_start : (mode : Mode) (named : Bool) (mark : Mark) (w rest : List ℕ) → IsName w → may_have_all mode ≡ true → form_at mode named (mark_byte mark ∷ (w ++ rest)) ≡ None
+name_start : (mode : Mode) (named : Bool) (mark : Mark) (w rest : List ℕ) → IsName w → may_have_all mode ≡ true
+    → form_at mode named (mark_byte mark ∷ (w ++ rest)) ≡ None
 name_start mode named mark [] rest h all = absurd cc
-name_start mode named mark (b ∷ w) rest h all = variant_none mode named mark b (w ++ rest) (and_parts (is_start b) (list_all is_name_byte w) h).0 all
+name_start mode named mark (b ∷ w) rest h all =
+    variant_none mode named mark b (w ++ rest) (and_parts (is_start b) (list_all is_name_byte w) h).0 all
 
-pub form_none : (mode : Mode) (place : Before) (gap : Bool) (text : List ℕ) (item : Item) (rest : List ℕ) (named : Bool) → IsFirst text item rest → may_stand mode place gap (kind_of item) ≡ true → form_at mode named text ≡ None
-form_none mode place gap text (Name w) rest named first may = ap (form_at mode named) first.cut ∙ with_name mode named w rest first.form.0 (over_name w rest first.over) (behind_none mode named w rest first.over)
+pub form_none : (mode : Mode) (place : Before) (gap : Bool) (text : List ℕ) (item : Item) (rest : List ℕ) (named : Bool)
+    → IsFirst text item rest → may_stand mode place gap (kind_of item) ≡ true → form_at mode named text ≡ None
+form_none mode place gap text (Name w) rest named first may = ap (form_at mode named) first.cut
+    ∙ with_name mode named w rest first.form.0 (over_name w rest first.over) (behind_none mode named w rest first.over)
 form_none mode place gap text (Versions items) rest named first may = ap (form_at mode named) first.cut ∙ versions_none mode named _
-form_none mode place gap text (Variant mark w) rest named first may = ap (form_at mode named) first.cut ∙ name_start mode named mark w rest first.form.0 (may_behind mode place gap (Variant mark w) tt may)
-form_none mode place gap text (Compiler w items) rest named first may = ap (form_at mode named) first.cut ∙ compiler_none mode named _ (may_behind mode place gap (Compiler w items) tt may)
+form_none mode place gap text (Variant mark w) rest named first may = ap (form_at mode named) first.cut
+    ∙ name_start mode named mark w rest first.form.0 (may_behind mode place gap (Variant mark w) tt may)
+form_none mode place gap text (Compiler w items) rest named first may = ap (form_at mode named) first.cut
+    ∙ compiler_none mode named _ (may_behind mode place gap (Compiler w items) tt may)
 form_none mode place gap text (Key w values) rest named first may =
     ap (form_at mode named) (first.cut ∙ append_assoc w (61 ∷ spell_values values) rest)
-    ∙ with_name mode named w (61 ∷ (spell_values values ++ rest)) first.form.0.0 (stop_cons is_name_byte 61 (spell_values values ++ rest) refl)
+    ∙ with_name mode named w (61 ∷ (spell_values values ++ rest)) first.form.0.0
+    (stop_cons is_name_byte 61 (spell_values values ++ rest) refl)
     (key_behind mode named w values rest first.form.0.1 first.form.1 (may_behind mode place gap (Key w values) tt may))
-form_none mode place gap text Caret rest named first may = ap (form_at mode named) first.cut ∙ caret_none mode named rest first.over (and_parts (may_constrain mode place) (may_nest mode) may).1
+form_none mode place gap text Caret rest named first may = ap (form_at mode named) first.cut
+    ∙ caret_none mode named rest first.over (and_parts (may_constrain mode place) (may_nest mode) may).1

@@ -15,15 +15,18 @@ use Rattle.spec_grammar.proofs.KeyLaws.{key_viable}
 mark_cut : (text : List ℕ) (b first : ℕ) (rest : List ℕ) → text ≡ first ∷ rest → first ≡ b → text ≡ b ∷ drop 1 text
 mark_cut text b first rest e h = e ∙ ap (λ (c : ℕ). c ∷ rest) h ∙ ap (λ (l : List ℕ). b ∷ l) (sym (ap (drop 1) e))
 
-pub sign_cut : (text : List ℕ) (k : Kind) (b : ℕ) → ((first : ℕ) (rest : List ℕ) → Says first rest (Some k) → first ≡ b) → kind_at text ≡ Some k → text ≡ b ∷ drop 1 text
-sign_cut text k b says here = let a = begins text k here in mark_cut text b a.first a.rest a.cut (says a.first (drop (name_length text) text) a.says)
+pub sign_cut : (text : List ℕ) (k : Kind) (b : ℕ) → ((first : ℕ) (rest : List ℕ) → Says first rest (Some k) → first ≡ b)
+    → kind_at text ≡ Some k → text ≡ b ∷ drop 1 text
+sign_cut text k b says here = let a = begins text k here in
+    mark_cut text b a.first a.rest a.cut (says a.first (drop (name_length text) text) a.says)
 
 -- ---- where it may stand
 
 pub none_there : (text : List ℕ) → kind_at text ≡ None → (it : Item) (rest : List ℕ) → IsFirst text it rest → ⊥
 none_there text none it rest first = none-some (kind_of it) (sym none ∙ first_kind text it rest first)
 
-pub may_not : (mode : Mode) (place : Before) (gap : Bool) (k : Kind) (text : List ℕ) → kind_at text ≡ Some k → may_stand mode place gap k ≡ false → (it : Item) (rest : List ℕ) → IsFirst text it rest
+pub may_not : (mode : Mode) (place : Before) (gap : Bool) (k : Kind) (text : List ℕ) → kind_at text ≡ Some k
+    → may_stand mode place gap k ≡ false → (it : Item) (rest : List ℕ) → IsFirst text it rest
     → may_stand mode place gap (kind_of it) ≡ true → ⊥
 may_not mode place gap k text here not_there it rest first may =
     let same = same_Some k (kind_of it) (sym here ∙ first_kind text it rest first) in
@@ -64,22 +67,28 @@ none_varied : (text more : List ℕ) → kind_at text ≡ None → Varies text 0
 none_varied [] more e v = rw (v (omega arith)) refl
 none_varied (b ∷ text) more e v = none_by b (drop (name_length (b ∷ text)) (b ∷ text)) (drop (name_length (b ∷ more)) (b ∷ more)) e
 
-at_once : (mode : Mode) (place : Before) (gap : Bool) (text : List ℕ) → ((more : List ℕ) → Varies text 0 more → (it : Item) (rest : List ℕ) → IsFirst (varied text 0 more) it rest → may_stand mode place gap (kind_of it) ≡ true → ⊥) → IsStuckHere mode place gap text 0
+at_once : (mode : Mode) (place : Before) (gap : Bool) (text : List ℕ)
+    → ((more : List ℕ) → Varies text 0 more → (it : Item) (rest : List ℕ) → IsFirst (varied text 0 more) it rest
+    → may_stand mode place gap (kind_of it) ≡ true → ⊥) → IsStuckHere mode place gap text 0
 at_once mode place gap text none = record { within = omega arith; none = none; viable = inl refl }
 
 pub none_stuck : (mode : Mode) (place : Before) (gap : Bool) (text : List ℕ) → kind_at text ≡ None → IsStuckHere mode place gap text 0
-none_stuck mode place gap text none = at_once mode place gap text (λ more varies it rest first may. none_there (varied text 0 more) (none_varied text more none varies) it rest first)
+none_stuck mode place gap text none = at_once mode place gap text
+    (λ more varies it rest first may. none_there (varied text 0 more) (none_varied text more none varies) it rest first)
 
 sign_varied : (text : List ℕ) (k : Kind) (more : List ℕ) → kind_at text ≡ Some k → IsSign k → kind_at (varied text 0 more) ≡ Some k
 sign_varied text k more here sign =
     let a = begins text k here in
     ap (λ (l : List ℕ). kind_at (varied l 0 more)) a.cut ∙ sign_at a.first k (drop (name_length text) text) more sign a.says
 
-sign_stuck : (mode : Mode) (place : Before) (gap : Bool) (k : Kind) (text : List ℕ) → kind_at text ≡ Some k → may_stand mode place gap k ≡ false → IsSign k → IsStuckHere mode place gap text 0
-sign_stuck mode place gap k text here not_there sign = at_once mode place gap text (λ more varies. may_not mode place gap k (varied text 0 more) (sign_varied text k more here sign) not_there)
+sign_stuck : (mode : Mode) (place : Before) (gap : Bool) (k : Kind) (text : List ℕ) → kind_at text ≡ Some k
+    → may_stand mode place gap k ≡ false → IsSign k → IsStuckHere mode place gap text 0
+sign_stuck mode place gap k text here not_there sign =
+    at_once mode place gap text (λ more varies. may_not mode place gap k (varied text 0 more) (sign_varied text k more here sign) not_there)
 
 -- neither a NAME nor a key may stand here
-both_stuck : (mode : Mode) (place : Before) (gap : Bool) (text : List ℕ) (b : ℕ) (rest : List ℕ) → text ≡ b ∷ rest → is_start b ≡ true → may_stand mode place gap kind.Name ≡ false → may_stand mode place gap kind.Key ≡ false → IsStuckHere mode place gap text 0
+both_stuck : (mode : Mode) (place : Before) (gap : Bool) (text : List ℕ) (b : ℕ) (rest : List ℕ) → text ≡ b ∷ rest → is_start b ≡ true
+    → may_stand mode place gap kind.Name ≡ false → may_stand mode place gap kind.Key ≡ false → IsStuckHere mode place gap text 0
 both_stuck mode place gap text b rest cut start no_name no_key = at_once mode place gap text (λ more varies it behind first may.
     let t : List ℕ = varied text 0 more in
     let same : t ≡ b ∷ more = ap (λ (l : List ℕ). varied l 0 more) cut in
@@ -95,7 +104,8 @@ end_or_byte text n le = elim (cases_lt n (length text)) [
   | inr ge ↦ inl ge
 ]
 
-name_varies : (text : List ℕ) (more : List ℕ) → kind_at text ≡ Some kind.Name → Varies text (name_length text) more → kind_at (varied text (name_length text) more) ≡ Some kind.Name
+name_varies : (text : List ℕ) (more : List ℕ) → kind_at text ≡ Some kind.Name → Varies text (name_length text) more
+    → kind_at (varied text (name_length text) more) ≡ Some kind.Name
 name_varies text more here varies =
     let n : ℕ = name_length text in
     let some = name_some text here in
@@ -113,42 +123,65 @@ key_varies text more here =
     let t = name_varied text n 61 (drop 1 (drop n text)) more (name_length-le text) (starts_is 61 (drop n text) some.1) in
     ap kind_at t.1 ∙ key_kind text n t.0 refl some.0
 
-name_refused : (mode : Mode) (place : Before) (gap other : Bool) (text : List ℕ) → kind_at text ≡ Some kind.Name → may_stand mode place gap kind.Name ≡ false → may_stand mode place gap kind.Key ≡ other → IsStuckHere mode place gap text (cond other (name_length text) 0)
+name_refused : (mode : Mode) (place : Before) (gap other : Bool) (text : List ℕ) → kind_at text ≡ Some kind.Name
+    → may_stand mode place gap kind.Name ≡ false → may_stand mode place gap kind.Key ≡ other
+    → IsStuckHere mode place gap text (cond other (name_length text) 0)
 name_refused mode place gap true text here not_there key =
     let w : List ℕ = take (name_length text) text in
     let viable = key_viable w (name_front text (name_length text) refl (name_some text here).0) in
     record {
       within = name_length-le text;
-      none = λ more varies. may_not mode place gap kind.Name (varied text (name_length text) more) (name_varies text more here varies) not_there;
-      viable = inr (record { tail = viable.0; item = viable.1; form = viable.2; stands = subst (λ (k : Kind). may_stand mode place gap k ≡ true) viable.3 key; cut = viable.4 });
+      none = λ more varies. may_not mode place gap kind.Name (varied text (name_length text) more)
+          (name_varies text more here varies) not_there;
+      viable = inr (record {
+        tail = viable.0;
+        item = viable.1;
+        form = viable.2;
+        stands =
+            subst (λ (k : Kind). may_stand mode place gap k ≡ true) viable.3 key;
+        cut = viable.4;
+      });
     }
 name_refused mode place gap false text here not_there key =
     let a = begins text kind.Name here in
     both_stuck mode place gap text a.first a.rest a.cut a.says.0 not_there key
 
-key_refused : (mode : Mode) (place : Before) (gap other : Bool) (text : List ℕ) → kind_at text ≡ Some kind.Key → may_stand mode place gap kind.Key ≡ false → may_stand mode place gap kind.Name ≡ other → IsStuckHere mode place gap text (cond other (name_length text) 0)
+key_refused : (mode : Mode) (place : Before) (gap other : Bool) (text : List ℕ) → kind_at text ≡ Some kind.Key
+    → may_stand mode place gap kind.Key ≡ false → may_stand mode place gap kind.Name ≡ other
+    → IsStuckHere mode place gap text (cond other (name_length text) 0)
 key_refused mode place gap true text here not_there name =
     let w : List ℕ = take (name_length text) text in
     record {
       within = name_length-le text;
       none = λ more varies. may_not mode place gap kind.Key (varied text (name_length text) more) (key_varies text more here) not_there;
-      viable = inr (record { tail = []; item = item.Name w; form = (name_front text (name_length text) refl (key_some text here).0, tt); stands = name; cut = append-nil w });
+      viable = inr (record {
+        tail = [];
+        item = item.Name w;
+        form = (name_front text (name_length text) refl (key_some text here).0, tt);
+        stands = name;
+        cut = append-nil w;
+      });
     }
 key_refused mode place gap false text here not_there name =
     let a = begins text kind.Key here in
     both_stuck mode place gap text a.first a.rest a.cut a.says.0 name not_there
 
-pub refused_stuck : (mode : Mode) (place : Before) (gap : Bool) (k : Kind) (text : List ℕ) → kind_at text ≡ Some k → may_stand mode place gap k ≡ false → IsStuckHere mode place gap text (refused_place mode place gap k (name_length text))
-refused_stuck mode place gap kind.Name text here not_there = name_refused mode place gap (may_stand mode place gap kind.Key) text here not_there refl
-refused_stuck mode place gap kind.Key text here not_there = key_refused mode place gap (may_stand mode place gap kind.Name) text here not_there refl
+pub refused_stuck : (mode : Mode) (place : Before) (gap : Bool) (k : Kind) (text : List ℕ) → kind_at text ≡ Some k
+    → may_stand mode place gap k ≡ false → IsStuckHere mode place gap text (refused_place mode place gap k (name_length text))
+refused_stuck mode place gap kind.Name text here not_there =
+    name_refused mode place gap (may_stand mode place gap kind.Key) text here not_there refl
+refused_stuck mode place gap kind.Key text here not_there =
+    key_refused mode place gap (may_stand mode place gap kind.Name) text here not_there refl
 refused_stuck mode place gap k text here not_there = sign_stuck mode place gap k text here not_there tt
 
-pub taken : (mode : Mode) (place : Before) (gap : Bool) (k : Kind) (text : List ℕ) (it : Item) (n : ℕ) → kind_at text ≡ Some k → may_stand mode place gap k ≡ true → IsCutOff text it n → IsAllowedItem mode place gap text it n
+pub taken : (mode : Mode) (place : Before) (gap : Bool) (k : Kind) (text : List ℕ) (it : Item) (n : ℕ) → kind_at text ≡ Some k
+    → may_stand mode place gap k ≡ true → IsCutOff text it n → IsAllowedItem mode place gap text it n
 taken mode place gap k text it n here may cut =
     let same = same_Some k (kind_of it) (sym here ∙ first_kind text it (drop n text) cut.first) in
     record { cut = cut; stands = rw (← same) may }
 
-pub refused : (mode : Mode) (place : Before) (gap : Bool) (k : Kind) (text : List ℕ) (e : SpecFault) → kind_at text ≡ Some k → may_stand mode place gap k ≡ true → IsItemFault text e → IsItemFaultHere mode place gap text e
+pub refused : (mode : Mode) (place : Before) (gap : Bool) (k : Kind) (text : List ℕ) (e : SpecFault) → kind_at text ≡ Some k
+    → may_stand mode place gap k ≡ true → IsItemFault text e → IsItemFaultHere mode place gap text e
 refused mode place gap k text (fault.Expected q) here may h =
     let same = same_Some k (kind_of h.item) (sym here ∙ h.kind) in
     record {

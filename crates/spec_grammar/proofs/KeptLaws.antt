@@ -23,10 +23,30 @@ pub record IsKept (mode : Mode) (p : Part) : Type 0 where
 
 pub kept_empty : (mode : Mode) (name : Option (List ℕ)) → IfSome name IsName → IsKept mode (empty_part name)
 unfolding IsStrictlySortedBy
-kept_empty mode name is = record { name = is; versions = tt; variants = tt; ordered = tt; compiler = tt; platform = tt; os = tt; targets = tt }
+kept_empty mode name is = record {
+  name = is;
+  versions = tt;
+  variants = tt;
+  ordered = tt;
+  compiler = tt;
+  platform = tt;
+  os =
+      tt;
+  targets = tt;
+}
 
 pub kept_name : (mode : Mode) (p : Part) (w : List ℕ) → IsName w → IsKept mode p → IsKept mode (record p { name = Some w })
-kept_name mode p w is h = record { name = is; versions = h.versions; variants = h.variants; ordered = h.ordered; compiler = h.compiler; platform = h.platform; os = h.os; targets = h.targets }
+kept_name mode p w is h = record {
+  name = is;
+  versions = h.versions;
+  variants = h.variants;
+  ordered = h.ordered;
+  compiler =
+      h.compiler;
+  platform = h.platform;
+  os = h.os;
+  targets = h.targets;
+}
 
 -- the same part with a constraint more
 abbrev pub IsMore : Mode → Part → Part → Type 0
@@ -39,32 +59,100 @@ unless false x next e = (refl, cc)
 more : (mode : Mode) (p : Part) (b : Bool) (x next : Part) → (if b then None else Some x) ≡ Some next → IsMore mode p x → IsMore mode p next
 more mode p b x next e h = subst (IsMore mode p) (unless b x next e).1 h
 
-kept_versions : (mode : Mode) (p next : Part) (l : List VersionItem) → IsKept mode p → AreListed l → first_empty 1 l ≡ None → add (Versions l) p ≡ Some next → IsMore mode p next
+kept_versions : (mode : Mode) (p next : Part) (l : List VersionItem) → IsKept mode p → AreListed l → first_empty 1 l ≡ None
+    → add (Versions l) p ≡ Some next → IsMore mode p next
 kept_versions mode p next l h are none e =
-    more mode p _ _ next e (record { name = h.name; versions = (are, none); variants = h.variants; ordered = h.ordered; compiler = h.compiler; platform = h.platform; os = h.os; targets = h.targets }, refl)
+    more mode p _ _ next e (
+      record {
+        name = h.name;
+        versions = (are, none);
+        variants = h.variants;
+        ordered = h.ordered;
+        compiler =
+            h.compiler;
+        platform = h.platform;
+        os = h.os;
+        targets = h.targets;
+      },
+      refl,
+    )
 
-kept_compiler : (mode : Mode) (p next : Part) (c : List ℕ × Option (List VersionItem)) → IsKept mode p → Asks mode (37 ∷ (c.0 ++ spell_list c.1)) (compiler_is c) → compiler_is c p ≡ Some next → IsMore mode p next
+kept_compiler : (mode : Mode) (p next : Part) (c : List ℕ × Option (List VersionItem)) → IsKept mode p
+    → Asks mode (37 ∷ (c.0 ++ spell_list c.1)) (compiler_is c) → compiler_is c p ≡ Some next → IsMore mode p next
 kept_compiler mode p next c h asks e =
-    more mode p _ _ next e (record { name = h.name; versions = h.versions; variants = h.variants; ordered = h.ordered; compiler = asks; platform = h.platform; os = h.os; targets = h.targets }, refl)
+    more mode p _ _ next e (
+      record {
+        name = h.name;
+        versions = h.versions;
+        variants = h.variants;
+        ordered = h.ordered;
+        compiler =
+            asks;
+        platform = h.platform;
+        os = h.os;
+        targets = h.targets;
+      },
+      refl,
+    )
 
-kept_platform : (mode : Mode) (p next : Part) (w : List ℕ) → IsKept mode p → Asks mode (codes "platform=" ++ w) (platform_is w) → platform_is w p ≡ Some next → IsMore mode p next
+kept_platform : (mode : Mode) (p next : Part) (w : List ℕ) → IsKept mode p → Asks mode (codes "platform=" ++ w) (platform_is w)
+    → platform_is w p ≡ Some next → IsMore mode p next
 kept_platform mode p next w h asks e =
-    more mode p _ _ next e (record { name = h.name; versions = h.versions; variants = h.variants; ordered = h.ordered; compiler = h.compiler; platform = asks; os = h.os; targets = h.targets }, refl)
+    more mode p _ _ next e (
+      record {
+        name = h.name;
+        versions = h.versions;
+        variants = h.variants;
+        ordered = h.ordered;
+        compiler =
+            h.compiler;
+        platform = asks;
+        os = h.os;
+        targets = h.targets;
+      },
+      refl,
+    )
 
-kept_os : (mode : Mode) (p next : Part) (w : List ℕ) → IsKept mode p → Asks mode (codes "os=" ++ w) (os_is w) → os_is w p ≡ Some next → IsMore mode p next
+kept_os : (mode : Mode) (p next : Part) (w : List ℕ) → IsKept mode p → Asks mode (codes "os=" ++ w) (os_is w) → os_is w p ≡ Some next
+    → IsMore mode p next
 kept_os mode p next w h asks e =
-    more mode p _ _ next e (record { name = h.name; versions = h.versions; variants = h.variants; ordered = h.ordered; compiler = h.compiler; platform = h.platform; os = asks; targets = h.targets }, refl)
+    more mode p _ _ next e (
+      record {
+        name = h.name;
+        versions = h.versions;
+        variants = h.variants;
+        ordered = h.ordered;
+        compiler =
+            h.compiler;
+        platform = h.platform;
+        os = asks;
+        targets = h.targets;
+      },
+      refl,
+    )
 
-kept_targets : (mode : Mode) (p next : Part) (values : List (List ℕ)) → IsKept mode p → may_have_all mode ≡ true → AreValues values → AllByRecursion IsTarget values → set_targets values p ≡ Some next → IsMore mode p next
+kept_targets : (mode : Mode) (p next : Part) (values : List (List ℕ)) → IsKept mode p → may_have_all mode ≡ true → AreValues values
+    → AllByRecursion IsTarget values → set_targets values p ≡ Some next → IsMore mode p next
 kept_targets mode p next [] h may are targets e = absurd are
 kept_targets mode p next (v ∷ values) h may are targets e =
     let kept = targets_kept (v ∷ values) are targets in
     more mode p _ _ next e (
-      record { name = h.name; versions = h.versions; variants = h.variants; ordered = h.ordered; compiler = h.compiler; platform = h.platform; os = h.os; targets = targets_asks mode (target_of v) (map target_of values) may kept },
+      record {
+        name = h.name;
+        versions = h.versions;
+        variants = h.variants;
+        ordered = h.ordered;
+        compiler = h.compiler;
+        platform =
+            h.platform;
+        os = h.os;
+        targets = targets_asks mode (target_of v) (map target_of values) may kept;
+      },
       refl,
     )
 
-kept_variant : (mode : Mode) (p next : Part) (w : List ℕ) (values : List (List ℕ)) → IsKept mode p → Asks mode (variant_text w values) (set_variant w values) → set_variant w values p ≡ Some next → IsMore mode p next
+kept_variant : (mode : Mode) (p next : Part) (w : List ℕ) (values : List (List ℕ)) → IsKept mode p
+    → Asks mode (variant_text w values) (set_variant w values) → set_variant w values p ≡ Some next → IsMore mode p next
 kept_variant mode p next w values h asks e =
     let new = unless (has_variant w p.variants) (record p { variants = with_variant (w, values) p.variants }) next e in
     subst (IsMore mode p) new.1 (
@@ -72,7 +160,8 @@ kept_variant mode p next w values h asks e =
         name = h.name;
         versions = h.versions;
         variants = all_set _ (w, values) p.variants h.variants asks;
-        ordered = subst IsInByteOrder (sym (names_set (w, values) p.variants new.0)) (with_text_in_order (variant_names p.variants) w h.ordered);
+        ordered = subst IsInByteOrder (sym (names_set (w, values) p.variants new.0))
+            (with_text_in_order (variant_names p.variants) w h.ordered);
         compiler = h.compiler;
         platform = h.platform;
         os = h.os;
@@ -81,35 +170,45 @@ kept_variant mode p next w values h asks e =
       refl,
     )
 
-kept_arch : (mode : Mode) (p next : Part) (value : List ℕ) → IsKept mode p → may_have_all mode ≡ true → Takes key.Arch (value ∷ []) → set_arch value p ≡ Some next → IsMore mode p next
+kept_arch : (mode : Mode) (p next : Part) (value : List ℕ) → IsKept mode p → may_have_all mode ≡ true → Takes key.Arch (value ∷ [])
+    → set_arch value p ≡ Some next → IsMore mode p next
 kept_arch mode p next value h may takes e =
     let parts = arch_parts value takes.1.0 in
     let rest : List ℕ = after_first is_dash value in
     let platform : List ℕ = truth (before_first is_dash value) in
     let os : List ℕ = truth (before_first is_dash rest) in
-    let first = some_then (λ a. option_and_then (λ b. set_targets (after_first is_dash rest ∷ []) b) (set_os (before_first is_dash rest) a)) (set_platform (before_first is_dash value) p) next e in
+    let first = some_then (λ a. option_and_then (λ b. set_targets (after_first is_dash rest ∷ []) b) (set_os (before_first is_dash rest) a))
+    (set_platform (before_first is_dash value) p) next e in
     let second = some_then (λ b. set_targets (after_first is_dash rest ∷ []) b) (set_os (before_first is_dash rest) first.0) next first.2 in
-    let one = kept_platform mode p first.0 platform h (platform_asks mode platform may (word_of (before_first is_dash value) parts.platform)) first.1 in
+    let one = kept_platform mode p first.0 platform h
+    (platform_asks mode platform may (word_of (before_first is_dash value) parts.platform)) first.1 in
     let two = kept_os mode first.0 second.0 os one.0 (os_asks mode os may (word_of (before_first is_dash rest) parts.os)) second.1 in
     let three = kept_targets mode second.0 next (after_first is_dash rest ∷ []) two.0 may (parts.target, tt) (parts.one, tt) second.2 in
     (three.0, three.1 ∙ two.1 ∙ one.1)
 
-kept_key : (mode : Mode) (p next : Part) (k : KeyKind) (w : List ℕ) (values : List (List ℕ)) → key_of w ≡ k → IsKept mode p → may_have_all mode ≡ true → IsName w → AreValues values → Takes k values → set_key k w values p ≡ Some next → IsMore mode p next
+kept_key : (mode : Mode) (p next : Part) (k : KeyKind) (w : List ℕ) (values : List (List ℕ)) → key_of w ≡ k → IsKept mode p
+    → may_have_all mode ≡ true → IsName w → AreValues values → Takes k values → set_key k w values p ≡ Some next → IsMore mode p next
 kept_key mode p next k w [] is h may name are takes e = absurd are
-kept_key mode p next key.Platform w (v ∷ values) is h may name are takes e = kept_platform mode p next (truth v) h (platform_asks mode (truth v) may (word_of v are.0)) e
-kept_key mode p next key.Os w (v ∷ values) is h may name are takes e = kept_os mode p next (truth v) h (os_asks mode (truth v) may (word_of v are.0)) e
+kept_key mode p next key.Platform w (v ∷ values) is h may name are takes e =
+    kept_platform mode p next (truth v) h (platform_asks mode (truth v) may (word_of v are.0)) e
+kept_key mode p next key.Os w (v ∷ values) is h may name are takes e =
+    kept_os mode p next (truth v) h (os_asks mode (truth v) may (word_of v are.0)) e
 kept_key mode p next key.Arch w (v ∷ []) is h may name are takes e = kept_arch mode p next v h may takes e
 kept_key mode p next key.Arch w (v ∷ u ∷ values) is h may name are takes e = absurd takes.0
 kept_key mode p next key.Target w (v ∷ values) is h may name are takes e = kept_targets mode p next (v ∷ values) h may are takes e
 kept_key mode p next key.Flags w (v ∷ values) is h may name are takes e = absurd takes
 kept_key mode p next key.Variant w (v ∷ values) is h may name are takes e =
-    kept_variant mode p next w (put_all [] (v ∷ values)) h (setting_asks mode w (put_all [] (v ∷ values)) may name is (values_kept (v ∷ values) are)) e
+    kept_variant mode p next w (put_all [] (v ∷ values)) h
+    (setting_asks mode w (put_all [] (v ∷ values)) may name is (values_kept (v ∷ values) are)) e
 
 -- an item that was read keeps it so
-pub kept_add : (mode : Mode) (p next : Part) (item : Item) → IsKept mode p → (IsBehind item → may_have_all mode ≡ true) → IsItem item → empty_place item ≡ None → add item p ≡ Some next → IsMore mode p next
+pub kept_add : (mode : Mode) (p next : Part) (item : Item) → IsKept mode p → (IsBehind item → may_have_all mode ≡ true) → IsItem item
+    → empty_place item ≡ None → add item p ≡ Some next → IsMore mode p next
 kept_add mode p next (Name w) h may form none e = absurd cc
 kept_add mode p next (Versions items) h may form none e = kept_versions mode p next items h form.0 none e
-kept_add mode p next (Variant mark w) h may form none e = kept_variant mode p next w (mark_value mark ∷ []) h (variant_asks mode mark w (may tt) form.0) e
-kept_add mode p next (Compiler w items) h may form none e = kept_compiler mode p next (w, items) h (compiler_asks mode w items (may tt) form none) e
+kept_add mode p next (Variant mark w) h may form none e =
+    kept_variant mode p next w (mark_value mark ∷ []) h (variant_asks mode mark w (may tt) form.0) e
+kept_add mode p next (Compiler w items) h may form none e =
+    kept_compiler mode p next (w, items) h (compiler_asks mode w items (may tt) form none) e
 kept_add mode p next (Key w values) h may form none e = kept_key mode p next (key_of w) w values refl h (may tt) form.0.0 form.0.1 form.1 e
 kept_add mode p next Caret h may form none e = absurd cc

@@ -15,14 +15,25 @@ Says b rest (Some kind.Compiler) = b ≡ 37
 Says b rest (Some kind.Key) = (is_start b ≡ true) × (starts_with_byte 61 rest ≡ true)
 Says b rest (Some kind.Caret) = b ≡ 94
 
-start_signs : (b : ℕ) → is_start b ≡ true → ((b == 64) ≡ false) × ((b == 43) ≡ false) × ((b == 126) ≡ false) × ((b == 45) ≡ false) × ((b == 37) ≡ false) × ((b == 94) ≡ false)
-start_signs b h = (grind (arith, nat_tests), grind (arith, nat_tests), grind (arith, nat_tests), grind (arith, nat_tests), grind (arith, nat_tests), grind (arith, nat_tests))
+start_signs : (b : ℕ) → is_start b ≡ true → ((b == 64) ≡ false) × ((b == 43) ≡ false) × ((b == 126) ≡ false) × ((b == 45) ≡ false)
+    × ((b == 37) ≡ false) × ((b == 94) ≡ false)
+start_signs b h = (
+  grind (arith, nat_tests),
+  grind (arith, nat_tests),
+  grind (arith, nat_tests),
+  grind (arith, nat_tests),
+  grind (arith, nat_tests),
+  grind
+      (arith, nat_tests),
+)
 
-says_if : (b : ℕ) (rest : List ℕ) (c : Bool) (k : Kind) (other : Option Kind) → (c ≡ true → Says b rest (Some k)) → Says b rest other → Says b rest (if c then Some k else other)
+says_if : (b : ℕ) (rest : List ℕ) (c : Bool) (k : Kind) (other : Option Kind) → (c ≡ true → Says b rest (Some k)) → Says b rest other
+    → Says b rest (if c then Some k else other)
 says_if b rest true k other f h = f refl
 says_if b rest false k other f h = h
 
-says_start : (b : ℕ) (rest : List ℕ) (start equals : Bool) → is_start b ≡ start → starts_with_byte 61 rest ≡ equals → Says b rest (if start then Some (if equals then kind.Key else kind.Name) else None)
+says_start : (b : ℕ) (rest : List ℕ) (start equals : Bool) → is_start b ≡ start → starts_with_byte 61 rest ≡ equals
+    → Says b rest (if start then Some (if equals then kind.Key else kind.Name) else None)
 says_start b rest true true h k = (h, k)
 says_start b rest true false h k = (h, k)
 says_start b rest false equals h k = h
@@ -33,7 +44,8 @@ says b rest =
     (says_if b rest (b == 43) (kind.Variant Plus) _ (eqb-true b 43)
     (says_if b rest (b == 126) (kind.Variant Tilde) _ (eqb-true b 126)
     (says_if b rest (b == 45) (kind.Variant Minus) _ (eqb-true b 45)
-    (says_if b rest (b == 37) kind.Compiler _ (eqb-true b 37) (says_if b rest (b == 94) kind.Caret _ (eqb-true b 94) (says_start b rest (is_start b) (starts_with_byte 61 rest) refl refl))))))
+    (says_if b rest (b == 37) kind.Compiler _ (eqb-true b 37)
+    (says_if b rest (b == 94) kind.Caret _ (eqb-true b 94) (says_start b rest (is_start b) (starts_with_byte 61 rest) refl refl))))))
 
 -- a text whose item is of this kind
 pub record Begins (text : List ℕ) (k : Kind) : Type 0 where
@@ -51,12 +63,14 @@ begins (b ∷ rest) k e =
 some_name : (b : ℕ) (rest : List ℕ) → is_start b ≡ true → 0 < name_length (b ∷ rest)
 some_name b rest h = rw h (omega arith)
 
-pub name_some : (text : List ℕ) → kind_at text ≡ Some kind.Name → (0 < name_length text) × (starts_with_byte 61 (drop (name_length text) text) ≡ false)
+pub name_some : (text : List ℕ) → kind_at text ≡ Some kind.Name → (0 < name_length text)
+    × (starts_with_byte 61 (drop (name_length text) text) ≡ false)
 name_some text e =
     let a = begins text kind.Name e in
     (rw a.cut (some_name a.first a.rest a.says.0), a.says.1)
 
-pub key_some : (text : List ℕ) → kind_at text ≡ Some kind.Key → (0 < name_length text) × (starts_with_byte 61 (drop (name_length text) text) ≡ true)
+pub key_some : (text : List ℕ) → kind_at text ≡ Some kind.Key → (0 < name_length text)
+    × (starts_with_byte 61 (drop (name_length text) text) ≡ true)
 key_some text e =
     let a = begins text kind.Key e in
     (rw a.cut (some_name a.first a.rest a.says.0), a.says.1)
@@ -77,25 +91,30 @@ pub over_key : (w rest : List ℕ) → IsOver (Name w) rest → starts_with_byte
 over_key w [] over = refl
 over_key w (b ∷ rest) over = false_from_ne_true (b == 61) (λ is. over b rest refl (or_right (is_name_byte b) (is_name_end b) (rw is refl)))
 
-pub named_by : (b : ℕ) (rest : List ℕ) → is_start b ≡ true → kind_by b rest ≡ Some (if starts_with_byte 61 rest then kind.Key else kind.Name)
+pub named_by : (b : ℕ) (rest : List ℕ) → is_start b ≡ true
+    → kind_by b rest ≡ Some (if starts_with_byte 61 rest then kind.Key else kind.Name)
 named_by b rest h = let n = start_signs b h in rw (h, n.0, n.1, n.2, n.3, n.4, n.5) refl
 
-pub named : (w rest : List ℕ) → IsName w → Stop is_name_byte rest → kind_at (w ++ rest) ≡ Some (if starts_with_byte 61 rest then kind.Key else kind.Name)
+pub named : (w rest : List ℕ) → IsName w → Stop is_name_byte rest
+    → kind_at (w ++ rest) ≡ Some (if starts_with_byte 61 rest then kind.Key else kind.Name)
 named [] rest h stop = absurd cc
 named (b ∷ w) rest h stop =
     let p = and_parts (is_start b) (list_all is_name_byte w) h in
-    let behind : drop (name_length ((b ∷ w) ++ rest)) ((b ∷ w) ++ rest) ≡ rest = drop_at (b ∷ w) rest _ (sym (name_length_is (b ∷ w) rest h stop)) in
+    let behind : drop (name_length ((b ∷ w) ++ rest)) ((b ∷ w) ++ rest) ≡ rest =
+    drop_at (b ∷ w) rest _ (sym (name_length_is (b ∷ w) rest h stop)) in
     ap (kind_by b) behind ∙ named_by b rest p.0
 
 pub kind_is : (item : Item) (rest : List ℕ) → HasShape item → IsOver item rest → kind_at (spell item ++ rest) ≡ Some (kind_of item)
-kind_is (Name w) rest shape over = named w rest shape (over_name w rest over) ∙ ap (λ v. Some (if v then kind.Key else kind.Name)) (over_key w rest over)
+kind_is (Name w) rest shape over = named w rest shape (over_name w rest over)
+    ∙ ap (λ v. Some (if v then kind.Key else kind.Name)) (over_key w rest over)
 kind_is (Versions items) rest shape over = refl
 kind_is (Variant Plus w) rest shape over = refl
 kind_is (Variant Tilde w) rest shape over = refl
 kind_is (Variant Minus w) rest shape over = refl
 kind_is (Compiler w items) rest shape over = refl
 kind_is (Key w values) rest shape over =
-    ap kind_at (append_assoc w (61 ∷ spell_values values) rest) ∙ named w (61 ∷ (spell_values values ++ rest)) shape.0 (stop_cons is_name_byte 61 (spell_values values ++ rest) refl)
+    ap kind_at (append_assoc w (61 ∷ spell_values values) rest)
+    ∙ named w (61 ∷ (spell_values values ++ rest)) shape.0 (stop_cons is_name_byte 61 (spell_values values ++ rest) refl)
 kind_is Caret rest shape over = refl
 
 pub first_kind : (text : List ℕ) (item : Item) (rest : List ℕ) → IsFirst text item rest → kind_at text ≡ Some (kind_of item)

@@ -21,7 +21,11 @@ AreBelow w texts = AllByRecursion (λ u. byte_cmp w u ≡ Greater) texts
 pub before_above : (front : List (List ℕ)) (w : List ℕ) (rest : List (List ℕ)) → IsInByteOrder (front ++ w ∷ rest) → AreBelow w front
 unfolding IsStrictlySortedBy
 before_above [] w rest s = tt
-before_above (u ∷ front) w rest s = (nat_list_cmp_total.antisymm w u ∙ ap ordering_reverse (all_at (λ v. byte_cmp u v ≡ Less) front w rest s.0), before_above front w rest s.1)
+before_above (u ∷ front) w rest s = (
+  nat_list_cmp_total.antisymm w u
+      ∙ ap ordering_reverse (all_at (λ v. byte_cmp u v ≡ Less) front w rest s.0),
+  before_above front w rest s.1,
+)
 
 -- ---- texts
 
@@ -30,19 +34,23 @@ with_last [] w h = refl
 with_last (u ∷ texts) w h = rw h.0 (ap (λ l. u ∷ l) (with_last texts w h.1))
 
 -- texts that stand in byte order are put as they stand
-pub put_same : (front values : List (List ℕ)) → IsInByteOrder (front ++ values) → AllByRecursion (λ w. truth w ≡ w) values → put_all front values ≡ front ++ values
+pub put_same : (front values : List (List ℕ)) → IsInByteOrder (front ++ values) → AllByRecursion (λ w. truth w ≡ w) values
+    → put_all front values ≡ front ++ values
 unfolding put_all
 put_same front [] s h = sym (append-nil front)
 put_same front (w ∷ values) s h =
     let one : with_text front (truth w) ≡ front ++ w ∷ [] = ap (with_text front) h.0 ∙ with_last front w (before_above front w values s) in
-    ap (λ texts. put_all texts values) one ∙ put_same (front ++ w ∷ []) values (subst IsInByteOrder (sym (append_assoc front (w ∷ []) values)) s) h.1 ∙ append_assoc front (w ∷ []) values
+    ap (λ texts. put_all texts values) one ∙ put_same (front ++ w ∷ []) values
+    (subst IsInByteOrder (sym (append_assoc front (w ∷ []) values)) s) h.1 ∙ append_assoc front (w ∷ []) values
 
-pub all_with : (P : List ℕ → Type 0) (texts : List (List ℕ)) (w : List ℕ) → AllByRecursion P texts → P w → AllByRecursion P (with_text texts w)
+pub all_with : (P : List ℕ → Type 0) (texts : List (List ℕ)) (w : List ℕ) → AllByRecursion P texts → P w
+    → AllByRecursion P (with_text texts w)
 all_with P texts w h p = recursion_from_All P _ (All-insert_key byte_cmp w P texts (All-from_recursion P texts h) p)
 
 with_some : (texts : List (List ℕ)) (w : List ℕ) → 0 < length (with_text texts w)
 with_some [] w = omega arith
-with_some (u ∷ texts) w = elim (byte_cmp w u) as (λ r. 0 < length (match_ordering r (w ∷ u ∷ texts) (u ∷ texts) (u ∷ with_text texts w))) [ Less ↦ omega arith | Equal ↦ omega arith | Greater ↦ omega arith ]
+with_some (u ∷ texts) w = elim (byte_cmp w u) as (λ r. 0 < length (match_ordering r (w ∷ u ∷ texts) (u ∷ texts) (u ∷ with_text texts w)))
+    [ Less ↦ omega arith | Equal ↦ omega arith | Greater ↦ omega arith ]
 
 pub put_some : (texts values : List (List ℕ)) → 0 < length texts → 0 < length (put_all texts values)
 unfolding put_all
@@ -69,27 +77,34 @@ not_there w [] h = refl
 not_there w (v ∷ front) h = rw (other_name w v.0 h.0, not_there w front h.1) refl
 
 -- a variant with a name above all others stands last
-pub set_last : (new : List ℕ × List (List ℕ)) (front : Variants) → AreBelow new.0 (variant_names front) → with_variant new front ≡ front ++ new ∷ []
+pub set_last : (new : List ℕ × List (List ℕ)) (front : Variants) → AreBelow new.0 (variant_names front)
+    → with_variant new front ≡ front ++ new ∷ []
 unfolding with_variant
 set_last new [] h = refl
 set_last new (v ∷ front) h = rw h.0 (ap (λ l. v ∷ l) (set_last new front h.1))
 
-pub all_set : (P : (List ℕ × List (List ℕ)) → Type 0) (new : List ℕ × List (List ℕ)) (variants : Variants) → AllByRecursion P variants → P new → AllByRecursion P (with_variant new variants)
+pub all_set : (P : (List ℕ × List (List ℕ)) → Type 0) (new : List ℕ × List (List ℕ)) (variants : Variants) → AllByRecursion P variants
+    → P new → AllByRecursion P (with_variant new variants)
 unfolding with_variant
 all_set P new [] h p = (p, tt)
-all_set P new (v ∷ variants) h p = elim (byte_cmp new.0 v.0) as (λ r. AllByRecursion P (set_at r new v variants (with_variant new variants))) [
-  | Less ↦ (p, h)
-  | Equal ↦ (p, h)
-  | Greater ↦ (h.0, all_set P new variants h.1 p)
-]
+all_set P new (v ∷ variants) h p = elim (byte_cmp new.0 v.0) as
+    (λ r. AllByRecursion P (set_at r new v variants (with_variant new variants))) [
+      | Less ↦ (p, h)
+      | Equal ↦ (p, h)
+      | Greater ↦ (h.0, all_set P new variants h.1 p)
+    ]
 
-pub names_set : (new : List ℕ × List (List ℕ)) (variants : Variants) → has_variant new.0 variants ≡ false → variant_names (with_variant new variants) ≡ with_text (variant_names variants) new.0
+pub names_set : (new : List ℕ × List (List ℕ)) (variants : Variants) → has_variant new.0 variants ≡ false
+    → variant_names (with_variant new variants) ≡ with_text (variant_names variants) new.0
 unfolding with_variant
 names_set new [] h = refl
 names_set new (v ∷ variants) h =
     let apart = or_parts (bytes_eq v.0 new.0) (has_variant new.0 variants) h in
-    elim (byte_cmp new.0 v.0) as (λ r. byte_cmp new.0 v.0 ≡ r → variant_names (set_at r new v variants (with_variant new variants)) ≡ match_ordering r (new.0 ∷ v.0 ∷ variant_names variants) (v.0 ∷ variant_names variants) (v.0 ∷ with_text (variant_names variants) new.0)) [
+    elim (byte_cmp new.0 v.0) as (λ r. byte_cmp new.0 v.0 ≡ r
+    → variant_names (set_at r new v variants (with_variant new variants)) ≡ match_ordering r (new.0 ∷ v.0 ∷ variant_names variants)
+    (v.0 ∷ variant_names variants) (v.0 ∷ with_text (variant_names variants) new.0)) [
       | Less ↦ λ e. refl
-      | Equal ↦ λ e. true_false (bytes_eq v.0 new.0) (ap (λ w. bytes_eq w new.0) (sym (ties_are_equal new.0 v.0 e)) ∙ same_name new.0) apart.0
+      | Equal ↦ λ e. true_false (bytes_eq v.0 new.0) (ap (λ w. bytes_eq w new.0) (sym (ties_are_equal new.0 v.0 e))
+          ∙ same_name new.0) apart.0
       | Greater ↦ λ e. ap (λ l. v.0 ∷ l) (names_set new variants apart.1)
     ] refl

@@ -55,14 +55,17 @@ pub has_variant-is : (w : List ℕ) (variants : Variants) → is_some (lookup (i
 has_variant-is w variants = is_some-lookup (is_at (slice_cmp nat_cmp w)) variants ∙ named w variants
 
 -- a name that is new goes to its place
-pub set-is : (w : List ℕ) (values : List (List ℕ)) (variants : Variants) → has_variant w variants ≡ false → insert_entry (slice_cmp nat_cmp) variants w values ≡ with_variant (w, values) variants
+pub set-is : (w : List ℕ) (values : List (List ℕ)) (variants : Variants) → has_variant w variants ≡ false
+    → insert_entry (slice_cmp nat_cmp) variants w values ≡ with_variant (w, values) variants
 unfolding with_variant
 set-is w values [] new = refl
 set-is w values (v ∷ variants) new = elim (cases_Bool (bytes_eq v.0 w)) [
   | inl is ↦ absurd (true≢false (sym (rw is refl) ∙ new))
   | inr other ↦
       let rest = set-is w values variants (rw other at new) in
-      elim (slice_cmp nat_cmp w v.0) as (λ r. is_eq r ≡ false → match_ordering r ((w, values) ∷ v ∷ variants) ((v.0, values) ∷ variants) (v ∷ insert_entry (slice_cmp nat_cmp) variants w values) ≡ set_at r (w, values) v variants (with_variant (w, values) variants)) [
+      elim (slice_cmp nat_cmp w v.0) as (λ r. is_eq r ≡ false
+      → match_ordering r ((w, values) ∷ v ∷ variants) ((v.0, values) ∷ variants)
+      (v ∷ insert_entry (slice_cmp nat_cmp) variants w values) ≡ set_at r (w, values) v variants (with_variant (w, values) variants)) [
         | Less ↦ λ e. refl
         | Equal ↦ λ e. absurd (true≢false e)
         | Greater ↦ λ e. ap (λ l. v ∷ l) rest
@@ -71,10 +74,12 @@ set-is w values (v ∷ variants) new = elim (cases_Bool (bytes_eq v.0 w)) [
 
 -- ---- targets
 
-pub target_range : (w : List ℕ) → position_or_len is_colon w < length w → target_of w ≡ record { low = end_of (before_first is_colon w); high = end_of (after_first is_colon w); range = true }
+pub target_range : (w : List ℕ) → position_or_len is_colon w < length w
+    → target_of w ≡ record { low = end_of (before_first is_colon w); high = end_of (after_first is_colon w); range = true }
 unfolding target_of
 target_range w lt = rw (any_some is_colon w lt) refl
 
-pub target_alone : (w : List ℕ) → position_or_len is_colon w ≡ length w → target_of w ≡ record { low = Some (truth w); high = None; range = false }
+pub target_alone : (w : List ℕ) → position_or_len is_colon w ≡ length w
+    → target_of w ≡ record { low = Some (truth w); high = None; range = false }
 unfolding target_of
 target_alone w e = rw (any_none is_colon w e) refl

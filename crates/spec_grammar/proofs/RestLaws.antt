@@ -99,14 +99,16 @@ only_unless : (b : Bool) (s : Run) (rest : List ℕ) → RestAfter (cond b None 
 only_unless true s rest r = absurd r
 only_unless false s rest r = (refl, r)
 
-pick : (b : Bool) (o p : Option Run) (rest : List ℕ) → RestAfter (cond b o p) rest → ((b ≡ true) × RestAfter o rest) ⊎ ((b ≡ false) × RestAfter p rest)
+pick : (b : Bool) (o p : Option Run) (rest : List ℕ) → RestAfter (cond b o p) rest → ((b ≡ true) × RestAfter o rest)
+    ⊎ ((b ≡ false) × RestAfter p rest)
 pick true o p rest r = inl (refl, r)
 pick false o p rest r = inr (refl, r)
 
 comma_front : (F P : List ℕ → Type 0) (b : ℕ) (rest : List ℕ) → F [] → b ≡ 44 → Comma P P rest → Comma F P (b ∷ rest)
 comma_front F P b rest f k (v, values, h, are, e) = ([], v ∷ values, f, (h, are), cc)
 
-dash_front : (some : Bool) (Next : List ℕ → Type 0) (next same : Run) (b : ℕ) (rest : List ℕ) → (Rest next rest → Next rest) → (Rest same rest → Dash true Next rest)
+dash_front : (some : Bool) (Next : List ℕ → Type 0) (next same : Run) (b : ℕ) (rest : List ℕ) → (Rest next rest → Next rest)
+    → (Rest same rest → Dash true Next rest)
     → RestAfter (cond (b == 45) (cond some (Some next) None) (cond (is_value_byte b) (Some same) None)) rest → Dash some Next (b ∷ rest)
 dash_front some Next next same b rest f g r = elim (pick (b == 45) _ _ rest r) [
   | inl (h, x) ↦ let o = only_if some next rest x in ([], rest, o.0, f o.1, ap (λ c. c ∷ rest) (eqb-true b 45 h))
@@ -120,24 +122,35 @@ last_front : (some colon : Bool) (b : ℕ) (rest : List ℕ) → RestAfter (afte
 last_front some colon b rest r = elim (pick (b == 45) _ _ rest r) [
   | inl (h, x) ↦ absurd x
   | inr (h, x) ↦ elim (pick (b == 58) _ _ rest x) [
-    | inl (k, y) ↦ let o = only_unless colon (Third true true) rest y in (bytes_front is_piece_byte some b rest (rw (eqb-true b 58 k) refl) o.1.0, colon_front colon b rest k o.0 o.1.1)
-    | inr (k, y) ↦ let o = only_if (is_value_byte b) (Third true colon) rest y in (bytes_front is_piece_byte some b rest (piece_byte b o.0 h) o.1.0, other_front colon b rest k o.1.1)
+    | inl (k, y) ↦ let o = only_unless colon (Third true true) rest y in
+        (bytes_front is_piece_byte some b rest (rw (eqb-true b 58 k) refl) o.1.0, colon_front colon b rest k o.0 o.1.1)
+    | inr (k, y) ↦ let o = only_if (is_value_byte b) (Third true colon) rest y in
+        (bytes_front is_piece_byte some b rest (piece_byte b o.0 h) o.1.0, other_front colon b rest k o.1.1)
   ]
 ]
 
-target_front : (some colon : Bool) (b : ℕ) (rest : List ℕ) → RestAfter (after (Target some colon) b) rest → Rest (Target some colon) (b ∷ rest)
+target_front : (some colon : Bool) (b : ℕ) (rest : List ℕ) → RestAfter (after (Target some colon) b) rest
+    → Rest (Target some colon) (b ∷ rest)
 target_front some colon b rest r = elim (pick (b == 58) _ _ rest r) [
   | inl (h, x) ↦
       let o = only_unless colon (Target true true) rest x in
-      let (v, values, f, are, e) = o.1 in
-      (b ∷ v, values, (bytes_front is_value_byte some b v (rw (eqb-true b 58 h) refl) f.0, colon_front colon b v h o.0 f.1), are, ap (λ l. b ∷ l) e)
+      let (v, values, f, are, e) = o.1 in (
+        b ∷ v,
+        values,
+        (bytes_front is_value_byte some b v (rw (eqb-true b 58 h) refl) f.0, colon_front colon b v h o.0 f.1),
+        are,
+        ap
+            (λ l. b ∷ l) e,
+      )
   | inr (h, x) ↦ elim (pick (is_value_byte b) _ _ rest x) [
-    | inl (k, (v, values, f, are, e)) ↦ (b ∷ v, values, (bytes_front is_value_byte some b v k f.0, other_front colon b v h f.1), are, ap (λ l. b ∷ l) e)
+    | inl (k, (v, values, f, are, e)) ↦
+        (b ∷ v, values, (bytes_front is_value_byte some b v k f.0, other_front colon b v h f.1), are, ap (λ l. b ∷ l) e)
     | inr (k, y) ↦
         let o = only_if (b == 44 && some) (Target false false) rest y in
         let q = and_parts (b == 44) some o.0 in
         let (v, values, f, are, e) = o.1 in
-        comma_front (λ w. (are_bytes is_value_byte some w ≡ true) × IsWithin colon w) (λ w. IsValue w × IsTarget w) b rest (q.1, one-le colon) (eqb-true b 44 q.0) (v, values, (rw (← value_same v) f.0, omega (arith, f.1)), are, e)
+        comma_front (λ w. (are_bytes is_value_byte some w ≡ true) × IsWithin colon w) (λ w. IsValue w × IsTarget w) b rest
+        (q.1, one-le colon) (eqb-true b 44 q.0) (v, values, (rw (← value_same v) f.0, omega (arith, f.1)), are, e)
   ]
 ]
 
@@ -149,7 +162,8 @@ prepend (Many some) b rest r = elim (pick (is_value_byte b) _ _ rest r) [
       let o = only_if (b == 44 && some) (Many false) rest x in
       let q = and_parts (b == 44) some o.0 in
       let (v, values, f, are, e) = o.1 in
-      comma_front (λ w. are_bytes is_value_byte some w ≡ true) IsValue b rest q.1 (eqb-true b 44 q.0) (v, values, rw (← value_same v) f, are, e)
+      comma_front (λ w. are_bytes is_value_byte some w ≡ true) IsValue b rest q.1 (eqb-true b 44 q.0)
+      (v, values, rw (← value_same v) f, are, e)
 ]
 prepend (Target some colon) b rest r = target_front some colon b rest r
 prepend (First some) b rest r = dash_front some (Dash false (IsLast false false)) (Second false) (First true) b rest (λ x. x) (λ x. x) r
@@ -158,12 +172,14 @@ prepend (Third some colon) b rest r = last_front some colon b rest r
 
 -- ---- one byte less
 
-comma_back : (F P : List ℕ → Type 0) (b : ℕ) (rest : List ℕ) → Comma F P (b ∷ rest) → (F [] × (b ≡ 44) × Comma P P rest) ⊎ Comma (λ v. F (b ∷ v)) P rest
+comma_back : (F P : List ℕ → Type 0) (b : ℕ) (rest : List ℕ) → Comma F P (b ∷ rest) → (F [] × (b ≡ 44) × Comma P P rest)
+    ⊎ Comma (λ v. F (b ∷ v)) P rest
 comma_back F P b rest ([], [], f, are, e) = cons_none b rest e
 comma_back F P b rest ([], v ∷ values, f, are, e) = let t = two_cons _ _ _ _ e in inl (f, t.0, (v, values, are.0, are.1, t.1))
 comma_back F P b rest (c ∷ v, values, f, are, e) = let t = two_cons _ _ _ _ e in inr (v, values, rw t.0 f, are, t.1)
 
-dash_back : (some : Bool) (Next : List ℕ → Type 0) (next same : Run) (b : ℕ) (rest : List ℕ) → (Next rest → Rest next rest) → (Dash true Next rest → Rest same rest)
+dash_back : (some : Bool) (Next : List ℕ → Type 0) (next same : Run) (b : ℕ) (rest : List ℕ) → (Next rest → Rest next rest)
+    → (Dash true Next rest → Rest same rest)
     → Dash some Next (b ∷ rest) → RestAfter (cond (b == 45) (cond some (Some next) None) (cond (is_value_byte b) (Some same) None)) rest
 dash_back some Next next same b rest f g ([], more, bytes, n, e) = let t = two_cons _ _ _ _ e in rw (t.0, bytes) (f (rw t.1 n))
 dash_back some Next next same b rest f g (c ∷ w, more, bytes, n, e) =
@@ -181,7 +197,8 @@ last_back some colon b rest (bytes, count) =
       | inr k ↦ rw (p.1, p.0, k) (q.1, other_back colon b rest k count)
     ]
 
-target_back : (some colon : Bool) (b : ℕ) (rest : List ℕ) → Rest (Target some colon) (b ∷ rest) → RestAfter (after (Target some colon) b) rest
+target_back : (some colon : Bool) (b : ℕ) (rest : List ℕ) → Rest (Target some colon) (b ∷ rest)
+    → RestAfter (after (Target some colon) b) rest
 target_back some colon b rest r = elim (comma_back _ _ b rest r) [
   | inl (f, k, (v, values, h, are, e)) ↦ rw (k, f.0) (v, values, (rw (value_same v) h.0, omega (arith, h.1)), are, e)
   | inr (v, values, f, are, e) ↦

@@ -52,7 +52,8 @@ run_is p (b ∷ w) rest h s =
     let q = and_parts (p b) (list_all p w) h in
     rw (q.0, run_is p w rest q.1 s) (omega arith)
 
-pub run_cut : (p : ℕ → Bool) (w v r s : List ℕ) → list_all p w ≡ true → list_all p v ≡ true → Stop p r → Stop p s → w ++ r ≡ v ++ s → (w ≡ v) × (r ≡ s)
+pub run_cut : (p : ℕ → Bool) (w v r s : List ℕ) → list_all p w ≡ true → list_all p v ≡ true → Stop p r → Stop p s → w ++ r ≡ v ++ s
+    → (w ≡ v) × (r ≡ s)
 run_cut p [] [] r s hw hv sr ss e = (refl, e)
 run_cut p [] (b ∷ v) r s hw hv sr ss e = true_false (p b) (and_parts (p b) (list_all p v) hv).0 (sr b (v ++ s) e)
 run_cut p (b ∷ w) [] r s hw hv sr ss e = true_false (p b) (and_parts (p b) (list_all p w) hw).0 (ss b (w ++ r) (sym e))

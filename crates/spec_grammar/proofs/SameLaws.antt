@@ -51,15 +51,20 @@ step_some : (s : Step) → HasShape s.item → spell_step s ≡ [] → ⊥
 step_some s h e = gap_some s.gap (spell s.item) (some_item s.item [] h) e
 
 -- the first item of these
-first_over : (mode : Mode) (item : Item) (more : List Step) (trail rest : List ℕ) → AreRight mode (Some item) more → IsOverLast (last_of (Some item) more) (trail ++ rest) → IsOver item (spell_steps more ++ (trail ++ rest))
+first_over : (mode : Mode) (item : Item) (more : List Step) (trail rest : List ℕ) → AreRight mode (Some item) more
+    → IsOverLast (last_of (Some item) more) (trail ++ rest) → IsOver item (spell_steps more ++ (trail ++ rest))
 first_over mode item [] trail rest are over = over
 first_over mode item (t ∷ more) trail rest are over =
-    subst (IsOver item) (sym (append_assoc (spell_step t) (spell_steps more) (trail ++ rest))) (over_more item (spell_step t) (spell_steps more ++ (trail ++ rest)) are.0.over (step_some t are.0.form.0))
+    subst (IsOver item) (sym (append_assoc (spell_step t) (spell_steps more) (trail ++ rest)))
+    (over_more item (spell_step t) (spell_steps more ++ (trail ++ rest)) are.0.over (step_some t are.0.form.0))
 
-step_first : (mode : Mode) (last : Option Item) (text : List ℕ) (s : Step) (more : List Step) (trail rest : List ℕ) → Cuts mode last text (s ∷ more) trail rest
-    → (text ≡ s.gap ++ (spell s.item ++ (spell_steps more ++ (trail ++ rest)))) × IsFirst (spell s.item ++ (spell_steps more ++ (trail ++ rest))) s.item (spell_steps more ++ (trail ++ rest))
+step_first : (mode : Mode) (last : Option Item) (text : List ℕ) (s : Step) (more : List Step) (trail rest : List ℕ)
+    → Cuts mode last text (s ∷ more) trail rest
+    → (text ≡ s.gap ++ (spell s.item ++ (spell_steps more ++ (trail ++ rest))))
+    × IsFirst (spell s.item ++ (spell_steps more ++ (trail ++ rest))) s.item (spell_steps more ++ (trail ++ rest))
 step_first mode last text s more trail rest c = (
-  c.spelled ∙ append_assoc (spell_step s) (spell_steps more) (trail ++ rest) ∙ append_assoc s.gap (spell s.item) (spell_steps more ++ (trail ++ rest)),
+  c.spelled ∙ append_assoc (spell_step s) (spell_steps more) (trail ++ rest)
+      ∙ append_assoc s.gap (spell s.item) (spell_steps more ++ (trail ++ rest)),
   record { cut = refl; form = c.right.0.form; over = first_over mode s.item more trail rest c.right.1 c.over },
 )
 
@@ -76,12 +81,23 @@ pub record GoesOnWith (mode : Mode) (last : Option Item) (steps : List Step) (tr
 abbrev pub AreSame : List Step → List ℕ → List ℕ → List Step → List ℕ → List ℕ → Type 0
 AreSame a ta ra b tb rb = (a ≡ b) × (ta ≡ tb) × (ra ≡ rb)
 
-none_first : (mode : Mode) (last : Option Item) (text : List ℕ) (ta ra : List ℕ) (s : Step) (more : List Step) (tb rb : List ℕ) → Cuts mode last text [] ta ra → Cuts mode last text (s ∷ more) tb rb → GoesOnWith mode last [] ta ra (s ∷ more)
+none_first : (mode : Mode) (last : Option Item) (text : List ℕ) (ta ra : List ℕ) (s : Step) (more : List Step) (tb rb : List ℕ)
+    → Cuts mode last text [] ta ra → Cuts mode last text (s ∷ more) tb rb → GoesOnWith mode last [] ta ra (s ∷ more)
 none_first mode last text ta ra s more tb rb a b =
     let f = step_first mode last text s more tb rb b in
     let tail : List ℕ = spell_steps more ++ (tb ++ rb) in
-    let cut = run_cut is_white ta s.gap ra (spell s.item ++ tail) a.white b.right.0.white a.dark (item_dark s.item tail b.right.0.form.0) (sym a.spelled ∙ f.0) in
-    record { step = s; more = more; tail = tail; joined = refl; gap = sym cut.0; first = subst (λ (l : List ℕ). IsFirst l s.item tail) (sym cut.1) f.1; right = b.right.0 }
+    let cut = run_cut is_white ta s.gap ra (spell s.item ++ tail) a.white b.right.0.white a.dark (item_dark s.item tail b.right.0.form.0)
+    (sym a.spelled ∙ f.0) in
+    record {
+      step = s;
+      more = more;
+      tail = tail;
+      joined = refl;
+      gap = sym cut.0;
+      first =
+          subst (λ (l : List ℕ). IsFirst l s.item tail) (sym cut.1) f.1;
+      right = b.right.0;
+    }
 
 next_same : (s t : Step) → s.gap ≡ t.gap → s.item ≡ t.item → s ≡ t
 next_same s t g i = ap (λ (l : List ℕ). record { gap = l; item = s.item }) g ∙ ap (λ (x : Item). record { gap = t.gap; item = x }) i
@@ -90,13 +106,35 @@ compare_more : (mode : Mode) (last : Option Item) (s : Step) (a : List Step) (ta
     → AreSame a ta ra b tb rb ⊎ (GoesOnWith mode (Some s.item) a ta ra b ⊎ GoesOnWith mode (Some s.item) b tb rb a)
     → AreSame (s ∷ a) ta ra (s ∷ b) tb rb ⊎ (GoesOnWith mode last (s ∷ a) ta ra (s ∷ b) ⊎ GoesOnWith mode last (s ∷ b) tb rb (s ∷ a))
 compare_more mode last s a ta ra b tb rb (inl same) = inl (ap (λ (l : List Step). s ∷ l) same.0, same.1, same.2)
-compare_more mode last s a ta ra b tb rb (inr (inl g)) = inr (inl (record { step = g.step; more = g.more; tail = g.tail; joined = ap (λ (l : List Step). s ∷ l) g.joined; gap = g.gap; first = g.first; right = g.right }))
-compare_more mode last s a ta ra b tb rb (inr (inr g)) = inr (inr (record { step = g.step; more = g.more; tail = g.tail; joined = ap (λ (l : List Step). s ∷ l) g.joined; gap = g.gap; first = g.first; right = g.right }))
+compare_more mode last s a ta ra b tb rb (inr (inl g)) =
+    inr (inl (record {
+      step = g.step;
+      more = g.more;
+      tail = g.tail;
+      joined = ap (λ (l : List Step). s ∷ l) g.joined;
+      gap = g.gap;
+      first =
+          g.first;
+      right = g.right;
+    }))
+compare_more mode last s a ta ra b tb rb (inr (inr g)) =
+    inr (inr (record {
+      step = g.step;
+      more = g.more;
+      tail = g.tail;
+      joined = ap (λ (l : List Step). s ∷ l) g.joined;
+      gap = g.gap;
+      first =
+          g.first;
+      right = g.right;
+    }))
 
-tail_cuts : (mode : Mode) (last : Option Item) (text : List ℕ) (s : Step) (more : List Step) (trail rest : List ℕ) → Cuts mode last text (s ∷ more) trail rest → Cuts mode (Some s.item) (spell_steps more ++ (trail ++ rest)) more trail rest
+tail_cuts : (mode : Mode) (last : Option Item) (text : List ℕ) (s : Step) (more : List Step) (trail rest : List ℕ)
+    → Cuts mode last text (s ∷ more) trail rest → Cuts mode (Some s.item) (spell_steps more ++ (trail ++ rest)) more trail rest
 tail_cuts mode last text s more trail rest c = record { right = c.right.1; white = c.white; spelled = refl; over = c.over; dark = c.dark }
 
-pub compare : (mode : Mode) (last : Option Item) (text : List ℕ) (a : List Step) (ta ra : List ℕ) (b : List Step) (tb rb : List ℕ) → Cuts mode last text a ta ra → Cuts mode last text b tb rb
+pub compare : (mode : Mode) (last : Option Item) (text : List ℕ) (a : List Step) (ta ra : List ℕ) (b : List Step) (tb rb : List ℕ)
+    → Cuts mode last text a ta ra → Cuts mode last text b tb rb
     → AreSame a ta ra b tb rb ⊎ (GoesOnWith mode last a ta ra b ⊎ GoesOnWith mode last b tb rb a)
 compare mode last text [] ta ra [] tb rb x y =
     let cut = run_cut is_white ta tb ra rb x.white y.white x.dark y.dark (sym x.spelled ∙ y.spelled) in
@@ -108,10 +146,14 @@ compare mode last text (s ∷ a) ta ra (t ∷ b) tb rb x y =
     let g = step_first mode last text t b tb rb y in
     let taila : List ℕ = spell_steps a ++ (ta ++ ra) in
     let tailb : List ℕ = spell_steps b ++ (tb ++ rb) in
-    let cut = run_cut is_white s.gap t.gap (spell s.item ++ taila) (spell t.item ++ tailb) x.right.0.white y.right.0.white (item_dark s.item taila x.right.0.form.0) (item_dark t.item tailb y.right.0.form.0) (sym f.0 ∙ g.0) in
-    let one = one_first (spell s.item ++ taila) s.item t.item taila tailb f.1 (subst (λ (l : List ℕ). IsFirst l t.item tailb) (sym cut.1) g.1) in
+    let cut = run_cut is_white s.gap t.gap (spell s.item ++ taila) (spell t.item ++ tailb) x.right.0.white y.right.0.white
+    (item_dark s.item taila x.right.0.form.0) (item_dark t.item tailb y.right.0.form.0) (sym f.0 ∙ g.0) in
+    let one = one_first (spell s.item ++ taila) s.item t.item taila tailb f.1
+    (subst (λ (l : List ℕ). IsFirst l t.item tailb) (sym cut.1) g.1) in
     let same : s ≡ t = next_same s t cut.0 one.0 in
     let moved = subst (λ (z : Step). Cuts mode last text (z ∷ b) tb rb) (sym same) y in
     let tails = subst (λ (l : List ℕ). Cuts mode (Some s.item) l b tb rb) (sym one.1) (tail_cuts mode last text s b tb rb moved) in
-    subst (λ (z : Step). AreSame (s ∷ a) ta ra (z ∷ b) tb rb ⊎ (GoesOnWith mode last (s ∷ a) ta ra (z ∷ b) ⊎ GoesOnWith mode last (z ∷ b) tb rb (s ∷ a))) same
-    (compare_more mode last s a ta ra b tb rb (compare mode (Some s.item) taila a ta ra b tb rb (tail_cuts mode last text s a ta ra x) tails))
+    subst (λ (z : Step). AreSame (s ∷ a) ta ra (z ∷ b) tb rb
+    ⊎ (GoesOnWith mode last (s ∷ a) ta ra (z ∷ b) ⊎ GoesOnWith mode last (z ∷ b) tb rb (s ∷ a))) same
+    (compare_more mode last s a ta ra b tb rb (compare mode (Some s.item) taila a ta ra b tb rb
+    (tail_cuts mode last text s a ta ra x) tails))

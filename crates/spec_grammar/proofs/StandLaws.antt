@@ -35,7 +35,8 @@ dark_of (b ∷ l) stop lt = stop b l refl
 pub white_dark : (text : List ℕ) (n w : ℕ) → w ≡ prefix_len is_white (drop n text) → n + w < length text → IsDark (drop (n + w) text)
 white_dark text n w e lt =
     let same : drop w (drop n text) ≡ drop (n + w) text = drop-drop w n text in
-    rw (← same, e) (dark_of (drop (prefix_len is_white (drop n text)) (drop n text)) (run_stop is_white (drop n text)) (omega (arith, length-drop n text, length-drop (prefix_len is_white (drop n text)) (drop n text))))
+    rw (← same, e) (dark_of (drop (prefix_len is_white (drop n text)) (drop n text)) (run_stop is_white (drop n text))
+    (omega (arith, length-drop n text, length-drop (prefix_len is_white (drop n text)) (drop n text))))
 
 some_gap : (l : List ℕ) → is_some_gap l ≡ nat_lt 0 (length l)
 some_gap [] = refl
@@ -47,7 +48,8 @@ take_gap text w le = some_gap (take w text) ∙ ap (λ (k : ℕ). nat_lt 0 k) (l
 white_take : (text : List ℕ) (w : ℕ) → w ≡ prefix_len is_white text → AreWhite (take w text)
 white_take text w e = rw e (run_front is_white text)
 
-pub stands_first : (mode : Mode) (text : List ℕ) (w : ℕ) (gap : Bool) → w ≡ prefix_len is_white text → gap ≡ nat_lt 0 w → Stands mode text w (begin mode) Start gap
+pub stands_first : (mode : Mode) (text : List ℕ) (w : ℕ) (gap : Bool) → w ≡ prefix_len is_white text → gap ≡ nat_lt 0 w
+    → Stands mode text w (begin mode) Start gap
 unfolding take_steps
 stands_first mode text w gap e g =
     let le : w ≤ length text = omega (arith, prefix_len-le-length is_white text) in
@@ -67,7 +69,8 @@ front_is l a n le e =
     let long : length a ≡ n = omega (arith, ap length e, length-append a (drop n l), length-drop n l) in
     ap (take n) e ∙ take_at a (drop n l) n long
 
-pub stands_more : (mode : Mode) (text : List ℕ) (at n w : ℕ) (draft next : Draft) (before : Before) (gap more : Bool) (item : Item) → Stands mode text at draft before gap → IsAllowedItem mode before gap (drop at text) item n → take_item item draft ≡ Some next
+pub stands_more : (mode : Mode) (text : List ℕ) (at n w : ℕ) (draft next : Draft) (before : Before) (gap more : Bool) (item : Item)
+    → Stands mode text at draft before gap → IsAllowedItem mode before gap (drop at text) item n → take_item item draft ≡ Some next
     → w ≡ prefix_len is_white (drop (at + n) text) → more ≡ nat_lt 0 w → Stands mode text (at + n + w) next (before_item item) more
 stands_more mode text at n w draft next before gap more item s taken value e g =
     let read = s.read in
@@ -78,7 +81,8 @@ stands_more mode text at n w draft next before gap more item s taken value e g =
     let within : at + n ≤ length text = omega (arith, taken.cut.within, length-drop at text, s.within) in
     let le : w ≤ length (drop (at + n) text) = omega (arith, prefix_len-le-length is_white (drop (at + n) text)) in
     let front : take n (drop at text) ≡ spell item = front_is (drop at text) (spell item) n taken.cut.within cut in
-    let behind : take w (drop (at + n) text) ++ drop (at + n + w) text ≡ drop (at + n) text = ap (λ (l : List ℕ). take w (drop (at + n) text) ++ l) (sym (drop-drop w (at + n) text)) ∙ take-append-drop w (drop (at + n) text) in
+    let behind : take w (drop (at + n) text) ++ drop (at + n + w) text ≡ drop (at + n) text =
+    ap (λ (l : List ℕ). take w (drop (at + n) text) ++ l) (sym (drop-drop w (at + n) text)) ∙ take-append-drop w (drop (at + n) text) in
     record {
       read = record { steps = read.steps ++ step ∷ []; trail = take w (drop (at + n) text); draft = next };
       within = omega (arith, within, le, length-drop (at + n) text);
@@ -89,7 +93,9 @@ stands_more mode text at n w draft next before gap more item s taken value e g =
               white = s.is.cut.white;
               form = taken.cut.first.form;
               stands = rw (s.before_is, s.gap_is) taken.stands;
-              over = over_last_front (last_item read) (spell_step step) rest (subst (IsOverLast (last_item read)) (ap (λ (l : List ℕ). read.trail ++ l) cut ∙ sym (append_assoc read.trail (spell item) rest)) s.over);
+              over = over_last_front (last_item read) (spell_step step) rest
+                  (subst (IsOverLast (last_item read)) (ap (λ (l : List ℕ). read.trail ++ l) cut
+                  ∙ sym (append_assoc read.trail (spell item) rest)) s.over);
             },
             tt,
           );
@@ -97,10 +103,12 @@ stands_more mode text at n w draft next before gap more item s taken value e g =
           spelled =
               rw (spell_one read.steps step)
               (take-add (at + n) w text
-              ∙ ap (λ (l : List ℕ). l ++ take w (drop (at + n) text)) (take-add at n text ∙ ap (λ (l : List ℕ). take at text ++ l) front ∙ ap (λ (l : List ℕ). l ++ spell item) s.is.cut.spelled ∙ append_assoc (spell_steps read.steps) read.trail (spell item)));
+              ∙ ap (λ (l : List ℕ). l ++ take w (drop (at + n) text)) (take-add at n text ∙ ap (λ (l : List ℕ). take at text ++ l) front
+              ∙ ap (λ (l : List ℕ). l ++ spell item) s.is.cut.spelled ∙ append_assoc (spell_steps read.steps) read.trail (spell item)));
         };
         ranges = all_append HasNoEmpty read.steps (step ∷ []) s.is.ranges (taken.cut.ranges, tt);
-        value = take_append (begin mode) read.steps (step ∷ []) ∙ ap (option_and_then (λ d. take_steps d (step ∷ []))) (s.is.value ∙ ap (λ d. Some d) s.draft_is) ∙ take_one draft step ∙ value;
+        value = take_append (begin mode) read.steps (step ∷ [])
+            ∙ ap (option_and_then (λ d. take_steps d (step ∷ []))) (s.is.value ∙ ap (λ d. Some d) s.draft_is) ∙ take_one draft step ∙ value;
       };
       draft_is = refl;
       before_is = ap before_of (last_append None read.steps (step ∷ []));

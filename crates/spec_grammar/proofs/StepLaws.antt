@@ -9,7 +9,8 @@ recursion_weaker P Q f (x ∷ xs) h = (f x h.0, recursion_weaker P Q f xs h.1)
 
 -- ---- one list of steps behind another
 
-pub right_append : (mode : Mode) (last : Option Item) (a b : List Step) → AreRight mode last a → AreRight mode (last_of last a) b → AreRight mode last (a ++ b)
+pub right_append : (mode : Mode) (last : Option Item) (a b : List Step) → AreRight mode last a → AreRight mode (last_of last a) b
+    → AreRight mode last (a ++ b)
 right_append mode last [] b h k = k
 right_append mode last (s ∷ a) b h k = (h.0, right_append mode (Some s.item) a b h.1 k)
 
@@ -28,11 +29,17 @@ spell_append (s ∷ a) b = ap (λ l. spell_step s ++ l) (spell_append a b) ∙ s
 pub spell_one : (a : List Step) (s : Step) → spell_steps (a ++ s ∷ []) ≡ spell_steps a ++ spell_step s
 spell_one a s = spell_append a (s ∷ []) ∙ ap (λ l. spell_steps a ++ l) (append-nil (spell_step s))
 
-pub take_append : (draft : Draft) (a b : List Step) → take_steps draft (a ++ b) ≡ option_and_then (λ next. take_steps next b) (take_steps draft a)
+pub take_append : (draft : Draft) (a b : List Step)
+    → take_steps draft (a ++ b) ≡ option_and_then (λ next. take_steps next b) (take_steps draft a)
 unfolding take_steps
 take_append draft [] b = refl
 take_append draft (s ∷ a) b =
-    elim (take_item s.item draft) as (λ o. option_and_then (λ next. take_steps next (a ++ b)) o ≡ option_and_then (λ next. take_steps next b) (option_and_then (λ next. take_steps next a) o)) [ None ↦ refl | Some next ↦ take_append next a b ]
+    elim (take_item s.item draft) as (λ o. option_and_then (λ next. take_steps next (a ++ b)) o
+    ≡ option_and_then (λ next. take_steps next b) (option_and_then (λ next. take_steps next a) o)) [
+      | None ↦ refl
+      | Some next ↦
+          take_append next a b
+    ]
 
 pub take_one : (draft : Draft) (s : Step) → take_steps draft (s ∷ []) ≡ take_item s.item draft
 unfolding take_steps
@@ -40,7 +47,8 @@ take_one draft s = elim (take_item s.item draft) as (λ o. option_and_then (λ n
 
 -- ---- what one item did
 
-pub some_then : {A B : Type 0} (f : A → Option B) (o : Option A) (b : B) → option_and_then f o ≡ Some b → (a : A) × (o ≡ Some a) × (f a ≡ Some b)
+pub some_then : {A B : Type 0} (f : A → Option B) (o : Option A) (b : B) → option_and_then f o ≡ Some b → (a : A) × (o ≡ Some a)
+    × (f a ≡ Some b)
 some_then f None b e = absurd cc
 some_then f (Some a) b e = (a, refl, e)
 
@@ -60,9 +68,11 @@ Took (Variant mark w) draft next = TookOn (Variant mark w) draft next
 Took (Compiler w items) draft next = TookOn (Compiler w items) draft next
 Took (Key w values) draft next = TookOn (Key w values) draft next
 
-took_on : (item : Item) (draft next : Draft) (part : Option Part) → draft.part ≡ part → constrain item draft part ≡ Some next → TookOn item draft next
+took_on : (item : Item) (draft next : Draft) (part : Option Part) → draft.part ≡ part → constrain item draft part ≡ Some next
+    → TookOn item draft next
 took_on item draft next None same e = absurd cc
-took_on item draft next (Some p) same e = let q = some_of (λ q. record draft { part = Some q }) (add item p) next e in (p, q.0, same, q.1, q.2)
+took_on item draft next (Some p) same e = let q = some_of (λ q. record draft { part = Some q }) (add item p) next e in
+    (p, q.0, same, q.1, q.2)
 
 took : (item : Item) (draft next : Draft) → take_item item draft ≡ Some next → Took item draft next
 took (Name w) draft next e = same_Some _ next e
@@ -70,13 +80,17 @@ took Caret draft next e = some_of (nest draft) draft.part next e
 took item draft next e = took_on item draft next draft.part refl e
 
 -- what each right item keeps is kept by right steps
-pub steps_keep : (mode : Mode) (P : Before → Draft → Type 0) → ((last : Option Item) (s : Step) (draft next : Draft) → IsRightStep mode last s → HasNoEmpty s → P (before_of last) draft → Took s.item draft next → P (before_item s.item) next)
-    → (last : Option Item) (steps : List Step) (draft end : Draft) → AreRight mode last steps → AllByRecursion HasNoEmpty steps → P (before_of last) draft → take_steps draft steps ≡ Some end → P (before_of (last_of last steps)) end
+pub steps_keep : (mode : Mode) (P : Before → Draft → Type 0)
+    → ((last : Option Item) (s : Step) (draft next : Draft) → IsRightStep mode last s → HasNoEmpty s → P (before_of last) draft
+    → Took s.item draft next → P (before_item s.item) next)
+    → (last : Option Item) (steps : List Step) (draft end : Draft) → AreRight mode last steps → AllByRecursion HasNoEmpty steps
+    → P (before_of last) draft → take_steps draft steps ≡ Some end → P (before_of (last_of last steps)) end
 unfolding take_steps
 steps_keep mode P keep last [] draft end are none h e = subst (P (before_of last)) (same_Some draft end e) h
 steps_keep mode P keep last (s ∷ steps) draft end are none h e =
     let next = some_then (λ d. take_steps d steps) (take_item s.item draft) end e in
-    steps_keep mode P keep (Some s.item) steps next.0 end are.1 none.1 (keep last s draft next.0 are.0 none.0 h (took s.item draft next.0 next.1)) next.2
+    steps_keep mode P keep (Some s.item) steps next.0 end are.1 none.1
+    (keep last s draft next.0 are.0 none.0 h (took s.item draft next.0 next.1)) next.2
 
 pub nested_part : (draft : Draft) (top : Option Part) (p : Part) → (nest_in draft top p).part ≡ None
 nested_part draft None p = refl

@@ -22,13 +22,17 @@ after_stop (Second some) b h = let n = no_byte b h in rw (n.0, n.3) refl
 after_stop (Third some colon) b h = let n = no_byte b h in rw (n.0, n.3, n.2) refl
 
 -- a machine that is stuck within a text does not go over it
-pub stuck_within : {S : Type 0} (step : S → ℕ → Option S) (start s t : S) (l : List ℕ) (n : ℕ) → n < length l → run step start (take n l) ≡ Some s → step s (get_or l n 0) ≡ None → run step start l ≡ Some t → ⊥
+pub stuck_within : {S : Type 0} (step : S → ℕ → Option S) (start s t : S) (l : List ℕ) (n : ℕ) → n < length l
+    → run step start (take n l) ≡ Some s → step s (get_or l n 0) ≡ None → run step start l ≡ Some t → ⊥
 stuck_within step start s t l n lt here stuck there =
-    let cut : l ≡ take n l ++ get_or l n 0 ∷ drop (n + 1) l = sym (take-append-drop n l) ∙ ap (λ (k : List ℕ). take n l ++ k) (drop_more l n 0 lt) in
-    let none : run step start (take n l ++ get_or l n 0 ∷ drop (n + 1) l) ≡ None = rw (run-append step start (take n l) (get_or l n 0 ∷ drop (n + 1) l), here, stuck) refl in
+    let cut : l ≡ take n l ++ get_or l n 0 ∷ drop (n + 1) l = sym (take-append-drop n l)
+    ∙ ap (λ (k : List ℕ). take n l ++ k) (drop_more l n 0 lt) in
+    let none : run step start (take n l ++ get_or l n 0 ∷ drop (n + 1) l) ≡ None =
+    rw (run-append step start (take n l) (get_or l n 0 ∷ drop (n + 1) l), here, stuck) refl in
     absurd (none-some t (sym none ∙ ap (run step start) (sym cut) ∙ there))
 
-not_further : (start s v : Run) (l rest : List ℕ) (n : ℕ) → length l < n → n ≤ length (l ++ rest) → run after start l ≡ Some s → goes_on rest ≡ false → run after start (take n (l ++ rest)) ≡ Some v → ⊥
+not_further : (start s v : Run) (l rest : List ℕ) (n : ℕ) → length l < n → n ≤ length (l ++ rest) → run after start l ≡ Some s
+    → goes_on rest ≡ false → run after start (take n (l ++ rest)) ≡ Some v → ⊥
 not_further start s v l [] n gt le here over there = absurd (omega (arith, length-append l []))
 not_further start s v l (b ∷ rest) n gt le here over there =
     let t : List ℕ = take n (l ++ b ∷ rest) in
@@ -39,7 +43,8 @@ not_further start s v l (b ∷ rest) n gt le here over there =
     stuck_within after start s v t (length l) long (rw front here) (rw same (after_stop s b over)) there
 
 -- the machine stops where the values end, and they may end there
-pub values_stop : (k : KeyKind) (start v : Run) (text : List ℕ) (n : ℕ) (values : List (List ℕ)) (rest : List ℕ) → start_run k ≡ Some start → Stops after start text v n → AreFirst k text values rest
+pub values_stop : (k : KeyKind) (start v : Run) (text : List ℕ) (n : ℕ) (values : List (List ℕ)) (rest : List ℕ) → start_run k ≡ Some start
+    → Stops after start text v n → AreFirst k text values rest
     → (n ≡ length (spell_values values)) × (is_whole v ≡ true)
 values_stop k start v text n values rest e stops first =
     let l : List ℕ = spell_values values in
@@ -51,33 +56,46 @@ values_stop k start v text n values rest e stops first =
           (same, ap is_whole (same_Some v a.0 (sym here ∙ a.1)) ∙ a.2)
       | inr (inl lt) ↦
           let here : run after start (take n l) ≡ Some v = rw (take-append-le n l rest (omega arith)) at reached in
-          let stuck : after v (get_or (l ++ rest) n 0) ≡ None = rw (← first.cut) (stops.stuck (omega (arith, ap length first.cut, length-append l rest))) in
+          let stuck : after v (get_or (l ++ rest) n 0) ≡ None =
+          rw (← first.cut) (stops.stuck (omega (arith, ap length first.cut, length-append l rest))) in
           absurd (stuck_within after start v a.0 l n lt here (rw (get_or_append_left l rest 0 n lt) at stuck) a.1)
-      | inr (inr gt) ↦ absurd (not_further start a.0 v l rest n gt (omega (arith, stops.within, ap length first.cut)) a.1 first.over reached)
+      | inr (inr gt) ↦
+          absurd (not_further start a.0 v l rest n gt (omega (arith, stops.within, ap length first.cut)) a.1 first.over reached)
     ]
 
-pub not_whole : (k : KeyKind) (start v : Run) (text : List ℕ) (n : ℕ) → start_run k ≡ Some start → Stops after start text v n → is_whole v ≡ false → (values : List (List ℕ)) (rest : List ℕ) → AreFirst k text values rest → ⊥
-not_whole k start v text n e stops open_ values rest first = true_false (is_whole v) (values_stop k start v text n values rest e stops first).1 open_
+pub not_whole : (k : KeyKind) (start v : Run) (text : List ℕ) (n : ℕ) → start_run k ≡ Some start → Stops after start text v n
+    → is_whole v ≡ false → (values : List (List ℕ)) (rest : List ℕ) → AreFirst k text values rest → ⊥
+not_whole k start v text n e stops open_ values rest first =
+    true_false (is_whole v) (values_stop k start v text n values rest e stops first).1 open_
 
-pub not_over : (k : KeyKind) (start v : Run) (text : List ℕ) (n : ℕ) → start_run k ≡ Some start → Stops after start text v n → goes_on (drop n text) ≡ true → (values : List (List ℕ)) (rest : List ℕ) → AreFirst k text values rest → ⊥
+pub not_over : (k : KeyKind) (start v : Run) (text : List ℕ) (n : ℕ) → start_run k ≡ Some start → Stops after start text v n
+    → goes_on (drop n text) ≡ true → (values : List (List ℕ)) (rest : List ℕ) → AreFirst k text values rest → ⊥
 not_over k start v text n e stops on values rest first =
     let here = values_stop k start v text n values rest e stops first in
     let behind : drop n text ≡ rest = ap (drop n) first.cut ∙ drop_at (spell_values values) rest n (sym here.0) in
     true_false (goes_on rest) (rw behind at on) first.over
 
-found_by : (k : KeyKind) (text : List ℕ) (n : ℕ) (cut : List (List ℕ)) → n ≤ length text → goes_on (drop n text) ≡ false → IsSoFarAll (take n text) cut → IsTakenText k (take n text) → AreValuesAt k text cut n
+found_by : (k : KeyKind) (text : List ℕ) (n : ℕ) (cut : List (List ℕ)) → n ≤ length text → goes_on (drop n text) ≡ false
+    → IsSoFarAll (take n text) cut → IsTakenText k (take n text) → AreValuesAt k text cut n
 found_by k text n cut within over all ([], are, takes, e) = absurd are
 found_by k text n cut within over all (v ∷ values, are, takes, e) =
     let same : cut ≡ v ∷ values = all v values are e in
-    rw same (record { within = within; first = record { cut = sym (take-append-drop n text) ∙ ap (λ (l : List ℕ). l ++ drop n text) e; are = are; takes = takes; over = over } })
+    rw same (record {
+      within = within;
+      first =
+          record { cut = sym (take-append-drop n text) ∙ ap (λ (l : List ℕ). l ++ drop n text) e; are = are; takes = takes; over = over };
+    })
 
-pub values_found : (k : KeyKind) (start v : Run) (text : List ℕ) (n : ℕ) (cut : List (List ℕ)) → start_run k ≡ Some start → Stops after start text v n → is_whole v ≡ true → goes_on (drop n text) ≡ false → IsSoFarAll (take n text) cut
+pub values_found : (k : KeyKind) (start v : Run) (text : List ℕ) (n : ℕ) (cut : List (List ℕ)) → start_run k ≡ Some start
+    → Stops after start text v n → is_whole v ≡ true → goes_on (drop n text) ≡ false → IsSoFarAll (take n text) cut
     → AreValuesAt k text cut n
-values_found k start v text n cut e stops whole over all = found_by k text n cut stops.within over all (values_end k start (take n text) v e stops.reached whole)
+values_found k start v text n cut e stops whole over all =
+    found_by k text n cut stops.within over all (values_end k start (take n text) v e stops.reached whole)
 
 -- ---- how far values go
 
-varied_stops : (start v : Run) (text : List ℕ) (n : ℕ) (more : List ℕ) → Stops after start text v n → Varies text n more → Stops after start (varied text n more) v n
+varied_stops : (start v : Run) (text : List ℕ) (n : ℕ) (more : List ℕ) → Stops after start text v n → Varies text n more
+    → Stops after start (varied text n more) v n
 varied_stops start v text n more stops varies = elim (cases_lt n (length text)) [
   | inr le ↦ subst (λ (l : List ℕ). Stops after start l v n) (sym (varied_end text n more varies le)) stops
   | inl lt ↦ record {
@@ -99,25 +117,35 @@ completes (Second false) = (97 ∷ 45 ∷ 97 ∷ [], Third true false, refl, ref
 completes (Third some colon) = (97 ∷ [], Third true colon, refl, refl)
 
 stuck_by : (k : KeyKind) (start v : Run) (text : List ℕ) (n : ℕ) → start_run k ≡ Some start → Stops after start text v n
-    → ((more : List ℕ) → Varies text n more → (values : List (List ℕ)) (rest : List ℕ) → AreFirst k (varied text n more) values rest → ⊥) → AreStuck k text n
+    → ((more : List ℕ) → Varies text n more → (values : List (List ℕ)) (rest : List ℕ) → AreFirst k (varied text n more) values rest → ⊥)
+    → AreStuck k text n
 stuck_by k start v text n e stops none =
     let c = completes v in
     let goes : run after start (take n text ++ c.0) ≡ Some c.1 = rw (run-append after start (take n text) c.0, stops.reached) c.2 in
     let is = values_end k start (take n text ++ c.0) c.1 e goes c.3 in
     record { within = stops.within; none = none; tail = c.0; values = is.0; are = is.1; takes = is.2; cut = is.3 }
 
-pub stuck_whole : (k : KeyKind) (start v : Run) (text : List ℕ) (n : ℕ) → start_run k ≡ Some start → Stops after start text v n → is_whole v ≡ false → AreStuck k text n
-stuck_whole k start v text n e stops open_ = stuck_by k start v text n e stops (λ more varies. not_whole k start v (varied text n more) n e (varied_stops start v text n more stops varies) open_)
+pub stuck_whole : (k : KeyKind) (start v : Run) (text : List ℕ) (n : ℕ) → start_run k ≡ Some start → Stops after start text v n
+    → is_whole v ≡ false → AreStuck k text n
+stuck_whole k start v text n e stops open_ =
+    stuck_by k start v text n e stops (λ more varies. not_whole k start v (varied text n more) n e
+    (varied_stops start v text n more stops varies) open_)
 
 same_on : (a c : List ℕ) (b : ℕ) (r s : List ℕ) → a ≡ b ∷ r → c ≡ b ∷ s → goes_on a ≡ true → goes_on c ≡ true
 same_on a c b r s e f on = rw f (rw e at on)
 
-on_varied : (text : List ℕ) (n : ℕ) (more : List ℕ) → Varies text n more → goes_on (drop n text) ≡ true → goes_on (drop n (varied text n more)) ≡ true
+on_varied : (text : List ℕ) (n : ℕ) (more : List ℕ) → Varies text n more → goes_on (drop n text) ≡ true
+    → goes_on (drop n (varied text n more)) ≡ true
 on_varied text n more varies on = elim (cases_lt n (length text)) [
   | inr le ↦ subst (λ (l : List ℕ). goes_on (drop n l) ≡ true) (sym (varied_end text n more varies le)) on
-  | inl lt ↦ same_on (drop n text) (drop n (varied text n more)) (get_or text n 0) (drop (n + 1) text) (drop (n + 1) (varied text n more)) (drop_more text n 0 lt)
-      (drop_more (varied text n more) n 0 (omega (arith, length-append (take (n + 1) text) more, length-take (n + 1) text)) ∙ ap (λ (b : ℕ). b ∷ drop (n + 1) (varied text n more)) (varied_get text n more lt)) on
+  | inl lt ↦ same_on (drop n text) (drop n (varied text n more)) (get_or text n 0) (drop (n + 1) text) (drop (n + 1) (varied text n more))
+      (drop_more text n 0 lt)
+      (drop_more (varied text n more) n 0 (omega (arith, length-append (take (n + 1) text) more, length-take (n + 1) text))
+      ∙ ap (λ (b : ℕ). b ∷ drop (n + 1) (varied text n more)) (varied_get text n more lt)) on
 ]
 
-pub stuck_over : (k : KeyKind) (start v : Run) (text : List ℕ) (n : ℕ) → start_run k ≡ Some start → Stops after start text v n → goes_on (drop n text) ≡ true → AreStuck k text n
-stuck_over k start v text n e stops on = stuck_by k start v text n e stops (λ more varies. not_over k start v (varied text n more) n e (varied_stops start v text n more stops varies) (on_varied text n more varies on))
+pub stuck_over : (k : KeyKind) (start v : Run) (text : List ℕ) (n : ℕ) → start_run k ≡ Some start → Stops after start text v n
+    → goes_on (drop n text) ≡ true → AreStuck k text n
+stuck_over k start v text n e stops on = stuck_by k start v text n e stops
+    (λ more varies. not_over k start v (varied text n more) n e (varied_stops start v text n more stops varies)
+    (on_varied text n more varies on))

@@ -43,7 +43,8 @@ stop_of step s (b ∷ text) = elim (some_or_none (step s b)) [
 
 -- ---- lists and values
 
-list_total : (text : List ℕ) → ((items : List VersionItem) × (n : ℕ) × IsListAt text items n × (first_empty 0 items ≡ None)) ⊎ Faulty (IsListFault text)
+list_total : (text : List ℕ) → ((items : List VersionItem) × (n : ℕ) × IsListAt text items n × (first_empty 0 items ≡ None))
+    ⊎ Faulty (IsListFault text)
 list_total text =
     let (place, n, s) = stop_of step FirstItem text in
     let stops : ListStops text place n = record { within = s.within; reached = s.reached; stuck = s.stuck } in
@@ -59,7 +60,8 @@ list_total text =
       | inr open_ ↦ inr (fault.Expected n, (front, λ is. true_false (is_final place) (stops_whole text place n stops is) open_), λ same. cc)
     ]
 
-values_total : (k : KeyKind) (start : Run) (text : List ℕ) → start_run k ≡ Some start → ((values : List (List ℕ)) × (n : ℕ) × AreValuesAt k text values n) ⊎ Faulty (IsValuesFault k text)
+values_total : (k : KeyKind) (start : Run) (text : List ℕ) → start_run k ≡ Some start
+    → ((values : List (List ℕ)) × (n : ℕ) × AreValuesAt k text values n) ⊎ Faulty (IsValuesFault k text)
 values_total k start text e =
     let (v, n, stops) = stop_of after start text in
     elim (cases_Bool (is_whole v)) [
@@ -95,7 +97,8 @@ variant_total mark text =
 
 compiler_list_total : (text list : List ℕ) (n : ℕ) → n ≡ name_length text → 0 < n → drop n text ≡ 64 ∷ list → IsCutOrFaulty (37 ∷ text)
 compiler_list_total text list n is some behind = elim (list_total list) [
-  | inl (items, m, at, none) ↦ inl (Compiler (take n text) (Some items), 2 + n + m, compiler_read text n m items list is some behind at none)
+  | inl (items, m, at, none) ↦
+      inl (Compiler (take n text) (Some items), 2 + n + m, compiler_read text n m items list is some behind at none)
   | inr (e, h, known) ↦ inr (moved (2 + n) e, compiler_moved text n list e is some behind h, moved_known (2 + n) e known)
 ]
 
@@ -142,19 +145,31 @@ caret_total text = elim (cases_Bool (starts_with_byte 91 text)) [
 
 item_total : (k : Kind) (text : List ℕ) → kind_at text ≡ Some k → IsCutOrFaulty text
 item_total kind.Name text here = name_total text here
-item_total kind.Versions text here = subst IsCutOrFaulty (sym (sign_cut text kind.Versions 64 (λ first rest says. says) here)) (versions_total (drop 1 text))
-item_total (kind.Variant mark) text here = subst IsCutOrFaulty (sym (sign_cut text (kind.Variant mark) (mark_byte mark) (λ first rest says. says) here)) (variant_total mark (drop 1 text))
-item_total kind.Compiler text here = subst IsCutOrFaulty (sym (sign_cut text kind.Compiler 37 (λ first rest says. says) here)) (compiler_total (drop 1 text))
+item_total kind.Versions text here = subst IsCutOrFaulty (sym (sign_cut text kind.Versions 64 (λ first rest says. says) here))
+    (versions_total (drop 1 text))
+item_total (kind.Variant mark) text here =
+    subst IsCutOrFaulty (sym (sign_cut text (kind.Variant mark) (mark_byte mark) (λ first rest says. says) here))
+    (variant_total mark (drop 1 text))
+item_total kind.Compiler text here = subst IsCutOrFaulty (sym (sign_cut text kind.Compiler 37 (λ first rest says. says) here))
+    (compiler_total (drop 1 text))
 item_total kind.Key text here = key_total text here
-item_total kind.Caret text here = subst IsCutOrFaulty (sym (sign_cut text kind.Caret 94 (λ first rest says. says) here)) (caret_total (drop 1 text))
+item_total kind.Caret text here = subst IsCutOrFaulty (sym (sign_cut text kind.Caret 94 (λ first rest says. says) here))
+    (caret_total (drop 1 text))
 
 -- ---- the item at a place
 
-allowed_total : (mode : Mode) (place : Before) (gap : Bool) (text : List ℕ) → ((item : Item) × (n : ℕ) × IsAllowedItem mode place gap text item n) ⊎ Faulty (IsItemFaultHere mode place gap text)
+allowed_total : (mode : Mode) (place : Before) (gap : Bool) (text : List ℕ)
+    → ((item : Item) × (n : ℕ) × IsAllowedItem mode place gap text item n) ⊎ Faulty (IsItemFaultHere mode place gap text)
 allowed_total mode place gap text = elim (some_or_none (kind_at text)) [
   | inl none ↦ inr (fault.Expected 0, none_stuck mode place gap text none, λ same. cc)
   | inr (k, here) ↦ elim (cases_Bool (may_stand mode place gap k)) [
-    | inr not_there ↦ inr (fault.Expected (refused_place mode place gap k (name_length text)), refused_stuck mode place gap k text here not_there, λ same. cc)
+    | inr not_there ↦
+        inr (
+          fault.Expected (refused_place mode place gap k (name_length text)),
+          refused_stuck mode place gap k text here
+              not_there,
+          λ same. cc,
+        )
     | inl may ↦ elim (item_total k text here) [
       | inl (item, n, cut) ↦ inl (item, n, taken mode place gap k text item n here may cut)
       | inr (e, h, known) ↦ inr (e, refused mode place gap k text e here may h, known)
@@ -162,7 +177,8 @@ allowed_total mode place gap text = elim (some_or_none (kind_at text)) [
   ]
 ]
 
-with_form : (mode : Mode) (place : Before) (gap : Bool) (text : List ℕ) (e : SpecFault) → form_at mode (may_name mode place gap) text ≡ None → IsItemFaultHere mode place gap text e → IsFaultHere mode place gap text e
+with_form : (mode : Mode) (place : Before) (gap : Bool) (text : List ℕ) (e : SpecFault) → form_at mode (may_name mode place gap) text ≡ None
+    → IsItemFaultHere mode place gap text e → IsFaultHere mode place gap text e
 with_form mode place gap text (fault.Expected q) none h = (none, h)
 with_form mode place gap text (fault.BadVersion q) none h = (none, h)
 with_form mode place gap text fault.OutOfMemory none h = tt
@@ -170,7 +186,8 @@ with_form mode place gap text e none h = absurd h
 
 -- the item that is read and may stand here, or a fault
 pub next_total : (mode : Mode) (place : Before) (gap : Bool) (text : List ℕ)
-    → ((item : Item) × (n : ℕ) × IsAllowedItem mode place gap text item n × (form_at mode (may_name mode place gap) text ≡ None)) ⊎ Faulty (IsFaultHere mode place gap text)
+    → ((item : Item) × (n : ℕ) × IsAllowedItem mode place gap text item n × (form_at mode (may_name mode place gap) text ≡ None))
+    ⊎ Faulty (IsFaultHere mode place gap text)
 next_total mode place gap text = elim (some_or_none (form_at mode (may_name mode place gap) text)) [
   | inr (form, is) ↦ inr (fault.Unsupported 0 form, (refl, is), λ same. cc)
   | inl none ↦ elim (allowed_total mode place gap text) [

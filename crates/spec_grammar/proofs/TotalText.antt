@@ -21,7 +21,8 @@ item_length text item zero cut =
 item_length text item (suc n) cut = omega arith
 
 -- what stands behind a place is read, or has a fault; `steps` bounds how many items may come yet
-from_here : (steps : ℕ) (mode : Mode) (text : List ℕ) (at : ℕ) (draft : Draft) (before : Before) (gap : Bool) → Stands mode text at draft before gap → length text < at + steps → IsSaid mode text
+from_here : (steps : ℕ) (mode : Mode) (text : List ℕ) (at : ℕ) (draft : Draft) (before : Before) (gap : Bool)
+    → Stands mode text at draft before gap → length text < at + steps → IsSaid mode text
 from_here zero mode text at draft before gap s lt = absurd (omega (arith, s.within, lt))
 from_here (suc steps) mode text at draft before gap s lt = elim (cases_lt at (length text)) [
   | inr end ↦ elim (some_or_none (option_map (finish draft) draft.part)) [
@@ -35,13 +36,16 @@ from_here (suc steps) mode text at draft before gap s lt = elim (cases_lt at (le
       | inr (next, took) ↦
           let w : ℕ = prefix_len is_white (drop (at + n) text) in
           let some = item_length (drop at text) item n allowed.cut in
-          from_here steps mode text (at + n + w) next (before_item item) (nat_lt 0 w) (stands_more mode text at n w draft next before gap (nat_lt 0 w) item s allowed took refl refl) (omega arith)
+          from_here steps mode text (at + n + w) next (before_item item) (nat_lt 0 w)
+          (stands_more mode text at n w draft next before gap (nat_lt 0 w) item s allowed took refl refl) (omega arith)
     ]
   ]
 ]
 
 -- the whole text
-pub reading_total : (mode : Mode) (text : List ℕ) → ((specs : List Spec) × Spells mode text specs) ⊎ ((e : SpecFault) × IsFault mode text e × (e ≢ fault.OutOfMemory))
+pub reading_total : (mode : Mode) (text : List ℕ) → ((specs : List Spec) × Spells mode text specs)
+    ⊎ ((e : SpecFault) × IsFault mode text e × (e ≢ fault.OutOfMemory))
 reading_total mode text =
     let w : ℕ = prefix_len is_white text in
-    from_here (suc (length text)) mode text w (begin mode) Start (nat_lt 0 w) (stands_first mode text w (nat_lt 0 w) refl refl) (omega arith)
+    from_here (suc (length text)) mode text w (begin mode) Start (nat_lt 0 w)
+    (stands_first mode text w (nat_lt 0 w) refl refl) (omega arith)

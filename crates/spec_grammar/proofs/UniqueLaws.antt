@@ -36,7 +36,8 @@ not_longer a c rest are over (b, k, more, f, g) = over b more g (k, subst IsList
 same_list : (a c : List VersionItem) → AreListed a → AreListed c → spelling a ≡ spelling c → a ≡ c
 same_list a c p q e = one_reading (spelling a) a c p (subst (λ (l : List ℕ). Reads l c) (sym e) q)
 
-one_list : (a c : List VersionItem) (rest behind : List ℕ) → AreListed a → AreListed c → IsListOver a rest → IsListOver c behind → spelling a ++ rest ≡ spelling c ++ behind → a ≡ c
+one_list : (a c : List VersionItem) (rest behind : List ℕ) → AreListed a → AreListed c → IsListOver a rest → IsListOver c behind
+    → spelling a ++ rest ≡ spelling c ++ behind → a ≡ c
 one_list a c rest behind p q over_a over_c e =
     elim (compare_fronts (spelling a) rest (spelling c) behind e) [
       | inl same ↦ same_list a c p q same
@@ -72,7 +73,8 @@ same_more [] [] p q e = refl
 same_more [] (v ∷ c) p q e = cons_none 44 (v ++ spell_more c) (sym e)
 same_more (v ∷ a) [] p q e = cons_none 44 (v ++ spell_more a) e
 same_more (v ∷ a) (u ∷ c) p q e =
-    let cut = run_cut is_value_byte v u (spell_more a) (spell_more c) (value_run v p.0) (value_run u q.0) (more_stop a) (more_stop c) (two_cons _ _ _ _ e).1 in
+    let cut = run_cut is_value_byte v u (spell_more a) (spell_more c) (value_run v p.0) (value_run u q.0) (more_stop a) (more_stop c)
+    (two_cons _ _ _ _ e).1 in
     let first : v ≡ u = cut.0 in
     let others : a ≡ c = same_more a c p.1 q.1 cut.1 in
     cc
@@ -84,11 +86,13 @@ same_values (v ∷ a) (u ∷ c) p q e = same_more (v ∷ a) (u ∷ c) p q (ap (�
 
 -- ---- one item
 
-compiler_stop : (w : List ℕ) (items : Option (List VersionItem)) (rest : List ℕ) → IsOver (Compiler w items) rest → Stop is_name_byte (spell_list items ++ rest)
+compiler_stop : (w : List ℕ) (items : Option (List VersionItem)) (rest : List ℕ) → IsOver (Compiler w items) rest
+    → Stop is_name_byte (spell_list items ++ rest)
 compiler_stop w None rest over = over_compiler w rest over
 compiler_stop w (Some items) rest over = stop_cons is_name_byte 64 (spelling items ++ rest) refl
 
-compilers : (w : List ℕ) (a c : Option (List VersionItem)) (rest behind : List ℕ) → spell_list a ++ rest ≡ spell_list c ++ behind → (text other : List ℕ) → IsFirst text (Compiler w a) rest → IsFirst other (Compiler w c) behind → a ≡ c
+compilers : (w : List ℕ) (a c : Option (List VersionItem)) (rest behind : List ℕ) → spell_list a ++ rest ≡ spell_list c ++ behind
+    → (text other : List ℕ) → IsFirst text (Compiler w a) rest → IsFirst other (Compiler w c) behind → a ≡ c
 compilers w None None rest behind e text other f g = refl
 compilers w None (Some c) rest behind e text other f g = absurd (f.over 64 (spelling c ++ behind) e refl)
 compilers w (Some a) None rest behind e text other f g = absurd (g.over 64 (spelling a ++ rest) (sym e) refl)
@@ -119,18 +123,24 @@ one_item text (Compiler w items) j rest behind k f g =
     let c = name_cut t w (spell_list items ++ rest) (append_assoc w (spell_list items) rest) f.form.0.0 stop in
     let d = name_cut t a.w (spell_list a.items ++ behind) a.cut a.is a.stop in
     let names : w ≡ a.w = sym c.0 ∙ d.0 in
-    let lists = compilers w items a.items rest behind (sym c.1 ∙ d.1) text (37 ∷ t) f (subst (λ (i : Item). IsFirst (37 ∷ t) i behind) (a.same ∙ ap (λ (v : List ℕ). Compiler v a.items) (sym names)) second) in
+    let lists = compilers w items a.items rest behind (sym c.1 ∙ d.1) text (37 ∷ t) f
+    (subst (λ (i : Item). IsFirst (37 ∷ t) i behind) (a.same ∙ ap (λ (v : List ℕ). Compiler v a.items) (sym names)) second) in
     ap (λ (v : List ℕ). Compiler v items) names ∙ ap (λ l. Compiler a.w l) lists ∙ sym a.same
 one_item text (Key w values) j rest behind k f g =
-    let c = name_cut text w (61 ∷ (spell_values values ++ rest)) (f.cut ∙ append_assoc w (61 ∷ spell_values values) rest) f.form.0.0 (stop_cons is_name_byte 61 (spell_values values ++ rest) refl) in
+    let c = name_cut text w (61 ∷ (spell_values values ++ rest)) (f.cut ∙ append_assoc w (61 ∷ spell_values values) rest) f.form.0.0
+    (stop_cons is_name_byte 61 (spell_values values ++ rest) refl) in
     let a = at_key text (spell_values values ++ rest) j behind k c.1 g in
-    let cut = run_cut is_run_byte (spell_values values) (spell_values a.values) rest behind (values_runs values f.form.0.1) (values_runs a.values a.are) (run_over rest (over_run w values rest f.over)) (run_over behind (over_run a.w a.values behind a.over)) a.behind in
-    ap (λ (v : List ℕ). Key v values) (sym c.0 ∙ a.name) ∙ ap (λ (l : List (List ℕ)). Key a.w l) (same_values values a.values f.form.0.1 a.are cut.0) ∙ sym a.same
+    let cut = run_cut is_run_byte (spell_values values) (spell_values a.values) rest behind (values_runs values f.form.0.1)
+    (values_runs a.values a.are) (run_over rest (over_run w values rest f.over))
+    (run_over behind (over_run a.w a.values behind a.over)) a.behind in
+    ap (λ (v : List ℕ). Key v values) (sym c.0 ∙ a.name)
+    ∙ ap (λ (l : List (List ℕ)). Key a.w l) (same_values values a.values f.form.0.1 a.are cut.0) ∙ sym a.same
 one_item text Caret j rest behind k f g =
     let a = at_caret rest j behind (subst (λ (l : List ℕ). IsFirst l j behind) f.cut g) in
     sym a.same
 
-pub one_first : (text : List ℕ) (i j : Item) (rest behind : List ℕ) → IsFirst text i rest → IsFirst text j behind → (i ≡ j) × (rest ≡ behind)
+pub one_first : (text : List ℕ) (i j : Item) (rest behind : List ℕ) → IsFirst text i rest → IsFirst text j behind → (i ≡ j)
+    × (rest ≡ behind)
 one_first text i j rest behind f g =
     let same = one_item text i j rest behind (same_Some _ _ (sym (first_kind text i rest f) ∙ first_kind text j behind g)) f g in
     (same, append_cancel_left (spell j) rest behind (ap (λ (x : Item). spell x ++ rest) (sym same) ∙ sym f.cut ∙ g.cut))

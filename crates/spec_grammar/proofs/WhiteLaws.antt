@@ -52,10 +52,13 @@ list_stuck l b more stuck is =
     none-some a.0 (sym none ∙ a.1)
 
 list_white : (items : List VersionItem) (b : ℕ) → is_white b ≡ true → Begins IsList (spelling items ++ b ∷ []) → ⊥
-list_white items b h (rest, is) = list_stuck (spelling items) b rest (λ p. white_list p b h) (subst IsList (append_assoc (spelling items) (b ∷ []) rest) is)
+list_white items b h (rest, is) = list_stuck (spelling items) b rest (λ p. white_list p b h)
+    (subst IsList (append_assoc (spelling items) (b ∷ []) rest) is)
 
-white_name : (b : ℕ) → is_white b ≡ true → ((is_name_byte b || is_name_end b) ≡ false) × (is_name_byte b ≡ false) × ((is_name_byte b || b == 64) ≡ false) × (is_run_byte b ≡ false) × ((b == 91) ≡ false)
-white_name b h = (grind (arith, nat_tests), grind (arith, nat_tests), grind (arith, nat_tests), grind (arith, nat_tests), grind (arith, nat_tests))
+white_name : (b : ℕ) → is_white b ≡ true → ((is_name_byte b || is_name_end b) ≡ false) × (is_name_byte b ≡ false)
+    × ((is_name_byte b || b == 64) ≡ false) × (is_run_byte b ≡ false) × ((b == 91) ≡ false)
+white_name b h =
+    (grind (arith, nat_tests), grind (arith, nat_tests), grind (arith, nat_tests), grind (arith, nat_tests), grind (arith, nat_tests))
 
 pub white_goes : (item : Item) (b : ℕ) → is_white b ≡ true → GoesOn item b → ⊥
 white_goes (Name w) b h on = true_false _ on (white_name b h).0
@@ -71,7 +74,8 @@ same_byte item b c trail more e on = subst (GoesOn item) (sym (two_cons _ _ _ _ 
 
 over_white : (item : Item) (trail : List ℕ) → AreWhite trail → IsOver item trail
 over_white item [] h = λ b more e. cons_none b more (sym e)
-over_white item (c ∷ trail) h = λ b more e on. white_goes item c (and_parts (is_white c) (list_all is_white trail) h).0 (same_byte item b c trail more e on)
+over_white item (c ∷ trail) h = λ b more e on. white_goes item c (and_parts (is_white c) (list_all is_white trail) h).0
+    (same_byte item b c trail more e on)
 
 pub last_white : (last : Option Item) (trail : List ℕ) → AreWhite trail → IsOverLast last trail
 last_white None trail h = tt

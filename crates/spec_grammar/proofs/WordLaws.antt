@@ -10,10 +10,11 @@ use Rattle.spec_grammar.proofs.StepLaws.{recursion_weaker}
 -- ---- words
 
 truth_keeps : (P : List ℕ → Type 0) (w : List ℕ) → P (codes "true") → P (codes "false") → P w → P (truth w)
-truth_keeps P w t f h = elim (bytes_eq w (codes "True")) as (λ a. P (if a then codes "true" else if bytes_eq w (codes "False") then codes "false" else w)) [
-  | true ↦ t
-  | false ↦ elim (bytes_eq w (codes "False")) as (λ b. P (if b then codes "false" else w)) [ true ↦ f | false ↦ h ]
-]
+truth_keeps P w t f h = elim (bytes_eq w (codes "True")) as
+    (λ a. P (if a then codes "true" else if bytes_eq w (codes "False") then codes "false" else w)) [
+      | true ↦ t
+      | false ↦ elim (bytes_eq w (codes "False")) as (λ b. P (if b then codes "false" else w)) [ true ↦ f | false ↦ h ]
+    ]
 
 truth_again : (w : List ℕ) → truth (truth w) ≡ truth w
 truth_again w = elim (cases_Bool (bytes_eq w (codes "True"))) [
@@ -39,7 +40,8 @@ pub record AreKept (values : List (List ℕ)) : Type 0 where
   pub words : AllByRecursion IsWord values
   pub ordered : IsInByteOrder values
 
-put_words : (texts values : List (List ℕ)) → AllByRecursion IsWord texts → AllByRecursion IsValue values → AllByRecursion IsWord (put_all texts values)
+put_words : (texts values : List (List ℕ)) → AllByRecursion IsWord texts → AllByRecursion IsValue values
+    → AllByRecursion IsWord (put_all texts values)
 unfolding put_all
 put_words texts [] h k = h
 put_words texts (w ∷ values) h k = put_words (with_text texts (truth w)) values (all_with IsWord texts (truth w) h (word_of w k.0)) k.1
@@ -62,18 +64,21 @@ kept_same values h = put_same [] values h.ordered (recursion_weaker IsWord (λ v
 
 -- ---- cuts at a byte
 
-first_place : (p : ℕ → Bool) (a : List ℕ) (b : ℕ) (r : List ℕ) → list_all (λ c. not (p c)) a ≡ true → p b ≡ true → position_or_len p (a ++ b ∷ r) ≡ length a
+first_place : (p : ℕ → Bool) (a : List ℕ) (b : ℕ) (r : List ℕ) → list_all (λ c. not (p c)) a ≡ true → p b ≡ true
+    → position_or_len p (a ++ b ∷ r) ≡ length a
 first_place p [] b r h is = rw is refl
 first_place p (c ∷ a) b r h is =
     let q = and_parts (not (p c)) (list_all (λ d. not (p d)) a) h in
     rw (q.0, first_place p a b r q.1 is) (omega arith)
 
 -- what is before the first such byte, and what behind it
-pub cut_first : (p : ℕ → Bool) (w a : List ℕ) (b : ℕ) (r : List ℕ) → w ≡ a ++ b ∷ r → list_all (λ c. not (p c)) a ≡ true → p b ≡ true → (before_first p w ≡ a) × (after_first p w ≡ r)
+pub cut_first : (p : ℕ → Bool) (w a : List ℕ) (b : ℕ) (r : List ℕ) → w ≡ a ++ b ∷ r → list_all (λ c. not (p c)) a ≡ true → p b ≡ true
+    → (before_first p w ≡ a) × (after_first p w ≡ r)
 cut_first p w a b r e h is =
     let place : position_or_len p w ≡ length a = ap (position_or_len p) e ∙ first_place p a b r h is in (
       ap (λ n. take n w) place ∙ ap (take (length a)) e ∙ take_at a (b ∷ r) (length a) refl,
-      ap (λ n. drop (n + 1) w) place ∙ sym (drop-drop 1 (length a) w) ∙ ap (drop 1) (ap (drop (length a)) e ∙ drop_at a (b ∷ r) (length a) refl),
+      ap (λ n. drop (n + 1) w) place ∙ sym (drop-drop 1 (length a) w)
+          ∙ ap (drop 1) (ap (drop (length a)) e ∙ drop_at a (b ∷ r) (length a) refl),
     )
 
 -- a text in which such a byte stands
@@ -91,7 +96,15 @@ has_byte p (b ∷ w) h = elim (cases_Bool (p b)) [
   | inl is ↦ record { front = []; byte = b; rest = w; cut = refl; none = refl; is = is }
   | inr other ↦
       let more = has_byte p w (rw other at h) in
-      record { front = b ∷ more.front; byte = more.byte; rest = more.rest; cut = ap (λ l. b ∷ l) more.cut; none = rw (other, more.none) refl; is = more.is }
+      record {
+        front = b ∷ more.front;
+        byte = more.byte;
+        rest = more.rest;
+        cut = ap (λ l. b ∷ l) more.cut;
+        none =
+            rw (other, more.none) refl;
+        is = more.is;
+      }
 ]
 
 -- ---- targets
@@ -126,11 +139,17 @@ target_kept w value target = elim (cases_Bool (list_any is_colon w)) [
   | inr none ↦
       let word = word_of w value in
       let again : target_of (truth w) ≡ record { low = Some (truth w); high = None; range = false } =
-      alone (truth w) (truth_keeps (λ v. list_any is_colon v ≡ false) w refl refl none) ∙ ap (λ v. record { low = Some v; high = None; range = false }) word.1 in
-      subst IsTargetKept (sym (alone w none)) (record { value = word.0; target = truth_keeps IsTarget w (lit≤ tt) (lit≤ tt) target; same = again })
+      alone (truth w) (truth_keeps (λ v. list_any is_colon v ≡ false) w refl refl none)
+      ∙ ap (λ v. record { low = Some v; high = None; range = false }) word.1 in
+      subst IsTargetKept (sym (alone w none)) (record {
+        value = word.0;
+        target = truth_keeps IsTarget w (lit≤ tt) (lit≤ tt) target;
+        same = again;
+      })
 ]
 
-pub targets_kept : (values : List (List ℕ)) → AllByRecursion IsValue values → AllByRecursion IsTarget values → AllByRecursion IsTargetKept (map target_of values)
+pub targets_kept : (values : List (List ℕ)) → AllByRecursion IsValue values → AllByRecursion IsTarget values
+    → AllByRecursion IsTargetKept (map target_of values)
 targets_kept [] h k = tt
 targets_kept (w ∷ values) h k = (target_kept w h.0 k.0, targets_kept values h.1 k.1)
 
@@ -138,7 +157,11 @@ targets_kept (w ∷ values) h k = (target_kept w h.0 k.0, targets_kept values h.
 
 pub piece_value : (w : List ℕ) → is_piece w ≡ true → IsValue w × (list_all (λ c. not (is_dash c)) w ≡ true)
 piece_value [] h = absurd cc
-piece_value (b ∷ w) h = (piece_bytes is_value_byte (b ∷ w) value_byte h, piece_bytes (λ c. not (is_dash c)) (b ∷ w) (λ c k. (and_parts (is_value_byte c) (is_other c) k).1) h)
+piece_value (b ∷ w) h = (
+  piece_bytes is_value_byte (b ∷ w) value_byte h,
+  piece_bytes (λ c. not (is_dash c)) (b ∷ w)
+      (λ c k. (and_parts (is_value_byte c) (is_other c) k).1) h,
+)
 
 -- the three parts of P-O-T
 pub record AreParts (value : List ℕ) : Type 0 where
@@ -151,4 +174,10 @@ pub arch_parts : (value : List ℕ) → IsArch value → AreParts value
 arch_parts value (p, o, t, isp, iso, ist, target, e) =
     let first = cut_first is_dash value p 45 (o ++ 45 ∷ t) e (piece_value p isp).1 refl in
     let second = cut_first is_dash (after_first is_dash value) o 45 t first.1 (piece_value o iso).1 refl in
-    record { platform = subst IsValue (sym first.0) (piece_value p isp).0; os = subst IsValue (sym second.0) (piece_value o iso).0; target = subst IsValue (sym second.1) (piece_value t ist).0; one = subst IsTarget (sym second.1) target }
+    record {
+      platform = subst IsValue (sym first.0) (piece_value p isp).0;
+      os = subst IsValue (sym second.0) (piece_value o iso).0;
+      target =
+          subst IsValue (sym second.1) (piece_value t ist).0;
+      one = subst IsTarget (sym second.1) target;
+    }

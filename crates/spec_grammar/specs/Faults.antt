@@ -12,13 +12,16 @@ use Rattle.spec_grammar.specs.declared.fault.SpecFault.TheVariants as fault
 -- what is wrong at place p, where an item stands or should
 abbrev pub IsWrong : Mode → List ℕ → ℕ → Read → SpecFault → Type 0
 IsWrong mode text p read (fault.Unsupported q form) = (q ≡ p) × (form_there mode read (drop p text) ≡ Some form)
-IsWrong mode text p read (fault.Expected q) = (form_there mode read (drop p text) ≡ None) × ((item : Item) (rest : List ℕ) → IsFirst (drop p text) item rest → MayFollow mode read item → ⊥)
+IsWrong mode text p read (fault.Expected q) = (form_there mode read (drop p text) ≡ None)
+    × ((item : Item) (rest : List ℕ) → IsFirst (drop p text) item rest → MayFollow mode read item → ⊥)
 IsWrong mode text p read (fault.BadVersion q) =
     (form_there mode read (drop p text) ≡ None)
-    × ((item : Item) × (rest : List ℕ) × (place : ℕ) × IsFirst (drop p text) item rest × MayFollow mode read item × (empty_place item ≡ Some place) × (q ≡ p + place))
+    × ((item : Item) × (rest : List ℕ) × (place : ℕ) × IsFirst (drop p text) item rest × MayFollow mode read item
+    × (empty_place item ≡ Some place) × (q ≡ p + place))
 IsWrong mode text p read (fault.TwiceSet q) =
     (form_there mode read (drop p text) ≡ None) × (q ≡ p)
-    × ((item : Item) × (rest : List ℕ) × IsFirst (drop p text) item rest × MayFollow mode read item × (empty_place item ≡ None) × (take_item item read.draft ≡ None))
+    × ((item : Item) × (rest : List ℕ) × IsFirst (drop p text) item rest × MayFollow mode read item × (empty_place item ≡ None)
+    × (take_item item read.draft ≡ None))
 IsWrong mode text p read fault.OutOfMemory = ⊥
 
 -- the first item that is not right has this fault

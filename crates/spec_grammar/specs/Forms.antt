@@ -36,7 +36,8 @@ form_of_sign mode text =
     else if begins (codes "/") text then Some Reference
     else if begins (codes "^[") text then Some EdgeAttributes
     else if begins (codes "^") text && not (may_nest mode) then Some NestedDependency
-    else if (begins (codes "+") text || begins (codes "~") text || begins (codes "-") text || begins (codes "%") text) && not (may_have_all mode) then Some ProvidesForm
+    else if (begins (codes "+") text || begins (codes "~") text || begins (codes "-") text || begins (codes "%") text)
+    && not (may_have_all mode) then Some ProvidesForm
     else None
 
 -- the form that an item begins

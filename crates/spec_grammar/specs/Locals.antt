@@ -60,7 +60,8 @@ pub record AreValuesAt (key : KeyKind) (text : List ℕ) (values : List (List �
 -- the text goes on as values of the key do up to place q, and no further
 pub record AreStuck (key : KeyKind) (text : List ℕ) (q : ℕ) : Type 0 where
   pub within : q ≤ length text
-  pub none : (more : List ℕ) → Varies text q more → (values : List (List ℕ)) (rest : List ℕ) → AreFirst key (varied text q more) values rest → ⊥
+  pub none : (more : List ℕ) → Varies text q more → (values : List (List ℕ)) (rest : List ℕ)
+      → AreFirst key (varied text q more) values rest → ⊥
   pub tail : List ℕ
   pub values : List (List ℕ)
   pub are : AreValues values
@@ -113,7 +114,8 @@ pub record IsViable (mode : Mode) (place : Before) (gap : Bool) (text : List ℕ
 -- the text goes on as items that may stand here do up to place q, and no further
 pub record IsStuckHere (mode : Mode) (place : Before) (gap : Bool) (text : List ℕ) (q : ℕ) : Type 0 where
   pub within : q ≤ length text
-  pub none : (more : List ℕ) → Varies text q more → (item : Item) (rest : List ℕ) → IsFirst (varied text q more) item rest → may_stand mode place gap (kind_of item) ≡ true → ⊥
+  pub none : (more : List ℕ) → Varies text q more → (item : Item) (rest : List ℕ) → IsFirst (varied text q more) item rest
+      → may_stand mode place gap (kind_of item) ≡ true → ⊥
   pub viable : (q ≡ 0) ⊎ IsViable mode place gap text q
 
 -- where the text is not right, if no item of this kind may stand here: behind a NAME that could stand
@@ -125,15 +127,18 @@ refused_place mode place gap other n = 0
 
 abbrev pub IsItemFaultHere : Mode → Before → Bool → List ℕ → SpecFault → Type 0
 IsItemFaultHere mode place gap text (fault.Expected q) = IsStuckHere mode place gap text q
-IsItemFaultHere mode place gap text (fault.BadVersion q) = (item : Item) × (rest : List ℕ) × IsFirst text item rest × (may_stand mode place gap (kind_of item) ≡ true) × (empty_place item ≡ Some q)
+IsItemFaultHere mode place gap text (fault.BadVersion q) = (item : Item) × (rest : List ℕ) × IsFirst text item rest
+    × (may_stand mode place gap (kind_of item) ≡ true) × (empty_place item ≡ Some q)
 IsItemFaultHere mode place gap text fault.OutOfMemory = Unit {0}
 IsItemFaultHere mode place gap text other = ⊥
 
 -- what is wrong with the item, or what form it begins that is not read
 abbrev pub IsFaultHere : Mode → Before → Bool → List ℕ → SpecFault → Type 0
 IsFaultHere mode place gap text (fault.Unsupported q form) = (q ≡ 0) × (form_at mode (may_name mode place gap) text ≡ Some form)
-IsFaultHere mode place gap text (fault.Expected q) = (form_at mode (may_name mode place gap) text ≡ None) × IsItemFaultHere mode place gap text (fault.Expected q)
-IsFaultHere mode place gap text (fault.BadVersion q) = (form_at mode (may_name mode place gap) text ≡ None) × IsItemFaultHere mode place gap text (fault.BadVersion q)
+IsFaultHere mode place gap text (fault.Expected q) = (form_at mode (may_name mode place gap) text ≡ None)
+    × IsItemFaultHere mode place gap text (fault.Expected q)
+IsFaultHere mode place gap text (fault.BadVersion q) = (form_at mode (may_name mode place gap) text ≡ None)
+    × IsItemFaultHere mode place gap text (fault.BadVersion q)
 IsFaultHere mode place gap text (fault.TwiceSet q) = ⊥
 IsFaultHere mode place gap text fault.OutOfMemory = Unit {0}
 

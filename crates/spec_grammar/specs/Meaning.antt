@@ -58,7 +58,8 @@ Becomes next false new = next ≡ None
 
 -- each of these gives None where the part has the same already
 abbrev pub set_variant : List ℕ → List (List ℕ) → Part → Option Part
-set_variant w values part = if has_variant w part.variants then None else Some (record part { variants = with_variant (w, values) part.variants })
+set_variant w values part = if has_variant w part.variants then None else Some
+    (record part { variants = with_variant (w, values) part.variants })
 
 abbrev pub set_platform : List ℕ → Part → Option Part
 set_platform w part = if is_some part.platform then None else Some (record part { platform = Some (truth w) })
@@ -86,7 +87,8 @@ is_dash b = b == 45
 abbrev pub set_arch : List ℕ → Part → Option Part
 set_arch value part =
     let rest = after_first is_dash value in
-    option_and_then (λ p. option_and_then (λ q. set_targets (after_first is_dash rest ∷ []) q) (set_os (before_first is_dash rest) p)) (set_platform (before_first is_dash value) part)
+    option_and_then (λ p. option_and_then (λ q. set_targets (after_first is_dash rest ∷ []) q) (set_os (before_first is_dash rest) p))
+    (set_platform (before_first is_dash value) part)
 
 abbrev pub first_value : List (List ℕ) → List ℕ
 first_value [] = []

@@ -136,4 +136,5 @@ pub record IsCut (mode : Mode) (text : List ℕ) (steps : List Step) (trail : Li
   pub spelled : text ≡ spell_steps steps ++ trail
 
 abbrev pub HasForm : Mode → List ℕ → Type 0
-HasForm mode text = (steps : List Step) × (trail : List ℕ) × IsCut mode text steps trail × (may_end mode (before_of (last_of None steps)) ≡ true)
+HasForm mode text = (steps : List Step) × (trail : List ℕ) × IsCut mode text steps trail
+    × (may_end mode (before_of (last_of None steps)) ≡ true)

@@ -24,7 +24,8 @@ after (Target some colon) b =
     else if b == 44 && some then Some (Target false false)
     else None
 after (First some) b = if b == 45 then (if some then Some (Second false) else None) else if is_value_byte b then Some (First true) else None
-after (Second some) b = if b == 45 then (if some then Some (Third false false) else None) else if is_value_byte b then Some (Second true) else None
+after (Second some) b = if b == 45 then (if some then Some (Third false false) else None) else if is_value_byte b then Some
+    (Second true) else None
 after (Third some colon) b =
     if b == 45 then None
     else if b == 58 then (if colon then None else Some (Third true true))

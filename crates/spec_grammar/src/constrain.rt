@@ -97,7 +97,8 @@ fn set_key(
     name: Word,
     values: &[Word],
 ) -> Result<bool, AllocError>
-    ensures { IfOk result (λ done. Becomes (set_key (key_of name) name values.now part.old) done part.new) }
+    ensures { IfOk result (λ done. Becomes (set_key (key_of name) name values.now part.old)
+        done part.new) }
 {
     match key_of(name.as_str().as_bytes()) {
         KeyKind::Platform => set_platform(alloc, part, first_value(values)),

@@ -93,7 +93,8 @@ impl Draft {
 
     /// A constraint belongs to the part at hand.
     fn constrain(&mut self, alloc: Global, item: Item) -> Result<bool, AllocError>
-        ensures { IfOk result (λ done. Becomes (constrain item self.old self.old.part) done self.new) }
+        ensures { IfOk result (λ done. Becomes (constrain item self.old self.old.part)
+            done self.new) }
     {
         match &mut self.part {
             Some(part) => add(alloc, part, item),

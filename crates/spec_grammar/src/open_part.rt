@@ -60,7 +60,10 @@ impl OpenPart {
     /// Sets a variant that is not set.
     pub(crate) fn put_variant(&mut self, name: Word, values: ValueSet) -> Result<(), AllocError>
         requires { has_variant name self.old.variants ≡ false }
-        ensures { OnOk result (self.new ≡ record self.old { variants = with_variant (name, values) self.old.variants }) }
+        ensures { OnOk result (self.new ≡ record self.old {
+          variants =
+              with_variant (name, values) self.old.variants;
+        }) }
     {
         self.variants.insert(name, values)?;
         Ok(())

@@ -68,7 +68,8 @@ pub fn read_condition_bytes(alloc: Global, text: &[u8]) -> Result<Spec, SpecFaul
 ///
 /// The fault of the first item that is not right; at a `^`, `NestedDependency`.
 pub fn read_local_condition_bytes(alloc: Global, text: &[u8]) -> Result<Part, SpecFault>
-    ensures found { IfOk result (λ part. Spells Mode.LocalCondition text.now (record { top = part; below = [] } ∷ [])) }
+    ensures found { IfOk result (λ part. Spells Mode.LocalCondition text.now
+        (record { top = part; below = [] } ∷ [])) }
     ensures fault { IfErr result (λ fault. IsFault Mode.LocalCondition text.now fault) }
 {
     read_part(alloc, Mode::LocalCondition, text)
@@ -80,7 +81,8 @@ pub fn read_local_condition_bytes(alloc: Global, text: &[u8]) -> Result<Part, Sp
 ///
 /// The fault of the first item that is not right.
 pub fn read_dependency(alloc: Global, text: &str) -> Result<Part, SpecFault>
-    ensures found { IfOk result (λ part. Spells Mode.Dependency text.now (record { top = part; below = [] } ∷ [])) }
+    ensures found { IfOk result (λ part. Spells Mode.Dependency text.now
+        (record { top = part; below = [] } ∷ [])) }
     ensures fault { IfErr result (λ fault. IsFault Mode.Dependency text.now fault) }
 {
     read_dependency_bytes(alloc, text.as_bytes())
@@ -92,7 +94,8 @@ pub fn read_dependency(alloc: Global, text: &str) -> Result<Part, SpecFault>
 ///
 /// Those of `read_dependency`.
 pub fn read_dependency_bytes(alloc: Global, text: &[u8]) -> Result<Part, SpecFault>
-    ensures found { IfOk result (λ part. Spells Mode.Dependency text.now (record { top = part; below = [] } ∷ [])) }
+    ensures found { IfOk result (λ part. Spells Mode.Dependency text.now
+        (record { top = part; below = [] } ∷ [])) }
     ensures fault { IfErr result (λ fault. IsFault Mode.Dependency text.now fault) }
 {
     read_part(alloc, Mode::Dependency, text)
@@ -104,7 +107,8 @@ pub fn read_dependency_bytes(alloc: Global, text: &[u8]) -> Result<Part, SpecFau
 ///
 /// The fault of the first item that is not right.
 pub fn read_provision(alloc: Global, text: &str) -> Result<Part, SpecFault>
-    ensures found { IfOk result (λ part. Spells Mode.Provision text.now (record { top = part; below = [] } ∷ [])) }
+    ensures found { IfOk result (λ part. Spells Mode.Provision text.now
+        (record { top = part; below = [] } ∷ [])) }
     ensures fault { IfErr result (λ fault. IsFault Mode.Provision text.now fault) }
 {
     read_provision_bytes(alloc, text.as_bytes())
@@ -116,7 +120,8 @@ pub fn read_provision(alloc: Global, text: &str) -> Result<Part, SpecFault>
 ///
 /// Those of `read_provision`.
 pub fn read_provision_bytes(alloc: Global, text: &[u8]) -> Result<Part, SpecFault>
-    ensures found { IfOk result (λ part. Spells Mode.Provision text.now (record { top = part; below = [] } ∷ [])) }
+    ensures found { IfOk result (λ part. Spells Mode.Provision text.now
+        (record { top = part; below = [] } ∷ [])) }
     ensures fault { IfErr result (λ fault. IsFault Mode.Provision text.now fault) }
 {
     read_part(alloc, Mode::Provision, text)

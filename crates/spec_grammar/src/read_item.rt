@@ -32,7 +32,8 @@ pub(crate) fn moved(by: usize, fault: SpecFault) -> SpecFault
 
 /// The LIST at the front, and its length.
 fn list(alloc: Global, text: &[u8]) -> Result<(VersionSet, usize), SpecFault>
-    ensures found { IfOk result (λ found. IsListAt text.now found.0 found.1 × (first_empty 0 found.0 ≡ None)) }
+    ensures found { IfOk result (λ found. IsListAt text.now found.0 found.1
+        × (first_empty 0 found.0 ≡ None)) }
     ensures fault { IfErr result (λ fault. IsListFault text.now fault) }
 {
     let (len, whole) = list_front(text);

@@ -35,7 +35,8 @@ fn next_item(
     gap: bool,
     text: &[u8],
 ) -> Result<(Item, usize), SpecFault>
-    ensures found { IfOk result (λ found. IsAllowedItem mode before gap text.now found.0 found.1 × (form_at mode (may_name mode before gap) text.now ≡ None)) }
+    ensures found { IfOk result (λ found. IsAllowedItem mode before gap text.now found.0 found.1
+        × (form_at mode (may_name mode before gap) text.now ≡ None)) }
     ensures fault { IfErr result (λ fault. IsFaultHere mode before gap text.now fault) }
 {
     if let Some(form) = form_at(mode, mode.may_name(before, gap), text) {

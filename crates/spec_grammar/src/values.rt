@@ -93,7 +93,9 @@ fn scan(start: Run, text: &[u8]) -> (Run, usize)
 
 /// The values that a text is, cut at its commas.
 pub(crate) fn cut_values(alloc: Global, text: &[u8]) -> Result<List<Word>, AllocError>
-    ensures { IfOk result (λ values. (first : List ℕ) (others : List (List ℕ)) → AllByRecursion IsValue (first ∷ others) → text.now ≡ spell_values (first ∷ others) → values ≡ first ∷ others) }
+    ensures { IfOk result (λ values. (first : List ℕ) (others : List (List ℕ))
+        → AllByRecursion IsValue (first ∷ others) → text.now ≡ spell_values (first ∷ others)
+        → values ≡ first ∷ others) }
 {
     let mut values = List::new(alloc);
     let mut rest = text;

@@ -60,7 +60,10 @@ fn end_of(alloc: Global, text: &str) -> Result<Option<Word>, AllocError>
 
 /// What stands before the first `:`, and what behind it.
 fn cut_colon(text: &str) -> Option<(&str, &str)>
-    ensures { MatchOption result (position_or_len is_colon text.now ≡ length text.now) (λ cut. (position_or_len is_colon text.now < length text.now) × (cut.0.now ≡ before_first is_colon text.now) × (cut.1.now ≡ after_first is_colon text.now)) }
+    ensures { MatchOption result (position_or_len is_colon text.now ≡ length text.now)
+        (λ cut. (position_or_len is_colon text.now < length text.now)
+        × (cut.0.now ≡ before_first is_colon text.now)
+        × (cut.1.now ≡ after_first is_colon text.now)) }
 {
     text.split_once(':')
 }

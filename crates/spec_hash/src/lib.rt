@@ -135,6 +135,8 @@ fn spell(bytes: &[u8]) -> [u8; LETTERS]
 /// (section 10) spells `MZXW6YTBOI`.
 #[tactic(auto, unfolding(crate::specs::Base32::base32))]
 pub fn worked_letters()
-    ensures letters { base32 (0 ∷ 10 ∷ 20 ∷ 30 ∷ 40 ∷ 50 ∷ 60 ∷ 70 ∷ 80 ∷ 90 ∷ 100 ∷ 110 ∷ 120 ∷ 130 ∷ 140 ∷ 150 ∷ 160 ∷ 170 ∷ 180 ∷ 190 ∷ []) ≡ codes "aafbihrigi6emuc2mrxhraums2qkvnf6" }
-    ensures rfc { base32 (102 ∷ 111 ∷ 111 ∷ 98 ∷ 97 ∷ 114 ∷ 0 ∷ 0 ∷ 0 ∷ 0 ∷ 0 ∷ 0 ∷ 0 ∷ 0 ∷ 0 ∷ 0 ∷ 0 ∷ 0 ∷ 0 ∷ 0 ∷ []) ≡ codes "mzxw6ytboiaaaaaaaaaaaaaaaaaaaaaa" }
+    ensures letters { base32 (0 ∷ 10 ∷ 20 ∷ 30 ∷ 40 ∷ 50 ∷ 60 ∷ 70 ∷ 80 ∷ 90 ∷ 100 ∷ 110 ∷ 120 ∷ 130
+        ∷ 140 ∷ 150 ∷ 160 ∷ 170 ∷ 180 ∷ 190 ∷ []) ≡ codes "aafbihrigi6emuc2mrxhraums2qkvnf6" }
+    ensures rfc { base32 (102 ∷ 111 ∷ 111 ∷ 98 ∷ 97 ∷ 114 ∷ 0 ∷ 0 ∷ 0 ∷ 0 ∷ 0 ∷ 0 ∷ 0 ∷ 0 ∷ 0 ∷ 0
+        ∷ 0 ∷ 0 ∷ 0 ∷ 0 ∷ []) ≡ codes "mzxw6ytboiaaaaaaaaaaaaaaaaaaaaaa" }
 {}

@@ -20,8 +20,11 @@ use Rattle.target_table.specs.Targets.{names_of, arcs_of, place_of, HasAncestor,
 -- ---- names and places
 
 module _ (entries : List TargetEntry) where
-  pub one_place : HasNone IsTwice entries → (name : List ℕ) (i j : ℕ) → IsAt (names_of entries) name i → IsAt (names_of entries) name j → i ≡ j
-  one_place once name i j at_i at_j = ⊎_elim (λ e. e) (λ apart. ⊎_elim (λ lt. absurd (twice i j lt at_i at_j)) (λ gt. absurd (twice j i gt at_j at_i)) apart) (cases_order i j)
+  pub one_place : HasNone IsTwice entries → (name : List ℕ) (i j : ℕ) → IsAt (names_of entries) name i
+      → IsAt (names_of entries) name j → i ≡ j
+  one_place once name i j at_i at_j =
+      ⊎_elim (λ e. e) (λ apart. ⊎_elim (λ lt. absurd (twice i j lt at_i at_j)) (λ gt. absurd (twice j i gt at_j at_i)) apart)
+      (cases_order i j)
     where
       twice : (i j : ℕ) → i < j → IsAt (names_of entries) name i → IsAt (names_of entries) name j → ⊥
       twice i j lt at_i at_j =
@@ -29,8 +32,14 @@ module _ (entries : List TargetEntry) where
           once j (
             within,
             λ d.
-                let is : (get_or entries j d).name ≡ name = sym (get_or-map (λ (e : TargetEntry). e.name) entries j d name within) ∙ at_j.1 in
-                subst (Contains (take j (names_of entries))) (sym is) (i, omega (arith, lt, length-take-le j (names_of entries) (omega (arith, at_j.0))), get_or-take j (names_of entries) i name lt ∙ at_i.1),
+                let is : (get_or entries j d).name ≡ name =
+                sym (get_or-map (λ (e : TargetEntry). e.name) entries j d name within) ∙ at_j.1 in
+                subst (Contains (take j (names_of entries))) (sym is) (
+                  i,
+                  omega (arith, lt, length-take-le j (names_of entries) (omega (arith, at_j.0))),
+                  get_or-take j (names_of entries) i
+                      name lt ∙ at_i.1,
+                ),
           )
 
   -- an arc leads from the name of an entry to one of its parents
@@ -40,7 +49,8 @@ module _ (entries : List TargetEntry) where
       go : (es : List TargetEntry) → HasArc (arcs_of es) p q → (e : TargetEntry) × Contains es e × (e.name ≡ p) × Contains e.parents q
       go [] arc = absurd (omega (arith, arc.1))
       go (e ∷ es) arc = ⊎_elim
-          (λ here. let w = image_of (λ parent. (e.name, parent)) e.parents (p, q) here in (e, has_first e es, ap (λ a. a.0) w.2, subst (Contains e.parents) (ap (λ a. a.1) w.2) w.1))
+          (λ here. let w = image_of (λ parent. (e.name, parent)) e.parents (p, q) here in
+          (e, has_first e es, ap (λ a. a.0) w.2, subst (Contains e.parents) (ap (λ a. a.1) w.2) w.1))
           (λ later. let w = go es later in (w.0, has_later e es w.0 w.1, w.2, w.3))
           (Contains-append_cases (map (λ parent. (e.name, parent)) e.parents) (arcs_of es) (p, q) arc)
 
@@ -48,7 +58,8 @@ module _ (entries : List TargetEntry) where
   from_name p q path = ⊎_elim (begins p q) (λ w. begins p w.0 w.1) (first_arc (HasArc (arcs_of entries)) p q path)
     where
       begins : (p q : List ℕ) → HasArc (arcs_of entries) p q → Contains (names_of entries) p
-      begins p q arc = let w = arc_is p q arc in subst (Contains (names_of entries)) w.2 (has_image (λ (e : TargetEntry). e.name) entries w.0 w.1)
+      begins p q arc = let w = arc_is p q arc in
+          subst (Contains (names_of entries)) w.2 (has_image (λ (e : TargetEntry). e.name) entries w.0 w.1)
 
   pub to_name : HasNone IsUnknown entries → (p q : List ℕ) → HasAncestor entries p q → (Contains (names_of entries) q → ⊥) → ⊥
   to_name known p q path lacks = ⊎_elim (λ arc. ends p arc) (λ w. ends w.0 w.2) (last_arc (HasArc (arcs_of entries)) p q path)
@@ -56,7 +67,15 @@ module _ (entries : List TargetEntry) where
       ends : (p : List ℕ) → HasArc (arcs_of entries) p q → ⊥
       ends p arc =
           let w = arc_is p q arc in
-          known w.1.0 (w.1.1, λ d. (q, subst (λ (e : TargetEntry). Contains e.parents q) (sym w.1.2 ∙ get_or_default entries w.1.0 w.0 d w.1.1) w.3, lacks))
+          known w.1.0 (
+            w.1.1,
+            λ d. (
+              q,
+              subst (λ (e : TargetEntry). Contains e.parents q) (sym w.1.2
+                  ∙ get_or_default entries w.1.0 w.0 d w.1.1) w.3,
+              lacks,
+            ),
+          )
 
 -- ---- the place of a name
 
@@ -69,20 +88,27 @@ stopped_at a b e = ap not ((bytes_decides a b).1 e)
 module _ (entries : List TargetEntry) where
   pub place_is : HasNone IsTwice entries → (name : List ℕ) (i : ℕ) → IsAt (names_of entries) name i → Some i ≡ place_of entries name
   place_is once name i at =
-      let first : position_or_len (λ other. bytes_eq other name) (names_of entries) ≡ i = prefix_len_is (λ other. not (bytes_eq other name)) (names_of entries) i name (omega (arith, at.0))
-      (λ k lt. passed_over _ name (λ e. let same : k ≡ i = one_place entries once name k i (omega (arith, lt, at.0), e) at in omega (arith, lt, same))) (λ _. stopped_at _ name at.1) in
+      let first : position_or_len (λ other. bytes_eq other name) (names_of entries) ≡ i =
+      prefix_len_is (λ other. not (bytes_eq other name)) (names_of entries) i name (omega (arith, at.0))
+      (λ k lt. passed_over _ name (λ e. let same : k ≡ i = one_place entries once name k i (omega (arith, lt, at.0), e) at in
+      omega (arith, lt, same))) (λ _. stopped_at _ name at.1) in
       rw (first, lt-ltb i (length (names_of entries)) at.0) refl
 
   pub no_place : (name : List ℕ) → (Contains (names_of entries) name → ⊥) → None ≡ place_of entries name
   no_place name lacks =
-      let all : position_or_len (λ other. bytes_eq other name) (names_of entries) ≡ length (names_of entries) = prefix_len_is (λ other. not (bytes_eq other name)) (names_of entries) (length (names_of entries)) name (omega arith)
+      let all : position_or_len (λ other. bytes_eq other name) (names_of entries) ≡ length (names_of entries) =
+      prefix_len_is (λ other. not (bytes_eq other name)) (names_of entries) (length (names_of entries)) name (omega arith)
       (λ k lt. passed_over _ name (λ e. lacks (k, lt, e))) (λ lt. absurd (omega (arith, lt))) in
       rw (all, le-ltb (length (names_of entries)) (length (names_of entries)) (omega arith)) refl
 
 -- ---- ancestors, and cycles
 
-pub table_of : (entries : List TargetEntry) → HasNone IsTwice entries → (numbers : List (ℕ × ℕ)) → AreNumbered (names_of entries) (arcs_of entries) numbers → (slice : List (ℕ × ℕ)) → slice ≡ numbers → (table : PathMarks) → IsPathTable (length entries) slice table → IsKeyTable (names_of entries) (arcs_of entries) table
-table_of entries once numbers numbered slice is table are = key_table (names_of entries) (arcs_of entries) numbers table numbered (one_place entries once) (rw (length-map entries (λ (e : TargetEntry). e.name), ← is) are)
+pub table_of : (entries : List TargetEntry) → HasNone IsTwice entries → (numbers : List (ℕ × ℕ))
+    → AreNumbered (names_of entries) (arcs_of entries) numbers → (slice : List (ℕ × ℕ)) → slice ≡ numbers → (table : PathMarks)
+    → IsPathTable (length entries) slice table → IsKeyTable (names_of entries) (arcs_of entries) table
+table_of entries once numbers numbered slice is table are =
+    key_table (names_of entries) (arcs_of entries) numbers table numbered (one_place entries once)
+    (rw (length-map entries (λ (e : TargetEntry). e.name), ← is) are)
 
 module _ (entries : List TargetEntry) (table : PathMarks) (are : IsKeyTable (names_of entries) (arcs_of entries) table) where
   pub no_cycle : ((i : ℕ) → i < table.places → IsTrue (leads table i i) → ⊥) → IsAcyclic (HasArc (arcs_of entries))
@@ -100,18 +126,23 @@ module _ (entries : List TargetEntry) (table : PathMarks) (are : IsKeyTable (nam
   place_below name i at = omega (arith, are.each, at.0)
 
 -- what a test of ancestors answers is what is computed
-pub told_ancestor : (entries : List TargetEntry) (target low : List ℕ) (is : Bool) → Decides is (HasAncestor entries target low) → is ≡ has_ancestor entries target low
-told_ancestor entries target low is tells = same_from_decides is (has_ancestor entries target low) tells (reaches_decides bytes_eq bytes_decides (arcs_of entries) target low)
+pub told_ancestor : (entries : List TargetEntry) (target low : List ℕ) (is : Bool) → Decides is (HasAncestor entries target low)
+    → is ≡ has_ancestor entries target low
+told_ancestor entries target low is tells =
+    same_from_decides is (has_ancestor entries target low) tells (reaches_decides bytes_eq bytes_decides (arcs_of entries) target low)
 
-pub at_least_decides : (entries : List TargetEntry) (target low : List ℕ) → Decides (at_least entries target low) (IsAtLeast entries target low)
-at_least_decides entries target low = Decides-or (bytes_eq target low) (has_ancestor entries target low) (bytes_decides target low) (reaches_decides bytes_eq bytes_decides (arcs_of entries) target low)
+pub at_least_decides : (entries : List TargetEntry) (target low : List ℕ)
+    → Decides (at_least entries target low) (IsAtLeast entries target low)
+at_least_decides entries target low = Decides-or (bytes_eq target low) (has_ancestor entries target low) (bytes_decides target low)
+    (reaches_decides bytes_eq bytes_decides (arcs_of entries) target low)
 
 module _ (P : List ℕ → Type 0) (test : List ℕ → Bool) (tells : (end : List ℕ) → Decides (test end) (P end)) where
   end_decides : (end : Option (List ℕ)) → Decides (keeps_end test end) (IfSome end P)
   end_decides None = (λ _. tt, λ _. refl)
   end_decides (Some end) = tells end
 
-pub in_range_decides : (entries : List TargetEntry) (target : List ℕ) (low high : Option (List ℕ)) → Decides (in_range entries target low high) (IsInRange entries target low high)
+pub in_range_decides : (entries : List TargetEntry) (target : List ℕ) (low high : Option (List ℕ))
+    → Decides (in_range entries target low high) (IsInRange entries target low high)
 in_range_decides entries target low high = Decides-and _ _
     (end_decides (λ l. IsAtLeast entries target l) (at_least entries target) (λ l. at_least_decides entries target l) low)
     (end_decides (λ h. IsAtLeast entries h target) (λ h. at_least entries h target) (λ h. at_least_decides entries h target) high)

@@ -34,7 +34,8 @@ IsTwice entries place = (place < length entries) × HoldsAt (λ entry. Contains 
 
 -- the entry at the place has a parent that is no entry's name
 abbrev pub IsUnknown : List TargetEntry → ℕ → Type 0
-IsUnknown entries place = (place < length entries) × HoldsAt (λ entry. (parent : List ℕ) × Contains entry.parents parent × (Contains (names_of entries) parent → ⊥)) entries place
+IsUnknown entries place = (place < length entries)
+    × HoldsAt (λ entry. (parent : List ℕ) × Contains entry.parents parent × (Contains (names_of entries) parent → ⊥)) entries place
 
 -- the place has the fault, and none before it
 abbrev pub IsFirst : (List TargetEntry → ℕ → Type 0) → List TargetEntry → ℕ → Type 0
@@ -48,7 +49,8 @@ HasNone IsFault entries = (k : ℕ) → IsFault entries k → ⊥
 abbrev pub IsTargetFault : List TargetEntry → TargetFault → Type 0
 IsTargetFault entries (TwiceNamed place) = IsFirst IsTwice entries place
 IsTargetFault entries (UnknownParent place) = HasNone IsTwice entries × IsFirst IsUnknown entries place
-IsTargetFault entries CyclicTargets = HasNone IsTwice entries × HasNone IsUnknown entries × ((name : List ℕ) × HasAncestor entries name name)
+IsTargetFault entries CyclicTargets = HasNone IsTwice entries × HasNone IsUnknown entries
+    × ((name : List ℕ) × HasAncestor entries name name)
 IsTargetFault entries OutOfMemory = Unit {0}
 
 -- entries without a fault

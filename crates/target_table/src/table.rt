@@ -82,7 +82,8 @@ impl TargetTable {
 
     /// Whether a target lies between two, each of which may be left out.
     pub fn in_range(&self, target: &str, low: Option<&str>, high: Option<&str>) -> bool
-        ensures { result ≡ in_range self.now target.now (option_copied low.entry) (option_copied high.entry) }
+        ensures { result ≡ in_range self.now target.now (option_copied low.entry)
+            (option_copied high.entry) }
     {
         self.keeps_low(target, low) && self.keeps_high(target, high)
     }
@@ -97,7 +98,8 @@ impl TargetTable {
     }
 
     fn keeps_high(&self, target: &str, high: Option<&str>) -> bool
-        ensures { result ≡ keeps_end (λ h. at_least self.now h target.now) (option_copied high.entry) }
+        ensures { result ≡ keeps_end (λ h. at_least self.now h target.now)
+            (option_copied high.entry) }
     {
         match high {
             Some(high) => self.at_least(high, target),
@@ -125,7 +127,8 @@ fn tables_of(
     entries: &[TargetEntry],
 ) -> Result<(BTreeMap<String, usize>, PathTable), TargetFault>
     ensures places { IfOk result (λ tables. ArePlaces (names_of entries.now) tables.0) }
-    ensures ancestors { IfOk result (λ tables. IsKeyTable (names_of entries.now) (arcs_of entries.now) tables.1) }
+    ensures ancestors { IfOk result
+        (λ tables. IsKeyTable (names_of entries.now) (arcs_of entries.now) tables.1) }
     ensures targets { OnOk result (AreTargets entries.now) }
     ensures fault { IfErr result (IsTargetFault entries.now) }
 {

@@ -9,7 +9,8 @@ ghost use Rattle.target_table.specs.Rows.{a, b, v1, v2, v3, v9, entry, three_lev
 
 /// The fault of entries is one that can be computed; there is one at most, memory apart.
 pub fn fault_laws()
-    ensures means { (entries : List TargetEntry) → MatchOption (fault_of entries) (AreTargets entries) (IsTargetFault entries) }
+    ensures means { (entries : List TargetEntry)
+        → MatchOption (fault_of entries) (AreTargets entries) (IsTargetFault entries) }
     ensures one { (entries : List TargetEntry) (fault : TargetFault) → IsTargetFault entries fault
         → (fault ≡ OutOfMemory) ⊎ (fault_of entries ≡ Some fault) }
     ensures none { (entries : List TargetEntry) → AreTargets entries → fault_of entries ≡ None }
@@ -41,9 +42,13 @@ pub fn worked_targets()
     ensures over { at_least diamond v3 v1 ≡ true }
     ensures beside { at_least diamond a b ≡ false }
     ensures own_parent { fault_of (entry v1 (v1 ∷ []) ∷ []) ≡ Some CyclicTargets }
-    ensures around { fault_of (entry v1 (v2 ∷ []) ∷ entry v2 (v3 ∷ []) ∷ entry v3 (v1 ∷ []) ∷ []) ≡ Some CyclicTargets }
-    ensures twice { fault_of (entry v1 [] ∷ entry v2 (v9 ∷ []) ∷ entry v1 [] ∷ []) ≡ Some (TwiceNamed 2) }
-    ensures behind_cycle { fault_of (entry v1 (v1 ∷ []) ∷ entry v2 (v9 ∷ []) ∷ []) ≡ Some (UnknownParent 1) }
-    ensures before_cycle { fault_of (entry v2 (v9 ∷ []) ∷ entry v1 (v1 ∷ []) ∷ []) ≡ Some (UnknownParent 0) }
+    ensures around { fault_of (entry v1 (v2 ∷ []) ∷ entry v2 (v3 ∷ []) ∷ entry v3 (v1 ∷ []) ∷ [])
+        ≡ Some CyclicTargets }
+    ensures twice { fault_of (entry v1 [] ∷ entry v2 (v9 ∷ []) ∷ entry v1 [] ∷ [])
+        ≡ Some (TwiceNamed 2) }
+    ensures behind_cycle { fault_of (entry v1 (v1 ∷ []) ∷ entry v2 (v9 ∷ []) ∷ [])
+        ≡ Some (UnknownParent 1) }
+    ensures before_cycle { fault_of (entry v2 (v9 ∷ []) ∷ entry v1 (v1 ∷ []) ∷ [])
+        ≡ Some (UnknownParent 0) }
     ensures later_parent { fault_of (entry v2 (v1 ∷ []) ∷ entry v1 [] ∷ []) ≡ None }
 {}

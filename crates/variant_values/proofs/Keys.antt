@@ -22,7 +22,8 @@ module _ {K : Type 0} where
   first_or_later x xs q (suc k) lt e = inr (k, omega arith, e)
 
   pub Contains-cons : (x : K) (xs : List K) (q : K) → Contains (x ∷ xs) q ↔ ((q ≡ x) ⊎ Contains xs q)
-  Contains-cons x xs q = (λ h. first_or_later x xs q h.0 h.1 h.2, λ h. ⊎_elim (λ e. (0, omega arith, sym e)) (λ r. (suc r.0, omega arith, r.2)) h)
+  Contains-cons x xs q =
+      (λ h. first_or_later x xs q h.0 h.1 h.2, λ h. ⊎_elim (λ e. (0, omega arith, sym e)) (λ r. (suc r.0, omega arith, r.2)) h)
 
   pub lacks_all : (q : K) → Contains [] q → ⊥
   lacks_all q h = omega (arith, h.1)
@@ -46,12 +47,15 @@ module _ {K : Type 0} {R : K → K → Ordering} (o : IsTotalOrder R) where
         let cons = Contains-cons x xs q in
         let rest = Contains-insert_key xs k q in
         let deep = Contains-cons x (insert_key R xs k) q in
-        elim (R k x) as (λ r. R k x ≡ r → Contains (match_ordering r (k ∷ x ∷ xs) (x ∷ xs) (x ∷ insert_key R xs k)) q ↔ ((q ≡ k) ⊎ Contains (x ∷ xs) q)) [
+        elim (R k x) as (λ r. R k x ≡ r → Contains (match_ordering r (k ∷ x ∷ xs) (x ∷ xs) (x ∷ insert_key R xs k)) q
+        ↔ ((q ≡ k) ⊎ Contains (x ∷ xs) q)) [
           | Less ↦ λ e. Contains-cons k (x ∷ xs) q
           | Equal ↦ λ e. (λ h. inr h, λ h. ⊎_elim (λ is. cons.1 (inl (is ∙ exact k x e))) (λ there. there) h)
           | Greater ↦ λ e. (
-            λ h. ⊎_elim (λ is. inr (cons.1 (inl is))) (λ r. ⊎_elim (λ is. inl is) (λ there. inr (cons.1 (inr there))) (rest.0 r)) (deep.0 h),
-            λ h. ⊎_elim (λ is. deep.1 (inr (rest.1 (inl is)))) (λ c. ⊎_elim (λ is. deep.1 (inl is)) (λ there. deep.1 (inr (rest.1 (inr there)))) (cons.0 c)) h,
+            λ h. ⊎_elim (λ is. inr (cons.1 (inl is))) (λ r. ⊎_elim (λ is. inl is) (λ there. inr (cons.1 (inr there))) (rest.0 r))
+                (deep.0 h),
+            λ h. ⊎_elim (λ is. deep.1 (inr (rest.1 (inl is))))
+                (λ c. ⊎_elim (λ is. deep.1 (inl is)) (λ there. deep.1 (inr (rest.1 (inr there)))) (cons.0 c)) h,
           )
         ] refl
 
@@ -60,21 +64,32 @@ module _ {K : Type 0} {R : K → K → Ordering} (o : IsTotalOrder R) where
   IsStrictlySortedBy-insert_key [] k s = (tt, tt)
   IsStrictlySortedBy-insert_key (x ∷ xs) k s =
       elim (R k x) as (λ r. R k x ≡ r → IsStrictlySortedBy R (match_ordering r (k ∷ x ∷ xs) (x ∷ xs) (x ∷ insert_key R xs k))) [
-        | Less ↦ λ e. ((e, recursion_from_All (λ y. R k y ≡ Less) xs (All-weaker (λ y. R x y ≡ Less) (λ y. R k y ≡ Less) (λ y lt. o.trans k x y e lt) xs (All-from_recursion _ xs s.0))), s)
+        | Less ↦ λ e. (
+          (
+            e,
+            recursion_from_All (λ y. R k y ≡ Less) xs
+                (All-weaker (λ y. R x y ≡ Less) (λ y. R k y ≡ Less) (λ y lt. o.trans k x y e lt) xs (All-from_recursion _ xs s.0)),
+          ),
+          s,
+        )
         | Equal ↦ λ e. s
         | Greater ↦ λ e.
-            let Above : K → Type 0 = λ y. R x y ≡ Less in
-            (recursion_from_All Above _ (All-insert_key R k Above xs (All-from_recursion Above xs s.0) (turned k x Greater e)), IsStrictlySortedBy-insert_key xs k s.1)
+            let Above : K → Type 0 = λ y. R x y ≡ Less in (
+              recursion_from_All Above _ (All-insert_key R k Above xs (All-from_recursion Above xs s.0) (turned k x Greater e)),
+              IsStrictlySortedBy-insert_key xs k s.1,
+            )
       ] refl
 
   -- ---- a gap: each key before a place is below k, and each one from there on is above
 
-  pub insert-gap : (xs : List K) (k : K) (i : ℕ) → i ≤ length xs → IsPartitionPoint (λ u. R u k ≡ Less) (λ u. R u k ≡ Greater) xs i → insert xs i k ≡ insert_key R xs k
+  pub insert-gap : (xs : List K) (k : K) (i : ℕ) → i ≤ length xs → IsPartitionPoint (λ u. R u k ≡ Less) (λ u. R u k ≡ Greater) xs i
+      → insert xs i k ≡ insert_key R xs k
   insert-gap [] k zero le gap = refl
   insert-gap [] k (suc i) le gap = absurd (omega (arith, le))
   insert-gap (x ∷ xs) k zero le gap = rw (turned x k Greater (gap.1 0 x (omega arith) (omega arith))) refl
   insert-gap (x ∷ xs) k (suc i) le gap =
-      let rest = insert-gap xs k i (omega (arith, le)) (λ n d a b. gap.0 (suc n) d (omega arith) (omega arith), λ n d a b. gap.1 (suc n) d (omega arith) (omega arith)) in
+      let rest = insert-gap xs k i (omega (arith, le))
+      (λ n d a b. gap.0 (suc n) d (omega arith) (omega arith), λ n d a b. gap.1 (suc n) d (omega arith) (omega arith)) in
       rw (turned x k Less (gap.0 0 x (omega arith) (omega arith))) (ap (λ l. x ∷ l) rest)
 
   pub lacks_gap : (xs : List K) (k : K) (i : ℕ) → IsPartitionPoint (λ u. R u k ≡ Less) (λ u. R u k ≡ Greater) xs i → Contains xs k → ⊥
@@ -85,23 +100,30 @@ module _ {K : Type 0} {R : K → K → Ordering} (o : IsTotalOrder R) where
 
   -- the comparisons with k rise along the list, as a binary search asks
   pub comparisons_rise : (xs : List K) (k : K) → IsStrictlySortedBy R xs → IsNonDecreasingBy (λ u. ordering_index (R u k)) xs
-  comparisons_rise xs k s = searchable_from_sorted o (λ u. u) xs k (λ i d a b. ap is_lt (turned _ _ Less (Less-from_sorted R xs i (i + 1) d s (omega arith) b)))
+  comparisons_rise xs k s = searchable_from_sorted o (λ u. u) xs k
+      (λ i d a b. ap is_lt (turned _ _ Less (Less-from_sorted R xs i (i + 1) d s (omega arith) b)))
 
   -- ---- two lists with the same keys
 
   -- what the first of two lists is to the other, which has it
   no_lower : (x y : K) (xs : List K) → IsStrictlySortedBy R (x ∷ xs) → Contains (x ∷ xs) y → (y ≡ x) ⊎ (R x y ≡ Less)
   unfolding IsStrictlySortedBy
-  no_lower x y xs s h = ⊎_elim (λ is. inl is) (λ later. inr (All-contains (λ u. R x u ≡ Less) xs y (All-from_recursion _ xs s.0) later)) ((Contains-cons x xs y).0 h)
+  no_lower x y xs s h = ⊎_elim (λ is. inl is) (λ later. inr (All-contains (λ u. R x u ≡ Less) xs y (All-from_recursion _ xs s.0) later))
+      ((Contains-cons x xs y).0 h)
 
-  same_first : (x y : K) (xs ys : List K) → IsStrictlySortedBy R (x ∷ xs) → IsStrictlySortedBy R (y ∷ ys) → Contains (x ∷ xs) y → Contains (y ∷ ys) x → x ≡ y
-  same_first x y xs ys s t h g = ⊎_elim sym (λ lt. ⊎_elim (λ is. is) (λ gt. absurd (not_below_itself x (o.trans x y x lt gt))) (no_lower y x ys t g)) (no_lower x y xs s h)
+  same_first : (x y : K) (xs ys : List K) → IsStrictlySortedBy R (x ∷ xs) → IsStrictlySortedBy R (y ∷ ys) → Contains (x ∷ xs) y
+      → Contains (y ∷ ys) x → x ≡ y
+  same_first x y xs ys s t h g =
+      ⊎_elim sym (λ lt. ⊎_elim (λ is. is) (λ gt. absurd (not_below_itself x (o.trans x y x lt gt))) (no_lower y x ys t g))
+      (no_lower x y xs s h)
 
   -- a key of the first list's others is one of the second's
-  others : (x y q : K) (xs ys : List K) → x ≡ y → IsStrictlySortedBy R (x ∷ xs) → Contains xs q → (Contains (x ∷ xs) q → Contains (y ∷ ys) q) → Contains ys q
+  others : (x y q : K) (xs ys : List K) → x ≡ y → IsStrictlySortedBy R (x ∷ xs) → Contains xs q
+      → (Contains (x ∷ xs) q → Contains (y ∷ ys) q) → Contains ys q
   unfolding IsStrictlySortedBy
   others x y q xs ys is s h f = ⊎_elim
-      (λ e. absurd (not_below_itself x (subst (λ u. R x u ≡ Less) (e ∙ sym is) (All-contains (λ u. R x u ≡ Less) xs q (All-from_recursion _ xs s.0) h))))
+      (λ e. absurd (not_below_itself x (subst (λ u. R x u ≡ Less) (e ∙ sym is)
+      (All-contains (λ u. R x u ≡ Less) xs q (All-from_recursion _ xs s.0) h))))
       (λ later. later)
       ((Contains-cons y ys q).0 (f ((Contains-cons x xs q).1 (inr h))))
 

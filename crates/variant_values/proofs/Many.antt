@@ -23,8 +23,10 @@ Contains-with_texts texts (word ∷ words) q =
     let cons = Contains-cons word words q in
     let adds = adds_text texts word q in
     let rest = Contains-with_texts (with_text texts word) words q in (
-      λ h. ⊎_elim (λ later. inl (cons.1 (inr later))) (λ there. ⊎_elim (λ is. inl (cons.1 (inl is))) (λ old. inr old) (adds.0 there)) (rest.0 h),
-      λ h. ⊎_elim (λ new. ⊎_elim (λ is. rest.1 (inr (adds.1 (inl is)))) (λ later. rest.1 (inl later)) (cons.0 new)) (λ old. rest.1 (inr (adds.1 (inr old)))) h,
+      λ h. ⊎_elim (λ later. inl (cons.1 (inr later))) (λ there. ⊎_elim (λ is. inl (cons.1 (inl is))) (λ old. inr old) (adds.0 there))
+          (rest.0 h),
+      λ h. ⊎_elim (λ new. ⊎_elim (λ is. rest.1 (inr (adds.1 (inl is)))) (λ later. rest.1 (inl later)) (cons.0 new))
+          (λ old. rest.1 (inr (adds.1 (inr old)))) h,
     )
 
 none_in_order : IsInByteOrder []

@@ -29,16 +29,20 @@ pub gap_lacks : (texts : Texts) (text : List ℕ) (i : ℕ) → IsGapFor texts t
 gap_lacks texts text i gap = lacks_gap nat_list_cmp_total texts text i gap.parted
 
 -- a binary search ends at the text, or at the gap for it
-pub found : (texts : Texts) (text : List ℕ) (r : Result ℕ ℕ) → IsSearchInRange r (length texts) → IsBinarySearchResult (λ u. byte_cmp u text) texts r → OnOk r (Contains texts text)
+pub found : (texts : Texts) (text : List ℕ) (r : Result ℕ ℕ) → IsSearchInRange r (length texts)
+    → IsBinarySearchResult (λ u. byte_cmp u text) texts r → OnOk r (Contains texts text)
 found texts text (Ok i) within is = (i, within, ties_are_equal _ _ (is text))
 found texts text (Err i) within is = tt
 
-pub absent : (texts : Texts) (text : List ℕ) (r : Result ℕ ℕ) → IsInByteOrder texts → IsSearchInRange r (length texts) → IsBinarySearchResult (λ u. byte_cmp u text) texts r → IfErr r (IsGapFor texts text)
+pub absent : (texts : Texts) (text : List ℕ) (r : Result ℕ ℕ) → IsInByteOrder texts → IsSearchInRange r (length texts)
+    → IsBinarySearchResult (λ u. byte_cmp u text) texts r → IfErr r (IsGapFor texts text)
 absent texts text (Ok i) ordered within is = tt
-absent texts text (Err i) ordered within is = record { within = within; parted = is (comparisons_rise nat_list_cmp_total texts text ordered) }
+absent texts text (Err i) ordered within is =
+    record { within = within; parted = is (comparisons_rise nat_list_cmp_total texts text ordered) }
 
 -- and tells so whether they have it
-pub decides_search : (texts : Texts) (text : List ℕ) (r : Result ℕ ℕ) (is : Bool) → OnOk r (Contains texts text) → IfErr r (IsGapFor texts text) → is ≡ is_ok r → IsTrue is ↔ Contains texts text
+pub decides_search : (texts : Texts) (text : List ℕ) (r : Result ℕ ℕ) (is : Bool) → OnOk r (Contains texts text)
+    → IfErr r (IsGapFor texts text) → is ≡ is_ok r → IsTrue is ↔ Contains texts text
 decides_search texts text (Ok i) is has gap e = (λ _. has, λ _. e)
 decides_search texts text (Err i) is has gap e = (λ t. absurd (true≢false (sym t ∙ e)), λ h. absurd (gap_lacks texts text i gap h))
 

@@ -28,7 +28,8 @@ impl Model for ValueSet {
 pub fn laws()
     ensures same { (a b : Texts) → IsInByteOrder a → IsInByteOrder b → HaveSameTexts a b → a ≡ b }
     ensures adds { (a : Texts) (text : List ℕ) → AddsText a text (with_text a text) }
-    ensures ordered { (a : Texts) (text : List ℕ) → IsInByteOrder a → IsInByteOrder (with_text a text) }
+    ensures ordered { (a : Texts) (text : List ℕ) → IsInByteOrder a
+        → IsInByteOrder (with_text a text) }
 {}
 
 impl ValueSet {

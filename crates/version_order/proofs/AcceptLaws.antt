@@ -70,10 +70,16 @@ item_goes (item.Range None high) h =
     let r = high_goes high h.1 in
     (r.0, λ rest. colon place.Item (written high ++ rest) refl ∙ r.1 rest, r.2)
 item_goes (item.Range (Some low) high) h =
-    let r = high_goes high h.1 in
-    (r.0, λ rest. ap (run step place.Item) (append_assoc low (58 ∷ written high) rest) ∙ version place.Item place.InLow low refl (refl, refl) h.0 (58 ∷ (written high ++ rest)) ∙ colon place.InLow (written high ++ rest) refl ∙ r.1 rest, r.2)
+    let r = high_goes high h.1 in (
+      r.0,
+      λ rest. ap (run step place.Item) (append_assoc low (58 ∷ written high) rest)
+          ∙ version place.Item place.InLow low refl (refl, refl) h.0 (58 ∷ (written high ++ rest))
+          ∙ colon place.InLow (written high ++ rest) refl ∙ r.1 rest,
+      r.2,
+    )
 
-more_goes : (items : List Item) (t : Place) → AllByRecursion IsItem items → Ends t → (s : Place) × (run step t (spell_more items) ≡ Some s) × (is_final s ≡ true)
+more_goes : (items : List Item) (t : Place) → AllByRecursion IsItem items → Ends t → (s : Place) × (run step t (spell_more items) ≡ Some s)
+    × (is_final s ≡ true)
 unfolding step
 more_goes [] t h ends = (t, refl, ends.0)
 more_goes (x ∷ items) t h ends =

@@ -68,8 +68,10 @@ parted_change [] ys b c h = h
 parted_change (x ∷ []) ys b c h = h
 parted_change (x ∷ y ∷ xs) ys b c h = parted_change (y ∷ xs) ys b c h
 
-pub cut_change : (xs ys : List ℕ) (b c : ℕ) → (is_ascii_digit b ≡ is_ascii_digit c → ⊥) → pieces (xs ++ b ∷ c ∷ ys) ≡ pieces (xs ++ b ∷ []) ++ pieces (c ∷ ys)
-cut_change xs ys b c h = ap pieces (sym (append_assoc xs (b ∷ []) (c ∷ ys))) ∙ parts (xs ++ b ∷ []) (c ∷ ys) (parted_change xs ys b c (alike-change b c h))
+pub cut_change : (xs ys : List ℕ) (b c : ℕ) → (is_ascii_digit b ≡ is_ascii_digit c → ⊥) → pieces (xs ++ b ∷ c ∷ ys) ≡ pieces (xs ++ b ∷ [])
+    ++ pieces (c ∷ ys)
+cut_change xs ys b c h = ap pieces (sym (append_assoc xs (b ∷ []) (c ∷ ys)))
+    ∙ parts (xs ++ b ∷ []) (c ∷ ys) (parted_change xs ys b c (alike-change b c h))
 
 -- ---- nowhere else
 

@@ -6,7 +6,8 @@ use Rattle.std.proofs.lemmas.List.{append-nil, drop_more, length-append}
 use Rattle.version_order.specs.Items.{spell, spell_more, is_empty_range, first_empty}
 use Rattle.version_order.specs.declared.item.Item.{Item}
 
-pub empty_here : (items : List Item) (i place : ℕ) (d : Item) → i < length items → is_empty_range (get_or items i d) ≡ true → first_empty place (drop i items) ≡ Some place
+pub empty_here : (items : List Item) (i place : ℕ) (d : Item) → i < length items → is_empty_range (get_or items i d) ≡ true
+    → first_empty place (drop i items) ≡ Some place
 unfolding first_empty
 empty_here items i place d lt h = rw (drop_more items i d lt, h) refl
 
@@ -19,11 +20,14 @@ pub empty_none : (place : ℕ) → first_empty place [] ≡ None
 unfolding first_empty
 empty_none place = refl
 
-pub longer : (items : List Item) (i : ℕ) (d : Item) → i < length items → length (spell_more (drop i items)) ≡ 1 + length (spell (get_or items i d)) + length (spell_more (drop (i + 1) items))
-longer items i d lt = rw (drop_more items i d lt) (omega (arith, length-append (spell (get_or items i d)) (spell_more (drop (i + 1) items))))
+pub longer : (items : List Item) (i : ℕ) (d : Item) → i < length items
+    → length (spell_more (drop i items)) ≡ 1 + length (spell (get_or items i d)) + length (spell_more (drop (i + 1) items))
+longer items i d lt = rw (drop_more items i d lt)
+    (omega (arith, length-append (spell (get_or items i d)) (spell_more (drop (i + 1) items))))
 
 -- past items that are no empty ranges
-past : (place : ℕ) (before after : List Item) → All (λ item. is_empty_range item ≡ false) before → first_empty place (before ++ after) ≡ first_empty (place + length (spell_more before)) after
+past : (place : ℕ) (before after : List Item) → All (λ item. is_empty_range item ≡ false) before
+    → first_empty place (before ++ after) ≡ first_empty (place + length (spell_more before)) after
 unfolding first_empty
 past place [] after h = rw (add-zero place) refl
 past place (x ∷ before) after h =
@@ -31,7 +35,8 @@ past place (x ∷ before) after h =
     (past (place + length (spell x) + 1) before after (All-tail (λ item. is_empty_range item ≡ false) x before h)
     ∙ ap (λ n. first_empty n after) (omega (arith, length-append (spell x) (spell_more before))))
 
-pub first_at : (before after : List Item) (item : Item) → All (λ other. is_empty_range other ≡ false) before → is_empty_range item ≡ true → first_empty 0 (before ++ item ∷ after) ≡ Some (length (spell_more before))
+pub first_at : (before after : List Item) (item : Item) → All (λ other. is_empty_range other ≡ false) before → is_empty_range item ≡ true
+    → first_empty 0 (before ++ item ∷ after) ≡ Some (length (spell_more before))
 unfolding first_empty
 first_at before after item h is = past 0 before (item ∷ after) h ∙ rw is (ap (λ n. Some n) (omega arith))
 

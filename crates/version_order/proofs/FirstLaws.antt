@@ -117,5 +117,6 @@ unfolding first_item
 exact_right text rest whole list = first_right (61 ∷ rest) (subst IsList whole list)
 
 -- an item that does not begin with `=`
-pub low_right : (text : List ℕ) → first_item text ≡ after_low (front text) (behind text) → IsList text → IsItem (after_low (front text) (behind text)).0
+pub low_right : (text : List ℕ) → first_item text ≡ after_low (front text) (behind text) → IsList text
+    → IsItem (after_low (front text) (behind text)).0
 low_right text first list = subst (λ (p : Item × List ℕ). IsItem p.0) first (first_right text list)

@@ -29,7 +29,8 @@ list_tells = record { accepts = list_accepted; completes = list_completes; ends 
 
 -- ---- where it stops
 
-pub bad : (text : List ℕ) (place : Place) (n : ℕ) → Stops text place n → (n < length text) ⊎ (is_final place ≡ false) → IsBadAt IsList text n
+pub bad : (text : List ℕ) (place : Place) (n : ℕ) → Stops text place n → (n < length text) ⊎ (is_final place ≡ false)
+    → IsBadAt IsList text n
 bad text place n stops (inl lt) = bad_at_stop step list_tells text n place lt stops.reached (stops.stuck lt)
 bad text place n stops (inr open_) =
     elim (cases_lt n (length text)) [

@@ -55,7 +55,8 @@ rank_key (Other a) (Number b) = refl
 rank_key (Other a) (Other b) = refl
 
 by_key_total : IsTotalOrder by_key
-by_key_total = then_total (on_total kind_of nat_cmp_total) (then_total (on_total place_of nat_cmp_total) (on_total bytes_of nat_list_cmp_total))
+by_key_total = then_total (on_total kind_of nat_cmp_total)
+    (then_total (on_total place_of nat_cmp_total) (on_total bytes_of nat_list_cmp_total))
 
 component_total : IsTotalOrder component_cmp
 component_total = on_total rank_of (total_same rank_key by_key_total)
@@ -92,7 +93,8 @@ pre_total = total_same pre_key (then_total (on_total key_stage nat_cmp_total) (o
 
 pub version_total : IsTotalOrder version_cmp
 unfolding version_cmp
-version_total = then_total (on_total (λ text. release (pieces text)) (lists_total component_total)) (then_total (on_total (λ text. pre_release (pieces text)) pre_total) nat_list_cmp_total)
+version_total = then_total (on_total (λ text. release (pieces text)) (lists_total component_total))
+    (then_total (on_total (λ text. pre_release (pieces text)) pre_total) nat_list_cmp_total)
 
 then_second : (r s : Ordering) → ordering_then r s ≡ Equal → s ≡ Equal
 then_second Less s e = cc e

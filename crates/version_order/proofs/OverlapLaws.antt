@@ -40,11 +40,15 @@ items_symmetric (Exact w) (Exact x) = bytes_comm x w
 items_symmetric (Exact w) (Prefix x) = refl
 items_symmetric (Exact w) (Range low high) = refl
 items_symmetric (Prefix w) (Exact x) = refl
-items_symmetric (Prefix w) (Prefix x) = and_comm (reaches (low_end (Prefix w)) (high_end (Prefix x))) (reaches (low_end (Prefix x)) (high_end (Prefix w)))
-items_symmetric (Prefix w) (Range low high) = and_comm (reaches (low_end (Prefix w)) (high_end (Range low high))) (reaches (low_end (Range low high)) (high_end (Prefix w)))
+items_symmetric (Prefix w) (Prefix x) = and_comm (reaches (low_end (Prefix w)) (high_end (Prefix x)))
+    (reaches (low_end (Prefix x)) (high_end (Prefix w)))
+items_symmetric (Prefix w) (Range low high) =
+    and_comm (reaches (low_end (Prefix w)) (high_end (Range low high))) (reaches (low_end (Range low high)) (high_end (Prefix w)))
 items_symmetric (Range low high) (Exact x) = refl
-items_symmetric (Range low high) (Prefix x) = and_comm (reaches (low_end (Range low high)) (high_end (Prefix x))) (reaches (low_end (Prefix x)) (high_end (Range low high)))
-items_symmetric (Range low high) (Range from to) = and_comm (reaches (low_end (Range low high)) (high_end (Range from to))) (reaches (low_end (Range from to)) (high_end (Range low high)))
+items_symmetric (Range low high) (Prefix x) =
+    and_comm (reaches (low_end (Range low high)) (high_end (Prefix x))) (reaches (low_end (Prefix x)) (high_end (Range low high)))
+items_symmetric (Range low high) (Range from to) =
+    and_comm (reaches (low_end (Range low high)) (high_end (Range from to))) (reaches (low_end (Range from to)) (high_end (Range low high)))
 
 none_overlaps : (a : List Item) → sets_overlap a [] ≡ false
 none_overlaps [] = refl
@@ -53,7 +57,8 @@ none_overlaps (x ∷ a) = none_overlaps a
 -- one item more in the second set
 more_overlaps : (a : List Item) (y : Item) (b : List Item) → sets_overlap a (y ∷ b) ≡ (overlaps_item a y || sets_overlap a b)
 more_overlaps [] y b = refl
-more_overlaps (x ∷ a) y b = rw (more_overlaps a y b, items_symmetric x y) (regroup (items_overlap y x) (overlaps_item b x) (overlaps_item a y) (sets_overlap a b))
+more_overlaps (x ∷ a) y b = rw (more_overlaps a y b, items_symmetric x y)
+    (regroup (items_overlap y x) (overlaps_item b x) (overlaps_item a y) (sets_overlap a b))
 
 pub sets_symmetric : (a b : List Item) → sets_overlap a b ≡ sets_overlap b a
 sets_symmetric a [] = none_overlaps a
@@ -72,7 +77,8 @@ unfolding items_overlap
 exact_overlaps w item = refl
 
 pub exact_set : (w : List ℕ) (items : List Item) → sets_overlap (Exact w ∷ []) items ≡ set_contains items w
-exact_set w items = or_none (overlaps_item items (Exact w)) ∙ any_same (items_overlap (Exact w)) (λ item. item_contains item w) (exact_overlaps w) items
+exact_set w items = or_none (overlaps_item items (Exact w))
+    ∙ any_same (items_overlap (Exact w)) (λ item. item_contains item w) (exact_overlaps w) items
 
 -- ---- empty ranges
 
@@ -93,4 +99,5 @@ own_overlap (Prefix w) = rw (version_same w w refl) refl
 own_overlap (Range None None) = refl
 own_overlap (Range None (Some high)) = refl
 own_overlap (Range (Some low) None) = refl
-own_overlap (Range (Some low) (Some high)) = twice (is_le (version_cmp low high) || is_prefix high low) ∙ not_empty (version_cmp low high) (is_prefix high low)
+own_overlap (Range (Some low) (Some high)) = twice (is_le (version_cmp low high) || is_prefix high low)
+    ∙ not_empty (version_cmp low high) (is_prefix high low)

@@ -58,10 +58,13 @@ unfolding pieces
 pieces-none = refl
 
 -- past a separator at place i
-pub pieces-skip : (xs : List ℕ) (i : ℕ) → i < length xs → is_separator (get_or xs i 0) ≡ true → pieces (drop i xs) ≡ pieces (drop (i + 1) xs)
+pub pieces-skip : (xs : List ℕ) (i : ℕ) → i < length xs → is_separator (get_or xs i 0) ≡ true
+    → pieces (drop i xs) ≡ pieces (drop (i + 1) xs)
 pieces-skip xs i lt h = rw (drop_more xs i 0 lt) (pieces-separator _ _ h)
 
 -- a piece at place i, of n bytes after its first
-pub pieces-at : (xs : List ℕ) (i n : ℕ) → i < length xs → is_separator (get_or xs i 0) ≡ false → n ≡ prefix_len (are_alike (get_or xs i 0)) (drop (i + 1) xs)
+pub pieces-at : (xs : List ℕ) (i n : ℕ) → i < length xs → is_separator (get_or xs i 0) ≡ false
+    → n ≡ prefix_len (are_alike (get_or xs i 0)) (drop (i + 1) xs)
     → pieces (drop i xs) ≡ take (n + 1) (drop i xs) ∷ pieces (drop (n + 1) (drop i xs))
-pieces-at xs i n lt h e = rw (drop_more xs i 0 lt, e, add-one (run_length (get_or xs i 0) (drop (i + 1) xs))) (pieces-run (get_or xs i 0) (drop (i + 1) xs) h)
+pieces-at xs i n lt h e = rw (drop_more xs i 0 lt, e, add-one (run_length (get_or xs i 0) (drop (i + 1) xs)))
+    (pieces-run (get_or xs i 0) (drop (i + 1) xs) h)

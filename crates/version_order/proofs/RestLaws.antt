@@ -28,8 +28,10 @@ abbrev Rest : Place → List ℕ → Type 0
 Rest place.Item text = (x : Item) × (items : List Item) × IsItem x × AreItems items × (text ≡ spell x ++ spell_more items)
 Rest place.Exact text = (w : List ℕ) × (items : List Item) × IsVersion w × AreItems items × (text ≡ w ++ spell_more items)
 Rest place.InExact text = Inside text
-Rest place.InLow text = Inside text ⊎ ((w : List ℕ) × (high : Option (List ℕ)) × (items : List Item) × AreBytes w × IfSome high IsVersion × AreItems items × (text ≡ w ++ 58 ∷ (written high ++ spell_more items)))
-Rest place.High text = (high : Option (List ℕ)) × (items : List Item) × IfSome high IsVersion × AreItems items × (text ≡ written high ++ spell_more items)
+Rest place.InLow text = Inside text ⊎ ((w : List ℕ) × (high : Option (List ℕ)) × (items : List Item) × AreBytes w × IfSome high IsVersion
+    × AreItems items × (text ≡ w ++ 58 ∷ (written high ++ spell_more items)))
+Rest place.High text = (high : Option (List ℕ)) × (items : List Item) × IfSome high IsVersion × AreItems items
+    × (text ≡ written high ++ spell_more items)
 Rest place.InHigh text = Inside text
 
 abbrev RestAfter : Option Place → List ℕ → Type 0
@@ -85,8 +87,14 @@ low-cons b rest h (inr (w, high, items, bytes, upper, are, e)) = inr (b ∷ w, h
 prepend : (s : Place) (g : Sign) (b : ℕ) (rest : List ℕ) → Says b g → RestAfter (after s g) rest → Rest s (b ∷ rest)
 prepend place.Item Start b rest h (inl (w, items, bytes, are, e)) =
     (item.Prefix (b ∷ w), items, version-cons b w h bytes, are, ap (λ (l : List ℕ). b ∷ l) e)
-prepend place.Item Start b rest h (inr (w, high, items, bytes, upper, are, e)) =
-    (item.Range (Some (b ∷ w)) high, items, (version-cons b w h bytes, upper), are, ap (λ (l : List ℕ). b ∷ l) (e ∙ sym (append_assoc w (58 ∷ written high) (spell_more items))))
+prepend place.Item Start b rest h (inr (w, high, items, bytes, upper, are, e)) = (
+  item.Range (Some (b ∷ w)) high,
+  items,
+  (version-cons b w h bytes, upper),
+  are,
+  ap (λ (l : List ℕ). b ∷ l) (e
+      ∙ sym (append_assoc w (58 ∷ written high) (spell_more items))),
+)
 prepend place.Item Equals b rest h (w, items, v, are, e) = (item.Exact w, items, v, are, cc)
 prepend place.Item Colon b rest h (high, items, upper, are, e) = (item.Range None high, items, (tt, upper), are, cc)
 prepend place.Exact Start b rest h (w, items, bytes, are, e) = (b ∷ w, items, version-cons b w h bytes, are, cc)
@@ -109,7 +117,8 @@ back : (s t : Place) (text rest : List ℕ) → run step s text ≡ Some t → R
 unfolding step
 back s t [] rest e r = subst (λ (u : Place). Rest u rest) (sym (same_Some s t e)) r
 back s t (b ∷ text) rest e r =
-    prepend s (sign_of b) b (text ++ rest) (says b) (elim (after s (sign_of b)) as (λ o. option_and_then (λ u. run step u text) o ≡ Some t → RestAfter o (text ++ rest)) [
+    prepend s (sign_of b) b (text ++ rest) (says b)
+    (elim (after s (sign_of b)) as (λ o. option_and_then (λ u. run step u text) o ≡ Some t → RestAfter o (text ++ rest)) [
       | None ↦ λ no. absurd cc
       | Some u ↦ λ more. back u t text rest more r
     ] e)

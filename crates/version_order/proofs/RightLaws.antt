@@ -19,10 +19,12 @@ some_text items r =
     let final : false ≡ true = rw (← is) at a.2 in
     cc
 
-pub only_memory : (text : List ℕ) (items : List item.Item) (fault : VersionSetFault) → Reads text items → first_empty 0 items ≡ None → IsSetFault text fault → fault ≡ OutOfMemory
+pub only_memory : (text : List ℕ) (items : List item.Item) (fault : VersionSetFault) → Reads text items → first_empty 0 items ≡ None
+    → IsSetFault text fault → fault ≡ OutOfMemory
 only_memory text items Empty r none fault = absurd (some_text items (rw fault at r))
 only_memory text items (BadByte p) r none fault = absurd (fault.1.wrong (items, r))
-only_memory text items (EmptyRange p) r none fault = absurd (none-some p (sym none ∙ ap (first_empty 0) (one_reading text items fault.0 r fault.1) ∙ fault.2))
+only_memory text items (EmptyRange p) r none fault =
+    absurd (none-some p (sym none ∙ ap (first_empty 0) (one_reading text items fault.0 r fault.1) ∙ fault.2))
 only_memory text items OutOfMemory r none fault = refl
 
 -- a text has one fault at most, besides

@@ -27,7 +27,8 @@ spelled w =
 abbrev IsWord : List ℕ → ℕ → Type 0
 IsWord piece w = (piece ≡ spelled w) × (number_of piece ≡ None)
 
-one_word : (piece text : List ℕ) (n w : ℕ) (others : Option ℕ) → text ≡ spelled n → number_of text ≡ None → (others ≡ Some w → IsWord piece w)
+one_word : (piece text : List ℕ) (n w : ℕ) (others : Option ℕ) → text ≡ spelled n → number_of text ≡ None
+    → (others ≡ Some w → IsWord piece w)
     → cond (bytes_eq piece text) (Some n) others ≡ Some w → IsWord piece w
 one_word piece text n w others is none later e = elim (cases_Bool (bytes_eq piece text)) [
   | inl here ↦

@@ -33,7 +33,8 @@ first_part rest y ys r = ap (λ (p : Item × List ℕ). p.0) (first_of rest y ys
 second_part : (rest : List ℕ) (y : Item) (ys : List Item) → Reads rest (y ∷ ys) → (first_item rest).1 ≡ spell_more ys
 second_part rest y ys r = ap (λ (p : Item × List ℕ). p.1) (first_of rest y ys r)
 
-all_case : (items : List Item) (rest : List ℕ) (x : Item) (left all : List Item) → items ++ left ≡ all → Reads rest left → x ≡ (first_item rest).0 → (first_item rest).1 ≡ []
+all_case : (items : List Item) (rest : List ℕ) (x : Item) (left all : List Item) → items ++ left ≡ all → Reads rest left
+    → x ≡ (first_item rest).0 → (first_item rest).1 ≡ []
     → items ++ x ∷ [] ≡ all
 all_case items rest x [] all j r e none = absurd (omega (arith, r.some))
 all_case items rest x (y ∷ []) all j r e none = ap (λ (v : Item). items ++ v ∷ []) (e ∙ first_part rest y [] r) ∙ j
@@ -41,7 +42,8 @@ all_case items rest x (y ∷ z ∷ zs) all j r e none =
     let two = second_part rest y (z ∷ zs) r in
     absurd (cons_none _ _ (sym two ∙ none))
 
-more_case : (items : List Item) (rest : List ℕ) (x : Item) (b : ℕ) (next : List ℕ) (left all : List Item) → items ++ left ≡ all → Reads rest left → x ≡ (first_item rest).0 → (first_item rest).1 ≡ b ∷ next
+more_case : (items : List Item) (rest : List ℕ) (x : Item) (b : ℕ) (next : List ℕ) (left all : List Item) → items ++ left ≡ all
+    → Reads rest left → x ≡ (first_item rest).0 → (first_item rest).1 ≡ b ∷ next
     → Left (items ++ x ∷ []) next all
 more_case items rest x b next [] all j r e some = absurd (omega (arith, r.some))
 more_case items rest x b next (y ∷ []) all j r e some =
@@ -54,14 +56,16 @@ more_case items rest x b next (y ∷ z ∷ zs) all j r e some = record {
 }
 
 -- the last item
-pub so_far_all : (text : List ℕ) (items : List Item) (rest : List ℕ) (x : Item) → IsSoFar text items rest → x ≡ (first_item rest).0 → (first_item rest).1 ≡ []
+pub so_far_all : (text : List ℕ) (items : List Item) (rest : List ℕ) (x : Item) → IsSoFar text items rest → x ≡ (first_item rest).0
+    → (first_item rest).1 ≡ []
     → (all : List Item) → Reads text all → items ++ x ∷ [] ≡ all
 so_far_all text items rest x so_far e none all r =
     let l = so_far all r in
     all_case items rest x l.left all l.joined l.reads e none
 
 -- one item more
-pub so_far_more : (text : List ℕ) (items : List Item) (rest : List ℕ) (x : Item) (b : ℕ) (next : List ℕ) → IsSoFar text items rest → x ≡ (first_item rest).0 → (first_item rest).1 ≡ b ∷ next
+pub so_far_more : (text : List ℕ) (items : List Item) (rest : List ℕ) (x : Item) (b : ℕ) (next : List ℕ) → IsSoFar text items rest
+    → x ≡ (first_item rest).0 → (first_item rest).1 ≡ b ∷ next
     → IsSoFar text (items ++ x ∷ []) next
 so_far_more text items rest x b next so_far e some all r =
     let l = so_far all r in

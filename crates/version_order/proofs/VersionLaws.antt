@@ -58,10 +58,12 @@ version_tells = record {
   ends = version_ends;
 }
 
-pub version_stop : (text : List ℕ) (i : ℕ) (inside : Bool) → i < length text → run version_step false (take i text) ≡ Some inside → version_step inside (get_or text i 0) ≡ None → IsBadAt IsVersion text i
+pub version_stop : (text : List ℕ) (i : ℕ) (inside : Bool) → i < length text → run version_step false (take i text) ≡ Some inside
+    → version_step inside (get_or text i 0) ≡ None → IsBadAt IsVersion text i
 version_stop text i inside lt here stop = bad_at_stop version_step version_tells text i inside lt here stop
 
-pub version_more : (text : List ℕ) (i : ℕ) (inside : Bool) → i < length text → run version_step false (take i text) ≡ Some inside → version_step inside (get_or text i 0) ≡ Some true
+pub version_more : (text : List ℕ) (i : ℕ) (inside : Bool) → i < length text → run version_step false (take i text) ≡ Some inside
+    → version_step inside (get_or text i 0) ≡ Some true
     → run version_step false (take (i + 1) text) ≡ Some true
 version_more text i inside lt here more = run_more version_step false inside text i lt here ∙ more
 

@@ -7,9 +7,11 @@ use Rattle.version_order.specs.declared.item.Item.{Item}
 
 more-append : (items : List Item) (x : Item) → spell_more (items ++ x ∷ []) ≡ spell_more items ++ 44 ∷ spell x
 more-append [] x = ap (λ (l : List ℕ). 44 ∷ l) (append-nil (spell x))
-more-append (y ∷ items) x = ap (λ (l : List ℕ). 44 ∷ l) (ap (λ (l : List ℕ). spell y ++ l) (more-append items x) ∙ sym (append_assoc (spell y) (spell_more items) (44 ∷ spell x)))
+more-append (y ∷ items) x = ap (λ (l : List ℕ). 44 ∷ l) (ap (λ (l : List ℕ). spell y ++ l) (more-append items x)
+    ∙ sym (append_assoc (spell y) (spell_more items) (44 ∷ spell x)))
 
-pub more-take : (items : List Item) (i : ℕ) (d : Item) → i < length items → spell_more (take (i + 1) items) ≡ spell_more (take i items) ++ 44 ∷ spell (get_or items i d)
+pub more-take : (items : List Item) (i : ℕ) (d : Item) → i < length items → spell_more (take (i + 1) items) ≡ spell_more (take i items)
+    ++ 44 ∷ spell (get_or items i d)
 more-take items i d lt = rw (take_more items i d lt) (more-append (take i items) (get_or items i d))
 
 -- what stands behind a front is still behind it

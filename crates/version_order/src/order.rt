@@ -59,7 +59,8 @@ fn compare_pre_releases(a: Option<(u8, u64)>, b: Option<(u8, u64)>) -> Ordering
 #[tactic(auto, using(crate::proofs::ReleaseLaws::releases))]
 fn next_released(text: &[u8]) -> Option<(&[u8], &[u8])>
     ensures none { IfNone result (release (pieces text.now) ≡ []) }
-    ensures some { IfSome result (λ x. release (pieces text.now) ≡ x.0.now ∷ release (pieces x.1.now)) }
+    ensures some { IfSome result (λ x. release (pieces text.now) ≡ x.0.now
+        ∷ release (pieces x.1.now)) }
     ensures shorter { IfSome result (λ x. length x.1.now < length text.now) }
 {
     if staged(text).is_some() {

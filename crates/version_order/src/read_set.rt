@@ -69,7 +69,8 @@ fn low_item<'a>(alloc: Global, low: &[u8], rest: &'a [u8]) -> Result<(Item, &'a 
 /// What stands behind `=` at the front of a text.
 #[tactic(auto, unfolding(crate::specs::Cut::first_item))]
 fn behind_equals(text: &[u8]) -> Option<&[u8]>
-    ensures { MatchOption result (first_item text.now ≡ after_low (front text.now) (behind text.now)) (λ rest. text.now ≡ 61 ∷ rest.now) }
+    ensures { MatchOption result (first_item text.now ≡ after_low (front text.now)
+        (behind text.now)) (λ rest. text.now ≡ 61 ∷ rest.now) }
 {
     match text {
         [b'=', rest @ ..] => Some(rest),

@@ -48,7 +48,8 @@ fn version_front(text: &[u8]) -> usize
 
 /// Why a text is no version, and `None` where it is one.
 pub(crate) fn fault_of(text: &[u8]) -> Option<VersionFault>
-    ensures told { MatchOption result (IsVersion text.now) (λ fault. IsVersionFault text.now fault) }
+    ensures told { MatchOption result (IsVersion text.now)
+        (λ fault. IsVersionFault text.now fault) }
     // It takes no memory.
     ensures memory { result ≢ Some VersionFault.OutOfMemory }
 {

@@ -27,27 +27,37 @@ pub fn laws()
 /// A version is refused for want of memory alone. A text has one place at most where it goes wrong,
 /// and some byte stands there.
 pub fn reading_laws()
-    ensures right { (text : List ℕ) (fault : VersionFault) → IsVersion text → IsVersionFault text fault → fault ≡ VersionFault.OutOfMemory }
-    ensures one_place { (text : List ℕ) (p q : ℕ) → IsBadAt IsVersion text p → IsBadAt IsVersion text q → p ≡ q }
-    ensures within { (text : List ℕ) (p : ℕ) → IsVersionFault text (VersionFault.BadByte p) → p < length text }
+    ensures right { (text : List ℕ) (fault : VersionFault) → IsVersion text
+        → IsVersionFault text fault → fault ≡ VersionFault.OutOfMemory }
+    ensures one_place { (text : List ℕ) (p q : ℕ) → IsBadAt IsVersion text p
+        → IsBadAt IsVersion text q → p ≡ q }
+    ensures within { (text : List ℕ) (p : ℕ) → IsVersionFault text (VersionFault.BadByte p)
+        → p < length text }
 {}
 
 /// A text is cut at each separator, which goes, and at each change between digits and other bytes,
 /// and nowhere else.
 pub fn cutting_laws()
-    ensures at_separator { (front rest : List ℕ) (b : ℕ) → is_separator b ≡ true → pieces (front ++ b ∷ rest) ≡ pieces front ++ pieces rest }
-    ensures at_change { (front rest : List ℕ) (b c : ℕ) → (is_ascii_digit b ≡ is_ascii_digit c → ⊥) → pieces (front ++ b ∷ c ∷ rest) ≡ pieces (front ++ b ∷ []) ++ pieces (c ∷ rest) }
-    ensures digits { (b : ℕ) (rest : List ℕ) → list_all is_ascii_digit (b ∷ rest) ≡ true → pieces (b ∷ rest) ≡ (b ∷ rest) ∷ [] }
-    ensures letters { (b : ℕ) (rest : List ℕ) → list_all (λ c. not (is_ascii_digit c || is_separator c)) (b ∷ rest) ≡ true → pieces (b ∷ rest) ≡ (b ∷ rest) ∷ [] }
+    ensures at_separator { (front rest : List ℕ) (b : ℕ) → is_separator b ≡ true
+        → pieces (front ++ b ∷ rest) ≡ pieces front ++ pieces rest }
+    ensures at_change { (front rest : List ℕ) (b c : ℕ) → (is_ascii_digit b ≡ is_ascii_digit c → ⊥)
+        → pieces (front ++ b ∷ c ∷ rest) ≡ pieces (front ++ b ∷ []) ++ pieces (c ∷ rest) }
+    ensures digits { (b : ℕ) (rest : List ℕ) → list_all is_ascii_digit (b ∷ rest) ≡ true
+        → pieces (b ∷ rest) ≡ (b ∷ rest) ∷ [] }
+    ensures letters { (b : ℕ) (rest : List ℕ)
+        → list_all (λ c. not (is_ascii_digit c || is_separator c)) (b ∷ rest) ≡ true
+        → pieces (b ∷ rest) ≡ (b ∷ rest) ∷ [] }
 {}
 
 /// Rows of the order, computed.
 #[tactic(auto, unfolding(crate::specs::Order::version_cmp, crate::specs::Pieces::pieces, crate::specs::Order::release, crate::specs::Order::pre_release, crate::specs::Order::staged, crate::specs::Order::stage_of, crate::specs::Component::rank_of, crate::specs::Component::word_of, crate::specs::Component::number_of, crate::specs::Prefix::is_same))]
 pub fn worked_order()
     // Pre-releases stand below their release.
-    ensures rising { Rise (codes "1.0-alpha1" ∷ codes "1.0-beta1" ∷ codes "1.0-rc1" ∷ codes "1.0" ∷ codes "1.0.1" ∷ codes "2" ∷ codes "develop" ∷ []) }
+    ensures rising { Rise (codes "1.0-alpha1" ∷ codes "1.0-beta1" ∷ codes "1.0-rc1" ∷ codes "1.0"
+        ∷ codes "1.0.1" ∷ codes "2" ∷ codes "develop" ∷ []) }
     // The six words, above numbers.
-    ensures words { Rise (codes "2" ∷ codes "stable" ∷ codes "trunk" ∷ codes "head" ∷ codes "master" ∷ codes "main" ∷ codes "develop" ∷ []) }
+    ensures words { Rise (codes "2" ∷ codes "stable" ∷ codes "trunk" ∷ codes "head" ∷ codes "master"
+        ∷ codes "main" ∷ codes "develop" ∷ []) }
     // Numbers by their values, and other pieces below them.
     ensures numbers { Rise (codes "1.b" ∷ codes "1.9" ∷ codes "1.10" ∷ []) }
     // 18 digits are a number; 19 are a text, and so below each number.

@@ -14,13 +14,15 @@ fn write_byte(byte: u8, out: &mut Vec<u8>) -> Result<(), AllocError>
 }
 
 fn write_version(version: &Version, out: &mut Vec<u8>) -> Result<(), AllocError>
-    ensures { out.new.items ≡ (if is_ok result then out.old.items ++ version.now else out.old.items) }
+    ensures { out.new.items ≡ (if is_ok result then out.old.items
+        ++ version.now else out.old.items) }
 {
     out.extend_from_slice(version.text().as_bytes())
 }
 
 fn write_end(end: &Option<Version>, out: &mut Vec<u8>) -> Result<(), AllocError>
-    ensures { out.new.items ≡ (if is_ok result then out.old.items ++ written end.now else out.old.items) }
+    ensures { out.new.items ≡ (if is_ok result then out.old.items
+        ++ written end.now else out.old.items) }
 {
     match end {
         Some(version) => write_version(version, out),

@@ -24,12 +24,15 @@ not_above p q s e = rw (nat_list_cmp_total.antisymm q p) (go (byte_cmp p q) e)
     go Greater e = absurd (cc)
 
 -- in the order of pairs their first texts rise
-pub firsts_rise : (pairs : Pairs) (name : Text) → IsStrictlySortedBy pair_cmp pairs → IsNonDecreasingBy (λ p. ordering_index (byte_cmp p.0 name)) pairs
+pub firsts_rise : (pairs : Pairs) (name : Text) → IsStrictlySortedBy pair_cmp pairs
+    → IsNonDecreasingBy (λ p. ordering_index (byte_cmp p.0 name)) pairs
 firsts_rise pairs name ordered = searchable_from_sorted nat_list_cmp_total (λ (p : Text × Text). p.0) pairs name (λ k d a b.
-    not_above (get_or pairs k d).0 (get_or pairs (k + 1) d).0 (byte_cmp (get_or pairs k d).1 (get_or pairs (k + 1) d).1) (Less-from_sorted pair_cmp pairs k (k + 1) d ordered (omega arith) b))
+    not_above (get_or pairs k d).0 (get_or pairs (k + 1) d).0 (byte_cmp (get_or pairs k d).1 (get_or pairs (k + 1) d).1)
+    (Less-from_sorted pair_cmp pairs k (k + 1) d ordered (omega arith) b))
 
 pub firsts_alike : (pairs : Pairs) (name : Text) → filter (λ p. is_eq (byte_cmp p.0 name)) pairs ≡ filter (λ p. bytes_eq p.0 name) pairs
-firsts_alike pairs name = filter_agree (λ (p : Text × Text). is_eq (byte_cmp p.0 name)) (λ p. bytes_eq p.0 name) (λ p. tells_alike p.0 name) pairs
+firsts_alike pairs name = filter_agree (λ (p : Text × Text). is_eq (byte_cmp p.0 name)) (λ p. bytes_eq p.0 name)
+    (λ p. tells_alike p.0 name) pairs
 
 not_none : (n : ℕ) → not (suc n == 0) ≡ true
 not_none n = grind arith
@@ -40,6 +43,7 @@ module _ {X : Type 0} (p : X → Bool) where
   some_kept [] = refl
   some_kept (x ∷ xs) = step (p x) (filter p xs) (list_any p xs) (some_kept xs)
     where
-      step : (b : Bool) (kept : List X) (some : Bool) → not (length kept == 0) ≡ some → not (length (cond b (x ∷ kept) kept) == 0) ≡ (b || some)
+      step : (b : Bool) (kept : List X) (some : Bool) → not (length kept == 0) ≡ some
+          → not (length (cond b (x ∷ kept) kept) == 0) ≡ (b || some)
       step true kept some e = not_none (length kept)
       step false kept some e = e

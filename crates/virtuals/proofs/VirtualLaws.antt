@@ -34,7 +34,8 @@ module _ {X : Type 0} (p : X → Bool) where
   from_any [] e = absurd (false≢true e)
   from_any (y ∷ ys) e = go (p y) refl e (from_any ys)
     where
-      go : (b : Bool) → p y ≡ b → (b || list_any p ys) ≡ true → (list_any p ys ≡ true → (x : X) × Contains ys x × (p x ≡ true)) → (x : X) × Contains (y ∷ ys) x × (p x ≡ true)
+      go : (b : Bool) → p y ≡ b → (b || list_any p ys) ≡ true → (list_any p ys ≡ true → (x : X) × Contains ys x × (p x ≡ true)) → (x : X)
+          × Contains (y ∷ ys) x × (p x ≡ true)
       go true is e rest = (y, has_first y ys, is)
       go false is e rest = let found = rest e in (found.0, has_later y ys found.0 found.1, found.2)
 
@@ -45,7 +46,8 @@ same_test false false to from = refl
 
 -- ---- the table
 
-pub has_virtual : (recipes : List Recipe) (pairs : Pairs) (name : Text) → AreProviders recipes pairs → has_pair pairs name ≡ is_virtual recipes name
+pub has_virtual : (recipes : List Recipe) (pairs : Pairs) (name : Text) → AreProviders recipes pairs
+    → has_pair pairs name ≡ is_virtual recipes name
 unfolding is_virtual
 has_virtual recipes pairs name table = same_test (has_pair pairs name) (list_any (provides_name name) recipes)
     (λ has.
@@ -55,20 +57,28 @@ has_virtual recipes pairs name table = same_test (has_pair pairs name) (list_any
     any_of (provides_name name) recipes at.0 at.1 (subst (λ n. provides_name n at.0 ≡ true) is at.3))
     (λ some.
     let found = from_any (provides_name name) recipes some in
-    any_of (λ (pair : Text × Text). bytes_eq pair.0 name) pairs (name, found.0.name) ((table.exact name found.0.name).1 (found.0, found.1, refl, found.2)) ((bytes_decides name name).1 refl))
+    any_of (λ (pair : Text × Text). bytes_eq pair.0 name) pairs (name, found.0.name)
+    ((table.exact name found.0.name).1 (found.0, found.1, refl, found.2)) ((bytes_decides name name).1 refl))
 
-pub in_rows : (name provider package_name : Text) (rows : List ProvideRow) → Contains (row_pairs package_name rows) (name, provider) → (package_name ≡ provider) × (list_any (λ row. bytes_eq row.name name) rows ≡ true)
+pub in_rows : (name provider package_name : Text) (rows : List ProvideRow) → Contains (row_pairs package_name rows) (name, provider)
+    → (package_name ≡ provider) × (list_any (λ row. bytes_eq row.name name) rows ≡ true)
 in_rows name provider package_name rows there =
-    let from = image_of (λ (row : ProvideRow). let p : Text × Text = (row.name, package_name) in p) rows (name, provider) there in
-    (ap (λ p. p.1) from.2, any_of (λ row. bytes_eq row.name name) rows from.0 from.1 ((bytes_decides from.0.name name).1 (ap (λ p. p.0) from.2)))
+    let from = image_of (λ (row : ProvideRow). let p : Text × Text = (row.name, package_name) in p) rows (name, provider) there in (
+      ap (λ p. p.1) from.2,
+      any_of (λ row. bytes_eq row.name name) rows from.0 from.1
+          ((bytes_decides from.0.name name).1 (ap (λ p. p.0) from.2)),
+    )
 
-pub to_rows : (name package_name : Text) (rows : List ProvideRow) → list_any (λ row. bytes_eq row.name name) rows ≡ true → Contains (row_pairs package_name rows) (name, package_name)
+pub to_rows : (name package_name : Text) (rows : List ProvideRow) → list_any (λ row. bytes_eq row.name name) rows ≡ true
+    → Contains (row_pairs package_name rows) (name, package_name)
 to_rows name package_name rows some =
     let found = from_any (λ row. bytes_eq row.name name) rows some in
     let is : found.0.name ≡ name = (bytes_decides found.0.name name).0 found.2 in
-    subst (λ n. Contains (row_pairs package_name rows) (n, package_name)) is (has_image (λ (row : ProvideRow). let p : Text × Text = (row.name, package_name) in p) rows found.0 found.1)
+    subst (λ n. Contains (row_pairs package_name rows) (n, package_name)) is
+    (has_image (λ (row : ProvideRow). let p : Text × Text = (row.name, package_name) in p) rows found.0 found.1)
 
-pub in_all : (name provider : Text) (recipes : List Recipe) → Contains (all_pairs recipes) (name, provider) → IsProvider recipes name provider
+pub in_all : (name provider : Text) (recipes : List Recipe) → Contains (all_pairs recipes) (name, provider)
+    → IsProvider recipes name provider
 unfolding provides_name
 in_all name provider [] there = absurd (omega (arith, there.1))
 in_all name provider (recipe ∷ recipes) there = ⊎_elim
@@ -76,13 +86,17 @@ in_all name provider (recipe ∷ recipes) there = ⊎_elim
     (λ later. let is = in_all name provider recipes later in (is.0, has_later recipe recipes is.0 is.1, is.2, is.3))
     (Contains-append_cases (row_pairs recipe.name recipe.provides) (all_pairs recipes) (name, provider) there)
 
-pub to_all : (name provider : Text) (recipes : List Recipe) → IsProvider recipes name provider → Contains (all_pairs recipes) (name, provider)
+pub to_all : (name provider : Text) (recipes : List Recipe) → IsProvider recipes name provider
+    → Contains (all_pairs recipes) (name, provider)
 unfolding provides_name
 to_all name provider [] is = absurd (omega (arith, is.1.1))
 to_all name provider (recipe ∷ recipes) is = ⊎_elim
     (λ e. Contains-append_left (row_pairs recipe.name recipe.provides) (all_pairs recipes) (name, provider)
-    (subst (λ (q : Text). Contains (row_pairs recipe.name recipe.provides) (name, q)) (ap (λ (r : Recipe). r.name) e ∙ is.2) (to_rows name recipe.name recipe.provides (subst (λ (r : Recipe). list_any (λ row. bytes_eq row.name name) r.provides ≡ true) (sym e) is.3))))
-    (λ later. Contains-append_right (row_pairs recipe.name recipe.provides) (all_pairs recipes) (name, provider) (to_all name provider recipes (is.0, later, is.2, is.3)))
+    (subst (λ (q : Text). Contains (row_pairs recipe.name recipe.provides) (name, q)) (ap (λ (r : Recipe). r.name) e ∙ is.2)
+    (to_rows name recipe.name recipe.provides (subst (λ (r : Recipe). list_any (λ row. bytes_eq row.name name) r.provides ≡ true)
+    (sym e) is.3))))
+    (λ later. Contains-append_right (row_pairs recipe.name recipe.provides) (all_pairs recipes) (name, provider)
+    (to_all name provider recipes (is.0, later, is.2, is.3)))
     (first_or_later recipe recipes is.0 is.1)
 
 -- ---- sorted, each once
@@ -107,25 +121,32 @@ pair_same p q e =
     let second : p.1 ≡ q.1 = same_text p.1 q.1 (sym parts.1) in
     λ i. (first i, second i)
 
-pub table_of : (recipes : List Recipe) (sorted : Pairs) → IsPermutation (all_pairs recipes) sorted → IsSorted pair_cmp sorted → AreProviders recipes (dedup same_pair sorted)
+pub table_of : (recipes : List Recipe) (sorted : Pairs) → IsPermutation (all_pairs recipes) sorted → IsSorted pair_cmp sorted
+    → AreProviders recipes (dedup same_pair sorted)
 table_of recipes sorted moved ordered = record {
   order = IsStrictlySortedBy-dedup pair_total pair_ties sorted ordered;
   exact = λ name provider. (
-    λ there. in_all name provider recipes (Contains-permutation sorted (all_pairs recipes) (name, provider) (IsPermutation-sym (all_pairs recipes) sorted moved) (Contains-from_dedup same_pair sorted (name, provider) there)),
-    λ is. Contains-dedup pair_equiv pair_same sorted (name, provider) (Contains-permutation (all_pairs recipes) sorted (name, provider) moved (to_all name provider recipes is)),
+    λ there. in_all name provider recipes (Contains-permutation sorted (all_pairs recipes) (name, provider)
+        (IsPermutation-sym (all_pairs recipes) sorted moved) (Contains-from_dedup same_pair sorted (name, provider) there)),
+    λ is. Contains-dedup pair_equiv pair_same sorted (name, provider)
+        (Contains-permutation (all_pairs recipes) sorted (name, provider) moved (to_all name provider recipes is)),
   );
 }
 
 -- ---- the clash
 
-pub clash_agrees : (recipes : List Recipe) (pairs : Pairs) → AreProviders recipes pairs → find (λ recipe. has_pair pairs recipe.name) recipes ≡ clash recipes
+pub clash_agrees : (recipes : List Recipe) (pairs : Pairs) → AreProviders recipes pairs
+    → find (λ recipe. has_pair pairs recipe.name) recipes ≡ clash recipes
 clash_agrees recipes pairs table =
-    let same : (recipe : Recipe) → has_pair pairs recipe.name ≡ is_virtual recipes recipe.name = λ recipe. has_virtual recipes pairs recipe.name table in
+    let same : (recipe : Recipe) → has_pair pairs recipe.name ≡ is_virtual recipes recipe.name =
+    λ recipe. has_virtual recipes pairs recipe.name table in
     ap (λ (test : Recipe → Bool). find test recipes) (λ i recipe. same recipe i)
 
-pub first_found : (test : Recipe → Bool) (recipes : List Recipe) (first other : Recipe) → AreInOrder recipes → find test recipes ≡ Some first → Contains recipes other → test other ≡ true → is_le (byte_cmp first.name other.name) ≡ true
+pub first_found : (test : Recipe → Bool) (recipes : List Recipe) (first other : Recipe) → AreInOrder recipes
+    → find test recipes ≡ Some first → Contains recipes other → test other ≡ true → is_le (byte_cmp first.name other.name) ≡ true
 first_found test [] first other ordered found there passes = absurd (omega (arith, there.1))
-first_found test (recipe ∷ recipes) first other ordered found there passes = go (test recipe) refl found (first_found test recipes first other (rises_rest byte_cmp recipe.name (map name_of recipes) ordered))
+first_found test (recipe ∷ recipes) first other ordered found there passes =
+    go (test recipe) refl found (first_found test recipes first other (rises_rest byte_cmp recipe.name (map name_of recipes) ordered))
   where
     go : (b : Bool) → test recipe ≡ b → cond b (Some recipe) (find test recipes) ≡ Some first
         → (find test recipes ≡ Some first → Contains recipes other → test other ≡ true → is_le (byte_cmp first.name other.name) ≡ true)
@@ -134,7 +155,8 @@ first_found test (recipe ∷ recipes) first other ordered found there passes = g
         let same : recipe ≡ first = cc in
         subst (λ (r : Recipe). is_le (byte_cmp r.name other.name) ≡ true) same (⊎_elim
         (λ here. ap is_le (ap (λ (r : Recipe). byte_cmp recipe.name r.name) (sym here) ∙ tied_itself nat_list_cmp_total recipe.name))
-        (λ later. ap is_le (rises_above byte_cmp recipe.name (map name_of recipes) ordered other.name (has_image name_of recipes other later)))
+        (λ later. ap is_le (rises_above byte_cmp recipe.name (map name_of recipes) ordered other.name
+        (has_image name_of recipes other later)))
         (first_or_later recipe recipes other there))
     go false is e rest = ⊎_elim
         (λ here. absurd (false≢true (sym is ∙ ap test here ∙ passes)))

@@ -40,7 +40,8 @@ Pairs = List (Text × Text)
 
 -- a recipe of the package provides the virtual
 abbrev pub IsProvider : List Recipe → Text → Text → Type 0
-IsProvider recipes name provider = (recipe : Recipe) × Contains recipes recipe × (recipe.name ≡ provider) × (provides_name name recipe ≡ true)
+IsProvider recipes name provider = (recipe : Recipe) × Contains recipes recipe × (recipe.name ≡ provider)
+    × (provides_name name recipe ≡ true)
 
 -- just the pairs of a virtual and a package that may provide it, in byte order, each once
 pub record AreProviders (recipes : List Recipe) (pairs : Pairs) : Type 0 where

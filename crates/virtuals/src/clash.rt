@@ -51,7 +51,8 @@ fn first_clash<'a>(providers: &Providers, recipes: &'a [Recipe]) -> Option<&'a R
 }
 
 fn first_provided<'a>(providers: &Providers, recipes: &'a [Recipe]) -> Option<&'a Recipe>
-    ensures { option_copied result ≡ find (λ recipe. has_pair providers.now recipe.name) recipes.now }
+    ensures { option_copied result
+        ≡ find (λ recipe. has_pair providers.now recipe.name) recipes.now }
 {
     recipes
         .iter()

@@ -92,7 +92,8 @@ fn run_of(pairs: &[(Word, Word)], name: &str) -> (usize, usize)
     requires { IsStrictlySortedBy pair_cmp pairs.now }
     ensures bounds { result.0 ≤ result.1 }
     ensures within { result.1 ≤ length pairs.now }
-    ensures run { slice_range pairs.now result.0 result.1 ≡ filter (λ pair. bytes_eq pair.0 name.now) pairs.now }
+    ensures run { slice_range pairs.now result.0 result.1
+        ≡ filter (λ pair. bytes_eq pair.0 name.now) pairs.now }
 {
     let first = pairs.partition_point(|pair| pair.0.as_str().cmp(name).is_lt());
     let end = pairs.partition_point(|pair| pair.0.as_str().cmp(name).is_le());

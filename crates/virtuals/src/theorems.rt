@@ -11,6 +11,8 @@ ghost use Rattle.virtuals.specs.Virtuals.{AreInOrder, AreProviders, Pairs, clash
 pub fn virtual_laws()
     ensures has { (recipes : List Recipe) (pairs : Pairs) (name : Text) → AreProviders recipes pairs
         → has_pair pairs name ≡ is_virtual recipes name }
-    ensures least { (recipes : List Recipe) (first other : Recipe) → AreInOrder recipes → clash recipes ≡ Some first
-        → Contains recipes other → is_virtual recipes other.name ≡ true → is_le (byte_cmp first.name other.name) ≡ true }
+    ensures least { (recipes : List Recipe) (first other : Recipe) → AreInOrder recipes
+        → clash recipes ≡ Some first
+        → Contains recipes other → is_virtual recipes other.name ≡ true
+        → is_le (byte_cmp first.name other.name) ≡ true }
 {}

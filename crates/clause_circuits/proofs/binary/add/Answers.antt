@@ -5,7 +5,9 @@ use Rattle.clause_circuits.proofs.binary.add.Goals as goal
 
 pub loop-i-preserved : goal.loop-i-preserved
 loop-i-preserved c =
-    add-more (c.args.width - c.loop-i.i) (c.args.width - (c.loop-i.i + 1)) c.loop-i.plan c.carry_of.new.plan c.odd_of.new.plan c.loop-i.below.items c.in_ok-below.below.items c.in_ok-carry.carry c.in_ok-odd_of.field-0 _ _ c.args.a.now c.args.b.now c.loop-i.bits.items _ c.loop-i.i _
+    add-more (c.args.width - c.loop-i.i) (c.args.width - (c.loop-i.i + 1)) c.loop-i.plan c.carry_of.new.plan c.odd_of.new.plan
+    c.loop-i.below.items c.in_ok-below.below.items c.in_ok-carry.carry c.in_ok-odd_of.field-0 _ _ c.args.a.now c.args.b.now
+    c.loop-i.bits.items _ c.loop-i.i _
     (omega arith) c.loop-i.invariant
     (ap (carry_on c.loop-i.plan) (sym c.as_slice.ensures) ∙ c.in_ok-carry.ensures)
     c.in_ok-below.ensures c.bit_at.ensures c.bit_at-in-loop-i.ensures

@@ -6,4 +6,5 @@ pub loop-bits-init : goal.loop-bits-init
 loop-bits-init c = omega (arith, size-start c.args.number)
 
 pub loop-bits-preserved : goal.loop-bits-preserved
-loop-bits-preserved c = size-more (63 - c.loop-bits.bits) _ c.loop-bits.bits c.loop-bits.left _ (omega arith) (λ e. absurd (omega arith)) c.loop-bits.invariant
+loop-bits-preserved c = size-more (63 - c.loop-bits.bits) _ c.loop-bits.bits c.loop-bits.left _ (omega arith) (λ e. absurd (omega arith))
+    c.loop-bits.invariant

@@ -1,6 +1,5 @@
-use Rattle.std.proofs.Common.{◌<◌, length, subst, sym, ap, refl, ◌∙◌, arith}
+use Rattle.std.proofs.Common.{◌<◌, length, subst, sym, ap, ◌∙◌, arith}
 use Rattle.std.proofs.lemmas.Grind.{common_steps}
-use Rattle.clause_store.specs.Lits.{AllBelow}
 use Rattle.clause_formulas.specs.Statements.{any_of, no, weight, SaidBelow}
 use Rattle.clause_formulas.specs.Nodes.{said}
 use Rattle.clause_formulas.proofs.SpreadSteps.{ask_at, weight-at, SaidBelow-at}
@@ -20,13 +19,18 @@ pub ask_any-ask-requires : goal.ask_any-ask-requires
 ask_any-ask-requires t c =
     let h : c.loop-part.part-index < length c.args.parts.now = omega arith in (
       omega (arith, weight-at c.args.parts.now c.loop-part.part-index c.part-item.result h c.part-item.is),
-      (SaidBelow-at c.args.clauses.now.vars c.loop-part.clauses.vars c.args.parts.now c.loop-part.part-index c.part-item.result c.loop-part.invariant.more h c.part-item.is c.requires.parts_below, c.loop-part.invariant.below),
+      (
+        SaidBelow-at c.args.clauses.now.vars c.loop-part.clauses.vars c.args.parts.now c.loop-part.part-index c.part-item.result
+            c.loop-part.invariant.more h c.part-item.is c.requires.parts_below,
+        c.loop-part.invariant.below,
+      ),
     )
 
 pub ask_any-loop-part-preserved : goal.ask_any-loop-part-preserved
 ask_any-loop-part-preserved t c =
     let a = ask_at c.loop-part.clauses _ c.loop-part.draft _ c.part-item.result c.loop-part.invariant.below
-    (SaidBelow-at c.args.clauses.now.vars c.loop-part.clauses.vars c.args.parts.now c.loop-part.part-index c.part-item.result c.loop-part.invariant.more (omega arith) c.part-item.is c.requires.parts_below)
+    (SaidBelow-at c.args.clauses.now.vars c.loop-part.clauses.vars c.args.parts.now c.loop-part.part-index c.part-item.result
+    c.loop-part.invariant.more (omega arith) c.part-item.is c.requires.parts_below)
     c.in_ok-ask.ensures in
     record {
       rest = grind (arith, common_steps);

@@ -1,4 +1,3 @@
-use Rattle.std.proofs.lemmas.Result.{on_ok_weaker}
 use Rattle.std.proofs.Common.{subst, sym}
 use Rattle.clause_store.specs.Lits.{AllBelow}
 use Rattle.clause_formulas.specs.Statements.{any_of}
@@ -12,4 +11,5 @@ spread_any-requires c = record {
 }
 
 pub covered-requires : goal.covered-requires
-covered-requires c = spread-below c.args.clauses.now _ c.new-inner.result _ (any_of c.args.parts.now) c.new-inner.ensures c.requires c.in_ok-spread_any.ensures.built
+covered-requires c = spread-below c.args.clauses.now _ c.new-inner.result _ (any_of c.args.parts.now) c.new-inner.ensures c.requires
+    c.in_ok-spread_any.ensures.built

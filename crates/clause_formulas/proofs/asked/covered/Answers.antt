@@ -12,7 +12,8 @@ covered-always : (s : Clauses) (d : Draft) → d.always ≡ true → covered_on 
 unfolding covered_on
 covered-always s d e = rw e refl
 
-covered-clause : (s : Clauses) (d : Draft) (ls : List Lit) (o : Option (List Lit)) → d.always ≡ false → ls ≡ d.lits → o ≡ clause_of ls → covered_on s d ≡ by_cover s o
+covered-clause : (s : Clauses) (d : Draft) (ls : List Lit) (o : Option (List Lit)) → d.always ≡ false → ls ≡ d.lits → o ≡ clause_of ls
+    → covered_on s d ≡ by_cover s o
 unfolding covered_on
 covered-clause s d ls o e f q = rw (e, q, f) refl
 
@@ -20,14 +21,17 @@ pub returns-then-always : goal.returns-then-always
 returns-then-always c = covered-always c.args.clauses.now c.args.draft.now (sym c.always.ensures ∙ c.if-always.true)
 
 pub returns-in-None : goal.returns-in-None
-returns-in-None c = covered-clause c.args.clauses.now c.args.draft.now _ None (sym c.always.ensures ∙ c.if-always.false) c.lits.ensures (sym c.in-None.is ∙ c.in_ok-new.ensures)
+returns-in-None c = covered-clause c.args.clauses.now c.args.draft.now _ None (sym c.always.ensures ∙ c.if-always.false) c.lits.ensures
+    (sym c.in-None.is ∙ c.in_ok-new.ensures)
 
 pub by_cover-requires : goal.by_cover-requires
 by_cover-requires c =
     subst (AllBelow c.args.clauses.now.vars) (sym c.lits-in-Some.ensures.value)
-    (AllBelow-clause_of c.args.clauses.now.vars c.lits.result.now _ (subst (AllBelow c.args.clauses.now.vars) (sym c.lits.ensures) c.requires) (sym c.in_ok-new.ensures ∙ c.in-Some.is))
+    (AllBelow-clause_of c.args.clauses.now.vars c.lits.result.now _
+    (subst (AllBelow c.args.clauses.now.vars) (sym c.lits.ensures) c.requires) (sym c.in_ok-new.ensures ∙ c.in-Some.is))
 
 pub returns-in-Some : goal.returns-in-Some
 returns-in-Some c =
-    let e = covered-clause c.args.clauses.now c.args.draft.now _ (Some c.lits-in-Some.result.now) (sym c.always.ensures ∙ c.if-always.false) c.lits.ensures (ap Some c.lits-in-Some.ensures.value ∙ sym c.in-Some.is ∙ c.in_ok-new.ensures) in
+    let e = covered-clause c.args.clauses.now c.args.draft.now _ (Some c.lits-in-Some.result.now) (sym c.always.ensures ∙ c.if-always.false)
+    c.lits.ensures (ap Some c.lits-in-Some.ensures.value ∙ sym c.in-Some.is ∙ c.in_ok-new.ensures) in
     subst (λ m. IfOk c.by_cover.result (λ value. m ≡ record { list = c.by_cover.new.clauses; answer = value })) (sym e) c.by_cover.ensures

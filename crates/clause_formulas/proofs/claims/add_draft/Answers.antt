@@ -9,12 +9,15 @@ returns-then-always c = with_draft-always c.args.clauses.now c.args.label c.args
 
 pub add-requires : goal.add-requires
 add-requires c =
-    AllBelow-clause_of c.args.clauses.now.vars c.lits.result.now _ (subst (AllBelow c.args.clauses.now.vars) (sym c.lits.ensures) c.requires) (sym c.in_ok-clause.ensures ∙ c.in-Some.is)
+    AllBelow-clause_of c.args.clauses.now.vars c.lits.result.now _
+    (subst (AllBelow c.args.clauses.now.vars) (sym c.lits.ensures) c.requires) (sym c.in_ok-clause.ensures ∙ c.in-Some.is)
 
 pub returns-in_ok-add : goal.returns-in_ok-add
 returns-in_ok-add c =
-    c.in_ok-add.ensures.ok ∙ with_draft-some c.args.clauses.now c.args.label c.args.draft.now c.lits.result.now c.in-Some.clause (sym c.always.ensures ∙ c.if-always.false) c.lits.ensures (sym c.in-Some.is ∙ c.in_ok-clause.ensures)
+    c.in_ok-add.ensures.ok ∙ with_draft-some c.args.clauses.now c.args.label c.args.draft.now c.lits.result.now c.in-Some.clause
+    (sym c.always.ensures ∙ c.if-always.false) c.lits.ensures (sym c.in-Some.is ∙ c.in_ok-clause.ensures)
 
 pub returns-in_default : goal.returns-in_default
 returns-in_default c =
-    with_draft-none c.args.clauses.now c.args.label c.args.draft.now c.lits.result.now (sym c.always.ensures ∙ c.if-always.false) c.lits.ensures (sym c.in_default.is ∙ c.in_ok-clause.ensures)
+    with_draft-none c.args.clauses.now c.args.label c.args.draft.now c.lits.result.now (sym c.always.ensures ∙ c.if-always.false)
+    c.lits.ensures (sym c.in_default.is ∙ c.in_ok-clause.ensures)

@@ -23,5 +23,7 @@ are_below-is_below-requires t c =
 pub are_below-returns-then-not-is_below : goal.are_below-returns-then-not-is_below
 are_below-returns-then-not-is_below t c = (
   λ h. absurd (false≢true h),
-  λ b. absurd (false≢true (sym c.if-not-is_below.true ∙ c.is_below.ensures.1 (SaidBelow-at c.args.vars c.args.vars c.args.formulas.now c.loop-formula.formula-index c.formula-item.result (omega arith) (omega arith) c.formula-item.is b))),
+  λ b. absurd (false≢true (sym c.if-not-is_below.true
+      ∙ c.is_below.ensures.1 (SaidBelow-at c.args.vars c.args.vars c.args.formulas.now c.loop-formula.formula-index c.formula-item.result
+      (omega arith) (omega arith) c.formula-item.is b))),
 )

@@ -1,4 +1,4 @@
-use Rattle.std.proofs.Common.{◌≡◌, ◌+◌, ◌*◌, drop}
+use Rattle.std.proofs.Common.{◌+◌, ◌*◌, drop}
 use Rattle.clause_formulas.specs.Statements.{any_of, weight, SaidBelow}
 use Rattle.clause_formulas.proofs.range.+range.Given as goal
 

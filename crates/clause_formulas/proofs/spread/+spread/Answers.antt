@@ -14,16 +14,24 @@ spread-spread_any-requires t c =
 
 pub spread-spread_any-requires-in-NoneOf : goal.spread-spread_any-requires-in-NoneOf
 spread-spread_any-requires-in-NoneOf t c =
-    let e = sym c.formula.view_is ∙ ap said c.in-NoneOf.is ∙ ap (λ fs. no (any_of fs)) (sym c.as_slice-in-NoneOf.ensures.value) in
-    (omega (arith, ap weight e), (subst (SaidBelow c.args.clauses.now.vars) e c.requires.formula_below, subst (λ d. AllBelow c.args.clauses.now.vars d.lits) (sym c.new-inner.ensures) tt))
+    let e = sym c.formula.view_is ∙ ap said c.in-NoneOf.is ∙ ap (λ fs. no (any_of fs)) (sym c.as_slice-in-NoneOf.ensures.value) in (
+      omega (arith, ap weight e),
+      (
+        subst (SaidBelow c.args.clauses.now.vars) e c.requires.formula_below,
+        subst
+            (λ d. AllBelow c.args.clauses.now.vars d.lits) (sym c.new-inner.ensures) tt,
+      ),
+    )
 
 pub spread-named-requires : goal.spread-named-requires
 spread-named-requires t c =
     let e = sym c.formula.view_is ∙ ap said c.in-NoneOf.is ∙ ap (λ fs. no (any_of fs)) (sym c.as_slice-in-NoneOf.ensures.value) in
-    spread-below c.args.clauses.now _ c.new-inner.result _ (any_of c.as_slice-in-NoneOf.result.now) c.new-inner.ensures (subst (SaidBelow c.args.clauses.now.vars) e c.requires.formula_below) c.in_ok-spread_any-in-NoneOf.ensures.built
+    spread-below c.args.clauses.now _ c.new-inner.result _ (any_of c.as_slice-in-NoneOf.result.now) c.new-inner.ensures
+    (subst (SaidBelow c.args.clauses.now.vars) e c.requires.formula_below) c.in_ok-spread_any-in-NoneOf.ensures.built
 
 pub spread-returns-in_err-value-in-NoneOf-clause-extends : goal.spread-returns-in_err-value-in-NoneOf-clause-extends
-spread-returns-in_err-value-in-NoneOf-clause-extends t c = Extends-trans _ _ _ c.spread_any-in-NoneOf.ensures.extends c.named.ensures.extends
+spread-returns-in_err-value-in-NoneOf-clause-extends t c =
+    Extends-trans _ _ _ c.spread_any-in-NoneOf.ensures.extends c.named.ensures.extends
 
 pub spread-returns-in-Atom-clause-extends : goal.spread-returns-in-Atom-clause-extends
 spread-returns-in-Atom-clause-extends t c = Extends-refl c.args.clauses.now
@@ -35,7 +43,11 @@ pub spread_any-spread-requires : goal.spread_any-spread-requires
 spread_any-spread-requires t c =
     let h : c.loop-part.part-index < length c.args.parts.now = omega arith in (
       omega (arith, weight-at c.args.parts.now c.loop-part.part-index c.part-item.result h c.part-item.is),
-      (SaidBelow-at c.args.clauses.now.vars c.loop-part.clauses.vars c.args.parts.now c.loop-part.part-index c.part-item.result c.loop-part.invariant.extends.grows.more h c.part-item.is c.requires.parts_below, c.loop-part.invariant.below),
+      (
+        SaidBelow-at c.args.clauses.now.vars c.loop-part.clauses.vars c.args.parts.now c.loop-part.part-index c.part-item.result
+            c.loop-part.invariant.extends.grows.more h c.part-item.is c.requires.parts_below,
+        c.loop-part.invariant.below,
+      ),
     )
 
 pub spread_any-loop-part-init : goal.spread_any-loop-part-init
@@ -48,7 +60,8 @@ pub spread_any-loop-part-preserved : goal.spread_any-loop-part-preserved
 spread_any-loop-part-preserved t c = record {
   rest = grind (arith, common_steps);
   below = (spread_at c.loop-part.clauses _ c.loop-part.draft _ c.part-item.result c.loop-part.invariant.below
-      (SaidBelow-at c.args.clauses.now.vars c.loop-part.clauses.vars c.args.parts.now c.loop-part.part-index c.part-item.result c.loop-part.invariant.extends.grows.more (omega arith) c.part-item.is c.requires.parts_below)
+      (SaidBelow-at c.args.clauses.now.vars c.loop-part.clauses.vars c.args.parts.now c.loop-part.part-index c.part-item.result
+      c.loop-part.invariant.extends.grows.more (omega arith) c.part-item.is c.requires.parts_below)
       c.in_ok-spread.ensures.built).below;
   extends = Extends-trans _ _ _ c.loop-part.invariant.extends c.spread.ensures.extends;
 }

@@ -13,7 +13,8 @@ named-always : (s : Clauses) (d : Draft) → d.always ≡ true → named_on s d 
 unfolding named_on
 named-always s d e = rw e refl
 
-named-clause : (s : Clauses) (d : Draft) (ls : List Lit) (o : Option (List Lit)) → d.always ≡ false → ls ≡ d.lits → o ≡ clause_of ls → named_on s d ≡ by_clause s o
+named-clause : (s : Clauses) (d : Draft) (ls : List Lit) (o : Option (List Lit)) → d.always ≡ false → ls ≡ d.lits → o ≡ clause_of ls
+    → named_on s d ≡ by_clause s o
 unfolding named_on
 named-clause s d ls o e f q = rw (e, q, f) refl
 
@@ -27,7 +28,8 @@ pub returns-in_err-new-clause-extends : goal.returns-in_err-new-clause-extends
 returns-in_err-new-clause-extends c = Extends-refl c.args.clauses.now
 
 pub returns-in-None-clause-built : goal.returns-in-None-clause-built
-returns-in-None-clause-built c = named-clause c.args.clauses.now c.args.draft.now _ None (sym c.always.ensures ∙ c.if-always.false) c.lits.ensures (sym c.in-None.is ∙ c.in_ok-new.ensures)
+returns-in-None-clause-built c = named-clause c.args.clauses.now c.args.draft.now _ None (sym c.always.ensures ∙ c.if-always.false)
+    c.lits.ensures (sym c.in-None.is ∙ c.in_ok-new.ensures)
 
 pub returns-in-None-clause-extends : goal.returns-in-None-clause-extends
 returns-in-None-clause-extends c = Extends-refl c.args.clauses.now
@@ -35,9 +37,12 @@ returns-in-None-clause-extends c = Extends-refl c.args.clauses.now
 pub by_clause-requires : goal.by_clause-requires
 by_clause-requires c =
     subst (AllBelow c.args.clauses.now.vars) (sym c.lits-in-Some.ensures.value)
-    (AllBelow-clause_of c.args.clauses.now.vars c.lits.result.now _ (subst (AllBelow c.args.clauses.now.vars) (sym c.lits.ensures) c.requires) (sym c.in_ok-new.ensures ∙ c.in-Some.is))
+    (AllBelow-clause_of c.args.clauses.now.vars c.lits.result.now _
+    (subst (AllBelow c.args.clauses.now.vars) (sym c.lits.ensures) c.requires) (sym c.in_ok-new.ensures ∙ c.in-Some.is))
 
 pub returns-in-Some-clause-built : goal.returns-in-Some-clause-built
 returns-in-Some-clause-built c =
-    let e = named-clause c.args.clauses.now c.args.draft.now _ (Some c.lits-in-Some.result.now) (sym c.always.ensures ∙ c.if-always.false) c.lits.ensures (ap Some c.lits-in-Some.ensures.value ∙ sym c.in-Some.is ∙ c.in_ok-new.ensures) in
-    subst (λ m. IfOk c.by_clause.result (λ value. m ≡ record { list = c.by_clause.new.clauses; answer = value })) (sym e) c.by_clause.ensures.built
+    let e = named-clause c.args.clauses.now c.args.draft.now _ (Some c.lits-in-Some.result.now) (sym c.always.ensures ∙ c.if-always.false)
+    c.lits.ensures (ap Some c.lits-in-Some.ensures.value ∙ sym c.in-Some.is ∙ c.in_ok-new.ensures) in
+    subst (λ m. IfOk c.by_clause.result (λ value. m ≡ record { list = c.by_clause.new.clauses; answer = value })) (sym e)
+    c.by_clause.ensures.built

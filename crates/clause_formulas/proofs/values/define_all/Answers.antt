@@ -13,7 +13,8 @@ loop-formula-init c = record {
 }
 
 pub define-requires : goal.define-requires
-define-requires c = SaidBelow-at c.args.clauses.now.vars c.loop-formula.clauses.vars c.args.formulas.now c.loop-formula.formula-index c.formula-item.result c.loop-formula.invariant.extends.grows.more (omega arith) c.formula-item.is c.requires
+define-requires c = SaidBelow-at c.args.clauses.now.vars c.loop-formula.clauses.vars c.args.formulas.now c.loop-formula.formula-index
+    c.formula-item.result c.loop-formula.invariant.extends.grows.more (omega arith) c.formula-item.is c.requires
 
 pub returns-in_err-define-clause-extends : goal.returns-in_err-define-clause-extends
 returns-in_err-define-clause-extends c = Extends-trans _ _ _ c.loop-formula.invariant.extends c.define.ensures.extends

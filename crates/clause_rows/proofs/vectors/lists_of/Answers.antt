@@ -11,5 +11,8 @@ loop-word-preserved c =
     let Small : Option (List (ℕ × Lit)) → Type 0 = λ list. IfSome list (λ ts. total ts < 2 ^ 63) in
     let b = subst InRange c.in-Some.is c.in_ok-list.ensures.in_range in
     let h = subst Small c.in-Some.is c.in_ok-list.ensures.small in
-    rw c.in_ok-push-in-Some.ensures.items
-    (lists-more c.args.vars c.loop-word.lists.items c.in-Some.list c.loop-word.invariant.0 b, small-more c.loop-word.lists.items c.in-Some.list c.loop-word.invariant.1 h)
+    rw c.in_ok-push-in-Some.ensures.items (
+      lists-more c.args.vars c.loop-word.lists.items c.in-Some.list c.loop-word.invariant.0 b,
+      small-more c.loop-word.lists.items
+          c.in-Some.list c.loop-word.invariant.1 h,
+    )

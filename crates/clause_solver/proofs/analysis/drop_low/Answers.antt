@@ -11,4 +11,5 @@ resolve-requires-clause-known c = low-known c.args.watch.now c.requires.right c.
 pub returns-clause-back : goal.returns-clause-back
 returns-clause-back c =
     let r = c.in_ok-resolve.ensures in
-    low-keeps c.args.watch.now c.requires.right c.requires.above c.args.marks.now c.resolve.new.marks c.args.lit c.in-Some.id c.in-Some.ensures (sym c.has.ensures ∙ c.if-not-has.false) r.marks r.same c.args.chain.now c.resolve.new.chain r.chain
+    low-keeps c.args.watch.now c.requires.right c.requires.above c.args.marks.now c.resolve.new.marks c.args.lit c.in-Some.id
+    c.in-Some.ensures (sym c.has.ensures ∙ c.if-not-has.false) r.marks r.same c.args.chain.now c.resolve.new.chain r.chain

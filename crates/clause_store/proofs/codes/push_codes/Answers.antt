@@ -7,8 +7,11 @@ pub code_of-requires : goal.code_of-requires
 code_of-requires c = AllBelow-at _ c.args.lits.now c.loop-lit.lit-index _ c.requires.below (omega arith)
 
 pub loop-lit-preserved : goal.loop-lit-preserved
-loop-lit-preserved c =
-    (map-step code_of _ _ c.args.lits.now c.loop-lit.lit-index _ _ (omega arith) c.push_within.ensures.items c.code_of.ensures ∙ c.loop-lit.invariant.0, omega (arith, c.push_within.ensures.len, c.push_within.ensures.room, c.loop-lit.invariant.1))
+loop-lit-preserved c = (
+  map-step code_of _ _ c.args.lits.now c.loop-lit.lit-index _ _ (omega arith) c.push_within.ensures.items c.code_of.ensures
+      ∙ c.loop-lit.invariant.0,
+  omega (arith, c.push_within.ensures.len, c.push_within.ensures.room, c.loop-lit.invariant.1),
+)
 
 pub returns : goal.returns
 returns c = map-done code_of _ _ c.args.lits.now c.loop-lit.lit-index (omega arith) c.loop-lit.invariant.0

@@ -6,7 +6,8 @@ use Rattle.clause_store.proofs.demands.label_at.Goals as goal
 
 pub returns-then-at-demands : goal.returns-then-at-demands
 returns-then-at-demands c =
-    let point = IsPartitionPoint-from_clause (λ (d : Demanded). ltb d.place c.args.place) _ _ c.partition_point-at.ensures.partitioned (demands-parted c.args.place _ c.requires) (λ a r q k. search rules) in
+    let point = IsPartitionPoint-from_clause (λ (d : Demanded). ltb d.place c.args.place) _ _ c.partition_point-at.ensures.partitioned
+    (demands-parted c.args.place _ c.requires) (λ a r q k. search rules) in
     sym (label-absent c.args.place _ (record { place = 0; demand = 0 }) _ c.requires point (λ h e. absurd (omega arith)))
 
 pub returns-then-found-place : goal.returns-then-found-place
@@ -14,5 +15,6 @@ returns-then-found-place c = sym (label-there c.args.place _ _ _ c.requires c.if
 
 pub returns-else-found-place : goal.returns-else-found-place
 returns-else-found-place c =
-    let point = IsPartitionPoint-from_clause (λ (d : Demanded). ltb d.place c.args.place) _ _ c.partition_point-at.ensures.partitioned (demands-parted c.args.place _ c.requires) (λ a r q k. search rules) in
+    let point = IsPartitionPoint-from_clause (λ (d : Demanded). ltb d.place c.args.place) _ _ c.partition_point-at.ensures.partitioned
+    (demands-parted c.args.place _ c.requires) (λ a r q k. search rules) in
     sym (label-absent c.args.place _ (record { place = 0; demand = 0 }) _ c.requires point (λ h e. c.if-found-place.false e))

@@ -20,11 +20,15 @@ returns-in-Err-clause-refused g c = λ refuses.
 
 pub returns-in-Err-clause-complete : goal.returns-in-Err-clause-complete
 returns-in-Err-clause-complete g c =
-    settles c.task_laws.ensures.one _ (words_of c.args.words.now) c.in-Err.stop _ (_, _) (_, _) (_, _) (_, _) (_, _) (_, _) _ c.in-Err.ensures.outcome (record { read = c.in-Err.ensures.read; put = c.in-Err.ensures.put; said = c.in-Err.ensures.said }) c.report.ensures.reports
+    settles c.task_laws.ensures.one _ (words_of c.args.words.now) c.in-Err.stop _ (_, _) (_, _) (_, _) (_, _) (_, _) (_, _) _
+    c.in-Err.ensures.outcome (record { read = c.in-Err.ensures.read; put = c.in-Err.ensures.put; said = c.in-Err.ensures.said })
+    c.report.ensures.reports
 
 pub returns-in-Err-clause-due : goal.returns-in-Err-clause-due
 returns-in-Err-clause-due g c =
-    due c.task_laws.ensures.one _ (words_of c.args.words.now) c.in-Err.stop _ (_, _) (_, _) (_, _) (_, _) (_, _) (_, _) _ c.in-Err.ensures.outcome (record { read = c.in-Err.ensures.read; put = c.in-Err.ensures.put; said = c.in-Err.ensures.said }) c.report.ensures.reports
+    due c.task_laws.ensures.one _ (words_of c.args.words.now) c.in-Err.stop _ (_, _) (_, _) (_, _) (_, _) (_, _) (_, _) _
+    c.in-Err.ensures.outcome (record { read = c.in-Err.ensures.read; put = c.in-Err.ensures.put; said = c.in-Err.ensures.said })
+    c.report.ensures.reports
 
 pub returns-in-Ok-Solved-clause-due : goal.returns-in-Ok-Solved-clause-due
 returns-in-Ok-Solved-clause-due g c =
@@ -36,11 +40,13 @@ returns-in-Ok-Unsolved-clause-due g c =
 
 pub returns-in-Err-clause-read_fault : goal.returns-in-Err-clause-read_fault
 returns-in-Err-clause-read_fault g c =
-    read_fault (words_of c.args.words.now) c.in-Err.stop (_, _) (_, _) (_, _) (_, _) (_, _) _ c.report.ensures.reports c.in-Err.ensures.follows c.in-Err.ensures.unread c.in-Err.ensures.read
+    read_fault (words_of c.args.words.now) c.in-Err.stop (_, _) (_, _) (_, _) (_, _) (_, _) _ c.report.ensures.reports
+    c.in-Err.ensures.follows c.in-Err.ensures.unread c.in-Err.ensures.read
 
 pub returns-in-Err-clause-write_fault : goal.returns-in-Err-clause-write_fault
 returns-in-Err-clause-write_fault g c =
-    write_fault (words_of c.args.words.now) c.in-Err.stop (_, _) (_, _) (_, _) (_, _) (_, _) (_, _) _ c.report.ensures.reports c.in-Err.ensures.follows c.in-Err.ensures.outcome c.in-Err.ensures.unsaid
+    write_fault (words_of c.args.words.now) c.in-Err.stop (_, _) (_, _) (_, _) (_, _) (_, _) (_, _) _ c.report.ensures.reports
+    c.in-Err.ensures.follows c.in-Err.ensures.outcome c.in-Err.ensures.unsaid
     c.in-Err.ensures.put c.in-Err.ensures.said
 
 pub returns-in-Err-clause-decided : goal.returns-in-Err-clause-decided

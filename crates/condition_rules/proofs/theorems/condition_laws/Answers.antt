@@ -15,7 +15,8 @@ with_true : (b : Bool) → b && true ≡ b
 with_true true = refl
 with_true false = refl
 
-alone : (world : World) (spec : Spec) (graph : Content) (name : Text) (node : Node) → spec.below ≡ [] → node_of graph name ≡ Some node → holds world spec graph name ≡ meets world spec.top node
+alone : (world : World) (spec : Spec) (graph : Content) (name : Text) (node : Node) → spec.below ≡ [] → node_of graph name ≡ Some node
+    → holds world spec graph name ≡ meets world spec.top node
 unfolding holds
 alone world spec graph name node none at = rw (none, at) (with_true (meets world spec.top node))
 
@@ -25,8 +26,10 @@ unfolding all_hold
 any_order world specs others graph name moved =
     let test : Spec → Bool = λ spec. holds world spec graph name in
     same_test (list_all test specs) (list_all test others)
-    (λ h. list_all-from_AllPass test others (All-permutation (λ spec. test spec ≡ true) specs others moved (AllPass-from_list_all test specs h)))
-    (λ h. list_all-from_AllPass test specs (All-permutation (λ spec. test spec ≡ true) others specs (IsPermutation-sym specs others moved) (AllPass-from_list_all test others h)))
+    (λ h. list_all-from_AllPass test others (All-permutation (λ spec. test spec ≡ true) specs others moved
+    (AllPass-from_list_all test specs h)))
+    (λ h. list_all-from_AllPass test specs (All-permutation (λ spec. test spec ≡ true) others specs (IsPermutation-sym specs others moved)
+    (AllPass-from_list_all test others h)))
 
 pub returns : goal.returns
 returns c = record { alone = alone; any_order = any_order }

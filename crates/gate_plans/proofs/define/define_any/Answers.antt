@@ -9,13 +9,16 @@ pub define-requires : goal.define-requires
 define-requires c = any-below c.args.clauses.now c.args.lits.now c.requires _ _ c.in_ok-rules.ensures c.next_lit-lit.ensures
 
 pub returns-in_err-define-clause-extends : goal.returns-in_err-define-clause-extends
-returns-in_err-define-clause-extends c = any-stopped c.args.clauses.now c.args.lits.now c.requires _ _ c.in_ok-rules.ensures c.next_lit-lit.ensures _ c.define.ensures.partial
+returns-in_err-define-clause-extends c = any-stopped c.args.clauses.now c.args.lits.now c.requires _ _ c.in_ok-rules.ensures
+    c.next_lit-lit.ensures _ c.define.ensures.partial
 
 pub returns : goal.returns
 returns c =
-    let g = any-gate c.args.clauses.now c.args.lits.now c.requires _ _ c.in_ok-rules.ensures c.next_lit-lit.ensures _ c.in_ok-define.ensures.ok in record {
+    let g = any-gate c.args.clauses.now c.args.lits.now c.requires _ _ c.in_ok-rules.ensures c.next_lit-lit.ensures _
+    c.in_ok-define.ensures.ok in record {
       lit = c.next_lit-lit.ensures;
-      built = any-built c.args.clauses.now c.args.lits.now c.requires _ _ c.in_ok-rules.ensures c.next_lit-lit.ensures _ c.in_ok-define.ensures.ok;
+      built = any-built c.args.clauses.now c.args.lits.now c.requires _ _ c.in_ok-rules.ensures c.next_lit-lit.ensures _
+          c.in_ok-define.ensures.ok;
       gate = g;
       extends = g.defines.says;
     }

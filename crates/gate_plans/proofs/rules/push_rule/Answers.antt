@@ -5,8 +5,10 @@ use Rattle.gate_plans.proofs.rules.push_rule.Goals as goal
 
 pub returns-in_ok-push : goal.returns-in_ok-push
 unfolding kept_clauses
-returns-in_ok-push c = c.in_ok-push.ensures.items ∙ ap (λ o. c.args.rules.now.items ++ option_list o) (sym (sym (c.in_ok-clause.ensures) ∙ c.in-Some.is))
+returns-in_ok-push c = c.in_ok-push.ensures.items
+    ∙ ap (λ o. c.args.rules.now.items ++ option_list o) (sym (sym (c.in_ok-clause.ensures) ∙ c.in-Some.is))
 
 pub returns-in_default : goal.returns-in_default
 unfolding kept_clauses
-returns-in_default c = sym (ap (λ o. c.args.rules.now.items ++ option_list o) (sym (c.in_ok-clause.ensures) ∙ c.in_default.is) ∙ append-nil c.args.rules.now.items)
+returns-in_default c = sym (ap (λ o. c.args.rules.now.items ++ option_list o) (sym (c.in_ok-clause.ensures) ∙ c.in_default.is)
+    ∙ append-nil c.args.rules.now.items)

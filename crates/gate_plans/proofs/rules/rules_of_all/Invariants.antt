@@ -8,4 +8,5 @@ abbrev pub invariant-loop-lit : goal.invariant-loop-lit
 invariant-loop-lit l = l.negated.items ++ map negation (drop l.lit-index l.lits) ≡ l.x ∷ map negation l.lits
 
 abbrev pub invariant-loop-lit-2 : goal.invariant-loop-lit-2
-invariant-loop-lit-2 l = l.rules.items ++ clauses_from (headed (negation l.x) (singles (drop l.lit-index l.lits))) ≡ clauses_from (gate_rules l.x (all_of l.lits))
+invariant-loop-lit-2 l = l.rules.items ++ clauses_from (headed (negation l.x) (singles (drop l.lit-index l.lits)))
+    ≡ clauses_from (gate_rules l.x (all_of l.lits))

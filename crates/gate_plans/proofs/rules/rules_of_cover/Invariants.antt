@@ -5,4 +5,5 @@ use Rattle.gate_plans.specs.Shapes.{singles, cover_rules}
 use Rattle.gate_plans.proofs.rules.rules_of_cover.Given as goal
 
 abbrev pub invariant-loop-lit : goal.invariant-loop-lit
-invariant-loop-lit l = l.rules.items ++ clauses_from (headed l.x (singles (map negation (drop l.lit-index l.lits)))) ≡ clauses_from (cover_rules l.x l.lits)
+invariant-loop-lit l = l.rules.items ++ clauses_from (headed l.x (singles (map negation (drop l.lit-index l.lits))))
+    ≡ clauses_from (cover_rules l.x l.lits)

@@ -14,8 +14,10 @@ returns c =
     let rises = parents_rise c.args.edges.now c.args.name.now c.requires in
     let first = c.partition_point-first.ensures in
     let end = c.partition_point-end.ensures in
-    let lt = IsPartitionPoint-from_clause (λ e. is_lt (by e)) c.args.edges.now _ first.partitioned (lt_parts by c.args.edges.now rises) (λ a r f called. search rules) in
-    let le = IsPartitionPoint-from_clause (λ e. is_le (by e)) c.args.edges.now _ end.partitioned (le_parts by c.args.edges.now rises) (λ a r f called. search rules) in
+    let lt = IsPartitionPoint-from_clause (λ e. is_lt (by e)) c.args.edges.now _ first.partitioned (lt_parts by c.args.edges.now rises)
+    (λ a r f called. search rules) in
+    let le = IsPartitionPoint-from_clause (λ e. is_le (by e)) c.args.edges.now _ end.partitioned (le_parts by c.args.edges.now rises)
+    (λ a r f called. search rules) in
     record {
       bounds = run_bounds by c.args.edges.now _ _ first.bound end.bound lt le;
       within = end.bound;

@@ -13,15 +13,19 @@ use Rattle.graph_core.proofs.GraphLaws.{has_decides, is_graph_decides}
 use Rattle.graph_core.proofs.GivenLaws.{whole_provider}
 use Rattle.graph_core.proofs.theorems.graph_laws.Goals as goal
 
-chosen : (b : Bool) (name p : Text) (r : Option (Text × Text)) → option_map (λ provider. provider.1) (cond b (Some (name, p)) r) ≡ cond b (Some p) (option_map (λ provider. provider.1) r)
+chosen : (b : Bool) (name p : Text) (r : Option (Text × Text))
+    → option_map (λ provider. provider.1) (cond b (Some (name, p)) r) ≡ cond b (Some p) (option_map (λ provider. provider.1) r)
 chosen true name p r = refl
 chosen false name p r = refl
 
-same : (a b : Content) → IsGraph a → IsGraph b → ((name : Text) → node_of a name ≡ node_of b name) → ((parent child : Text) → edge_of a parent child ≡ edge_of b parent child) → ((name : Text) → provider_of a name ≡ provider_of b name) → a ≡ b
+same : (a b : Content) → IsGraph a → IsGraph b → ((name : Text) → node_of a name ≡ node_of b name)
+    → ((parent child : Text) → edge_of a parent child ≡ edge_of b parent child)
+    → ((name : Text) → provider_of a name ≡ provider_of b name) → a ≡ b
 same a b graph_a graph_b nodes edges providers =
     let by_nodes = same_lists nat_list_cmp_total ties_are_equal name_of a.nodes b.nodes graph_a.nodes graph_b.nodes nodes in
     let by_edges = same_lists pair_total pair_exact ends_of a.edges b.edges graph_a.edges graph_b.edges (λ ends. edges ends.0 ends.1) in
-    let by_providers = same_lists nat_list_cmp_total ties_are_equal virtual_of a.providers b.providers graph_a.providers graph_b.providers (λ name. whole_provider a name ∙ ap (option_map (λ p. (name, p))) (providers name) ∙ sym (whole_provider b name)) in
+    let by_providers = same_lists nat_list_cmp_total ties_are_equal virtual_of a.providers b.providers graph_a.providers graph_b.providers
+    (λ name. whole_provider a name ∙ ap (option_map (λ p. (name, p))) (providers name) ∙ sym (whole_provider b name)) in
     λ i. record { nodes = by_nodes i; edges = by_edges i; providers = by_providers i }
 
 pub returns : goal.returns
@@ -32,5 +36,7 @@ returns c = record {
   has = λ g name. ((has_decides g name).1, (has_decides g name).0);
   node = λ g node name none. find-with_one nat_list_cmp_total ties_are_equal name_of g.nodes node name none;
   edge = λ g edge parent child none. find-with_one pair_total pair_exact ends_of g.edges edge (parent, child) none;
-  provider = λ g name p q none. ap (option_map (λ provider. provider.1)) (find-with_one nat_list_cmp_total ties_are_equal virtual_of g.providers (name, p) q (none_from_map _ _ none)) ∙ chosen (eq_by_cmp byte_cmp name q) name p (find_key byte_cmp virtual_of g.providers q);
+  provider = λ g name p q none. ap (option_map (λ provider. provider.1))
+      (find-with_one nat_list_cmp_total ties_are_equal virtual_of g.providers (name, p) q (none_from_map _ _ none))
+      ∙ chosen (eq_by_cmp byte_cmp name q) name p (find_key byte_cmp virtual_of g.providers q);
 }

@@ -18,6 +18,10 @@ joined g p q edge found = subst (Contains (arcs_of g)) found.1 (has_image ends_o
 pub returns : goal.returns
 returns c = record {
   decides = λ g. reaches_decides bytes_eq bytes_decides (arcs_of g);
-  joined = λ g p q graph. (find_known pair_total pair_exact ends_of g.edges (p, q), λ w. joined g p q w.0 (find_sound pair_total pair_exact ends_of g.edges (p, q) w.0 w.1));
+  joined = λ g p q graph. (
+    find_known pair_total pair_exact ends_of g.edges (p, q),
+    λ w. joined g p q w.0
+        (find_sound pair_total pair_exact ends_of g.edges (p, q) w.0 w.1),
+  );
   nodes = λ g p q graph path. (begins_at_node g graph p q path, ends_at_node g graph p q path);
 }

@@ -6,4 +6,5 @@ use Rattle.graph_judge.proofs.Lists.{any-filter_map}
 use Rattle.graph_judge.proofs.demanded.asks_directive.Goals as goal
 
 pub returns : goal.returns
-returns c = c.some_directive.ensures ∙ sym (any-filter_map (same_demand (Directive c.args.name.now c.args.number)) (slice_get (demands c.args.problem.now)) c.args.ids.now)
+returns c = c.some_directive.ensures ∙ sym
+    (any-filter_map (same_demand (Directive c.args.name.now c.args.number)) (slice_get (demands c.args.problem.now)) c.args.ids.now)

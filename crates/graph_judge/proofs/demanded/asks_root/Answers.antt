@@ -6,4 +6,5 @@ use Rattle.graph_judge.proofs.Lists.{any-filter_map}
 use Rattle.graph_judge.proofs.demanded.asks_root.Goals as goal
 
 pub returns : goal.returns
-returns c = c.some_root.ensures ∙ sym (any-filter_map (same_demand (Root c.args.place)) (slice_get (demands c.args.problem.now)) c.args.ids.now)
+returns c = c.some_root.ensures
+    ∙ sym (any-filter_map (same_demand (Root c.args.place)) (slice_get (demands c.args.problem.now)) c.args.ids.now)

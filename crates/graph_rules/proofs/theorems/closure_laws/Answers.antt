@@ -7,4 +7,5 @@ use Rattle.graph_rules.proofs.theorems.closure_laws.Goals as goal
 
 pub returns : goal.returns
 unfolding valid_for
-returns c = λ problem graph asked names g v closure. list_all-from (λ node. among names node.name) graph.nodes (λ node there. node-closed problem graph g (and_parts _ _ v).0 names closure.closed node there)
+returns c = λ problem graph asked names g v closure. list_all-from (λ node. among names node.name) graph.nodes
+    (λ node there. node-closed problem graph g (and_parts _ _ v).0 names closure.closed node there)

@@ -14,7 +14,9 @@ unfolding valid_for keeps
 none problem = refl
 
 budget_valid : (problem : Problem) (budget : ℕ) (graph : Content) → valid (with_budget budget problem) graph ≡ valid problem graph
-unfolding valid keeps entry_of record_at keeps_buildable keeps_version keeps_variant keeps_compiler keeps_machine keeps_extra_edge keeps_root keeps_edge keeps_constraint keeps_conflict keeps_requirement external_node keeps_kept keeps_provider keeps_used keeps_reachable
+unfolding valid keeps entry_of record_at keeps_buildable keeps_version keeps_variant keeps_compiler keeps_machine keeps_extra_edge
+    keeps_root keeps_edge keeps_constraint keeps_conflict keeps_requirement external_node keeps_kept keeps_provider keeps_used
+    keeps_reachable
 budget_valid problem budget graph = refl
 
 pub returns : goal.returns

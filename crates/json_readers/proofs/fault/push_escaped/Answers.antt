@@ -15,5 +15,7 @@ loop-c-preserved c = escaped_more _ _ _ c.loop-c.yielded c.in-Some.c c.loop-c.in
 
 pub returns : goal.returns
 returns c =
-    let t = YieldsList-end (YieldsList-from_chars c.args.key.now c.utf8.key cc) c.loop-c.yielded _ c.loop-c.yielded_by _ _ c.in-None.is c.next.ensures.steps in
-    c.loop-c.invariant ∙ ap (λ cs. string_bytes c.args.text.now ++ encode_utf8_all (flat_map escaped cs)) (sym (map-id c.loop-c.yielded) ∙ t.0)
+    let t = YieldsList-end (YieldsList-from_chars c.args.key.now c.utf8.key cc) c.loop-c.yielded _ c.loop-c.yielded_by _ _ c.in-None.is
+    c.next.ensures.steps in
+    c.loop-c.invariant ∙ ap (λ cs. string_bytes c.args.text.now ++ encode_utf8_all (flat_map escaped cs))
+    (sym (map-id c.loop-c.yielded) ∙ t.0)

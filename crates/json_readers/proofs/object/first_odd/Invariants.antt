@@ -6,5 +6,6 @@ use Rattle.json_readers.proofs.object.first_odd.Given as goal
 abbrev pub invariant-loop-key : goal.invariant-loop-key
 invariant-loop-key l = record {
   within : l.place ≤ length l.keys;
-  left : first_odd (map (λ k. k.now) l.keys) (members_view l.members.entries) ≡ first_odd (map (λ k. k.now) (drop l.place l.keys)) (members_view l.key-iterator);
+  left : first_odd (map (λ k. k.now) l.keys) (members_view l.members.entries) ≡ first_odd (map (λ k. k.now) (drop l.place l.keys))
+      (members_view l.key-iterator);
 }

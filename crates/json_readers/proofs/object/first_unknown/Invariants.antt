@@ -4,4 +4,5 @@ use Rattle.json_readers.specs.Objects.{first_unknown}
 use Rattle.json_readers.proofs.object.first_unknown.Given as goal
 
 abbrev pub invariant-loop-key : goal.invariant-loop-key
-invariant-loop-key l = first_unknown (map (λ k. k.now) l.keys) (members_view l.members.entries) ≡ first_unknown (map (λ k. k.now) l.keys) (members_view l.key-iterator)
+invariant-loop-key l = first_unknown (map (λ k. k.now) l.keys) (members_view l.members.entries) ≡ first_unknown (map (λ k. k.now) l.keys)
+    (members_view l.key-iterator)

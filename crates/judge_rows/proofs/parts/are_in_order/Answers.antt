@@ -6,4 +6,5 @@ use Rattle.conditions.specs.declared.recipe.Recipe.{Recipe}
 use Rattle.judge_rows.proofs.parts.are_in_order.Goals as goal
 
 pub returns : goal.returns
-returns c = λ is. (rises_decides byte_cmp nat_list_cmp_total (map (λ (recipe : Recipe). recipe.name) c.args.recipes.now)).0 (sym c.names_rise.ensures ∙ is)
+returns c = λ is. (rises_decides byte_cmp nat_list_cmp_total (map (λ (recipe : Recipe). recipe.name) c.args.recipes.now)).0
+    (sym c.names_rise.ensures ∙ is)

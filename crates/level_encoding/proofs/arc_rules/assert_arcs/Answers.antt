@@ -7,14 +7,17 @@ use Rattle.level_encoding.proofs.arc_rules.assert_arcs.Goals as goal
 
 pub assert_arc-requires-clause-below : goal.assert_arc-requires-clause-below
 assert_arc-requires-clause-below c =
-    arc-below-at c.args.input.now c.requires.right c.loop-arc.turn c.loop-arc.arc-index c.arcs-arc-items.result.now _ c.loop-arc.clauses.vars c.arcs-arc-items.ensures c.loop-arc-test.true c.loop-arc.invariant.turns_left (omega (arith, c.loop-arc.invariant.more))
+    arc-below-at c.args.input.now c.requires.right c.loop-arc.turn c.loop-arc.arc-index c.arcs-arc-items.result.now _
+    c.loop-arc.clauses.vars c.arcs-arc-items.ensures c.loop-arc-test.true c.loop-arc.invariant.turns_left
+    (omega (arith, c.loop-arc.invariant.more))
 
 pub loop-arc-init : goal.loop-arc-init
 loop-arc-init c =
     let s = c.args.input.now in
     let arcs = c.arcs-arc-items.result.now in record {
       rest = ap (λ x. assert_all c.args.clauses.now (arcs_rules s x arcs)) c.requires.plan.turns;
-      turns_left = ap (λ x. x + sum_by (turns s) arcs) c.requires.plan.turns ∙ ap (λ xs. turn_start s + sum_by (turns s) xs) c.arcs-arc-items.ensures ∙ end-is s;
+      turns_left = ap (λ x. x + sum_by (turns s) arcs) c.requires.plan.turns
+          ∙ ap (λ xs. turn_start s + sum_by (turns s) xs) c.arcs-arc-items.ensures ∙ end-is s;
       more = omega arith;
     }
 
@@ -22,13 +25,16 @@ pub loop-arc-preserved : goal.loop-arc-preserved
 loop-arc-preserved c =
     let s = c.args.input.now in
     let arcs = c.arcs-arc-items.result.now in record {
-      rest = arcs_rules-step s c.loop-arc.turn c.turns.result c.loop-arc.arc-index arcs _ c.loop-arc.clauses _ _ c.loop-arc-test.true c.in_ok-assert_arc.ensures.built c.turns.ensures c.loop-arc.invariant.rest;
-      turns_left = turns-step s c.loop-arc.turn c.turns.result c.loop-arc.arc-index arcs _ c.loop-arc-test.true c.turns.ensures c.loop-arc.invariant.turns_left;
+      rest = arcs_rules-step s c.loop-arc.turn c.turns.result c.loop-arc.arc-index arcs _ c.loop-arc.clauses _ _ c.loop-arc-test.true
+          c.in_ok-assert_arc.ensures.built c.turns.ensures c.loop-arc.invariant.rest;
+      turns_left = turns-step s c.loop-arc.turn c.turns.result c.loop-arc.arc-index arcs _ c.loop-arc-test.true c.turns.ensures
+          c.loop-arc.invariant.turns_left;
       more = omega (arith, c.loop-arc.invariant.more, c.in_ok-assert_arc.ensures.more);
     }
 
 pub returns-clause-built : goal.returns-clause-built
 returns-clause-built c =
     let s = c.args.input.now in
-    arcs_rules-all s c.loop-arc.turn c.loop-arc.arc-index c.arcs-arc-items.result.now c.loop-arc.clauses _ c.loop-arc-test.false c.loop-arc.invariant.rest
+    arcs_rules-all s c.loop-arc.turn c.loop-arc.arc-index c.arcs-arc-items.result.now c.loop-arc.clauses _ c.loop-arc-test.false
+    c.loop-arc.invariant.rest
     ∙ ap (λ xs. assert_all c.args.clauses.now (arcs_rules s (turn_start s) xs)) c.arcs-arc-items.ensures

@@ -9,7 +9,9 @@ use Rattle.level_encoding.proofs.Range.{first-le}
 use Rattle.level_encoding.proofs.encoded.assert_input.Goals as goal
 
 -- the three parts are all rules
-all-parts : (s : Input) (old a b c : Clauses) → a ≡ assert_all old (arcs_rules s (turn_start s) s.arcs) → b ≡ assert_all a (flat_map (node_rules s) (below (numbers s))) → c ≡ assert_all b (flat_map (path_rules s) (below (numbers s))) → c ≡ assert_all old (constraints s)
+all-parts : (s : Input) (old a b c : Clauses) → a ≡ assert_all old (arcs_rules s (turn_start s) s.arcs)
+    → b ≡ assert_all a (flat_map (node_rules s) (below (numbers s))) → c ≡ assert_all b (flat_map (path_rules s) (below (numbers s)))
+    → c ≡ assert_all old (constraints s)
 unfolding constraints
 all-parts s old a b c e f g =
     let xs = arcs_rules s (turn_start s) s.arcs in
@@ -23,12 +25,17 @@ pub overflow_sub-end_of : goal.overflow_sub-end_of
 overflow_sub-end_of c = rw (c.vars.ensures.value, c.end_of.ensures, ← c.requires.first) (first-le c.args.input.now c.requires.right)
 
 -- so many more variables make as many as the input needs
-made : (old new : Clauses) (end vars upto first : ℕ) → vars ≡ old.vars → upto ≡ end → first ≡ old.vars → first ≤ end → new ≡ with_vars old (old.vars + (upto - vars)) → new ≡ with_vars old end
+made : (old new : Clauses) (end vars upto first : ℕ) → vars ≡ old.vars → upto ≡ end → first ≡ old.vars → first ≤ end
+    → new ≡ with_vars old (old.vars + (upto - vars)) → new ≡ with_vars old end
 made old new end vars upto first e f g h q = let k : old.vars + (upto - vars) ≡ end = omega arith in q ∙ ap (with_vars old) k
 
 pub returns : goal.returns
 unfolding levels_on
 returns c =
-    all-parts c.args.input.now (with_vars c.args.clauses.now (end c.args.input.now)) c.assert_arcs.new.clauses c.assert_nodes.new.clauses c.assert_paths.new.clauses
-    (c.in_ok-assert_arcs.ensures.built ∙ ap (λ t. assert_all t (arcs_rules c.args.input.now (turn_start c.args.input.now) c.args.input.now.arcs)) (made c.args.clauses.now c.add_vars.new.clauses (end c.args.input.now) c.vars.result c.end_of.result c.args.input.now.first c.vars.ensures.value c.end_of.ensures c.requires.first (first-le c.args.input.now c.requires.right) c.in_ok-add_vars.ensures))
+    all-parts c.args.input.now (with_vars c.args.clauses.now (end c.args.input.now)) c.assert_arcs.new.clauses c.assert_nodes.new.clauses
+    c.assert_paths.new.clauses
+    (c.in_ok-assert_arcs.ensures.built
+    ∙ ap (λ t. assert_all t (arcs_rules c.args.input.now (turn_start c.args.input.now) c.args.input.now.arcs))
+    (made c.args.clauses.now c.add_vars.new.clauses (end c.args.input.now) c.vars.result c.end_of.result c.args.input.now.first
+    c.vars.ensures.value c.end_of.ensures c.requires.first (first-le c.args.input.now c.requires.right) c.in_ok-add_vars.ensures))
     c.in_ok-assert_nodes.ensures.built c.in_ok-assert_paths.ensures.built

@@ -18,8 +18,12 @@ returns-then-not-has_way-clause-built c = none-if c.args.clauses.now _ _ (sym c.
 
 pub assert_each-requires : goal.assert_each-requires
 assert_each-requires c =
-    made-below (end c.args.input.now) c.args.clauses.now.vars _ _ (omega arith) (way_rules-below c.args.input.now c.requires.right c.args.q c.args.p) (made-is _ _ _ _ c.as_slice.ensures.value c.in_ok-add_way_rules.ensures c.new-rules.ensures.items)
+    made-below (end c.args.input.now) c.args.clauses.now.vars _ _ (omega arith)
+    (way_rules-below c.args.input.now c.requires.right c.args.q c.args.p)
+    (made-is _ _ _ _ c.as_slice.ensures.value c.in_ok-add_way_rules.ensures c.new-rules.ensures.items)
 
 pub returns-clause-built : goal.returns-clause-built
 returns-clause-built c =
-    chosen-if c.args.clauses.now _ _ _ (sym c.has_way.ensures ∙ c.if-not-has_way.false) (c.in_ok-assert_each.ensures.built ∙ ap (assert_all c.args.clauses.now) (made-is _ _ _ _ c.as_slice.ensures.value c.in_ok-add_way_rules.ensures c.new-rules.ensures.items))
+    chosen-if c.args.clauses.now _ _ _ (sym c.has_way.ensures ∙ c.if-not-has_way.false) (c.in_ok-assert_each.ensures.built
+    ∙ ap (assert_all c.args.clauses.now) (made-is _ _ _ _ c.as_slice.ensures.value c.in_ok-add_way_rules.ensures
+    c.new-rules.ensures.items))

@@ -6,4 +6,6 @@ use Rattle.level_encoding.proofs.ways.leads.Goals as goal
 
 pub returns : goal.returns
 unfolding leads
-returns c = c.leads.ensures ∙ rw c.requires.asked (table-reaches (possible c.args.input.now) (numbers c.args.input.now) c.args.reached.now c.requires.reached c.args.p c.args.q c.requires.number c.requires.target)
+returns c = c.leads.ensures ∙ rw c.requires.asked
+    (table-reaches (possible c.args.input.now) (numbers c.args.input.now) c.args.reached.now c.requires.reached c.args.p c.args.q
+    c.requires.number c.requires.target)

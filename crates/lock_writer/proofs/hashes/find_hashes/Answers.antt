@@ -15,17 +15,20 @@ bounds-children-place c =
 pub find_hash-requires-clause-there : goal.find_hash-requires-clause-there
 find_hash-requires-clause-there c =
     let nodes = c.nodes-nodes.ensures.nodes in
-    (placed c.args.graph.now c.nodes-nodes.ensures.graph c.loop-place.place c.index-nodes-place.result (rw nodes at c.loop-place-test.true) (rw nodes at c.index-nodes-place.is)).0
+    (placed c.args.graph.now c.nodes-nodes.ensures.graph c.loop-place.place c.index-nodes-place.result (rw nodes at c.loop-place-test.true)
+    (rw nodes at c.index-nodes-place.is)).0
 
 pub find_hash-requires-clause-found : goal.find_hash-requires-clause-found
 find_hash-requires-clause-found c =
     let nodes = c.nodes-nodes.ensures.nodes in
-    (placed c.args.graph.now c.nodes-nodes.ensures.graph c.loop-place.place c.index-nodes-place.result (rw nodes at c.loop-place-test.true) (rw nodes at c.index-nodes-place.is)).1
+    (placed c.args.graph.now c.nodes-nodes.ensures.graph c.loop-place.place c.index-nodes-place.result (rw nodes at c.loop-place-test.true)
+    (rw nodes at c.index-nodes-place.is)).1
 
 pub find_hash-requires-clause-children : goal.find_hash-requires-clause-children
 find_hash-requires-clause-children c =
     let nodes = c.nodes-nodes.ensures.nodes in
-    rw c.as_slice-places.ensures (children_at c.args.graph.now c.args.children.now c.loop-place.place c.index-nodes-place.result c.index-children-place.result c.requires.children
+    rw c.as_slice-places.ensures (children_at c.args.graph.now c.args.children.now c.loop-place.place c.index-nodes-place.result
+    c.index-children-place.result c.requires.children
     (rw nodes at c.loop-place-test.true) (rw nodes at c.index-nodes-place.is) c.index-children-place.is)
 
 pub loop-place-init : goal.loop-place-init
@@ -38,14 +41,18 @@ loop-place-init c = record {
 pub loop-place-preserved : goal.loop-place-preserved
 loop-place-preserved c =
     let nodes = c.nodes-nodes.ensures.nodes in
-    let there = (placed c.args.graph.now c.nodes-nodes.ensures.graph c.loop-place.place c.index-nodes-place.result (rw nodes at c.loop-place-test.true) (rw nodes at c.index-nodes-place.is)).0 in
-    let children = children_at c.args.graph.now c.args.children.now c.loop-place.place c.index-nodes-place.result c.index-children-place.result c.requires.children
+    let there = (placed c.args.graph.now c.nodes-nodes.ensures.graph c.loop-place.place c.index-nodes-place.result
+    (rw nodes at c.loop-place-test.true) (rw nodes at c.index-nodes-place.is)).0 in
+    let children = children_at c.args.graph.now c.args.children.now c.loop-place.place c.index-nodes-place.result
+    c.index-children-place.result c.requires.children
     (rw nodes at c.loop-place-test.true) (rw nodes at c.index-nodes-place.is) c.index-children-place.is in
     record {
       right = c.in_ok-find_hash.ensures.right;
       kept = λ q told. c.in_ok-find_hash.ensures.kept q (c.loop-place.invariant.kept q told);
-      more = λ rounds within. one_further c.args.graph.now c.nodes-nodes.ensures.graph c.requires.acyclic c.args.done.now.items c.loop-place.done.items c.find_hash.new.done.items c.loop-place.place rounds
-          c.index-nodes-place.result c.index-children-place.result there children within c.loop-place.invariant.kept c.in_ok-find_hash.ensures.kept
+      more = λ rounds within. one_further c.args.graph.now c.nodes-nodes.ensures.graph c.requires.acyclic c.args.done.now.items
+          c.loop-place.done.items c.find_hash.new.done.items c.loop-place.place rounds
+          c.index-nodes-place.result c.index-children-place.result there children within c.loop-place.invariant.kept
+          c.in_ok-find_hash.ensures.kept
           (rw c.as_slice-places.ensures at c.in_ok-find_hash.ensures.found) (c.loop-place.invariant.more rounds within);
     }
 

@@ -15,4 +15,5 @@ loop-round-preserved c = record {
 
 pub returns : goal.returns
 returns c = all_right c.args.graph.now _ _ c.loop-round.invariant.right
-    (all_within c.args.graph.now c.count-places.ensures.graph c.requires _ c.count-places.result c.loop-round.round c.count-places.ensures.count c.loop-round-test.false c.loop-round.invariant.within)
+    (all_within c.args.graph.now c.count-places.ensures.graph c.requires _ c.count-places.result c.loop-round.round
+    c.count-places.ensures.count c.loop-round-test.false c.loop-round.invariant.within)

@@ -5,4 +5,5 @@ use Rattle.lock_writer.specs.Texts.{provider_members}
 use Rattle.lock_writer.proofs.lock.providers_value.Given as goal
 
 abbrev pub invariant-loop-provider : goal.invariant-loop-provider
-invariant-loop-provider l = fold (λ ms p. put p.0 (string p.1) ms) (members_view l.members.entries) (drop l.provider-index l.providers) ≡ provider_members l.providers
+invariant-loop-provider l = fold (λ ms p. put p.0 (string p.1) ms) (members_view l.members.entries) (drop l.provider-index l.providers)
+    ≡ provider_members l.providers

@@ -14,7 +14,8 @@ pub returns-clause-text : goal.returns-clause-text
 returns-clause-text c =
     let g = c.args.graph.now in
     c.in_ok-push.ensures.items ∙ ap (λ (text : List ℕ). text ++ 10 ∷ [])
-    (written (view c.in_ok-value.value) (lock_data g c.args.database.now c.args.roots.now) _ c.in_ok-value.ensures (lock_float g c.args.database.now c.args.roots.now) c.in_ok-text.ensures.text)
+    (written (view c.in_ok-value.value) (lock_data g c.args.database.now c.args.roots.now) _ c.in_ok-value.ensures
+    (lock_float g c.args.database.now c.args.roots.now) c.in_ok-text.ensures.text)
 
 pub returns-clause-read : goal.returns-clause-read
 returns-clause-read c =

@@ -3,4 +3,5 @@ use Rattle.lockfile.specs.Children.{is_needed, without_build}
 use Rattle.lockfile.proofs.children.needed.Given as goal
 
 abbrev pub invariant-loop-dependency : goal.invariant-loop-dependency
-invariant-loop-dependency l = l.list ++ map without_build (filter is_needed (drop l.dependency-index l.dependencies)) ≡ map without_build (filter is_needed l.dependencies)
+invariant-loop-dependency l = l.list ++ map without_build (filter is_needed (drop l.dependency-index l.dependencies))
+    ≡ map without_build (filter is_needed l.dependencies)

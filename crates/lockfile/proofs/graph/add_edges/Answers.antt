@@ -16,16 +16,19 @@ loop-edge-init c = record {
 pub push_edge-requires : goal.push_edge-requires
 push_edge-requires c =
     ends_kept c.args.graph.now c.loop-edge.graph c.edge-item.result c.in_ok-made.made c.loop-edge.invariant.nodes c.in_ok-made.ensures
-    (all_at (HasEnds c.args.graph.now) c.args.edges.now c.loop-edge.edge-index c.edge-item.result c.requires.ends c.loop-edge-test.true c.edge-item.is)
+    (all_at (HasEnds c.args.graph.now) c.args.edges.now c.loop-edge.edge-index c.edge-item.result c.requires.ends c.loop-edge-test.true
+    c.edge-item.is)
 
 pub loop-edge-preserved : goal.loop-edge-preserved
 loop-edge-preserved c =
     let edges = c.args.edges.now in
     let i = c.loop-edge.edge-index in
     let rest = drop (i + 1) edges in
-    let first = drop_one edges i c.edge-item.result c.loop-edge-test.true c.edge-item.is ∙ ap (λ edge. edge ∷ rest) (sym c.in_ok-made.ensures) in
+    let first = drop_one edges i c.edge-item.result c.loop-edge-test.true c.edge-item.is
+    ∙ ap (λ edge. edge ∷ rest) (sym c.in_ok-made.ensures) in
     record {
-      edges = one_less pair_cmp ends_of c.loop-edge.graph.edges c.push_edge.new.graph.edges (drop i edges) rest edges c.in_ok-made.made c.in_ok-push_edge.ensures.edges first c.loop-edge.invariant.edges;
+      edges = one_less pair_cmp ends_of c.loop-edge.graph.edges c.push_edge.new.graph.edges (drop i edges) rest edges c.in_ok-made.made
+          c.in_ok-push_edge.ensures.edges first c.loop-edge.invariant.edges;
       nodes = c.in_ok-push_edge.ensures.nodes ∙ c.loop-edge.invariant.nodes;
       providers = c.in_ok-push_edge.ensures.providers ∙ c.loop-edge.invariant.providers;
     }

@@ -11,7 +11,8 @@ loop-done-preserved c =
     let before : length nodes - done ≡ (length nodes - 1 - done) + 1 = omega (arith, lt) in
     let after : length nodes - 1 - done ≡ length nodes - (done + 1) = omega (arith, lt) in
     subst (λ i. AreNames (drop i nodes) c.add_name.new.names) after
-    (names_more nodes (length nodes - 1 - done) c.index-nodes-place.result c.loop-done.names c.add_name.new.names (omega (arith, lt)) c.index-nodes-place.is
+    (names_more nodes (length nodes - 1 - done) c.index-nodes-place.result c.loop-done.names c.add_name.new.names (omega (arith, lt))
+    c.index-nodes-place.is
     (subst (λ i. AreNames (drop i nodes) c.loop-done.names) before c.loop-done.invariant) c.in_ok-add_name.ensures)
 
 pub returns : goal.returns

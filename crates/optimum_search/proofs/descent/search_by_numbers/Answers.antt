@@ -17,8 +17,12 @@ returns-in-Refuted-clause-found c =
     let count = ap (λ (w : SolverValue). w.bits) e in
     let given = ap (λ (w : SolverValue). w.given) e in
     let log = c.in_ok-solve.ensures.log in
-    moved (λ vars input lines. IsRefutation vars input c.args.bits.now lines × AreOver vars lines) (clauses_of s.entries) s.vars u c.into_log.result (over-first s _ t u e (h.0.2.input, h.0.2.vars)) c.into_log.ensures.lines
-    (first-refuted c.args.bits.now c.args.budget t u count given (none-first s _ t e) log h.0, refuted-over c.args.bits.now c.args.budget t u count given (none-first s _ t e) log h.0 r)
+    moved (λ vars input lines. IsRefutation vars input c.args.bits.now lines × AreOver vars lines) (clauses_of s.entries) s.vars u
+    c.into_log.result (over-first s _ t u e (h.0.2.input, h.0.2.vars)) c.into_log.ensures.lines (
+      first-refuted c.args.bits.now c.args.budget t u count given (none-first s _ t e) log h.0,
+      refuted-over c.args.bits.now c.args.budget t
+          u count given (none-first s _ t e) log h.0 r,
+    )
 
 pub returns-in-Spent-clause-found : goal.returns-in-Spent-clause-found
 returns-in-Spent-clause-found c =
@@ -27,8 +31,10 @@ returns-in-Spent-clause-found c =
     let u = c.solve.new.self in
     let e = c.in_ok-solver.ensures in
     let h = subst (Answers t u None c.args.budget) c.in-Spent.is c.in_ok-solve.ensures.answers in
-    moved (λ vars input lines. IsSpentLog vars input c.args.bits.now c.args.budget lines) (clauses_of s.entries) s.vars u c.into_log-in-Spent.result (over-first s _ t u e (h.0.input, h.0.vars)) c.into_log-in-Spent.ensures.lines
-    (first-spent c.args.bits.now c.args.budget t u (ap (λ (w : SolverValue). w.bits) e) (ap (λ (w : SolverValue). w.given) e) (none-first s _ t e) c.in_ok-solve.ensures.log h.0 h.1 c.in_ok-solve.ensures.in_range)
+    moved (λ vars input lines. IsSpentLog vars input c.args.bits.now c.args.budget lines) (clauses_of s.entries) s.vars u
+    c.into_log-in-Spent.result (over-first s _ t u e (h.0.input, h.0.vars)) c.into_log-in-Spent.ensures.lines
+    (first-spent c.args.bits.now c.args.budget t u (ap (λ (w : SolverValue). w.bits) e) (ap (λ (w : SolverValue). w.given) e)
+    (none-first s _ t e) c.in_ok-solve.ensures.log h.0 h.1 c.in_ok-solve.ensures.in_range)
 
 pub loop-at-init : goal.loop-at-init
 loop-at-init c =
@@ -38,12 +44,15 @@ loop-at-init c =
     let e = c.in_ok-solver.ensures in
     let h = subst (Answers t u None c.args.budget) c.in-Model.is c.in_ok-solve.ensures.answers in record {
       over = over-first s _ t u e (h.0.adds.input, h.0.adds.vars);
-      searching = searching-model c.args.bits.now c.args.budget 0 t u None (ap (λ (w : SolverValue). w.bits) e) (ap (λ (w : SolverValue). w.given) e) h.0 (h.1, h.2) c.in_ok-solve.ensures.ok c.in_ok-solve.ensures.log;
+      searching = searching-model c.args.bits.now c.args.budget 0 t u None (ap (λ (w : SolverValue). w.bits) e)
+          (ap (λ (w : SolverValue). w.given) e) h.0 (h.1, h.2) c.in_ok-solve.ensures.ok c.in_ok-solve.ensures.log;
     }
 
 pub returns-clause-found : goal.returns-clause-found
 returns-clause-found c =
     let u = c.loop-at.solver in
     let i = c.loop-at.invariant in
-    certified c.args.clauses.now c.args.bits.now c.args.budget c.loop-at.at u c.from_vec-model.result c.push.new.self i.searching (omega (arith, c.loop-at-test.false, c.loop-at.auto.at-end)) (c.into_log-log.ensures.sound i.searching.unfailed) c.into_log-log.ensures.in_range i.over (c.from_vec-model.ensures ∙ c.in_ok-from_slice.ensures.items ∙ c.model.ensures)
+    certified c.args.clauses.now c.args.bits.now c.args.budget c.loop-at.at u c.from_vec-model.result c.push.new.self i.searching
+    (omega (arith, c.loop-at-test.false, c.loop-at.auto.at-end)) (c.into_log-log.ensures.sound i.searching.unfailed)
+    c.into_log-log.ensures.in_range i.over (c.from_vec-model.ensures ∙ c.in_ok-from_slice.ensures.items ∙ c.model.ensures)
     (c.in_ok-push.ensures.ok ∙ ap (λ ls. ls ++ line.End ∷ []) c.into_log-log.ensures.lines)

@@ -6,18 +6,24 @@ use Rattle.optimum_search.proofs.Settling.{below-at, told, searching-model, sear
 use Rattle.optimum_search.proofs.settle.settle.Goals as goal
 
 pub fix-requires-clause-in_range : goal.fix-requires-clause-in_range
-fix-requires-clause-in_range c = below-at _ c.args.at c.args.bits.now _ c.requires.in_range (slice_get-get_or c.args.bits.now c.args.at _ c.requires.within)
+fix-requires-clause-in_range c = below-at _ c.args.at c.args.bits.now _ c.requires.in_range
+    (slice_get-get_or c.args.bits.now c.args.at _ c.requires.within)
 
 pub returns-then-not-is_true : goal.returns-then-not-is_true
 returns-then-not-is_true c =
     let f = c.in_ok-fix.ensures.ok in (
       (ap (λ (w : SolverValue). w.input) f, ap (λ (w : SolverValue). w.vars) f),
-      searching-zero c.args.bits.now c.args.budget c.args.at c.args.solver.now c.fix.new.self c.requires.searching _ (slice_get-get_or c.args.bits.now c.args.at _ c.requires.within)
+      searching-zero c.args.bits.now c.args.budget c.args.at c.args.solver.now c.fix.new.self c.requires.searching _
+          (slice_get-get_or c.args.bits.now c.args.at _ c.requires.within)
           (told _ _ _ _ _ c.model.ensures c.is_true.ensures c.if-not-is_true.true) f c.in_ok-fix.ensures.open_log,
     )
 
 pub solve-requires-clause-in_order : goal.solve-requires-clause-in_order
-solve-requires-clause-in_order c = (sym (ap length c.requires.searching.given ∙ length-take-le c.args.at c.args.bits.now (omega (arith, c.requires.within))), below-at _ c.args.at c.args.bits.now _ c.requires.in_range (slice_get-get_or c.args.bits.now c.args.at _ c.requires.within))
+solve-requires-clause-in_order c = (
+  sym (ap length c.requires.searching.given ∙ length-take-le c.args.at c.args.bits.now (omega (arith, c.requires.within))),
+  below-at _
+      c.args.at c.args.bits.now _ c.requires.in_range (slice_get-get_or c.args.bits.now c.args.at _ c.requires.within),
+)
 
 pub returns-in_ok-fix-in-Model : goal.returns-in_ok-fix-in-Model
 returns-in_ok-fix-in-Model c =
@@ -28,7 +34,8 @@ returns-in_ok-fix-in-Model c =
     let f = c.in_ok-fix-in-Model.ensures.ok in (
       (ap (λ (w : SolverValue). w.input) f ∙ h.0.adds.input, ap (λ (w : SolverValue). w.vars) f ∙ h.0.adds.vars),
       searching-zero c.args.bits.now c.args.budget c.args.at u c.fix-in-Model.new.self
-          (searching-model c.args.bits.now c.args.budget c.args.at t u _ s.count s.given h.0 (h.1, h.2) c.in_ok-solve.ensures.ok c.in_ok-solve.ensures.log)
+          (searching-model c.args.bits.now c.args.budget c.args.at t u _ s.count s.given h.0 (h.1, h.2) c.in_ok-solve.ensures.ok
+          c.in_ok-solve.ensures.log)
           _ (slice_get-get_or c.args.bits.now c.args.at _ c.requires.within) h.0.assumed f c.in_ok-fix-in-Model.ensures.open_log,
     )
 
@@ -38,7 +45,8 @@ returns-in-Refuted c =
     let u = c.solve.new.self in
     let h = subst (Answers t u _ c.args.budget) c.in-Refuted.is c.in_ok-solve.ensures.answers in (
       (h.0.2.input, h.0.2.vars),
-      searching-one c.args.bits.now c.args.budget c.args.at t u c.requires.searching _ (slice_get-get_or c.args.bits.now c.args.at _ c.requires.within)
+      searching-one c.args.bits.now c.args.budget c.args.at t u c.requires.searching _
+          (slice_get-get_or c.args.bits.now c.args.at _ c.requires.within)
           (told _ _ _ _ _ c.model.ensures c.is_true.ensures c.if-not-is_true.false) h.0 (h.1, h.2) c.in_ok-solve.ensures.ok,
     )
 
@@ -48,5 +56,6 @@ returns-in-Spent c =
     let u = c.solve.new.self in
     let h = subst (Answers t u _ c.args.budget) c.in-Spent.is c.in_ok-solve.ensures.answers in (
       (h.0.input, h.0.vars),
-      searching-spent c.args.bits.now c.args.budget c.args.at t u c.requires.searching h.0 h.1 c.in_ok-solve.ensures.log c.in_ok-solve.ensures.in_range,
+      searching-spent c.args.bits.now c.args.budget c.args.at t u c.requires.searching h.0 h.1 c.in_ok-solve.ensures.log
+          c.in_ok-solve.ensures.in_range,
     )

@@ -3,7 +3,8 @@ use Rattle.outside_desk.proofs.real_files.write_whole.Goals as goal
 use Rattle.outside_desk.proofs.real_files.write_whole.Goals.{in-Ok, in-Err}
 
 pub returns-in-Ok-eq0-clause-err : goal.returns-in-Ok-eq0-clause-err
-returns-in-Ok-eq0-clause-err g c = gone_part _ _ _ _ (gone_more _ _ _ _ _ c.in-Ok-eq0.field-0 c.writings.invariant (rw c.in-Ok-eq0.is at c.write.ensures.bytes))
+returns-in-Ok-eq0-clause-err g c =
+    gone_part _ _ _ _ (gone_more _ _ _ _ _ c.in-Ok-eq0.field-0 c.writings.invariant (rw c.in-Ok-eq0.is at c.write.ensures.bytes))
 
 pub returns-in-Err-2-clause-err : goal.returns-in-Err-2-clause-err
 returns-in-Err-2-clause-err g c = gone_part _ _ _ _ (gone_kept _ _ _ _ _ c.writings.invariant c.in-Err-2.ensures.bytes)

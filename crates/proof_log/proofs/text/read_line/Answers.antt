@@ -12,4 +12,5 @@ returns c =
     let writable : may_write c.in-Some.line ≡ true = search rules in
     let written : c.as_slice.result.now ≡ line_text c.in-Some.line = c.as_slice.ensures.value ∙ c.in_ok-written.ensures.ok in
     let equal = not-false (bytes_eq c.as_slice.result.now c.args.text.now) (sym c.ne.ensures ∙ c.if-ne.false) in
-    line-said c.args.text.now c.in-Some.line drafted writable (sym written ∙ (bytes_eq-Decides c.as_slice.result.now c.args.text.now).0 equal)
+    line-said c.args.text.now c.in-Some.line drafted writable (sym written
+    ∙ (bytes_eq-Decides c.as_slice.result.now c.args.text.now).0 equal)

@@ -11,5 +11,6 @@ invariant-loop-name g l = record {
   later : g.D.Desk.faults l.fn.desk ≤ g.D.Desk.faults l.desk;
   put_faults : g.D.Desk.put_faults l.desk ≡ g.D.Desk.put_faults l.fn.desk;
   order : IsInByteOrder (names_of l.sources ++ map string_bytes (drop l.name-index l.names));
-  whole : IfSome (g.D.Desk.files l.fn.desk) (λ files. with_entries files l.repo l.sources (map string_bytes (drop l.name-index l.names)) ≡ with_entries files l.repo no_files (map string_bytes l.names));
+  whole : IfSome (g.D.Desk.files l.fn.desk) (λ files. with_entries files l.repo l.sources (map string_bytes (drop l.name-index l.names))
+      ≡ with_entries files l.repo no_files (map string_bytes l.names));
 }

@@ -12,7 +12,8 @@ returns-in-Ok-clause-order g c = λ names ordered.
     file_rises c.args.sources.now c.args.name.now c.in-Ok.bytes.items names c.add.new.self c.add.result c.add.ensures.left ordered
 
 pub returns-in-Err-TooLong-clause-order : goal.returns-in-Err-TooLong-clause-order
-returns-in-Err-TooLong-clause-order g c = λ names ordered. never (IsInByteOrder (names_of c.args.sources.now ++ names)) c.refuse.result c.refuse.ensures.stops
+returns-in-Err-TooLong-clause-order g c = λ names ordered. never (IsInByteOrder (names_of c.args.sources.now ++ names)) c.refuse.result
+    c.refuse.ensures.stops
 
 pub returns-in-Err-Missing-clause-order : goal.returns-in-Err-Missing-clause-order
 returns-in-Err-Missing-clause-order g c = λ names ordered. without (names_of c.args.sources.now) c.args.name.now names ordered

@@ -7,4 +7,5 @@ loop-i-init c = levels_start c.args.bytes.now c.args.stop c.args.tokens.now _ _ 
 
 pub loop-i-preserved : goal.loop-i-preserved
 loop-i-preserved c =
-    c.in_ok-add_token.ensures ∙ levels_more c.args.bytes.now c.args.stop c.loop-i.i c.args.tokens.now c.loop-i.levels c.loop-i-test.true c.loop-i.auto.i c.loop-i.invariant
+    c.in_ok-add_token.ensures ∙ levels_more c.args.bytes.now c.args.stop c.loop-i.i c.args.tokens.now c.loop-i.levels c.loop-i-test.true
+    c.loop-i.auto.i c.loop-i.invariant

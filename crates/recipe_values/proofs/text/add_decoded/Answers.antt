@@ -7,13 +7,15 @@ pub returns-in-Err : goal.returns-in-Err
 returns-in-Err c =
     let l = c.loop-i in
     let bytes = c.args.bytes.now in
-    sym l.invariant ∙ byte_fails l.text.items c.args.place l.i c.in-Err.place l.taken bytes c.loop-i-test.true (gives_err _ _ _ _ c.in-Err.is c.in_ok-add_byte.ensures)
+    sym l.invariant ∙ byte_fails l.text.items c.args.place l.i c.in-Err.place l.taken bytes c.loop-i-test.true
+    (gives_err _ _ _ _ c.in-Err.is c.in_ok-add_byte.ensures)
 
 pub loop-i-preserved : goal.loop-i-preserved
 loop-i-preserved c =
     let l = c.loop-i in
     let bytes = c.args.bytes.now in
-    let more = byte_more l.text.items c.add_byte.new.text.items c.args.place l.i l.taken bytes c.loop-i-test.true (gives_ok _ _ _ _ c.in-Ok.is c.in_ok-add_byte.ensures) in
+    let more = byte_more l.text.items c.add_byte.new.text.items c.args.place l.i l.taken bytes c.loop-i-test.true
+    (gives_ok _ _ _ _ c.in-Ok.is c.in_ok-add_byte.ensures) in
     rw c.takes-taken.ensures (sym more ∙ l.invariant)
 
 pub returns : goal.returns

@@ -8,9 +8,11 @@ use Rattle.recipe_values.proofs.Digits.{ascii_utf8}
 use Rattle.recipe_values.proofs.theorems.worked_faults.Goals as goal
 
 pub returns-clause-brackets : goal.returns-clause-brackets
-unfolding text_tokens pieces lay step begin indented indent bracket finish first_piece solid string text_end closes breaks string_of decoded texts value_of elements group levels_of arguments_of
+unfolding text_tokens pieces lay step begin indented indent bracket finish first_piece solid string text_end closes breaks string_of decoded
+    texts value_of elements group levels_of arguments_of
 returns-clause-brackets c = rw (ascii_utf8 (codes "a") refl) refl
 
 pub returns-clause-apart : goal.returns-clause-apart
-unfolding text_tokens pieces lay step begin indented indent bracket finish first_piece solid string text_end closes breaks string_of decoded texts value_of elements group levels_of arguments_of
+unfolding text_tokens pieces lay step begin indented indent bracket finish first_piece solid string text_end closes breaks string_of decoded
+    texts value_of elements group levels_of arguments_of
 returns-clause-apart c = rw (ascii_utf8 (codes "a") refl) refl

@@ -8,5 +8,6 @@ use Rattle.recipe_values.proofs.Digits.{ascii_utf8}
 use Rattle.recipe_values.proofs.theorems.worked_keywords.Goals as goal
 
 pub returns-clause-values : goal.returns-clause-values
-unfolding text_tokens pieces lay step begin indented indent bracket finish first_piece solid string text_end closes breaks string_of decoded texts value_of elements group levels_of arguments_of
+unfolding text_tokens pieces lay step begin indented indent bracket finish first_piece solid string text_end closes breaks string_of decoded
+    texts value_of elements group levels_of arguments_of
 returns-clause-values c = rw (ascii_utf8 (codes "a") refl, ascii_utf8 (codes "b") refl) refl

@@ -11,7 +11,8 @@ returns-in-Some-clause-fault c =
       c.loop-i.i,
       twice _ _ _ c.loop-i-test.true c.index-records-i.is (rw c.as_str-hash.ensures at there),
       c.loop-i.invariant.once,
-      λ d. ap (λ (e : Record). e.hash) (sym (c.index-records-i.is ∙ get_or_default c.args.records.now c.loop-i.i c.index-records-i.result d c.loop-i-test.true)),
+      λ d. ap (λ (e : Record). e.hash) (sym (c.index-records-i.is
+          ∙ get_or_default c.args.records.now c.loop-i.i c.index-records-i.result d c.loop-i-test.true)),
     )
 
 pub loop-i-preserved : goal.loop-i-preserved
@@ -19,14 +20,20 @@ loop-i-preserved c =
     let names = hashes_of c.args.records.now in
     let absent = sym c.in-None.ensures in
     let lacks = lacks_hash (take c.loop-i.i names) c.loop-i.places c.loop-i.invariant.places _ absent in
-    let i_is : c.loop-i.i ≡ length (take c.loop-i.i names) = omega (arith, length-take c.loop-i.i names, length-map c.args.records.now (λ (e : Record). e.hash), c.loop-i-test.true) in
+    let i_is : c.loop-i.i ≡ length (take c.loop-i.i names) =
+    omega (arith, length-take c.loop-i.i names, length-map c.args.records.now (λ (e : Record). e.hash), c.loop-i-test.true) in
     record {
-      places = rw (hashes_more _ _ _ c.loop-i-test.true c.index-records-i.is, ← c.as_str-hash.ensures) (places_more (take c.loop-i.i names) c.loop-i.places c.loop-i.invariant.places c.add_place.new.places _ c.loop-i.i i_is absent c.in_ok-add_place-in-None.ensures);
-      once = none_more (IsTwice c.args.records.now) c.loop-i.i c.loop-i.invariant.once (not_twice _ _ _ c.loop-i-test.true c.index-records-i.is (rw c.as_str-hash.ensures at lacks));
+      places = rw (hashes_more _ _ _ c.loop-i-test.true c.index-records-i.is, ← c.as_str-hash.ensures)
+          (places_more (take c.loop-i.i names) c.loop-i.places c.loop-i.invariant.places c.add_place.new.places _ c.loop-i.i i_is absent
+          c.in_ok-add_place-in-None.ensures);
+      once = none_more (IsTwice c.args.records.now) c.loop-i.i c.loop-i.invariant.once
+          (not_twice _ _ _ c.loop-i-test.true c.index-records-i.is (rw c.as_str-hash.ensures at lacks));
     }
 
 pub returns-clause-places : goal.returns-clause-places
-returns-clause-places c = rw (take_all c.loop-i.i (hashes_of c.args.records.now) (omega (arith, length-map c.args.records.now (λ (e : Record). e.hash), c.loop-i-test.false))) at c.loop-i.invariant.places
+returns-clause-places c =
+    rw (take_all c.loop-i.i (hashes_of c.args.records.now)
+    (omega (arith, length-map c.args.records.now (λ (e : Record). e.hash), c.loop-i-test.false))) at c.loop-i.invariant.places
 
 pub returns-clause-once : goal.returns-clause-once
 returns-clause-once c = λ k h. c.loop-i.invariant.once k (omega (arith, h.0, c.loop-i-test.false)) h

@@ -7,5 +7,6 @@ use Rattle.reuse_db.proofs.text.values_in.Goals as goal
 
 pub returns : goal.returns
 returns c =
-    let all : c.loop-value.values.items ≡ values c.args.map = sym (append-nil c.loop-value.values.items) ∙ ap (λ (r : List Value). c.loop-value.values.items ++ r) (sym c.in-None.ensures.steps.0) ∙ c.loop-value.invariant in
+    let all : c.loop-value.values.items ≡ values c.args.map = sym (append-nil c.loop-value.values.items)
+    ∙ ap (λ (r : List Value). c.loop-value.values.items ++ r) (sym c.in-None.ensures.steps.0) ∙ c.loop-value.invariant in
     ap (λ (vs : List Value). items_of (map view vs)) all ∙ values_seen c.args.map.entries

@@ -4,4 +4,22 @@ use Rattle.rule_rows.proofs.broken.broken_directives.Goals as goal
 
 pub returns : goal.returns
 unfolding computing
-returns c = record { root = refl; root_at = refl; edge = refl; edge_at = refl; kind = refl; kind_at = refl; extra = refl; extra_at = refl; constraint = refl; constraint_at = refl; conflict = refl; conflict_at = refl; requirement = refl; requirement_at = refl; neither = refl }
+returns c = record {
+  root = refl;
+  root_at = refl;
+  edge = refl;
+  edge_at = refl;
+  kind = refl;
+  kind_at = refl;
+  extra = refl;
+  extra_at =
+      refl;
+  constraint = refl;
+  constraint_at = refl;
+  conflict = refl;
+  conflict_at = refl;
+  requirement = refl;
+  requirement_at =
+      refl;
+  neither = refl;
+}

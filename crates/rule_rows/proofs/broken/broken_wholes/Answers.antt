@@ -4,4 +4,16 @@ use Rattle.rule_rows.proofs.broken.broken_wholes.Goals as goal
 
 pub returns : goal.returns
 unfolding computing
-returns c = record { provider = refl; provider_at = refl; used = refl; unused = refl; unused_at = refl; cycle = refl; cycle_at = refl; unreachable = refl; unreachable_at = refl; graphs = refl }
+returns c = record {
+  provider = refl;
+  provider_at = refl;
+  used = refl;
+  unused = refl;
+  unused_at = refl;
+  cycle = refl;
+  cycle_at =
+      refl;
+  unreachable = refl;
+  unreachable_at = refl;
+  graphs = refl;
+}

@@ -8,4 +8,6 @@ use Rattle.rule_tests.proofs.Filters.{any-filter}
 use Rattle.rule_tests.proofs.kept.is_child.Goals as goal
 
 pub returns : goal.returns
-returns c = rw c.as_slice.ensures at c.some_named.ensures ∙ any-filter (λ (d : Text × Kinds). d.1.link || d.1.run) (λ d. is_some_and (record_at c.args.problem.now d.0) (λ child. bytes_eq child.name c.args.edge.now.child)) c.args.entry.now.dependencies
+returns c = rw c.as_slice.ensures at c.some_named.ensures
+    ∙ any-filter (λ (d : Text × Kinds). d.1.link || d.1.run)
+    (λ d. is_some_and (record_at c.args.problem.now d.0) (λ child. bytes_eq child.name c.args.edge.now.child)) c.args.entry.now.dependencies

@@ -6,4 +6,5 @@ use Rattle.rule_tests.proofs.Filters.{all-filter}
 use Rattle.rule_tests.proofs.kept.keeps_children.Goals as goal
 
 pub returns : goal.returns
-returns c = c.keeps_each.ensures ∙ all-filter (λ (d : Text × Kinds). d.1.link || d.1.run) (keeps_child c.args.problem.now c.args.graph.now c.args.name.now) c.args.dependencies.now
+returns c = c.keeps_each.ensures ∙ all-filter (λ (d : Text × Kinds). d.1.link || d.1.run)
+    (keeps_child c.args.problem.now c.args.graph.now c.args.name.now) c.args.dependencies.now

@@ -6,4 +6,5 @@ use Rattle.problem.specs.Problems.{applies}
 use Rattle.rule_tests.proofs.whole.some_asks.Given as goal
 
 abbrev pub invariant-loop-row : goal.invariant-loop-row
-invariant-loop-row l = list_any (λ row. is_some_and row.part.name (bytes_eq l.name) && applies l.problem l.graph row.when l.node) (take l.row-index l.rows) ≡ false
+invariant-loop-row l = list_any (λ row. is_some_and row.part.name (bytes_eq l.name) && applies l.problem l.graph row.when l.node)
+    (take l.row-index l.rows) ≡ false

@@ -8,4 +8,5 @@ loop-done-preserved c =
     let before = c.args.bytes.now.items in
     let more = c.args.more.now in
     let n = c.loop-done._done in
-    c.in_ok-extend_from_slice.ensures.items ∙ ap (λ (b : List ℕ). b ++ more) c.loop-done.invariant ∙ append_assoc before (repeat n more) more ∙ sym (ap (λ (b : List ℕ). before ++ b) (repeat_more n more))
+    c.in_ok-extend_from_slice.ensures.items ∙ ap (λ (b : List ℕ). b ++ more) c.loop-done.invariant
+    ∙ append_assoc before (repeat n more) more ∙ sym (ap (λ (b : List ℕ). before ++ b) (repeat_more n more))

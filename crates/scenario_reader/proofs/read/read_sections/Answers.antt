@@ -7,4 +7,5 @@ pub loop-rest-init : goal.loop-rest-init
 loop-rest-init c = record { same = rw c.new-draft.ensures (begins c.args.text.now); count = omega arith }
 
 pub returns : goal.returns
-returns c = sym c.loop-rest.invariant.same ∙ ends c.loop-rest.number c.loop-rest.draft c.loop-rest.rest.now (search rules) ∙ ap (λ (d : Draft). Ok d.done) (sym c.in_ok-close.ensures)
+returns c = sym c.loop-rest.invariant.same ∙ ends c.loop-rest.number c.loop-rest.draft c.loop-rest.rest.now (search rules)
+    ∙ ap (λ (d : Draft). Ok d.done) (sym c.in_ok-close.ensures)

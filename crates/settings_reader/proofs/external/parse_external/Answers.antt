@@ -35,5 +35,6 @@ returns-in_err-prefix c =
     hands_on_fault (IsExternal name platform d) fault c.from_residual-in_err-prefix.result c.from_residual-in_err-prefix.ensures.1
     (said_tells (known keys d) ms _ (Err (stop_of fault)) c.in_ok-members.ensures
     (said_tells (need (text_of Some) (codes "spec") ms) text _ (Err (stop_of fault)) c.in_ok-text.ensures
-    (told_tells (Below (codes "spec") (IsDescribed name platform text)) described _ (Err (stop_of fault)) (subst P c.as_str.ensures c.in_ok-described.ensures)
+    (told_tells (Below (codes "spec") (IsDescribed name platform text)) described _ (Err (stop_of fault))
+    (subst P c.as_str.ensures c.in_ok-described.ensures)
     (said_err (need (text_of Some) (codes "prefix") ms) _ fault (stop_of fault) refl c.in_err-prefix.ensures))))

@@ -14,7 +14,8 @@ returns-in_err-versions c =
     let d = view c.args.value.now in
     let ms = members_view c.in_ok-members.members.now.entries in
     let stop = c.in_err-versions.field-0.0 in
-    hands_on (IsPackage c.args.name.now c.args.platform.now d) stop c.from_residual-in_err-versions.result c.from_residual-in_err-versions.ensures.1
+    hands_on (IsPackage c.args.name.now c.args.platform.now d) stop c.from_residual-in_err-versions.result
+    c.from_residual-in_err-versions.ensures.1
     (said_tells (known keys d) ms _ (Err stop) c.in_ok-members.ensures
     (told_err (IsListAt IsVersionSet (codes "versions") ms) _ stop c.in_err-versions.ensures))
 

@@ -5,4 +5,5 @@ use Rattle.settings_reader.proofs.Each.{Continues}
 use Rattle.settings_reader.proofs.parser.parse_items.Given as goal
 
 abbrev pub invariant-loop-i : goal.invariant-loop-i
-invariant-loop-i g l = Continues (λ key. g.P.Parser.tells l.parser) (items_at 0 (items_view l.items)) (items_at l.i (items_view (drop l.i l.items))) l.read
+invariant-loop-i g l = Continues (λ key. g.P.Parser.tells l.parser) (items_at 0 (items_view l.items))
+    (items_at l.i (items_view (drop l.i l.items))) l.read

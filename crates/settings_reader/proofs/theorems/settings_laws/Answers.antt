@@ -6,5 +6,10 @@ use Rattle.settings_reader.proofs.theorems.settings_laws.Goals as goal
 pub returns : goal.returns
 returns c =
     let sets : ReadsSetsOnce = record { once = c.set_reading_laws.ensures.one_reading } in
-    let specs : ReadsSpecsOnce = record { once = c.reading_laws.ensures.one_reading Specs; one_fault = c.reading_laws.ensures.one_fault Specs; right = c.reading_laws.ensures.right Specs } in
+    let specs : ReadsSpecsOnce = record {
+      once = c.reading_laws.ensures.one_reading Specs;
+      one_fault =
+          c.reading_laws.ensures.one_fault Specs;
+      right = c.reading_laws.ensures.right Specs;
+    } in
     record { one_reading = file_one sets specs; one_fault = fault_one sets specs; right = right_one sets specs }

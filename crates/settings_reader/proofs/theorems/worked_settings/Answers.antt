@@ -64,7 +64,8 @@ unfolding head_of target_list target_at spread reached reaches pointed chars dig
 returns-clause-cyclic c =
     let a = codes "a" in
     let m = misread (Targets CyclicTargets) [] in
-    let d = array (item (object (member (codes "name") (string a) (member (codes "parents") (array (item (string a) no_items)) no_members))) no_items) in
+    let d = array (item (object (member (codes "name") (string a) (member (codes "parents") (array (item (string a) no_items)) no_members)))
+    no_items) in
     record {
       misread = m;
       first =
@@ -73,7 +74,13 @@ returns-clause-cyclic c =
             told = refl;
             goes =
                 record {
-                  step = Ok (record { platform = platform; conflict_budget = conflict_budget; os = os; targets = record { name = a; parents = a ∷ [] } ∷ [] });
+                  step = Ok (record {
+                    platform = platform;
+                    conflict_budget = conflict_budget;
+                    os = os;
+                    targets =
+                        record { name = a; parents = a ∷ [] } ∷ [];
+                  });
                   told = refl;
                   goes =
                       record { step = Err m; told = refl; goes = refl };

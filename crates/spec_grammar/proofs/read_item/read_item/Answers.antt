@@ -13,10 +13,13 @@ returns-then-not-may_stand-clause-fault c =
 
 pub returns-clause-found : goal.returns-clause-found
 returns-clause-found c =
-    IfOk-weaker c.item.result (λ found. IsCutOff c.args.text.now found.0 found.1) (λ found. IsAllowedItem c.args.mode c.args.before c.args.gap c.args.text.now found.0 found.1)
-    (λ found h. taken c.args.mode c.args.before c.args.gap c.in-Some.kind c.args.text.now found.0 found.1 (sym c.in-Some.ensures) (cc) h) c.item.ensures.found
+    IfOk-weaker c.item.result (λ found. IsCutOff c.args.text.now found.0 found.1)
+    (λ found. IsAllowedItem c.args.mode c.args.before c.args.gap c.args.text.now found.0 found.1)
+    (λ found h. taken c.args.mode c.args.before c.args.gap c.in-Some.kind c.args.text.now found.0 found.1 (sym c.in-Some.ensures) (cc) h)
+    c.item.ensures.found
 
 pub returns-clause-fault : goal.returns-clause-fault
 returns-clause-fault c =
     IfErr-weaker c.item.result (IsItemFault c.args.text.now) (IsItemFaultHere c.args.mode c.args.before c.args.gap c.args.text.now)
-    (λ fault h. refused c.args.mode c.args.before c.args.gap c.in-Some.kind c.args.text.now fault (sym c.in-Some.ensures) (cc) h) c.item.ensures.fault
+    (λ fault h. refused c.args.mode c.args.before c.args.gap c.in-Some.kind c.args.text.now fault (sym c.in-Some.ensures) (cc) h)
+    c.item.ensures.fault

@@ -10,4 +10,5 @@ pub returns-then-len-eq0-clause-fault : goal.returns-then-len-eq0-clause-fault
 returns-then-len-eq0-clause-fault c = variant_stuck c.args.mark c.args.text.now (omega (arith, c.name_length-len.ensures.value))
 
 pub returns-clause-found : goal.returns-clause-found
-returns-clause-found c = rw c.in_ok-name.ensures (variant_read c.args.mark c.args.text.now c.name_length-len.result c.name_length-len.ensures.value (omega arith))
+returns-clause-found c = rw c.in_ok-name.ensures
+    (variant_read c.args.mark c.args.text.now c.name_length-len.result c.name_length-len.ensures.value (omega arith))

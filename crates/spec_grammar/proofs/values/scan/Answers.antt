@@ -8,7 +8,8 @@ pub returns-in-None : goal.returns-in-None
 returns-in-None c = record { within = omega arith; reached = c.loop-index.invariant; stuck = λ lt. cc }
 
 pub loop-index-preserved : goal.loop-index-preserved
-loop-index-preserved c = run_more after c.args.start c.loop-index.run c.args.text.now c.loop-index.index (omega arith) c.loop-index.invariant ∙ cc
+loop-index-preserved c = run_more after c.args.start c.loop-index.run c.args.text.now c.loop-index.index (omega arith)
+    c.loop-index.invariant ∙ cc
 
 pub returns : goal.returns
 returns c =

@@ -6,4 +6,10 @@ pub overflow_mul-value : goal.overflow_mul-value
 overflow_mul-value c = omega (arith, fits c.loop-b.value c.loop-b.b-index c.loop-b.invariant.bound (omega arith))
 
 pub overflow_add-value : goal.overflow_add-value
-overflow_add-value c = omega (arith, fits c.loop-b.value c.loop-b.b-index c.loop-b.invariant.bound (omega arith), digit-range (get_or c.args.digits.now c.loop-b.b-index 0) (c.requires.digits c.loop-b.b-index 0 (omega arith)))
+overflow_add-value c =
+    omega (
+      arith,
+      fits c.loop-b.value c.loop-b.b-index c.loop-b.invariant.bound (omega arith),
+      digit-range
+          (get_or c.args.digits.now c.loop-b.b-index 0) (c.requires.digits c.loop-b.b-index 0 (omega arith)),
+    )

@@ -6,16 +6,19 @@ use Rattle.version_order.proofs.read_set.first_empty.Goals as goal
 
 pub returns-then-is_empty_range : goal.returns-then-is_empty_range
 returns-then-is_empty_range c =
-    sym (empty_here c.args.items.now c.loop-item.item-index c.loop-item.place c.item-item.result (omega arith) (ap is_empty_range (sym c.item-item.is) ∙ cc)) ∙ c.loop-item.invariant.so_far
+    sym (empty_here c.args.items.now c.loop-item.item-index c.loop-item.place c.item-item.result (omega arith)
+    (ap is_empty_range (sym c.item-item.is) ∙ cc)) ∙ c.loop-item.invariant.so_far
 
 pub loop-item-preserved : goal.loop-item-preserved
 loop-item-preserved c =
     let is = sym c.item-item.is in
     let len = c.spelled_length.ensures ∙ ap (λ x. length (spell x)) c.item-item.is in
-    let later = empty_later c.args.items.now c.loop-item.item-index c.loop-item.place c.item-item.result (omega arith) (ap is_empty_range is ∙ cc) in
+    let later = empty_later c.args.items.now c.loop-item.item-index c.loop-item.place c.item-item.result (omega arith)
+    (ap is_empty_range is ∙ cc) in
     let more = longer c.args.items.now c.loop-item.item-index c.item-item.result (omega arith) in
     record {
-      so_far = ap (λ n. first_empty n (drop (c.loop-item.item-index + 1) c.args.items.now)) (omega (arith, len)) ∙ sym later ∙ c.loop-item.invariant.so_far;
+      so_far = ap (λ n. first_empty n (drop (c.loop-item.item-index + 1) c.args.items.now)) (omega (arith, len)) ∙ sym later
+          ∙ c.loop-item.invariant.so_far;
       bound = omega (arith, len, more);
     }
 

@@ -8,6 +8,7 @@ returns-clause-longest c = stops_longest c.args.text.now c.scan-place.result.0 c
 
 pub returns-clause-whole : goal.returns-clause-whole
 returns-clause-whole c = (
-  λ final. list_from_end (take c.scan-place.result.1 c.args.text.now) c.scan-place.result.0 c.scan-place.ensures.reached (sym c.is_final.ensures ∙ final),
+  λ final. list_from_end (take c.scan-place.result.1 c.args.text.now) c.scan-place.result.0 c.scan-place.ensures.reached
+      (sym c.is_final.ensures ∙ final),
   λ is. c.is_final.ensures ∙ stops_whole c.args.text.now c.scan-place.result.0 c.scan-place.result.1 c.scan-place.ensures is,
 )

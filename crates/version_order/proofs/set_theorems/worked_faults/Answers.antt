@@ -15,15 +15,27 @@ some_text b text e = cc
 
 pub returns-clause-ends_early : goal.returns-clause-ends_early
 unfolding step
-returns-clause-ends_early c = (some_text _ _, bad (codes "1,") place.Item 2 (record { within = omega arith; reached = refl; stuck = λ lt. absurd (omega arith) }) (inr refl))
+returns-clause-ends_early c = (
+  some_text _ _,
+  bad (codes "1,") place.Item 2 (record { within = omega arith; reached = refl; stuck = λ lt. absurd (omega arith) })
+      (inr refl),
+)
 
 pub returns-clause-exact_range : goal.returns-clause-exact_range
 unfolding step
-returns-clause-exact_range c = (some_text _ _, bad (codes "=1:2") place.InExact 2 (record { within = omega arith; reached = refl; stuck = λ lt. refl }) (inl (omega arith)))
+returns-clause-exact_range c = (
+  some_text _ _,
+  bad (codes "=1:2") place.InExact 2 (record { within = omega arith; reached = refl; stuck = λ lt. refl })
+      (inl (omega arith)),
+)
 
 pub returns-clause-blank : goal.returns-clause-blank
 unfolding step
-returns-clause-blank c = (some_text _ _, bad (codes "1, 2") place.Item 2 (record { within = omega arith; reached = refl; stuck = λ lt. refl }) (inl (omega arith)))
+returns-clause-blank c = (
+  some_text _ _,
+  bad (codes "1, 2") place.Item 2 (record { within = omega arith; reached = refl; stuck = λ lt. refl })
+      (inl (omega arith)),
+)
 
 pub returns-clause-empty_range : goal.returns-clause-empty_range
 unfolding first_empty is_empty_range version_cmp pieces release pre_release staged stage_of rank_of word_of number_of is_same

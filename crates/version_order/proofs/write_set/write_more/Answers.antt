@@ -6,7 +6,8 @@ use Rattle.version_order.proofs.write_set.write_more.Goals as goal
 pub returns-in_err-write_item-clause-kept : goal.returns-in_err-write_item-clause-kept
 returns-in_err-write_item-clause-kept c =
     let sofar = spell_more (take c.loop-item.item-index c.args.items.now) in
-    let one = c.in_ok-write_byte.ensures ∙ ap (λ (l : List ℕ). l ++ 44 ∷ []) c.loop-item.invariant ∙ append_assoc c.args.out.now.items sofar (44 ∷ []) in
+    let one = c.in_ok-write_byte.ensures ∙ ap (λ (l : List ℕ). l ++ 44 ∷ []) c.loop-item.invariant
+    ∙ append_assoc c.args.out.now.items sofar (44 ∷ []) in
     kept_on_err _ _ _ (front_more _ _ _ _ one c.in_err-write_item.ensures.kept)
 
 pub loop-item-preserved : goal.loop-item-preserved

@@ -6,4 +6,5 @@ use Rattle.activity_order.proofs.order.Order.var_at.Goals as goal
 pub returns : goal.returns
 returns c =
     let f = c.self.inside in
-    heap-at c.args.self.now f.heap.items f.places.items f.waiting _ _ _ _ _ _ c.self.view_is c.self.invariant (subst (λ (o : OrderValue). c.args.place < o.vars) (sym c.self.view_is) c.requires) c.index.ensures
+    heap-at c.args.self.now f.heap.items f.places.items f.waiting _ _ _ _ _ _ c.self.view_is c.self.invariant
+    (subst (λ (o : OrderValue). c.args.place < o.vars) (sym c.self.view_is) c.requires) c.index.ensures

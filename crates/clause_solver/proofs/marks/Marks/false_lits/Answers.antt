@@ -9,10 +9,12 @@ use Rattle.clause_solver.proofs.marks.Marks.false_lits.Goals.{in-Some+in_ok-push
 pub loop-var-init : goal.loop-var-init
 loop-var-init c =
     let xs = c.listed-var-items.result.now in
-    subst (AreFalsified (mark_at c.args.self.now) c.args.watch.now.placed xs 0) (sym c.new-lits.ensures.items) (falsified-start c.args.self.now c.args.watch.now.placed xs)
+    subst (AreFalsified (mark_at c.args.self.now) c.args.watch.now.placed xs 0) (sym c.new-lits.ensures.items)
+    (falsified-start c.args.self.now c.args.watch.now.placed xs)
 
 pub false_lit-requires-clause-below : goal.false_lit-requires-clause-below
-false_lit-requires-clause-below c = c.listed-var-items.ensures.below c.loop-var.var-index _ (slice_get-get_or c.listed-var-items.result.now c.loop-var.var-index _ (omega arith))
+false_lit-requires-clause-below c = c.listed-var-items.ensures.below c.loop-var.var-index _
+    (slice_get-get_or c.listed-var-items.result.now c.loop-var.var-index _ (omega arith))
 
 pub loop-var-preserved : goal.loop-var-preserved
 loop-var-preserved c =
@@ -22,11 +24,14 @@ loop-var-preserved c =
     let i = c.loop-var.var-index in
     let ls = c.loop-var.lits.items in
     elim c.match-false_lit.branch [
-      | in-Some+in_ok-push w ↦ falsified-more m ps xs i 0 ls (omega arith) c.loop-var.invariant w.in-Some.lit _ w.in-Some.ensures (ap (λ v. v.items) w.lits-is ∙ w.in_ok-push.ensures.items)
+      | in-Some+in_ok-push w ↦ falsified-more m ps xs i 0 ls (omega arith) c.loop-var.invariant w.in-Some.lit _ w.in-Some.ensures
+          (ap (λ v. v.items) w.lits-is ∙ w.in_ok-push.ensures.items)
       | in_default w ↦
           subst (AreFalsified (mark_at m) ps xs (i + 1)) (sym (ap (λ v. v.items) w.lits-is))
-          (falsified-passed m ps xs i 0 ls (omega arith) c.loop-var.invariant (subst (IsFalseLit (mark_at m) ps (get_or xs i 0)) w.in_default.is c.false_lit.ensures))
+          (falsified-passed m ps xs i 0 ls (omega arith) c.loop-var.invariant
+          (subst (IsFalseLit (mark_at m) ps (get_or xs i 0)) w.in_default.is c.false_lit.ensures))
     ]
 
 pub returns : goal.returns
-returns c = falsified-all c.args.self.now c.args.watch.now.placed c.listed-var-items.result.now c.loop-var.var-index c.loop-var.lits.items (consistent-from c.args.watch.now.placed c.requires.right.orderly.apart) c.listed-var-items.ensures (omega arith) c.loop-var.invariant
+returns c = falsified-all c.args.self.now c.args.watch.now.placed c.listed-var-items.result.now c.loop-var.var-index c.loop-var.lits.items
+    (consistent-from c.args.watch.now.placed c.requires.right.orderly.apart) c.listed-var-items.ensures (omega arith) c.loop-var.invariant

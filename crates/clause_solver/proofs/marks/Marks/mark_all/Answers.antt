@@ -13,10 +13,14 @@ loop-lit-init c = record { in_range = c.requires; marked = AreMarked-none c.args
 pub loop-lit-preserved : goal.loop-lit-preserved
 loop-lit-preserved c =
     let i = c.loop-lit.lit-index in let ls = c.args.lits.now in record {
-      in_range = subst (λ n. AllBelow n (drop (i + 1) ls)) (sym c.mark.ensures.same) (AllBelow-next _ i ls some_lit (omega arith) c.loop-lit.invariant.in_range);
-      marked = subst (λ ms. AreMarked c.args.self.now ms (take (i + 1) ls)) (sym c.in_ok-mark.ensures.ok) (AreMarked-more ls i _ c.loop-lit.self (omega arith) (AllBelow-head _ i ls _ (omega arith) c.loop-lit.invariant.in_range) c.args.self.now c.loop-lit.invariant.marked);
+      in_range = subst (λ n. AllBelow n (drop (i + 1) ls)) (sym c.mark.ensures.same)
+          (AllBelow-next _ i ls some_lit (omega arith) c.loop-lit.invariant.in_range);
+      marked = subst (λ ms. AreMarked c.args.self.now ms (take (i + 1) ls)) (sym c.in_ok-mark.ensures.ok)
+          (AreMarked-more ls i _ c.loop-lit.self (omega arith) (AllBelow-head _ i ls _ (omega arith) c.loop-lit.invariant.in_range)
+          c.args.self.now c.loop-lit.invariant.marked);
       same = c.mark.ensures.same ∙ c.loop-lit.invariant.same;
     }
 
 pub returns-clause-marked : goal.returns-clause-marked
-returns-clause-marked c = AreMarked-all c.args.self.now c.loop-lit.self c.args.lits.now c.loop-lit.lit-index (omega arith) c.loop-lit.invariant.marked
+returns-clause-marked c = AreMarked-all c.args.self.now c.loop-lit.self c.args.lits.now c.loop-lit.lit-index (omega arith)
+    c.loop-lit.invariant.marked

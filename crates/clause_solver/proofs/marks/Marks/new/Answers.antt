@@ -6,4 +6,5 @@ use Rattle.clause_solver.proofs.marks.Marks.new.Goals as goal
 pub invariant_of-result : goal.invariant_of-result
 invariant_of-result c =
     let e = c.in_ok-table.ensures.items_if_clones_equal (λ y h. h) in
-    subst (λ t. AreListed t c.new-listed.result.items) (sym e) (subst (AreListed (replicate c.args.vars false)) (sym c.new-listed.ensures.items) (listed-none c.args.vars))
+    subst (λ t. AreListed t c.new-listed.result.items) (sym e)
+    (subst (AreListed (replicate c.args.vars false)) (sym c.new-listed.ensures.items) (listed-none c.args.vars))

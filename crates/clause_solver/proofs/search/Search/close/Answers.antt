@@ -14,14 +14,17 @@ add-requires-clause-settled c = inl (omega (arith, c.go_back.ensures.depth))
 pub returns-in_ok-push-in-None : goal.returns-in_ok-push-in-None
 returns-in_ok-push-in-None c =
     let s = c.args.self.now in
-    let d = subst (λ a. IsDerived s.watch.clauses c.in_ok-chain.chain (stated a)) c.in-None.is (c.requires.refutes c.in_ok-chain.chain c.in_ok-chain.ensures.chain) in
+    let d = subst (λ a. IsDerived s.watch.clauses c.in_ok-chain.chain (stated a)) c.in-None.is
+    (c.requires.refutes c.in_ok-chain.chain c.in_ok-chain.ensures.chain) in
     subst (IsClosed s _) (sym c.in-None.is)
-    (closed-all s _ c.in_ok-chain.chain c.requires.search c.requires.open_log d refl refl c.in_ok-push-in-None.ensures.ok refl refl refl refl refl c.in_ok-chain.ensures.same c.in_ok-chain.ensures.unmarked)
+    (closed-all s _ c.in_ok-chain.chain c.requires.search c.requires.open_log d refl refl c.in_ok-push-in-None.ensures.ok refl refl refl
+    refl refl c.in_ok-chain.ensures.same c.in_ok-chain.ensures.unmarked)
 
 pub returns-in_ok-push-in-Some-2 : goal.returns-in_ok-push-in-Some-2
 returns-in_ok-push-in-Some-2 c =
     let s = c.args.self.now in
-    let d = subst (λ a. IsDerived s.watch.clauses c.in_ok-chain.chain (stated a)) c.in-Some.is (c.requires.refutes c.in_ok-chain.chain c.in_ok-chain.ensures.chain) in
+    let d = subst (λ a. IsDerived s.watch.clauses c.in_ok-chain.chain (stated a)) c.in-Some.is
+    (c.requires.refutes c.in_ok-chain.chain c.in_ok-chain.ensures.chain) in
     let o = subst (IsInOrder (value_of false s)) c.in-Some.is c.requires.in_order in
     let a = ap (λ (w : WatchValue). w.clauses) c.go_back.ensures.kept in
     let b = ap (λ (w : WatchValue). w.clauses) c.in_ok-add-in-Some.ensures.ok in
@@ -30,4 +33,5 @@ returns-in_ok-push-in-Some-2 c =
     (c.next_id-id.ensures ∙ ap (λ cs. length cs + 1) a) d
     (b ∙ ap (λ cs. cs ++ c.in_ok-clause-in-Some.clause ∷ []) a ∙ ap (λ k. s.watch.clauses ++ k ∷ []) c.in_ok-clause-in-Some.ensures)
     (ap (λ (w : WatchValue). w.vars) c.in_ok-add-in-Some.ensures.ok ∙ ap (λ (w : WatchValue). w.vars) c.go_back.ensures.kept)
-    c.in_ok-push-in-Some.ensures.ok refl refl c.in_ok-push-in-Some-2.ensures.items refl refl c.in_ok-chain.ensures.same c.in_ok-chain.ensures.unmarked)
+    c.in_ok-push-in-Some.ensures.ok refl refl c.in_ok-push-in-Some-2.ensures.items refl refl c.in_ok-chain.ensures.same
+    c.in_ok-chain.ensures.unmarked)

@@ -8,4 +8,5 @@ pub loop-path-init : goal.loop-path-init
 unfolding names_in
 loop-path-init c =
     rw (← c.self.view_is, c.into_iter-path-iterator.ensures.into_iter_gives, c.keys-path-items.ensures.rest, c.new-names.ensures)
-    (sym (ap (λ ps. with_names [] (filter_map (name_below c.args.folder.now) ps)) (keys_are c.self.inside.entries c.keys-path-items.ensures.ordered)))
+    (sym (ap (λ ps. with_names [] (filter_map (name_below c.args.folder.now) ps))
+    (keys_are c.self.inside.entries c.keys-path-items.ensures.ordered)))

@@ -4,7 +4,8 @@ use Rattle.reachability.proofs.table.PathTable.new.Goals as goal
 
 pub loop-place-preserved : goal.loop-place-preserved
 loop-place-preserved c =
-    one_more_row _ _ _ _ c.loop-place.invariant c.loop-place-test.true _ (sym c.in_ok-heads.ensures.arcs.each) (rw c.as_slice.ensures.value at c.in_ok-search.ensures)
+    one_more_row _ _ _ _ c.loop-place.invariant c.loop-place-test.true _ (sym c.in_ok-heads.ensures.arcs.each)
+    (rw c.as_slice.ensures.value at c.in_ok-search.ensures)
 
 pub returns : goal.returns
 returns c =

@@ -5,4 +5,5 @@ use Rattle.virtuals.proofs.PairLaws.{some_kept}
 use Rattle.virtuals.proofs.providers.Providers.is_virtual.Goals as goal
 
 pub returns : goal.returns
-returns c = ap not c.is_empty.ensures ∙ rw c.possible-run.ensures (some_kept (λ (pair : Text × Text). bytes_eq pair.0 c.args.name.now) c.args.self.now)
+returns c = ap not c.is_empty.ensures ∙ rw c.possible-run.ensures
+    (some_kept (λ (pair : Text × Text). bytes_eq pair.0 c.args.name.now) c.args.self.now)
