@@ -12,7 +12,7 @@ use Rattle.run_output.specs.declared.answer.Answer.{Answer}
 
 pub half_put : (path : List ℕ) (problem : Problem) (version text : List ℕ) (before after : Option Files) (said : Option (List ℕ))
     (stop : WriteStop)
-    → IsBest problem.wanted.versions problem.declared version → text ≡ lock_of problem.wanted version
+    → IsBest problem.root.top.versions problem.declared version → text ≡ lock_of problem.root version
     → Puts path text before after (Err stop) → Writes path (tasks.Solve problem) before after said said (Err stop)
 half_put path problem version text before after said (Put at) best is_text (is_at, held) =
     (is_at, record { version = version; best = best; lock = rw (← is_text) held; out = refl })

@@ -1,5 +1,5 @@
+pub mod Alone
 pub mod BestOf
 pub mod Changes
-pub mod Floats
 pub mod Left
 pub mod Places

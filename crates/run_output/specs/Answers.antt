@@ -1,14 +1,16 @@
 -- What a run leaves of its answer: the lock file and what was said.
-use Rattle.std.specs.Prelude.{◌≡◌, ◌⊎◌, ℕ, List, [], ◌∷◌, ◌++◌, replicate, slice_set, Option, Some, Result, Ok, Err, codes}
+use Rattle.std.specs.Prelude.{◌≡◌, ◌⊎◌, ℕ, List, [], ◌∷◌, ◌++◌, replicate, slice_set, Option, Some, None, Result, Ok, Err, codes}
 use Rattle.outside_desk.specs.Files.{Files, with_file, and_said, MayHold}
+use Rattle.spec_grammar.specs.declared.part.Spec.{Spec}
+use Rattle.graph_core.specs.Graphs.{Content}
+use Rattle.graph_core.specs.declared.node.Compiler.{Compiler}
+use Rattle.graph_core.specs.declared.node.Node.{Node}
+use Rattle.graph_core.specs.declared.node.Origin.TheVariants.{Built}
+use Rattle.lock_writer.specs.Texts.{lock_text}
 use Rattle.report_texts.specs.Lines.{line}
 use Rattle.run_output.specs.Weights.{weight_of, IsBest, HasNone}
-use Rattle.run_output.specs.Lock.{node_hash, lock_text}
 use Rattle.run_output.specs.Report.{report_text, vector_line}
-use Rattle.run_output.specs.declared.node.BuiltNode.{BuiltNode}
-use Rattle.run_output.specs.declared.node.Compiler.{Compiler}
-use Rattle.run_output.specs.declared.node.Root.{Root}
-use Rattle.run_problem.specs.declared.wanted.Wanted.{Wanted}
+use Rattle.run_problem.specs.Problems.{name_of}
 use Rattle.run_problem.specs.declared.package.Problem.{Problem}
 use Rattle.run_task.specs.declared.task.Task.{Task}
 use Rattle.run_task.specs.declared.task.Task.TheVariants as tasks
@@ -24,7 +26,7 @@ abbrev pub standard_compiler : Compiler
 standard_compiler = record { name = codes "gcc"; version = codes "12.3.0" }
 
 -- the node that a version of a package becomes
-unfoldable pub node_of : List ℕ → List ℕ → BuiltNode
+unfoldable pub node_of : List ℕ → List ℕ → Node
 node_of name version = record {
   name = name;
   version = version;
@@ -32,19 +34,21 @@ node_of name version = record {
   compiler = Some standard_compiler;
   os = codes "ubuntu22.04";
   target = codes "x86_64";
+  prefix = None;
+  origin = Built;
 }
 
--- the root: the node, and the canonical text of the spec that asked for it
-abbrev pub root_of : List ℕ → BuiltNode → Root
-root_of text node = record { hash = node_hash node; spec = text }
+-- the graph of one node
+abbrev pub graph_of : Node → Content
+graph_of node = record { nodes = node ∷ []; edges = []; providers = [] }
 
--- the lock file of one node
-abbrev pub lock_by : List ℕ → BuiltNode → List ℕ
-lock_by text node = lock_text (node ∷ []) (root_of text node ∷ [])
+-- the node that a version of the root becomes
+abbrev pub root_node : Spec → List ℕ → Node
+root_node root version = node_of (name_of root) version
 
--- the lock file of a version
-abbrev pub lock_of : Wanted → List ℕ → List ℕ
-lock_of wanted version = lock_by wanted.text (node_of wanted.name version)
+-- the lock file of a version, with nothing installed
+abbrev pub lock_of : Spec → List ℕ → List ℕ
+lock_of root version = lock_text (graph_of (root_node root version)) [] (root ∷ [])
 
 -- its cost vector: of the 31 numbers the second is the version weight of the roots, and the sixteenth the number of builds
 abbrev pub cost_of : ℕ → List ℕ
@@ -52,7 +56,7 @@ cost_of weight = slice_set (slice_set (replicate 31 0) 1 weight) 15 1
 
 -- what is said of it
 abbrev pub report_of : Problem → List ℕ → List ℕ
-report_of problem version = report_text (node_of problem.wanted.name version ∷ []) (cost_of (weight_of problem.declared version))
+report_of problem version = report_text (root_node problem.root version ∷ []) (cost_of (weight_of problem.declared version))
 
 -- ---- answers, where the lock file is to stand at `path`
 
@@ -60,8 +64,8 @@ report_of problem version = report_text (node_of problem.wanted.name version ∷
 pub record IsSolved (path : List ℕ) (problem : Problem) (before after : Option Files)
     (out_before out_after : Option (List ℕ)) : Type 0 where
   pub version : List ℕ
-  pub best : IsBest problem.wanted.versions problem.declared version
-  pub lock : after ≡ with_file before path (lock_of problem.wanted version)
+  pub best : IsBest problem.root.top.versions problem.declared version
+  pub lock : after ≡ with_file before path (lock_of problem.root version)
   pub out : out_after ≡ and_said out_before (report_of problem version)
 
 unfoldable pub unsatisfiable_line : List ℕ
@@ -69,7 +73,7 @@ unsatisfiable_line = line (codes "unsatisfiable" ∷ [])
 
 -- there is none, since no declared version is wanted
 pub record IsUnsolved (problem : Problem) (before after : Option Files) (out_before out_after : Option (List ℕ)) : Type 0 where
-  pub none : HasNone problem.wanted.versions problem.declared
+  pub none : HasNone problem.root.top.versions problem.declared
   pub files : after ≡ before
   pub out : out_after ≡ and_said out_before unsatisfiable_line
 
@@ -77,26 +81,26 @@ pub record IsUnsolved (problem : Problem) (before after : Option Files) (out_bef
 pub record IsHalfPut (path : List ℕ) (problem : Problem) (before after : Option Files)
     (out_before out_after : Option (List ℕ)) : Type 0 where
   pub version : List ℕ
-  pub best : IsBest problem.wanted.versions problem.declared version
-  pub lock : MayHold before after path (lock_of problem.wanted version)
+  pub best : IsBest problem.root.top.versions problem.declared version
+  pub lock : MayHold before after path (lock_of problem.root version)
   pub out : out_after ≡ out_before
 
 -- the lock file is whole
 pub record IsLocked (path : List ℕ) (problem : Problem) (before after : Option Files) : Type 0 where
   pub version : List ℕ
-  pub best : IsBest problem.wanted.versions problem.declared version
-  pub lock : after ≡ with_file before path (lock_of problem.wanted version)
+  pub best : IsBest problem.root.top.versions problem.declared version
+  pub lock : after ≡ with_file before path (lock_of problem.root version)
 
 -- the sink failed: the lock file is whole, or no declared version is wanted and no file changed
 abbrev pub IsUnsaid : List ℕ → Problem → Option Files → Option Files → Type 0
 IsUnsaid path problem before after = IsLocked path problem before after
-    ⊎ (HasNone problem.wanted.versions problem.declared × (after ≡ before))
+    ⊎ (HasNone problem.root.top.versions problem.declared × (after ≡ before))
 
 -- the lock file is as it was or holds a front of its text, the whole of it among them
 pub record HoldsFront (path : List ℕ) (problem : Problem) (before after : Option Files) : Type 0 where
   pub version : List ℕ
-  pub best : IsBest problem.wanted.versions problem.declared version
-  pub held : MayHold before after path (lock_of problem.wanted version)
+  pub best : IsBest problem.root.top.versions problem.declared version
+  pub held : MayHold before after path (lock_of problem.root version)
 
 -- what a put of the lock file leaves
 abbrev pub Puts : List ℕ → List ℕ → Option Files → Option Files → Result (Unit {0}) WriteStop → Type 0

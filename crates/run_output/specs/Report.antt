@@ -2,8 +2,10 @@
 use Rattle.std.specs.Prelude.{ℕ, List, [], ◌∷◌, ◌++◌, Option, Some, None, codes, decimal}
 use Rattle.std.specs.List.{flat_map}
 use Rattle.spec_grammar.specs.Canonical.{variants_text}
-use Rattle.run_output.specs.declared.node.Compiler.{Compiler}
-use Rattle.run_output.specs.declared.node.BuiltNode.{BuiltNode}
+use Rattle.graph_core.specs.declared.node.Compiler.{Compiler}
+use Rattle.graph_core.specs.declared.node.Node.{Node}
+use Rattle.graph_core.specs.declared.node.Origin.{Origin}
+use Rattle.graph_core.specs.declared.node.Origin.TheVariants.{Built, External, Installed}
 
 -- the compiler, after a space
 unfoldable pub compiler_text : Option Compiler → List ℕ
@@ -11,15 +13,21 @@ compiler_text None = []
 compiler_text (Some compiler) = codes " %" ++ (compiler.name ++ (codes "@=" ++ compiler.version))
 
 -- a node's name and version
-unfoldable pub label_text : BuiltNode → List ℕ
+unfoldable pub label_text : Node → List ℕ
 label_text node = node.name ++ (codes "@=" ++ node.version)
 
--- its OS and target, and that it is to be built
-unfoldable pub machine_text : BuiltNode → List ℕ
-machine_text node = codes " os=" ++ (node.os ++ (codes " target=" ++ (node.target ++ codes " built\n")))
+-- where a node comes from, after a space: an external has the place of its entry, an installed node its hash
+unfoldable pub origin_text : Origin → List ℕ
+origin_text Built = codes " built"
+origin_text (External entry) = codes " external" ++ 32 ∷ decimal entry
+origin_text (Installed hash) = codes " installed " ++ hash
 
--- a node to build
-unfoldable pub node_line : BuiltNode → List ℕ
+-- its OS and target, and where it comes from
+unfoldable pub machine_text : Node → List ℕ
+machine_text node = codes " os=" ++ (node.os ++ (codes " target=" ++ (node.target ++ (origin_text node.origin ++ 10 ∷ []))))
+
+-- a node
+unfoldable pub node_line : Node → List ℕ
 node_line node = label_text node ++ (variants_text node.variants ++ (compiler_text node.compiler ++ machine_text node))
 
 -- `vector` and the numbers
@@ -27,5 +35,5 @@ unfoldable pub vector_line : List ℕ → List ℕ
 vector_line numbers = codes "vector" ++ (flat_map (λ n. 32 ∷ decimal n) numbers ++ 10 ∷ [])
 
 -- a line for each node, and the vector's line
-abbrev pub report_text : List BuiltNode → List ℕ → List ℕ
+abbrev pub report_text : List Node → List ℕ → List ℕ
 report_text nodes numbers = flat_map node_line nodes ++ vector_line numbers

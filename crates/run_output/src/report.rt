@@ -1,9 +1,9 @@
 //! What is said of a graph.
 
 ghost use Rattle.std.specs.Prelude.{◌≡◌, ◌++◌, ◌∷◌, IfOk, OnOk, decimal};
-ghost use Rattle.run_output.specs.Report.{compiler_text, label_text, machine_text, node_line, vector_line, report_text};
+ghost use Rattle.run_output.specs.Report.{compiler_text, label_text, machine_text, node_line, origin_text, report_text, vector_line};
 
-use crate::node::{BuiltNode, Compiler};
+use graph_core::{Compiler, Node, Origin};
 use spec_grammar::write_variants;
 use std::alloc::{AllocError, Global};
 
@@ -25,7 +25,7 @@ fn write_compiler(compiler: &Option<Compiler>, out: &mut Vec<u8>) -> Result<(), 
 }
 
 #[tactic(auto, unfolding(crate::specs::Report::label_text))]
-fn write_label(node: &BuiltNode, out: &mut Vec<u8>) -> Result<(), AllocError>
+fn write_label(node: &Node, out: &mut Vec<u8>) -> Result<(), AllocError>
     ensures { OnOk result (out.new.items ≡ out.old.items ++ label_text node.now) }
 {
     out.extend_from_slice(node.name.as_str().as_bytes())?;
@@ -33,32 +33,50 @@ fn write_label(node: &BuiltNode, out: &mut Vec<u8>) -> Result<(), AllocError>
     out.extend_from_slice(node.version.text().as_bytes())
 }
 
+fn write_number(alloc: Global, number: u64, out: &mut Vec<u8>) -> Result<(), AllocError>
+    ensures { OnOk result (out.new.items ≡ out.old.items ++ 32 ∷ decimal number) }
+{
+    let text = format!(in alloc; " {number}")?;
+    out.extend_from_slice(text.as_bytes())
+}
+
+#[tactic(auto, unfolding(crate::specs::Report::origin_text))]
+fn write_origin(alloc: Global, origin: &Origin, out: &mut Vec<u8>) -> Result<(), AllocError>
+    ensures { OnOk result (out.new.items ≡ out.old.items ++ origin_text origin.now) }
+{
+    match origin {
+        Origin::Built => out.extend_from_slice(b" built"),
+        Origin::External(entry) => {
+            out.extend_from_slice(b" external")?;
+            write_number(alloc, *entry, out)
+        }
+        Origin::Installed(hash) => {
+            out.extend_from_slice(b" installed ")?;
+            out.extend_from_slice(hash.as_str().as_bytes())
+        }
+    }
+}
+
 #[tactic(auto, unfolding(crate::specs::Report::machine_text))]
-fn write_machine(node: &BuiltNode, out: &mut Vec<u8>) -> Result<(), AllocError>
+fn write_machine(alloc: Global, node: &Node, out: &mut Vec<u8>) -> Result<(), AllocError>
     ensures { OnOk result (out.new.items ≡ out.old.items ++ machine_text node.now) }
 {
     out.extend_from_slice(b" os=")?;
     out.extend_from_slice(node.os.as_str().as_bytes())?;
     out.extend_from_slice(b" target=")?;
     out.extend_from_slice(node.target.as_str().as_bytes())?;
-    out.extend_from_slice(b" built\n")
+    write_origin(alloc, &node.origin, out)?;
+    out.extend_from_slice(b"\n")
 }
 
 #[tactic(auto, unfolding(crate::specs::Report::node_line))]
-fn write_node(node: &BuiltNode, out: &mut Vec<u8>) -> Result<(), AllocError>
+fn write_node(alloc: Global, node: &Node, out: &mut Vec<u8>) -> Result<(), AllocError>
     ensures { OnOk result (out.new.items ≡ out.old.items ++ node_line node.now) }
 {
     write_label(node, out)?;
     write_variants(node.variants.as_slice(), out)?;
     write_compiler(&node.compiler, out)?;
-    write_machine(node, out)
-}
-
-fn write_number(alloc: Global, number: u64, out: &mut Vec<u8>) -> Result<(), AllocError>
-    ensures { OnOk result (out.new.items ≡ out.old.items ++ 32 ∷ decimal number) }
-{
-    let text = format!(in alloc; " {number}")?;
-    out.extend_from_slice(text.as_bytes())
+    write_machine(alloc, node, out)
 }
 
 #[tactic(auto, unfolding(crate::specs::Report::vector_line))]
@@ -77,16 +95,12 @@ pub(crate) fn write_vector(
 }
 
 /// A line for each node, and the line of the cost vector.
-pub fn report_text(
-    alloc: Global,
-    nodes: &[BuiltNode],
-    numbers: &[u64],
-) -> Result<Vec<u8>, AllocError>
+pub fn report_text(alloc: Global, nodes: &[Node], numbers: &[u64]) -> Result<Vec<u8>, AllocError>
     ensures { IfOk result (λ text. text.items ≡ report_text nodes.now numbers.now) }
 {
     let mut text = Vec::new(alloc);
     for node in nodes {
-        write_node(node, &mut text)?;
+        write_node(alloc, node, &mut text)?;
     }
     write_vector(alloc, numbers, &mut text)?;
     Ok(text)

@@ -7,7 +7,7 @@
 #![tactic(auto)]
 
 mod package;
-mod wanted;
+mod root;
 
 pub use package::{Problem, problem_in};
-pub use wanted::Wanted;
+pub use root::name_of;

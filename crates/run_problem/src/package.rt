@@ -1,4 +1,4 @@
-//! The problem of a package that is wanted.
+//! The problem of one package.
 
 ghost use Rattle.std.specs.Prelude.{◌≡◌, map, option_map, All, IfOk};
 ghost use Rattle.std.specs.List.{find, list_all};
@@ -10,21 +10,22 @@ ghost use Rattle.run_answers.specs.Stops.{Gives, EndsInReadFault, EndsInUsage};
 ghost use Rattle.recipe_files.specs.Sources.{source_of};
 ghost use Rattle.run_problem.specs.Problems.{recipe_named, source_named, directives_at, is_count, is_plain_row, is_plain, declared_by, problem_by, problem_in};
 
-use crate::wanted::{Wanted, wanted_of};
+use crate::root::{name_of, root_of};
 use conditions::{Recipe, VersionRow};
 use directive_count::count_directives;
-use plain_data::{Duplicate, List};
+use plain_data::{Duplicate, List, Word};
 use recipe_reader::RecipeFile;
 use run_answers::{NotBuilt, ReadStop, Refusal};
 use run_input::Input;
+use spec_grammar::Spec;
 use std::alloc::{AllocError, Global};
 use version_order::Version;
 
 /// What a run is to solve.
 #[derive(Debug, Drop)]
 pub struct Problem {
-    /// The package that is asked for.
-    pub wanted: Wanted,
+    /// The spec that asks for the package.
+    pub root: Spec,
     /// The versions that its recipe declares, in file order and each once.
     pub declared: List<Version>,
 }
@@ -100,27 +101,28 @@ fn declared_by(alloc: Global, recipe: &Recipe) -> Result<List<Version>, AllocErr
     Ok(versions)
 }
 
-/// The problem of a package that is wanted, over recipes and their files.
+/// The problem of a root, over recipes and their files.
 #[tactic(auto, unfolding(crate::specs::Problems::problem_by))]
 fn problem_by(
     alloc: Global,
     files: &[RecipeFile],
     recipes: &[Recipe],
-    wanted: Wanted,
+    root: Spec,
 ) -> Result<Problem, ReadStop>
-    ensures read { Gives result (Is (problem_by (map source_of files.now) recipes.now wanted)) }
-    ensures wanted { IfOk result (λ problem. problem.wanted ≡ wanted) }
+    ensures read { Gives result (Is (problem_by (map source_of files.now) recipes.now root)) }
+    ensures root { IfOk result (λ problem. problem.root ≡ root) }
     ensures no_usage { EndsInUsage result → ⊥ }
     ensures no_fault { EndsInReadFault result → ⊥ }
 {
-    let Some(recipe) = recipe_named(recipes, wanted.name.as_str()) else {
-        return Err(ReadStop::Refused(Refusal::UnknownRoot(wanted.name)));
+    let name = Word::new(alloc, name_of(&root))?;
+    let Some(recipe) = recipe_named(recipes, name.as_str()) else {
+        return Err(ReadStop::Refused(Refusal::UnknownRoot(name)));
     };
     if !is_plain(alloc, files, recipe)? {
-        return Err(ReadStop::Refused(Refusal::NotBuilt(NotBuilt::Recipe(wanted.name))));
+        return Err(ReadStop::Refused(Refusal::NotBuilt(NotBuilt::Recipe(name))));
     }
     let declared = declared_by(alloc, recipe)?;
-    Ok(Problem { wanted, declared })
+    Ok(Problem { root, declared })
 }
 
 /// The problem of what was read.
@@ -129,14 +131,15 @@ fn problem_by(
 ///
 /// `NotBuilt` where more than the versions of one package are asked for, or where its recipe has more than plain
 /// versions; `UnknownRoot` where it has none.
-#[tactic(auto, unfolding(crate::specs::Problems::problem_in), using(crate::proofs::Roots::named_roots))]
+#[tactic(auto, unfolding(crate::specs::Problems::problem_in))]
 pub fn problem_in(alloc: Global, input: &Input) -> Result<Problem, ReadStop>
     requires { All (λ spec. IsUtf8 (spec_text spec)) input.now.problem.roots }
     ensures read { Gives result (Is (problem_in input.now)) }
+    ensures text { IfOk result (λ problem. IsUtf8 (spec_text problem.root)) }
     ensures no_usage { EndsInUsage result → ⊥ }
     ensures no_fault { EndsInReadFault result → ⊥ }
 {
     let recipes = input.problem.recipes();
-    let wanted = wanted_of(alloc, input.problem.roots())?;
-    problem_by(alloc, input.sources.as_slice(), recipes, wanted)
+    let root = root_of(alloc, input.problem.roots())?;
+    problem_by(alloc, input.sources.as_slice(), recipes, root)
 }

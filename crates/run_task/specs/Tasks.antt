@@ -1,6 +1,8 @@
 -- What a run is to answer, or the refusal that is due first.
 use Rattle.std.specs.Prelude.{◌≡◌, ◌⊎◌, ℕ, List, Result, Ok, Err}
+use Rattle.std.specs.Str.{IsUtf8}
 use Rattle.outside_desk.specs.Files.{Files}
+use Rattle.spec_grammar.specs.Canonical.{spec_text}
 use Rattle.run_answers.specs.Stages.{Is, Then}
 use Rattle.run_answers.specs.declared.refusal.Refusal.{Refusal}
 use Rattle.run_answers.specs.declared.stop.ReadStop.{ReadStop}
@@ -36,6 +38,11 @@ IsOf works.Concretize (tasks.Solve problem) = Unit {0}
 IsOf works.Concretize (tasks.Report numbers) = ⊥
 IsOf works.Judge (tasks.Solve problem) = ⊥
 IsOf works.Judge (tasks.Report numbers) = Unit {0}
+
+-- the canonical text of a root that is to be written is UTF-8, as that of each spec which was read
+abbrev pub IsReady : Task → Type 0
+IsReady (tasks.Solve problem) = IsUtf8 (spec_text problem.root)
+IsReady (tasks.Report numbers) = Unit {0}
 
 -- ---- faults of devices
 

@@ -7,7 +7,7 @@ ghost use Rattle.spec_grammar.specs.Canonical.{spec_text};
 ghost use Rattle.spec_grammar.specs.declared.part.Spec.{Spec};
 ghost use Rattle.run_answers.specs.Stops.{Gives, EndsInReadFault, EndsInUsage};
 ghost use Rattle.run_input.specs.Roots.{RootsOf};
-ghost use Rattle.run_task.specs.Tasks.{TaskBy, Named, IsOf, FailsAtTask};
+ghost use Rattle.run_task.specs.Tasks.{TaskBy, Named, IsOf, IsReady, FailsAtTask};
 
 use outside_desk::Desk;
 use run_answers::ReadStop;
@@ -39,6 +39,7 @@ fn task_by<D: Desk>(
     ensures read { IfSome (D.files desk.old)
         (λ files. Gives result (TaskBy command.now.work files command.now.lock input.now)) }
     ensures work { IfOk result (λ task. IsOf command.now.work task) }
+    ensures ready { IfOk result (λ task. IsReady task) }
     ensures path { FailsAtTask command.now result }
     ensures no_usage { EndsInUsage result → ⊥ }
     ensures same { D.files desk.new ≡ D.files desk.old }
@@ -71,6 +72,7 @@ pub fn read_task<D: Desk>(
 ) -> Result<Task, ReadStop>
     ensures read { IfSome (D.files desk.old) (λ files. Gives result (Named files command.now)) }
     ensures work { IfOk result (λ task. IsOf command.now.work task) }
+    ensures ready { IfOk result (λ task. IsReady task) }
     ensures roots { IfOk result (λ task. (roots : List Spec)
         × RootsOf command.now.work command.now.spec (Ok roots)) }
     ensures path { FailsAtTask command.now result }
