@@ -1,5 +1,5 @@
 -- A file, written and read.
-use Rattle.std.proofs.Common.{◌≡◌, refl, sym, ap, subst, ◌∙◌, ℕ, ◌+◌, true, Option, Some, Ok, List, [], ◌∷◌, map, All, Contains, ◌⊎◌, inl, inr, ⊎_elim}
+use Rattle.std.proofs.Common.{◌≡◌, refl, sym, ap, subst, ◌∙◌, ℕ, ◌+◌, true, Ok, List, [], ◌∷◌, map, All, Contains, ◌⊎◌, inl, inr, ⊎_elim}
 use Rattle.std.specs.List.{list_any}
 use Rattle.std.specs.Cmp.Lexicographic.{bytes_decides}
 use Rattle.std.specs.Str.{bytes_eq}
@@ -30,6 +30,7 @@ use Rattle.json_readers.specs.Json.{IsJson}
 use Rattle.lockfile.specs.Locks.{IsLock, IsLockOf}
 use Rattle.lockfile.specs.declared.lock.Lock.{Lock}
 use Rattle.lock_again.specs.Formed.{IsFormed, IsFormedNode, locked, locked_file, locked_root}
+use Rattle.lock_again.proofs.Lists.{same_some}
 use Rattle.lock_again.proofs.NodeLaws.{node_again}
 use Rattle.lock_again.proofs.WrittenLaws.{entries_again, written}
 
@@ -47,7 +48,7 @@ nodes_again g records fit = items_mapped node_at (data_of_node g records) (locke
     let is = All-contains (λ (n : Node). IsFormedNode n (node_record g records n)) g.nodes node fit has in
     node_again (node_record g records node) node.origin is.form is.own)
 
-names_same : (g : Content) (records : List Record) (nodes : List Node)
+pub names_same : (g : Content) (records : List Record) (nodes : List Node)
     → ((node : Node) → Contains nodes node → (node_record g records node).name ≡ node.name)
     → names_of (map (locked g records) nodes) ≡ map name_of nodes
 names_same g records [] each = refl
@@ -106,9 +107,6 @@ file_again g records roots graph fit =
       roots_again
           g roots fit.hashes,
     ) refl
-
-same_some : {X : Type 0} (o : Option X) (x y : X) → o ≡ Some x → o ≡ Some y → x ≡ y
-same_some o x y a b = let both : Some x ≡ Some y = sym a ∙ b in cc
 
 same_ok : {X : Type 0} (r : Reading X) (x y : X) → r ≡ Ok x → r ≡ Ok y → x ≡ y
 same_ok r x y a b = let both : Ok x ≡ Ok y = sym a ∙ b in cc

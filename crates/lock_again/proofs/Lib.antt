@@ -1,6 +1,10 @@
+pub mod AgainLaws
 pub mod FileLaws
+pub mod Lists
 pub mod NodeLaws
 pub mod OrderLaws
 pub mod PartLaws
 pub mod SameLaws
+pub mod SoundLaws
 pub mod WrittenLaws
+pub mod WrittenNodes

@@ -8,7 +8,7 @@ use Rattle.std.specs.Prelude.{Contains}
 use Rattle.keyed_lists.specs.Keyed.{IsInOrder}
 use Rattle.keyed_lists.proofs.RiseLaws.{all_from, rises_none}
 use Rattle.reachability.proofs.CountLaws.{first_or_later, has_first, has_later}
-use Rattle.std.proofs.Common.{◌⊎◌, inl, inr, ⊎_elim}
+use Rattle.std.proofs.Common.{◌⊎◌, inl, inr, ⊎_elim, ◌↔◌}
 use Rattle.variant_values.specs.Texts.{byte_cmp, with_text}
 use Rattle.variant_values.proofs.Keys.{lacks_all}
 use Rattle.variant_values.proofs.Texts.{ties_are_equal, with_text_in_order}
@@ -94,3 +94,46 @@ still P ds all =
 -- what is written of them is the same
 pub same_members : (ds : List Dependency) → dependency_members (by_hash ds) ≡ dependency_members ds
 same_members ds = written hash_in dependency_data (by_hash ds) (in_order ds) ∙ sym (folded [] ds)
+
+-- ---- where no two have one hash, each stays
+
+in_placed : (d : Dependency) (es : List Dependency) → Contains (placed d es) d
+in_placed d [] = has_first d []
+in_placed d (e ∷ es) = go (byte_cmp d.0 e.0) (in_placed d es)
+  where
+    go : (r : Ordering) → Contains (placed d es) d → Contains (match_ordering r (d ∷ e ∷ es) (d ∷ es) (e ∷ placed d es)) d
+    go Less rest = has_first d (e ∷ es)
+    go Equal rest = has_first d es
+    go Greater rest = has_later e (placed d es) d rest
+
+still_placed : (d : Dependency) (es : List Dependency) (q : Dependency) → (q.0 ≡ d.0 → q ≡ d) → Contains es q → Contains (placed d es) q
+still_placed d [] q once has = absurd (lacks_all q has)
+still_placed d (e ∷ es) q once has = go (byte_cmp d.0 e.0) refl (λ later. still_placed d es q once later)
+  where
+    go : (r : Ordering) → byte_cmp d.0 e.0 ≡ r → (Contains es q → Contains (placed d es) q)
+        → Contains (match_ordering r (d ∷ e ∷ es) (d ∷ es) (e ∷ placed d es)) q
+    go Less is rest = has_later d (e ∷ es) q has
+    go Equal is rest = ⊎_elim
+        (λ same. subst (Contains (d ∷ es)) (sym (once (ap hash_in (sym same) ∙ sym (ties_are_equal d.0 e.0 is)))) (has_first d es))
+        (λ later. has_later d es q later)
+        (first_or_later e es q has)
+    go Greater is rest = ⊎_elim
+        (λ same. subst (Contains (e ∷ placed d es)) same (has_first e (placed d es)))
+        (λ later. has_later e (placed d es) q (rest later))
+        (first_or_later e es q has)
+
+in_folded : (es ds : List Dependency) (q : Dependency) → ((d : Dependency) → Contains ds d → q.0 ≡ d.0 → q ≡ d) → Contains es q
+    ⊎ Contains ds q → Contains (fold (λ sorted d. placed d sorted) es ds) q
+in_folded es [] q once has = ⊎_elim (λ old. old) (λ none. absurd (lacks_all q none)) has
+in_folded es (d ∷ ds) q once has = in_folded (placed d es) ds q (λ e there. once e (has_later d ds e there)) (⊎_elim
+    (λ old. inl (still_placed d es q (once d (has_first d ds)) old))
+    (λ new. ⊎_elim (λ same. inl (subst (Contains (placed d es)) same (in_placed d es))) (λ later. inr later) (first_or_later d ds q new))
+    has)
+
+-- the same dependencies, in another order
+pub same_dependencies : (ds : List Dependency) → ((a b : Dependency) → Contains ds a → Contains ds b → a.0 ≡ b.0 → a ≡ b) → (d : Dependency)
+    → Contains ds d ↔ Contains (by_hash ds) d
+same_dependencies ds once d = (
+  λ has. in_folded [] ds d (λ e there. once d e has there) (inr has),
+  λ has. ⊎_elim (λ none. absurd (lacks_all d none)) (λ there. there) (from_folded [] ds d has),
+)

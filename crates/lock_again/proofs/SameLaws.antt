@@ -11,7 +11,7 @@ use Rattle.lock_again.specs.Formed.{locked, locked_file}
 use Rattle.lockfile.specs.Locks.{IsLockOf, graph_node, graph_nodes}
 use Rattle.lockfile.specs.declared.lock.Lock.{Lock}
 
-same_nodes : (g : Content) (records : List Record) (nodes : List Node)
+pub same_nodes : (g : Content) (records : List Record) (nodes : List Node)
     → ((node : Node) → Contains nodes node → graph_node (locked g records node) ≡ node) → graph_nodes (map (locked g records) nodes) ≡ nodes
 same_nodes g records [] each = refl
 same_nodes g records (node ∷ nodes) each =

@@ -16,6 +16,7 @@ use Rattle.json_readers.specs.Lists.{items_from, twice_after}
 use Rattle.json_readers.specs.Maps.{entries_of}
 use Rattle.reuse_db.specs.Canonical.{values_of}
 use Rattle.graph_core.specs.Graphs.{Text}
+use Rattle.lockfile.specs.Faults.{twice_after as named_after}
 use Rattle.lock_again.specs.Again.{Has}
 
 above : (a b : Text) → byte_cmp a b ≡ Less → byte_cmp b a ≡ Greater
@@ -77,14 +78,24 @@ no_tie : (before : List Text) (k : Text) → ((b : Text) → Contains before b �
 no_tie [] k low = refl
 no_tie (b ∷ before) k low = rw (low b (has_first b before)) (no_tie before k (λ c has. low c (has_later b before c has)))
 
+-- what is below all keys is so beside the first of them
+low_more : (before : List Text) (k : Text) (ks : List Text) → ((b j : Text) → Contains before b → Contains (k ∷ ks) j → byte_cmp b j ≡ Less)
+    → IsStrictlySortedBy byte_cmp (k ∷ ks) → (b j : Text) → Contains (k ∷ before) b → Contains ks j → byte_cmp b j ≡ Less
+low_more before k ks low o b j old new = ⊎_elim
+    (λ same. subst (λ z. byte_cmp z j ≡ Less) same (rises_above byte_cmp k ks o j new))
+    (λ later. low b j later (has_later k ks j new))
+    (first_or_later k before b old)
+
 pub never_twice : (before ks : List Text) (i : ℕ) → ((b k : Text) → Contains before b → Contains ks k → byte_cmp b k ≡ Less)
     → IsStrictlySortedBy byte_cmp ks → twice_after byte_cmp before i ks ≡ None
 never_twice before [] i low o = refl
 never_twice before (k ∷ ks) i low o =
     rw (no_tie before k (λ b has. low b k has (has_first k ks)))
-    (never_twice (k ∷ before) ks (i + 1)
-    (λ b j old new. ⊎_elim
-    (λ same. subst (λ z. byte_cmp z j ≡ Less) same (rises_above byte_cmp k ks o j new))
-    (λ later. low b j later (has_later k ks j new))
-    (first_or_later k before b old))
-    (rises_rest byte_cmp k ks o))
+    (never_twice (k ∷ before) ks (i + 1) (low_more before k ks low o) (rises_rest byte_cmp k ks o))
+
+pub never_named_twice : (before names : List Text) → ((b k : Text) → Contains before b → Contains names k → byte_cmp b k ≡ Less)
+    → IsStrictlySortedBy byte_cmp names → named_after before names ≡ None
+never_named_twice before [] low o = refl
+never_named_twice before (k ∷ ks) low o =
+    rw (no_tie before k (λ b has. low b k has (has_first k ks)))
+    (never_named_twice (k ∷ before) ks (low_more before k ks low o) (rises_rest byte_cmp k ks o))

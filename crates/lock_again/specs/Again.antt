@@ -27,10 +27,14 @@ pub record IsVariant (variant : Text × List Text) : Type 0 where
   pub order : IsInByteOrder variant.1
   pub values : All (Has value_meaning) variant.1
 
+-- at least one of the kinds
+abbrev pub HasKind : Kinds → Type 0
+HasKind kinds = (kinds.build || kinds.link || kinds.run) ≡ true
+
 -- a hash with at least one kind
 pub record IsDependency (dependency : Text × Kinds) : Type 0 where
   pub hash : Has hash_meaning dependency.0
-  pub kind : (dependency.1.build || dependency.1.link || dependency.1.run) ≡ true
+  pub kind : HasKind dependency.1
 
 -- a record of its form, whose variants are in order
 pub record IsRecord (entry : Record) : Type 0 where

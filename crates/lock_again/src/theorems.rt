@@ -16,13 +16,15 @@ ghost use Rattle.reuse_db.specs.Canonical.{dependency_data, dependency_members, 
 ghost use Rattle.graph_core.specs.declared.node.Origin.{Origin};
 ghost use Rattle.reuse_db.specs.Canonical.{right_hash};
 ghost use Rattle.reuse_db.specs.declared.record.Record.{Record};
-ghost use Rattle.lock_writer.specs.Texts.{lock_data, node_data};
+ghost use Rattle.reuse_db.specs.Databases.{AreRecords};
+ghost use Rattle.lock_writer.specs.Texts.{CanBeWritten, lock_data, node_data};
 ghost use Rattle.lockfile.specs.Files.{file_at, node_at};
 ghost use Rattle.json_readers.specs.Json.{IsJson};
 ghost use Rattle.lock_again.specs.Formed.{IsFormed, locked, locked_file, locked_root};
 ghost use Rattle.lockfile.specs.Locks.{IsLock, IsLockOf, graph_node};
 ghost use Rattle.lockfile.specs.declared.lock.Lock.{Lock};
 ghost use Rattle.lock_again.specs.Again.{IsDependency, IsOwn, IsRecord, IsVariant, sorted};
+ghost use Rattle.lock_again.specs.Writable.{IsWritable, lock_of};
 
 /// What is written of variants and dependencies in their order is read as they.
 pub fn written_laws()
@@ -68,4 +70,14 @@ pub fn graph_laws()
     ensures roots { (g : Content) (records : List Record) (roots : List Spec) (lock : Lock)
         → IsLockOf (locked_file g records roots) lock
         → lock.roots ≡ map (locked_root g) roots }
+{}
+
+/// Where a writable graph can be written, each text of its value, as `write_lock` gives one, is the lock file of that graph with
+/// its roots. So it has no fault, and is read as no other (`lockfile::lock_laws`).
+pub fn again_laws()
+    ensures { (g : Content) (records : List Record) (roots : List Spec) → IsGraph g
+        → AreRecords records
+        → CanBeWritten g records roots → IsWritable g records
+        → (text : List ℕ) → IsJson text (lock_data g records roots)
+        → IsLock text (lock_of g roots) }
 {}
