@@ -1,18 +1,21 @@
 // Looking up in a problem.
-ghost use Rattle.std.specs.Prelude.{◌≡◌, IfOk};
+ghost use Rattle.std.specs.Prelude.{◌≡◌, IfOk, map};
 ghost use Rattle.std.specs.Option.{option_copied};
-ghost use Rattle.problem.specs.Nodes.{is_built};
+ghost use Rattle.problem.specs.Nodes.{is_built, covers};
 ghost use Rattle.problem.specs.Problems.{recipe_at, versions_at, variants_at, depends_at, conflicts_at, requirements_at, entry_of, is_buildable_in, same_compiler, applies, asked_by};
 
 use crate::Explored;
 use condition_rules::{Paths, all_hold, asked_node};
 use conditions::{Condition, ConflictRow, DependRow, Recipe, RequireRow, VariantRow, VersionRow};
-use graph_core::{Compiler, Node, Origin};
+use graph_core::{Compiler, Kinds, Node, Origin};
+use plain_data::{Duplicate, Word};
 use problem::Problem;
 use site_settings::PackageEntry;
 use std::alloc::{AllocError, Global};
+use variant_values::ValueSet;
 
-pub(crate) fn recipe_at<'a>(problem: &'a Problem, name: &str) -> Option<&'a Recipe>
+/// The recipe of a package.
+pub fn recipe_at<'a>(problem: &'a Problem, name: &str) -> Option<&'a Recipe>
     ensures { option_copied result ≡ recipe_at problem.now name.now }
 {
     let world = problem.world();
@@ -29,7 +32,8 @@ pub fn versions_at<'a>(problem: &'a Problem, name: &str) -> &'a [VersionRow]
     }
 }
 
-pub(crate) fn variants_at<'a>(problem: &'a Problem, name: &str) -> &'a [VariantRow]
+/// The definitions of variants of a package.
+pub fn variants_at<'a>(problem: &'a Problem, name: &str) -> &'a [VariantRow]
     ensures { result.now ≡ variants_at problem.now name.now }
 {
     match recipe_at(problem, name) {
@@ -81,7 +85,8 @@ pub fn entry_of<'a>(problem: &'a Problem, name: &str) -> Option<&'a PackageEntry
         .find(|entry| entry.name.as_str() == name)
 }
 
-pub(crate) fn is_buildable(problem: &Problem, name: &str) -> bool
+/// Whether the settings let a package be built.
+pub fn is_buildable(problem: &Problem, name: &str) -> bool
     ensures { result ≡ is_buildable_in (entry_of problem.now name.now) }
 {
     match entry_of(problem, name) {
@@ -105,7 +110,7 @@ pub fn is_built(node: &Node) -> bool
 }
 
 /// Whether a directive's condition holds at a node.
-pub(crate) fn applies(
+pub fn applies(
     alloc: Global,
     problem: &Problem,
     graph: &Explored,
@@ -119,11 +124,7 @@ pub(crate) fn applies(
 }
 
 /// The node that a `depends_on` asks for.
-pub(crate) fn asked_by<'a>(
-    problem: &Problem,
-    graph: &'a Explored,
-    row: &DependRow,
-) -> Option<&'a Node>
+pub fn asked_by<'a>(problem: &Problem, graph: &'a Explored, row: &DependRow) -> Option<&'a Node>
     ensures { option_copied result ≡ asked_by problem.now graph.now row.now }
 {
     let world = problem.world();
@@ -131,4 +132,22 @@ pub(crate) fn asked_by<'a>(
         Some(name) => asked_node(&world, graph.graph(), name.as_str()),
         None => None,
     }
+}
+
+/// Whether an edge with these kinds has all that are wanted.
+pub fn covers(kinds: Kinds, wanted: Kinds) -> bool
+    ensures { result ≡ covers kinds wanted }
+{
+    (!wanted.build || kinds.build) && (!wanted.link || kinds.link) && (!wanted.run || kinds.run)
+}
+
+/// The names of variants.
+pub fn names_of(alloc: Global, variants: &[(Word, ValueSet)]) -> Result<Vec<Word>, AllocError>
+    ensures { IfOk result (λ names. names.items ≡ map (λ v. v.0) variants.now) }
+{
+    let mut names = Vec::new(alloc);
+    for variant in variants {
+        names.push(variant.0.duplicate(alloc)?)?;
+    }
+    Ok(names)
 }

@@ -4,8 +4,8 @@ use Rattle.graph_core.specs.Graphs.{Text}
 use Rattle.graph_core.specs.declared.node.Kinds.{Kinds}
 use Rattle.condition_rules.specs.Words.{is_some_and}
 use Rattle.problem.specs.Problems.{record_at}
-use Rattle.rule_tests.proofs.Filters.{any-filter}
-use Rattle.rule_tests.proofs.kept.is_child.Goals as goal
+use Rattle.kept_tests.proofs.Filters.{any-filter}
+use Rattle.kept_tests.proofs.kept.is_child.Goals as goal
 
 pub returns : goal.returns
 returns c = rw c.as_slice.ensures at c.some_named.ensures

@@ -5,9 +5,9 @@ ghost use Rattle.std.specs.Str.{bytes_eq};
 ghost use Rattle.problem.specs.Problems.{same_compiler};
 ghost use Rattle.graph_rules.specs.Kept.{same_variants, same_attributes};
 
-use crate::lookup::same_compiler;
 use graph_core::{Compiler, Node};
 use plain_data::{List, Same, Word};
+use problem_lookups::same_compiler;
 use variant_values::ValueSet;
 
 fn same_variants(a: &List<(Word, ValueSet)>, b: &List<(Word, ValueSet)>) -> bool

@@ -6,12 +6,11 @@ ghost use Rattle.variant_values.specs.Texts.{with_texts};
 ghost use Rattle.condition_rules.specs.Words.{find_last};
 ghost use Rattle.graph_rules.specs.Kept.{completed, default_in, external_node, first_text};
 
-use crate::lookup::variants_at;
-use crate::variants::names_of;
 use conditions::VariantRow;
 use graph_core::{Node, Origin};
 use plain_data::{Duplicate, List, Word};
 use problem::Problem;
+use problem_lookups::{names_of, variants_at};
 use site_settings::ExternalEntry;
 use std::alloc::{AllocError, Global};
 use target_table::TargetEntry;

@@ -2,8 +2,8 @@ use Rattle.std.proofs.Common.{◌∙◌, ◌||◌}
 use Rattle.graph_core.specs.Graphs.{Text}
 use Rattle.graph_core.specs.declared.node.Kinds.{Kinds}
 use Rattle.graph_rules.specs.Kept.{keeps_child}
-use Rattle.rule_tests.proofs.Filters.{all-filter}
-use Rattle.rule_tests.proofs.kept.keeps_children.Goals as goal
+use Rattle.kept_tests.proofs.Filters.{all-filter}
+use Rattle.kept_tests.proofs.kept.keeps_children.Goals as goal
 
 pub returns : goal.returns
 returns c = c.keeps_each.ensures ∙ all-filter (λ (d : Text × Kinds). d.1.link || d.1.run)

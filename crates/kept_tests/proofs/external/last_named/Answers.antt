@@ -1,7 +1,7 @@
 use Rattle.std.proofs.Common.{ap, sym, ◌∙◌, cond, Some}
 use Rattle.std.specs.Str.{bytes_eq}
 use Rattle.condition_rules.proofs.Last.{find_last-more}
-use Rattle.rule_tests.proofs.external.last_named.Goals as goal
+use Rattle.kept_tests.proofs.external.last_named.Goals as goal
 
 pub loop-row-preserved : goal.loop-row-preserved
 loop-row-preserved c =
