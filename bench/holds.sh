@@ -1,7 +1,8 @@
 #!/usr/bin/env bash
 # Times a condition with three parts after `^` in a graph, by a proved program over the built crates: graphs of 256, 512 and 1,024 nodes with
-# 20 edges each, which are searched for each part. Each number is in microseconds, of one question; the last line gives the ratios of a
-# doubling. At 1,024 nodes a question is to take less than 5,000; it takes 9,600 (1,755 and 4,218 at the smaller ones).
+# 20 edges each, which are searched once for all parts. Each number is in microseconds, of one question; the last line gives the ratios of a
+# doubling. At 1,024 nodes a question is to take less than 5,000; it takes 2,900 where all processors are busy (520 and 1,250 at the smaller
+# ones), where a search for each part took 14,000.
 #
 #   bench/holds.sh
 #

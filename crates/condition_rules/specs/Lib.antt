@@ -3,3 +3,5 @@ pub mod Words
 pub mod Worlds
 pub mod Meets
 pub mod Holds
+-- what private ones say
+pub mod Below

@@ -2,10 +2,11 @@
 ghost use Rattle.std.specs.Prelude.{◌≡◌, ◌&&◌, IfOk, option_and_then};
 ghost use Rattle.std.specs.List.{list_all};
 ghost use Rattle.std.specs.Option.{option_copied};
-ghost use Rattle.graph_core.specs.Graphs.{node_of, provider_of};
+ghost use Rattle.graph_core.specs.Graphs.{Text, node_of, provider_of};
 ghost use Rattle.graph_core.specs.Paths.{reaches_in};
 ghost use Rattle.condition_rules.specs.Words.{is_some_and, find_last};
 ghost use Rattle.condition_rules.specs.Meets.{meets};
+ghost use Rattle.condition_rules.specs.Below.{suited, node_below};
 ghost use Rattle.condition_rules.specs.Holds.{asked_node, suits, holds_below, holds, all_hold, is_governed_by, governing};
 
 use crate::at_node::{meets, meets_rest, provides};
@@ -59,42 +60,52 @@ pub fn suits(world: &World, part: &Part, name: &str, node: &Node) -> bool
     }
 }
 
-fn is_below<P: Paths>(
-    alloc: Global,
-    world: &World,
-    graph: &P,
-    from: &str,
-    part: &Part,
-    name: &str,
-) -> Result<bool, AllocError>
-    ensures { IfOk result (λ answer. answer
-        ≡ is_some_and (asked_node world.now (P.graph_of graph.now) name.now)
-        (λ node. suits world.now part.now name.now node
-        && reaches_in (P.graph_of graph.now) from.now node.name)) }
+/// The node that a name asks for, where a part of this name holds there.
+fn suited<'a>(world: &World, graph: &'a Graph, part: &Part, name: &str) -> Option<&'a Node>
+    ensures { option_copied result ≡ suited world.now graph.now part.now name.now }
 {
-    match asked_node(world, graph.graph(), name) {
-        Some(node) => Ok(
-            suits(world, part, name, node) && graph.leads(alloc, from, node.name.as_str())?,
-        ),
-        None => Ok(false),
+    match asked_node(world, graph, name) {
+        Some(node) => {
+            if suits(world, part, name, node) {
+                Some(node)
+            } else {
+                None
+            }
+        }
+        None => None,
     }
 }
 
-/// Whether a part after `^` holds at a node.
-fn holds_below<P: Paths>(
-    alloc: Global,
-    world: &World,
-    graph: &P,
-    from: &str,
-    part: &Part,
-) -> Result<bool, AllocError>
-    ensures { IfOk result (λ answer. answer ≡ holds_below world.now (P.graph_of graph.now)
-        from.now part.now) }
+/// The node that a part after `^` asks for, where the part holds there.
+fn node_below<'a>(world: &World, graph: &'a Graph, part: &Part) -> Option<&'a Node>
+    ensures { option_copied result ≡ node_below world.now graph.now part.now }
 {
     match &part.name {
-        Some(name) => is_below(alloc, world, graph, from, part, name.as_str()),
-        None => Ok(false),
+        Some(name) => suited(world, graph, part, name.as_str()),
+        None => None,
     }
+}
+
+/// The names of the nodes that parts after `^` ask for, where each part holds at its own.
+fn names_below<'a>(
+    alloc: Global,
+    world: &World,
+    graph: &'a Graph,
+    parts: &[Part],
+) -> Result<Option<Vec<&'a str>>, AllocError>
+    ensures { IfOk result (λ names. (from : Text)
+        → list_all (holds_below world.now graph.now from) parts.now
+        ≡ is_some_and names
+        (λ names. list_all (λ name. reaches_in graph.now from name.now) names.items)) }
+{
+    let mut names = Vec::new(alloc);
+    for part in parts {
+        match node_below(world, graph, part) {
+            Some(node) => names.push(node.name.as_str())?,
+            None => return Ok(None),
+        }
+    }
+    Ok(Some(names))
 }
 
 fn all_below<P: Paths>(
@@ -107,12 +118,10 @@ fn all_below<P: Paths>(
     ensures { IfOk result (λ answer. answer
         ≡ list_all (holds_below world.now (P.graph_of graph.now) from.now) parts.now) }
 {
-    for part in parts {
-        if !holds_below(alloc, world, graph, from, part)? {
-            return Ok(false);
-        }
+    match names_below(alloc, world, graph.graph(), parts)? {
+        Some(names) => graph.leads_to_all(alloc, from, names.as_slice()),
+        None => Ok(false),
     }
-    Ok(true)
 }
 
 fn top_holds<P: Paths>(world: &World, part: &Part, graph: &P, name: &str) -> bool

@@ -12,6 +12,7 @@ mod at_node;
 mod in_graph;
 mod part;
 mod paths;
+mod search;
 mod theorems;
 mod world;
 

@@ -17,7 +17,7 @@ use conditions::VariantRow;
 use graph_core::{Compiler, Edge, Node};
 use plain_data::Word;
 use problem::Problem;
-use rule_tests::{Explored, same_compiler};
+use problem_lookups::{Explored, same_compiler};
 use spec_grammar::Spec;
 use std::alloc::{AllocError, Global};
 use variant_values::ValueSet;

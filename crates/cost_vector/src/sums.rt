@@ -7,7 +7,7 @@ use crate::terms::{Attribute, Place, Term, part_cost};
 use condition_rules::Paths;
 use graph_core::{Graph, Node};
 use problem::Problem;
-use rule_tests::Explored;
+use problem_lookups::Explored;
 use std::alloc::{AllocError, Global};
 
 fn sum_over(
@@ -31,122 +31,54 @@ fn sum_over(
     Ok(total)
 }
 
-fn part_sum(
-    alloc: Global,
+/// A graph, of which the nodes to build are summed over, or the others.
+#[derive(Drop)]
+struct Part<'a> {
     built: bool,
-    place: Place,
-    added: Term,
-    problem: &Problem,
-    graph: &Explored,
-) -> Result<u64, AllocError>
-    ensures { IfOk result (λ total. total ≡ part_sum built place added problem.now graph.now) }
-{
-    let nodes = graph.graph().nodes();
-    sum_over(alloc, built, place, added, problem, graph, nodes)
+    problem: &'a Problem,
+    graph: &'a Explored<'a>,
 }
 
-// The criteria over the nodes to build, or over the others.
-fn part_sums(
-    alloc: Global,
-    built: bool,
-    problem: &Problem,
-    graph: &Explored,
-) -> Result<[u64; 15], AllocError>
-    ensures { IfOk result (λ sums. sums ≡ part_sums built problem.now graph.now) }
+fn part_sum(alloc: Global, part: &Part, place: Place, added: Term) -> Result<u64, AllocError>
+    ensures { IfOk result (λ total. total ≡ part_sum part.now.built place added
+        part.now.problem.now part.now.graph.now) }
 {
+    let nodes = part.graph.graph().nodes();
+    sum_over(
+        alloc,
+        part.built,
+        place,
+        added,
+        part.problem,
+        part.graph,
+        nodes,
+    )
+}
+
+// The fifteen criteria.
+fn part_sums(alloc: Global, part: &Part) -> Result<[u64; 15], AllocError>
+    ensures { IfOk result (λ sums. sums ≡ part_sums part.now.built
+        part.now.problem.now part.now.graph.now) }
+{
+    let compiler = Term::Edges(Attribute::Compiler);
+    let os = Term::Edges(Attribute::Os);
+    let target = Term::Edges(Attribute::Target);
     Ok([
-        part_sum(
-            alloc,
-            built,
-            Place::Anywhere,
-            Term::Deprecated,
-            problem,
-            graph,
-        )?,
-        part_sum(alloc, built, Place::AtRoots, Term::Version, problem, graph)?,
-        part_sum(
-            alloc,
-            built,
-            Place::AtRoots,
-            Term::OtherValues,
-            problem,
-            graph,
-        )?,
-        part_sum(
-            alloc,
-            built,
-            Place::AtRoots,
-            Term::Providers,
-            problem,
-            graph,
-        )?,
-        part_sum(
-            alloc,
-            built,
-            Place::AtRoots,
-            Term::UnusedDefaults,
-            problem,
-            graph,
-        )?,
-        part_sum(
-            alloc,
-            built,
-            Place::OffRoots,
-            Term::OtherValues,
-            problem,
-            graph,
-        )?,
-        part_sum(
-            alloc,
-            built,
-            Place::OffRoots,
-            Term::Providers,
-            problem,
-            graph,
-        )?,
-        part_sum(
-            alloc,
-            built,
-            Place::Anywhere,
-            Term::Edges(Attribute::Compiler),
-            problem,
-            graph,
-        )?,
-        part_sum(
-            alloc,
-            built,
-            Place::Anywhere,
-            Term::Edges(Attribute::Os),
-            problem,
-            graph,
-        )?,
-        part_sum(alloc, built, Place::Anywhere, Term::Os, problem, graph)?,
-        part_sum(alloc, built, Place::OffRoots, Term::Version, problem, graph)?,
-        part_sum(
-            alloc,
-            built,
-            Place::OffRoots,
-            Term::UnusedDefaults,
-            problem,
-            graph,
-        )?,
-        part_sum(
-            alloc,
-            built,
-            Place::Anywhere,
-            Term::Compiler,
-            problem,
-            graph,
-        )?,
-        part_sum(
-            alloc,
-            built,
-            Place::Anywhere,
-            Term::Edges(Attribute::Target),
-            problem,
-            graph,
-        )?,
-        part_sum(alloc, built, Place::Anywhere, Term::Target, problem, graph)?,
+        part_sum(alloc, part, Place::Anywhere, Term::Deprecated)?,
+        part_sum(alloc, part, Place::AtRoots, Term::Version)?,
+        part_sum(alloc, part, Place::AtRoots, Term::OtherValues)?,
+        part_sum(alloc, part, Place::AtRoots, Term::Providers)?,
+        part_sum(alloc, part, Place::AtRoots, Term::UnusedDefaults)?,
+        part_sum(alloc, part, Place::OffRoots, Term::OtherValues)?,
+        part_sum(alloc, part, Place::OffRoots, Term::Providers)?,
+        part_sum(alloc, part, Place::Anywhere, compiler)?,
+        part_sum(alloc, part, Place::Anywhere, os)?,
+        part_sum(alloc, part, Place::Anywhere, Term::Os)?,
+        part_sum(alloc, part, Place::OffRoots, Term::Version)?,
+        part_sum(alloc, part, Place::OffRoots, Term::UnusedDefaults)?,
+        part_sum(alloc, part, Place::Anywhere, Term::Compiler)?,
+        part_sum(alloc, part, Place::Anywhere, target)?,
+        part_sum(alloc, part, Place::Anywhere, Term::Target)?,
     ])
 }
 
@@ -156,9 +88,19 @@ pub fn vector(alloc: Global, problem: &Problem, graph: &Graph) -> Result<[u64; 3
     ensures { IfOk result (λ numbers. numbers ≡ vector problem.now graph.now) }
 {
     let explored = Explored::new(alloc, graph)?;
-    let a = part_sums(alloc, true, problem, &explored)?;
-    let builds = part_sum(alloc, true, Place::Anywhere, Term::Node, problem, &explored)?;
-    let b = part_sums(alloc, false, problem, &explored)?;
+    let to_build = Part {
+        built: true,
+        problem,
+        graph: &explored,
+    };
+    let others = Part {
+        built: false,
+        problem,
+        graph: &explored,
+    };
+    let a = part_sums(alloc, &to_build)?;
+    let builds = part_sum(alloc, &to_build, Place::Anywhere, Term::Node)?;
+    let b = part_sums(alloc, &others)?;
     Ok([
         a[0], a[1], a[2], a[3], a[4], a[5], a[6], a[7], a[8], a[9], a[10], a[11], a[12], a[13],
         a[14], builds, b[0], b[1], b[2], b[3], b[4], b[5], b[6], b[7], b[8], b[9], b[10], b[11],

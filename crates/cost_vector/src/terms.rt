@@ -8,7 +8,7 @@ use crate::weights::{compiler_weight, is_deprecated, os_weight, target_weight, v
 use condition_rules::Paths;
 use graph_core::Node;
 use problem::Problem;
-use rule_tests::{Explored, is_built};
+use problem_lookups::{Explored, is_built};
 use std::alloc::{AllocError, Global};
 
 /// In what the ends of an edge may differ.

@@ -12,10 +12,8 @@ use conditions::{ConflictRow, DependRow, RequireRow};
 use graph_core::Node;
 use plain_data::Word;
 use problem::Problem;
-use rule_tests::{
-    Explored, conflicts_at, depends_at, is_built, keeps_conflict, keeps_constraint, keeps_edge,
-    keeps_requirement, requirements_at,
-};
+use problem_lookups::{Explored, conflicts_at, depends_at, is_built, requirements_at};
+use rule_tests::{keeps_conflict, keeps_constraint, keeps_edge, keeps_requirement};
 use std::alloc::{AllocError, Global};
 
 // ---- `depends_on`, with the rules Edge and Constraint

@@ -1,3 +1,2 @@
 -- inside
 pub mod Kinds
-pub mod Records

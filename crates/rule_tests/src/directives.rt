@@ -9,12 +9,11 @@ ghost use Rattle.condition_rules.specs.Holds.{asked_node, suits, holds};
 ghost use Rattle.problem.specs.Problems.{world_of, asked_by};
 ghost use Rattle.graph_rules.specs.Directives.{keeps_root, keeps_edge, keeps_constraint, keeps_conflict, keeps_requirement, has_choice};
 
-use crate::Explored;
-use crate::lookup::{applies, asked_by};
 use condition_rules::{Paths, asked_node, holds, suits};
 use conditions::{ConflictRow, DependRow, RequireRow};
 use graph_core::{Kinds, Node};
 use problem::Problem;
+use problem_lookups::{Explored, applies, asked_by, covers};
 use spec_grammar::Spec;
 use std::alloc::{AllocError, Global};
 
@@ -33,12 +32,6 @@ pub fn keeps_root(
         Some(name) => holds(alloc, &world, spec, graph, name.as_str()),
         None => Ok(false),
     }
-}
-
-pub(crate) fn covers(kinds: Kinds, wanted: Kinds) -> bool
-    ensures { result ≡ covers kinds wanted }
-{
-    (!wanted.build || kinds.build) && (!wanted.link || kinds.link) && (!wanted.run || kinds.run)
 }
 
 fn has_edge(graph: &Explored, node: &Node, child: &Node, kinds: Kinds) -> bool

@@ -8,13 +8,11 @@ ghost use Rattle.problem.specs.Problems.{asked_by};
 ghost use Rattle.graph_rules.specs.Built.{asks, asked_kinds, is_asked, keeps_extra_edge};
 ghost use Rattle.rule_tests.specs.Kinds.{joined};
 
-use crate::Explored;
-use crate::directives::covers;
-use crate::lookup::{applies, asked_by, depends_at};
 use condition_rules::Paths;
 use conditions::DependRow;
 use graph_core::{Edge, Kinds, Node};
 use problem::Problem;
+use problem_lookups::{Explored, applies, asked_by, covers, depends_at};
 use std::alloc::{AllocError, Global};
 
 fn is_asked_child(problem: &Problem, graph: &Explored, child: &str, row: &DependRow) -> bool

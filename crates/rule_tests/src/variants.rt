@@ -8,13 +8,12 @@ ghost use Rattle.conditions.specs.Right.{is_count_of};
 ghost use Rattle.problem.specs.Problems.{applies};
 ghost use Rattle.graph_rules.specs.Built.{governed, allows, is_allowed, has_governed, keeps_variant};
 
-use crate::Explored;
-use crate::lookup::{applies, variants_at};
 use condition_rules::governing;
 use conditions::VariantRow;
 use graph_core::Node;
 use plain_data::{Duplicate, Word};
 use problem::Problem;
+use problem_lookups::{Explored, applies, names_of, variants_at};
 use std::alloc::{AllocError, Global};
 use variant_values::{ValueSet, VariantKind};
 
@@ -49,19 +48,6 @@ fn governed(
     let rows = variants_at(problem, node.name.as_str());
     let names = governed_names(alloc, problem, graph, node, rows)?;
     Ok(ValueSet::from_words(names))
-}
-
-pub(crate) fn names_of(
-    alloc: Global,
-    variants: &[(Word, ValueSet)],
-) -> Result<Vec<Word>, AllocError>
-    ensures { IfOk result (λ names. names.items ≡ map (λ v. v.0) variants.now) }
-{
-    let mut names = Vec::new(alloc);
-    for variant in variants {
-        names.push(variant.0.duplicate(alloc)?)?;
-    }
-    Ok(names)
 }
 
 fn same_names(a: &[Word], b: &[Word]) -> bool

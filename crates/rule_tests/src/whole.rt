@@ -9,13 +9,12 @@ ghost use Rattle.virtuals.specs.Virtuals.{is_virtual};
 ghost use Rattle.problem.specs.Problems.{world_of, applies};
 ghost use Rattle.graph_rules.specs.Whole.{keeps_provider, keeps_used, keeps_no_cycle, keeps_reachable, uses, needs};
 
-use crate::Explored;
-use crate::lookup::{applies, depends_at, is_built};
 use condition_rules::{Paths, provides};
 use conditions::DependRow;
 use graph_core::Node;
 use plain_data::Word;
 use problem::Problem;
+use problem_lookups::{Explored, applies, depends_at, is_built};
 use spec_grammar::Spec;
 use std::alloc::{AllocError, Global};
 
