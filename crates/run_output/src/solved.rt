@@ -81,7 +81,6 @@ fn lock_of(alloc: Global, root: &Spec, graph: &Graph) -> Result<Vec<u8>, AllocEr
 }
 
 /// The lock file and the report of the graph of a version.
-#[tactic(auto, using(crate::proofs::Alone::can_be_written))]
 fn graph_texts(
     alloc: Global,
     problem: &Problem,

@@ -16,4 +16,4 @@ returns-in_ok-new-in-Err-Failed-clause-others g c =
     changes_part _ _ _ _ (c.in-Err-Failed.ensures.failed (ap Err c.in-Err-Failed.field-0-is))
 
 pub returns-in-Ok-clause-held : goal.returns-in-Ok-clause-held
-returns-in-Ok-clause-held g c = rw (← c.as_bytes.ensures.value) (held_whole _ _ _ _ c.in-Ok.ensures.ok)
+returns-in-Ok-clause-held g c = held_whole _ _ _ _ c.in-Ok.ensures.ok
