@@ -1,13 +1,11 @@
-//! Worked rows of plain data, devices and hashes: the tests of the lowest layers, as tables.
+//! Worked rows of plain data and devices: the tests of the lowest layers, as tables.
 //!
 //! Each test goes over a table of inputs and of the answers that they must get. The answers come from
-//! the rules and from published vectors, never from what the crates answer.
+//! the rules, never from what the crates answer.
 //! It stands on the crates that it tests. Nothing stands on it.
 #![tactic(auto)]
 
 #[cfg(test)]
 mod devices;
-#[cfg(test)]
-mod hashes;
 #[cfg(test)]
 mod plain;

@@ -1,7 +1,6 @@
-//! Worked rows of versions and values: the tests of the layers that specs are made of, as tables.
+//! What rows cannot say of versions and values: brute force, kinds, printed faults and laws.
 //!
-//! Each test goes over a table of inputs and of the answers that they must get. The answers come from
-//! the rules, never from what the crates answer.
+//! All other calls are rows, in the data of `worked_rows`.
 //! It stands on the crates that it tests. Nothing stands on it.
 #![tactic(auto)]
 
