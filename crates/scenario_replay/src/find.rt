@@ -1,4 +1,7 @@
 //! The files that words name: a folder's are all below it.
+
+ghost use Rattle.std.specs.Prelude.{◌≡◌, ◌<◌, OnOk, length};
+
 use outside_desk::{Desk, DeskFault};
 use std::alloc::{AllocError, Global};
 
@@ -27,7 +30,11 @@ pub(crate) fn find<D: Desk>(
     path: &str,
     levels: u32,
     found: &mut Vec<Found>,
-) -> Result<(), AllocError> {
+) -> Result<(), AllocError>
+    ensures more { OnOk result (length found.old.items < length found.new.items) }
+    ensures same { D.files desk.new ≡ D.files desk.old }
+    ensures put_faults { D.put_faults desk.new ≡ D.put_faults desk.old }
+{
     let kept = String::from_str(alloc, path)?;
     if levels == 0 {
         return Ok(found.push(Found::Closed(kept))?);

@@ -1,11 +1,12 @@
 //! Scenarios replayed: each is run over devices in memory, and what differs is said.
 //!
 //! What it is: `replay` over the files and folders that words name, behind any desk and sink.
-//! It promises: a line for each scenario, what differs with what was wanted and got, a last line with the
-//! counts, and an answer that is `Replayed::Same` only where there was a scenario and nothing differed.
+//! It promises: what comes of each file is said, and the counts behind that; a file is the same or differs only
+//! where it is a scenario; the answer is `Replayed::Same` exactly where one was the same and no other was not.
 //! It stands on the reader of scenarios, the top call and the devices. It must not know how a graph is chosen.
 #![tactic(auto)]
 
+mod check;
 mod compare;
 mod differences;
 mod every_call;
@@ -16,8 +17,9 @@ mod one_run;
 mod shown;
 mod status_name;
 mod top;
+mod verdict;
 mod watched_desk;
 
 pub use machine::replay_machine;
-pub use top::{Replayed, replay};
-pub use watched_desk::WatchedDesk;
+pub use top::replay;
+pub use verdict::Replayed;

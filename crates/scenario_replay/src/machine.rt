@@ -1,5 +1,11 @@
 //! Replays over the files of the machine.
-use crate::top::{Replayed, replay};
+
+ghost use Rattle.std.specs.Prelude.{◌≡◌};
+ghost use Rattle.std.specs.Process.{exit_status};
+ghost use Rattle.scenario_replay.specs.Told.{exit_of};
+
+use crate::top::replay;
+use crate::verdict::Replayed;
 use outside_desk::{RealDesk, RealSink};
 use std::env;
 use std::env::Env;
@@ -8,18 +14,18 @@ use std::process::ExitCode;
 use std::rt::Files;
 use std::thread::Threads;
 
-/// The exit status where a line could not be said, or memory ran out.
-const BROKEN: u8 = 2;
-
 /// The exit status where there are no words.
 const USAGE: u8 = 64;
 
-fn ended(replayed: Replayed) -> ExitCode {
-    match replayed {
-        Replayed::Same => ExitCode::SUCCESS,
-        Replayed::Differs => ExitCode::FAILURE,
-        Replayed::Broken => ExitCode::from(BROKEN),
-    }
+/// The exit status of an answer.
+fn ended(replayed: Replayed) -> ExitCode
+    ensures { exit_status result ≡ exit_of replayed }
+{
+    ExitCode::from(match replayed {
+        Replayed::Same => 0,
+        Replayed::Differs => 1,
+        Replayed::Broken => 2,
+    })
 }
 
 /// Replays the scenarios of the files and folders that the words behind the program's name name, and says

@@ -12,7 +12,7 @@ use std::alloc::{AllocError, Global};
 ///   read_at, list ── Failed: `failed_reading` is its path
 /// ```
 #[derive(Drop)]
-pub struct WatchedDesk<D> {
+pub(crate) struct WatchedDesk<D> {
     /// The desk below.
     pub desk: D,
     /// How many bytes a reading gives at most.
@@ -26,7 +26,7 @@ pub struct WatchedDesk<D> {
 }
 
 impl<D> WatchedDesk<D> {
-    pub fn new(alloc: Global, desk: D, pieces: usize) -> WatchedDesk<D> {
+    pub(crate) fn new(alloc: Global, desk: D, pieces: usize) -> WatchedDesk<D> {
         WatchedDesk {
             desk,
             pieces,
