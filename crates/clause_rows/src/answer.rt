@@ -13,25 +13,28 @@ pub enum Answer {
     Values(Option<Vec<bool>>),
 }
 
+fn push_answer(alloc: Global, text: &mut String, answer: &Answer) -> Result<(), AllocError> {
+    match answer {
+        Answer::Lits(lits) => push_lits(alloc, text, lits.as_slice()),
+        Answer::Value(value) => push_value(text, *value),
+        Answer::Each(values) => push_each(alloc, text, values.as_slice()),
+        Answer::Paths(paths) => push_paths(alloc, text, paths.as_slice()),
+        Answer::Values(None) => text.push_str("none "),
+        Answer::Values(Some(values)) => push_values(text, values.as_slice()),
+    }
+}
+
 /// The line that answers.
 pub fn text_of(
     alloc: Global,
-    answer: Option<Answer>,
+    answer: &Option<Answer>,
     clauses: &ClauseList,
 ) -> Result<String, AllocError> {
+    let Some(answer) = answer else {
+        return String::from_str(alloc, "no");
+    };
     let mut text = String::new(alloc);
-    match &answer {
-        Some(Answer::Lits(lits)) => push_lits(alloc, &mut text, lits.as_slice())?,
-        Some(Answer::Value(value)) => push_value(&mut text, *value)?,
-        Some(Answer::Each(values)) => push_each(alloc, &mut text, values.as_slice())?,
-        Some(Answer::Paths(paths)) => push_paths(alloc, &mut text, paths.as_slice())?,
-        Some(Answer::Values(None)) => text.push_str("none ")?,
-        Some(Answer::Values(Some(values))) => push_values(&mut text, values.as_slice())?,
-        None => {
-            text.push_str("no")?;
-            return Ok(text);
-        }
-    }
+    push_answer(alloc, &mut text, answer)?;
     let vars = format!(in alloc; "; {} ; ", clauses.vars())?;
     text.push_str(vars.as_str())?;
     for place in 0..clauses.len() {

@@ -38,7 +38,7 @@ fn answered(alloc: Global, line: &str) -> Result<String, AllocError> {
         }
         _ => None,
     };
-    text_of(alloc, answer, &clauses)
+    text_of(alloc, &answer, &clauses)
 }
 
 // What the command's call answers: None where there is no such command, or a word is wrong.

@@ -32,7 +32,7 @@ fn sum_over(
 }
 
 /// A graph, of which the nodes to build are summed over, or the others.
-#[derive(Drop)]
+#[derive(Clone, Copy)]
 struct Part<'a> {
     built: bool,
     problem: &'a Problem,
@@ -88,15 +88,23 @@ pub fn vector(alloc: Global, problem: &Problem, graph: &Graph) -> Result<[u64; 3
     ensures { IfOk result (λ numbers. numbers ≡ vector problem.now graph.now) }
 {
     let explored = Explored::new(alloc, graph)?;
+    let numbers = numbers_of(alloc, problem, &explored);
+    drop(explored);
+    numbers
+}
+
+fn numbers_of(alloc: Global, problem: &Problem, graph: &Explored) -> Result<[u64; 31], AllocError>
+    ensures { IfOk result (λ numbers. numbers ≡ vector problem.now graph.now) }
+{
     let to_build = Part {
         built: true,
         problem,
-        graph: &explored,
+        graph,
     };
     let others = Part {
         built: false,
         problem,
-        graph: &explored,
+        graph,
     };
     let a = part_sums(alloc, &to_build)?;
     let builds = part_sum(alloc, &to_build, Place::Anywhere, Term::Node)?;

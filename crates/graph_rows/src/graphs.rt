@@ -7,7 +7,7 @@
 
 use crate::read::{edge_of, node_of};
 use crate::show::{push_bool, push_edge, push_node, push_word};
-use graph_core::{Graph, Reach, reaches};
+use graph_core::{Graph, Node, Reach, reaches};
 use plain_data::{Duplicate, Same, Word};
 use std::alloc::{AllocError, Global};
 use version_order::VersionFault;
@@ -20,19 +20,52 @@ pub fn answer(
     questions: &[&str],
 ) -> Result<(), AllocError> {
     let mut graph = Graph::new(alloc);
+    let answered = answer_over(alloc, text, &mut graph, items, questions);
+    drop(graph);
+    answered
+}
+
+fn answer_over(
+    alloc: Global,
+    text: &mut String,
+    graph: &mut Graph,
+    items: &[&str],
+    questions: &[&str],
+) -> Result<(), AllocError> {
     for item in items {
-        if !put(alloc, &mut graph, item)? {
+        if !put(alloc, graph, item)? {
             text.push_str(item)?;
             text.push_str(" ")?;
         }
     }
     let count = format!(in alloc; "{}", graph.nodes().len())?;
     text.push_str(count.as_str())?;
-    let reach = Reach::new(alloc, &graph)?;
+    ask_all(alloc, text, graph, questions)
+}
+
+fn ask_all(
+    alloc: Global,
+    text: &mut String,
+    graph: &Graph,
+    questions: &[&str],
+) -> Result<(), AllocError> {
+    let reach = Reach::new(alloc, graph)?;
+    let asked = ask_each(alloc, text, graph, &reach, questions);
+    drop(reach);
+    asked
+}
+
+fn ask_each(
+    alloc: Global,
+    text: &mut String,
+    graph: &Graph,
+    reach: &Reach,
+    questions: &[&str],
+) -> Result<(), AllocError> {
     for question in questions {
         let words: Vec<&str> = question.split_whitespace().collect(alloc)?;
         text.push_str(" |")?;
-        ask(alloc, text, &graph, &reach, words.as_slice())?;
+        ask(alloc, text, graph, reach, words.as_slice())?;
     }
     Ok(())
 }
@@ -117,9 +150,15 @@ fn copy(alloc: Global, text: &mut String, graph: &Graph, name: &str) -> Result<(
     match graph.node(name) {
         Some(node) => {
             let copy = node.duplicate(alloc)?;
-            push_node(text, &copy)?;
-            push_bool(text, node.same(&copy))
+            let shown = push_copy(text, node, &copy);
+            drop(copy);
+            shown
         }
         None => push_word(text, "none"),
     }
+}
+
+fn push_copy(text: &mut String, node: &Node, copy: &Node) -> Result<(), AllocError> {
+    push_node(text, copy)?;
+    push_bool(text, node.same(copy))
 }

@@ -26,24 +26,42 @@ pub fn target_of(alloc: Global, word: &str) -> Result<TargetEntry, AllocError> {
 /// `NAME` or `NAME@VERSION`: a node with one variant and a compiler; without a version it is at 1.0.
 pub fn node_of(alloc: Global, word: &str) -> Result<Node, VersionFault> {
     let (name, version) = word.split_once('@').unwrap_or((word, "1.0"));
-    let version = Version::read(alloc, version)?;
-    let compiler = Version::read(alloc, "12.2")?;
-    let mut values = ValueSet::new(alloc);
-    values.insert(Word::new(alloc, "true")?)?;
-    let mut variants = List::new(alloc);
-    variants.push((Word::new(alloc, "shared")?, values))?;
+    let mut node = plain_node(alloc, name, Version::read(alloc, version)?)?;
+    match choose(alloc, &mut node) {
+        Ok(()) => Ok(node),
+        Err(fault) => {
+            drop(node);
+            Err(fault)
+        }
+    }
+}
+
+fn plain_node(alloc: Global, name: &str, version: Version) -> Result<Node, AllocError> {
     Ok(Node {
         name: Word::new(alloc, name)?,
         version,
-        variants,
-        compiler: Some(Compiler {
-            name: Word::new(alloc, "gcc")?,
-            version: compiler,
-        }),
+        variants: List::new(alloc),
+        compiler: None,
         os: Word::new(alloc, "ubuntu22.04")?,
         target: Word::new(alloc, "x86_64")?,
         prefix: None,
         origin: Origin::Built,
+    })
+}
+
+fn choose(alloc: Global, node: &mut Node) -> Result<(), VersionFault> {
+    let mut values = ValueSet::new(alloc);
+    values.insert(Word::new(alloc, "true")?)?;
+    node.variants.push((Word::new(alloc, "shared")?, values))?;
+    node.compiler = Some(compiler_of(alloc)?);
+    Ok(())
+}
+
+fn compiler_of(alloc: Global) -> Result<Compiler, VersionFault> {
+    let version = Version::read(alloc, "12.2")?;
+    Ok(Compiler {
+        name: Word::new(alloc, "gcc")?,
+        version,
     })
 }
 

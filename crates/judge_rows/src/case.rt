@@ -27,19 +27,25 @@ fn answered(alloc: Global, taken: bool) -> Result<Option<String>, AllocError> {
 }
 
 impl Case {
-    pub fn new(alloc: Global) -> Result<Case, AllocError> {
-        Ok(Case {
-            draft: Draft::new(alloc)?,
+    pub fn new(alloc: Global) -> Case {
+        Case {
+            draft: Draft::new(alloc),
             problem: None,
             graph: Graph::new(alloc),
-        })
+        }
+    }
+
+    fn begin_graph(&mut self, alloc: Global) {
+        drop(std::mem::replace(&mut self.graph, Graph::new(alloc)));
     }
 
     fn put_together(&mut self, alloc: Global) -> Result<bool, AllocError> {
-        let draft = std::mem::replace(&mut self.draft, Draft::new(alloc)?);
-        self.graph = Graph::new(alloc);
-        self.problem = draft.problem(alloc)?;
-        Ok(self.problem.is_some())
+        self.begin_graph(alloc);
+        let problem = self.draft.problem(alloc)?;
+        self.draft.clear(alloc);
+        let is_there = problem.is_some();
+        drop(std::mem::replace(&mut self.problem, problem));
+        Ok(is_there)
     }
 
     // The records of the problem, or of the next one.
@@ -70,9 +76,10 @@ impl Case {
         version: &str,
         children: &[&str],
     ) -> Result<bool, AllocError> {
+        let dependencies = self.draft.children(alloc, children)?;
         match node_of(alloc, &[], name, version, &[])? {
             Some(node) => {
-                self.draft.add_record(alloc, &node, children)?;
+                self.draft.add_record(alloc, node, dependencies)?;
                 Ok(true)
             }
             None => Ok(false),
@@ -127,7 +134,7 @@ impl Case {
                 answered(alloc, taken)
             }
             [what] if *what == "same" => {
-                self.graph = Graph::new(alloc);
+                self.begin_graph(alloc);
                 Ok(None)
             }
             [what, name, version, items @ ..] if *what == "node" => {

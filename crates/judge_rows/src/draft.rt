@@ -4,11 +4,11 @@ ghost use Rattle.std.specs.List.{list_all};
 ghost use Rattle.conditions.specs.Right.{is_right_recipe};
 ghost use Rattle.virtuals.specs.Virtuals.{AreInOrder};
 
-use crate::made::record_of;
+use crate::made::{children_of, record_of, set_hash};
 use crate::parts::{are_in_order, are_named};
 use crate::read::recipe_text;
 use conditions::Recipe;
-use graph_core::Node;
+use graph_core::{Kinds, Node};
 use plain_data::{List, Word};
 use problem::{Problem, ProblemFault, assemble};
 use recipe_reader::{RecipeFault, RecipeFile, read_recipes};
@@ -16,13 +16,15 @@ use reuse_db::{Database, DbFault, Record};
 use settings_reader::{SettingsFault, read_settings};
 use site_settings::Settings;
 use spec_grammar::{Spec, SpecFault, read_specs};
+use spec_hash::Hash;
 use std::alloc::{AllocError, Global};
 
 /// What was given so far.
 #[derive(Drop)]
 pub struct Draft {
     files: Vec<RecipeFile>,
-    settings: Settings,
+    // The standard settings where there are none.
+    settings: Option<Settings>,
     records: List<Record>,
     roots: List<Spec>,
 }
@@ -64,29 +66,28 @@ fn assembled(
     }
 }
 
+// Each part is dropped whole, and at one place.
 impl Draft {
-    pub fn new(alloc: Global) -> Result<Draft, AllocError> {
-        Ok(Draft {
+    pub fn new(alloc: Global) -> Draft {
+        Draft {
             files: Vec::new(alloc),
-            settings: Settings::standard(alloc)?,
+            settings: None,
             records: List::new(alloc),
             roots: List::new(alloc),
-        })
+        }
     }
 
     pub fn add_recipe(&mut self, alloc: Global, name: &str, lines: &str) -> Result<(), AllocError> {
-        let file = RecipeFile {
-            name: Word::new(alloc, name)?,
-            bytes: recipe_text(alloc, lines)?.into_bytes(),
-        };
-        self.files.push(file)?;
+        let bytes = recipe_text(alloc, lines)?.into_bytes();
+        let name = Word::new(alloc, name)?;
+        self.files.push(RecipeFile { name, bytes })?;
         Ok(())
     }
 
     pub fn set_settings(&mut self, alloc: Global, text: &str) -> Result<bool, AllocError> {
         match read_settings(alloc, text.as_bytes()) {
             Ok(settings) => {
-                self.settings = settings;
+                drop(std::mem::replace(&mut self.settings, Some(settings)));
                 Ok(true)
             }
             Err(SettingsFault::OutOfMemory) => Err(AllocError),
@@ -97,7 +98,7 @@ impl Draft {
     pub fn set_roots(&mut self, alloc: Global, text: &str) -> Result<bool, AllocError> {
         match read_specs(alloc, text) {
             Ok(roots) => {
-                self.roots = roots;
+                drop(std::mem::replace(&mut self.roots, roots));
                 Ok(true)
             }
             Err(SpecFault::OutOfMemory) => Err(AllocError),
@@ -109,38 +110,96 @@ impl Draft {
         self.records.as_slice()
     }
 
+    /// What a record depends on, by the names of earlier ones.
+    pub fn children(
+        &self,
+        alloc: Global,
+        words: &[&str],
+    ) -> Result<List<(Hash, Kinds)>, AllocError> {
+        children_of(alloc, self.records.as_slice(), words)
+    }
+
     /// Adds the record of a node.
     pub fn add_record(
         &mut self,
         alloc: Global,
-        node: &Node,
-        children: &[&str],
+        node: Node,
+        dependencies: List<(Hash, Kinds)>,
     ) -> Result<(), AllocError> {
-        let entry = record_of(alloc, self.records.as_slice(), node, children)?;
-        self.records.push(entry)?;
-        Ok(())
+        let mut entry = record_of(node, dependencies);
+        let hashed = set_hash(alloc, &mut entry);
+        match hashed {
+            Ok(()) => {
+                self.records.push(entry)?;
+                Ok(())
+            }
+            Err(fault) => {
+                drop(entry);
+                Err(fault)
+            }
+        }
     }
 
-    /// The problem of these parts, where they may be put together.
-    pub fn problem(self, alloc: Global) -> Result<Option<Problem>, AllocError> {
-        let Draft {
-            files,
-            settings,
-            records,
-            roots,
-        } = self;
-        let Some(recipes) = recipes_of(alloc, files.as_slice())? else {
-            return Ok(None);
-        };
-        let Some(database) = database_of(alloc, records)? else {
-            return Ok(None);
-        };
+    /// Takes back what was given.
+    pub fn clear(&mut self, alloc: Global) {
+        self.files.clear();
+        drop(self.settings.take());
+        drop(std::mem::replace(&mut self.records, List::new(alloc)));
+        drop(std::mem::replace(&mut self.roots, List::new(alloc)));
+    }
+
+    /// The problem of these parts, where they may be put together, which takes them.
+    pub fn problem(&mut self, alloc: Global) -> Result<Option<Problem>, AllocError> {
+        match recipes_of(alloc, self.files.as_slice())? {
+            Some(recipes) => self.of_recipes(alloc, recipes),
+            None => Ok(None),
+        }
+    }
+
+    fn of_recipes(
+        &mut self,
+        alloc: Global,
+        recipes: List<Recipe>,
+    ) -> Result<Option<Problem>, AllocError>
+        requires right { list_all is_right_recipe recipes ≡ true }
+    {
         if !are_in_order(recipes.as_slice()) {
             return Ok(None);
         }
+        match self.database(alloc)? {
+            Some(database) => self.over(alloc, recipes, database),
+            None => Ok(None),
+        }
+    }
+
+    fn over(
+        &mut self,
+        alloc: Global,
+        recipes: List<Recipe>,
+        database: Database,
+    ) -> Result<Option<Problem>, AllocError>
+        requires order { AreInOrder recipes }
+        requires right { list_all is_right_recipe recipes ≡ true }
+    {
+        let settings = self.settings(alloc)?;
+        let roots = std::mem::replace(&mut self.roots, List::new(alloc));
         if !are_named(roots.as_slice()) {
             return Ok(None);
         }
         assembled(alloc, recipes, settings, database, roots)
+    }
+
+    fn database(&mut self, alloc: Global) -> Result<Option<Database>, AllocError> {
+        database_of(
+            alloc,
+            std::mem::replace(&mut self.records, List::new(alloc)),
+        )
+    }
+
+    fn settings(&mut self, alloc: Global) -> Result<Settings, AllocError> {
+        match self.settings.take() {
+            Some(settings) => Ok(settings),
+            None => Settings::standard(alloc),
+        }
     }
 }

@@ -1,8 +1,8 @@
 // Nodes with their items, and records.
 
 use crate::read::{compiler_of, kinds_of, plain_node, values_of, version_of};
-use graph_core::{Node, Origin};
-use plain_data::{Duplicate, List, Word};
+use graph_core::{Kinds, Node, Origin};
+use plain_data::{List, Word};
 use reuse_db::{Record, canonical};
 use spec_hash::{Hash, hash_text};
 use std::alloc::{AllocError, Global};
@@ -89,36 +89,49 @@ fn hash_named(records: &[Record], name: &str) -> Option<Hash> {
     None
 }
 
-fn add_child(entry: &mut Record, records: &[Record], word: &str) -> Result<(), AllocError> {
+fn add_child(
+    children: &mut List<(Hash, Kinds)>,
+    records: &[Record],
+    word: &str,
+) -> Result<(), AllocError> {
     let (name, letters) = word.split_once(':').unwrap_or((word, "l"));
     if let Some(hash) = hash_named(records, name) {
-        entry.dependencies.push((hash, kinds_of(letters)))?;
+        children.push((hash, kinds_of(letters)))?;
     }
     Ok(())
 }
 
-/// The record of a node, with children among earlier records.
-pub fn record_of(
+/// What a record depends on: `NAME:KINDS` of earlier records.
+pub fn children_of(
     alloc: Global,
     records: &[Record],
-    node: &Node,
-    children: &[&str],
-) -> Result<Record, AllocError> {
-    let mut entry = Record {
-        hash: hash_text(&[]),
-        name: node.name.duplicate(alloc)?,
-        version: node.version.duplicate(alloc)?,
-        variants: node.variants.duplicate(alloc)?,
-        compiler: node.compiler.duplicate(alloc)?,
-        os: node.os.duplicate(alloc)?,
-        target: node.target.duplicate(alloc)?,
-        external: node.prefix.duplicate(alloc)?,
-        dependencies: List::new(alloc),
-    };
-    for child in children {
-        add_child(&mut entry, records, child)?;
+    words: &[&str],
+) -> Result<List<(Hash, Kinds)>, AllocError> {
+    let mut children = List::new(alloc);
+    for word in words {
+        add_child(&mut children, records, word)?;
     }
-    let text = canonical(alloc, &entry)?;
+    Ok(children)
+}
+
+/// The record of a node, whose hash is not computed yet.
+pub fn record_of(node: Node, dependencies: List<(Hash, Kinds)>) -> Record {
+    Record {
+        hash: hash_text(&[]),
+        name: node.name,
+        version: node.version,
+        variants: node.variants,
+        compiler: node.compiler,
+        os: node.os,
+        target: node.target,
+        external: node.prefix,
+        dependencies,
+    }
+}
+
+/// Computes the hash of a record.
+pub fn set_hash(alloc: Global, entry: &mut Record) -> Result<(), AllocError> {
+    let text = canonical(alloc, entry)?;
     entry.hash = hash_text(text.as_slice());
-    Ok(entry)
+    Ok(())
 }

@@ -18,12 +18,19 @@ mod read;
 
 use crate::case::Case;
 
-fn main(rt: HostRuntime) -> anyhow::Result<()> {
-    let mut case = Case::new(rt.alloc())?;
+// The case is the caller's, so that no early return drops it.
+fn answer_lines(rt: &HostRuntime, case: &mut Case) -> anyhow::Result<()> {
     for line in rt.lines(rt.alloc()) {
         if let Some(text) = case.take_line(rt.alloc(), line?.as_str())? {
             println!(rt; "{text}")?;
         }
     }
     Ok(())
+}
+
+fn main(rt: HostRuntime) -> anyhow::Result<()> {
+    let mut case = Case::new(rt.alloc());
+    let answered = answer_lines(&rt, &mut case);
+    drop(case);
+    answered
 }

@@ -7,7 +7,7 @@ ghost use Rattle.condition_rules.specs.Words.{find_last};
 ghost use Rattle.graph_rules.specs.Kept.{completed, default_in, external_node, first_text};
 
 use conditions::VariantRow;
-use graph_core::{Node, Origin};
+use graph_core::{Compiler, Node, Origin};
 use plain_data::{Duplicate, List, Word};
 use problem::Problem;
 use problem_lookups::{names_of, variants_at};
@@ -15,6 +15,7 @@ use site_settings::ExternalEntry;
 use std::alloc::{AllocError, Global};
 use target_table::TargetEntry;
 use variant_values::ValueSet;
+use version_order::Version;
 
 fn written_in<'a>(written: &'a [(Word, ValueSet)], name: &str) -> Option<&'a (Word, ValueSet)>
     ensures { option_copied result ≡ find (λ v. bytes_eq v.0 name.now) written.now }
@@ -162,7 +163,41 @@ fn target_of(alloc: Global, problem: &Problem, written: &Option<Word>) -> Result
     }
 }
 
+fn named(alloc: Global, name: &Word, entry: &ExternalEntry) -> Result<(Word, Version), AllocError>
+    ensures { IfOk result (λ named. named ≡ (name.now, entry.now.version)) }
+{
+    let name = name.duplicate(alloc)?;
+    let version = entry.version.duplicate(alloc)?;
+    Ok((name, version))
+}
+
+fn platform_of(
+    alloc: Global,
+    problem: &Problem,
+    entry: &ExternalEntry,
+) -> Result<(Word, Word), AllocError>
+    ensures { IfOk result (λ words. words ≡ (
+      unwrap_or entry.now.os (first_text
+          problem.now.settings.os),
+      unwrap_or entry.now.target
+          (first_text (map (λ t. t.name) problem.now.settings.targets)),
+    )) }
+{
+    let os = os_of(alloc, problem, &entry.os)?;
+    let target = target_of(alloc, problem, &entry.target)?;
+    Ok((os, target))
+}
+
+fn chosen_of(alloc: Global, entry: &ExternalEntry) -> Result<(Option<Compiler>, Word), AllocError>
+    ensures { IfOk result (λ chosen. chosen ≡ (entry.now.compiler, entry.now.prefix)) }
+{
+    let compiler = entry.compiler.duplicate(alloc)?;
+    let prefix = entry.prefix.duplicate(alloc)?;
+    Ok((compiler, prefix))
+}
+
 /// The node of an entry of the settings, in which what is not written is completed.
+// Its parts are copied in steps, since each copy that fails drops all before it.
 #[tactic(auto, unfolding(graph_rules::specs::Kept::external_node))]
 pub(crate) fn external_node(
     alloc: Global,
@@ -175,14 +210,17 @@ pub(crate) fn external_node(
 {
     let rows = variants_at(problem, name.as_str());
     let variants = completed_all(alloc, entry.variants.as_slice(), rows)?;
+    let (name, version) = named(alloc, name, entry)?;
+    let (os, target) = platform_of(alloc, problem, entry)?;
+    let (compiler, prefix) = chosen_of(alloc, entry)?;
     Ok(Node {
-        name: name.duplicate(alloc)?,
-        version: entry.version.duplicate(alloc)?,
+        name,
+        version,
         variants,
-        compiler: entry.compiler.duplicate(alloc)?,
-        os: os_of(alloc, problem, &entry.os)?,
-        target: target_of(alloc, problem, &entry.target)?,
-        prefix: Some(entry.prefix.duplicate(alloc)?),
+        compiler,
+        os,
+        target,
+        prefix: Some(prefix),
         origin: Origin::External(place),
     })
 }

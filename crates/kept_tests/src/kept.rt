@@ -9,13 +9,13 @@ ghost use Rattle.problem.specs.Nodes.{is_installed};
 ghost use Rattle.graph_core.specs.declared.node.Origin.TheVariants.{External, Installed};
 ghost use Rattle.kept_tests.specs.Records.{keeps_record};
 ghost use Rattle.problem.specs.Problems.{entry_of, externals_in, record_at};
-ghost use Rattle.graph_rules.specs.Kept.{same_attributes, external_node, installed_node, has_kinds, keeps_child, is_child, keeps_origin, keeps_kept};
+ghost use Rattle.graph_rules.specs.Kept.{same_attributes, external_node, has_kinds, keeps_child, is_child, keeps_origin, keeps_kept};
 
 use crate::external::external_node;
-use crate::same::same_attributes;
+use crate::same::{same_attributes, same_installed};
 use condition_rules::Paths;
 use graph_core::{Edge, Kinds, Node, Origin};
-use plain_data::{Duplicate, Word};
+use plain_data::Word;
 use problem::Problem;
 use problem_lookups::{Explored, covers, entry_of};
 use reuse_db::Record;
@@ -78,29 +78,6 @@ fn record_at<'a>(problem: &'a Problem, hash: &Hash) -> Option<&'a Record>
     ensures { option_copied result ≡ record_at problem.now hash.now }
 {
     problem.database().find(hash)
-}
-
-#[tactic(auto, unfolding(graph_rules::specs::Kept::installed_node))]
-fn installed_node(alloc: Global, entry: &Record) -> Result<Node, AllocError>
-    ensures { IfOk result (λ node. node ≡ installed_node entry.now) }
-{
-    Ok(Node {
-        name: entry.name.duplicate(alloc)?,
-        version: entry.version.duplicate(alloc)?,
-        variants: entry.variants.duplicate(alloc)?,
-        compiler: entry.compiler.duplicate(alloc)?,
-        os: entry.os.duplicate(alloc)?,
-        target: entry.target.duplicate(alloc)?,
-        prefix: entry.external.duplicate(alloc)?,
-        origin: Origin::Installed(entry.hash),
-    })
-}
-
-fn same_installed(alloc: Global, node: &Node, entry: &Record) -> Result<bool, AllocError>
-    ensures { IfOk result (λ answer. answer ≡ same_attributes node.now (installed_node entry.now)) }
-{
-    let whole = installed_node(alloc, entry)?;
-    Ok(same_attributes(node, &whole))
 }
 
 fn is_installed(hash: &Hash, node: &Node) -> bool
@@ -217,22 +194,13 @@ fn are_children(problem: &Problem, entry: &Record, edges: &[Edge]) -> bool
     edges.iter().all(|edge| is_child(problem, entry, edge))
 }
 
-fn keeps_record(
-    alloc: Global,
-    problem: &Problem,
-    graph: &Explored,
-    node: &Node,
-    entry: &Record,
-) -> Result<bool, AllocError>
-    ensures { IfOk result (λ answer. answer ≡ keeps_record problem.now graph.now
-        node.now entry.now) }
+fn keeps_record(problem: &Problem, graph: &Explored, node: &Node, entry: &Record) -> bool
+    ensures { result ≡ keeps_record problem.now graph.now node.now entry.now }
 {
     let name = node.name.as_str();
-    let same = same_installed(alloc, node, entry)?;
-    Ok(
-        same && keeps_children(problem, graph, name, entry.dependencies.as_slice())
-            && are_children(problem, entry, graph.graph().edges_from(name)),
-    )
+    same_installed(node, entry)
+        && keeps_children(problem, graph, name, entry.dependencies.as_slice())
+        && are_children(problem, entry, graph.graph().edges_from(name))
 }
 
 // ---- the rule
@@ -251,19 +219,12 @@ fn keeps_external(
     Ok(same && is_no_edge(graph.graph().edges_from(node.name.as_str())))
 }
 
-fn keeps_installed(
-    alloc: Global,
-    problem: &Problem,
-    graph: &Explored,
-    node: &Node,
-    hash: &Hash,
-) -> Result<bool, AllocError>
-    ensures { IfOk result (λ answer. answer ≡ keeps_origin problem.now graph.now node.now
-        (Installed hash.now)) }
+fn keeps_installed(problem: &Problem, graph: &Explored, node: &Node, hash: &Hash) -> bool
+    ensures { result ≡ keeps_origin problem.now graph.now node.now (Installed hash.now) }
 {
     match record_at(problem, hash) {
-        Some(entry) => keeps_record(alloc, problem, graph, node, entry),
-        None => Ok(false),
+        Some(entry) => keeps_record(problem, graph, node, entry),
+        None => false,
     }
 }
 
@@ -281,6 +242,6 @@ pub fn keeps_kept(
     match &node.origin {
         Origin::Built => Ok(node.prefix.is_none()),
         Origin::External(place) => keeps_external(alloc, problem, graph, node, *place),
-        Origin::Installed(hash) => keeps_installed(alloc, problem, graph, node, hash),
+        Origin::Installed(hash) => Ok(keeps_installed(problem, graph, node, hash)),
     }
 }

@@ -3,11 +3,12 @@ ghost use Rattle.std.specs.Prelude.{◌≡◌, ◌&&◌};
 ghost use Rattle.std.specs.Option.{option_eq};
 ghost use Rattle.std.specs.Str.{bytes_eq};
 ghost use Rattle.problem.specs.Problems.{same_compiler};
-ghost use Rattle.graph_rules.specs.Kept.{same_variants, same_attributes};
+ghost use Rattle.graph_rules.specs.Kept.{installed_node, same_variants, same_attributes};
 
 use graph_core::{Compiler, Node};
 use plain_data::{List, Same, Word};
 use problem_lookups::same_compiler;
+use reuse_db::Record;
 use variant_values::ValueSet;
 
 fn same_variants(a: &List<(Word, ValueSet)>, b: &List<(Word, ValueSet)>) -> bool
@@ -48,4 +49,18 @@ pub(crate) fn same_attributes(a: &Node, b: &Node) -> bool
         && a.os.as_str() == b.os.as_str()
         && a.target.as_str() == b.target.as_str()
         && same_prefixes(&a.prefix, &b.prefix)
+}
+
+/// Whether a node is that of a record in all but origin.
+#[tactic(auto, unfolding(graph_rules::specs::Kept::same_attributes, graph_rules::specs::Kept::installed_node))]
+pub(crate) fn same_installed(node: &Node, entry: &Record) -> bool
+    ensures { result ≡ same_attributes node.now (installed_node entry.now) }
+{
+    node.name.as_str() == entry.name.as_str()
+        && node.version.text() == entry.version.text()
+        && same_variants(&node.variants, &entry.variants)
+        && same_compilers(&node.compiler, &entry.compiler)
+        && node.os.as_str() == entry.os.as_str()
+        && node.target.as_str() == entry.target.as_str()
+        && same_prefixes(&node.prefix, &entry.external)
 }

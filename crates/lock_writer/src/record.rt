@@ -41,15 +41,16 @@ pub(crate) fn record_of_node(
 ) -> Result<Record, AllocError>
     ensures { IfOk result (λ entry. entry ≡ record_of_node node.now hash dependencies) }
 {
+    let node = node.duplicate(alloc)?;
     Ok(Record {
         hash,
-        name: node.name.duplicate(alloc)?,
-        version: node.version.duplicate(alloc)?,
-        variants: node.variants.duplicate(alloc)?,
-        compiler: node.compiler.duplicate(alloc)?,
-        os: node.os.duplicate(alloc)?,
-        target: node.target.duplicate(alloc)?,
-        external: node.prefix.duplicate(alloc)?,
+        name: node.name,
+        version: node.version,
+        variants: node.variants,
+        compiler: node.compiler,
+        os: node.os,
+        target: node.target,
+        external: node.prefix,
         dependencies,
     })
 }
@@ -65,7 +66,15 @@ pub(crate) fn own_hash(
     // The hash that a record has is no part of its text.
     let none = hash_text(&[]);
     let entry = record_of_node(alloc, node, none, dependencies)?;
-    let text = canonical(alloc, &entry)?;
+    let computed = computed_hash(alloc, &entry);
+    drop(entry);
+    computed
+}
+
+fn computed_hash(alloc: Global, entry: &Record) -> Result<Hash, AllocError>
+    ensures { IfOk result (λ hash. hash ≡ right_hash entry.now) }
+{
+    let text = canonical(alloc, entry)?;
     let computed = hash_text(text.as_slice());
     Ok(computed)
 }

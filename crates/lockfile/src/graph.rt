@@ -11,12 +11,15 @@ ghost use Rattle.lockfile.specs.Named.{AreNames, Collected, HasEnds};
 use crate::children::all_edges;
 use crate::file::File;
 use crate::node::LockedNode;
-use graph_core::{Edge, Graph, Node};
+use graph_core::{Compiler, Edge, Graph, Node};
 use keyed_lists::insert;
 use plain_data::{Duplicate, List, Word};
+use reuse_db::Record;
 use spec_hash::Hash;
 use std::alloc::{AllocError, Global};
 use std::collections::BTreeMap;
+use variant_values::ValueSet;
+use version_order::Version;
 
 /// The graph of a file whose nodes have these names by their hashes.
 pub(crate) fn graph_of(
@@ -67,20 +70,51 @@ fn push_node(graph: &mut Graph, node: Node) -> Result<(), AllocError>
     Ok(())
 }
 
+// The parts of a record are copied in three steps, since each copy that fails drops all before it.
 fn graph_node(alloc: Global, node: &LockedNode) -> Result<Node, AllocError>
     ensures { IfOk result (λ made. made ≡ graph_node node.now) }
 {
-    let described = &node.described;
+    let (name, version, variants) = front_of(alloc, &node.described)?;
+    let (os, target) = platform_of(alloc, &node.described)?;
+    let (compiler, prefix) = chosen_of(alloc, &node.described)?;
     Ok(Node {
-        name: described.name.duplicate(alloc)?,
-        version: described.version.duplicate(alloc)?,
-        variants: described.variants.duplicate(alloc)?,
-        compiler: described.compiler.duplicate(alloc)?,
-        os: described.os.duplicate(alloc)?,
-        target: described.target.duplicate(alloc)?,
-        prefix: described.external.duplicate(alloc)?,
+        name,
+        version,
+        variants,
+        compiler,
+        os,
+        target,
+        prefix,
         origin: node.origin,
     })
+}
+
+fn front_of(
+    alloc: Global,
+    entry: &Record,
+) -> Result<(Word, Version, List<(Word, ValueSet)>), AllocError>
+    ensures { IfOk result (λ front. front ≡ (entry.now.name, entry.now.version, entry.now.variants)) }
+{
+    let name = entry.name.duplicate(alloc)?;
+    let version = entry.version.duplicate(alloc)?;
+    let variants = entry.variants.duplicate(alloc)?;
+    Ok((name, version, variants))
+}
+
+fn platform_of(alloc: Global, entry: &Record) -> Result<(Word, Word), AllocError>
+    ensures { IfOk result (λ words. words ≡ (entry.now.os, entry.now.target)) }
+{
+    let os = entry.os.duplicate(alloc)?;
+    let target = entry.target.duplicate(alloc)?;
+    Ok((os, target))
+}
+
+fn chosen_of(alloc: Global, entry: &Record) -> Result<(Option<Compiler>, Option<Word>), AllocError>
+    ensures { IfOk result (λ chosen. chosen ≡ (entry.now.compiler, entry.now.external)) }
+{
+    let compiler = entry.compiler.duplicate(alloc)?;
+    let prefix = entry.external.duplicate(alloc)?;
+    Ok((compiler, prefix))
 }
 
 fn add_edges(alloc: Global, graph: &mut Graph, edges: &[Edge]) -> Result<(), AllocError>

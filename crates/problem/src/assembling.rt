@@ -1,16 +1,18 @@
 // Putting a problem together.
-ghost use Rattle.std.specs.Prelude.{◌≡◌, true, None, is_some, IfOk, IfErr, OnOk, option_map, ◌∷◌};
-ghost use Rattle.std.specs.List.{list_all};
+ghost use Rattle.std.specs.Prelude.{◌≡◌, true, None, is_some, IfOk, IfErr, OnOk, map, option_map, ◌∷◌, ◌++◌};
+ghost use Rattle.std.specs.List.{list_all, range_with_len};
 ghost use Rattle.conditions.specs.Right.{is_right_recipe};
-ghost use Rattle.virtuals.specs.Virtuals.{AreInOrder};
+ghost use Rattle.virtuals.specs.Virtuals.{AreInOrder, AreProviders};
+ghost use Rattle.problem.specs.Demands.{directives_of};
 ghost use Rattle.problem.specs.Problems.{problem_of};
 ghost use Rattle.problem.specs.Roots.{IsProblemFault, name_fault, root_fault, first_fault, roots_fault, wrong_platform};
+ghost use Rattle.problem.specs.declared.demand.Demand.TheVariants.{Root};
 ghost use Rattle.problem.specs.declared.fault.ProblemFault.TheVariants.{WrongPlatform};
 
 use crate::demands::demands_of;
 use crate::known::is_known;
 use crate::platforms::wrong_platform;
-use crate::{Problem, ProblemFault};
+use crate::{Demand, Problem, ProblemFault};
 use conditions::Recipe;
 use plain_data::{Duplicate, List, Word};
 use reuse_db::Database;
@@ -36,19 +38,48 @@ pub fn assemble(
     ensures known { OnOk result (roots_fault (problem_of recipes settings database roots) ≡ None) }
     ensures fault { IfErr result (IsProblemFault (problem_of recipes settings database roots)) }
 {
-    let providers = Providers::of_recipes(alloc, recipes.as_slice())?;
-    let demands = demands_of(alloc, roots.len(), recipes.as_slice())?;
+    let found = found_in(alloc, recipes.as_slice(), roots.len())?;
     let problem = Problem {
         recipes,
         settings,
         database,
         roots,
-        providers,
-        demands,
+        providers: found.0,
+        demands: found.1,
     };
-    match refused(alloc, &problem)? {
-        Some(fault) => Err(fault),
-        None => Ok(problem),
+    unless_refused(alloc, problem)
+}
+
+// What the recipes provide, and what may be demanded.
+fn found_in(
+    alloc: Global,
+    recipes: &[Recipe],
+    roots: usize,
+) -> Result<(Providers, List<Demand>), AllocError>
+    ensures providers { IfOk result (λ found. AreProviders recipes.now found.0) }
+    ensures demands { IfOk result (λ found. found.1 ≡ map Root (range_with_len 0 roots)
+        ++ directives_of recipes.now) }
+{
+    let providers = Providers::of_recipes(alloc, recipes)?;
+    let demands = demands_of(alloc, roots, recipes)?;
+    Ok((providers, demands))
+}
+
+fn unless_refused(alloc: Global, problem: Problem) -> Result<Problem, ProblemFault>
+    ensures problem { IfOk result (λ made. made ≡ problem) }
+    ensures known { OnOk result (roots_fault problem ≡ None) }
+    ensures fault { IfErr result (IsProblemFault problem) }
+{
+    match refused(alloc, &problem) {
+        Ok(None) => Ok(problem),
+        Ok(Some(fault)) => {
+            drop(problem);
+            Err(fault)
+        }
+        Err(fault) => {
+            drop(problem);
+            Err(ProblemFault::from(fault))
+        }
     }
 }
 

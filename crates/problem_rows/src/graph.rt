@@ -40,36 +40,74 @@ fn target_of(alloc: Global, part: &Part) -> Result<Word, AllocError> {
     Word::new(alloc, "x86_64")
 }
 
-fn node_of(alloc: Global, name: &str, version: Version, part: &Part) -> Result<Node, AllocError> {
-    let Ok(compiler) = Version::read(alloc, "12.2") else {
+fn compiler_of(alloc: Global) -> Result<Compiler, AllocError> {
+    let Ok(version) = Version::read(alloc, "12.2") else {
         return Err(AllocError);
     };
+    Ok(Compiler {
+        name: Word::new(alloc, "gcc")?,
+        version,
+    })
+}
+
+fn plain_node(alloc: Global, name: &str, version: Version) -> Result<Node, AllocError> {
     Ok(Node {
         name: Word::new(alloc, name)?,
         version,
-        variants: part.variants.duplicate(alloc)?,
-        compiler: Some(Compiler {
-            name: Word::new(alloc, "gcc")?,
-            version: compiler,
-        }),
-        os: word_or(alloc, &part.os, "ubuntu22.04")?,
-        target: target_of(alloc, part)?,
+        variants: List::new(alloc),
+        compiler: None,
+        os: Word::new(alloc, "ubuntu22.04")?,
+        target: Word::new(alloc, "x86_64")?,
         prefix: None,
         origin: Origin::Built,
     })
 }
 
+fn set_asked(alloc: Global, node: &mut Node, part: &Part) -> Result<(), AllocError> {
+    node.variants = part.variants.duplicate(alloc)?;
+    node.compiler = Some(compiler_of(alloc)?);
+    node.os = word_or(alloc, &part.os, "ubuntu22.04")?;
+    node.target = target_of(alloc, part)?;
+    Ok(())
+}
+
+fn node_of(alloc: Global, name: &str, version: Version, part: &Part) -> Result<Node, AllocError> {
+    let mut node = plain_node(alloc, name, version)?;
+    match set_asked(alloc, &mut node, part) {
+        Ok(()) => Ok(node),
+        Err(fault) => {
+            drop(node);
+            Err(fault)
+        }
+    }
+}
+
+fn asked_node(
+    alloc: Global,
+    name: &str,
+    version: Version,
+    condition: &str,
+) -> Result<Option<Node>, AllocError> {
+    match read_condition(alloc, condition) {
+        Ok(spec) => {
+            let node = node_of(alloc, name, version, &spec.top);
+            drop(spec);
+            node.map(Some)
+        }
+        Err(_) => Ok(None),
+    }
+}
+
 fn put_node(alloc: Global, graph: &mut Graph, item: &str) -> Result<(), AllocError> {
     let (name, rest) = item.split_once(' ').unwrap_or((item, "1.0"));
     let (version, condition) = rest.split_once(' ').unwrap_or((rest, ""));
+    let condition = if condition == "" { name } else { condition };
     let Ok(version) = Version::read(alloc, version) else {
         return Ok(());
     };
-    let Ok(spec) = read_condition(alloc, if condition == "" { name } else { condition }) else {
-        return Ok(());
-    };
-    let node = node_of(alloc, name, version, &spec.top)?;
-    graph.add_node(node)?;
+    if let Some(node) = asked_node(alloc, name, version, condition)? {
+        graph.add_node(node)?;
+    }
     Ok(())
 }
 

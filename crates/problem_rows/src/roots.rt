@@ -51,6 +51,12 @@ fn fault_text(alloc: Global, fault: ProblemFault) -> Result<String, AllocError> 
     }
 }
 
+fn demanded(alloc: Global, problem: Problem) -> Result<String, AllocError> {
+    let text = demands_text(alloc, &problem);
+    drop(problem);
+    text
+}
+
 fn assembled_text(
     alloc: Global,
     recipes: List<Recipe>,
@@ -62,7 +68,7 @@ fn assembled_text(
 {
     let settings = Settings::standard(alloc)?;
     match assemble(alloc, recipes, settings, Database::empty(alloc), roots) {
-        Ok(problem) => demands_text(alloc, &problem),
+        Ok(problem) => demanded(alloc, problem),
         Err(fault) => fault_text(alloc, fault),
     }
 }

@@ -5,7 +5,7 @@ use conditions::{
     Condition, ConflictRow, DependRow, ProvideRow, Recipe, RequireRow, VariantRow, VersionRow,
 };
 use graph_core::Kinds;
-use plain_data::List;
+use plain_data::{Duplicate, List};
 use recipe_reader::RecipeFault;
 use spec_grammar::{Spec, write_spec};
 use std::alloc::{AllocError, Global};
@@ -103,21 +103,20 @@ fn push_kinds(out: &mut String, kinds: Kinds) -> Result<(), AllocError> {
     Ok(())
 }
 
-fn push_depend(alloc: Global, out: &mut String, row: DependRow) -> Result<(), AllocError> {
-    let DependRow {
-        part,
-        kinds,
-        when,
-        number,
-    } = row;
-    out.push_str("depends")?;
+// The row is a copy, whose part becomes a spec.
+fn push_part(alloc: Global, out: &mut String, row: DependRow) -> Result<(), AllocError> {
     let spec = Spec {
-        top: part,
+        top: row.part,
         below: List::new(alloc),
     };
-    push_spec(alloc, out, &spec)?;
-    push_kinds(out, kinds)?;
-    push_end(alloc, out, &when, number)
+    push_spec(alloc, out, &spec)
+}
+
+fn push_depend(alloc: Global, out: &mut String, row: &DependRow) -> Result<(), AllocError> {
+    out.push_str("depends")?;
+    push_part(alloc, out, row.duplicate(alloc)?)?;
+    push_kinds(out, row.kinds)?;
+    push_end(alloc, out, &row.when, row.number)
 }
 
 fn push_provide(alloc: Global, out: &mut String, row: &ProvideRow) -> Result<(), AllocError> {
@@ -149,7 +148,7 @@ fn push_requirement(alloc: Global, out: &mut String, row: &RequireRow) -> Result
 }
 
 /// The rows of a recipe, by the kinds of directives.
-pub(crate) fn recipe_text(alloc: Global, recipe: Recipe) -> Result<String, AllocError> {
+pub(crate) fn recipe_text(alloc: Global, recipe: &Recipe) -> Result<String, AllocError> {
     let mut out = String::new(alloc);
     for row in recipe.versions.as_slice() {
         push_version(alloc, &mut out, row)?;
@@ -166,7 +165,7 @@ pub(crate) fn recipe_text(alloc: Global, recipe: Recipe) -> Result<String, Alloc
     for row in recipe.requirements.as_slice() {
         push_requirement(alloc, &mut out, row)?;
     }
-    for row in recipe.depends.into_vec() {
+    for row in recipe.depends.as_slice() {
         push_depend(alloc, &mut out, row)?;
     }
     if out.is_empty() {

@@ -49,7 +49,7 @@ fn of_tokens(
 
 fn of_recipe(alloc: Global, bytes: &[u8]) -> Result<String, AllocError> {
     match read_recipe(alloc, "x", bytes) {
-        Ok(recipe) => recipe_text(alloc, recipe),
+        Ok(recipe) => recipe_text(alloc, &recipe),
         Err(fault) => recipe_fault_text(alloc, fault),
     }
 }

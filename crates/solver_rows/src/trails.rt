@@ -7,12 +7,18 @@ use std::alloc::{AllocError, Global};
 
 /// What is true after each decision in turn, up to the first false clause, and what is left after the way back.
 pub fn answer(alloc: Global, vars: &str, words: &[&str]) -> Result<Vec<u8>, AllocError> {
-    let mut text = Vec::new(alloc);
     let (decisions, rest) = lits_of(alloc, number_of(vars), words)?;
     let clauses = clauses_of(alloc, number_of(vars), rest)?;
     let mut watch = Watch::new(alloc, &clauses)?;
-    for lit in decisions.as_slice() {
-        if !go_on(alloc, &mut text, &mut watch, *lit)? {
+    let answered = answer_over(alloc, &mut watch, decisions.as_slice());
+    drop(watch);
+    answered
+}
+
+fn answer_over(alloc: Global, watch: &mut Watch, decisions: &[Lit]) -> Result<Vec<u8>, AllocError> {
+    let mut text = Vec::new(alloc);
+    for lit in decisions {
+        if !go_on(alloc, &mut text, watch, *lit)? {
             break;
         }
     }

@@ -9,17 +9,6 @@ invariant_of-problem c = record {
   right =
       assembled c.args.recipes c.args.settings c.args.database c.args.roots c.requires.order c.requires.right c.requires.named;
   providers =
-      rw c.as_slice.ensures at c.in_ok-providers.ensures;
-  asked = rw (c.len.ensures, c.as_slice-2.ensures) at c.in_ok-demands.ensures;
-}
-
-pub invariant_of-problem-in-None : goal.invariant_of-problem-in-None
-unfolding demands
-invariant_of-problem-in-None c = record {
-  order = c.requires.order;
-  right =
-      assembled c.args.recipes c.args.settings c.args.database c.args.roots c.requires.order c.requires.right c.requires.named;
-  providers =
-      rw c.as_slice.ensures at c.in_ok-providers.ensures;
-  asked = rw (c.len.ensures, c.as_slice-2.ensures) at c.in_ok-demands.ensures;
+      rw c.as_slice.ensures at c.in_ok-found.ensures.providers;
+  asked = rw (c.len.ensures, c.as_slice.ensures) at c.in_ok-found.ensures.demands;
 }
