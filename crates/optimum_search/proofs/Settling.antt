@@ -195,18 +195,19 @@ pub certified : (s : Clauses) (bits : List Lit) (budget n : ℕ) (u : SolverValu
     → IsSearching bits budget n u → n ≡ length bits → IsLogOf u → AllOver u.vars u.known → IsOver (clauses_of s.entries) s.vars u
     → model ≡ u.model → ls ≡ u.lines ++ line.End ∷ [] →
     (length model ≡ s.vars) × MeetsAll (values_in model) s
-    × IsCertificate s.vars (clauses_of s.entries) bits (bits_at (values_in model) bits) ls × AreOver s.vars ls
+    × IsCertificate s.vars (clauses_of s.entries) bits (bits_at (values_in model) bits) ls × AreOver s.vars ls × (learnt_in ls ≤ budget)
 certified s bits budget n u model ls g end log r over m e =
     let w = values_in u.model in
     let h = subst (λ k. IsSearching bits budget k u) end g in
     let k = certificate bits budget u h log in
     let o = certificate-over bits budget u h log r in
     subst (λ y. (length y ≡ s.vars) × MeetsAll (values_in y) s
-    × IsCertificate s.vars (clauses_of s.entries) bits (bits_at (values_in y) bits) ls × AreOver s.vars ls) (sym m) (
+    × IsCertificate s.vars (clauses_of s.entries) bits (bits_at (values_in y) bits) ls × AreOver s.vars ls × (learnt_in ls ≤ budget)) (sym m) (
       g.whole ∙ over.1,
       (Meets-all w s.entries).1 (subst (AllTrue w) over.0 g.meets),
       subst (IsCertificate s.vars (clauses_of s.entries) bits (bits_at w bits)) (sym e)
           (subst (λ x. IsCertificate x (clauses_of s.entries) bits (bits_at w bits) (u.lines ++ line.End ∷ [])) over.1
           (subst (λ y. IsCertificate u.vars y bits (bits_at w bits) (u.lines ++ line.End ∷ [])) over.0 k)),
       subst (AreOver s.vars) (sym e) (subst (λ x. AreOver x (u.lines ++ line.End ∷ [])) over.1 o),
+      subst (λ y. learnt_in y ≤ budget) (sym e) (let q = learnt_in-push u.lines line.End in let b = g.in_budget in omega (arith, q, b)),
     )

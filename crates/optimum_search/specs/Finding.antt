@@ -14,12 +14,13 @@ abbrev pub MeetsAll : (ℕ → Bool) → Clauses → Type 0
 MeetsAll v s = Meets (λ d. true) v s.entries
 
 -- a model of all clauses with a certificate of its bits, a refutation, or a log that spent the budget;
--- what is learnt is over the variables of the clauses, so that the log may be written
+-- what is learnt is over the variables of the clauses, so that the log may be written, and within the budget but for the last
 abbrev pub IsFound : Clauses → List Lit → ℕ → Found → Type 0
 IsFound s bits budget (Optimal model log) =
     (length model ≡ s.vars) × MeetsAll (values_in model) s
     × IsCertificate s.vars (clauses_of s.entries) bits (bits_at (values_in model) bits) log × AreOver s.vars log
-IsFound s bits budget (Refuted log) = IsRefutation s.vars (clauses_of s.entries) bits log × AreOver s.vars log
+    × (learnt_in log ≤ budget)
+IsFound s bits budget (Refuted log) = IsRefutation s.vars (clauses_of s.entries) bits log × AreOver s.vars log × (learnt_in log ≤ budget)
 IsFound s bits budget (Spent log) = IsSpentLog s.vars (clauses_of s.entries) bits budget log
 
 -- no assignment that meets the clauses has smaller bits than the model, or none meets them, or the budget was small

@@ -1,6 +1,7 @@
-use Rattle.std.proofs.Common.{◌++◌, ◌∷◌, [], None, ap, ◌∙◌, subst, arith}
+use Rattle.std.proofs.Common.{◌++◌, ◌∷◌, [], ◌≤◌, None, ap, ◌∙◌, subst, arith}
 use Rattle.clause_store.specs.Clauses.{clauses_of}
 use Rattle.proof_log.specs.declared.line.Line.TheVariants as line
+use Rattle.proof_log.specs.Lines.{learnt_in}
 use Rattle.proof_log.specs.Certificates.{IsRefutation, IsSpentLog, AreOver}
 use Rattle.clause_solver.specs.Solvers.{SolverValue, Answers}
 use Rattle.optimum_search.proofs.Settling.{searching-model, certified, first-refuted, refuted-over, first-spent, over-first, none-first, moved}
@@ -17,11 +18,13 @@ returns-in-Refuted-clause-found c =
     let count = ap (λ (w : SolverValue). w.bits) e in
     let given = ap (λ (w : SolverValue). w.given) e in
     let log = c.in_ok-solve.ensures.log in
-    moved (λ vars input lines. IsRefutation vars input c.args.bits.now lines × AreOver vars lines) (clauses_of s.entries) s.vars u
+    moved (λ vars input lines. IsRefutation vars input c.args.bits.now lines × AreOver vars lines × (learnt_in lines ≤ c.args.budget))
+    (clauses_of s.entries) s.vars u
     c.into_log.result (over-first s _ t u e (h.0.2.input, h.0.2.vars)) c.into_log.ensures.lines (
       first-refuted c.args.bits.now c.args.budget t u count given (none-first s _ t e) log h.0,
       refuted-over c.args.bits.now c.args.budget t
           u count given (none-first s _ t e) log h.0 r,
+      h.1,
     )
 
 pub returns-in-Spent-clause-found : goal.returns-in-Spent-clause-found
