@@ -5,7 +5,7 @@
     bench/spec_fronts.py --show TEXT..
 
 PROGRAM is a build of these sources, which `./spack_concretize --where` names once a call has made one.
-It is run once for each text, over a repository without recipes, two at a time. Counts by kind of answer and each
+It is run once for each text, over an empty repository, two at a time. Counts by kind of answer and each
 disagreement are printed; the status is 1 where there is one. With --show the second reading's answers are printed alone.
 
 Apart is: the right form is one regular expression over whole texts, written from the grammar; the longest front is found
@@ -249,8 +249,6 @@ def wanted(text):
     signs = [sign for sign, _ in items]
     if signs.count("name") > 64:
         return "too large: roots"
-    if signs not in (["name"], ["name", "@"]):
-        return "bad input: not built specs"
     return "bad input: specs: UnknownRoot %s" % items[0][1].group()
 
 
@@ -418,7 +416,7 @@ def main():
         parser.error("the program's path is missing")
     program = os.path.abspath(options.program)
     with tempfile.TemporaryDirectory() as work:
-        os.mkdir(os.path.join(work, "r"))
+        os.makedirs(os.path.join(work, "r", "packages"))
 
         def compare(text):
             words = [program, "concretize", "r", "-", "-", "l", "-", text]

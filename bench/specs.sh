@@ -51,8 +51,8 @@ with open(os.path.join(folder, "package.py"), "w") as file:
 # What there is much of, how a text begins and goes on, and the status and the errors of the run.
 ROWS = (
     ("specs", "x", lambda k: " x", 7, "too large: roots\n"),
-    ("variants", "x", lambda k: " +v%d" % number(k), 4, "bad input: not built specs\n"),
-    ("values", "x v=0", lambda k: ",v%d" % number(k), 4, "bad input: not built specs\n"),
+    ("variants", "x", lambda k: " +v%d" % number(k), 1, ""),
+    ("values", "x v=0", lambda k: ",v%d" % number(k), 1, ""),
     ("list items", "x@3", lambda k: ",4.%d:4.%d.9" % (number(k), number(k)), 1, ""),
     ("list, none", "x@2:1", lambda k: ",4.%d:4.%d.9" % (number(k), number(k)), 4, "bad input: specs: BadVersion 2\n"),
 )

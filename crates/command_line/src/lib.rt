@@ -9,7 +9,7 @@
 
 ghost use Rattle.std.specs.Prelude.{◌≡◌};
 ghost use Rattle.std.specs.Process.{exit_status};
-ghost use Rattle.run_answers.specs.Exits.{number_of};
+ghost use Rattle.concretizer.specs.Exits.{number_of};
 
 use concretizer::{Status, run};
 use outside_desk::{RealDesk, RealSink};

@@ -3,20 +3,20 @@ use Rattle.std.proofs.Common.{◌≡◌, ℕ, List, Option, Some, None, Result, 
 use Rattle.std.specs.Prelude.{IfSome}
 use Rattle.outside_desk.specs.Causes.{Counts, Rose}
 use Rattle.outside_desk.specs.Files.{Files}
-use Rattle.run_task.specs.declared.task.Task.{Task}
-use Rattle.run_task.specs.Tasks.{Poses}
-use Rattle.run_answers.specs.Refusals.{status_of, line_of}
-use Rattle.run_answers.specs.Stops.{stop_status, stop_line}
+use Rattle.run_output.specs.Task.{Task}
+use Rattle.run_output.specs.Tasks.{Poses}
+use Rattle.run_output.specs.Refusals.{status_of, line_of}
+use Rattle.run_output.specs.Stops.{stop_status, stop_line}
 use Rattle.concretizer.specs.Attempts.{Attempts, StopsAtOnce, FailsToRead, FailsToPut, FailsToSay}
 use Rattle.concretizer.specs.Headline.{IsRefused, IsRefusalStatus, Settles, Reports, IsAnsweredBy, Spoken, Says}
-use Rattle.run_output.specs.declared.answer.Answer.{Answer}
-use Rattle.run_answers.specs.declared.refusal.Refusal.{Refusal}
-use Rattle.run_answers.specs.declared.status.Status.{Status}
-use Rattle.run_answers.specs.declared.status.Status.TheVariants as statuses
-use Rattle.run_answers.specs.declared.stop.ReadStop.TheVariants.{Refused, Fault, NoMemory}
-use Rattle.run_answers.specs.declared.stop.WriteStop.TheVariants as writes
-use Rattle.run_answers.specs.declared.stop.Stop.{Stop}
-use Rattle.run_answers.specs.declared.stop.Stop.TheVariants.{Read, Write}
+use Rattle.run_output.specs.declared.answer.Outcome.{Outcome}
+use Rattle.run_output.specs.Refusal.{Refusal}
+use Rattle.run_output.specs.Status.{Status}
+use Rattle.run_output.specs.Status.TheVariants as statuses
+use Rattle.run_output.specs.ReadStop.TheVariants.{Refused, Fault, NoMemory}
+use Rattle.run_output.specs.WriteStop.TheVariants as writes
+use Rattle.run_output.specs.Stop.{Stop}
+use Rattle.run_output.specs.Stop.TheVariants.{Read, Write}
 
 -- words name one problem at most, or are due one refusal
 abbrev pub PosesOnce : Type 0
@@ -184,11 +184,11 @@ due laws (Some files) words stop after out err reads puts says errs result left 
     (record { read = read; put = put; said = said; err = late })
 
 -- no refusal is due where an answer was written
-pub written : PosesOnce → (before : Option Files) (words : List (List ℕ)) (answer : Answer) (after : Option Files) (out : Spoken)
+pub written : PosesOnce → (before : Option Files) (words : List (List ℕ)) (outcome : Outcome) (after : Option Files) (out : Spoken)
     (reads puts says errs : ℕ × ℕ) (result : Status)
-    → IfSome before (λ files. Attempts files words after out.0 out.1 (Ok answer))
+    → IfSome before (λ files. Attempts files words after out.0 out.1 (Ok outcome))
     → IfSome before (λ files. (refusal : Refusal) → Poses files words (Err refusal) → ¬ Rose reads.0 reads.1 → ¬ Rose puts.0 puts.1
     → ¬ Rose says.0 says.1 → ¬ Rose errs.0 errs.1 → IsAnsweredBy (status_of refusal) result)
-written laws None words answer after out reads puts says errs result left = tt
-written laws (Some files) words answer after out reads puts says errs result left = λ refusal poses read put said late.
+written laws None words outcome after out reads puts says errs result left = tt
+written laws (Some files) words outcome after out reads puts says errs result left = λ refusal poses read put said late.
     not_both laws files words left.task refusal left.read poses

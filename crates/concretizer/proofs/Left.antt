@@ -1,65 +1,116 @@
 -- What a writing that stopped leaves of a whole attempt.
-use Rattle.std.proofs.Common.{◌≡◌, refl, ap, subst, ◌∙◌, ℕ, List, Option, Some, None, Result, Ok, Err}
+use Rattle.std.proofs.Common.{◌≡◌, refl, ap, subst, ◌∙◌, false, ℕ, List, Option, Some, None, Result, Ok, Err, inl, inr, ◌⊎◌}
 use Rattle.std.specs.Result.{IsErrAnd}
 use Rattle.std.specs.Prelude.{IfSome}
 use Rattle.outside_desk.specs.Files.{Files}
-use Rattle.run_answers.specs.Stages.{Is}
-use Rattle.run_answers.specs.Stops.{Gives}
-use Rattle.run_answers.specs.declared.stop.WriteStop.{WriteStop}
-use Rattle.run_answers.specs.declared.stop.WriteStop.TheVariants.{Put, Output, NoMemory}
-use Rattle.run_answers.specs.declared.stop.Stop.{Stop}
-use Rattle.run_answers.specs.declared.stop.Stop.TheVariants.{Write}
-use Rattle.run_words.specs.Words.{lock_path}
-use Rattle.run_words.specs.Words.{Command}
-use Rattle.run_words.specs.Orders.{order_of}
-use Rattle.run_task.specs.declared.task.Task.{Task}
-use Rattle.run_task.specs.Tasks.{Named, IsOf}
-use Rattle.run_task.specs.declared.task.Task.TheVariants as tasks
-use Rattle.run_problem.specs.declared.package.Problem.{Problem}
-use Rattle.run_words.specs.declared.command.Work.{Work}
-use Rattle.run_words.specs.declared.command.Work.TheVariants as works
-use Rattle.run_output.specs.Answers.{Writes}
-use Rattle.run_output.specs.declared.answer.Answer.{Answer}
-use Rattle.concretizer.specs.Attempts.{Attempts, Follows, IsAsked}
+use Rattle.run_output.specs.Answer.{Answer}
+use Rattle.run_output.specs.Answers.{IsHalfPut, KeepsFronts, Writes}
+use Rattle.run_output.specs.declared.answer.Outcome.{Outcome}
+use Rattle.run_output.specs.Input.{Input}
+use Rattle.run_output.specs.Orders.{order_of}
+use Rattle.run_output.specs.Stages.{Is}
+use Rattle.run_output.specs.Stops.{Gives}
+use Rattle.run_output.specs.Stop.{Stop}
+use Rattle.run_output.specs.Stop.TheVariants.{Write}
+use Rattle.run_output.specs.Task.{Task}
+use Rattle.run_output.specs.Task.TheVariants as tasks
+use Rattle.run_output.specs.Tasks.{Named, IsOf}
+use Rattle.run_output.specs.Words.{Command, is_dash, lock_path, cert_path}
+use Rattle.run_output.specs.Work.{Work}
+use Rattle.run_output.specs.Work.TheVariants as works
+use Rattle.run_output.specs.WriteStop.{WriteStop}
+use Rattle.run_output.specs.WriteStop.TheVariants.{Put, Output, NoMemory}
+use Rattle.concretizer.specs.Asked.{IsAsked, IsPutPath}
+use Rattle.concretizer.specs.Attempts.{Attempts, Follows}
+use Rattle.concretizer.specs.Headline.{Keeps}
 
-write_carried : (stop : WriteStop) (result : Result Answer Stop) → IsErrAnd result (λ given. given ≡ Write stop) → result ≡ Err (Write stop)
-write_carried stop (Ok answer) h = absurd h
+write_carried : (stop : WriteStop) (result : Result Outcome Stop) → IsErrAnd result (λ given. given ≡ Write stop) → result ≡ Err (Write stop)
+write_carried stop (Ok outcome) h = absurd h
 write_carried stop (Err given) h = ap Err h
 
+-- the same, by paths that are those of the words
+by_paths : (A : List ℕ → List ℕ → Type 0) (lock cert lock_of cert_of : List ℕ) → lock ≡ lock_of → cert ≡ cert_of → A lock cert
+    → A lock_of cert_of
+by_paths A lock cert lock_of cert_of at certified left = subst (λ (q : List ℕ). A q cert_of) at (subst (λ (q : List ℕ). A lock q) certified left)
+
 -- a writing that stopped, of a task that was read
-pub stopped : (words : List (List ℕ)) (command : Command) (path : List ℕ) (task : Task) (stop : WriteStop) (result : Result Answer Stop)
-    (before between after : Option Files) (said_before said_after : Option (List ℕ))
+pub stopped : (words : List (List ℕ)) (command : Command) (lock cert : List ℕ) (task : Task) (stop : WriteStop)
+    (result : Result Outcome Stop) (before between after : Option Files) (said_before said_after : Option (List ℕ))
     → IsErrAnd result (λ given. given ≡ Write stop) → Is (order_of words) (Ok command)
     → IfSome before (λ files. Gives {T = Task} (Ok task) (Named files command)) → between ≡ before
-    → path ≡ lock_path words → Writes path task between after said_before said_after (Err stop)
+    → lock ≡ lock_path words → cert ≡ cert_path words → Writes lock cert task between after said_before said_after (Err stop)
     → IfSome before (λ files. Attempts files words after said_before said_after result)
-stopped words command path task stop result None between after said_before said_after is ordered read same at left = tt
-stopped words command path task stop result (Some files) between after said_before said_after is ordered read same at left =
+stopped words command lock cert task stop result None between after said_before said_after is ordered read same at certified left = tt
+stopped words command lock cert task stop result (Some files) between after said_before said_after is ordered read same at certified left =
     rw (write_carried stop result is) (record {
       task = task;
       read = (command, ordered, read);
-      left = subst (λ (q : List ℕ). Writes q task (Some files) after said_before said_after (Err stop)) at
-          (subst (λ (m : Option Files). Writes path task m after said_before said_after (Err stop)) same left);
+      left = by_paths (λ l c. Writes l c task (Some files) after said_before said_after (Err stop)) lock cert (lock_path words)
+          (cert_path words) at certified
+          (subst (λ (m : Option Files). Writes lock cert task m after said_before said_after (Err stop)) same left);
     })
 
-is_concretize : (work : Work) (problem : Problem) → IsOf work (tasks.Solve problem) → work ≡ works.Concretize
-is_concretize works.Concretize problem of = refl
-is_concretize works.Judge problem of = absurd of
+-- a writing that answered
+pub answered : (words : List (List ℕ)) (command : Command) (lock cert : List ℕ) (task : Task) (outcome : Outcome)
+    (before between after : Option Files) (said_before said_after : Option (List ℕ)) → Is (order_of words) (Ok command)
+    → IfSome before (λ files. Gives {T = Task} (Ok task) (Named files command)) → between ≡ before
+    → lock ≡ lock_path words → cert ≡ cert_path words → Writes lock cert task between after said_before said_after (Ok outcome)
+    → IfSome before (λ files. Attempts files words after said_before said_after (Ok outcome))
+answered words command lock cert task outcome None between after said_before said_after ordered read same at certified left = tt
+answered words command lock cert task outcome (Some files) between after said_before said_after ordered read same at certified left =
+    record {
+      task = task;
+      read = (command, ordered, read);
+      left = by_paths (λ l c. Writes l c task (Some files) after said_before said_after (Ok outcome)) lock cert (lock_path words)
+          (cert_path words) at certified
+          (subst (λ (m : Option Files). Writes lock cert task m after said_before said_after (Ok outcome)) same left);
+    }
 
-follows_here : (words : List (List ℕ)) (path : List ℕ) (task : Task) (stop : WriteStop) (before after : Option Files)
+-- what any end of writing keeps
+pub held : (words : List (List ℕ)) (command : Command) (lock cert : List ℕ) (task : Task) (before between after : Option Files)
+    → Is (order_of words) (Ok command) → IfSome before (λ files. Gives {T = Task} (Ok task) (Named files command)) → between ≡ before
+    → lock ≡ lock_path words → cert ≡ cert_path words → (after ≡ between) ⊎ KeepsFronts lock cert task between after
+    → IfSome before (λ files. Keeps files words after)
+held words command lock cert task None between after ordered read same at certified kept = tt
+held words command lock cert task (Some files) between after ordered read same at certified (inl unchanged) = inl (unchanged ∙ same)
+held words command lock cert task (Some files) between after ordered read same at certified (inr fronts) =
+    inr (record {
+      task = task;
+      read = (command, ordered, read);
+      held = by_paths (λ l c. KeepsFronts l c task (Some files) after) lock cert (lock_path words) (cert_path words) at certified
+          (subst (λ (m : Option Files). KeepsFronts lock cert task m after) same fronts);
+    })
+
+is_concretize : (work : Work) (input : Input) → IsOf work (tasks.Solve input) → work ≡ works.Concretize
+is_concretize works.Concretize input of = refl
+is_concretize works.Judge input of = absurd of
+
+-- the path of a put that failed
+put_path : (words : List (List ℕ)) (lock cert : List ℕ) (input : Input) (answer : Answer) (at : List ℕ) (before after : Option Files)
+    → lock ≡ lock_path words → cert ≡ cert_path words → IsHalfPut lock cert input.problem answer at before after → IsPutPath words at
+put_path words lock cert input answer at before after is_lock is_cert (inl (same, (dash, held))) =
+    inr (same ∙ is_cert, subst (λ (c : List ℕ). is_dash c ≡ false) is_cert dash)
+put_path words lock cert input answer at before after is_lock is_cert (inr (same, held)) = inl (same ∙ is_lock)
+
+follows_here : (words : List (List ℕ)) (lock cert : List ℕ) (task : Task) (stop : WriteStop) (before after : Option Files)
     (said_before said_after : Option (List ℕ))
-    → (asked : IsAsked words) → IsOf asked.command.work task → path ≡ lock_path words
-    → Writes path task before after said_before said_after (Err stop) → Follows words (Err (Write stop))
-follows_here words path (tasks.Solve problem) (Put at) before after said_before said_after asked work is left =
-    (record { asked = asked; work = is_concretize asked.command.work problem work }, left.0 ∙ is)
-follows_here words path (tasks.Report numbers) (Put at) before after said_before said_after asked work is left = absurd left.1
-follows_here words path task Output before after said_before said_after asked work is left = asked
-follows_here words path task NoMemory before after said_before said_after asked work is left = tt
+    → (asked : IsAsked words) → IsOf asked.command.work task → lock ≡ lock_path words → cert ≡ cert_path words
+    → Writes lock cert task before after said_before said_after (Err stop) → Follows words (Err (Write stop))
+follows_here words lock cert (tasks.Solve input) (Put at) before after said_before said_after asked work is_lock is_cert (left, unsaid) = (
+  record { asked = asked; work = is_concretize asked.command.work input work },
+  put_path words lock cert input left.answer at before after is_lock is_cert left.half,
+)
+follows_here words lock cert (tasks.Report numbers) (Put at) before after said_before said_after asked work is_lock is_cert left =
+    absurd left.0
+follows_here words lock cert task Output before after said_before said_after asked work is_lock is_cert left = asked
+follows_here words lock cert task NoMemory before after said_before said_after asked work is_lock is_cert left = tt
 
 -- a writing that stopped, by the words
-pub follows : (words : List (List ℕ)) (path : List ℕ) (task : Task) (stop : WriteStop) (result : Result Answer Stop)
+pub follows : (words : List (List ℕ)) (lock cert : List ℕ) (task : Task) (stop : WriteStop) (result : Result Outcome Stop)
     (before after : Option Files) (said_before said_after : Option (List ℕ))
-    → IsErrAnd result (λ given. given ≡ Write stop) → (asked : IsAsked words) → IsOf asked.command.work task → path ≡ lock_path words
-    → Writes path task before after said_before said_after (Err stop) → Follows words result
-follows words path task stop result before after said_before said_after carried asked work is left =
-    rw (write_carried stop result carried) (follows_here words path task stop before after said_before said_after asked work is left)
+    → IsErrAnd result (λ given. given ≡ Write stop) → (asked : IsAsked words) → IsOf asked.command.work task
+    → lock ≡ lock_path words → cert ≡ cert_path words
+    → Writes lock cert task before after said_before said_after (Err stop) → Follows words result
+follows words lock cert task stop result before after said_before said_after carried asked work is_lock is_cert left =
+    rw (write_carried stop result carried)
+    (follows_here words lock cert task stop before after said_before said_after asked work is_lock is_cert left)

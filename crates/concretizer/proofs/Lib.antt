@@ -1,4 +1,5 @@
 pub mod Ends
 pub mod Faults
+pub mod Kept
 pub mod Left
 pub mod Stages

@@ -1,17 +1,17 @@
 -- Words that are refused.
 use Rattle.std.proofs.Common.{◌≡◌, ℕ, List, sym, ap, ◌∙◌, Result, Ok, Err}
 use Rattle.std.specs.Result.{IsErrAnd}
-use Rattle.run_answers.specs.Stages.{Is}
-use Rattle.run_answers.specs.Stops.{Gives, EndsInReadFault}
-use Rattle.run_answers.specs.declared.refusal.Refusal.{Refusal}
-use Rattle.run_answers.specs.declared.stop.ReadStop.{ReadStop}
-use Rattle.run_answers.specs.declared.stop.ReadStop.TheVariants.{Refused, Fault, NoMemory}
-use Rattle.run_answers.specs.declared.stop.Stop.{Stop}
-use Rattle.run_answers.specs.declared.stop.Stop.TheVariants.{Read}
-use Rattle.run_answers.proofs.StageLaws.{ok_not_err, err_same}
-use Rattle.run_words.specs.Words.{Command}
-use Rattle.run_words.specs.Orders.{order_of}
-use Rattle.run_output.specs.declared.answer.Answer.{Answer}
+use Rattle.run_output.specs.Stages.{Is}
+use Rattle.run_output.specs.Stops.{Gives, EndsInReadFault}
+use Rattle.run_output.specs.Refusal.{Refusal}
+use Rattle.run_output.specs.ReadStop.{ReadStop}
+use Rattle.run_output.specs.ReadStop.TheVariants.{Refused, Fault, NoMemory}
+use Rattle.run_output.specs.Stop.{Stop}
+use Rattle.run_output.specs.Stop.TheVariants.{Read}
+use Rattle.run_output.proofs.StageLaws.{ok_not_err, err_same}
+use Rattle.run_output.specs.Words.{Command}
+use Rattle.run_output.specs.Orders.{order_of}
+use Rattle.run_output.specs.declared.answer.Outcome.{Outcome}
 use Rattle.concretizer.specs.Attempts.{StopsAtOnce}
 
 -- words that are a command are not refused
@@ -26,11 +26,11 @@ stops words (Refused given) read fault refusal refused = err_same given refusal 
 stops words (Fault path) read fault refusal refused = absurd (fault tt)
 stops words NoMemory read fault refusal refused = tt
 
-stop_carried : (stop : ReadStop) (result : Result Answer Stop) → IsErrAnd result (λ given. given ≡ Read stop) → result ≡ Err (Read stop)
-stop_carried stop (Ok answer) h = absurd h
+stop_carried : (stop : ReadStop) (result : Result Outcome Stop) → IsErrAnd result (λ given. given ≡ Read stop) → result ≡ Err (Read stop)
+stop_carried stop (Ok outcome) h = absurd h
 stop_carried stop (Err given) h = ap Err h
 
-pub stops_at_once : (words : List (List ℕ)) (stop : ReadStop) (result : Result Answer Stop) → IsErrAnd result (λ given. given ≡ Read stop)
+pub stops_at_once : (words : List (List ℕ)) (stop : ReadStop) (result : Result Outcome Stop) → IsErrAnd result (λ given. given ≡ Read stop)
     → Gives {T = Command} (Err stop) (Is (order_of words)) → (EndsInReadFault {T = Command} (Err stop) → ⊥)
     → (refusal : Refusal) → Is (order_of words) (Err refusal) → StopsAtOnce refusal result
 stops_at_once words stop result carried read fault refusal refused =

@@ -5,16 +5,16 @@
 use Rattle.std.specs.Prelude.{◌≡◌, ◌⊎◌, ℕ, List, Option, Some, Ok, Err, IfSome}
 use Rattle.outside_desk.specs.Causes.{Rose}
 use Rattle.outside_desk.specs.Files.{Files, and_said}
-use Rattle.run_words.specs.Words.{lock_path}
-use Rattle.run_task.specs.declared.task.Task.{Task}
-use Rattle.run_task.specs.Tasks.{Poses}
-use Rattle.run_answers.specs.Refusals.{status_of, line_of}
-use Rattle.run_answers.specs.Stops.{read_fault_line, write_fault_line, output_fault_line}
-use Rattle.run_output.specs.Answers.{IsFinished, HasNoGraph, IsUntold, KeepsFront}
-use Rattle.concretizer.specs.Attempts.{IsLocking, IsRead}
-use Rattle.run_answers.specs.declared.refusal.Refusal.{Refusal}
-use Rattle.run_answers.specs.declared.status.Status.{Status}
-use Rattle.run_answers.specs.declared.status.Status.TheVariants as statuses
+use Rattle.run_output.specs.Words.{lock_path, cert_path}
+use Rattle.run_output.specs.Task.{Task}
+use Rattle.run_output.specs.Tasks.{Poses}
+use Rattle.run_output.specs.Refusals.{status_of, line_of}
+use Rattle.run_output.specs.Stops.{read_fault_line, write_fault_line, output_fault_line}
+use Rattle.run_output.specs.Answers.{IsFinished, HasNone, HasSpent, IsHalfDone, IsUntold, KeepsFronts}
+use Rattle.run_output.specs.Refusal.{Refusal}
+use Rattle.run_output.specs.Status.{Status}
+use Rattle.run_output.specs.Status.TheVariants as statuses
+use Rattle.concretizer.specs.Asked.{IsLocking, IsRead, IsPutPath}
 
 -- what a sink tells of what was said, before and after
 abbrev pub Spoken : Type 0
@@ -28,20 +28,30 @@ IsSilent said = said.1 ≡ said.0
 abbrev pub Says : Spoken → List ℕ → Type 0
 Says said line = said.1 ≡ and_said said.0 line
 
--- Done, by `concretize`: the lock file is that of the best wanted version that the recipe declares, every other
--- file is as at entry, its lines were said, and nothing else was. By `judge`: the graph of the lock file is valid,
--- that and its cost vector were said, and no file changed
+-- Done, by `concretize` (`IsSolved` in `run_output`): LOCK holds the lock file of a graph that is well-formed and optimal
+-- for the problem that was read, CERT, unless it is `-`, the text of a log that is a certificate of its costs, every
+-- other file is as at entry, its lines were said, and nothing else was. By `judge`: the graph of the lock file is
+-- valid, that and its cost vector were said, and no file changed
 pub record IsDone (files : Files) (words : List (List ℕ)) (after : Option Files) (out err : Spoken) : Type 0 where
   pub task : Task
   pub read : Poses files words (Ok task)
-  pub finished : IsFinished (lock_path words) task (Some files) after out.0 out.1
+  pub finished : IsFinished (lock_path words) (cert_path words) task (Some files) after out.0 out.1
   pub errors : IsSilent err
 
--- Unsatisfiable, by `concretize` alone: the recipe declares no version that is wanted, and no file changed
+-- Unsatisfiable, by `concretize` alone: no graph is valid, CERT holds the text of a log that refutes the problem, and every
+-- other file is as at entry
 pub record IsUnsatisfiable (files : Files) (words : List (List ℕ)) (after : Option Files) (out err : Spoken) : Type 0 where
   pub task : Task
   pub read : Poses files words (Ok task)
-  pub none : HasNoGraph task (Some files) after out.0 out.1
+  pub none : HasNone (cert_path words) task (Some files) after out.0 out.1
+  pub errors : IsSilent err
+
+-- Undecided, by `concretize` alone: the budget of the settings was spent, CERT holds the text of the log that shows it, and
+-- every other file is as at entry
+pub record IsUndecided (files : Files) (words : List (List ℕ)) (after : Option Files) (out err : Spoken) : Type 0 where
+  pub task : Task
+  pub read : Poses files words (Ok task)
+  pub spent : HasSpent (cert_path words) task (Some files) after out.0 out.1
   pub errors : IsSilent err
 
 -- Usage, BadInput, TooLarge and Refused: reading refuses, in its order; no file changed, and the refusal was said
@@ -53,7 +63,7 @@ pub record IsRefused (files : Files) (words : List (List ℕ)) (answer : Status)
   pub output : IsSilent out
   pub errors : Says err (line_of refusal)
 
--- ReadFault: the desk failed to read the settings, the folder of packages, a recipe or, by `judge`, the lock file,
+-- ReadFault: the desk failed to read the settings, the folder of packages, a recipe, the database or, by `judge`, the lock file,
 -- and that was said
 pub record IsReadFault (words : List (List ℕ)) (faults : ℕ × ℕ) (files : Option Files × Option Files) (out err : Spoken) : Type 0 where
   pub path : List ℕ
@@ -63,30 +73,40 @@ pub record IsReadFault (words : List (List ℕ)) (faults : ℕ × ℕ) (files : 
   pub output : IsSilent out
   pub errors : Says err (read_fault_line path)
 
--- WriteFault where the desk failed to put the lock file, and that was said, and nothing else
-pub record IsPutFault (words : List (List ℕ)) (faults : ℕ × ℕ) (out err : Spoken) : Type 0 where
+-- what a put at the path that failed leaves: what was put before is whole
+pub record LeavesPut (files : Files) (words : List (List ℕ)) (path : List ℕ) (after : Option Files) : Type 0 where
+  pub task : Task
+  pub read : Poses files words (Ok task)
+  pub half : IsHalfDone (lock_path words) (cert_path words) task path (Some files) after
+
+-- WriteFault where the desk failed to put the certificate or the lock file, and that was said, and nothing else
+pub record IsPutFault (words : List (List ℕ)) (files : Option Files × Option Files) (faults : ℕ × ℕ) (out err : Spoken) : Type 0 where
+  pub path : List ℕ
   pub asked : IsLocking words
+  pub put : IsPutPath words path
+  pub left : IfSome files.0 (λ before. LeavesPut before words path files.1)
   pub rose : Rose faults.0 faults.1
   pub output : IsSilent out
-  pub errors : Says err (write_fault_line (lock_path words))
+  pub errors : Says err (write_fault_line path)
 
--- what a fault of the sink of the answer leaves: the lock file whole, or no file changed where no declared
--- version is wanted, nor by `judge`
-abbrev pub Leaves : Files → List (List ℕ) → Option Files → Type 0
-Leaves files words after = (task : Task) × Poses files words (Ok task) × IsUntold (lock_path words) task (Some files) after
+-- what a fault of the sink of the answer leaves: all files of the answer whole, and no file changed by `judge`
+pub record LeavesAll (files : Files) (words : List (List ℕ)) (after : Option Files) : Type 0 where
+  pub task : Task
+  pub read : Poses files words (Ok task)
+  pub left : IsUntold (lock_path words) (cert_path words) task (Some files) after
 
 -- WriteFault where the sink of the answer failed, and that was said
 pub record IsOutputFault (words : List (List ℕ)) (files : Option Files × Option Files) (faults : ℕ × ℕ) (err : Spoken) : Type 0 where
-  pub left : IfSome files.0 (λ before. Leaves before words files.1)
+  pub left : IfSome files.0 (λ before. LeavesAll before words files.1)
   pub rose : Rose faults.0 faults.1
   pub errors : Says err output_fault_line
 
--- Whatever the answer: the files are as at entry, or reading gave a problem to solve and the file at its lock path
--- is as it was or holds a front of the lock file of a best version
+-- Whatever the answer: the files are as at entry, or reading gave a problem to solve, and CERT holds a front of the log
+-- of its answer; or all of it, and LOCK a front of the lock file of an optimal graph
 pub record HasPut (files : Files) (words : List (List ℕ)) (after : Option Files) : Type 0 where
   pub task : Task
   pub read : Poses files words (Ok task)
-  pub held : KeepsFront (lock_path words) task (Some files) after
+  pub held : KeepsFronts (lock_path words) (cert_path words) task (Some files) after
 
 abbrev pub Keeps : Files → List (List ℕ) → Option Files → Type 0
 Keeps files words after = (after ≡ Some files) ⊎ HasPut files words after
@@ -95,6 +115,7 @@ Keeps files words after = (after ≡ Some files) ⊎ HasPut files words after
 abbrev pub Settles : Status → Type 0
 Settles statuses.Done = Unit {0}
 Settles statuses.Unsatisfiable = Unit {0}
+Settles statuses.Undecided = Unit {0}
 Settles statuses.NoMemory = Unit {0}
 Settles other = ⊥
 

@@ -2,13 +2,14 @@
 //!
 //! What it is: `run`, the top call.
 //! What it promises: what `specs/Headline.antt` says of each answer, for any desk and any sinks.
-//! What it stands on: `run_task` for what is read, `run_output` for what is written.
+//! What it stands on: `run_output` for what is read and written.
 //! What it must not know: which machine, files or streams are behind the desk and the sinks.
 #![tactic(auto)]
 
+mod attempt;
 mod steady;
 mod top;
 
-pub use run_answers::Status;
+pub use run_output::Status;
 pub use steady::run_steady;
 pub use top::run;

@@ -1,21 +1,21 @@
 //! Runs over devices that never fail.
 
 ghost use Rattle.std.specs.Prelude.{◌≡◌, ◌≢◌, Ok, Err, Some};
-ghost use Rattle.run_words.specs.Words.{words_of};
-ghost use Rattle.run_task.specs.declared.task.Task.{Task};
-ghost use Rattle.run_task.specs.Tasks.{Poses};
-ghost use Rattle.concretizer.specs.Headline.{IsDone, IsUnsatisfiable, IsRefused, Settles, IsRefusalStatus, IsAnsweredBy};
-ghost use Rattle.run_answers.specs.Refusals.{status_of};
-ghost use Rattle.run_answers.specs.declared.refusal.Refusal.{Refusal};
+ghost use Rattle.run_output.specs.Words.{words_of};
+ghost use Rattle.run_output.specs.Task.{Task};
+ghost use Rattle.run_output.specs.Tasks.{Poses};
+ghost use Rattle.concretizer.specs.Headline.{IsDone, IsUnsatisfiable, IsUndecided, IsRefused, Settles, IsRefusalStatus, IsAnsweredBy};
+ghost use Rattle.run_output.specs.Refusals.{status_of};
+ghost use Rattle.run_output.specs.Refusal.{Refusal};
 
 use crate::top::run;
 use outside_desk::{SteadyDesk, SteadySink};
-use run_answers::Status;
+use run_output::Status;
 use std::alloc::Global;
 use std::thread::Threads;
 
 /// `run` over files and sinks in memory, none of which fails. So no fault is answered, and input that
-/// nothing refuses is Done, Unsatisfiable or NoMemory, and input that is refused is answered so.
+/// nothing refuses is Done, Unsatisfiable, Undecided or NoMemory, and input that is refused is answered so.
 pub fn run_steady<R: Threads + Sync>(
     rt: &R,
     alloc: Global,
@@ -29,6 +29,9 @@ pub fn run_steady<R: Threads + Sync>(
         (Some err.old, Some err.new) }
     ensures unsatisfiable { result ≡ Status.Unsatisfiable
         → IsUnsatisfiable desk.old (words_of words.now) (Some desk.new) (Some out.old, Some out.new)
+        (Some err.old, Some err.new) }
+    ensures undecided { result ≡ Status.Undecided
+        → IsUndecided desk.old (words_of words.now) (Some desk.new) (Some out.old, Some out.new)
         (Some err.old, Some err.new) }
     ensures refused { IsRefusalStatus result
         → IsRefused desk.old (words_of words.now) result (Some desk.new)

@@ -2,17 +2,17 @@
 use Rattle.std.proofs.Common.{◌≡◌, sym, ap, ◌∙◌, ℕ, ◌<◌, Bool, false, List, length, get_or, map, replicate, arith}
 use Rattle.std.specs.Cmp.Lexicographic.{nat_list_cmp_total}
 use Rattle.std.proofs.lemmas.List.{length-map, length-replicate, get_or-map}
-use Rattle.variant_values.specs.Texts.{byte_cmp}
-use Rattle.variant_values.proofs.Texts.{ties_are_equal}
-use Rattle.reachability.specs.Places.{AreNumbered, AreHeads, MarksReached, IsAt}
-use Rattle.reachability.proofs.HeadLaws.{told_by_marks}
-use Rattle.reachability.proofs.SearchLaws.{no_marks}
-use Rattle.keyed_lists.specs.Keyed.{IsPlaceOf, IsGapFor}
-use Rattle.keyed_lists.proofs.KeyedLaws.{lacks_key}
-use Rattle.graph_core.specs.declared.node.Node.{Node}
-use Rattle.graph_core.specs.Graphs.{Text, Content, IsGraph, name_of}
-use Rattle.graph_core.specs.Paths.{arcs_of, reaches_in}
-use Rattle.graph_core.proofs.PathLaws.{names_once, name_at, begins_at_node, ends_at_node, told_path, no_path}
+use Rattle.virtuals.specs.OfVariantValues.Texts.{byte_cmp}
+use Rattle.virtuals.proofs.OfVariantValues.Texts2.{ties_are_equal}
+use Rattle.virtuals.specs.OfReachability.Places.{AreNumbered, AreHeads, MarksReached, IsAt}
+use Rattle.virtuals.proofs.OfReachability.HeadLaws.{told_by_marks}
+use Rattle.virtuals.proofs.OfReachability.SearchLaws.{no_marks}
+use Rattle.virtuals.specs.OfKeyedLists.Keyed.{IsPlaceOf, IsGapFor}
+use Rattle.virtuals.proofs.OfKeyedLists.KeyedLaws.{lacks_key}
+use Rattle.virtuals.specs.OfGraphCore.Node.{Node}
+use Rattle.virtuals.specs.OfGraphCore.Graphs.{Text, Content, IsGraph, name_of}
+use Rattle.virtuals.specs.OfGraphCore.Paths.{arcs_of, reaches_in}
+use Rattle.virtuals.proofs.OfGraphCore.PathLaws.{names_once, name_at, begins_at_node, ends_at_node, told_path, no_path}
 use Rattle.condition_rules.specs.Below.{AreBelow}
 
 pub known_at : (nodes : List Node) (i : ℕ) (node : Node) (name : Text) → i < length nodes → node ≡ get_or nodes i node

@@ -4,7 +4,7 @@ use Rattle.std.specs.List.{All}
 use Rattle.std.specs.Cmp.Lexicographic.{nat_list_eq_equiv, bytes_decides}
 use Rattle.std.proofs.lemmas.List.Sums.{AllPass-from_list_all, list_all-from_AllPass}
 use Rattle.std.proofs.lemmas.Map.Views.{list_any-from_Contains, Contains-from_any}
-use Rattle.graph_core.specs.Graphs.{Text}
+use Rattle.virtuals.specs.OfGraphCore.Graphs.{Text}
 use Rattle.condition_rules.specs.Words.{among, includes}
 
 -- two tests that hold of the same are one

@@ -1,13 +1,13 @@
 -- The nodes that parts after `^` ask for, and those that paths lead to.
 use Rattle.std.specs.Prelude.{◌≡◌, ◌↔◌, ℕ, Bool, List, length, Option, Some, None, option_and_then, if◌then◌else◌}
-use Rattle.spec_grammar.specs.declared.part.Part.{Part}
-use Rattle.reachability.specs.Paths.{Path}
-use Rattle.reachability.specs.Places.{IsMarked}
-use Rattle.variant_values.specs.Texts.{byte_cmp}
-use Rattle.keyed_lists.specs.Keyed.{IsPlaceOf}
-use Rattle.graph_core.specs.Graphs.{Text, Content, name_of}
-use Rattle.graph_core.specs.Paths.{JoinedIn}
-use Rattle.graph_core.specs.declared.node.Node.{Node}
+use Rattle.virtuals.specs.OfConditions.Part.{Part}
+use Rattle.virtuals.specs.OfReachability.Paths.{Path}
+use Rattle.virtuals.specs.OfReachability.Places.{IsMarked}
+use Rattle.virtuals.specs.OfVariantValues.Texts.{byte_cmp}
+use Rattle.virtuals.specs.OfKeyedLists.Keyed.{IsPlaceOf}
+use Rattle.virtuals.specs.OfGraphCore.Graphs.{Text, Content, name_of}
+use Rattle.virtuals.specs.OfGraphCore.Paths.{JoinedIn}
+use Rattle.virtuals.specs.OfGraphCore.Node.{Node}
 use Rattle.condition_rules.specs.Worlds.{World}
 use Rattle.condition_rules.specs.Holds.{asked_node, suits}
 

@@ -2,13 +2,13 @@
 use Rattle.std.specs.Prelude.{Bool, ◌&&◌, Option, Some, option_and_then, if◌then◌else◌}
 use Rattle.std.specs.List.{list_all}
 use Rattle.std.specs.Str.{bytes_eq}
-use Rattle.spec_grammar.specs.declared.part.Part.{Part}
-use Rattle.spec_grammar.specs.declared.part.Spec.{Spec}
-use Rattle.graph_core.specs.Graphs.{Text, Content, node_of, provider_of}
-use Rattle.graph_core.specs.Paths.{reaches_in}
-use Rattle.graph_core.specs.declared.node.Node.{Node}
-use Rattle.conditions.specs.declared.recipe.Condition.{Condition}
-use Rattle.conditions.specs.declared.recipe.VariantRow.{VariantRow}
+use Rattle.virtuals.specs.OfConditions.Part.{Part}
+use Rattle.virtuals.specs.OfConditions.Spec.{Spec}
+use Rattle.virtuals.specs.OfGraphCore.Graphs.{Text, Content, node_of, provider_of}
+use Rattle.virtuals.specs.OfGraphCore.Paths.{reaches_in}
+use Rattle.virtuals.specs.OfGraphCore.Node.{Node}
+use Rattle.virtuals.specs.OfConditions.Condition.{Condition}
+use Rattle.virtuals.specs.OfConditions.VariantRow.{VariantRow}
 use Rattle.virtuals.specs.Virtuals.{is_virtual}
 use Rattle.condition_rules.specs.Words.{is_some_and, find_last}
 use Rattle.condition_rules.specs.Worlds.{World, recipe_of, rows}

@@ -5,3 +5,9 @@ pub mod Meets
 pub mod Holds
 -- what private ones say
 pub mod Below
+pub mod OfVariantValues
+pub mod OfSpecGrammar
+pub mod OfKeyedLists
+pub mod OfGraphCore
+pub mod OfConditions
+pub mod OfVirtuals

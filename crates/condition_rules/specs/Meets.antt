@@ -2,15 +2,15 @@
 use Rattle.std.specs.Prelude.{Bool, true, ◌&&◌, List, find, Option, Some, None, if◌then◌else◌}
 use Rattle.std.specs.List.{list_any, list_all}
 use Rattle.std.specs.Str.{bytes_eq}
-use Rattle.version_order.specs.Sets.{set_contains, sets_overlap}
-use Rattle.version_order.specs.declared.item.Item.{Item}
-use Rattle.spec_grammar.specs.declared.part.Part.{Part}
-use Rattle.spec_grammar.specs.declared.part.TargetItem.{TargetItem}
+use Rattle.virtuals.specs.OfConditions.Sets.{set_contains, sets_overlap}
+use Rattle.virtuals.specs.OfConditions.Item.{Item}
+use Rattle.virtuals.specs.OfConditions.Part.{Part}
+use Rattle.virtuals.specs.OfConditions.TargetItem.{TargetItem}
 use Rattle.target_table.specs.Targets.{in_range}
-use Rattle.graph_core.specs.Graphs.{Text}
-use Rattle.graph_core.specs.declared.node.Node.{Node}
-use Rattle.graph_core.specs.declared.node.Compiler.{Compiler}
-use Rattle.conditions.specs.declared.recipe.ProvideRow.{ProvideRow}
+use Rattle.virtuals.specs.OfGraphCore.Graphs.{Text}
+use Rattle.virtuals.specs.OfGraphCore.Node.{Node}
+use Rattle.virtuals.specs.OfGraphCore.Compiler.{Compiler}
+use Rattle.virtuals.specs.OfConditions.ProvideRow.{ProvideRow}
 use Rattle.condition_rules.specs.Words.{includes, if_written, is_some_and}
 use Rattle.condition_rules.specs.Worlds.{World, recipe_of, rows}
 

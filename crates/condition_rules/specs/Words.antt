@@ -3,7 +3,7 @@ use Rattle.std.specs.Prelude.{Bool, true, false, List, [], ◌∷◌, Option, So
 use Rattle.std.specs.Option.{option_or}
 use Rattle.std.specs.List.{list_any, list_all}
 use Rattle.std.specs.Str.{bytes_eq}
-use Rattle.graph_core.specs.Graphs.{Text}
+use Rattle.virtuals.specs.OfGraphCore.Graphs.{Text}
 
 -- the text is one of these
 abbrev pub among : List Text → Text → Bool

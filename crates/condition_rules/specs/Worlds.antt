@@ -1,10 +1,10 @@
 -- What conditions are read against.
 use Rattle.std.specs.Prelude.{List, [], Option, Some, None}
-use Rattle.variant_values.specs.Texts.{byte_cmp}
-use Rattle.keyed_lists.specs.Keyed.{find_key}
+use Rattle.virtuals.specs.OfVariantValues.Texts.{byte_cmp}
+use Rattle.virtuals.specs.OfKeyedLists.Keyed.{find_key}
 use Rattle.target_table.specs.declared.entry.TargetEntry.{TargetEntry}
-use Rattle.graph_core.specs.Graphs.{Text}
-use Rattle.conditions.specs.declared.recipe.Recipe.{Recipe}
+use Rattle.virtuals.specs.OfGraphCore.Graphs.{Text}
+use Rattle.virtuals.specs.OfConditions.Recipe.{Recipe}
 use Rattle.virtuals.specs.Virtuals.{name_of}
 
 -- the machine's platform, the targets in order of preference, and the recipes in byte order of names

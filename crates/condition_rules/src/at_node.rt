@@ -9,10 +9,7 @@ use crate::part::{
     meets_compiler, meets_name, meets_os, meets_platform, meets_targets, meets_variants,
     meets_versions,
 };
-use conditions::ProvideRow;
-use graph_core::Node;
-use spec_grammar::{Part, Spec};
-use version_order::VersionSet;
+use virtuals::{Node, Part, ProvideRow, Spec, VersionSet};
 
 /// Whether the constraints of a part other than name and version hold at a node.
 #[tactic(auto, unfolding(crate::specs::Meets::meets_rest))]

@@ -2,8 +2,8 @@
 ghost use Rattle.std.specs.Prelude.{◌≡◌, ◌&&◌, IfOk, option_and_then};
 ghost use Rattle.std.specs.List.{list_all};
 ghost use Rattle.std.specs.Option.{option_copied};
-ghost use Rattle.graph_core.specs.Graphs.{Text, node_of, provider_of};
-ghost use Rattle.graph_core.specs.Paths.{reaches_in};
+ghost use Rattle.virtuals.specs.OfGraphCore.Graphs.{Text, node_of, provider_of};
+ghost use Rattle.virtuals.specs.OfGraphCore.Paths.{reaches_in};
 ghost use Rattle.condition_rules.specs.Words.{is_some_and, find_last};
 ghost use Rattle.condition_rules.specs.Meets.{meets};
 ghost use Rattle.condition_rules.specs.Below.{suited, node_below};
@@ -11,11 +11,8 @@ ghost use Rattle.condition_rules.specs.Holds.{asked_node, suits, holds_below, ho
 
 use crate::at_node::{meets, meets_rest, provides};
 use crate::{Paths, World};
-use conditions::{Condition, VariantRow};
-use graph_core::{Graph, Node};
-use spec_grammar::{Part, Spec};
 use std::alloc::{AllocError, Global};
-use version_order::VersionSet;
+use virtuals::{Condition, Graph, Node, Part, Spec, VariantRow, VersionSet};
 
 fn provider_node<'a>(graph: &'a Graph, name: &str) -> Option<&'a Node>
     ensures { option_copied result ≡ option_and_then (node_of graph.now)

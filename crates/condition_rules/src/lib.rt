@@ -20,4 +20,5 @@ pub use at_node::{meets, meets_rest, provides};
 pub use in_graph::{all_hold, asked_node, governing, holds, suits};
 pub use paths::Paths;
 pub use theorems::condition_laws;
+pub use virtuals::{ConflictRow, DependRow, Part, Providers, Recipe, RequireRow, Spec};
 pub use world::World;

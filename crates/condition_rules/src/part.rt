@@ -7,11 +7,8 @@ ghost use Rattle.condition_rules.specs.Words.{includes, is_some_and};
 ghost use Rattle.condition_rules.specs.Meets.{has_values, is_compiler, is_target, meets_variants, meets_compiler, meets_platform, meets_os, meets_targets, meets_name, meets_versions};
 
 use crate::World;
-use graph_core::{Compiler, Node};
 use plain_data::Word;
-use spec_grammar::{Part, TargetItem};
-use variant_values::ValueSet;
-use version_order::VersionSet;
+use virtuals::{Compiler, Node, Part, TargetItem, ValueSet, VersionSet};
 
 fn includes(values: &ValueSet, wanted: &ValueSet) -> bool
     ensures { result ≡ includes values.now wanted.now }

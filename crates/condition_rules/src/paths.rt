@@ -1,18 +1,18 @@
 // Graphs of which paths can be asked.
 ghost use Rattle.std.specs.Prelude.{◌≡◌, IfOk};
 ghost use Rattle.std.specs.List.{list_all};
-ghost use Rattle.graph_core.specs.Paths.{reaches_in};
+ghost use Rattle.virtuals.specs.OfGraphCore.Paths.{reaches_in};
 
 use crate::search::Below;
-use graph_core::{Graph, reaches};
 use std::alloc::{AllocError, Global};
+use virtuals::{Graph, reaches};
 
 /// A graph of which paths can be asked, by a search or by what was found before.
 pub trait Paths {
     ghost use Rattle.std.specs.Prelude.{◌≡◌, IfOk};
     ghost use Rattle.std.specs.List.{list_all};
-    ghost use Rattle.graph_core.specs.Graphs.{Content};
-    ghost use Rattle.graph_core.specs.Paths.{reaches_in};
+    ghost use Rattle.virtuals.specs.OfGraphCore.Graphs.{Content};
+    ghost use Rattle.virtuals.specs.OfGraphCore.Paths.{reaches_in};
 
     ghost graph_of: { Self → Content };
 

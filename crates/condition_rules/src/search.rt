@@ -1,14 +1,13 @@
 // One search for the paths from a node to all that it leads to.
 ghost use Rattle.std.specs.Prelude.{◌≡◌, map, IfOk};
-ghost use Rattle.reachability.specs.Places.{AreNumbered, IsAt};
-ghost use Rattle.graph_core.specs.Graphs.{HasNode, name_of};
-ghost use Rattle.graph_core.specs.Paths.{arcs_of, reaches_in};
+ghost use Rattle.virtuals.specs.OfReachability.Places.{AreNumbered, IsAt};
+ghost use Rattle.virtuals.specs.OfGraphCore.Graphs.{HasNode, name_of};
+ghost use Rattle.virtuals.specs.OfGraphCore.Paths.{arcs_of, reaches_in};
 ghost use Rattle.condition_rules.specs.Below.{AreBelow};
 
-use graph_core::Graph;
-use reachability::{Bits, heads_of, reached};
 use std::alloc::{AllocError, Global};
 use std::marker::Model;
+use virtuals::{Bits, Graph, heads_of, reached};
 
 /// A name and a graph, with a mark for each node that a path of one or more edges leads to from there.
 #[derive(Drop)]
@@ -19,7 +18,7 @@ pub(crate) struct Below<'a> {
 }
 
 impl<'a> Model for Below<'a> {
-    ghost use Rattle.graph_core.specs.Graphs.{Text, Content};
+    ghost use Rattle.virtuals.specs.OfGraphCore.Graphs.{Text, Content};
     ghost use Rattle.condition_rules.specs.Below.{AreBelow};
 
     ghost Value = { Content × Text };

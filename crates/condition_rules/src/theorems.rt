@@ -1,9 +1,9 @@
 // What holds of conditions. The bodies are empty: what is proved are the contracts.
 ghost use Rattle.std.specs.Prelude.{◌≡◌, List, [], Some};
 ghost use Rattle.std.specs.List.Sorted.{IsPermutation};
-ghost use Rattle.graph_core.specs.Graphs.{Text, Content, node_of};
-ghost use Rattle.graph_core.specs.declared.node.Node.{Node};
-ghost use Rattle.spec_grammar.specs.declared.part.Spec.{Spec};
+ghost use Rattle.virtuals.specs.OfGraphCore.Graphs.{Text, Content, node_of};
+ghost use Rattle.virtuals.specs.OfGraphCore.Node.{Node};
+ghost use Rattle.virtuals.specs.OfConditions.Spec.{Spec};
 ghost use Rattle.condition_rules.specs.Worlds.{World};
 ghost use Rattle.condition_rules.specs.Meets.{meets};
 ghost use Rattle.condition_rules.specs.Holds.{holds, all_hold};

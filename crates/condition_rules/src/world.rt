@@ -4,11 +4,9 @@ ghost use Rattle.std.specs.Option.{option_copied};
 ghost use Rattle.virtuals.specs.Virtuals.{AreInOrder, AreProviders, is_virtual};
 ghost use Rattle.condition_rules.specs.Worlds.{recipe_of};
 
-use conditions::Recipe;
-use keyed_lists::find;
 use std::marker::Model;
 use target_table::TargetTable;
-use virtuals::Providers;
+use virtuals::{Providers, Recipe, find};
 
 /// The machine's platform, the targets, and the recipes in byte order of names, each name once.
 #[derive(Drop)]

@@ -4,11 +4,11 @@ use Rattle.std.specs.List.{list_any, list_all}
 use Rattle.std.specs.Ordering.{nat_cmp}
 use Rattle.std.specs.Str.{bytes_eq}
 use Rattle.std.specs.BTreeSet.{insert_key}
-use Rattle.variant_values.specs.Texts.{Texts}
-use Rattle.variant_values.specs.declared.kind.VariantKind.{VariantKind}
-use Rattle.variant_values.specs.declared.kind.VariantKind.TheVariants as kinds
+use Rattle.graph_core.specs.OfVariantValues.Texts.{Texts}
+use Rattle.graph_core.specs.OfVariantValues.VariantKind.{VariantKind}
+use Rattle.graph_core.specs.OfVariantValues.VariantKindVariants as kinds
 use Rattle.spec_grammar.specs.declared.part.Spec.{Spec}
-use Rattle.keyed_lists.specs.Keyed.{rises}
+use Rattle.graph_core.specs.OfKeyedLists.Keyed.{rises}
 use Rattle.conditions.specs.declared.recipe.Recipe.{Recipe}
 use Rattle.conditions.specs.declared.recipe.VariantRow.{VariantRow}
 use Rattle.conditions.specs.declared.recipe.ProvideRow.{ProvideRow}

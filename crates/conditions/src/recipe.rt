@@ -4,12 +4,9 @@
 //! `conflicts` and `requires` in its file, from 0. A call may give no row, and keeps its number; one call of
 //! `provides` may give several rows, which share it.
 
-use graph_core::Kinds;
-use keyed_lists::Keyed;
+use graph_core::{Keyed, Kinds, ValueSet, VariantKind, Version, VersionSet};
 use plain_data::{List, Word};
 use spec_grammar::{Part, Spec};
-use variant_values::{ValueSet, VariantKind};
-use version_order::{Version, VersionSet};
 
 /// The condition of a directive: specs that must all hold at the package. Those of the enclosing
 /// `with when(..)` blocks stand first, the outermost before the others, and then its own `when=`. Where there

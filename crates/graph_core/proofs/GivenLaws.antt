@@ -11,10 +11,10 @@ use Rattle.std.proofs.lemmas.Bool.{false≢true, false_from_ne_true}
 use Rattle.std.proofs.lemmas.Option.{none-some}
 use Rattle.std.proofs.lemmas.List.Elements.{All-contains}
 use Rattle.std.proofs.lemmas.List.Kept.{IsStrictlySortedBy-filter}
-use Rattle.reachability.proofs.CountLaws.{image_of}
-use Rattle.reachability.proofs.SpreadLaws.{from_filter}
-use Rattle.variant_values.specs.Texts.{byte_cmp}
-use Rattle.variant_values.proofs.Texts.{ties_are_equal}
+use Rattle.keyed_lists.proofs.OfReachability.CountLaws.{image_of}
+use Rattle.keyed_lists.proofs.OfReachability.SpreadLaws.{from_filter}
+use Rattle.keyed_lists.specs.OfVariantValues.Texts.{byte_cmp}
+use Rattle.keyed_lists.proofs.OfVariantValues.Texts2.{ties_are_equal}
 use Rattle.keyed_lists.specs.Given.{passes_or_none, adds_or_none}
 use Rattle.keyed_lists.specs.Keyed.{IsInOrder, find_key}
 use Rattle.keyed_lists.specs.Laws.{IsKeyed}

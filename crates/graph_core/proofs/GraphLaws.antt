@@ -8,10 +8,10 @@ use Rattle.std.proofs.lemmas.List.Elements.{All-weaker, All-nil}
 use Rattle.std.proofs.lemmas.List.Sums.{AllPass-from_list_all, list_all-from_AllPass}
 use Rattle.std.specs.Cmp.Lexicographic.{nat_list_cmp_total}
 use Rattle.std.specs.List.Sorted.{IsStrictlySortedBy}
-use Rattle.reachability.proofs.CountLaws.{has_image}
-use Rattle.variant_values.specs.Texts.{byte_cmp}
-use Rattle.variant_values.proofs.Texts.{ties_are_equal}
-use Rattle.variant_values.proofs.Keys.{Contains-insert_key}
+use Rattle.keyed_lists.proofs.OfReachability.CountLaws.{has_image}
+use Rattle.keyed_lists.specs.OfVariantValues.Texts.{byte_cmp}
+use Rattle.keyed_lists.proofs.OfVariantValues.Texts2.{ties_are_equal}
+use Rattle.keyed_lists.proofs.OfVariantValues.Keys.{Contains-insert_key}
 use Rattle.keyed_lists.specs.Keyed.{rises, with_one}
 use Rattle.keyed_lists.proofs.KeyedLaws.{keys-with_one, in_order-with_one, all-with_one, find_known}
 use Rattle.keyed_lists.proofs.LookupLaws.{find_sound}

@@ -2,3 +2,6 @@ pub mod GivenLaws
 pub mod GraphLaws
 pub mod PairLaws
 pub mod PathLaws
+pub mod OfReachability
+pub mod OfVariantValues
+pub mod OfKeyedLists

@@ -12,9 +12,9 @@ use Rattle.std.specs.Ordering.{ordering_then, ordering_reverse, ordering_index, 
 use Rattle.std.specs.Str.{bytes_eq}
 use Rattle.std.specs.declared.cmp.Ordering.{Ordering}
 use Rattle.std.specs.declared.cmp.Ordering.TheVariants.{Less, Equal, Greater}
-use Rattle.reachability.proofs.CountLaws.{has_first, has_later, first_or_later, has_image, image_of}
-use Rattle.variant_values.specs.Texts.{byte_cmp}
-use Rattle.variant_values.proofs.Texts.{ties_are_equal}
+use Rattle.keyed_lists.proofs.OfReachability.CountLaws.{has_first, has_later, first_or_later, has_image, image_of}
+use Rattle.keyed_lists.specs.OfVariantValues.Texts.{byte_cmp}
+use Rattle.keyed_lists.proofs.OfVariantValues.Texts2.{ties_are_equal}
 use Rattle.keyed_lists.specs.Keyed.{IsInOrder}
 use Rattle.keyed_lists.proofs.KeyedLaws.{key_less}
 use Rattle.keyed_lists.proofs.RiseLaws.{rises_above, rises_rest, rises_none, rises_more, rises_append}

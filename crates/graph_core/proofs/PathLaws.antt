@@ -5,14 +5,14 @@ use Rattle.std.proofs.lemmas.List.Elements.{All-contains}
 use Rattle.std.proofs.lemmas.Bool.Decides.{same_from_decides}
 use Rattle.std.specs.Cmp.Lexicographic.{nat_list_cmp_total, bytes_decides}
 use Rattle.std.specs.Str.{bytes_eq}
-use Rattle.variant_values.specs.Texts.{byte_cmp}
-use Rattle.variant_values.proofs.Texts.{ties_are_equal}
-use Rattle.reachability.specs.Paths.{Path}
-use Rattle.reachability.specs.Places.{AreOnce, AreNumbered, AreHeads, MarksReached, IsAt}
-use Rattle.reachability.proofs.CountLaws.{image_of}
-use Rattle.reachability.proofs.PathLaws.{first_arc, last_arc}
-use Rattle.reachability.proofs.HeadLaws.{told_by_marks, zip_push}
-use Rattle.reachability.proofs.SpreadLaws.{reaches_decides}
+use Rattle.keyed_lists.specs.OfVariantValues.Texts.{byte_cmp}
+use Rattle.keyed_lists.proofs.OfVariantValues.Texts2.{ties_are_equal}
+use Rattle.keyed_lists.specs.OfReachability.Paths.{Path}
+use Rattle.keyed_lists.specs.OfReachability.Places.{AreOnce, AreNumbered, AreHeads, MarksReached, IsAt}
+use Rattle.keyed_lists.proofs.OfReachability.CountLaws.{image_of}
+use Rattle.keyed_lists.proofs.OfReachability.PathLaws.{first_arc, last_arc}
+use Rattle.keyed_lists.proofs.OfReachability.HeadLaws.{told_by_marks, zip_push}
+use Rattle.keyed_lists.proofs.OfReachability.SpreadLaws.{reaches_decides}
 use Rattle.keyed_lists.specs.Keyed.{IsPlaceOf}
 use Rattle.keyed_lists.proofs.KeyedLaws.{one_place, key_at, told_false}
 use Rattle.graph_core.specs.declared.node.Edge.{Edge}

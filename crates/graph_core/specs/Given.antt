@@ -1,7 +1,7 @@
 -- Graphs by what they have at names.
 use Rattle.std.specs.Prelude.{◌≡◌, List, map, filter_map, flat_map, Option, Some, option_map, Contains}
 use Rattle.std.specs.List.Sorted.{IsStrictlySortedBy}
-use Rattle.variant_values.specs.Texts.{byte_cmp}
+use Rattle.keyed_lists.specs.OfVariantValues.Texts.{byte_cmp}
 use Rattle.graph_core.specs.declared.node.Node.{Node}
 use Rattle.graph_core.specs.declared.node.Edge.{Edge}
 use Rattle.graph_core.specs.Graphs.{Text, Content}

@@ -4,7 +4,7 @@ use Rattle.std.specs.List.{list_all}
 use Rattle.std.specs.Ordering.{on, then_cmp}
 use Rattle.std.specs.Str.{bytes_eq}
 use Rattle.std.specs.declared.cmp.Ordering.{Ordering}
-use Rattle.variant_values.specs.Texts.{byte_cmp}
+use Rattle.keyed_lists.specs.OfVariantValues.Texts.{byte_cmp}
 use Rattle.keyed_lists.specs.Keyed.{IsInOrder, rises, find_key, with_one}
 use Rattle.graph_core.specs.declared.node.Node.{Node}
 use Rattle.graph_core.specs.declared.node.Edge.{Edge}

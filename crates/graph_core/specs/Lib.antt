@@ -4,3 +4,7 @@ pub mod Paths
 pub mod Given
 -- worked rows
 pub mod Rows
+pub mod OfReachability
+pub mod OfVariantValues
+pub mod OfVersionOrder
+pub mod OfKeyedLists

@@ -1,7 +1,7 @@
 -- Paths of a graph.
 use Rattle.std.specs.Prelude.{Bool, List, map}
 use Rattle.std.specs.Str.{bytes_eq}
-use Rattle.reachability.specs.Paths.{HasArc, reached, reaches}
+use Rattle.keyed_lists.specs.OfReachability.Paths.{HasArc, reached, reaches}
 use Rattle.graph_core.specs.Graphs.{Text, Content, ends_of}
 
 -- the ends of the edges, each parent with its child

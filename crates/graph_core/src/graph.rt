@@ -3,7 +3,7 @@ ghost use Rattle.std.specs.Prelude.{◌≡◌, ◌↔◌, ◌≤◌, length, map
 ghost use Rattle.std.specs.Option.{option_copied};
 ghost use Rattle.std.specs.List.{slice_range};
 ghost use Rattle.std.specs.Str.{bytes_eq};
-ghost use Rattle.variant_values.specs.Texts.{byte_cmp};
+ghost use Rattle.keyed_lists.specs.OfVariantValues.Texts.{byte_cmp};
 ghost use Rattle.keyed_lists.specs.Keyed.{IsInOrder, IsPlaceOf, IsGapFor};
 ghost use Rattle.graph_core.specs.Graphs.{IsGraph, HasNode, no_content, name_of, ends_of, pair_cmp, node_of, edge_of, edges_from, provider_of, with_node, with_edge, with_provider};
 

@@ -1,9 +1,8 @@
 // What a graph is made of.
 
-use keyed_lists::Keyed;
+use keyed_lists::{Keyed, ValueSet};
 use plain_data::{List, Word};
 use spec_hash::Hash;
-use variant_values::ValueSet;
 use version_order::Version;
 
 /// The compiler of a node.

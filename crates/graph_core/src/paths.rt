@@ -1,11 +1,11 @@
 // Paths of a graph.
 ghost use Rattle.std.specs.Prelude.{◌≡◌, map, IfOk};
-ghost use Rattle.reachability.specs.Places.{AreNumbered, IsAt};
+ghost use Rattle.keyed_lists.specs.OfReachability.Places.{AreNumbered, IsAt};
 ghost use Rattle.graph_core.specs.Graphs.{HasNode, name_of};
 ghost use Rattle.graph_core.specs.Paths.{arcs_of, reaches_in};
 
 use crate::Graph;
-use reachability::{heads_of, reached};
+use keyed_lists::{heads_of, reached};
 use std::alloc::{AllocError, Global};
 
 /// Whether a path of one or more edges leads from one node to another.

@@ -4,7 +4,7 @@ ghost use Rattle.graph_core.specs.Paths.{reaches_in};
 
 use crate::Graph;
 use crate::paths::numbered;
-use reachability::PathTable;
+use keyed_lists::PathTable;
 use std::alloc::{AllocError, Global};
 use std::marker::Model;
 
@@ -18,7 +18,7 @@ pub struct Reach<'a> {
 
 impl<'a> Model for Reach<'a> {
     ghost use Rattle.std.specs.Prelude.{map};
-    ghost use Rattle.reachability.specs.Places.{IsKeyTable};
+    ghost use Rattle.keyed_lists.specs.OfReachability.Places.{IsKeyTable};
     ghost use Rattle.graph_core.specs.Graphs.{Content, IsGraph, name_of};
     ghost use Rattle.graph_core.specs.Paths.{arcs_of};
 

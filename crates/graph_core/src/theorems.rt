@@ -2,8 +2,8 @@
 ghost use Rattle.std.specs.Prelude.{◌≡◌, ◌↔◌, ℕ, Bool, List, [], ◌∷◌, Option, Some, None, IsSome, IsTrue, All, Contains, true, false, sum_by, filter_map, if◌then◌else◌};
 ghost use Rattle.std.specs.List.{list_all};
 ghost use Rattle.std.specs.Ordering.{eq_by_cmp};
-ghost use Rattle.variant_values.specs.Texts.{byte_cmp};
-ghost use Rattle.reachability.specs.Paths.{Path};
+ghost use Rattle.keyed_lists.specs.OfVariantValues.Texts.{byte_cmp};
+ghost use Rattle.keyed_lists.specs.OfReachability.Paths.{Path};
 ghost use Rattle.keyed_lists.specs.Given.{passes_or_none, adds_or_none};
 ghost use Rattle.graph_core.specs.declared.node.Node.{Node};
 ghost use Rattle.graph_core.specs.declared.node.Edge.{Edge};

@@ -4,31 +4,31 @@ use Rattle.std.specs.List.{list_all, list_any, filter, filter_map, cons_option, 
 use Rattle.std.specs.Option.{option_map, option_and_then, is_some}
 use Rattle.std.specs.Str.{bytes_eq}
 use Rattle.std.proofs.lemmas.Bool.{and_parts, or_cases, or_left, or_right}
-use Rattle.graph_core.specs.Graphs.{Text, Content, node_of, provider_of, edges_from, IsGraph, HasNode, ends_of, name_of, virtual_of}
-use Rattle.variant_values.specs.Texts.{byte_cmp}
-use Rattle.keyed_lists.specs.Keyed.{find_key}
+use Rattle.problem.specs.OfGraphCore.Graphs.{Text, Content, node_of, provider_of, edges_from, IsGraph, HasNode, ends_of, name_of, virtual_of}
+use Rattle.problem.specs.OfVariantValues.Texts.{byte_cmp}
+use Rattle.problem.specs.OfKeyedLists.Keyed.{find_key}
 use Rattle.std.specs.Ordering.{eq_by_cmp}
 use Rattle.std.specs.Cmp.Lexicographic.{bytes_decides}
 use Rattle.std.proofs.lemmas.List.Elements.{All-contains}
-use Rattle.condition_rules.specs.Words.{among, if_written, is_some_and}
+use Rattle.problem.specs.OfConditionRules.Words.{among, if_written, is_some_and}
 use Rattle.reachability.specs.Paths.{JoinsEach}
 use Rattle.reachability.proofs.CountLaws.{image_of}
 use Rattle.reachability.proofs.SpreadLaws.{reaches_decides}
-use Rattle.graph_core.specs.Paths.{arcs_of, reaches_in, JoinedIn}
+use Rattle.problem.specs.OfGraphCore.Paths.{arcs_of, reaches_in, JoinedIn}
 use Rattle.problem.specs.Nodes.{is_built, has_kind, covers}
-use Rattle.graph_core.specs.declared.node.Node.{Node}
-use Rattle.graph_core.specs.declared.node.Edge.{Edge}
-use Rattle.graph_core.specs.declared.node.Kinds.{Kinds}
-use Rattle.graph_core.specs.declared.node.Origin.{Origin}
-use Rattle.graph_core.specs.declared.node.Origin.TheVariants.{Built, External, Installed}
+use Rattle.problem.specs.OfGraphCore.Node.{Node}
+use Rattle.problem.specs.OfGraphCore.Edge.{Edge}
+use Rattle.problem.specs.OfGraphCore.Kinds.{Kinds}
+use Rattle.problem.specs.OfGraphCore.Origin.{Origin}
+use Rattle.problem.specs.OfGraphCore.OriginVariants.{Built, External, Installed}
 use Rattle.graph_rules.proofs.Lists.{In, In-among, In-contains, contains-In, list_all-each, find-in, In-left, In-right, In-map, In-flat_map, from_filter, bytes_eq-same, bytes_eq-itself}
-use Rattle.keyed_lists.proofs.TextLaws.{texts_decide}
-use Rattle.condition_rules.specs.Worlds.{recipe_of, rows}
-use Rattle.virtuals.specs.Virtuals.{is_virtual}
-use Rattle.condition_rules.specs.Meets.{provides, row_provides}
-use Rattle.condition_rules.specs.Holds.{asked_node}
-use Rattle.conditions.specs.declared.recipe.DependRow.{DependRow}
-use Rattle.conditions.specs.declared.recipe.Recipe.{Recipe}
+use Rattle.problem.proofs.OfKeyedLists.TextLaws.{texts_decide}
+use Rattle.problem.specs.OfConditionRules.Worlds.{recipe_of, rows}
+use Rattle.problem.specs.OfVirtuals.Virtuals.{is_virtual}
+use Rattle.problem.specs.OfConditionRules.Meets.{provides, row_provides}
+use Rattle.problem.specs.OfConditionRules.Holds.{asked_node}
+use Rattle.problem.specs.OfConditions.DependRow.{DependRow}
+use Rattle.problem.specs.OfConditions.Recipe.{Recipe}
 use Rattle.problem.specs.Problems.{world_of, recipe_at, depends_at, entry_of, externals_in, is_buildable_in, record_at, asked_by, Problem}
 use Rattle.graph_rules.specs.Built.{keeps_buildable, keeps_extra_edge, is_asked, asking, asked_kinds}
 use Rattle.graph_rules.specs.Kept.{same_attributes, installed_node, is_child, keeps_origin, keeps_kept}
@@ -36,7 +36,7 @@ use Rattle.problem.specs.Records.{kept_dependencies}
 use Rattle.graph_rules.specs.Whole.{keeps_provider, keeps_reachable}
 use Rattle.graph_rules.specs.Valid.{keeps, keeps_all, structure_rules}
 use Rattle.problem.specs.Closure.{is_some_list, is_known, possible_providers, possible_children, kept_names, next_names, has_known, is_closed}
-use Rattle.reuse_db.specs.declared.record.Record.{Record}
+use Rattle.problem.specs.OfReuseDb.Record.{Record}
 use Rattle.graph_rules.specs.declared.rule.Rule.{Rule}
 use Rattle.graph_rules.specs.declared.rule.Rule.TheVariants as rules
 use Rattle.graph_rules.proofs.ValidLaws.{at_built, implied, slice_get-in, row-of}

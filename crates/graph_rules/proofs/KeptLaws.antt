@@ -4,15 +4,15 @@ use Rattle.std.specs.Option.{option_eq}
 use Rattle.std.specs.Str.{bytes_eq}
 use Rattle.std.specs.Cmp.Lexicographic.{pointwise}
 use Rattle.std.proofs.lemmas.Bool.{and_parts}
-use Rattle.graph_core.specs.Graphs.{Text, Content}
-use Rattle.graph_core.specs.declared.node.Node.{Node}
-use Rattle.graph_core.specs.declared.node.Compiler.{Compiler}
-use Rattle.graph_core.specs.declared.node.Origin.TheVariants.{External, Installed}
+use Rattle.problem.specs.OfGraphCore.Graphs.{Text, Content}
+use Rattle.problem.specs.OfGraphCore.Node.{Node}
+use Rattle.problem.specs.OfGraphCore.Compiler.{Compiler}
+use Rattle.problem.specs.OfGraphCore.OriginVariants.{External, Installed}
 use Rattle.graph_rules.proofs.Lists.{bytes_eq-same}
 use Rattle.problem.specs.Problems.{same_compiler, entry_of, externals_in, record_at, Problem}
 use Rattle.graph_rules.specs.Kept.{Variants, same_variants, same_attributes, installed_node, external_node, keeps_origin, keeps_kept}
-use Rattle.site_settings.specs.declared.settings.ExternalEntry.{ExternalEntry}
-use Rattle.reuse_db.specs.declared.record.Record.{Record}
+use Rattle.problem.specs.OfSiteSettings.ExternalEntry.{ExternalEntry}
+use Rattle.problem.specs.OfReuseDb.Record.{Record}
 use Rattle.graph_rules.proofs.ClosureLaws.{some-and}
 
 -- lists whose elements are equal by a test are equal

@@ -6,7 +6,7 @@ use Rattle.std.specs.declared.cmp.Ordering.TheVariants.{Less, Equal, Greater}
 use Rattle.std.specs.Cmp.{IsTotalOrder}
 use Rattle.std.specs.Cmp.Lexicographic.{nat_list_cmp_total}
 use Rattle.std.proofs.lemmas.Cmp.{nat_cmp_total, on_total, then_total}
-use Rattle.variant_values.specs.Texts.{byte_cmp}
+use Rattle.problem.specs.OfVariantValues.Texts.{byte_cmp}
 use Rattle.graph_rules.specs.Verdict.{Place, lesser, least, lesser_of}
 
 -- ---- an order that is total

@@ -5,12 +5,12 @@ use Rattle.std.specs.Str.{bytes_eq}
 use Rattle.std.specs.Cmp.{tied_itself}
 use Rattle.std.specs.Cmp.Lexicographic.{nat_list_cmp_total, bytes_decides}
 use Rattle.std.proofs.lemmas.Bool.{and_parts, and_from, or_cases}
-use Rattle.variant_values.proofs.Texts.{ties_are_equal}
+use Rattle.problem.proofs.OfVariantValues.Texts2.{ties_are_equal}
 use Rattle.reachability.proofs.CountLaws.{has_first, has_later, first_or_later}
-use Rattle.keyed_lists.proofs.KeyedLaws.{find_some}
-use Rattle.graph_core.specs.Graphs.{Text, Content, IsGraph, name_of, node_of}
-use Rattle.graph_core.specs.declared.node.Node.{Node}
-use Rattle.condition_rules.specs.Words.{among}
+use Rattle.problem.proofs.OfKeyedLists.KeyedLaws.{find_some}
+use Rattle.problem.specs.OfGraphCore.Graphs.{Text, Content, IsGraph, name_of, node_of}
+use Rattle.problem.specs.OfGraphCore.Node.{Node}
+use Rattle.problem.specs.OfConditionRules.Words.{among}
 
 abbrev pub In : {X : Type 0} → X → List X → Type 0
 In x [] = ⊥

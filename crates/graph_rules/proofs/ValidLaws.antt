@@ -5,18 +5,18 @@ use Rattle.std.specs.Ordering.{nat_cmp, match_ordering}
 use Rattle.std.specs.declared.cmp.Ordering.TheVariants.{Less, Equal, Greater}
 use Rattle.std.specs.BTreeSet.{insert_key}
 use Rattle.std.proofs.lemmas.Bool.{and_parts, and_from, eq-eqb}
-use Rattle.graph_core.specs.Graphs.{Text, Content, node_of, IsGraph}
-use Rattle.condition_rules.specs.Words.{if_written, implies}
+use Rattle.problem.specs.OfGraphCore.Graphs.{Text, Content, node_of, IsGraph}
+use Rattle.problem.specs.OfConditionRules.Words.{if_written, implies}
 use Rattle.problem.specs.Nodes.{is_built}
-use Rattle.graph_core.specs.declared.node.Node.{Node}
-use Rattle.keyed_lists.proofs.TextLaws.{texts_decide}
+use Rattle.problem.specs.OfGraphCore.Node.{Node}
+use Rattle.problem.proofs.OfKeyedLists.TextLaws.{texts_decide}
 use Rattle.graph_rules.proofs.Lists.{In, list_all-each, list_all-from, find-in, node-itself, In-left, In-right, In-map, In-flat_map}
-use Rattle.condition_rules.specs.Worlds.{recipe_of, rows}
-use Rattle.conditions.specs.declared.recipe.Recipe.{Recipe}
+use Rattle.problem.specs.OfConditionRules.Worlds.{recipe_of, rows}
+use Rattle.problem.specs.OfConditions.Recipe.{Recipe}
 use Rattle.problem.specs.Problems.{recipe_at, depends_at, conflicts_at, requirements_at, Problem}
 use Rattle.graph_rules.specs.Directives.{keeps_root, keeps_edge, keeps_constraint, keeps_conflict, keeps_requirement}
 use Rattle.graph_rules.specs.Valid.{keeps, keeps_all, each_built, structure_rules, all_rules, valid, valid_for, keeps_demand, keeps_directive}
-use Rattle.conditions.specs.Right.{numbers_of}
+use Rattle.problem.specs.OfConditions.Right.{numbers_of}
 use Rattle.problem.specs.Demands.{demands}
 use Rattle.graph_rules.specs.declared.rule.Rule.{Rule}
 use Rattle.graph_rules.specs.declared.rule.Rule.TheVariants as rules

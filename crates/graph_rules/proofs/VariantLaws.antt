@@ -7,12 +7,12 @@ use Rattle.std.specs.Ordering.{match_ordering}
 use Rattle.std.specs.declared.cmp.Ordering.TheVariants.{Less, Equal, Greater}
 use Rattle.std.specs.Cmp.Lexicographic.{nat_list_eq_equiv, texts_ties, same_text}
 use Rattle.std.specs.BTreeSet.{insert_key}
-use Rattle.variant_values.specs.Texts.{byte_cmp, with_text, with_texts}
-use Rattle.graph_core.specs.Graphs.{Text, Content}
-use Rattle.condition_rules.specs.Words.{among, find_last}
-use Rattle.graph_core.specs.declared.node.Node.{Node}
-use Rattle.condition_rules.specs.Holds.{governing}
-use Rattle.conditions.specs.declared.recipe.VariantRow.{VariantRow}
+use Rattle.problem.specs.OfVariantValues.Texts.{byte_cmp, with_text, with_texts}
+use Rattle.problem.specs.OfGraphCore.Graphs.{Text, Content}
+use Rattle.problem.specs.OfConditionRules.Words.{among, find_last}
+use Rattle.problem.specs.OfGraphCore.Node.{Node}
+use Rattle.problem.specs.OfConditionRules.Holds.{governing}
+use Rattle.problem.specs.OfConditions.VariantRow.{VariantRow}
 use Rattle.problem.specs.Problems.{world_of, variants_at, applies, Problem}
 use Rattle.graph_rules.specs.Built.{governed}
 

@@ -2,11 +2,11 @@
 use Rattle.std.proofs.Common.{◌≡◌, refl, sym, ap, ◌∙◌, Bool, true, false, ◌&&◌, not, ℕ, ◌+◌, List, [], ◌∷◌, ◌++◌, map, cond, ◌↔◌}
 use Rattle.std.specs.List.{list_all, filter, flat_map}
 use Rattle.std.specs.Option.{unwrap_or}
-use Rattle.spec_grammar.specs.declared.part.Spec.{Spec}
-use Rattle.graph_core.specs.Graphs.{Text, Content}
-use Rattle.condition_rules.specs.Words.{implies}
+use Rattle.problem.specs.OfSpecGrammar.Spec.{Spec}
+use Rattle.problem.specs.OfGraphCore.Graphs.{Text, Content}
+use Rattle.problem.specs.OfConditionRules.Words.{implies}
 use Rattle.problem.specs.Nodes.{is_built}
-use Rattle.graph_core.specs.declared.node.Node.{Node}
+use Rattle.problem.specs.OfGraphCore.Node.{Node}
 use Rattle.graph_rules.specs.Directives.{keeps_root}
 use Rattle.graph_rules.specs.Valid.{keeps, keeps_all, all_rules, valid}
 use Rattle.graph_rules.specs.Verdict.{Place, all_asked, breaks_of, breaks, broken_roots, least, broken_or, first_broken, verdict_of, verdict}

@@ -3,19 +3,19 @@ use Rattle.std.specs.Prelude.{Bool, ◌&&◌, List, [], map, filter, length, is_
 use Rattle.std.specs.List.{list_any, list_all}
 use Rattle.std.specs.Str.{bytes_eq}
 use Rattle.std.specs.Cmp.Lexicographic.{pointwise}
-use Rattle.variant_values.specs.Texts.{with_texts}
-use Rattle.graph_core.specs.Graphs.{Text, Content, edges_from}
-use Rattle.condition_rules.specs.Words.{among, includes, if_written, is_some_and}
+use Rattle.problem.specs.OfVariantValues.Texts.{with_texts}
+use Rattle.problem.specs.OfGraphCore.Graphs.{Text, Content, edges_from}
+use Rattle.problem.specs.OfConditionRules.Words.{among, includes, if_written, is_some_and}
 use Rattle.problem.specs.Nodes.{has_kind, covers}
-use Rattle.graph_core.specs.declared.node.Node.{Node}
-use Rattle.graph_core.specs.declared.node.Edge.{Edge}
-use Rattle.graph_core.specs.declared.node.Kinds.{Kinds}
-use Rattle.condition_rules.specs.Holds.{governing}
-use Rattle.conditions.specs.declared.recipe.VariantRow.{VariantRow}
-use Rattle.conditions.specs.declared.recipe.DependRow.{DependRow}
-use Rattle.conditions.specs.Right.{is_count_of}
+use Rattle.problem.specs.OfGraphCore.Node.{Node}
+use Rattle.problem.specs.OfGraphCore.Edge.{Edge}
+use Rattle.problem.specs.OfGraphCore.Kinds.{Kinds}
+use Rattle.problem.specs.OfConditionRules.Holds.{governing}
+use Rattle.problem.specs.OfConditions.VariantRow.{VariantRow}
+use Rattle.problem.specs.OfConditions.DependRow.{DependRow}
+use Rattle.problem.specs.OfConditions.Right.{is_count_of}
 use Rattle.problem.specs.Problems.{world_of, recipe_at, versions_at, variants_at, depends_at, entry_of, is_buildable_in, same_compiler, applies, asked_by, Problem}
-use Rattle.site_settings.specs.declared.settings.CompilerEntry.{CompilerEntry}
+use Rattle.problem.specs.OfSiteSettings.CompilerEntry.{CompilerEntry}
 
 -- Buildable: its package has a recipe, and is buildable by the settings
 unfoldable pub keeps_buildable : Problem → Node → Bool

@@ -1,15 +1,15 @@
 -- The rules of roots and directives: each is said of one root, or of one directive at one node to build.
 use Rattle.std.specs.Prelude.{Bool, ◌&&◌, ◌==◌, not, count_by, if◌then◌else◌}
 use Rattle.std.specs.List.{list_any}
-use Rattle.spec_grammar.specs.declared.part.Spec.{Spec}
-use Rattle.condition_rules.specs.Words.{implies, is_some_and}
-use Rattle.graph_core.specs.Graphs.{Content, edge_of}
+use Rattle.problem.specs.OfSpecGrammar.Spec.{Spec}
+use Rattle.problem.specs.OfConditionRules.Words.{implies, is_some_and}
+use Rattle.problem.specs.OfGraphCore.Graphs.{Content, edge_of}
 use Rattle.problem.specs.Nodes.{covers}
-use Rattle.graph_core.specs.declared.node.Node.{Node}
-use Rattle.condition_rules.specs.Holds.{holds, asked_node, suits}
-use Rattle.conditions.specs.declared.recipe.DependRow.{DependRow}
-use Rattle.conditions.specs.declared.recipe.ConflictRow.{ConflictRow}
-use Rattle.conditions.specs.declared.recipe.RequireRow.{RequireRow}
+use Rattle.problem.specs.OfGraphCore.Node.{Node}
+use Rattle.problem.specs.OfConditionRules.Holds.{holds, asked_node, suits}
+use Rattle.problem.specs.OfConditions.DependRow.{DependRow}
+use Rattle.problem.specs.OfConditions.ConflictRow.{ConflictRow}
+use Rattle.problem.specs.OfConditions.RequireRow.{RequireRow}
 use Rattle.problem.specs.Problems.{world_of, applies, asked_by, Problem}
 
 -- Root: the spec's name is a node, and the spec holds there

@@ -4,19 +4,19 @@ use Rattle.std.specs.List.{list_any, list_all}
 use Rattle.std.specs.Str.{bytes_eq}
 use Rattle.std.specs.Cmp.Lexicographic.{pointwise}
 use Rattle.std.specs.Option.{option_eq}
-use Rattle.variant_values.specs.Texts.{with_texts}
-use Rattle.graph_core.specs.Graphs.{Text, Content, node_of, edge_of, edges_from}
-use Rattle.condition_rules.specs.Words.{is_some_and, find_last}
+use Rattle.problem.specs.OfVariantValues.Texts.{with_texts}
+use Rattle.problem.specs.OfGraphCore.Graphs.{Text, Content, node_of, edge_of, edges_from}
+use Rattle.problem.specs.OfConditionRules.Words.{is_some_and, find_last}
 use Rattle.problem.specs.Nodes.{is_installed, covers}
-use Rattle.graph_core.specs.declared.node.Node.{Node}
-use Rattle.graph_core.specs.declared.node.Edge.{Edge}
-use Rattle.graph_core.specs.declared.node.Kinds.{Kinds}
-use Rattle.graph_core.specs.declared.node.Origin.{Origin}
-use Rattle.graph_core.specs.declared.node.Origin.TheVariants.{Built, External, Installed}
-use Rattle.conditions.specs.declared.recipe.VariantRow.{VariantRow}
+use Rattle.problem.specs.OfGraphCore.Node.{Node}
+use Rattle.problem.specs.OfGraphCore.Edge.{Edge}
+use Rattle.problem.specs.OfGraphCore.Kinds.{Kinds}
+use Rattle.problem.specs.OfGraphCore.Origin.{Origin}
+use Rattle.problem.specs.OfGraphCore.OriginVariants.{Built, External, Installed}
+use Rattle.problem.specs.OfConditions.VariantRow.{VariantRow}
 use Rattle.problem.specs.Problems.{variants_at, entry_of, externals_in, same_compiler, record_at, Problem}
-use Rattle.site_settings.specs.declared.settings.ExternalEntry.{ExternalEntry}
-use Rattle.reuse_db.specs.declared.record.Record.{Record}
+use Rattle.problem.specs.OfSiteSettings.ExternalEntry.{ExternalEntry}
+use Rattle.problem.specs.OfReuseDb.Record.{Record}
 use Rattle.problem.specs.Records.{kept_dependencies}
 
 -- ---- attributes

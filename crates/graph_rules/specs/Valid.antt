@@ -1,10 +1,10 @@
 -- Valid graphs.
 use Rattle.std.specs.Prelude.{Bool, ◌&&◌, ◌==◌, ℕ, List, [], ◌∷◌, slice_get}
 use Rattle.std.specs.List.{list_all}
-use Rattle.condition_rules.specs.Words.{if_written, implies}
-use Rattle.graph_core.specs.Graphs.{Content, node_of}
+use Rattle.problem.specs.OfConditionRules.Words.{if_written, implies}
+use Rattle.problem.specs.OfGraphCore.Graphs.{Content, node_of}
 use Rattle.problem.specs.Nodes.{is_built}
-use Rattle.graph_core.specs.declared.node.Node.{Node}
+use Rattle.problem.specs.OfGraphCore.Node.{Node}
 use Rattle.problem.specs.Problems.{depends_at, conflicts_at, requirements_at, Problem}
 use Rattle.graph_rules.specs.Built.{keeps_buildable, keeps_version, keeps_variant, keeps_compiler, keeps_machine, keeps_extra_edge}
 use Rattle.graph_rules.specs.Directives.{keeps_root, keeps_edge, keeps_constraint, keeps_conflict, keeps_requirement}

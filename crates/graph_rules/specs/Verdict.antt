@@ -3,12 +3,12 @@ use Rattle.std.specs.Prelude.{Bool, true, false, ◌&&◌, ◌==◌, ℕ, ◌+�
 use Rattle.std.specs.List.{list_any}
 use Rattle.std.specs.Str.{bytes_eq}
 use Rattle.std.specs.Ordering.{ordering_then, nat_cmp, is_lt}
-use Rattle.variant_values.specs.Texts.{byte_cmp}
-use Rattle.spec_grammar.specs.declared.part.Spec.{Spec}
-use Rattle.graph_core.specs.Graphs.{Text, Content}
-use Rattle.condition_rules.specs.Words.{implies}
+use Rattle.problem.specs.OfVariantValues.Texts.{byte_cmp}
+use Rattle.problem.specs.OfSpecGrammar.Spec.{Spec}
+use Rattle.problem.specs.OfGraphCore.Graphs.{Text, Content}
+use Rattle.problem.specs.OfConditionRules.Words.{implies}
 use Rattle.problem.specs.Nodes.{is_built}
-use Rattle.graph_core.specs.declared.node.Node.{Node}
+use Rattle.problem.specs.OfGraphCore.Node.{Node}
 use Rattle.problem.specs.Problems.{depends_at, conflicts_at, requirements_at, Problem}
 use Rattle.graph_rules.specs.Built.{keeps_buildable, keeps_version, keeps_variant, keeps_compiler, keeps_machine, keeps_extra_edge}
 use Rattle.graph_rules.specs.Directives.{keeps_root, keeps_edge, keeps_constraint, keeps_conflict, keeps_requirement}

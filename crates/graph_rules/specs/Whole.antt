@@ -2,14 +2,14 @@
 use Rattle.std.specs.Prelude.{Bool, ◌&&◌, ◌||◌, not, None, is_some}
 use Rattle.std.specs.List.{list_any}
 use Rattle.std.specs.Str.{bytes_eq}
-use Rattle.spec_grammar.specs.declared.part.Spec.{Spec}
-use Rattle.graph_core.specs.Graphs.{Text, Content, node_of, edge_of}
-use Rattle.condition_rules.specs.Words.{is_some_and}
-use Rattle.graph_core.specs.Paths.{reaches_in}
+use Rattle.problem.specs.OfSpecGrammar.Spec.{Spec}
+use Rattle.problem.specs.OfGraphCore.Graphs.{Text, Content, node_of, edge_of}
+use Rattle.problem.specs.OfConditionRules.Words.{is_some_and}
+use Rattle.problem.specs.OfGraphCore.Paths.{reaches_in}
 use Rattle.problem.specs.Nodes.{is_built}
-use Rattle.graph_core.specs.declared.node.Node.{Node}
-use Rattle.virtuals.specs.Virtuals.{is_virtual}
-use Rattle.condition_rules.specs.Meets.{provides}
+use Rattle.problem.specs.OfGraphCore.Node.{Node}
+use Rattle.problem.specs.OfVirtuals.Virtuals.{is_virtual}
+use Rattle.problem.specs.OfConditionRules.Meets.{provides}
 use Rattle.problem.specs.Problems.{world_of, depends_at, applies, Problem}
 
 -- Provider: a virtual's provider is a node that provides it

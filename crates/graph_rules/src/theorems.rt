@@ -1,11 +1,11 @@
 // What holds of all problems and graphs. The bodies are empty: what is proved are the contracts.
 ghost use Rattle.std.specs.Prelude.{◌≡◌, ◌↔◌, ◌++◌, ℕ, List, [], true, Some, slice_get, is_some};
 ghost use Rattle.std.specs.List.{list_all};
-ghost use Rattle.graph_core.specs.Graphs.{Text, Content, IsGraph, no_content};
-ghost use Rattle.condition_rules.specs.Words.{among};
+ghost use Rattle.problem.specs.OfGraphCore.Graphs.{Text, Content, IsGraph, no_content};
+ghost use Rattle.problem.specs.OfConditionRules.Words.{among};
 ghost use Rattle.problem.specs.Problems.{world_of, entry_of, externals_in, record_at, with_budget, Problem};
-ghost use Rattle.graph_core.specs.declared.node.Node.{Node};
-ghost use Rattle.condition_rules.specs.Holds.{governing};
+ghost use Rattle.problem.specs.OfGraphCore.Node.{Node};
+ghost use Rattle.problem.specs.OfConditionRules.Holds.{governing};
 ghost use Rattle.graph_rules.specs.Built.{governed};
 ghost use Rattle.graph_rules.specs.Valid.{keeps, valid, valid_for};
 ghost use Rattle.problem.specs.Demands.{demands};
@@ -13,10 +13,10 @@ ghost use Rattle.graph_rules.specs.Verdict.{Place, breaks, least, lesser_of, ver
 ghost use Rattle.graph_rules.specs.declared.rule.Rule.{Rule};
 ghost use Rattle.graph_rules.specs.declared.rule.Verdict.{Verdict};
 ghost use Rattle.problem.specs.Closure.{IsClosure};
-ghost use Rattle.graph_core.specs.declared.node.Origin.{Origin};
+ghost use Rattle.problem.specs.OfGraphCore.Origin.{Origin};
 ghost use Rattle.graph_rules.specs.Kept.{keeps_kept, installed_node, external_node};
-ghost use Rattle.reuse_db.specs.declared.record.Record.{Record};
-ghost use Rattle.site_settings.specs.declared.settings.ExternalEntry.{ExternalEntry};
+ghost use Rattle.problem.specs.OfReuseDb.Record.{Record};
+ghost use Rattle.problem.specs.OfSiteSettings.ExternalEntry.{ExternalEntry};
 ghost use Rattle.problem.specs.declared.demand.Demand.{Demand};
 
 /// A graph is valid exactly where it is valid for all demands, and then it is for fewer. The empty graph is

@@ -199,7 +199,7 @@ fn chosen_of(alloc: Global, entry: &ExternalEntry) -> Result<(Option<Compiler>, 
 /// The node of an entry of the settings, in which what is not written is completed.
 // Its parts are copied in steps, since each copy that fails drops all before it.
 #[tactic(auto, unfolding(graph_rules::specs::Kept::external_node))]
-pub(crate) fn external_node(
+pub fn external_node(
     alloc: Global,
     problem: &Problem,
     name: &Word,

@@ -11,4 +11,5 @@ mod external;
 mod kept;
 mod same;
 
+pub use external::external_node;
 pub use kept::keeps_kept;

@@ -4,3 +4,5 @@ pub mod LookupLaws
 pub mod RiseLaws
 pub mod RunLaws
 pub mod TextLaws
+pub mod OfVariantValues
+pub mod OfReachability

@@ -2,3 +2,5 @@
 pub mod Keyed
 pub mod Given
 pub mod Laws
+pub mod OfVariantValues
+pub mod OfReachability

@@ -10,4 +10,6 @@ mod keyed;
 mod theorems;
 
 pub use keyed::{Keyed, find, has_key, insert, place_of};
+pub use reachability::{Bits, PathTable, heads_of, reached};
 pub use theorems::{given_laws, keyed_laws};
+pub use variant_values::{ValueSet, VariantKind};

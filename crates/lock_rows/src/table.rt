@@ -1,10 +1,12 @@
 //! A table: its rows, one after the other.
 //!
 //! A row is a line with a letter and a text, and then a line `= ANSWER`. The letters: `C` a record, `D` a list of
-//! records, `L` a lock file, `W` alone: the last lock file, written again with the last database.
-//! A line that begins with `#` is a comment.
+//! records, `B` a whole database, `L` a lock file, `W` alone: the last lock file, written again with the last
+//! list of records. A line that begins with `#` is a comment.
 
-use crate::answer::{Kept, database_answer, lock_answer, record_answer, written_answer};
+use crate::answer::{
+    Kept, database_answer, file_answer, lock_answer, record_answer, written_answer,
+};
 use reuse_db::Database;
 use std::alloc::{AllocError, Global};
 use std::{fs, io};
@@ -36,6 +38,8 @@ fn answer(alloc: Global, kept: &mut Kept, line: &str) -> Result<String, AllocErr
         record_answer(alloc, text)
     } else if let Some(text) = line.strip_prefix("D ") {
         database_answer(alloc, kept, text)
+    } else if let Some(text) = line.strip_prefix("B ") {
+        file_answer(alloc, text.as_bytes())
     } else if let Some(text) = line.strip_prefix("L ") {
         lock_answer(alloc, kept, text)
     } else {

@@ -1,2 +1,4 @@
 pub mod AssembledLaws
 pub mod NumberLaws
+pub mod OfVariantValues
+pub mod OfKeyedLists

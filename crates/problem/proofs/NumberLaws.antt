@@ -8,8 +8,8 @@ use Rattle.std.specs.FinMap.{IsAntisymmetric}
 use Rattle.std.specs.Ordering.{nat_cmp}
 use Rattle.std.proofs.lemmas.List.Kept.{Contains-dedup, Contains-from_dedup, IsStrictlySortedBy-dedup}
 use Rattle.std.proofs.lemmas.List.Sorted.{Contains-permutation, IsPermutation-sym}
-use Rattle.variant_values.proofs.Keys.{Contains-cons, lacks_all, IsStrictlySortedBy-insert_key, same_keys, Contains-insert_key}
-use Rattle.keyed_lists.proofs.RiseLaws.{rises_none}
+use Rattle.condition_rules.proofs.OfVariantValues.Keys.{Contains-cons, lacks_all, IsStrictlySortedBy-insert_key, same_keys, Contains-insert_key}
+use Rattle.condition_rules.proofs.OfKeyedLists.RiseLaws.{rises_none}
 use Rattle.problem.specs.declared.demand.Demand.{Demand}
 use Rattle.problem.specs.declared.demand.Demand.TheVariants.{Root}
 

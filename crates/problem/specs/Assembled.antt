@@ -1,9 +1,9 @@
 -- What holds of each problem that was put together from right parts.
 use Rattle.std.specs.Prelude.{Bool, ◌&&◌, map, is_some}
 use Rattle.std.specs.List.{list_all}
-use Rattle.variant_values.specs.Texts.{byte_cmp}
-use Rattle.keyed_lists.specs.Keyed.{rises}
-use Rattle.conditions.specs.Right.{is_right_recipe}
+use Rattle.condition_rules.specs.OfVariantValues.Texts.{byte_cmp}
+use Rattle.condition_rules.specs.OfKeyedLists.Keyed.{rises}
+use Rattle.condition_rules.specs.OfConditions.Right.{is_right_recipe}
 use Rattle.problem.specs.Problems.{Problem}
 
 -- recipes are in byte order of names, each name once, and right; each root is named

@@ -2,11 +2,11 @@
 use Rattle.std.specs.Prelude.{◌≡◌, Bool, true, false, ◌&&◌, ◌||◌, List, [], ◌∷◌, ◌++◌, map, filter, filter_map, flat_map, Option, Some, None, option_map, is_some, if◌then◌else◌}
 use Rattle.std.specs.List.{list_any, list_all}
 use Rattle.std.specs.Str.{bytes_eq}
-use Rattle.variant_values.specs.Texts.{byte_cmp}
-use Rattle.graph_core.specs.Graphs.{Text}
+use Rattle.condition_rules.specs.OfVariantValues.Texts.{byte_cmp}
+use Rattle.condition_rules.specs.OfGraphCore.Graphs.{Text}
 use Rattle.condition_rules.specs.Words.{among, includes, if_written, implies}
-use Rattle.keyed_lists.specs.Keyed.{rises}
-use Rattle.virtuals.specs.Virtuals.{is_virtual}
+use Rattle.condition_rules.specs.OfKeyedLists.Keyed.{rises}
+use Rattle.condition_rules.specs.OfVirtuals.Virtuals.{is_virtual}
 use Rattle.problem.specs.Problems.{recipe_at, depends_at, entry_of, externals_in, record_at, Problem}
 use Rattle.problem.specs.Records.{kept_dependencies}
 use Rattle.reuse_db.specs.declared.record.Record.{Record}

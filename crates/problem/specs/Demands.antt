@@ -1,8 +1,8 @@
 -- What may be demanded of a graph: that a root's spec holds, and that a directive is kept.
 use Rattle.std.specs.Prelude.{◌≡◌, List, ◌++◌, map, flat_map, length}
 use Rattle.std.specs.List.{range_with_len}
-use Rattle.conditions.specs.Right.{numbers_of}
-use Rattle.conditions.specs.declared.recipe.Recipe.{Recipe}
+use Rattle.condition_rules.specs.OfConditions.Right.{numbers_of}
+use Rattle.condition_rules.specs.OfConditions.Recipe.{Recipe}
 use Rattle.problem.specs.Problems.{Problem}
 use Rattle.problem.specs.declared.demand.Demand.{Demand}
 use Rattle.problem.specs.declared.demand.Demand.TheVariants as demand

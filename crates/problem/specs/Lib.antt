@@ -6,3 +6,12 @@ pub mod Demands
 pub mod Closure
 pub mod Roots
 pub mod Assembled
+pub mod OfVariantValues
+pub mod OfSpecGrammar
+pub mod OfKeyedLists
+pub mod OfGraphCore
+pub mod OfSiteSettings
+pub mod OfConditions
+pub mod OfVirtuals
+pub mod OfConditionRules
+pub mod OfReuseDb

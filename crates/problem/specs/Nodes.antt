@@ -1,11 +1,11 @@
 -- Words on nodes and kinds.
 use Rattle.std.specs.Prelude.{Bool, true, false, ◌&&◌, ◌||◌, All}
 use Rattle.std.specs.Str.{bytes_eq}
-use Rattle.variant_values.specs.Texts.{IsInByteOrder}
-use Rattle.graph_core.specs.Graphs.{Text, Content, IsGraph}
-use Rattle.graph_core.specs.declared.node.Node.{Node}
-use Rattle.graph_core.specs.declared.node.Kinds.{Kinds}
-use Rattle.graph_core.specs.declared.node.Origin.TheVariants.{Built, External, Installed}
+use Rattle.condition_rules.specs.OfVariantValues.Texts.{IsInByteOrder}
+use Rattle.condition_rules.specs.OfGraphCore.Graphs.{Text, Content, IsGraph}
+use Rattle.condition_rules.specs.OfGraphCore.Node.{Node}
+use Rattle.condition_rules.specs.OfGraphCore.Kinds.{Kinds}
+use Rattle.condition_rules.specs.OfGraphCore.OriginVariants.{Built, External, Installed}
 use Rattle.condition_rules.specs.Words.{implies}
 
 -- the node is to be built

@@ -1,20 +1,20 @@
 -- A problem, and what is looked up in it.
 use Rattle.std.specs.Prelude.{Bool, true, ◌&&◌, ℕ, List, [], find, Option, Some, None, option_and_then}
 use Rattle.std.specs.Str.{bytes_eq}
-use Rattle.graph_core.specs.Graphs.{Text, Content}
-use Rattle.graph_core.specs.declared.node.Node.{Node}
-use Rattle.graph_core.specs.declared.node.Compiler.{Compiler}
+use Rattle.condition_rules.specs.OfGraphCore.Graphs.{Text, Content}
+use Rattle.condition_rules.specs.OfGraphCore.Node.{Node}
+use Rattle.condition_rules.specs.OfGraphCore.Compiler.{Compiler}
 use Rattle.condition_rules.specs.Worlds.{World, recipe_of, rows}
 use Rattle.condition_rules.specs.Holds.{asked_node, all_hold}
-use Rattle.spec_grammar.specs.declared.part.Spec.{Spec}
+use Rattle.condition_rules.specs.OfSpecGrammar.Spec.{Spec}
 use Rattle.site_settings.specs.declared.settings.Settings.{Settings}
-use Rattle.conditions.specs.declared.recipe.Condition.{Condition}
-use Rattle.conditions.specs.declared.recipe.Recipe.{Recipe}
-use Rattle.conditions.specs.declared.recipe.VersionRow.{VersionRow}
-use Rattle.conditions.specs.declared.recipe.VariantRow.{VariantRow}
-use Rattle.conditions.specs.declared.recipe.DependRow.{DependRow}
-use Rattle.conditions.specs.declared.recipe.ConflictRow.{ConflictRow}
-use Rattle.conditions.specs.declared.recipe.RequireRow.{RequireRow}
+use Rattle.condition_rules.specs.OfConditions.Condition.{Condition}
+use Rattle.condition_rules.specs.OfConditions.Recipe.{Recipe}
+use Rattle.condition_rules.specs.OfConditions.VersionRow.{VersionRow}
+use Rattle.condition_rules.specs.OfConditions.VariantRow.{VariantRow}
+use Rattle.condition_rules.specs.OfConditions.DependRow.{DependRow}
+use Rattle.condition_rules.specs.OfConditions.ConflictRow.{ConflictRow}
+use Rattle.condition_rules.specs.OfConditions.RequireRow.{RequireRow}
 use Rattle.site_settings.specs.declared.settings.PackageEntry.{PackageEntry}
 use Rattle.site_settings.specs.declared.settings.ExternalEntry.{ExternalEntry}
 use Rattle.reuse_db.specs.declared.record.Record.{Record}

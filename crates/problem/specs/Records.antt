@@ -1,7 +1,7 @@
 -- What records name.
 use Rattle.std.specs.Prelude.{◌||◌, List, filter}
-use Rattle.graph_core.specs.Graphs.{Text}
-use Rattle.graph_core.specs.declared.node.Kinds.{Kinds}
+use Rattle.condition_rules.specs.OfGraphCore.Graphs.{Text}
+use Rattle.condition_rules.specs.OfGraphCore.Kinds.{Kinds}
 use Rattle.reuse_db.specs.declared.record.Record.{Record}
 
 -- the link and run children of a record, each with its kinds

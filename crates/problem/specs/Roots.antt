@@ -2,10 +2,10 @@
 use Rattle.std.specs.Prelude.{◌≡◌, List, [], ◌∷◌, Option, Some, None, option_map, if◌then◌else◌}
 use Rattle.std.specs.Option.{option_or}
 use Rattle.std.specs.Str.{bytes_eq}
-use Rattle.spec_grammar.specs.declared.part.Part.{Part}
-use Rattle.spec_grammar.specs.declared.part.Spec.{Spec}
-use Rattle.graph_core.specs.Graphs.{Text}
-use Rattle.virtuals.specs.Virtuals.{is_virtual}
+use Rattle.condition_rules.specs.OfSpecGrammar.Part.{Part}
+use Rattle.condition_rules.specs.OfSpecGrammar.Spec.{Spec}
+use Rattle.condition_rules.specs.OfGraphCore.Graphs.{Text}
+use Rattle.condition_rules.specs.OfVirtuals.Virtuals.{is_virtual}
 use Rattle.problem.specs.Problems.{Problem}
 use Rattle.problem.specs.Closure.{is_known}
 use Rattle.problem.specs.declared.fault.ProblemFault.{ProblemFault}

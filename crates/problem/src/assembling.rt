@@ -1,8 +1,8 @@
 // Putting a problem together.
 ghost use Rattle.std.specs.Prelude.{◌≡◌, true, None, is_some, IfOk, IfErr, OnOk, map, option_map, ◌∷◌, ◌++◌};
 ghost use Rattle.std.specs.List.{list_all, range_with_len};
-ghost use Rattle.conditions.specs.Right.{is_right_recipe};
-ghost use Rattle.virtuals.specs.Virtuals.{AreInOrder, AreProviders};
+ghost use Rattle.condition_rules.specs.OfConditions.Right.{is_right_recipe};
+ghost use Rattle.condition_rules.specs.OfVirtuals.Virtuals.{AreInOrder, AreProviders};
 ghost use Rattle.problem.specs.Demands.{directives_of};
 ghost use Rattle.problem.specs.Problems.{problem_of};
 ghost use Rattle.problem.specs.Roots.{IsProblemFault, name_fault, root_fault, first_fault, roots_fault, wrong_platform};
@@ -13,13 +13,11 @@ use crate::demands::demands_of;
 use crate::known::is_known;
 use crate::platforms::wrong_platform;
 use crate::{Demand, Problem, ProblemFault};
-use conditions::Recipe;
+use condition_rules::{Providers, Recipe, Spec};
 use plain_data::{Duplicate, List, Word};
 use reuse_db::Database;
 use site_settings::Settings;
-use spec_grammar::Spec;
 use std::alloc::{AllocError, Global};
-use virtuals::Providers;
 
 /// The problem of these parts; takes them whatever it answers.
 ///

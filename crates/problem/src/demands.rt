@@ -1,12 +1,12 @@
 // What may be demanded of a graph, as a list.
 ghost use Rattle.std.specs.Prelude.{◌≡◌, ◌++◌, map, IfOk, OnOk};
 ghost use Rattle.std.specs.List.{range_with_len};
-ghost use Rattle.conditions.specs.Right.{numbers_of};
+ghost use Rattle.condition_rules.specs.OfConditions.Right.{numbers_of};
 ghost use Rattle.problem.specs.Demands.{directives_of};
 ghost use Rattle.problem.specs.declared.demand.Demand.TheVariants.{Root, Directive};
 
 use crate::Demand;
-use conditions::{ConflictRow, DependRow, Recipe, RequireRow};
+use condition_rules::{ConflictRow, DependRow, Recipe, RequireRow};
 use plain_data::{Duplicate, List, Word};
 use std::alloc::{AllocError, Global};
 

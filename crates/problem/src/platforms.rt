@@ -3,8 +3,8 @@ ghost use Rattle.std.specs.Prelude.{◌≡◌, ◌∷◌};
 ghost use Rattle.std.specs.Option.{option_copied};
 ghost use Rattle.problem.specs.Roots.{other_than, wrong_platform};
 
+use condition_rules::{Part, Spec};
 use plain_data::Word;
-use spec_grammar::{Part, Spec};
 
 fn other_than<'a>(platform: &str, written: &'a Option<Word>) -> Option<&'a Word>
     ensures { option_copied result ≡ other_than platform.now written.now }

@@ -1,20 +1,17 @@
 // A problem.
 ghost use Rattle.std.specs.Prelude.{◌≡◌, true, length, slice_get};
 ghost use Rattle.std.specs.Option.{option_copied};
-ghost use Rattle.virtuals.specs.Virtuals.{AreInOrder, AreProviders};
+ghost use Rattle.condition_rules.specs.OfVirtuals.Virtuals.{AreInOrder, AreProviders};
 ghost use Rattle.problem.specs.Assembled.{is_assembled};
 ghost use Rattle.problem.specs.Demands.{demands};
 ghost use Rattle.problem.specs.Problems.{world_of};
 
 use crate::Demand;
-use condition_rules::World;
-use conditions::Recipe;
+use condition_rules::{Providers, Recipe, Spec, World};
 use plain_data::List;
 use reuse_db::Database;
 use site_settings::Settings;
-use spec_grammar::Spec;
 use std::marker::Model;
-use virtuals::Providers;
 
 /// All that decides which graphs are valid and what they cost.
 #[derive(Debug, Drop)]
@@ -31,7 +28,7 @@ pub struct Problem {
 
 impl Model for Problem {
     ghost use Rattle.std.specs.Prelude.{◌≡◌, true};
-    ghost use Rattle.virtuals.specs.Virtuals.{AreInOrder, AreProviders};
+    ghost use Rattle.condition_rules.specs.OfVirtuals.Virtuals.{AreInOrder, AreProviders};
     ghost use Rattle.problem.specs.Assembled.{is_assembled};
     ghost use Rattle.problem.specs.Demands.{AreDemands};
     ghost use Rattle.problem.specs.Problems.{Problem, problem_of};

@@ -1,7 +1,7 @@
 -- Where the recipes of a repository stand.
 use Rattle.std.specs.Prelude.{◌≡◌, ◌⊎◌, ℕ, List, [], ◌∷◌, codes, Result, Err}
 use Rattle.spec_grammar.specs.Signs.{IsName}
-use Rattle.report_texts.specs.Lines.{joined}
+use Rattle.run_answers.specs.Lines.{joined}
 use Rattle.run_answers.specs.declared.stop.ReadStop.{ReadStop}
 use Rattle.run_answers.specs.declared.stop.ReadStop.TheVariants as reads
 

@@ -13,8 +13,16 @@ mod settings_faults;
 mod spec_faults;
 mod worked;
 
+// The faults themselves, so that crates above need not name the crates that have them.
+pub use database_reader::fault_text as database_fault_text;
+pub use graph_rules::Rule;
 pub use lock_faults::{lock_fault_text, rule_name};
+pub use lockfile::LockFault;
 pub use recipe_faults::recipe_fault_text;
+pub use recipe_reader::RecipeFault;
+pub use reuse_db::DbFault;
 pub use settings_faults::settings_fault_text;
+pub use settings_reader::SettingsFault;
 pub use spec_faults::spec_fault_text;
+pub use spec_grammar::SpecFault;
 pub use worked::worked_fault_texts;

@@ -8,7 +8,7 @@ use Rattle.std.specs.declared.alloc.Global.{Global}
 use Rattle.std.proofs.lemmas.Bool.{cases_lt, cases_Bool, cond-true, cond-false, false_from_ne_true}
 use Rattle.std.proofs.lemmas.Option.{none-some}
 use Rattle.std.proofs.lemmas.List.{take_more, get_or-map, get_or_default, get_or_append_left, get_or-append_right, length_push, length-map}
-use Rattle.reachability.specs.Places.{IsAt}
+use Rattle.graph_core.specs.OfReachability.Places.{IsAt}
 use Rattle.reuse_db.specs.declared.record.Record.{Record}
 use Rattle.reuse_db.specs.Places.{ArePlaces}
 use Rattle.reuse_db.specs.Databases.{hashes_of, IsTwice}

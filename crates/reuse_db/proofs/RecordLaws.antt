@@ -7,7 +7,7 @@ use Rattle.std.specs.Cmp.Lexicographic.{bytes_decides}
 use Rattle.std.specs.declared.alloc.Global.{Global}
 use Rattle.std.proofs.lemmas.Bool.{false_from_ne_true}
 use Rattle.std.proofs.lemmas.List.{get_or-map, get_or-take, get_or_default, length-map, length-take}
-use Rattle.reachability.proofs.CountLaws.{has_first, has_later, first_or_later}
+use Rattle.graph_core.proofs.OfReachability.CountLaws.{has_first, has_later, first_or_later}
 use Rattle.graph_core.specs.Graphs.{Text}
 use Rattle.reuse_db.specs.declared.record.Record.{Record}
 use Rattle.reuse_db.specs.Places.{ArePlaces}

@@ -2,7 +2,7 @@
 use Rattle.std.specs.Prelude.{◌≡◌, ◌↔◌, ℕ, List, Some, String}
 use Rattle.std.specs.BTreeMap.{BTreeMap, get_by_text}
 use Rattle.std.specs.declared.alloc.Global.{Global}
-use Rattle.reachability.specs.Places.{IsAt}
+use Rattle.graph_core.specs.OfReachability.Places.{IsAt}
 
 -- the map has just the places of the hashes
 abbrev pub ArePlaces : List (List ℕ) → BTreeMap (String Global) ℕ → Type 0

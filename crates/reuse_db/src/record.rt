@@ -1,10 +1,8 @@
 // What is installed.
 
-use graph_core::{Compiler, Kinds};
+use graph_core::{Compiler, Kinds, ValueSet, Version};
 use plain_data::{List, Word};
 use spec_hash::Hash;
-use variant_values::ValueSet;
-use version_order::Version;
 
 /// An installed package, as a database has it.
 #[derive(Debug, Drop)]

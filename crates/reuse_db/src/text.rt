@@ -5,12 +5,11 @@ ghost use Rattle.serde_json.specs.View.{view, members_view, items_view};
 ghost use Rattle.reuse_db.specs.Canonical.{texts_data, compiler_data, external_data, variant_members, kind_texts, dependency_data, dependency_members, values_of, record_data, canonical};
 
 use crate::Record;
-use graph_core::{Compiler, Kinds};
+use graph_core::{Compiler, Kinds, ValueSet};
 use plain_data::Word;
 use serde_json::{Map, Value, json};
 use spec_hash::Hash;
 use std::alloc::{AllocError, Global};
-use variant_values::ValueSet;
 
 /// The canonical text of a record: its compact JSON text without the hash.
 pub fn canonical(alloc: Global, entry: &Record) -> Result<Vec<u8>, AllocError>

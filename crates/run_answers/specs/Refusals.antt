@@ -1,15 +1,15 @@
 -- What is answered and said where input is refused.
 use Rattle.std.specs.Prelude.{ℕ, List, [], ◌∷◌, codes, decimal}
-use Rattle.spec_grammar.specs.declared.fault.SpecFault.{SpecFault}
-use Rattle.settings_reader.specs.declared.fault.SettingsFault.{SettingsFault}
-use Rattle.recipe_reader.specs.declared.fault.RecipeFault.{RecipeFault}
-use Rattle.lockfile.specs.declared.fault.LockFault.{LockFault}
-use Rattle.lockfile.specs.declared.fault.LockFault.TheVariants as faults
-use Rattle.graph_rules.specs.declared.rule.Rule.{Rule}
+use Rattle.report_texts.specs.SpecFault.{SpecFault}
+use Rattle.report_texts.specs.SettingsFault.{SettingsFault}
+use Rattle.report_texts.specs.RecipeFault.{RecipeFault}
+use Rattle.report_texts.specs.DbFault.{DbFault}
+use Rattle.report_texts.specs.DatabaseTexts as database
+use Rattle.report_texts.specs.LockFault.{LockFault}
+use Rattle.report_texts.specs.LockFault.TheVariants as faults
+use Rattle.report_texts.specs.Rule.{Rule}
 use Rattle.report_texts.specs.FaultTexts.{spec_fault_text, settings_fault_text, recipe_fault_text, lock_fault_text, rule_name}
 use Rattle.report_texts.specs.Lines.{line}
-use Rattle.run_answers.specs.declared.refusal.NotBuilt.{NotBuilt}
-use Rattle.run_answers.specs.declared.refusal.NotBuilt.TheVariants as forms
 use Rattle.run_answers.specs.declared.refusal.Refusal.{Refusal}
 use Rattle.run_answers.specs.declared.refusal.Refusal.TheVariants as refusals
 use Rattle.run_answers.specs.declared.status.Status.{Status}
@@ -26,7 +26,8 @@ lock_status faults.OutOfMemory = statuses.BadInput
 
 abbrev pub status_of : Refusal → Status
 status_of refusals.Usage = statuses.Usage
-status_of (refusals.NotBuilt what) = statuses.BadInput
+status_of refusals.DatabaseTooLarge = statuses.TooLarge
+status_of (refusals.BadDatabase fault) = statuses.BadInput
 status_of (refusals.MissingInput path) = statuses.BadInput
 status_of refusals.SettingsTooLarge = statuses.TooLarge
 status_of (refusals.BadSettings fault) = statuses.BadInput
@@ -41,6 +42,7 @@ status_of refusals.TooManyRoots = statuses.TooLarge
 status_of (refusals.UnknownRoot name) = statuses.BadInput
 status_of (refusals.VirtualRoot name) = statuses.BadInput
 status_of (refusals.WrongPlatform platform) = statuses.BadInput
+status_of refusals.TooManyPackages = statuses.TooLarge
 status_of refusals.LockTooLarge = statuses.TooLarge
 status_of (refusals.BadLock fault) = lock_status fault
 status_of refusals.OtherRoots = statuses.Refused
@@ -54,6 +56,9 @@ bad_settings_line fault = line (codes "bad input: settings: " ∷ settings_fault
 
 unfoldable pub bad_recipe_line : List ℕ → RecipeFault → List ℕ
 bad_recipe_line name fault = line (codes "bad input: recipe " ∷ name ∷ codes ": " ∷ recipe_fault_text fault ∷ [])
+
+unfoldable pub bad_database_line : DbFault → List ℕ
+bad_database_line fault = line (codes "bad input: database: " ∷ database.fault_text fault ∷ [])
 
 unfoldable pub bad_specs_line : SpecFault → List ℕ
 bad_specs_line fault = line (codes "bad input: specs: " ∷ spec_fault_text fault ∷ [])
@@ -87,20 +92,11 @@ broken_line rule node number = line (codes "refused: graph " ∷ rule_name rule 
 unfoldable pub too_large_line : List ℕ → List ℕ
 too_large_line name = line (codes "too large: recipe " ∷ name ∷ [])
 
-unfoldable pub recipe_line : List ℕ → List ℕ
-recipe_line name = line (codes "bad input: not built recipe " ∷ name ∷ [])
-
-unfoldable pub not_built_line : NotBuilt → List ℕ
-not_built_line forms.Settings = line (codes "bad input: not built settings" ∷ [])
-not_built_line forms.Database = line (codes "bad input: not built database" ∷ [])
-not_built_line forms.Certificate = line (codes "bad input: not built certificate" ∷ [])
-not_built_line forms.Specs = line (codes "bad input: not built specs" ∷ [])
-not_built_line (forms.Recipe name) = recipe_line name
-
 -- the line that is said
 unfoldable pub line_of : Refusal → List ℕ
 line_of refusals.Usage = line (codes "usage: spack_concretize COMMAND ARGUMENT..." ∷ [])
-line_of (refusals.NotBuilt what) = not_built_line what
+line_of refusals.DatabaseTooLarge = line (codes "too large: database" ∷ [])
+line_of (refusals.BadDatabase fault) = bad_database_line fault
 line_of (refusals.MissingInput path) = missing_line path
 line_of refusals.SettingsTooLarge = line (codes "too large: settings" ∷ [])
 line_of (refusals.BadSettings fault) = bad_settings_line fault
@@ -115,6 +111,7 @@ line_of refusals.TooManyRoots = line (codes "too large: roots" ∷ [])
 line_of (refusals.UnknownRoot name) = unknown_line name
 line_of (refusals.VirtualRoot name) = virtual_line name
 line_of (refusals.WrongPlatform platform) = platform_line platform
+line_of refusals.TooManyPackages = line (codes "too large: packages" ∷ [])
 line_of refusals.LockTooLarge = line (codes "too large: lock" ∷ [])
 line_of (refusals.BadLock fault) = bad_lock_line fault
 line_of refusals.OtherRoots = line (codes "refused: roots" ∷ [])

@@ -10,6 +10,6 @@ mod refusal;
 mod status;
 mod stop;
 
-pub use refusal::{NotBuilt, Refusal};
+pub use refusal::Refusal;
 pub use status::Status;
 pub use stop::{ReadStop, Stop, WriteStop};

@@ -6,34 +6,22 @@ ghost use Rattle.run_answers.specs.Refusals.{status_of};
 ghost use Rattle.run_answers.specs.Refusals as lines;
 
 use crate::status::Status;
-use graph_rules::Rule;
-use lockfile::LockFault;
 use plain_data::Word;
-use recipe_reader::RecipeFault;
 use report_texts::{
+    DbFault, LockFault, RecipeFault, Rule, SettingsFault, SpecFault, database_fault_text,
     lock_fault_text, recipe_fault_text, rule_name, settings_fault_text, spec_fault_text,
 };
-use settings_reader::SettingsFault;
-use spec_grammar::SpecFault;
 use std::alloc::{AllocError, Global};
-
-/// A form of input that is not built yet.
-#[derive(Debug, Drop)]
-pub enum NotBuilt {
-    Settings,
-    Database,
-    Certificate,
-    Specs,
-    /// The recipe of the package with this name.
-    Recipe(Word),
-}
 
 /// Why input is refused.
 #[derive(Debug, Drop)]
 pub enum Refusal {
     /// The words are no command.
     Usage,
-    NotBuilt(NotBuilt),
+    /// The database is longer than 64 MiB.
+    DatabaseTooLarge,
+    /// The database has the fault.
+    BadDatabase(DbFault),
     /// There is no file or folder at the path, which is to be read.
     MissingInput(Word),
     /// The settings are longer than 16 MiB.
@@ -62,6 +50,8 @@ pub enum Refusal {
     VirtualRoot(Word),
     /// A spec asks for this platform, which is not the machine's.
     WrongPlatform(Word),
+    /// More than 1,024 packages may be nodes.
+    TooManyPackages,
     /// The lock file has 2^63 bytes or more.
     LockTooLarge,
     /// The lock file has the fault.
@@ -78,11 +68,11 @@ impl Refusal {
     {
         match self {
             Refusal::Usage => Status::Usage,
-            Refusal::NotBuilt(_)
-            | Refusal::MissingInput(_)
+            Refusal::MissingInput(_)
             | Refusal::BadSettings(_)
             | Refusal::BadRecipe(_, _)
             | Refusal::NameClash(_)
+            | Refusal::BadDatabase(_)
             | Refusal::BadSpecs(_)
             | Refusal::UnknownRoot(_)
             | Refusal::VirtualRoot(_)
@@ -91,8 +81,10 @@ impl Refusal {
             | Refusal::TooManyRecipes
             | Refusal::RecipeTooLarge(_)
             | Refusal::RecipesTooLarge
+            | Refusal::DatabaseTooLarge
             | Refusal::SpecsTooLarge
             | Refusal::TooManyRoots
+            | Refusal::TooManyPackages
             | Refusal::LockTooLarge => Status::TooLarge,
             Refusal::BadLock(fault) => lock_status(fault),
             Refusal::OtherRoots | Refusal::BrokenRule(_, _, _) => Status::Refused,
@@ -106,7 +98,8 @@ impl Refusal {
     {
         match self {
             Refusal::Usage => { format!(in alloc; "usage: spack_concretize COMMAND ARGUMENT...\n") }
-            Refusal::NotBuilt(what) => not_built_line(alloc, what),
+            Refusal::DatabaseTooLarge => format!(in alloc; "too large: database\n"),
+            Refusal::BadDatabase(fault) => bad_database_line(alloc, fault),
             Refusal::MissingInput(path) => missing_line(alloc, path.as_str()),
             Refusal::SettingsTooLarge => format!(in alloc; "too large: settings\n"),
             Refusal::BadSettings(fault) => bad_settings_line(alloc, fault),
@@ -121,6 +114,7 @@ impl Refusal {
             Refusal::UnknownRoot(name) => unknown_line(alloc, name.as_str()),
             Refusal::VirtualRoot(name) => virtual_line(alloc, name.as_str()),
             Refusal::WrongPlatform(name) => platform_line(alloc, name.as_str()),
+            Refusal::TooManyPackages => format!(in alloc; "too large: packages\n"),
             Refusal::LockTooLarge => format!(in alloc; "too large: lock\n"),
             Refusal::BadLock(fault) => bad_lock_line(alloc, fault),
             Refusal::OtherRoots => format!(in alloc; "refused: roots\n"),
@@ -129,26 +123,6 @@ impl Refusal {
             }
         }
     }
-}
-
-#[tactic(auto, unfolding(crate::specs::Refusals::not_built_line))]
-fn not_built_line(alloc: Global, what: &NotBuilt) -> Result<String, AllocError>
-    ensures { IfOk result (λ line. string_bytes line ≡ lines.not_built_line what.now) }
-{
-    match what {
-        NotBuilt::Settings => format!(in alloc; "bad input: not built settings\n"),
-        NotBuilt::Database => format!(in alloc; "bad input: not built database\n"),
-        NotBuilt::Certificate => format!(in alloc; "bad input: not built certificate\n"),
-        NotBuilt::Specs => format!(in alloc; "bad input: not built specs\n"),
-        NotBuilt::Recipe(name) => recipe_line(alloc, name.as_str()),
-    }
-}
-
-#[tactic(auto, unfolding(crate::specs::Refusals::recipe_line))]
-fn recipe_line(alloc: Global, name: &str) -> Result<String, AllocError>
-    ensures { IfOk result (λ line. string_bytes line ≡ lines.recipe_line name.now) }
-{
-    format!(in alloc; "bad input: not built recipe {name}\n")
 }
 
 #[tactic(auto, unfolding(crate::specs::Refusals::missing_line))]
@@ -172,6 +146,14 @@ fn bad_recipe_line(alloc: Global, name: &str, fault: RecipeFault) -> Result<Stri
 {
     let fault = recipe_fault_text(alloc, fault)?;
     format!(in alloc; "bad input: recipe {name}: {fault}\n")
+}
+
+#[tactic(auto, unfolding(crate::specs::Refusals::bad_database_line))]
+fn bad_database_line(alloc: Global, fault: &DbFault) -> Result<String, AllocError>
+    ensures { IfOk result (λ line. string_bytes line ≡ lines.bad_database_line fault.now) }
+{
+    let fault = database_fault_text(alloc, fault)?;
+    format!(in alloc; "bad input: database: {fault}\n")
 }
 
 #[tactic(auto, unfolding(crate::specs::Refusals::bad_specs_line))]

@@ -7,7 +7,7 @@ use Rattle.conditions.specs.declared.recipe.Recipe.{Recipe}
 use Rattle.recipe_reader.specs.Files.{recipe_in_file, IsFirstFault}
 use Rattle.recipe_reader.specs.declared.fault.RecipeFault.{RecipeFault}
 use Rattle.recipe_reader.specs.declared.files.RecipeFile.{RecipeFile}
-use Rattle.run_answers.specs.declared.refusal.Refusal.TheVariants as refusals
+use Rattle.run_settings.specs.Refusal.TheVariants as refusals
 use Rattle.recipe_files.specs.Sources.{Source, source_of}
 use Rattle.run_input.specs.Recipes.{recipes_of}
 

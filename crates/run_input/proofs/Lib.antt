@@ -3,3 +3,4 @@ pub mod Named
 pub mod Once
 pub mod Paths
 pub mod Staged
+pub use Rattle.run_settings.proofs.StageLaws

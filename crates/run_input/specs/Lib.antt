@@ -1,3 +1,19 @@
 pub mod Inputs
 pub mod Recipes
 pub mod Roots
+-- what crates above name
+pub use Rattle.run_settings.specs.Exits
+pub use Rattle.run_settings.specs.Lines
+pub use Rattle.run_settings.specs.LockFault
+pub use Rattle.run_settings.specs.Refusals
+pub use Rattle.run_settings.specs.Stages
+pub use Rattle.run_settings.specs.Stops
+pub use Rattle.run_settings.specs.Refusal
+pub use Rattle.run_settings.specs.Status
+pub use Rattle.run_settings.specs.ReadStop
+pub use Rattle.run_settings.specs.WriteStop
+pub use Rattle.run_settings.specs.Stop
+pub use Rattle.run_settings.specs.Words
+pub use Rattle.run_settings.specs.Orders
+pub use Rattle.run_settings.specs.Work
+pub use Rattle.possible_closure.specs.Closures

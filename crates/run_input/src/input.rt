@@ -1,25 +1,26 @@
-//! The problem that the settings and the parts pose.
+//! The problem that the settings, the recipes and the roots pose.
 
 ghost use Rattle.std.specs.Prelude.{◌≡◌, true, Ok, IfOk, IfSome};
 ghost use Rattle.std.specs.List.{list_all};
 ghost use Rattle.outside_desk.specs.Causes.{Counts};
 ghost use Rattle.conditions.specs.Right.{is_right_recipe};
 ghost use Rattle.virtuals.specs.Virtuals.{AreInOrder};
-ghost use Rattle.run_answers.specs.Stages.{Is};
-ghost use Rattle.run_answers.specs.Stops.{Gives, EndsInReadFault, EndsInUsage};
+ghost use Rattle.possible_closure.specs.Closures.{closure_of};
+ghost use Rattle.run_settings.specs.Stages.{Is};
+ghost use Rattle.run_settings.specs.Stops.{Gives, EndsInReadFault, EndsInUsage};
 ghost use Rattle.run_input.specs.Roots.{RootsOf, are_named};
-ghost use Rattle.run_input.specs.Inputs.{posed_by, InputBy, Reads, FailsAtInput};
+ghost use Rattle.run_input.specs.Inputs.{posed_by, closed_of, InputBy, Asked, Behind, OverSettings, Reads, FailsAtInput};
 
-use crate::repository::{Parts, read_built};
+use crate::repository::read_repository;
+use crate::roots::read_roots;
 use conditions::Recipe;
 use outside_desk::Desk;
 use plain_data::List;
+use possible_closure::{Closure, ClosureFault, closure};
 use problem::{Problem, ProblemFault, assemble};
-use recipe_files::Sources;
 use reuse_db::Database;
-use run_answers::{ReadStop, Refusal};
-use run_settings::read_site;
-use run_words::Command;
+use run_database::read_installed;
+use run_settings::{Command, ReadStop, Refusal, read_site};
 use site_settings::Settings;
 use spec_grammar::Spec;
 use std::alloc::Global;
@@ -27,29 +28,30 @@ use std::alloc::Global;
 /// What a run reads.
 #[derive(Drop)]
 pub struct Input {
-    /// The recipe files.
-    pub sources: Sources,
-    /// The problem that they, the settings and the specs pose.
+    /// The problem that the recipes, the settings and the specs pose.
     pub problem: Problem,
+    /// The names that nodes of its graphs may have.
+    pub closure: Closure,
 }
 
-/// The problem of recipes, settings and roots, with nothing installed.
+/// The problem of recipes, settings, records and roots.
 #[tactic(auto, unfolding(crate::specs::Inputs::posed_by))]
 fn posed(
     alloc: Global,
     recipes: List<Recipe>,
     settings: Settings,
+    database: Database,
     roots: List<Spec>,
 ) -> Result<Problem, ReadStop>
     requires order { AreInOrder recipes }
     requires right { list_all is_right_recipe recipes ≡ true }
     requires named { are_named roots ≡ true }
-    ensures read { Gives result (Is (posed_by recipes settings roots)) }
+    ensures read { Gives result (Is (posed_by recipes settings database roots)) }
     ensures roots { IfOk result (λ problem. problem.roots ≡ roots) }
     ensures no_usage { EndsInUsage result → ⊥ }
     ensures no_fault { EndsInReadFault result → ⊥ }
 {
-    match assemble(alloc, recipes, settings, Database::empty(alloc), roots) {
+    match assemble(alloc, recipes, settings, database, roots) {
         Ok(problem) => Ok(problem),
         Err(ProblemFault::UnknownRoot(name)) => Err(ReadStop::Refused(Refusal::UnknownRoot(name))),
         Err(ProblemFault::VirtualRoot(name)) => Err(ReadStop::Refused(Refusal::VirtualRoot(name))),
@@ -60,23 +62,112 @@ fn posed(
     }
 }
 
-/// The problem of the parts.
-fn put_together(alloc: Global, settings: Settings, parts: Parts) -> Result<Input, ReadStop>
-    requires order { AreInOrder parts.recipes }
-    requires right { list_all is_right_recipe parts.recipes ≡ true }
-    requires named { are_named parts.roots ≡ true }
-    ensures read { Gives result (InputBy settings parts) }
-    ensures roots { IfOk result (λ input. input.problem.roots ≡ parts.roots) }
+/// What a run reads: the problem, with the names that its nodes may have.
+#[tactic(auto, unfolding(crate::specs::Inputs::closed_of))]
+fn closed(alloc: Global, problem: Problem) -> Result<Input, ReadStop>
+    ensures read { Gives result (Is (closed_of problem)) }
+    ensures roots { IfOk result (λ input. input.problem.roots ≡ problem.roots) }
+    ensures names { IfOk result (λ input. input.closure ≡ closure_of input.problem) }
     ensures no_usage { EndsInUsage result → ⊥ }
     ensures no_fault { EndsInReadFault result → ⊥ }
 {
-    let Parts {
-        sources,
-        recipes,
-        roots,
-    } = parts;
-    match posed(alloc, recipes, settings, roots) {
-        Ok(problem) => Ok(Input { sources, problem }),
+    match closure(alloc, &problem) {
+        Ok(closure) => Ok(Input { problem, closure }),
+        Err(ClosureFault::TooManyPackages) => Err(ReadStop::Refused(Refusal::TooManyPackages)),
+        Err(ClosureFault::OutOfMemory) => Err(ReadStop::NoMemory),
+    }
+}
+
+/// The problem, and then its names.
+fn put_together(
+    alloc: Global,
+    recipes: List<Recipe>,
+    settings: Settings,
+    database: Database,
+    roots: List<Spec>,
+) -> Result<Input, ReadStop>
+    requires order { AreInOrder recipes }
+    requires right { list_all is_right_recipe recipes ≡ true }
+    requires named { are_named roots ≡ true }
+    ensures read { Gives result (InputBy recipes settings database roots) }
+    ensures roots { IfOk result (λ input. input.problem.roots ≡ roots) }
+    ensures names { IfOk result (λ input. input.closure ≡ closure_of input.problem) }
+    ensures no_usage { EndsInUsage result → ⊥ }
+    ensures no_fault { EndsInReadFault result → ⊥ }
+{
+    let problem = posed(alloc, recipes, settings, database, roots)?;
+    closed(alloc, problem)
+}
+
+/// The specs, and then the problem.
+fn read_asked(
+    alloc: Global,
+    recipes: List<Recipe>,
+    settings: Settings,
+    database: Database,
+    spec: &str,
+) -> Result<Input, ReadStop>
+    requires order { AreInOrder recipes }
+    requires right { list_all is_right_recipe recipes ≡ true }
+    ensures read { Gives result (Asked recipes settings spec.now database) }
+    ensures roots { IfOk result (λ input. RootsOf spec.now (Ok input.problem.roots)) }
+    ensures names { IfOk result (λ input. input.closure ≡ closure_of input.problem) }
+    ensures no_usage { EndsInUsage result → ⊥ }
+    ensures no_fault { EndsInReadFault result → ⊥ }
+{
+    match read_roots(alloc, spec) {
+        Ok(roots) => put_together(alloc, recipes, settings, database, roots),
+        Err(stop) => Err(stop),
+    }
+}
+
+/// The database, and then what is behind it.
+#[tactic(auto, using(crate::proofs::Paths::of_database))]
+fn read_behind<D: Desk>(
+    alloc: Global,
+    desk: &mut D,
+    command: &Command<'_>,
+    settings: Settings,
+    recipes: List<Recipe>,
+) -> Result<Input, ReadStop>
+    requires order { AreInOrder recipes }
+    requires right { list_all is_right_recipe recipes ≡ true }
+    ensures read { IfSome (D.files desk.old)
+        (λ files. Gives result (Behind files command.now settings recipes)) }
+    ensures roots { IfOk result (λ input. RootsOf command.now.spec (Ok input.problem.roots)) }
+    ensures names { IfOk result (λ input. input.closure ≡ closure_of input.problem) }
+    ensures path { FailsAtInput command.now result }
+    ensures no_usage { EndsInUsage result → ⊥ }
+    ensures same { D.files desk.new ≡ D.files desk.old }
+    ensures cause { Counts (D.faults desk.old) (D.faults desk.new) (EndsInReadFault result) }
+    ensures put_faults { D.put_faults desk.new ≡ D.put_faults desk.old }
+{
+    match read_installed(alloc, desk, command.database) {
+        Ok(database) => read_asked(alloc, recipes, settings, database, command.spec.as_str()),
+        Err(stop) => Err(stop),
+    }
+}
+
+/// The repository, and then what is behind it.
+#[tactic(auto, using(crate::proofs::Paths::of_repository))]
+fn read_over<D: Desk>(
+    alloc: Global,
+    desk: &mut D,
+    command: &Command<'_>,
+    settings: Settings,
+) -> Result<Input, ReadStop>
+    ensures read { IfSome (D.files desk.old)
+        (λ files. Gives result (OverSettings files command.now settings)) }
+    ensures roots { IfOk result (λ input. RootsOf command.now.spec (Ok input.problem.roots)) }
+    ensures names { IfOk result (λ input. input.closure ≡ closure_of input.problem) }
+    ensures path { FailsAtInput command.now result }
+    ensures no_usage { EndsInUsage result → ⊥ }
+    ensures same { D.files desk.new ≡ D.files desk.old }
+    ensures cause { Counts (D.faults desk.old) (D.faults desk.new) (EndsInReadFault result) }
+    ensures put_faults { D.put_faults desk.new ≡ D.put_faults desk.old }
+{
+    match read_repository(alloc, desk, command.repo) {
+        Ok(recipes) => read_behind(alloc, desk, command, settings, recipes),
         Err(stop) => Err(stop),
     }
 }
@@ -85,18 +176,17 @@ fn put_together(alloc: Global, settings: Settings, parts: Parts) -> Result<Input
 ///
 /// # Errors
 ///
-/// The first refusal that is due, in the order of work: the settings, what is not built yet, the listing and
-/// the reading of all recipe files, their parsing, the clash of names, the specs, the roots. `Fault` where the
-/// desk failed.
-#[tactic(auto, using(crate::proofs::Paths::of_settings, crate::proofs::Paths::of_repository))]
+/// The first refusal that is due, in the order of work: the settings, the listing and the reading of all recipe files,
+/// their parsing, the clash of names, the database, the specs, the roots, the closure. `Fault` where the desk failed.
+#[tactic(auto, using(crate::proofs::Paths::of_settings))]
 pub fn read_input<D: Desk>(
     alloc: Global,
     desk: &mut D,
     command: &Command<'_>,
 ) -> Result<Input, ReadStop>
     ensures read { IfSome (D.files desk.old) (λ files. Gives result (Reads files command.now)) }
-    ensures roots { IfOk result (λ input. RootsOf command.now.work command.now.spec
-        (Ok input.problem.roots)) }
+    ensures roots { IfOk result (λ input. RootsOf command.now.spec (Ok input.problem.roots)) }
+    ensures names { IfOk result (λ input. input.closure ≡ closure_of input.problem) }
     ensures path { FailsAtInput command.now result }
     ensures no_usage { EndsInUsage result → ⊥ }
     ensures same { D.files desk.new ≡ D.files desk.old }
@@ -104,8 +194,5 @@ pub fn read_input<D: Desk>(
     ensures put_faults { D.put_faults desk.new ≡ D.put_faults desk.old }
 {
     let settings = read_site(alloc, desk, command.settings)?;
-    match read_built(alloc, desk, command) {
-        Ok(parts) => put_together(alloc, settings, parts),
-        Err(stop) => Err(stop),
-    }
+    read_over(alloc, desk, command, settings)
 }

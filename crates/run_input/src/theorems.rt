@@ -2,11 +2,12 @@
 
 ghost use Rattle.std.specs.Prelude.{◌≡◌, Result};
 ghost use Rattle.outside_desk.specs.Files.{Files};
-ghost use Rattle.run_answers.specs.declared.refusal.Refusal.{Refusal};
-ghost use Rattle.run_words.specs.Words.{Command};
+ghost use Rattle.run_settings.specs.Refusal.{Refusal};
+ghost use Rattle.run_settings.specs.Words.{Command};
 ghost use Rattle.run_input.specs.declared.input.Input.{Input};
 ghost use Rattle.run_input.specs.Inputs.{Reads};
 
+use run_database::installed_laws;
 use run_settings::site_laws;
 use spec_grammar::reading_laws;
 
@@ -18,4 +19,5 @@ pub fn input_laws()
 {
     reading_laws();
     site_laws();
+    installed_laws();
 }

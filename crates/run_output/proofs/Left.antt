@@ -1,25 +1,75 @@
--- What a writing that stopped leaves.
-use Rattle.std.proofs.Common.{◌≡◌, refl, ap, ℕ, List, Option, Result, Ok, Err}
-use Rattle.std.specs.Result.{IsErrAnd}
+-- What the writing of an answer leaves, by the answer.
+use Rattle.std.proofs.Common.{◌≡◌, ◌⊎◌, inl, inr, refl, ℕ, List, Option, Result, Ok, Err}
 use Rattle.outside_desk.specs.Files.{Files}
-use Rattle.run_answers.specs.declared.stop.WriteStop.{WriteStop}
-use Rattle.run_answers.specs.declared.stop.WriteStop.TheVariants.{Put, Output, NoMemory}
-use Rattle.run_problem.specs.declared.package.Problem.{Problem}
+use Rattle.best_graph.specs.declared.answer.Answer.{Answer}
+use Rattle.best_graph.specs.declared.answer.Answer.TheVariants as answers
+use Rattle.run_task.specs.Input.{Input}
+use Rattle.run_task.specs.Problems.{Problem}
+use Rattle.run_task.specs.WriteStop.{WriteStop}
+use Rattle.run_task.specs.WriteStop.TheVariants.{Put, Output, NoMemory}
 use Rattle.run_task.specs.declared.task.Task.TheVariants as tasks
-use Rattle.run_output.specs.Weights.{IsBest}
-use Rattle.run_output.specs.Answers.{lock_of, Puts, Writes}
-use Rattle.run_output.specs.declared.answer.Answer.{Answer}
+use Rattle.run_output.specs.Answers.{HoldsFronts, IsFor, KeepsFronts, Leaves, PutsAnswer, Writes}
+use Rattle.run_output.specs.declared.answer.Outcome.{Outcome}
+use Rattle.run_output.specs.declared.answer.Outcome.TheVariants.{Solved, Unsolved, Undecided}
 
-pub half_put : (path : List ℕ) (problem : Problem) (version text : List ℕ) (before after : Option Files) (said : Option (List ℕ))
-    (stop : WriteStop)
-    → IsBest problem.root.top.versions problem.declared version → text ≡ lock_of problem.root version
-    → Puts path text before after (Err stop) → Writes path (tasks.Solve problem) before after said said (Err stop)
-half_put path problem version text before after said (Put at) best is_text (is_at, held) =
-    (is_at, record { version = version; best = best; lock = rw (← is_text) held; out = refl })
-half_put path problem version text before after said Output best is_text left = absurd left
-half_put path problem version text before after said NoMemory best is_text left = tt
+-- a put that stopped
+pub put_stopped : (lock cert : List ℕ) (problem : Problem) (answer : Answer) (stop : WriteStop) (before after : Option Files)
+    (said : Option (List ℕ)) → PutsAnswer lock cert problem answer before after (Err stop)
+    → Leaves lock cert problem answer before after said said (Err stop)
+put_stopped lock cert problem answer (Put at) before after said left = (left, refl)
+put_stopped lock cert problem answer Output before after said left = absurd left
+put_stopped lock cert problem answer NoMemory before after said left = tt
 
--- a stop that was handed on
-pub carried : (stop : WriteStop) (result : Result Answer WriteStop) → IsErrAnd result (λ given. given ≡ stop) → result ≡ Err stop
-carried stop (Ok answer) h = absurd h
-carried stop (Err given) h = ap Err h
+-- the stop of a put
+abbrev pub EndsInPut : WriteStop → Type 0
+EndsInPut (Put at) = Unit {0}
+EndsInPut Output = ⊥
+EndsInPut NoMemory = ⊥
+
+-- the sink stopped
+pub say_stopped : (lock cert : List ℕ) (problem : Problem) (answer : Answer) (stop : WriteStop) (before after : Option Files)
+    (said more : Option (List ℕ)) → PutsAnswer lock cert problem answer before after (Ok tt)
+    → (EndsInPut stop → ⊥) → Leaves lock cert problem answer before after said more (Err stop)
+say_stopped lock cert problem answer (Put at) before after said more left no_put = absurd (no_put tt)
+say_stopped lock cert problem answer Output before after said more left no_put = left
+say_stopped lock cert problem answer NoMemory before after said more left no_put = tt
+
+module _ (lock cert : List ℕ) (input : Input) (before after : Option Files) (said more : Option (List ℕ)) where
+  solved : (answer : Answer) → IsFor input.problem answer
+      → Leaves lock cert input.problem answer before after said more (Ok Solved)
+      → Writes lock cert (tasks.Solve input) before after said more (Ok Solved)
+  solved (answers.Best graph log) found (is, files, out) = record { graph = graph; log = log; best = found; files = files; out = out }
+  solved (answers.Nothing log) found (is, files, out) = absurd (let no : Solved ≡ Unsolved = is in cc)
+  solved (answers.Undecided log) found (is, files, out) = absurd (let no : Solved ≡ Undecided = is in cc)
+
+  unsolved : (answer : Answer) → IsFor input.problem answer
+      → Leaves lock cert input.problem answer before after said more (Ok Unsolved)
+      → Writes lock cert (tasks.Solve input) before after said more (Ok Unsolved)
+  unsolved (answers.Best graph log) found (is, files, out) = absurd (let no : Unsolved ≡ Solved = is in cc)
+  unsolved (answers.Nothing log) found (is, files, out) = record { log = log; none = found; files = files; out = out }
+  unsolved (answers.Undecided log) found (is, files, out) = absurd (let no : Unsolved ≡ Undecided = is in cc)
+
+  undecided : (answer : Answer) → IsFor input.problem answer
+      → Leaves lock cert input.problem answer before after said more (Ok Undecided)
+      → Writes lock cert (tasks.Solve input) before after said more (Ok Undecided)
+  undecided (answers.Best graph log) found (is, files, out) = absurd (let no : Undecided ≡ Solved = is in cc)
+  undecided (answers.Nothing log) found (is, files, out) = absurd (let no : Undecided ≡ Unsolved = is in cc)
+  undecided (answers.Undecided log) found (is, files, out) = record { log = log; spent = found; files = files; out = out }
+
+  -- an answer that was found, and written
+  pub written : (answer : Answer) (result : Result Outcome WriteStop) → IsFor input.problem answer
+      → Leaves lock cert input.problem answer before after said more result
+      → Writes lock cert (tasks.Solve input) before after said more result
+  written answer (Ok Solved) found left = solved answer found left
+  written answer (Ok Unsolved) found left = unsolved answer found left
+  written answer (Ok Undecided) found left = undecided answer found left
+  written answer (Err (Put at)) found left = (record { answer = answer; found = found; half = left.0 }, left.1)
+  written answer (Err Output) found left = record { answer = answer; found = found; files = left }
+  written answer (Err NoMemory) found left = tt
+
+  -- what it keeps at any end
+  pub kept : (answer : Answer) → IsFor input.problem answer
+      → (after ≡ before) ⊎ HoldsFronts lock cert input.problem answer before after
+      → (after ≡ before) ⊎ KeepsFronts lock cert (tasks.Solve input) before after
+  kept answer found (inl same) = inl same
+  kept answer found (inr held) = inr (record { answer = answer; found = found; held = held })

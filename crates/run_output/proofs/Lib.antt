@@ -1,5 +1,4 @@
-pub mod Alone
-pub mod BestOf
 pub mod Changes
+pub mod Fronts
 pub mod Left
-pub mod Places
+pub use Rattle.run_task.proofs.StageLaws

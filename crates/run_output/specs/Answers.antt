@@ -1,113 +1,171 @@
--- What a run leaves of its answer: the lock file and what was said.
-use Rattle.std.specs.Prelude.{◌≡◌, ◌⊎◌, ℕ, List, [], ◌∷◌, ◌++◌, replicate, slice_set, Option, Some, None, Result, Ok, Err, codes}
+-- What a run leaves of its answer: the certificate, the lock file and what was said.
+use Rattle.std.specs.Prelude.{◌≡◌, ◌⊎◌, ℕ, Bool, true, false, List, [], ◌∷◌, ◌++◌, Option, Result, Ok, Err, codes, decimal}
 use Rattle.outside_desk.specs.Files.{Files, with_file, and_said, MayHold}
-use Rattle.spec_grammar.specs.declared.part.Spec.{Spec}
 use Rattle.graph_core.specs.Graphs.{Content}
-use Rattle.graph_core.specs.declared.node.Compiler.{Compiler}
-use Rattle.graph_core.specs.declared.node.Node.{Node}
-use Rattle.graph_core.specs.declared.node.Origin.TheVariants.{Built}
-use Rattle.lock_writer.specs.Texts.{lock_text}
-use Rattle.report_texts.specs.Lines.{line}
-use Rattle.run_output.specs.Weights.{weight_of, IsBest, HasNone}
-use Rattle.run_output.specs.Report.{report_text, vector_line}
-use Rattle.run_problem.specs.Problems.{name_of}
-use Rattle.run_problem.specs.declared.package.Problem.{Problem}
+use Rattle.run_task.specs.Problems.{Problem}
+use Rattle.run_task.specs.Costs.{vector}
+use Rattle.proof_log.specs.declared.line.Line.{Line}
+use Rattle.proof_log.specs.Readings.{log_text}
+use Rattle.best_graph.specs.Answers.{IsAnswer, log_of}
+use Rattle.best_graph.specs.declared.answer.Answer.{Answer}
+use Rattle.best_graph.specs.declared.answer.Answer.TheVariants as answers
+use Rattle.valid_locks.specs.Locks.{lock_of}
+use Rattle.run_task.specs.Words.{is_dash}
+use Rattle.run_task.specs.WriteStop.{WriteStop}
+use Rattle.run_task.specs.WriteStop.TheVariants as writes
 use Rattle.run_task.specs.declared.task.Task.{Task}
 use Rattle.run_task.specs.declared.task.Task.TheVariants as tasks
-use Rattle.run_output.specs.declared.answer.Answer.{Answer}
-use Rattle.run_output.specs.declared.answer.Answer.TheVariants as answers
-use Rattle.run_answers.specs.declared.stop.WriteStop.{WriteStop}
-use Rattle.run_answers.specs.declared.stop.WriteStop.TheVariants as writes
+use Rattle.run_output.specs.Report.{report_text, vector_line}
+use Rattle.run_output.specs.declared.answer.Outcome.{Outcome}
+use Rattle.run_output.specs.declared.answer.Outcome.TheVariants as outcomes
 
--- ---- the graph of one package
+-- ---- the answer of a problem
 
--- the first compiler, OS and target of the standard settings
-abbrev pub standard_compiler : Compiler
-standard_compiler = record { name = codes "gcc"; version = codes "12.3.0" }
-
--- the node that a version of a package becomes
-unfoldable pub node_of : List ℕ → List ℕ → Node
-node_of name version = record {
-  name = name;
-  version = version;
-  variants = [];
-  compiler = Some standard_compiler;
-  os = codes "ubuntu22.04";
-  target = codes "x86_64";
-  prefix = None;
-  origin = Built;
-}
-
--- the graph of one node
-abbrev pub graph_of : Node → Content
-graph_of node = record { nodes = node ∷ []; edges = []; providers = [] }
-
--- the node that a version of the root becomes
-abbrev pub root_node : Spec → List ℕ → Node
-root_node root version = node_of (name_of root) version
-
--- the lock file of a version, with nothing installed
-abbrev pub lock_of : Spec → List ℕ → List ℕ
-lock_of root version = lock_text (graph_of (root_node root version)) [] (root ∷ [])
-
--- its cost vector: of the 31 numbers the second is the version weight of the roots, and the sixteenth the number of builds
-abbrev pub cost_of : ℕ → List ℕ
-cost_of weight = slice_set (slice_set (replicate 31 0) 1 weight) 15 1
-
--- what is said of it
-abbrev pub report_of : Problem → List ℕ → List ℕ
-report_of problem version = report_text (root_node problem.root version ∷ []) (cost_of (weight_of problem.declared version))
-
--- ---- answers, where the lock file is to stand at `path`
-
--- there is a graph: the lock file is that of a best version, and its lines were said
-pub record IsSolved (path : List ℕ) (problem : Problem) (before after : Option Files)
-    (out_before out_after : Option (List ℕ)) : Type 0 where
-  pub version : List ℕ
-  pub best : IsBest problem.root.top.versions problem.declared version
-  pub lock : after ≡ with_file before path (lock_of problem.root version)
-  pub out : out_after ≡ and_said out_before (report_of problem version)
+-- the answer means what it says within the budget of the settings, and its log shows it over clauses of the problem
+abbrev pub IsFor : Problem → Answer → Type 0
+IsFor problem answer = IsAnswer problem problem.settings.conflict_budget answer
 
 unfoldable pub unsatisfiable_line : List ℕ
-unsatisfiable_line = line (codes "unsatisfiable" ∷ [])
+unsatisfiable_line = codes "unsatisfiable\n"
 
--- there is none, since no declared version is wanted
-pub record IsUnsolved (problem : Problem) (before after : Option Files) (out_before out_after : Option (List ℕ)) : Type 0 where
-  pub none : HasNone problem.root.top.versions problem.declared
-  pub files : after ≡ before
-  pub out : out_after ≡ and_said out_before unsatisfiable_line
+unfoldable pub undecided_line : ℕ → List ℕ
+undecided_line budget = codes "undecided " ++ (decimal budget ++ 10 ∷ [])
 
--- the put failed: the lock file is as it was or holds a front of its text, and nothing was said
-pub record IsHalfPut (path : List ℕ) (problem : Problem) (before after : Option Files)
-    (out_before out_after : Option (List ℕ)) : Type 0 where
-  pub version : List ℕ
-  pub best : IsBest problem.root.top.versions problem.declared version
-  pub lock : MayHold before after path (lock_of problem.root version)
-  pub out : out_after ≡ out_before
+-- what is said of a graph: its nodes, and its cost vector
+abbrev pub graph_text : Problem → Content → List ℕ
+graph_text problem graph = report_text graph.nodes (vector problem graph)
 
--- the lock file is whole
-pub record IsLocked (path : List ℕ) (problem : Problem) (before after : Option Files) : Type 0 where
-  pub version : List ℕ
-  pub best : IsBest problem.root.top.versions problem.declared version
-  pub lock : after ≡ with_file before path (lock_of problem.root version)
+abbrev pub text_of : Problem → Answer → List ℕ
+text_of problem (answers.Best graph log) = graph_text problem graph
+text_of problem (answers.Nothing log) = unsatisfiable_line
+text_of problem (answers.Undecided log) = undecided_line problem.settings.conflict_budget
 
--- the sink failed: the lock file is whole, or no declared version is wanted and no file changed
-abbrev pub IsUnsaid : List ℕ → Problem → Option Files → Option Files → Type 0
-IsUnsaid path problem before after = IsLocked path problem before after
-    ⊎ (HasNone problem.root.top.versions problem.declared × (after ≡ before))
+abbrev pub outcome_of : Answer → Outcome
+outcome_of (answers.Best graph log) = outcomes.Solved
+outcome_of (answers.Nothing log) = outcomes.Unsolved
+outcome_of (answers.Undecided log) = outcomes.Undecided
 
--- the lock file is as it was or holds a front of its text, the whole of it among them
-pub record HoldsFront (path : List ℕ) (problem : Problem) (before after : Option Files) : Type 0 where
-  pub version : List ℕ
-  pub best : IsBest problem.root.top.versions problem.declared version
-  pub held : MayHold before after path (lock_of problem.root version)
+-- ---- files
 
--- what a put of the lock file leaves
+abbrev pub with_cert_by : Bool → List ℕ → List Line → Option Files → Option Files
+with_cert_by true cert log files = files
+with_cert_by false cert log files = with_file files cert (log_text log)
+
+-- the certificate is put, unless its path is `-`
+abbrev pub with_cert : List ℕ → List Line → Option Files → Option Files
+with_cert cert log files = with_cert_by (is_dash cert) cert log files
+
+-- the certificate, and then the lock file of the graph
+abbrev pub with_both : List ℕ → List ℕ → Problem → Content → List Line → Option Files → Option Files
+with_both lock cert problem graph log files = with_file (with_cert cert log files) lock (lock_of problem graph)
+
+-- the files after the answer was written: only a graph has a lock file
+abbrev pub files_with : List ℕ → List ℕ → Problem → Answer → Option Files → Option Files
+files_with lock cert problem (answers.Best graph log) files = with_both lock cert problem graph log files
+files_with lock cert problem (answers.Nothing log) files = with_cert cert log files
+files_with lock cert problem (answers.Undecided log) files = with_cert cert log files
+
+-- the certificate holds a front of its text, or is as it was
+abbrev pub MayCert : List ℕ → List Line → Option Files → Option Files → Type 0
+MayCert cert log before after = (is_dash cert ≡ false) × MayHold before after cert (log_text log)
+
+-- the lock file holds a front of its text, or is as it was
+abbrev pub MayLock : List ℕ → Problem → Answer → Option Files → Option Files → Type 0
+MayLock lock problem (answers.Best graph log) before after = MayHold before after lock (lock_of problem graph)
+MayLock lock problem (answers.Nothing log) before after = ⊥
+MayLock lock problem (answers.Undecided log) before after = ⊥
+
+-- a put at the path failed: that of the certificate, or, with the certificate whole, that of the lock file
+abbrev pub IsHalfPut : List ℕ → List ℕ → Problem → Answer → List ℕ → Option Files → Option Files → Type 0
+IsHalfPut lock cert problem answer path before after =
+    ((path ≡ cert) × MayCert cert (log_of answer) before after)
+    ⊎ ((path ≡ lock) × MayLock lock problem answer (with_cert cert (log_of answer) before) after)
+
+-- at any end: the certificate holds a front of its text; or it is whole, and the lock file holds a front of its
+abbrev pub HoldsFronts : List ℕ → List ℕ → Problem → Answer → Option Files → Option Files → Type 0
+HoldsFronts lock cert problem answer before after =
+    MayCert cert (log_of answer) before after ⊎ MayLock lock problem answer (with_cert cert (log_of answer) before) after
+
+-- ---- what calls leave
+
+-- what a put of a file leaves
 abbrev pub Puts : List ℕ → List ℕ → Option Files → Option Files → Result (Unit {0}) WriteStop → Type 0
 Puts path text before after (Ok done) = after ≡ with_file before path text
 Puts path text before after (Err (writes.Put at)) = (at ≡ path) × MayHold before after path text
 Puts path text before after (Err writes.Output) = ⊥
 Puts path text before after (Err writes.NoMemory) = Unit {0}
+
+-- what a put of a certificate leaves
+abbrev pub PutsCert : List ℕ → List Line → Option Files → Option Files → Result (Unit {0}) WriteStop → Type 0
+PutsCert cert log before after (Ok done) = after ≡ with_cert cert log before
+PutsCert cert log before after (Err (writes.Put at)) = (at ≡ cert) × MayCert cert log before after
+PutsCert cert log before after (Err writes.Output) = ⊥
+PutsCert cert log before after (Err writes.NoMemory) = Unit {0}
+
+-- what the puts of an answer leave
+abbrev pub PutsAnswer : List ℕ → List ℕ → Problem → Answer → Option Files → Option Files → Result (Unit {0}) WriteStop → Type 0
+PutsAnswer lock cert problem answer before after (Ok done) = after ≡ files_with lock cert problem answer before
+PutsAnswer lock cert problem answer before after (Err (writes.Put at)) = IsHalfPut lock cert problem answer at before after
+PutsAnswer lock cert problem answer before after (Err writes.Output) = ⊥
+PutsAnswer lock cert problem answer before after (Err writes.NoMemory) = Unit {0}
+
+-- what writing of an answer leaves
+abbrev pub Leaves : List ℕ → List ℕ → Problem → Answer → Option Files → Option Files → Option (List ℕ) → Option (List ℕ)
+    → Result Outcome WriteStop → Type 0
+Leaves lock cert problem answer before after out_before out_after (Ok outcome) =
+    (outcome ≡ outcome_of answer) × (after ≡ files_with lock cert problem answer before)
+    × (out_after ≡ and_said out_before (text_of problem answer))
+Leaves lock cert problem answer before after out_before out_after (Err (writes.Put at)) =
+    IsHalfPut lock cert problem answer at before after × (out_after ≡ out_before)
+Leaves lock cert problem answer before after out_before out_after (Err writes.Output) =
+    after ≡ files_with lock cert problem answer before
+Leaves lock cert problem answer before after out_before out_after (Err writes.NoMemory) = Unit {0}
+
+-- ---- answers of `concretize`
+
+-- A graph was found: it is well-formed and optimal for the problem, and the log is a certificate of its costs (`best`);
+-- CERT holds the log unless it is `-`, LOCK the graph's lock file; its nodes and its vector were said
+pub record IsSolved (lock cert : List ℕ) (problem : Problem) (before after : Option Files)
+    (out_before out_after : Option (List ℕ)) : Type 0 where
+  pub graph : Content
+  pub log : List Line
+  pub best : IsFor problem (answers.Best graph log)
+  pub files : after ≡ with_both lock cert problem graph log before
+  pub out : out_after ≡ and_said out_before (graph_text problem graph)
+
+-- No graph is valid, as the log refutes (`none`); CERT holds the log
+pub record IsUnsolved (cert : List ℕ) (problem : Problem) (before after : Option Files)
+    (out_before out_after : Option (List ℕ)) : Type 0 where
+  pub log : List Line
+  pub none : IsFor problem (answers.Nothing log)
+  pub files : after ≡ with_cert cert log before
+  pub out : out_after ≡ and_said out_before unsatisfiable_line
+
+-- The budget of the settings was spent, as the log shows (`spent`); CERT holds the log
+pub record IsUndecided (cert : List ℕ) (problem : Problem) (before after : Option Files)
+    (out_before out_after : Option (List ℕ)) : Type 0 where
+  pub log : List Line
+  pub spent : IsFor problem (answers.Undecided log)
+  pub files : after ≡ with_cert cert log before
+  pub out : out_after ≡ and_said out_before (undecided_line problem.settings.conflict_budget)
+
+-- a put at the path failed
+pub record HasHalfPut (lock cert : List ℕ) (problem : Problem) (path : List ℕ) (before after : Option Files) : Type 0 where
+  pub answer : Answer
+  pub found : IsFor problem answer
+  pub half : IsHalfPut lock cert problem answer path before after
+
+-- all files were put, and the sink failed
+pub record IsUnsaid (lock cert : List ℕ) (problem : Problem) (before after : Option Files) : Type 0 where
+  pub answer : Answer
+  pub found : IsFor problem answer
+  pub files : after ≡ files_with lock cert problem answer before
+
+-- at any end, each file holds a front of its text at the worst
+pub record HasFronts (lock cert : List ℕ) (problem : Problem) (before after : Option Files) : Type 0 where
+  pub answer : Answer
+  pub found : IsFor problem answer
+  pub held : HoldsFronts lock cert problem answer before after
 
 -- ---- verdicts
 
@@ -123,35 +181,43 @@ pub record IsJudged (numbers : List ℕ) (before after : Option Files) (out_befo
 -- ---- what writing leaves, by the task
 
 -- what was asked for is done
-abbrev pub IsFinished : List ℕ → Task → Option Files → Option Files → Option (List ℕ) → Option (List ℕ) → Type 0
-IsFinished path (tasks.Solve problem) before after out_before out_after = IsSolved path problem before after out_before out_after
-IsFinished path (tasks.Report numbers) before after out_before out_after = IsJudged numbers before after out_before out_after
-
--- the put of a lock file failed, of which `judge` makes none
-abbrev pub IsHalfDone : List ℕ → Task → Option Files → Option Files → Option (List ℕ) → Option (List ℕ) → Type 0
-IsHalfDone path (tasks.Solve problem) before after out_before out_after = IsHalfPut path problem before after out_before out_after
-IsHalfDone path (tasks.Report numbers) before after out_before out_after = ⊥
-
--- the sink failed
-abbrev pub IsUntold : List ℕ → Task → Option Files → Option Files → Type 0
-IsUntold path (tasks.Solve problem) before after = IsUnsaid path problem before after
-IsUntold path (tasks.Report numbers) before after = after ≡ before
+abbrev pub IsFinished : List ℕ → List ℕ → Task → Option Files → Option Files → Option (List ℕ) → Option (List ℕ) → Type 0
+IsFinished lock cert (tasks.Solve input) before after out_before out_after =
+    IsSolved lock cert input.problem before after out_before out_after
+IsFinished lock cert (tasks.Report numbers) before after out_before out_after = IsJudged numbers before after out_before out_after
 
 -- there is no graph
-abbrev pub HasNoGraph : Task → Option Files → Option Files → Option (List ℕ) → Option (List ℕ) → Type 0
-HasNoGraph (tasks.Solve problem) before after out_before out_after = IsUnsolved problem before after out_before out_after
-HasNoGraph (tasks.Report numbers) before after out_before out_after = ⊥
+abbrev pub HasNone : List ℕ → Task → Option Files → Option Files → Option (List ℕ) → Option (List ℕ) → Type 0
+HasNone cert (tasks.Solve input) before after out_before out_after = IsUnsolved cert input.problem before after out_before out_after
+HasNone cert (tasks.Report numbers) before after out_before out_after = ⊥
+
+-- the budget was spent
+abbrev pub HasSpent : List ℕ → Task → Option Files → Option Files → Option (List ℕ) → Option (List ℕ) → Type 0
+HasSpent cert (tasks.Solve input) before after out_before out_after = IsUndecided cert input.problem before after out_before out_after
+HasSpent cert (tasks.Report numbers) before after out_before out_after = ⊥
+
+-- a put at the path failed, of which `judge` makes none
+abbrev pub IsHalfDone : List ℕ → List ℕ → Task → List ℕ → Option Files → Option Files → Type 0
+IsHalfDone lock cert (tasks.Solve input) path before after = HasHalfPut lock cert input.problem path before after
+IsHalfDone lock cert (tasks.Report numbers) path before after = ⊥
+
+-- the sink failed
+abbrev pub IsUntold : List ℕ → List ℕ → Task → Option Files → Option Files → Type 0
+IsUntold lock cert (tasks.Solve input) before after = IsUnsaid lock cert input.problem before after
+IsUntold lock cert (tasks.Report numbers) before after = after ≡ before
 
 -- what writing leaves
-abbrev pub Writes : List ℕ → Task → Option Files → Option Files → Option (List ℕ) → Option (List ℕ) → Result Answer WriteStop → Type 0
-Writes path task before after out_before out_after (Ok answers.Solved) = IsFinished path task before after out_before out_after
-Writes path task before after out_before out_after (Ok answers.Unsolved) = HasNoGraph task before after out_before out_after
-Writes path task before after out_before out_after (Err (writes.Put at)) =
-    (at ≡ path) × IsHalfDone path task before after out_before out_after
-Writes path task before after out_before out_after (Err writes.Output) = IsUntold path task before after
-Writes path task before after out_before out_after (Err writes.NoMemory) = Unit {0}
+abbrev pub Writes : List ℕ → List ℕ → Task → Option Files → Option Files → Option (List ℕ) → Option (List ℕ)
+    → Result Outcome WriteStop → Type 0
+Writes lock cert task before after out_before out_after (Ok outcomes.Solved) = IsFinished lock cert task before after out_before out_after
+Writes lock cert task before after out_before out_after (Ok outcomes.Unsolved) = HasNone cert task before after out_before out_after
+Writes lock cert task before after out_before out_after (Ok outcomes.Undecided) = HasSpent cert task before after out_before out_after
+Writes lock cert task before after out_before out_after (Err (writes.Put at)) =
+    IsHalfDone lock cert task at before after × (out_after ≡ out_before)
+Writes lock cert task before after out_before out_after (Err writes.Output) = IsUntold lock cert task before after
+Writes lock cert task before after out_before out_after (Err writes.NoMemory) = Unit {0}
 
--- the lock file holds a front of its text, which `judge` writes nothing of
-abbrev pub KeepsFront : List ℕ → Task → Option Files → Option Files → Type 0
-KeepsFront path (tasks.Solve problem) before after = HoldsFront path problem before after
-KeepsFront path (tasks.Report numbers) before after = ⊥
+-- files were put, of which `judge` puts none
+abbrev pub KeepsFronts : List ℕ → List ℕ → Task → Option Files → Option Files → Type 0
+KeepsFronts lock cert (tasks.Solve input) before after = HasFronts lock cert input.problem before after
+KeepsFronts lock cert (tasks.Report numbers) before after = ⊥

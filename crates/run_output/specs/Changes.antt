@@ -1,8 +1,15 @@
 -- Which files a run changes.
-use Rattle.std.specs.Prelude.{◌≡◌, ◌≢◌, ℕ, List, Option, IsSomeAnd}
+use Rattle.std.specs.Prelude.{◌≡◌, ◌≢◌, ℕ, false, List, Option, IsSomeAnd}
 use Rattle.std.specs.FinMap.{get}
 use Rattle.outside_desk.specs.Files.{Files}
+use Rattle.run_task.specs.Words.{is_dash}
 
--- no file but the one at the path changed
-abbrev pub ChangesOnly : List ℕ → Files → Option Files → Type 0
-ChangesOnly path before after = IsSomeAnd after (λ files. (other : List ℕ) → other ≢ path → get files other ≡ get before other)
+-- the path is not that of the lock file, nor of the certificate where there is one
+pub record IsOther (lock cert path : List ℕ) : Type 0 where
+  pub no_lock : path ≢ lock
+  pub no_cert : is_dash cert ≡ false → path ≢ cert
+
+-- no other file changed
+abbrev pub ChangesOnly : List ℕ → List ℕ → Files → Option Files → Type 0
+ChangesOnly lock cert before after =
+    IsSomeAnd after (λ files. (path : List ℕ) → IsOther lock cert path → get files path ≡ get before path)

@@ -1,4 +1,22 @@
-pub mod Weights
 pub mod Report
 pub mod Changes
 pub mod Answers
+-- what crates above name
+pub use Rattle.run_task.specs.Exits
+pub use Rattle.run_task.specs.LockFault
+pub use Rattle.run_task.specs.Refusals
+pub use Rattle.run_task.specs.Stages
+pub use Rattle.run_task.specs.Stops
+pub use Rattle.run_task.specs.Refusal
+pub use Rattle.run_task.specs.Status
+pub use Rattle.run_task.specs.ReadStop
+pub use Rattle.run_task.specs.WriteStop
+pub use Rattle.run_task.specs.Stop
+pub use Rattle.run_task.specs.Words
+pub use Rattle.run_task.specs.Orders
+pub use Rattle.run_task.specs.Work
+pub use Rattle.run_task.specs.Input
+pub use Rattle.run_task.specs.Roots
+pub use Rattle.run_task.specs.Tasks
+pub use Rattle.run_task.specs.declared.task.Task
+pub use Rattle.best_graph.specs.declared.answer.Answer

@@ -37,3 +37,16 @@ vector_line numbers = codes "vector" ++ (flat_map (λ n. 32 ∷ decimal n) numbe
 -- a line for each node, and the vector's line
 abbrev pub report_text : List Node → List ℕ → List ℕ
 report_text nodes numbers = flat_map node_line nodes ++ vector_line numbers
+
+-- a node, by which the lines are shown
+unfoldable pub worked_node : Node
+worked_node = record {
+  name = codes "zlib";
+  version = codes "1.3";
+  variants = [];
+  compiler = Some (record { name = codes "gcc"; version = codes "12.3.0" });
+  os = codes "ubuntu22.04";
+  target = codes "x86_64";
+  prefix = None;
+  origin = Built;
+}

@@ -1,17 +1,20 @@
-//! What a run writes: the lock file and the lines of an answer.
+//! What a run writes: the certificate, the lock file and the lines of an answer.
 //!
-//! What it is: `write_answer`, which solves a problem of versions and writes its answer.
-//! What it promises: the lock file and the lines are those of a best version; what stands after a fault.
-//! What it stands on: `run_task` for what is asked, `lock_writer` for the lock file.
+//! What it is: `write_answer`, which finds the best graph of a problem and writes the answer.
+//! What it promises: the files and the lines are those of an answer of the problem; what stands after a fault.
+//! What it stands on: `run_task` for what is asked, `best_graph` for the answer, `valid_locks` for the lock file.
 //! What it must not know: words, and how the problem was read.
 #![tactic(auto)]
 
 mod answer;
+mod found;
+mod put;
 mod report;
-mod solved;
-mod weight;
-mod worked;
+mod told;
 
-pub use answer::{Answer, write_answer};
-pub use weight::weights_are_places;
-pub use worked::worked_texts;
+pub use answer::{Outcome, write_answer};
+pub use report::worked_texts;
+// What crates above answer with.
+pub use run_task::{
+    Command, ReadStop, Refusal, Status, Stop, Task, WriteStop, read_order, read_task, task_laws,
+};

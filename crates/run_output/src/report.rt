@@ -1,7 +1,8 @@
 //! What is said of a graph.
 
-ghost use Rattle.std.specs.Prelude.{◌≡◌, ◌++◌, ◌∷◌, IfOk, OnOk, decimal};
-ghost use Rattle.run_output.specs.Report.{compiler_text, label_text, machine_text, node_line, origin_text, report_text, vector_line};
+ghost use Rattle.std.specs.Prelude.{◌≡◌, ◌++◌, ◌∷◌, [], None, IfOk, OnOk, codes, decimal};
+ghost use Rattle.graph_core.specs.declared.node.Origin.TheVariants.{External, Installed};
+ghost use Rattle.run_output.specs.Report.{compiler_text, label_text, machine_text, node_line, origin_text, report_text, vector_line, worked_node};
 
 use graph_core::{Compiler, Node, Origin};
 use spec_grammar::write_variants;
@@ -105,3 +106,18 @@ pub fn report_text(alloc: Global, nodes: &[Node], numbers: &[u64]) -> Result<Vec
     write_vector(alloc, numbers, &mut text)?;
     Ok(text)
 }
+
+/// The lines of a node that is built, an external and an installed one, and a vector's line, by computation.
+pub fn worked_texts()
+    ensures line { node_line worked_node
+        ≡ codes "zlib@=1.3 %gcc@=12.3.0 os=ubuntu22.04 target=x86_64 built\n" }
+    ensures external { node_line (record worked_node { origin = External 0 })
+        ≡ codes "zlib@=1.3 %gcc@=12.3.0 os=ubuntu22.04 target=x86_64 external 0\n" }
+    ensures installed { node_line (record worked_node {
+      variants = (codes "pic", codes "true" ∷ []) ∷ [];
+      compiler = None;
+      origin = Installed (codes "abc");
+    })
+        ≡ codes "zlib@=1.3 +pic os=ubuntu22.04 target=x86_64 installed abc\n" }
+    ensures vector { vector_line (0 ∷ 12 ∷ 1 ∷ []) ≡ codes "vector 0 12 1\n" }
+{}

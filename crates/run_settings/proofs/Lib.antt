@@ -1,1 +1,2 @@
 pub mod OneSite
+pub use Rattle.run_words.proofs.StageLaws

@@ -10,5 +10,9 @@
 mod site;
 mod theorems;
 
+// What crates above answer with.
+pub use run_words::{
+    Command, ReadStop, Refusal, Status, Stop, Work, WriteStop, is_dash, read_order,
+};
 pub use site::read_site;
 pub use theorems::site_laws;

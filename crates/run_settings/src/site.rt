@@ -2,14 +2,13 @@
 
 ghost use Rattle.std.specs.Prelude.{◌≡◌, false, IfSome};
 ghost use Rattle.outside_desk.specs.Causes.{Counts};
-ghost use Rattle.run_answers.specs.Stops.{Gives, EndsInReadFault, EndsInUsage};
+ghost use Rattle.run_words.specs.Stops.{Gives, EndsInReadFault, EndsInUsage};
 ghost use Rattle.run_words.specs.Words.{is_dash};
 ghost use Rattle.run_settings.specs.Sites.{bytes_at, GivesBytes, SettingsIn, SettingsAt, FailsThere};
 
 use outside_desk::{Desk, ReadFault, read_whole};
 use plain_data::Word;
-use run_answers::{ReadStop, Refusal};
-use run_words::is_dash;
+use run_words::{ReadStop, Refusal, is_dash};
 use settings_reader::{SettingsFault, read_settings};
 use site_settings::Settings;
 use std::alloc::Global;

@@ -2,3 +2,4 @@ pub mod Once
 pub mod Paths
 pub mod Roots
 pub mod Stops
+pub use Rattle.run_input.proofs.StageLaws

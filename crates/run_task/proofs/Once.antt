@@ -1,16 +1,15 @@
 -- The words name one task at most.
 use Rattle.std.proofs.Common.{ℕ, List, Ok}
 use Rattle.outside_desk.specs.Files.{Files}
-use Rattle.problem.specs.Problems.{Problem}
-use Rattle.run_answers.specs.Stages.{Is}
-use Rattle.run_answers.proofs.StageLaws.{IsOne, one_is, one_then}
-use Rattle.run_words.specs.Words.{Command}
-use Rattle.run_words.specs.Orders.{order_of}
-use Rattle.run_words.specs.declared.command.Work.{Work}
-use Rattle.run_words.specs.declared.command.Work.TheVariants as works
+use Rattle.run_verdict.specs.Problems.{Problem}
+use Rattle.run_input.specs.Stages.{Is}
+use Rattle.run_input.proofs.StageLaws.{IsOne, one_is, one_then}
+use Rattle.run_input.specs.Words.{Command}
+use Rattle.run_input.specs.Orders.{order_of}
+use Rattle.run_input.specs.Work.{Work}
+use Rattle.run_input.specs.Work.TheVariants as works
 use Rattle.run_input.specs.Inputs.{Reads}
 use Rattle.run_input.specs.declared.input.Input.{Input}
-use Rattle.run_problem.specs.Problems.{problem_in}
 use Rattle.run_verdict.specs.Verdicts.{Judges}
 use Rattle.run_task.specs.Tasks.{TaskBy, Named, Poses}
 use Rattle.run_task.specs.declared.task.Task.TheVariants as tasks
@@ -19,9 +18,7 @@ abbrev OneVerdict : Type 0
 OneVerdict = (files : Files) (path : List ℕ) (problem : Problem) → IsOne (Judges files path problem)
 
 one_by : OneVerdict → (work : Work) (files : Files) (lock : List ℕ) (input : Input) → IsOne (TaskBy work files lock input)
-one_by one_verdict works.Concretize files lock input =
-    one_then (Is (problem_in input)) (λ problem. Is (Ok (tasks.Solve problem))) (one_is (problem_in input))
-    (λ problem. one_is (Ok (tasks.Solve problem)))
+one_by one_verdict works.Concretize files lock input = one_is (Ok (tasks.Solve input))
 one_by one_verdict works.Judge files lock input =
     one_then (Judges files lock input.problem) (λ numbers. Is (Ok (tasks.Report numbers))) (one_verdict files lock input.problem)
     (λ numbers. one_is (Ok (tasks.Report numbers)))

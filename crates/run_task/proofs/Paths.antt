@@ -1,9 +1,9 @@
 -- Where a device fails.
 use Rattle.std.proofs.Common.{◌≡◌, Err, inl, inr}
-use Rattle.run_answers.specs.declared.stop.ReadStop.{ReadStop}
-use Rattle.run_answers.specs.declared.stop.ReadStop.TheVariants.{Refused, Fault, NoMemory}
-use Rattle.run_words.specs.Words.{Command}
-use Rattle.run_words.specs.declared.command.Work.TheVariants as works
+use Rattle.run_input.specs.ReadStop.{ReadStop}
+use Rattle.run_input.specs.ReadStop.TheVariants.{Refused, Fault, NoMemory}
+use Rattle.run_input.specs.Words.{Command}
+use Rattle.run_input.specs.Work.TheVariants as works
 use Rattle.run_input.specs.Inputs.{FailsAtInput}
 use Rattle.run_verdict.specs.Locks.{FailsAtLock}
 use Rattle.run_task.specs.Tasks.{FailsAtTask}

@@ -1,1 +1,22 @@
 pub mod Tasks
+-- what crates above name
+pub use Rattle.run_input.specs.Exits
+pub use Rattle.run_input.specs.Lines
+pub use Rattle.run_input.specs.LockFault
+pub use Rattle.run_input.specs.Refusals
+pub use Rattle.run_input.specs.Stages
+pub use Rattle.run_input.specs.Stops
+pub use Rattle.run_input.specs.Refusal
+pub use Rattle.run_input.specs.Status
+pub use Rattle.run_input.specs.ReadStop
+pub use Rattle.run_input.specs.WriteStop
+pub use Rattle.run_input.specs.Stop
+pub use Rattle.run_input.specs.Words
+pub use Rattle.run_input.specs.Orders
+pub use Rattle.run_input.specs.Work
+pub use Rattle.run_input.specs.Inputs
+pub use Rattle.run_input.specs.Roots
+pub use Rattle.run_input.specs.declared.input.Input
+pub use Rattle.run_verdict.specs.Problems
+pub use Rattle.run_verdict.specs.Costs
+pub use Rattle.run_input.specs.Closures

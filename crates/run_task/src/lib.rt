@@ -4,12 +4,17 @@
 //! work is one case of `Task`.
 //! What it promises: exactly the task or the refusal that is due first, whatever the desk; a device's fault only
 //! where its count rose.
-//! What it stands on: `run_input` for what is read, `run_problem` for `concretize`, `run_verdict` for `judge`.
+//! What it stands on: `run_input` for what is read, `run_verdict` for `judge`.
 //! What it must not know: how a problem is solved, and what is written.
 #![tactic(auto)]
 
 mod task;
 mod theorems;
 
+// What crates above answer with.
+pub use run_input::{
+    Command, Input, ReadStop, Refusal, Status, Stop, Work, WriteStop, is_dash, read_order,
+};
+pub use run_verdict::vector;
 pub use task::{Task, read_task};
 pub use theorems::task_laws;

@@ -2,7 +2,7 @@
 
 ghost use Rattle.std.specs.Prelude.{◌≡◌, ℕ, List, Result};
 ghost use Rattle.outside_desk.specs.Files.{Files};
-ghost use Rattle.run_answers.specs.declared.refusal.Refusal.{Refusal};
+ghost use Rattle.run_input.specs.Refusal.{Refusal};
 ghost use Rattle.run_task.specs.declared.task.Task.{Task};
 ghost use Rattle.run_task.specs.Tasks.{Poses};
 

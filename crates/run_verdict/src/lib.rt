@@ -12,5 +12,7 @@ mod roots;
 mod theorems;
 mod verdict;
 
+// The cost vector, for crates above.
+pub use cost_vector::vector;
 pub use theorems::verdict_laws;
 pub use verdict::read_verdict;

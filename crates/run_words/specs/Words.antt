@@ -90,3 +90,11 @@ lock_of_command (Some c) = c.lock
 
 abbrev pub lock_path : List (List ℕ) → List ℕ
 lock_path words = lock_of_command (command_of words)
+
+-- the path of the certificate that they name: `-` where there is none
+abbrev pub cert_of_command : Option Command → List ℕ
+cert_of_command None = []
+cert_of_command (Some c) = c.cert
+
+abbrev pub cert_path : List (List ℕ) → List ℕ
+cert_path words = cert_of_command (command_of words)

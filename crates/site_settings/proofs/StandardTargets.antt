@@ -1,6 +1,6 @@
 -- The standard targets are a table.
 use Rattle.std.proofs.Common.{◌≡◌, refl, ap, ◌∙◌, ◌⊎◌, inl, inr, List, Option, Some, None}
-use Rattle.reachability.specs.Paths.{spread, reached, reaches}
+use Rattle.graph_core.specs.OfReachability.Paths.{spread, reached, reaches}
 use Rattle.target_table.specs.Faults.{fault_of}
 use Rattle.target_table.specs.declared.entry.TargetEntry.{TargetEntry}
 use Rattle.target_table.specs.declared.fault.TargetFault.{TargetFault}

@@ -1,10 +1,8 @@
 //! Settings.
 
-use graph_core::Compiler;
+use graph_core::{Compiler, ValueSet, Version, VersionSet};
 use plain_data::{List, Word};
 use target_table::TargetTable;
-use variant_values::ValueSet;
-use version_order::{Version, VersionSet};
 
 /// A compiler that may be used: `{"name":"gcc","version":"12.3.0","os":["ubuntu22.04"]}`
 #[derive(Debug, Drop)]

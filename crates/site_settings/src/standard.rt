@@ -5,11 +5,10 @@ ghost use Rattle.target_table.specs.Targets.{IsTargetFault};
 ghost use Rattle.site_settings.specs.Standard.{platform, conflict_budget, os, standard, targets, compilers};
 
 use crate::{CompilerEntry, Settings};
-use graph_core::Compiler;
+use graph_core::{Compiler, Version, VersionFault, reading_laws};
 use plain_data::{List, Word};
 use std::alloc::{AllocError, Global};
 use target_table::{TargetEntry, TargetFault, TargetTable, fault_laws};
-use version_order::{Version, VersionFault, reading_laws};
 
 impl Settings {
     /// The settings of a site that says nothing.

@@ -1,5 +1,5 @@
-//! The program: `command_line::run_machine` over the standard streams. Its stored run ends in a refusal,
-//! so that the gate sees the exit status and the stream; that of `worked_program` ends in Done.
+//! The program: `command_line::run_machine` over the standard streams. Its stored run ends in Unsatisfiable, so that the
+//! gate sees an exit status that is not 0 and the stream of the answer.
 #![tactic(auto)]
 
 use command_line::run_machine;

@@ -2,3 +2,8 @@
 pub mod Virtuals
 -- inside
 pub mod Pairs
+pub mod OfVariantValues
+pub mod OfReachability
+pub mod OfKeyedLists
+pub mod OfGraphCore
+pub mod OfConditions

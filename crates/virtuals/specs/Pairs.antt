@@ -1,7 +1,7 @@
 -- The pairs of virtuals and packages, as recipes give them.
 use Rattle.std.specs.Prelude.{List, map}
 use Rattle.std.specs.List.{flat_map}
-use Rattle.graph_core.specs.Graphs.{Text}
+use Rattle.conditions.specs.OfGraphCore.Graphs.{Text}
 use Rattle.conditions.specs.declared.recipe.Recipe.{Recipe}
 use Rattle.conditions.specs.declared.recipe.ProvideRow.{ProvideRow}
 use Rattle.virtuals.specs.Virtuals.{Pairs}

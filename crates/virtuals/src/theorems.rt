@@ -1,8 +1,8 @@
 // What holds of all virtuals.
 ghost use Rattle.std.specs.Prelude.{◌≡◌, List, Some, true, Contains};
 ghost use Rattle.std.specs.Ordering.{is_le};
-ghost use Rattle.variant_values.specs.Texts.{byte_cmp};
-ghost use Rattle.graph_core.specs.Graphs.{Text};
+ghost use Rattle.conditions.specs.OfVariantValues.Texts.{byte_cmp};
+ghost use Rattle.conditions.specs.OfGraphCore.Graphs.{Text};
 ghost use Rattle.conditions.specs.declared.recipe.Recipe.{Recipe};
 ghost use Rattle.virtuals.specs.Virtuals.{AreInOrder, AreProviders, Pairs, clash, has_pair, is_virtual};
 

@@ -1,6 +1,8 @@
-use Rattle.run_words.specs.Words.{words_of}
+use Rattle.run_output.specs.Words.{words_of}
+use Rattle.run_output.specs.Status.TheVariants as statuses
 use Rattle.concretizer.proofs.Ends.{reports_words, refused, settles, due, written}
-use Rattle.concretizer.proofs.Faults.{read_fault, write_fault, decided}
+use Rattle.concretizer.proofs.Kept.{others}
+use Rattle.concretizer.proofs.Faults.{read_fault, write_fault, unanswered, usage}
 use Rattle.concretizer.proofs.top.run.Goals as goal
 
 pub returns-in-Ok-Solved-clause-words : goal.returns-in-Ok-Solved-clause-words
@@ -34,6 +36,13 @@ pub returns-in-Ok-Solved-clause-due : goal.returns-in-Ok-Solved-clause-due
 returns-in-Ok-Solved-clause-due g c =
     written c.task_laws.ensures.one _ (words_of c.args.words.now) _ _ (_, _) (_, _) (_, _) (_, _) (_, _) _ c.in-Ok-Solved.ensures.outcome
 
+pub returns-in-Ok-Undecided-clause-words : goal.returns-in-Ok-Undecided-clause-words
+returns-in-Ok-Undecided-clause-words g c = λ refusal asks. absurd ((c.in-Ok-Undecided.ensures.at_once refusal asks).0)
+
+pub returns-in-Ok-Undecided-clause-due : goal.returns-in-Ok-Undecided-clause-due
+returns-in-Ok-Undecided-clause-due g c =
+    written c.task_laws.ensures.one _ (words_of c.args.words.now) _ _ (_, _) (_, _) (_, _) (_, _) (_, _) _ c.in-Ok-Undecided.ensures.outcome
+
 pub returns-in-Ok-Unsolved-clause-due : goal.returns-in-Ok-Unsolved-clause-due
 returns-in-Ok-Unsolved-clause-due g c =
     written c.task_laws.ensures.one _ (words_of c.args.words.now) _ _ (_, _) (_, _) (_, _) (_, _) (_, _) _ c.in-Ok-Unsolved.ensures.outcome
@@ -49,5 +58,30 @@ returns-in-Err-clause-write_fault g c =
     c.in-Err.ensures.follows c.in-Err.ensures.outcome c.in-Err.ensures.unsaid
     c.in-Err.ensures.put c.in-Err.ensures.said
 
-pub returns-in-Err-clause-decided : goal.returns-in-Err-clause-decided
-returns-in-Err-clause-decided g c = decided c.in-Err.stop (_, _) (_, _) _ c.report.ensures.reports
+pub returns-in-Err-clause-undecided : goal.returns-in-Err-clause-undecided
+returns-in-Err-clause-undecided g c = λ is.
+    absurd (unanswered c.in-Err.stop statuses.Undecided tt (_, _) (_, _) _ c.report.ensures.reports is)
+
+pub returns-in-Err-clause-done : goal.returns-in-Err-clause-done
+returns-in-Err-clause-done g c = λ is.
+    absurd (unanswered c.in-Err.stop statuses.Done tt (_, _) (_, _) _ c.report.ensures.reports is)
+
+pub returns-in-Err-clause-unsatisfiable : goal.returns-in-Err-clause-unsatisfiable
+returns-in-Err-clause-unsatisfiable g c = λ is.
+    absurd (unanswered c.in-Err.stop statuses.Unsatisfiable tt (_, _) (_, _) _ c.report.ensures.reports is)
+
+pub returns-in-Err-clause-usage : goal.returns-in-Err-clause-usage
+returns-in-Err-clause-usage g c = λ is.
+    usage (words_of c.args.words.now) c.in-Err.stop (_, _) (_, _) _ c.report.ensures.reports c.in-Err.ensures.follows is
+
+pub returns-in-Ok-Solved-clause-others : goal.returns-in-Ok-Solved-clause-others
+returns-in-Ok-Solved-clause-others g c = others (words_of c.args.words.now) _ _ c.in-Ok-Solved.ensures.held
+
+pub returns-in-Ok-Unsolved-clause-others : goal.returns-in-Ok-Unsolved-clause-others
+returns-in-Ok-Unsolved-clause-others g c = others (words_of c.args.words.now) _ _ c.in-Ok-Unsolved.ensures.held
+
+pub returns-in-Ok-Undecided-clause-others : goal.returns-in-Ok-Undecided-clause-others
+returns-in-Ok-Undecided-clause-others g c = others (words_of c.args.words.now) _ _ c.in-Ok-Undecided.ensures.held
+
+pub returns-in-Err-clause-others : goal.returns-in-Err-clause-others
+returns-in-Err-clause-others g c = others (words_of c.args.words.now) _ _ c.in-Err.ensures.held

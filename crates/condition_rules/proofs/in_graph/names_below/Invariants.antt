@@ -1,7 +1,7 @@
 use Rattle.std.proofs.Common.{◌≡◌, take}
 use Rattle.std.specs.List.{list_all}
-use Rattle.graph_core.specs.Graphs.{Text}
-use Rattle.graph_core.specs.Paths.{reaches_in}
+use Rattle.virtuals.specs.OfGraphCore.Graphs.{Text}
+use Rattle.virtuals.specs.OfGraphCore.Paths.{reaches_in}
 use Rattle.condition_rules.specs.Holds.{holds_below}
 use Rattle.condition_rules.proofs.in_graph.names_below.Given as goal
 

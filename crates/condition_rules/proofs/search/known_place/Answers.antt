@@ -1,8 +1,8 @@
 use Rattle.std.specs.Cmp.Lexicographic.{nat_list_cmp_total}
-use Rattle.variant_values.proofs.Texts.{ties_are_equal}
-use Rattle.keyed_lists.proofs.KeyedLaws.{lacks_key}
-use Rattle.graph_core.specs.Graphs.{name_of}
-use Rattle.graph_core.proofs.PathLaws.{name_at}
+use Rattle.virtuals.proofs.OfVariantValues.Texts2.{ties_are_equal}
+use Rattle.virtuals.proofs.OfKeyedLists.KeyedLaws.{lacks_key}
+use Rattle.virtuals.specs.OfGraphCore.Graphs.{name_of}
+use Rattle.virtuals.proofs.OfGraphCore.PathLaws.{name_at}
 use Rattle.condition_rules.proofs.search.known_place.Goals as goal
 
 pub unreachable-requires : goal.unreachable-requires

@@ -1,9 +1,9 @@
 use Rattle.std.proofs.Common.{◌≡◌, false, length, replicate}
 use Rattle.std.proofs.lemmas.List.{length-map}
 use Rattle.std.proofs.lemmas.Result.{IfOk-weaker}
-use Rattle.reachability.specs.Places.{MarksReached}
-use Rattle.reachability.proofs.HeadLaws.{numbers_within}
-use Rattle.graph_core.specs.Graphs.{name_of}
+use Rattle.virtuals.specs.OfReachability.Places.{MarksReached}
+use Rattle.virtuals.proofs.OfReachability.HeadLaws.{numbers_within}
+use Rattle.virtuals.specs.OfGraphCore.Graphs.{name_of}
 use Rattle.condition_rules.specs.Below.{AreBelow}
 use Rattle.condition_rules.proofs.BelowLaws.{searched, nowhere}
 use Rattle.condition_rules.proofs.search.marks_below.Goals as goal

@@ -1,5 +1,5 @@
 use Rattle.std.proofs.lemmas.List.{take_all}
-use Rattle.graph_core.proofs.PathLaws.{edge_ends, numbered_more}
+use Rattle.virtuals.proofs.OfGraphCore.PathLaws.{edge_ends, numbered_more}
 use Rattle.condition_rules.proofs.search.numbered.Goals as goal
 
 pub place_near-parent-requires : goal.place_near-parent-requires

@@ -1,6 +1,6 @@
 use Rattle.std.proofs.Common.{map, take}
-use Rattle.reachability.specs.Places.{AreNumbered}
-use Rattle.graph_core.specs.Graphs.{name_of, ends_of}
+use Rattle.virtuals.specs.OfReachability.Places.{AreNumbered}
+use Rattle.virtuals.specs.OfGraphCore.Graphs.{name_of, ends_of}
 use Rattle.condition_rules.proofs.search.numbered.Given as goal
 
 abbrev pub invariant-loop-edge : goal.invariant-loop-edge

@@ -3,12 +3,12 @@ use Rattle.std.specs.List.{list_all}
 use Rattle.std.proofs.lemmas.List.Sums.{AllPass-from_list_all, list_all-from_AllPass}
 use Rattle.std.proofs.lemmas.List.Sorted.{All-permutation, IsPermutation-sym}
 use Rattle.condition_rules.proofs.Sets.{same_test}
-use Rattle.graph_core.specs.Graphs.{Text, Content, node_of}
-use Rattle.graph_core.specs.declared.node.Node.{Node}
+use Rattle.virtuals.specs.OfGraphCore.Graphs.{Text, Content, node_of}
+use Rattle.virtuals.specs.OfGraphCore.Node.{Node}
 use Rattle.condition_rules.specs.Worlds.{World}
 use Rattle.condition_rules.specs.Meets.{meets}
 use Rattle.condition_rules.specs.Holds.{holds, all_hold}
-use Rattle.spec_grammar.specs.declared.part.Spec.{Spec}
+use Rattle.virtuals.specs.OfConditions.Spec.{Spec}
 use Rattle.condition_rules.proofs.theorems.condition_laws.Goals as goal
 
 with_true : (b : Bool) → b && true ≡ b

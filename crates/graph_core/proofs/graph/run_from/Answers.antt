@@ -3,7 +3,7 @@ use Rattle.std.specs.Ordering.{is_lt, is_le}
 use Rattle.std.proofs.lemmas.List.Sorted.{IsPartitionPoint-from_clause}
 use Rattle.std.specs.declared.cmp.Ordering.{Ordering}
 use Rattle.graph_core.specs.declared.node.Edge.{Edge}
-use Rattle.variant_values.specs.Texts.{byte_cmp}
+use Rattle.keyed_lists.specs.OfVariantValues.Texts.{byte_cmp}
 use Rattle.graph_core.proofs.PairLaws.{parents_rise, parents_alike}
 use Rattle.keyed_lists.proofs.RunLaws.{lt_parts, le_parts, run_bounds, run_is}
 use Rattle.graph_core.proofs.graph.run_from.Goals as goal

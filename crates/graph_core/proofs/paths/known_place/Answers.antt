@@ -1,5 +1,5 @@
 use Rattle.std.specs.Cmp.Lexicographic.{nat_list_cmp_total}
-use Rattle.variant_values.proofs.Texts.{ties_are_equal}
+use Rattle.keyed_lists.proofs.OfVariantValues.Texts2.{ties_are_equal}
 use Rattle.keyed_lists.proofs.KeyedLaws.{lacks_key}
 use Rattle.graph_core.specs.Graphs.{name_of}
 use Rattle.graph_core.proofs.PathLaws.{name_at}

@@ -1,7 +1,7 @@
 use Rattle.std.proofs.lemmas.List.{length-map}
 use Rattle.std.specs.Cmp.Lexicographic.{nat_list_cmp_total}
-use Rattle.variant_values.proofs.Texts.{ties_are_equal}
-use Rattle.reachability.proofs.HeadLaws.{numbers_within}
+use Rattle.keyed_lists.proofs.OfVariantValues.Texts2.{ties_are_equal}
+use Rattle.keyed_lists.proofs.OfReachability.HeadLaws.{numbers_within}
 use Rattle.keyed_lists.proofs.KeyedLaws.{lacks_key}
 use Rattle.graph_core.specs.Graphs.{name_of}
 use Rattle.graph_core.proofs.PathLaws.{begins_at_node, ends_at_node, told_by_mark, told_path, no_path}

@@ -2,8 +2,8 @@ use Rattle.std.proofs.Common.{◌≡◌, refl, sym, ap, ◌∙◌, Bool, true, f
 use Rattle.std.specs.Option.{option_map}
 use Rattle.std.specs.Ordering.{eq_by_cmp}
 use Rattle.std.specs.Cmp.Lexicographic.{nat_list_cmp_total}
-use Rattle.variant_values.specs.Texts.{byte_cmp}
-use Rattle.variant_values.proofs.Texts.{ties_are_equal}
+use Rattle.keyed_lists.specs.OfVariantValues.Texts.{byte_cmp}
+use Rattle.keyed_lists.proofs.OfVariantValues.Texts2.{ties_are_equal}
 use Rattle.keyed_lists.specs.Keyed.{find_key}
 use Rattle.keyed_lists.proofs.KeyedLaws.{none_from_map}
 use Rattle.keyed_lists.proofs.LookupLaws.{found_iff, find-with_one, same_lists}

@@ -1,8 +1,8 @@
 use Rattle.std.proofs.Common.{◌≡◌, Contains, subst}
 use Rattle.std.specs.Cmp.Lexicographic.{bytes_decides}
 use Rattle.std.specs.Str.{bytes_eq}
-use Rattle.reachability.proofs.CountLaws.{has_image}
-use Rattle.reachability.proofs.SpreadLaws.{reaches_decides}
+use Rattle.keyed_lists.proofs.OfReachability.CountLaws.{has_image}
+use Rattle.keyed_lists.proofs.OfReachability.SpreadLaws.{reaches_decides}
 use Rattle.keyed_lists.proofs.KeyedLaws.{find_known}
 use Rattle.keyed_lists.proofs.LookupLaws.{find_sound}
 use Rattle.graph_core.specs.declared.node.Edge.{Edge}

@@ -1,5 +1,5 @@
 use Rattle.std.proofs.Common.{refl}
-use Rattle.reachability.specs.Paths.{spread, reached, reaches}
+use Rattle.keyed_lists.specs.OfReachability.Paths.{spread, reached, reaches}
 use Rattle.graph_core.specs.Graphs.{is_graph}
 use Rattle.graph_core.proofs.theorems.worked_graphs.Goals as goal
 

@@ -1,5 +1,5 @@
 use Rattle.std.proofs.lemmas.Bool.{and_parts}
-use Rattle.condition_rules.specs.Words.{among}
+use Rattle.problem.specs.OfConditionRules.Words.{among}
 use Rattle.graph_rules.proofs.Lists.{list_all-from}
 use Rattle.graph_rules.specs.Valid.{valid_for}
 use Rattle.graph_rules.proofs.ClosureLaws.{node-closed}

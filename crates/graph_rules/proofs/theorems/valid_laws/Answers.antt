@@ -1,5 +1,5 @@
 use Rattle.std.proofs.Common.{◌≡◌, refl, ℕ, true, []}
-use Rattle.graph_core.specs.Graphs.{Content, no_content}
+use Rattle.problem.specs.OfGraphCore.Graphs.{Content, no_content}
 use Rattle.problem.specs.Problems.{Problem, with_budget, entry_of, record_at}
 use Rattle.graph_rules.specs.Built.{keeps_buildable, keeps_version, keeps_variant, keeps_compiler, keeps_machine, keeps_extra_edge}
 use Rattle.graph_rules.specs.Directives.{keeps_root, keeps_edge, keeps_constraint, keeps_conflict, keeps_requirement}

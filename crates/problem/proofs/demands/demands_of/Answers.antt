@@ -1,6 +1,6 @@
 use Rattle.std.proofs.Common.{map}
-use Rattle.conditions.specs.declared.recipe.Recipe.{Recipe}
-use Rattle.conditions.specs.Right.{numbers_of}
+use Rattle.condition_rules.specs.OfConditions.Recipe.{Recipe}
+use Rattle.condition_rules.specs.OfConditions.Right.{numbers_of}
 use Rattle.problem.specs.declared.demand.Demand.TheVariants.{Directive}
 use Rattle.problem.proofs.NumberLaws.{flat_step}
 use Rattle.problem.proofs.demands.demands_of.Goals as goal

@@ -1,6 +1,6 @@
 use Rattle.std.proofs.Common.{◌≡◌, ◌∙◌, refl}
 use Rattle.std.proofs.lemmas.List.Filters.{dedup_is}
-use Rattle.conditions.specs.Right.{all_numbers}
+use Rattle.condition_rules.specs.OfConditions.Right.{all_numbers}
 use Rattle.problem.proofs.NumberLaws.{once}
 use Rattle.problem.proofs.demands.numbers_of.Goals as goal
 

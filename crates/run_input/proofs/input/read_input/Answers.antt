@@ -1,9 +1,12 @@
 use Rattle.std.proofs.Common.{ap}
-use Rattle.run_words.specs.Words.{Command}
-use Rattle.run_input.proofs.Staged.{input_read}
+use Rattle.run_settings.specs.Sites.{SettingsAt}
+use Rattle.run_settings.specs.Words.{Command}
+use Rattle.run_input.specs.Inputs.{OverSettings}
+use Rattle.run_input.proofs.Staged.{staged}
 use Rattle.run_input.proofs.input.read_input.Goals as goal
 
-pub returns-in-Ok-clause-read : goal.returns-in-Ok-clause-read
-returns-in-Ok-clause-read g c =
-    input_read _ _ c.args.command.now _ (ap (λ (k : Command). k.settings) c.command.view_is) c.in_ok-settings.settings c.in-Ok.parts _
-    c.in_ok-settings.ensures.same c.in_ok-settings.ensures.read c.in-Ok.ensures.read c.put_together.ensures.read
+pub returns-clause-read : goal.returns-clause-read
+returns-clause-read g c =
+    staged _ _ (λ path files. SettingsAt files path) (λ files. OverSettings files c.args.command.now) _ _ _ _
+    c.in_ok-settings.settings c.read_over.result (ap (λ (k : Command). k.settings) c.command.view_is)
+    c.in_ok-settings.ensures.same c.in_ok-settings.ensures.read c.read_over.ensures.read

@@ -1,5 +1,4 @@
-use Rattle.std.proofs.Common.{refl}
 use Rattle.run_input.proofs.repository.read_pile.Goals as goal
 
 pub returns-in-Ok-clause-read : goal.returns-in-Ok-clause-read
-returns-in-Ok-clause-read c = ((c.in-Ok.recipes, c.in-Ok.roots), rw c.as_slice.ensures at c.in-Ok.ensures.read, refl)
+returns-in-Ok-clause-read c = rw c.as_slice.ensures at c.in-Ok.ensures.read

@@ -4,7 +4,7 @@ use Rattle.run_input.proofs.theorems.input_laws.Goals as goal
 
 pub returns : goal.returns
 returns c = record {
-  one = one_read c.site_laws.ensures.one
+  one = one_read c.site_laws.ensures.one c.installed_laws.ensures.one
       (record {
         reading = c.reading_laws.ensures.one_reading Specs;
         refusal = c.reading_laws.ensures.one_fault Specs;

@@ -5,12 +5,12 @@ use Rattle.run_task.proofs.Stops.{any_ok}
 use Rattle.run_task.proofs.Roots.{texts_of}
 use Rattle.run_task.proofs.task.read_task.Goals as goal
 
-pub task_by-task-requires : goal.task_by-task-requires
-task_by-task-requires g c =
-    texts_of c.writing_laws.ensures.read_again c.reading_laws.ensures.ascii c.args.command.now.work c.args.command.now.spec
+pub task_by-requires-clause-texts : goal.task_by-requires-clause-texts
+task_by-requires-clause-texts g c =
+    texts_of c.writing_laws.ensures.read_again c.reading_laws.ensures.ascii c.args.command.now.spec
     c.in_ok-input.input.problem.roots c.in_ok-input.ensures.roots
 
 pub returns-clause-roots : goal.returns-clause-roots
 returns-clause-roots g c =
-    any_ok ((roots : List Spec) × RootsOf c.args.command.now.work c.args.command.now.spec (Ok roots)) c.task_by-task.result
+    any_ok ((roots : List Spec) × RootsOf c.args.command.now.spec (Ok roots)) c.task_by.result
     (c.in_ok-input.input.problem.roots, c.in_ok-input.ensures.roots)

@@ -1,6 +1,6 @@
 use Rattle.std.proofs.Common.{◌≡◌, true, take}
 use Rattle.std.specs.List.{list_all}
-use Rattle.graph_core.specs.Paths.{reaches_in}
+use Rattle.virtuals.specs.OfGraphCore.Paths.{reaches_in}
 use Rattle.condition_rules.proofs.paths.Paths.leads_to_all.Given as goal
 
 abbrev pub invariant-loop-name : goal.invariant-loop-name

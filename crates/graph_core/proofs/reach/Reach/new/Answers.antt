@@ -1,6 +1,6 @@
 use Rattle.std.proofs.lemmas.List.{length-map}
-use Rattle.reachability.proofs.HeadLaws.{numbers_within}
-use Rattle.reachability.proofs.TableLaws.{key_table}
+use Rattle.keyed_lists.proofs.OfReachability.HeadLaws.{numbers_within}
+use Rattle.keyed_lists.proofs.OfReachability.TableLaws.{key_table}
 use Rattle.graph_core.specs.Graphs.{name_of}
 use Rattle.graph_core.proofs.PathLaws.{names_once}
 use Rattle.graph_core.proofs.reach.Reach.new.Goals as goal

@@ -1,0 +1,93 @@
+-- What the least bits of an encoding mean for graphs.
+use Rattle.std.proofs.Common.{◌≡◌, refl, sym, ap, subst, ◌∙◌, ℕ, ◌+◌, Bool, true, false, not, List, [], ◌∷◌, map, length, inl, inr, arith}
+use Rattle.std.specs.Ordering.{is_lt, bool_cmp, nat_cmp, ordering_reverse}
+use Rattle.std.specs.declared.cmp.Ordering.{Ordering}
+use Rattle.std.specs.declared.cmp.Ordering.TheVariants.{Less, Equal, Greater}
+use Rattle.std.specs.Cmp.{IsTotalOrder}
+use Rattle.std.specs.Cmp.Lexicographic.{slice_cmp}
+use Rattle.std.proofs.lemmas.Cmp.{nat_list_cmp_total}
+use Rattle.clause_store.specs.declared.Lit.{Lit}
+use Rattle.clause_store.specs.Lits.{lit_true}
+use Rattle.clause_store.specs.Clauses.{Clauses}
+use Rattle.proof_log.specs.Certificates.{bits_at, IsBelow}
+use Rattle.criteria_totals.specs.Spellings.{compare_bits, compare_numbers}
+use Rattle.graph_core.specs.Graphs.{Content}
+use Rattle.problem.specs.Nodes.{IsWellFormed}
+use Rattle.problem.specs.Problems.{Problem}
+use Rattle.problem.specs.Demands.{demands}
+use Rattle.graph_rules.specs.Valid.{valid, valid_for}
+use Rattle.graph_rules.proofs.ValidLaws.{valid-for_any, valid-from_demands}
+use Rattle.graph_costs.specs.Costs.{vector, smaller}
+use Rattle.graph_costs.specs.Optimal.{IsOptimal, HasNoGraph}
+use Rattle.optimum_search.specs.Finding.{MeetsAll}
+use Rattle.encoding_stages.specs.Rules.{asked_among}
+use Rattle.graph_encoding.specs.Encodings.{asked_demands, IsValid}
+use Rattle.problem_encoding.specs.Encodings.{Encodes}
+
+-- ---- orders
+
+-- bits that compare as greater stand above
+pub below-of : (xs ys : List Bool) → length xs ≡ length ys → compare_bits xs ys ≡ Greater → IsBelow ys xs
+below-of [] [] same e = absurd (cc)
+below-of [] (y ∷ ys) same e = absurd (cc)
+below-of (x ∷ xs) [] same e = absurd (omega (arith, same))
+below-of (false ∷ xs) (false ∷ ys) same e = inr (refl, below-of xs ys (omega (arith, same)) e)
+below-of (false ∷ xs) (true ∷ ys) same e = absurd (cc)
+below-of (true ∷ xs) (false ∷ ys) same e = inl (refl, refl)
+below-of (true ∷ xs) (true ∷ ys) same e = inr (refl, below-of xs ys (omega (arith, same)) e)
+
+bits-long : (v : ℕ → Bool) (bits : List Lit) → length (bits_at v bits) ≡ length bits
+bits-long v [] = refl
+bits-long v (l ∷ bits) = omega (arith, bits-long v bits)
+
+-- no vector is smaller than one that is greater than none
+not-smaller : (xs ys : List ℕ) → (compare_numbers xs ys ≡ Greater → ⊥) → is_lt (compare_numbers ys xs) ≡ false
+not-smaller xs ys least = go (compare_numbers ys xs) (nat_list_cmp_total.antisymm xs ys)
+  where
+    go : (o : Ordering) → compare_numbers xs ys ≡ ordering_reverse o → is_lt o ≡ false
+    go Less turned = absurd (least turned)
+    go Equal turned = refl
+    go Greater turned = refl
+
+-- ---- all demands
+
+abbrev pub all : ℕ → Bool
+all d = true
+
+all-asked : {D : Type 0} (id : ℕ) (ds : List D) → asked_among all id ds ≡ ds
+all-asked {D = D} id [] = refl
+all-asked {D = D} id (d ∷ ds) = ap (λ (es : List D). d ∷ es) (all-asked (id + 1) ds)
+
+module _ (problem : Problem) where
+  pub is-valid : (g : Content) → IsWellFormed g → valid problem g ≡ true → IsValid problem all g
+  is-valid g formed ok = (formed, valid-for_any problem g (asked_demands problem all) ok)
+
+  pub valid-is : (g : Content) → IsValid problem all g → valid problem g ≡ true
+  valid-is g ok = valid-from_demands problem g ok.0.is_graph
+      (subst (λ ds. valid_for ds problem g ≡ true) (all-asked 0 (demands problem)) ok.1)
+
+-- ---- encodings
+
+module _ (problem : Problem) (s : Clauses) (bits : List Lit) (decode : (ℕ → Bool) → Content) (e : Encodes problem s bits decode) where
+  -- a model with the least bits decodes to an optimal graph
+  pub optimal : (v : ℕ → Bool) → MeetsAll v s → ((w : ℕ → Bool) → MeetsAll w s → IsBelow (bits_at w bits) (bits_at v bits) → ⊥)
+      → IsWellFormed (decode v) × IsOptimal problem (decode v)
+  optimal v meets least =
+      let right = e.decodes.sound all v meets in
+      let best = e.best all v meets (λ w m above.
+      least w m (below-of (bits_at v bits) (bits_at w bits) (bits-long v bits ∙ sym (bits-long w bits)) above)) in (
+        right.0,
+        record {
+          is_valid = valid-is problem (decode v) right;
+          least = λ other formed ok.
+              not-smaller (vector problem (decode v)) (vector problem other) (best other (is-valid problem other formed ok));
+        },
+      )
+
+  -- where no assignment meets the clauses, no graph is valid
+  pub nothing : ((v : ℕ → Bool) → MeetsAll v s → ⊥) → HasNoGraph problem
+  nothing none g formed = go (valid problem g) refl
+    where
+      go : (b : Bool) → valid problem g ≡ b → b ≡ false
+      go true ok = let w = e.decodes.complete all g (is-valid problem g formed ok) in absurd (none w.0 w.2)
+      go false ok = refl

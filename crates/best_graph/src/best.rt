@@ -1,0 +1,89 @@
+//! The search for the best graph.
+ghost use Rattle.std.specs.Prelude.{◌≡◌, true, IfOk};
+ghost use Rattle.clause_store.specs.Clauses.{clauses_of};
+ghost use Rattle.proof_log.specs.Known.{AllClauses};
+ghost use Rattle.proof_log.specs.Lines.{AllLines};
+ghost use Rattle.proof_log.specs.Texts.{may_write};
+ghost use Rattle.optimum_search.specs.Finding.{IsFound};
+ghost use Rattle.possible_closure.specs.Closures.{closure_of};
+ghost use Rattle.problem_encoding.specs.Encodings.{IsEncoded};
+ghost use Rattle.best_graph.specs.Answers.{IsAnswer};
+
+use crate::answer::Answer;
+use crate::meaning::meaning_laws;
+use graph_decoding::decode;
+use optimum_search::{Found, found_laws, search_by_numbers};
+use possible_closure::Closure;
+use problem::Problem;
+use problem_encoding::{Encoded, encode};
+use proof_log::{Log, may_write};
+use std::alloc::{AllocError, Global};
+
+/// The best graph of a problem, where the search may learn so many clauses.
+pub fn best_graph(
+    alloc: Global,
+    problem: &Problem,
+    closure: &Closure,
+    budget: u64,
+) -> Result<Answer, AllocError>
+    requires { closure.now ≡ closure_of problem.now }
+    ensures { IfOk result (IsAnswer problem.now budget) }
+{
+    let encoded = encode(alloc, problem, closure)?;
+    let found = search_by_numbers(
+        alloc,
+        &encoded.clauses,
+        encoded.bits.as_slice(),
+        encoded.ends.as_slice(),
+        budget,
+    )?;
+    answer_of(alloc, problem, &encoded, budget, found)
+}
+
+/// Whether each line of a log may be written.
+fn is_writable(log: &Log) -> bool
+    ensures { result ≡ true → AllLines (λ line. may_write line ≡ true) log.now }
+{
+    log.lines().iter().all(|line| may_write(line))
+}
+
+/// What was found, as an answer. A log that may not be written is want of memory.
+fn answer_of(
+    alloc: Global,
+    _problem: &Problem,
+    encoded: &Encoded,
+    _budget: u64,
+    found: Found,
+) -> Result<Answer, AllocError>
+    requires encoded { IsEncoded _problem.now encoded.now }
+    requires found { IsFound encoded.now.clauses encoded.now.bits _budget found }
+    requires in_order { AllClauses (clauses_of encoded.now.clauses.entries) }
+    ensures { IfOk result (IsAnswer _problem.now _budget) }
+{
+    meaning_laws();
+    found_laws();
+    match found {
+        Found::Optimal { model, log } => {
+            let graph = decode(alloc, &encoded.table, model.as_slice())?;
+            if is_writable(&log) {
+                Ok(Answer::Best { graph, log })
+            } else {
+                Err(AllocError)
+            }
+        }
+        Found::Refuted { log } => {
+            if is_writable(&log) {
+                Ok(Answer::Nothing { log })
+            } else {
+                Err(AllocError)
+            }
+        }
+        Found::Spent { log } => {
+            if is_writable(&log) {
+                Ok(Answer::Undecided { log })
+            } else {
+                Err(AllocError)
+            }
+        }
+    }
+}

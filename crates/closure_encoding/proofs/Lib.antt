@@ -1,0 +1,2 @@
+pub mod BuiltNames
+pub mod OfRightRules

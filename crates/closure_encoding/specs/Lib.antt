@@ -1,0 +1,4 @@
+pub mod Closures
+pub mod OfGraphEncoding
+pub mod OfRightRules
+pub mod OfRightTables

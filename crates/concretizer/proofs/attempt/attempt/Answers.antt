@@ -1,0 +1,81 @@
+use Rattle.std.proofs.Common.{refl, ap, ◌∙◌}
+use Rattle.run_output.specs.Words.{Command, words_of}
+use Rattle.concretizer.proofs.Left.{stopped, answered, held, follows}
+use Rattle.concretizer.specs.Asked.{IsAsked}
+use Rattle.concretizer.proofs.Stages.{stops_at_once, not_refused}
+use Rattle.concretizer.proofs.attempt.attempt.Goals as goal
+
+pub returns-in_err-command-clause-at_once : goal.returns-in_err-command-clause-at_once
+returns-in_err-command-clause-at_once g c = λ refusal refused. (
+  stops_at_once (words_of c.args.words.now) c.in_err-command.field-0.0 c.from_residual.result c.from_residual.ensures.1
+      c.in_err-command.ensures.read c.in_err-command.ensures.no_fault refusal refused,
+  refl,
+  refl,
+  refl,
+)
+
+pub returns-in_err-task-clause-at_once : goal.returns-in_err-task-clause-at_once
+returns-in_err-task-clause-at_once g c = λ refusal refused. not_refused (words_of c.args.words.now) c.in_ok-command.command
+    c.in_ok-command.ensures.read refusal refused
+
+pub returns-in_err-answer-clause-outcome : goal.returns-in_err-answer-clause-outcome
+returns-in_err-answer-clause-outcome g c =
+    stopped (words_of c.args.words.now) c.in_ok-command.command _ _ c.in_ok-task.task c.in_err-answer.field-0.0
+    c.from_residual-in_err-answer.result _ _ _ _ _
+    c.from_residual-in_err-answer.ensures.1 c.in_ok-command.ensures.read c.in_ok-task.ensures.read c.in_ok-task.ensures.same
+    (ap (λ (k : Command). k.lock) c.command.view_is ∙ c.in_ok-command.ensures.lock)
+    (ap (λ (k : Command). k.cert) c.command.view_is ∙ c.in_ok-command.ensures.cert) c.in_err-answer.ensures.left
+
+pub returns-in_err-answer-clause-at_once : goal.returns-in_err-answer-clause-at_once
+returns-in_err-answer-clause-at_once g c =
+    λ refusal refused. not_refused (words_of c.args.words.now) c.in_ok-command.command c.in_ok-command.ensures.read refusal refused
+
+pub returns-clause-at_once : goal.returns-clause-at_once
+returns-clause-at_once g c = λ refusal refused. not_refused (words_of c.args.words.now) c.in_ok-command.command c.in_ok-command.ensures.read
+    refusal refused
+
+pub returns-in_err-answer-clause-follows : goal.returns-in_err-answer-clause-follows
+returns-in_err-answer-clause-follows g c =
+    let asked : IsAsked (words_of c.args.words.now) =
+    record {
+      command = c.in_ok-command.command;
+      ordered = c.in_ok-command.ensures.read;
+      roots = c.in_ok-task.ensures.roots.0;
+      asks =
+          c.in_ok-task.ensures.roots.1;
+    } in
+    follows (words_of c.args.words.now) _ _ c.in_ok-task.task c.in_err-answer.field-0.0 c.from_residual-in_err-answer.result _ _ _ _
+    c.from_residual-in_err-answer.ensures.1 asked c.in_ok-task.ensures.work
+    (ap (λ (k : Command). k.lock) c.command.view_is ∙ c.in_ok-command.ensures.lock)
+    (ap (λ (k : Command). k.cert) c.command.view_is ∙ c.in_ok-command.ensures.cert) c.in_err-answer.ensures.left
+
+pub returns-clause-follows : goal.returns-clause-follows
+returns-clause-follows g c =
+    record {
+      command = c.in_ok-command.command;
+      ordered = c.in_ok-command.ensures.read;
+      roots = c.in_ok-task.ensures.roots.0;
+      asks =
+          c.in_ok-task.ensures.roots.1;
+    }
+
+pub returns-clause-outcome : goal.returns-clause-outcome
+returns-clause-outcome g c =
+    answered (words_of c.args.words.now) c.in_ok-command.command _ _ c.in_ok-task.task _ _ _ _ _ _ c.in_ok-command.ensures.read
+    c.in_ok-task.ensures.read c.in_ok-task.ensures.same
+    (ap (λ (k : Command). k.lock) c.command.view_is ∙ c.in_ok-command.ensures.lock)
+    (ap (λ (k : Command). k.cert) c.command.view_is ∙ c.in_ok-command.ensures.cert) c.in_ok-answer.ensures.left
+
+pub returns-clause-held : goal.returns-clause-held
+returns-clause-held g c =
+    held (words_of c.args.words.now) c.in_ok-command.command _ _ c.in_ok-task.task _ _ _ c.in_ok-command.ensures.read
+    c.in_ok-task.ensures.read c.in_ok-task.ensures.same
+    (ap (λ (k : Command). k.lock) c.command.view_is ∙ c.in_ok-command.ensures.lock)
+    (ap (λ (k : Command). k.cert) c.command.view_is ∙ c.in_ok-command.ensures.cert) c.in_ok-answer.ensures.held
+
+pub returns-in_err-answer-clause-held : goal.returns-in_err-answer-clause-held
+returns-in_err-answer-clause-held g c =
+    held (words_of c.args.words.now) c.in_ok-command.command _ _ c.in_ok-task.task _ _ _ c.in_ok-command.ensures.read
+    c.in_ok-task.ensures.read c.in_ok-task.ensures.same
+    (ap (λ (k : Command). k.lock) c.command.view_is ∙ c.in_ok-command.ensures.lock)
+    (ap (λ (k : Command). k.cert) c.command.view_is ∙ c.in_ok-command.ensures.cert) c.in_err-answer.ensures.held

@@ -1,0 +1,31 @@
+-- What the words say of a run, for any desk.
+use Rattle.std.specs.Prelude.{◌≡◌, ◌⊎◌, ℕ, false, List, Ok}
+use Rattle.spec_grammar.specs.declared.part.Spec.{Spec}
+use Rattle.run_output.specs.Orders.{order_of}
+use Rattle.run_output.specs.Roots.{RootsOf}
+use Rattle.run_output.specs.Stages.{Is}
+use Rattle.run_output.specs.Tasks.{IsTaskPath}
+use Rattle.run_output.specs.Words.{Command, is_dash, lock_path, cert_path}
+use Rattle.run_output.specs.Work.TheVariants as works
+
+-- the words are a command whose specs are read
+pub record IsAsked (words : List (List ℕ)) : Type 0 where
+  pub command : Command
+  pub ordered : Is (order_of words) (Ok command)
+  pub roots : List Spec
+  pub asks : RootsOf command.spec (Ok roots)
+
+-- they are `concretize`, the one command that puts files
+pub record IsLocking (words : List (List ℕ)) : Type 0 where
+  pub asked : IsAsked words
+  pub work : asked.command.work ≡ works.Concretize
+
+-- the path is that of the lock file, or of the certificate where there is one
+abbrev pub IsPutPath : List (List ℕ) → List ℕ → Type 0
+IsPutPath words path = (path ≡ lock_path words) ⊎ ((path ≡ cert_path words) × (is_dash (cert_path words) ≡ false))
+
+-- the words are a command that reads a file or folder at the path
+pub record IsRead (words : List (List ℕ)) (path : List ℕ) : Type 0 where
+  pub command : Command
+  pub ordered : Is (order_of words) (Ok command)
+  pub inside : IsTaskPath command path

@@ -1,0 +1,62 @@
+//! The reading of a task, and the writing of its answer.
+
+ghost use Rattle.std.specs.Prelude.{◌≡◌, ◌≤◌, Err, IfSome};
+ghost use Rattle.outside_desk.specs.Causes.{Counts};
+ghost use Rattle.run_output.specs.Orders.{order_of};
+ghost use Rattle.run_output.specs.Refusal.{Refusal};
+ghost use Rattle.run_output.specs.Stages.{Is};
+ghost use Rattle.run_output.specs.Stops.{stop_status, stop_line};
+ghost use Rattle.run_output.specs.Words.{words_of};
+ghost use Rattle.concretizer.specs.Attempts.{Attempts, Follows, StopsAtOnce, FailsToRead, FailsToPut, FailsToSay};
+ghost use Rattle.concretizer.specs.Headline.{Keeps, Reports};
+
+use outside_desk::{Desk, Sink, SinkFault};
+use run_output::{Outcome, Status, Stop, read_order, read_task, write_answer};
+use std::alloc::Global;
+
+/// Reads the task that the words name, and writes its answer.
+pub fn attempt<D: Desk, O: Sink>(
+    alloc: Global,
+    words: &[String],
+    desk: &mut D,
+    out: &mut O,
+) -> Result<Outcome, Stop>
+    ensures outcome { IfSome (D.files desk.old)
+        (λ files. Attempts files (words_of words.now) (D.files desk.new) (O.said out.old)
+        (O.said out.new) result) }
+    ensures follows { Follows (words_of words.now) result }
+    ensures at_once { (refusal : Refusal) → Is (order_of (words_of words.now)) (Err refusal)
+        → StopsAtOnce refusal result
+        × (D.files desk.new ≡ D.files desk.old) × (D.faults desk.new ≡ D.faults desk.old)
+        × (O.said out.new ≡ O.said out.old) }
+    ensures unread { FailsToRead result → (D.files desk.new ≡ D.files desk.old)
+        × (O.said out.new ≡ O.said out.old) }
+    ensures unsaid { FailsToPut result → O.said out.new ≡ O.said out.old }
+    ensures held { IfSome (D.files desk.old)
+        (λ files. Keeps files (words_of words.now) (D.files desk.new)) }
+    ensures read { Counts (D.faults desk.old) (D.faults desk.new) (FailsToRead result) }
+    ensures put { Counts (D.put_faults desk.old) (D.put_faults desk.new) (FailsToPut result) }
+    ensures said { Counts (O.faults out.old) (O.faults out.new) (FailsToSay result) }
+{
+    let command = read_order(alloc, words)?;
+    let task = read_task(alloc, desk, &command)?;
+    let answer = write_answer(alloc, &task, command.lock, command.cert, desk, out);
+    drop(task);
+    Ok(answer?)
+}
+
+/// Says why a run stops, and answers so.
+pub fn report<E: Sink>(alloc: Global, err: &mut E, stop: &Stop) -> Status
+    ensures reports { Reports (stop_status stop.now) (stop_line stop.now)
+        (E.said err.old, E.said err.new) (E.faults err.old, E.faults err.new) result }
+    ensures later { E.faults err.old ≤ E.faults err.new }
+{
+    let Ok(line) = stop.line(alloc) else {
+        return Status::NoMemory;
+    };
+    match err.say(alloc, line.as_bytes()) {
+        Ok(()) => stop.status(),
+        Err(SinkFault::Failed) => Status::WriteFault,
+        Err(SinkFault::OutOfMemory) => Status::NoMemory,
+    }
+}

@@ -1,0 +1,3 @@
+-- What is passed on of `variant_values`, so that the crates above need not name it.
+pub use Rattle.virtuals.proofs.OfVariantValues.Keys
+pub use Rattle.virtuals.proofs.OfVariantValues.Texts2 as Texts2

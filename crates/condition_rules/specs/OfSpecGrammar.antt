@@ -1,0 +1,3 @@
+-- What is passed on of `spec_grammar`, so that the crates above need not name it.
+pub use Rattle.virtuals.specs.OfConditions.Part
+pub use Rattle.virtuals.specs.OfConditions.Spec

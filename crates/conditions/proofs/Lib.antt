@@ -1,0 +1,3 @@
+pub mod OfVariantValues
+pub mod OfKeyedLists
+pub mod OfGraphCore

@@ -1,0 +1,171 @@
+//! The terms of the weights of attributes.
+ghost use Rattle.std.specs.Prelude.{◌≡◌, ◌++◌, map, IfOk, OnOk, if◌then◌else◌};
+ghost use Rattle.graph_costs.specs.Weights.{version_weight, is_deprecated, os_weight, target_weight, compiler_weight};
+ghost use Rattle.choice_terms.specs.Spread.{weighed};
+ghost use Rattle.cost_terms.specs.Terms.{weight_terms, deprecated_terms, version_terms, os_terms, target_terms, compiler_terms};
+
+use crate::weights::{compiler_weight, is_deprecated, os_weight, target_weight, version_weight};
+use choice_terms::spread;
+use clause_store::Lit;
+use formula_totals::Weighted;
+use graph_core::Compiler;
+use literal_table::Block;
+use plain_data::Word;
+use problem::Problem;
+use std::alloc::{AllocError, Global};
+use version_order::Version;
+
+fn deprecated_weights(
+    alloc: Global,
+    problem: &Problem,
+    name: &str,
+    choices: &[(Version, Lit)],
+) -> Result<Vec<(u64, Lit)>, AllocError>
+    ensures { IfOk result (λ weights. weights.items
+        ≡ weighed (λ version. if is_deprecated problem.now name.now version then 1 else 0) choices.now) }
+{
+    let mut weights = Vec::new(alloc);
+    for choice in choices {
+        let weight = if is_deprecated(problem, name, choice.0.text()) {
+            1
+        } else {
+            0
+        };
+        weights.push((weight, choice.1))?;
+    }
+    Ok(weights)
+}
+
+fn version_weights(
+    alloc: Global,
+    problem: &Problem,
+    name: &str,
+    choices: &[(Version, Lit)],
+) -> Result<Vec<(u64, Lit)>, AllocError>
+    ensures { IfOk result (λ weights. weights.items
+        ≡ weighed (version_weight problem.now name.now) choices.now) }
+{
+    let mut weights = Vec::new(alloc);
+    for choice in choices {
+        let weight = version_weight(problem, name, choice.0.text());
+        weights.push((weight as u64, choice.1))?;
+    }
+    Ok(weights)
+}
+
+fn os_weights(
+    alloc: Global,
+    problem: &Problem,
+    choices: &[(Word, Lit)],
+) -> Result<Vec<(u64, Lit)>, AllocError>
+    ensures { IfOk result (λ weights. weights.items ≡ weighed (os_weight problem.now) choices.now) }
+{
+    let mut weights = Vec::new(alloc);
+    for choice in choices {
+        let weight = os_weight(problem, choice.0.as_str());
+        weights.push((weight as u64, choice.1))?;
+    }
+    Ok(weights)
+}
+
+fn target_weights(
+    alloc: Global,
+    problem: &Problem,
+    choices: &[(Word, Lit)],
+) -> Result<Vec<(u64, Lit)>, AllocError>
+    ensures { IfOk result (λ weights. weights.items
+        ≡ weighed (target_weight problem.now) choices.now) }
+{
+    let mut weights = Vec::new(alloc);
+    for choice in choices {
+        let weight = target_weight(problem, choice.0.as_str());
+        weights.push((weight as u64, choice.1))?;
+    }
+    Ok(weights)
+}
+
+fn compiler_weights(
+    alloc: Global,
+    problem: &Problem,
+    choices: &[(Option<Compiler>, Lit)],
+) -> Result<Vec<(u64, Lit)>, AllocError>
+    ensures { IfOk result (λ weights. weights.items
+        ≡ weighed (compiler_weight problem.now) choices.now) }
+{
+    let mut weights = Vec::new(alloc);
+    for choice in choices {
+        let weight = compiler_weight(problem, &choice.0);
+        weights.push((weight as u64, choice.1))?;
+    }
+    Ok(weights)
+}
+
+/// One where the version is deprecated.
+pub fn deprecated_terms(
+    alloc: Global,
+    problem: &Problem,
+    block: &Block,
+) -> Result<Vec<Weighted>, AllocError>
+    ensures { IfOk result (λ terms. terms.items ≡ deprecated_terms problem.now block.now) }
+{
+    let weights = deprecated_weights(
+        alloc,
+        problem,
+        block.name.as_str(),
+        block.versions.as_slice(),
+    )?;
+    spread(alloc, weights.as_slice())
+}
+
+/// The version's weight.
+pub fn version_terms(
+    alloc: Global,
+    problem: &Problem,
+    block: &Block,
+) -> Result<Vec<Weighted>, AllocError>
+    ensures { IfOk result (λ terms. terms.items ≡ version_terms problem.now block.now) }
+{
+    let weights = version_weights(
+        alloc,
+        problem,
+        block.name.as_str(),
+        block.versions.as_slice(),
+    )?;
+    spread(alloc, weights.as_slice())
+}
+
+/// The OS's weight.
+pub fn os_terms(
+    alloc: Global,
+    problem: &Problem,
+    block: &Block,
+) -> Result<Vec<Weighted>, AllocError>
+    ensures { IfOk result (λ terms. terms.items ≡ os_terms problem.now block.now) }
+{
+    let weights = os_weights(alloc, problem, block.os.as_slice())?;
+    spread(alloc, weights.as_slice())
+}
+
+/// The target's weight.
+pub fn target_terms(
+    alloc: Global,
+    problem: &Problem,
+    block: &Block,
+) -> Result<Vec<Weighted>, AllocError>
+    ensures { IfOk result (λ terms. terms.items ≡ target_terms problem.now block.now) }
+{
+    let weights = target_weights(alloc, problem, block.targets.as_slice())?;
+    spread(alloc, weights.as_slice())
+}
+
+/// The compiler's weight.
+pub fn compiler_terms(
+    alloc: Global,
+    problem: &Problem,
+    block: &Block,
+) -> Result<Vec<Weighted>, AllocError>
+    ensures { IfOk result (λ terms. terms.items ≡ compiler_terms problem.now block.now) }
+{
+    let weights = compiler_weights(alloc, problem, block.compilers.as_slice())?;
+    spread(alloc, weights.as_slice())
+}

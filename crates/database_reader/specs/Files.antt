@@ -1,0 +1,35 @@
+-- What a database's JSON says. Keys go in byte order, missing and unknown ones among them, and each fault is a wrong kind.
+use Rattle.std.specs.Prelude.{◌≡◌, ℕ, ◌==◌, List, [], ◌∷◌, codes, Ok, if◌then◌else◌}
+use Rattle.serde_json.specs.Data.{Data}
+use Rattle.json_readers.specs.Faults.{Reading, ◌>>=◌, wrong_kind}
+use Rattle.json_readers.specs.Json.{IsJson}
+use Rattle.json_readers.specs.Lists.{list_of}
+use Rattle.json_readers.specs.Objects.{members_of, first_odd, field, none_odd}
+use Rattle.json_readers.specs.Texts.{whole_number}
+use Rattle.record_reader.specs.Records.{record_at}
+use Rattle.reuse_db.specs.Databases.{AreRecords}
+use Rattle.reuse_db.specs.declared.record.Record.{Record}
+
+abbrev pub file_keys : List (List ℕ)
+file_keys = codes "records" ∷ codes "version" ∷ []
+
+-- the number 1
+abbrev pub version_at : Data → Reading ℕ
+version_at d = whole_number d >>= λ version. if version == 1 then Ok version else wrong_kind
+
+unfoldable pub records_at : Data → Reading (List Record)
+records_at d = do
+  ms ← members_of d
+  let odd = first_odd file_keys ms in do
+    records ← field (list_of record_at) odd (codes "records") ms
+    version ← field version_at odd (codes "version") ms
+    _ ← none_odd odd
+    Ok records
+
+-- the value says these records, and they have no fault
+abbrev pub IsDatabaseOf : Data → List Record → Type 0
+IsDatabaseOf d records = (records_at d ≡ Ok records) × AreRecords records
+
+-- the bytes are the JSON text of a database without a fault, which has these records
+abbrev pub IsDatabase : List ℕ → List Record → Type 0
+IsDatabase bytes records = (d : Data) × IsJson bytes d × IsDatabaseOf d records

@@ -1,0 +1,4 @@
+-- what public contracts say
+pub mod Files
+pub mod Faults
+pub mod FaultTexts

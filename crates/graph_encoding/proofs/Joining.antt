@@ -1,0 +1,276 @@
+-- The stages of an encoding, joined.
+use Rattle.std.proofs.Common.{◌≡◌, ◌↔◌, refl, sym, ap, subst, ◌∙◌, Bool, true, ◌&&◌, ℕ, ◌<◌, ◌≤◌, List, [], ◌∷◌, ◌++◌, map, Option, arith}
+use Rattle.std.specs.List.{list_all, All}
+use Rattle.std.proofs.lemmas.Bool.{and_parts, and_from}
+use Rattle.std.proofs.lemmas.List.Elements.{All-map}
+use Rattle.std.proofs.lemmas.List.Folds.{list_all-append}
+use Rattle.clause_store.specs.declared.Lit.{Lit}
+use Rattle.clause_store.specs.Lits.{var_of}
+use Rattle.clause_store.specs.declared.Label.TheVariants.{Structure}
+use Rattle.clause_store.specs.Clauses.{Clauses, Meets}
+use Rattle.gate_plans.specs.Growth.{Agree, Says as ClausesSay, where_asked}
+use Rattle.clause_formulas.specs.declared.defined.Defined.{Defined}
+use Rattle.clause_formulas.specs.Statements.{Statement, eval, any_of, SaidBelow}
+use Rattle.clause_formulas.specs.Drafts.{value_at, part_at}
+use Rattle.clause_formulas.specs.Values.{DefinesValues}
+use Rattle.clause_formulas.specs.Built.{Grown, assert_on, define_all_on, demand_all_on, demands_true}
+use Rattle.clause_formulas.proofs.Laws.{assert_is, define_all_is, demand_all_is}
+use Rattle.clause_formulas.proofs.Words.{value-below}
+use Rattle.clause_formulas.proofs.DraftLaws.{SaidBelow-le}
+use Rattle.level_encoding.specs.Asserted.{assert_all, levels_on}
+use Rattle.level_encoding.specs.Input.{Input, IsRight, literal_at}
+use Rattle.level_encoding.specs.Encoding.{paths_of}
+use Rattle.level_encoding.specs.Laws.{KeepsLevels}
+use Rattle.level_encoding.proofs.AssertedLaws.{assert_all-says}
+use Rattle.level_encoding.proofs.Told.{keeps as levels-keep}
+use Rattle.graph_core.specs.Graphs.{Text, Content, IsGraph}
+use Rattle.problem.specs.Nodes.{IsWellFormed}
+use Rattle.problem.specs.Problems.{Problem}
+use Rattle.problem.specs.Demands.{demands}
+use Rattle.problem.specs.declared.demand.Demand.{Demand}
+use Rattle.graph_rules.specs.Valid.{keeps, keeps_all, keeps_demand, structure_rules, valid_for}
+use Rattle.graph_rules.specs.declared.rule.Rule.{Rule}
+use Rattle.graph_rules.specs.declared.rule.Rule.TheVariants as rules
+use Rattle.literal_table.specs.Tables.{Table, IsTable}
+use Rattle.literal_table.specs.Spells.{Spells}
+use Rattle.encoding_stages.specs.Stages.{Nothing, Both, IsLocal, Models, Stage, Decodes}
+use Rattle.encoding_stages.specs.Rules.{Says, Holds, ValuesSay, asked_among, KeepsAsked}
+use Rattle.encoding_stages.proofs.Growing.{added, joined, restated, named, decodes, local-le, local-both}
+use Rattle.encoding_stages.proofs.Adapters.{asserted, defined, demanded, begun}
+use Rattle.graph_levels.specs.Numbers.{names_of}
+use Rattle.graph_levels.specs.Edges.{EdgesSay, EdgesBelow, edges_on}
+use Rattle.graph_levels.specs.Levels.{SpellsEdges, AGraph, KeepsLevelRules, PathsSay, input_for, places_of, path_said, root_names}
+use Rattle.graph_levels.proofs.EdgeLaws.{edges-are, edge-stage}
+use Rattle.graph_levels.proofs.InputLaws.{input-right, lits-below}
+use Rattle.graph_levels.proofs.LevelStage.{level-stage, path-below}
+use Rattle.graph_encoding.specs.Formulas.{Formulas, PathFormulas, other_rules, IsSpelled, IsRightTable, PathsTold, ConditionsTold, PathsBelow, MetBelow, AreRightFormulas}
+use Rattle.graph_encoding.specs.Encodings.{base, edges_made, level_input, levels_made, path_of, rules_on, encode_on, told_in, IsValid}
+
+-- ---- the rules together
+
+rules-join : (problem : Problem) (g : Content) → keeps_all other_rules problem g ≡ true → KeepsLevelRules problem (λ d. true) g
+    → keeps_all structure_rules problem g ≡ true
+rules-join problem g others kept =
+    list_all-append (λ rule. keeps rule problem g) other_rules (rules.Cycle ∷ rules.Unreachable ∷ [])
+    ∙ and_from (keeps_all other_rules problem g) _ others (and_from (keeps rules.Cycle problem g) _ kept.0 (and_from (keeps rules.Unreachable problem g) true kept.1 refl))
+
+rules-part : (problem : Problem) (g : Content) → keeps_all structure_rules problem g ≡ true
+    → (keeps_all other_rules problem g ≡ true) × KeepsLevelRules problem (λ d. true) g
+rules-part problem g all =
+    let p = and_parts (keeps_all other_rules problem g) (keeps rules.Cycle problem g && (keeps rules.Unreachable problem g && true))
+    (sym (list_all-append (λ rule. keeps rule problem g) other_rules (rules.Cycle ∷ rules.Unreachable ∷ [])) ∙ all) in
+    let q = and_parts (keeps rules.Cycle problem g) (keeps rules.Unreachable problem g && true) p.1 in
+    (p.0, (q.0, (and_parts (keeps rules.Unreachable problem g) true q.1).0))
+
+-- demands over the variables
+demands-below : (n : ℕ) (f : Demand → Statement) → ((d : Demand) → SaidBelow n (f d)) → (ds : List Demand) → SaidBelow n (any_of (map f ds))
+demands-below n f each [] = tt
+demands-below n f each (d ∷ ds) = (each d, demands-below n f each ds)
+
+-- ---- the stages
+
+module _ (problem : Problem) (t : Table) (n : ℕ) (f : Formulas) (decode : (ℕ → Bool) → Content) (right : IsRightTable problem t n f decode) where
+  -- a graph of which some assignment spells all
+  abbrev pub R0 : (ℕ → Bool) → Content → Type 0
+  R0 asked g = IsWellFormed g × IsSpelled t g
+
+  abbrev pub S0 : (ℕ → Bool) → Content → Type 0
+  S0 v g = Spells v t g
+
+  abbrev pub shaped : Clauses
+  shaped = assert_all (base n) f.structure
+
+  shaped-says : ClausesSay (base n) shaped (λ asked v. list_all (eval v) f.structure)
+  shaped-says = assert_all-says f.structure (base n) right.structure_below
+
+  pub shaped-models : Models shaped S0 R0
+  shaped-models = begun (base n) shaped S0 R0 (λ asked v. list_all (eval v) f.structure) refl right.local shaped-says
+      (λ asked v h. let r = right.reads v h in (decode v, r.0, (r.1, (v, r.0))))
+      (λ asked g r. (r.1.0, r.1.1, right.fits r.1.0 g r.1.1 r.0))
+
+  -- a literal for each edge
+  abbrev pub edged : Grown (List Lit)
+  edged = edges_on shaped t.edges
+
+  abbrev pub S1 : (ℕ → Bool) → Content → Type 0
+  S1 v g = Spells v t g × EdgesSay t.edges edged.answer v g
+
+  abbrev pub R1 : (ℕ → Bool) → Content → Type 0
+  R1 asked g = R0 asked g × Unit {0}
+
+  shaped-more : n ≤ shaped.vars
+  shaped-more = shaped-says.grows.more
+
+  edges-below : EdgesBelow shaped.vars t.edges
+  edges-below k d lt = let h = right.edges_below k d lt in
+      (omega (arith, shaped-more, h.0), omega (arith, shaped-more, h.1), omega (arith, shaped-more, h.2))
+
+  edges-stage : Stage shaped edged.list S0 (EdgesSay t.edges edged.answer) R0 Nothing
+  edges-stage = restated shaped edged.list S0 (EdgesSay t.edges edged.answer) AGraph Nothing S0 R0 (λ asked v g s r. s)
+      (λ asked v g s r. r.0.is_graph) (edge-stage t right.table shaped edges-below)
+
+  pub edges-models : Models edged.list S1 R1
+  edges-models = added shaped edged.list S0 (EdgesSay t.edges edged.answer) R0 Nothing shaped-models edges-stage
+
+  edged-more : n ≤ edged.list.vars
+  edged-more = omega (arith, shaped-more, edges-stage.grows.more)
+
+  module _ (targets : List Text) where
+    abbrev pub level_in : Input
+    level_in = input_for t edged.answer (root_names problem) targets edged.list.vars
+
+    abbrev pub levelled : Clauses
+    levelled = levels_on level_in edged.list
+
+    abbrev pub paths : List (Option Lit)
+    paths = paths_of level_in
+
+    levels-kept : KeepsLevels level_in edged.list levelled paths
+    levels-kept = levels-keep level_in edged.list paths
+        (input-right t edged.answer (root_names problem) targets edged.list.vars
+        (λ k d lt. let h = right.nodes_below k d lt in omega (arith, edged-more, h))
+        (lits-below shaped edged.list t.edges edged.answer (edges-are shaped t.edges edges-below).1)) refl refl
+
+    abbrev pub P : (ℕ → Bool) → Content → Type 0
+    P = PathsSay (names_of t) (places_of (names_of t) targets) paths
+
+    abbrev pub S2 : (ℕ → Bool) → Content → Type 0
+    S2 v g = S1 v g × P v g
+
+    abbrev pub R2 : (ℕ → Bool) → Content → Type 0
+    R2 asked g = R1 asked g × KeepsLevelRules problem asked g
+
+    levels-stage : Stage edged.list levelled S1 P R1 (KeepsLevelRules problem)
+    levels-stage = restated edged.list levelled (SpellsEdges t edged.answer) P AGraph (KeepsLevelRules problem) S1 R1 (λ asked v g s r. s)
+        (λ asked v g s r. r.0.0.is_graph) (level-stage problem t edged.answer targets edged.list levelled paths right.table levels-kept)
+
+    pub levels-models : Models levelled S2 R2
+    levels-models = added edged.list levelled S1 P R1 (KeepsLevelRules problem) edges-models levels-stage
+
+    abbrev pub path : PathFormulas
+    path = path_of t targets paths
+
+    levelled-more : n ≤ levelled.vars
+    levelled-more = omega (arith, edged-more, levels-stage.grows.more)
+
+    paths-below : (m : ℕ) → levelled.vars ≤ m → PathsBelow m path
+    paths-below m h from to = SaidBelow-le levelled.vars m (path from to) h
+        (path-below levelled.vars paths levels-kept.in_range (names_of t) (places_of (names_of t) targets) from to)
+
+    module _ (holds : ℕ → Content → Bool) (says : AreRightFormulas problem t n f (told_in t targets) holds) where
+      -- values of conditions
+      abbrev pub valued : Grown (List Defined)
+      valued = define_all_on levelled (f.conditions path)
+
+      abbrev pub met : ℕ → Statement
+      met = value_at valued.answer
+
+      values-are : DefinesValues levelled valued.list valued.answer (f.conditions path)
+      values-are = define_all_is levelled (f.conditions path) (says.conditions_below levelled.vars path levelled-more (paths-below levelled.vars (omega arith)))
+
+      abbrev pub S3 : (ℕ → Bool) → Content → Type 0
+      S3 v g = S2 v g × ValuesSay valued.answer holds v g
+
+      abbrev pub R3 : (ℕ → Bool) → Content → Type 0
+      R3 asked g = R2 asked g × Unit {0}
+
+      values-stage : Stage levelled valued.list S2 (ValuesSay valued.answer holds) R2 Nothing
+      values-stage = defined levelled valued.list S2 R2 valued.answer (f.conditions path) holds values-are
+          (λ k asked v g s r. says.conditions_say v g path s.0.0 r.0.0.0 s.1 k)
+
+      pub values-models : Models valued.list S3 R3
+      values-models = added levelled valued.list S2 (ValuesSay valued.answer holds) R2 Nothing levels-models values-stage
+
+      valued-more : levelled.vars ≤ valued.list.vars
+      valued-more = values-stage.grows.more
+
+      met-below : (m : ℕ) → valued.list.vars ≤ m → MetBelow m met
+      met-below m h k = SaidBelow-le valued.list.vars m (met k) h (value-below levelled valued.list valued.answer (f.conditions path) values-are.means k)
+
+      -- the rules that are always asked
+      abbrev pub ruled : Clauses
+      ruled = assert_on Structure valued.list true (f.rules path met)
+
+      abbrev pub R4 : (ℕ → Bool) → Content → Type 0
+      R4 asked g = R3 asked g × Holds (keeps_all other_rules problem) asked g
+
+      abbrev pub S4 : (ℕ → Bool) → Content → Type 0
+      S4 v g = S3 v g × Unit {0}
+
+      rules-stage : Stage valued.list ruled S3 Nothing R3 (Holds (keeps_all other_rules problem))
+      rules-stage = asserted valued.list ruled S3 R3 (f.rules path met) (keeps_all other_rules problem)
+          (assert_is Structure (f.rules path met) true valued.list
+          (says.rules_below valued.list.vars path met (omega (arith, levelled-more, valued-more)) (paths-below valued.list.vars valued-more)
+          (met-below valued.list.vars (omega arith))))
+          (λ asked v g s r. says.rules_say v g path met s.0.0.0 r.0.0.0.0 s.0.1 s.1)
+
+      pub rules-models : Models ruled S4 R4
+      rules-models = added valued.list ruled S3 Nothing R3 (Holds (keeps_all other_rules problem)) values-models rules-stage
+
+      ruled-more : valued.list.vars ≤ ruled.vars
+      ruled-more = rules-stage.grows.more
+
+      -- the demands
+      abbrev pub whole : Clauses
+      whole = demand_all_on ruled 0 (map (f.demand path met) (demands problem))
+
+      abbrev pub K : (ℕ → Bool) → Content → Type 0
+      K = KeepsAsked (λ g d. keeps_demand problem g d) (demands problem)
+
+      abbrev pub S5 : (ℕ → Bool) → Content → Type 0
+      S5 v g = S4 v g × Unit {0}
+
+      abbrev pub R5 : (ℕ → Bool) → Content → Type 0
+      R5 asked g = R4 asked g × K asked g
+
+      demands-stage : Stage ruled whole S4 Nothing R4 K
+      demands-stage = demanded ruled whole S4 R4 (demands problem) (f.demand path met) (λ g d. keeps_demand problem g d)
+          (demand_all_is ruled 0 (map (f.demand path met) (demands problem))
+          (demands-below ruled.vars (f.demand path met) (λ d. says.demand_below ruled.vars path met d
+          (omega (arith, levelled-more, valued-more, ruled-more)) (paths-below ruled.vars (omega (arith, valued-more, ruled-more)))
+          (met-below ruled.vars ruled-more)) (demands problem)))
+          (λ d asked v g s r. says.demand_says v g path met d s.0.0.0.0 r.0.0.0.0.0 s.0.0.1 s.0.1)
+
+      pub whole-models : Models whole S5 R5
+      whole-models = added ruled whole S4 Nothing R4 K rules-models demands-stage
+
+      -- ---- valid graphs
+
+      pub is-valid : (asked : ℕ → Bool) (g : Content) → R5 asked g → IsValid problem asked g
+      unfolding valid_for
+      is-valid asked g r = (
+        r.0.0.0.0.0.0,
+        and_from (keeps_all structure_rules problem g) (list_all (keeps_demand problem g) (asked_among asked 0 (demands problem)))
+            (rules-join problem g r.0.1 r.0.0.0.1) r.1,
+      )
+
+      pub valid-is : (asked : ℕ → Bool) (g : Content) → IsValid problem asked g → R5 asked g
+      unfolding valid_for
+      valid-is asked g ok =
+          let p = and_parts (keeps_all structure_rules problem g) (list_all (keeps_demand problem g) (asked_among asked 0 (demands problem))) ok.1 in
+          let q = rules-part problem g p.0 in
+          (((((((ok.0, right.spelled (asked_among asked 0 (demands problem)) g ok.0 ok.1), tt), q.1), tt), q.0), p.1))
+
+      pub whole-decodes : Decodes whole decode (IsValid problem)
+      whole-decodes = record {
+        sound = λ asked v m.
+            let w = whole-models.sound asked v m in
+            let ok = is-valid asked w.0 w.2 in
+            subst (IsValid problem asked) (sym (right.decoded v w.0 w.1.0.0.0.0.0 ok.0)) ok;
+        complete = λ asked g ok.
+            let w = whole-models.complete asked g (valid-is asked g ok) in
+            (w.0, right.decoded w.0 g w.1.0.0.0.0.0 ok.0, w.2);
+      }
+
+      pub encoded : Decodes (encode_on problem t n f targets) decode (IsValid problem)
+      unfolding encode_on rules_on levels_made edges_made
+      encoded = whole-decodes
+
+      -- ---- variables
+
+      whole-later : valued.list.vars ≤ whole.vars
+      whole-later = omega (arith, ruled-more, demands-stage.grows.more)
+
+      pub in-range : (n ≤ (encode_on problem t n f targets).vars) × MetBelow (encode_on problem t n f targets).vars met
+      unfolding encode_on rules_on levels_made edges_made
+      in-range = (omega (arith, levelled-more, valued-more, whole-later), met-below whole.vars whole-later)

@@ -1,0 +1,127 @@
+-- The rules of roots and directives hold where these are kept.
+use Rattle.std.proofs.Common.{◌≡◌, refl, sym, ap, ◌∙◌, Bool, true, false, not, ◌||◌, ◌&&◌, ℕ, ◌+◌, List, [], ◌∷◌, Option, Some, None, inl, inr, arith}
+use Rattle.std.specs.Prelude.{◌==◌, if◌then◌else◌, count_by}
+use Rattle.std.specs.List.{list_any, list_all}
+use Rattle.std.specs.Option.{option_and_then}
+use Rattle.std.proofs.lemmas.Bool.{cases_Bool, eqb-true, eq-eqb, ne_eqb}
+use Rattle.std.proofs.lemmas.List.Sums.{sum_by-cons}
+use Rattle.std.proofs.lemmas.List.Folds.{sum_by-zero}
+use Rattle.spec_grammar.specs.declared.part.Spec.{Spec}
+use Rattle.clause_formulas.specs.Rules.{Rule, keeps_rule, fact}
+use Rattle.graph_core.specs.Graphs.{Text}
+use Rattle.condition_rules.specs.Words.{among, implies, if_written, is_some_and}
+use Rattle.graph_core.specs.Graphs.{Content, node_of, provider_of, edge_of}
+use Rattle.problem.specs.Nodes.{covers, is_built}
+use Rattle.graph_core.specs.declared.node.Node.{Node}
+use Rattle.graph_core.specs.declared.node.Kinds.{Kinds}
+use Rattle.condition_rules.specs.Worlds.{World}
+use Rattle.condition_rules.specs.Holds.{asked_node, suits, holds, all_hold}
+use Rattle.conditions.specs.declared.recipe.DependRow.{DependRow}
+use Rattle.conditions.specs.declared.recipe.ConflictRow.{ConflictRow}
+use Rattle.conditions.specs.declared.recipe.RequireRow.{RequireRow}
+use Rattle.problem.specs.Problems.{Problem, world_of}
+use Rattle.graph_rules.specs.Directives.{keeps_root, keeps_edge, keeps_constraint, keeps_conflict, keeps_requirement, has_choice}
+use Rattle.graph_words.specs.Facts.{Word, has_edge, is_in}
+use Rattle.graph_words.specs.Lists.{◌and◌, some, just_one}
+use Rattle.graph_words.specs.Parts.{there_rule, suits_rule, asked_rule, holds_rule}
+use Rattle.literal_table.proofs.Spelling.{named-so}
+use Rattle.graph_words.proofs.Rules.{or-false, some-kept, named-kept}
+use Rattle.graph_words.proofs.Kept.{by_node, asked-kept, holds-kept, suits-kept}
+use Rattle.graph_formulas.specs.Terms.{Term, is_true, known_rule, where_built}
+use Rattle.graph_formulas.specs.Directives.{root_rule, edge_to, edge_rule, suits_asked, constraint_rule, conflict_rule, choice_rule, requirement_rule}
+
+pub not-or : (a b : Bool) → (not a || b) ≡ implies a b
+not-or true b = refl
+not-or false b = refl
+
+-- exactly one
+none-count : {T : Type 0} (test : T → Bool) (xs : List T) → (count_by test xs == 0) ≡ not (list_any test xs)
+none-count test xs = sum_by-zero (λ x. if test x then 1 else 0) xs ∙ each xs
+  where
+    each : (xs : List _) → list_all (λ x. (if test x then 1 else 0) == 0) xs ≡ not (list_any test xs)
+    each [] = refl
+    each (x ∷ xs) = elim (cases_Bool (test x)) [ inl t ↦ rw t refl | inr f ↦ rw f (each xs) ]
+
+plus-zero : (n : ℕ) → n ≡ 0 + n
+plus-zero n = omega arith
+
+one-more : (n : ℕ) → (1 + n == 1) ≡ (n == 0)
+one-more n = elim (cases_Bool (n == 0)) [
+  | inl t ↦ let e : n ≡ 0 = eqb-true n 0 t in rw t (eq-eqb (1 + n) 1 (omega (arith, e)))
+  | inr f ↦ rw f (ne_eqb (1 + n) 1 (λ h. let e : n ≡ 0 = omega (arith, h) in let t : (n == 0) ≡ true = eq-eqb n 0 e in cc))
+]
+
+module _ {W T : Type 0} (p : W → Bool) (rule : T → Rule W) (test : T → Bool) (same : (x : T) → keeps_rule p (rule x) ≡ test x) where
+  pub one-kept : (xs : List T) → keeps_rule p (just_one rule xs) ≡ (count_by test xs == 1)
+  one-kept [] = refl
+  one-kept (x ∷ xs) = rw (same x, some-kept p rule test same xs, one-kept xs, sum_by-cons (λ x. if test x then 1 else 0) x xs) (elim (cases_Bool (test x)) [
+    | inl t ↦ rw (t, one-more (count_by test xs), none-count test xs) (or-false (not (list_any test xs)))
+    | inr f ↦ rw f (or-false (count_by test xs == 1) ∙ ap (λ n. n == 1) (plus-zero (count_by test xs)))
+  ])
+
+pub then-and : {T U : Type 0} (f : T → Option U) (test : U → Bool) (o : Option T) → is_some_and (option_and_then f o) test ≡ is_some_and o (λ x. is_some_and (f x) test)
+then-and f test None = refl
+then-and f test (Some x) = refl
+
+module _ (problem : Problem) (packages : Text → List Text) (graph : Content)
+    (listed : (virtual p : Text) → provider_of graph virtual ≡ Some p → among (packages virtual) p ≡ true) where
+  abbrev pub holds_true : Rule Term → Bool
+  holds_true rule = keeps_rule (is_true (world_of problem) graph) rule
+
+  abbrev pub in_graph : Rule Word → Bool
+  in_graph rule = keeps_rule (is_in graph) rule
+
+  pub root-kept : (spec : Spec) → in_graph (root_rule problem packages spec) ≡ keeps_root problem graph spec
+  unfolding keeps_root
+  root-kept spec = named-kept (is_in graph) _ _ (λ name. holds-kept (world_of problem) graph packages listed name spec) spec.top.name
+
+  pub conflict-kept : (node : Node) (row : ConflictRow) → holds_true (conflict_rule problem packages node.name row) ≡ keeps_conflict problem graph node row
+  unfolding keeps_conflict
+  conflict-kept node row = rw (holds-kept (world_of problem) graph packages listed node.name row.spec) refl
+
+  suits-asked : (row : DependRow) → in_graph (suits_asked problem packages row) ≡ is_some_and row.part.name (λ name. is_some_and (asked_node (world_of problem) graph name) (suits (world_of problem) row.part name))
+  suits-asked row =
+      named-kept (is_in graph) _ (λ name. is_some_and (asked_node (world_of problem) graph name) (suits (world_of problem) row.part name))
+      (λ asked. asked-kept (world_of problem) graph packages listed asked (suits_rule (world_of problem) row.part asked) (suits (world_of problem) row.part asked) (λ n. suits-kept (world_of problem) graph n row.part asked)) row.part.name
+
+  pub constraint-kept : (node : Node) (row : DependRow) → holds_true (constraint_rule problem packages node.name row) ≡ keeps_constraint problem graph node row
+  unfolding keeps_constraint
+  constraint-kept node row = rw (suits-asked row) (not-or (all_hold (world_of problem) row.when graph node.name) _)
+
+  edge-child : (parent : Text) (kinds : Kinds) (child : Text)
+      → in_graph (there_rule child and fact (has_edge parent child kinds)) ≡ is_some_and (node_of graph child) (λ c. is_some_and (edge_of graph parent c.name) (λ e. covers e.kinds kinds))
+  edge-child parent kinds child =
+      by_node graph child (λ o. (is_some_and o (λ c. true) && is_some_and (edge_of graph parent child) (λ e. covers e.kinds kinds)) ≡ is_some_and o (λ c. is_some_and (edge_of graph parent c.name) (λ e. covers e.kinds kinds)))
+      (λ node here. ap (λ n. is_some_and (edge_of graph parent n) (λ e. covers e.kinds kinds)) (sym (named-so graph child node here)))
+      (λ absent. refl)
+
+  edge-to : (node : Node) (row : DependRow) → in_graph (edge_to problem packages node.name row)
+      ≡ is_some_and (option_and_then (asked_node (world_of problem) graph) row.part.name) (λ child. is_some_and (edge_of graph node.name child.name) (λ e. covers e.kinds row.kinds))
+  edge-to node row =
+      named-kept (is_in graph) _ _ (λ asked. asked-kept (world_of problem) graph packages listed asked (λ child. there_rule child and fact (has_edge node.name child row.kinds)) _ (edge-child node.name row.kinds)) row.part.name
+      ∙ sym (then-and (asked_node (world_of problem) graph) _ row.part.name)
+
+  pub edge-kept : (node : Node) (row : DependRow) → holds_true (edge_rule problem packages node.name row) ≡ keeps_edge problem graph node row
+  unfolding keeps_edge
+  edge-kept node row = rw (edge-to node row) (not-or (all_hold (world_of problem) row.when graph node.name) _)
+
+  pub requirement-kept : (node : Node) (row : RequireRow) → holds_true (requirement_rule problem packages node.name row) ≡ keeps_requirement problem graph node row
+  unfolding keeps_requirement
+  requirement-kept node row = rw (choice-kept) (not-or (all_hold (world_of problem) row.when graph node.name) _)
+    where
+      each-spec : (spec : Spec) → holds_true (known_rule (holds_rule (world_of problem) packages node.name spec)) ≡ holds (world_of problem) spec graph node.name
+      each-spec spec = holds-kept (world_of problem) graph packages listed node.name spec
+
+      choice-kept : holds_true (choice_rule problem packages node.name row) ≡ has_choice problem graph node row
+      choice-kept = elim (cases_Bool row.one_of) [
+        | inl one ↦ rw one (one-kept (is_true (world_of problem) graph) _ _ each-spec row.specs)
+        | inr any ↦ rw any (some-kept (is_true (world_of problem) graph) _ _ each-spec row.specs)
+      ]
+
+  -- a rule of a node to build
+  pub built-kept : (name : Text) (rule : Rule Term) (test : Node → Bool) → ((node : Node) → node_of graph name ≡ Some node → holds_true rule ≡ test node)
+      → holds_true (where_built name rule) ≡ if_written (node_of graph name) (λ node. implies (is_built node) (test node))
+  built-kept name rule test same =
+      by_node graph name (λ o. (not (is_some_and o is_built) || holds_true rule) ≡ if_written o (λ node. implies (is_built node) (test node)))
+      (λ node here. not-or (is_built node) (holds_true rule) ∙ ap (implies (is_built node)) (same node here))
+      (λ absent. refl)

@@ -1,0 +1,189 @@
+-- The rule of kept nodes holds where it is kept.
+use Rattle.std.proofs.Common.{◌≡◌, refl, sym, ap, subst, ◌∙◌, Bool, true, false, not, ◌||◌, ◌&&◌, ℕ, List, [], ◌∷◌, Option, Some, None, inl, inr}
+use Rattle.std.specs.Prelude.{is_none, ◌==◌, slice_get}
+use Rattle.std.specs.List.{list_any, list_all}
+use Rattle.std.specs.Option.{option_eq}
+use Rattle.std.specs.Str.{bytes_eq}
+use Rattle.std.specs.Cmp.Lexicographic.{bytes_decides}
+use Rattle.std.proofs.lemmas.Bool.{cases_Bool, eqb-true, eq-eqb}
+use Rattle.clause_formulas.specs.Rules.{Rule, keeps_rule, fact, isnt, if_so}
+use Rattle.graph_core.specs.Graphs.{Text, Content, node_of, edge_of, edges_from}
+use Rattle.graph_core.specs.declared.node.Node.{Node}
+use Rattle.graph_core.specs.declared.node.Edge.{Edge}
+use Rattle.graph_core.specs.declared.node.Kinds.{Kinds}
+use Rattle.graph_core.specs.declared.node.Origin.{Origin}
+use Rattle.graph_core.specs.declared.node.Origin.TheVariants.{Built, External, Installed}
+use Rattle.condition_rules.specs.Words.{if_written, is_some_and, implies}
+use Rattle.problem.specs.Problems.{Problem, world_of, entry_of, externals_in, record_at, same_compiler}
+use Rattle.problem.specs.Nodes.{covers, is_installed}
+use Rattle.problem.specs.Records.{kept_dependencies}
+use Rattle.reuse_db.specs.declared.record.Record.{Record}
+use Rattle.site_settings.specs.declared.settings.ExternalEntry.{ExternalEntry}
+use Rattle.graph_rules.specs.Kept.{same_attributes, external_node, installed_node, has_kinds, keeps_child, is_child, keeps_origin, keeps_kept}
+use Rattle.graph_rules.proofs.Lists.{In, bytes_eq-same, bytes_eq-itself}
+use Rattle.literal_table.proofs.Spelling.{named-so}
+use Rattle.graph_words.specs.Facts.{Word, Fact, same_variants, has_origin, has_version, has_variants, has_compiler, has_os, has_target, has_prefix, has_edge, node_has, is_in, is_so}
+use Rattle.graph_words.specs.Lists.{◌and◌, given, named, each}
+use Rattle.graph_words.proofs.Rules.{given-kept, named-kept, each-kept}
+use Rattle.graph_words.proofs.Kept.{there}
+use Rattle.graph_formulas.specs.Edges.{no_kinds}
+use Rattle.graph_formulas.specs.Kept.{same_origin, installs, same_rule, kinds_rule, is_child_name, child_rule, recorded_rule, origin_rule, kept_rule}
+use Rattle.graph_formulas.proofs.Directives.{not-or}
+
+-- ---- origins
+
+pub origins-same : (a b : Origin) → same_origin a b ≡ true → a ≡ b
+origins-same Built Built h = refl
+origins-same Built (External place) h = absurd (cc)
+origins-same Built (Installed hash) h = absurd (cc)
+origins-same (External place) Built h = absurd (cc)
+origins-same (External place) (External other) h = ap External (eqb-true place other h)
+origins-same (External place) (Installed hash) h = absurd (cc)
+origins-same (Installed hash) Built h = absurd (cc)
+origins-same (Installed hash) (External place) h = absurd (cc)
+origins-same (Installed hash) (Installed other) h = ap Installed (bytes_eq-same hash other h)
+
+pub origin-itself : (a : Origin) → same_origin a a ≡ true
+origin-itself Built = refl
+origin-itself (External place) = eq-eqb place place refl
+origin-itself (Installed hash) = bytes_eq-itself hash
+
+-- of a list of origins, the one that is this
+all-origins : (f : Origin → Bool) (o : Origin) (os : List Origin) → In o os → list_all (λ a. not (same_origin a o) || f a) os ≡ f o
+all-origins f o [] none = absurd none
+all-origins f o (a ∷ os) there = elim (cases_Bool (same_origin a o)) [
+  | inl same ↦ let is : a ≡ o = origins-same a o same in rw (same, is) (rest f o os)
+  | inr other ↦ rw other (later there other (λ i. all-origins f o os i))
+]
+  where
+    rest : (f : Origin → Bool) (o : Origin) (os : List Origin) → (f o && list_all (λ a. not (same_origin a o) || f a) os) ≡ f o
+    rest f o [] = and-true (f o)
+      where
+        and-true : (a : Bool) → (a && true) ≡ a
+        and-true true = refl
+        and-true false = refl
+    rest f o (b ∷ bs) = elim (cases_Bool (same_origin b o)) [
+      | inl same ↦ let is : b ≡ o = origins-same b o same in rw (same, is) (twice (f o) (list_all (λ a. not (same_origin a o) || f a) bs) (rest f o bs))
+      | inr other ↦ rw other (rest f o bs)
+    ]
+      where
+        twice : (a b : Bool) → (a && b) ≡ a → (a && (a && b)) ≡ a
+        twice true b h = h
+        twice false b h = refl
+
+    later : In o (a ∷ os) → same_origin a o ≡ false → (In o os → list_all (λ a. not (same_origin a o) || f a) os ≡ f o) → list_all (λ a. not (same_origin a o) || f a) os ≡ f o
+    later (inl same) other behind = absurd (let wrong : true ≡ false = sym (origin-itself o) ∙ ap (λ a. same_origin a o) same ∙ other in cc)
+    later (inr there) other behind = behind there
+
+-- ---- kinds
+
+kind-tests : (A b l r kl kr : Bool) → (((A && not ((b && true) && true)) && (not (l && true) || kl)) && (not r || kr)) ≡ (A && ((implies b false && implies l kl) && implies r kr))
+kind-tests false b l r kl kr = refl
+kind-tests true true l r kl kr = refl
+kind-tests true false false false true true = refl
+kind-tests true false false false true false = refl
+kind-tests true false false false false true = refl
+kind-tests true false false false false false = refl
+kind-tests true false false true true true = refl
+kind-tests true false false true true false = refl
+kind-tests true false false true false true = refl
+kind-tests true false false true false false = refl
+kind-tests true false true false true true = refl
+kind-tests true false true false true false = refl
+kind-tests true false true false false true = refl
+kind-tests true false true false false false = refl
+kind-tests true false true true true true = refl
+kind-tests true false true true true false = refl
+kind-tests true false true true false true = refl
+kind-tests true false true true false false = refl
+
+abbrev on : Option Edge → Kinds → Bool
+on o wanted = is_some_and o (λ e. covers e.kinds wanted)
+
+-- ---- the rule
+
+module _ (problem : Problem) (graph : Content) (name : Text) (node : Node) (here : node_of graph name ≡ Some node) (children : List Text)
+    (edges : (test : Edge → Bool) → list_all test (edges_from graph name) ≡ list_all (λ child. if_written (edge_of graph name child) test) children)
+    (child-named : (child : Text) (e : Edge) → edge_of graph name child ≡ Some e → e.child ≡ child) where
+  abbrev in_graph : Rule Word → Bool
+  in_graph rule = keeps_rule (is_in graph) rule
+
+  has : (f : Fact) → is_in graph (node_has name f) ≡ is_so node f
+  has f = there (world_of problem) graph name node here f
+
+  same-kept : (k : Node) → in_graph (same_rule name k) ≡ same_attributes node k
+  unfolding same_attributes
+  same-kept k = rw (
+    given-kept (is_in graph) (bytes_eq name k.name),
+    has (has_version (λ version. bytes_eq version k.version)),
+    has (has_variants k.variants),
+    has (has_compiler (λ compiler. option_eq same_compiler compiler k.compiler)),
+    has (has_os (λ os. bytes_eq os k.os)),
+    has (has_target (λ target. bytes_eq target k.target)),
+    has (has_prefix (λ prefix. option_eq bytes_eq prefix k.prefix)),
+  ) (ap (λ n. bytes_eq n k.name && bytes_eq node.version k.version && same_variants node.variants k.variants
+      && option_eq same_compiler node.compiler k.compiler && bytes_eq node.os k.os && bytes_eq node.target k.target
+      && option_eq bytes_eq node.prefix k.prefix) (sym (named-so graph name node here)))
+
+  kinds-kept : (child : Text) (kinds : Kinds) → in_graph (kinds_rule name child kinds) ≡ is_some_and (edge_of graph name child) (has_kinds kinds)
+  kinds-kept child kinds = rw (given-kept (is_in graph) kinds.link, given-kept (is_in graph) kinds.run) (go (edge_of graph name child))
+    where
+      go : (o : Option Edge) → (((on o (record kinds { build = false }) && not (on o (record no_kinds { build = true })))
+          && (not (on o (record no_kinds { link = true })) || kinds.link)) && (not (on o (record no_kinds { run = true })) || kinds.run))
+          ≡ is_some_and o (has_kinds kinds)
+      go None = refl
+      go (Some e) = kind-tests (covers e.kinds (record kinds { build = false })) e.kinds.build e.kinds.link e.kinds.run kinds.link kinds.run
+
+  child-kept : (d : Text × Kinds) → in_graph (child_rule problem children name d) ≡ keeps_child problem graph name d
+  child-kept d = named-kept (is_in graph) (λ child. fact (node_has child.name (has_origin (installs d.0))) and kinds_rule name child.name d.1)
+      (λ child. is_some_and (node_of graph child.name) (is_installed d.0) && is_some_and (edge_of graph name child.name) (has_kinds d.1))
+      (λ child. ap (λ b. is_some_and (node_of graph child.name) (is_installed d.0) && b) (kinds-kept child.name d.1)) (record_at problem d.0)
+
+  recorded-kept : (entry : Record) → in_graph (each (recorded_rule problem children name entry) children) ≡ list_all (is_child problem entry) (edges_from graph name)
+  recorded-kept entry =
+      each-kept (is_in graph) (recorded_rule problem children name entry) (λ child. if_written (edge_of graph name child) (is_child problem entry))
+      (λ child. go child (edge_of graph name child) (child-named child)) children
+      ∙ sym (edges (is_child problem entry))
+    where
+      go : (child : Text) (o : Option Edge) → ((e : Edge) → o ≡ Some e → e.child ≡ child)
+          → (not (is_some_and o (λ e. covers e.kinds no_kinds)) || in_graph (given (is_child_name problem entry child))) ≡ if_written o (is_child problem entry)
+      go child None named = refl
+      go child (Some e) named = given-kept (is_in graph) (is_child_name problem entry child) ∙ ap (is_child_name problem entry) (sym (named e refl))
+
+  no-edge-kept : in_graph (each (λ child. isnt (fact (has_edge name child no_kinds))) children) ≡ list_all (λ e. false) (edges_from graph name)
+  no-edge-kept =
+      each-kept (is_in graph) (λ child. isnt (fact (has_edge name child no_kinds))) (λ child. if_written (edge_of graph name child) (λ e. false))
+      (λ child. none (edge_of graph name child)) children
+      ∙ sym (edges (λ e. false))
+    where
+      none : (o : Option Edge) → not (is_some_and o (λ e. covers e.kinds no_kinds)) ≡ if_written o (λ e. false)
+      none None = refl
+      none (Some e) = refl
+
+  origin-kept : (origin : Origin) → in_graph (origin_rule problem children name origin) ≡ keeps_origin problem graph node origin
+  origin-kept Built = has (has_prefix is_none)
+  origin-kept (External place) = rw (
+    named-kept (is_in graph) (λ entry. same_rule name (external_node problem name place entry)) (λ entry. same_attributes node (external_node problem name place entry))
+        (λ entry. same-kept (external_node problem name place entry)) (slice_get (externals_in (entry_of problem name)) place),
+    no-edge-kept,
+  ) (ap (λ n. is_some_and (slice_get (externals_in (entry_of problem n)) place) (λ entry. same_attributes node (external_node problem n place entry))
+      && list_all (λ e. false) (edges_from graph n)) (sym (named-so graph name node here)))
+  origin-kept (Installed hash) =
+      named-kept (is_in graph)
+      (λ entry. same_rule name (installed_node entry) and each (child_rule problem children name) (kept_dependencies entry) and each (recorded_rule problem children name entry) children)
+      (λ entry. same_attributes node (installed_node entry) && list_all (keeps_child problem graph name) (kept_dependencies entry) && list_all (is_child problem entry) (edges_from graph name))
+      (λ entry. rw (
+        same-kept (installed_node entry),
+        each-kept (is_in graph) (child_rule problem children name) (keeps_child problem graph name) child-kept (kept_dependencies entry),
+        recorded-kept entry,
+      ) refl) (record_at problem hash)
+      ∙ ap (λ n. is_some_and (record_at problem hash) (λ entry. same_attributes node (installed_node entry)
+      && list_all (keeps_child problem graph n) (kept_dependencies entry) && list_all (is_child problem entry) (edges_from graph n))) (sym (named-so graph name node here))
+
+  pub kept-kept : (origins : List Origin) → In node.origin origins → in_graph (kept_rule problem children origins name) ≡ keeps_kept problem graph node
+  unfolding keeps_kept
+  kept-kept origins there =
+      each-kept (is_in graph) (λ origin. if_so (fact (node_has name (has_origin (same_origin origin)))) (origin_rule problem children name origin))
+      (λ origin. not (same_origin origin node.origin) || keeps_origin problem graph node origin)
+      (λ origin. rw (has (has_origin (same_origin origin)), origin-kept origin) refl) origins
+      ∙ all-origins (keeps_origin problem graph node) node.origin origins there

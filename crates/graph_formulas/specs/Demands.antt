@@ -1,0 +1,22 @@
+-- Each demand as one rule.
+use Rattle.std.specs.Prelude.{ℕ, Bool, ◌==◌, List, filter, slice_get}
+use Rattle.clause_formulas.specs.Rules.{Rule}
+use Rattle.graph_core.specs.Graphs.{Text}
+use Rattle.problem.specs.Problems.{Problem, depends_at, conflicts_at, requirements_at}
+use Rattle.problem.specs.declared.demand.Demand.{Demand}
+use Rattle.problem.specs.declared.demand.Demand.TheVariants as demand
+use Rattle.graph_words.specs.Lists.{◌and◌, written, each}
+use Rattle.graph_formulas.specs.Terms.{Term, known_rule, where_built}
+use Rattle.graph_formulas.specs.Directives.{root_rule, edge_rule, constraint_rule, conflict_rule, requirement_rule}
+
+module _ (problem : Problem) (packages : Text → List Text) where
+  -- the directives with this number
+  abbrev pub directive_rule : ℕ → Text → Rule Term
+  directive_rule number name =
+      each (λ row. edge_rule problem packages name row and constraint_rule problem packages name row) (filter (λ row. row.number == number) (depends_at problem name))
+      and each (conflict_rule problem packages name) (filter (λ row. row.number == number) (conflicts_at problem name))
+      and each (requirement_rule problem packages name) (filter (λ row. row.number == number) (requirements_at problem name))
+
+  abbrev pub demand_rule : Demand → Rule Term
+  demand_rule (demand.Root place) = written (slice_get problem.roots place) (λ spec. known_rule (root_rule problem packages spec))
+  demand_rule (demand.Directive name number) = where_built name (directive_rule number name)

@@ -1,0 +1,100 @@
+-- The rule of kept nodes, and of the prefix of built ones.
+use Rattle.std.specs.Prelude.{Bool, true, false, ◌==◌, List, [], Option, Some, None, is_none, slice_get}
+use Rattle.std.specs.List.{list_any}
+use Rattle.std.specs.Option.{option_eq}
+use Rattle.std.specs.Str.{bytes_eq}
+use Rattle.clause_formulas.specs.Rules.{Rule, fact, isnt, if_so}
+use Rattle.graph_core.specs.Graphs.{Text}
+use Rattle.graph_core.specs.declared.node.Node.{Node}
+use Rattle.graph_core.specs.declared.node.Kinds.{Kinds}
+use Rattle.graph_core.specs.declared.node.Origin.{Origin}
+use Rattle.graph_core.specs.declared.node.Origin.TheVariants.{Built, External, Installed}
+use Rattle.condition_rules.specs.Words.{is_some_and}
+use Rattle.problem.specs.Problems.{Problem, entry_of, externals_in, record_at, same_compiler}
+use Rattle.problem.specs.Records.{kept_dependencies}
+use Rattle.reuse_db.specs.declared.record.Record.{Record}
+use Rattle.graph_rules.specs.Kept.{external_node, installed_node}
+use Rattle.literal_table.specs.Choices.{offered}
+use Rattle.literal_table.specs.Tables.{Table, block_of}
+use Rattle.literal_table.specs.declared.block.Block.{Block}
+use Rattle.graph_words.specs.Facts.{Word, node_has, has_origin, has_version, has_variants, has_compiler, has_os, has_target, has_prefix, has_edge}
+use Rattle.graph_words.specs.Lists.{◌and◌, given, named, each}
+use Rattle.graph_formulas.specs.Edges.{no_kinds}
+
+-- ---- origins
+
+abbrev pub same_origin : Origin → Origin → Bool
+same_origin Built Built = true
+same_origin Built (External place) = false
+same_origin Built (Installed hash) = false
+same_origin (External place) Built = false
+same_origin (External place) (External other) = place == other
+same_origin (External place) (Installed hash) = false
+same_origin (Installed hash) Built = false
+same_origin (Installed hash) (External place) = false
+same_origin (Installed hash) (Installed other) = bytes_eq hash other
+
+abbrev pub installs : Text → Origin → Bool
+installs hash origin = elim origin [ Built ↦ false | External place ↦ false | Installed h ↦ bytes_eq h hash ]
+
+abbrev pub origins_in : Option Block → List Origin
+origins_in None = []
+origins_in (Some b) = offered b.origins
+
+-- the origins that the table offers a name
+abbrev pub origins_of : Table → Text → List Origin
+origins_of table name = origins_in (block_of table name)
+
+-- ---- attributes
+
+-- the node of the name has all attributes of this one but the origin
+abbrev pub same_rule : Text → Node → Rule Word
+same_rule name k =
+    given (bytes_eq name k.name)
+    and fact (node_has name (has_version (λ version. bytes_eq version k.version)))
+    and fact (node_has name (has_variants k.variants))
+    and fact (node_has name (has_compiler (λ compiler. option_eq same_compiler compiler k.compiler)))
+    and fact (node_has name (has_os (λ os. bytes_eq os k.os)))
+    and fact (node_has name (has_target (λ target. bytes_eq target k.target)))
+    and fact (node_has name (has_prefix (λ prefix. option_eq bytes_eq prefix k.prefix)))
+
+-- ---- edges
+
+-- an edge has the kinds link and run alone, as recorded
+abbrev pub kinds_rule : Text → Text → Kinds → Rule Word
+kinds_rule name child kinds =
+    fact (has_edge name child (record kinds { build = false }))
+    and isnt (fact (has_edge name child (record no_kinds { build = true })))
+    and if_so (fact (has_edge name child (record no_kinds { link = true }))) (given kinds.link)
+    and if_so (fact (has_edge name child (record no_kinds { run = true }))) (given kinds.run)
+
+abbrev pub is_child_name : Problem → Record → Text → Bool
+is_child_name problem entry name =
+    list_any (λ d. is_some_and (record_at problem d.0) (λ child. bytes_eq child.name name)) (kept_dependencies entry)
+
+module _ (problem : Problem) (children : List Text) where
+  -- the child is there as the installed node of that hash, with its edge
+  abbrev pub child_rule : Text → (Text × Kinds) → Rule Word
+  child_rule name d =
+      named (record_at problem d.0) (λ child. fact (node_has child.name (has_origin (installs d.0))) and kinds_rule name child.name d.1)
+
+  -- an edge goes to a child of the record
+  abbrev pub recorded_rule : Text → Record → Text → Rule Word
+  recorded_rule name entry child = if_so (fact (has_edge name child no_kinds)) (given (is_child_name problem entry child))
+
+  -- ---- the rule
+
+  abbrev pub origin_rule : Text → Origin → Rule Word
+  origin_rule name Built = fact (node_has name (has_prefix is_none))
+  origin_rule name (External place) =
+      named (slice_get (externals_in (entry_of problem name)) place) (λ entry. same_rule name (external_node problem name place entry))
+      and each (λ child. isnt (fact (has_edge name child no_kinds))) children
+  origin_rule name (Installed hash) =
+      named (record_at problem hash) (λ entry.
+      same_rule name (installed_node entry)
+      and each (child_rule name) (kept_dependencies entry)
+      and each (recorded_rule name entry) children)
+
+  -- where the node has an origin, it is as that origin asks
+  abbrev pub kept_rule : List Origin → Text → Rule Word
+  kept_rule origins name = each (λ origin. if_so (fact (node_has name (has_origin (same_origin origin)))) (origin_rule name origin)) origins

@@ -1,0 +1,4 @@
+-- What is passed on of `variant_values`, so that the crates above need not name it.
+pub use Rattle.variant_values.specs.Texts
+pub use Rattle.variant_values.specs.declared.kind.VariantKind
+pub use Rattle.variant_values.specs.declared.kind.VariantKind.TheVariants as VariantKindVariants

@@ -1,0 +1,7 @@
+use Rattle.std.proofs.Common.{rules}
+use Rattle.std.specs.Str.{bytes_eq}
+use Rattle.graph_core.specs.Graphs.{Text}
+use Rattle.node_formulas.proofs.attributes.target_is.Goals as goal
+
+pub returns : goal.returns
+returns c = c.target_passes.ensures (λ (own : Text). bytes_eq own c.args.text.now) (λ x r says. search rules)

@@ -1,0 +1,9 @@
+use Rattle.std.proofs.Common.{rules}
+use Rattle.graph_core.specs.Graphs.{Text}
+use Rattle.graph_formulas.specs.Built.{compiler_rule}
+use Rattle.word_formulas.specs.Builders.{plain_said}
+use Rattle.node_formulas.specs.Rows.{built_said}
+use Rattle.node_formulas.proofs.built_rows.compiler_row.Goals as goal
+
+pub returns : goal.returns
+returns c = c.each_name.ensures (λ (n : Text). built_said c.args.table.now n (plain_said c.args.table.now (compiler_rule c.args.problem.now n))) (λ x r says. search rules)

@@ -1,0 +1,25 @@
+use Rattle.std.proofs.Common.{ap, ◌∙◌, Option}
+use Rattle.graph_core.specs.Graphs.{Text}
+use Rattle.graph_words.specs.Lists.{named}
+use Rattle.reuse_db.specs.declared.record.Record.{Record}
+use Rattle.word_formulas.specs.Builders.{plain_said}
+use Rattle.word_formulas.proofs.Steps.{ok-same}
+use Rattle.node_formulas.specs.Attributes.{joined_rule, dependency_rule}
+use Rattle.node_formulas.proofs.kept.child_formula.Goals as goal
+
+pub returns-in-Some : goal.returns-in-Some
+returns-in-Some c =
+    let table = c.args.table.now in
+    let name = c.args.name.now in
+    let d = c.args.dependency.now in
+    ok-same c.installed_child.result _ (plain_said table (dependency_rule c.args.problem.now name d))
+    (ap (λ (n : Text). plain_said table (joined_rule name n d)) c.as_str.ensures
+    ∙ ap (λ (o : Option Record). plain_said table (named o (λ child. joined_rule name child.name d))) c.in-Some.ensures)
+    c.installed_child.ensures
+
+pub returns-in-None : goal.returns-in-None
+returns-in-None c =
+    let table = c.args.table.now in
+    let name = c.args.name.now in
+    let d = c.args.dependency.now in
+    c.given.ensures ∙ ap (λ (o : Option Record). plain_said table (named o (λ child. joined_rule name child.name d))) c.in-None.ensures

@@ -1,0 +1,256 @@
+// The rule of kept nodes, origin by origin.
+ghost use Rattle.std.specs.Prelude.{◌≡◌, ◌||◌, ◌++◌, map, filter, is_none, IfOk, OnOk};
+ghost use Rattle.clause_formulas.specs.Rules.{fact, isnt};
+ghost use Rattle.graph_core.specs.declared.node.Origin.TheVariants.{External, Installed};
+ghost use Rattle.problem.specs.Records.{kept_dependencies};
+ghost use Rattle.graph_words.specs.Facts.{has_edge, has_prefix};
+ghost use Rattle.graph_words.specs.Lists.{each};
+ghost use Rattle.graph_formulas.specs.Edges.{no_kinds};
+ghost use Rattle.graph_formulas.specs.Kept.{origin_rule};
+ghost use Rattle.node_formulas.specs.Rows.{only_if};
+ghost use Rattle.node_formulas.specs.Attributes.{joined_rule, dependency_rule, edge_rule, record_rule};
+ghost use Rattle.word_formulas.specs.Builders.{node_said, plain_said};
+
+use crate::attributes::same_record;
+use crate::children::{is_child_name, is_kept, record_at};
+use crate::externals::listed_external;
+use crate::kinds::{kinds_formula, no_kinds, only_recorded};
+use crate::origins::installs;
+use clause_formulas::Formula;
+use graph_core::{Kinds, Origin};
+use literal_table::LiteralTable;
+use plain_data::Word;
+use problem::Problem;
+use reuse_db::Record;
+use spec_hash::Hash;
+use std::alloc::{AllocError, Global};
+use word_formulas::{each, given, has_edge, origin_passes, prefix_passes};
+
+// ---- installed nodes
+
+// The child is there as the installed node of that hash, with its edge.
+fn installed_child(
+    alloc: Global,
+    table: &LiteralTable,
+    name: &str,
+    child: &str,
+    dependency: &(Hash, Kinds),
+) -> Result<Formula, AllocError>
+    ensures { IfOk result (λ formula. formula
+        ≡ plain_said table.now (joined_rule name.now child.now dependency.now)) }
+{
+    let hash = &dependency.0;
+    let installed = origin_passes(alloc, table, child, |origin| installs(hash, origin))?;
+    let kinds = kinds_formula(alloc, table, name, child, dependency.1)?;
+    Formula::both(alloc, installed, kinds)
+}
+
+fn child_formula(
+    alloc: Global,
+    problem: &Problem,
+    table: &LiteralTable,
+    name: &str,
+    dependency: &(Hash, Kinds),
+) -> Result<Formula, AllocError>
+    ensures { IfOk result (λ formula. formula
+        ≡ plain_said table.now (dependency_rule problem.now name.now dependency.now)) }
+{
+    match record_at(problem, &dependency.0) {
+        Some(child) => installed_child(alloc, table, name, child.name.as_str(), dependency),
+        None => Ok(given(alloc, false)),
+    }
+}
+
+fn push_dependency(
+    alloc: Global,
+    parts: &mut Vec<Formula>,
+    problem: &Problem,
+    table: &LiteralTable,
+    name: &str,
+    dependency: &(Hash, Kinds),
+) -> Result<(), AllocError>
+    ensures { OnOk result (parts.new.items ≡ parts.old.items
+        ++ only_if (dependency.now.1.link || dependency.now.1.run)
+        (plain_said table.now (dependency_rule problem.now name.now dependency.now))) }
+{
+    if !is_kept(dependency.1) {
+        return Ok(());
+    }
+    parts.push(child_formula(alloc, problem, table, name, dependency)?)?;
+    Ok(())
+}
+
+fn dependency_parts(
+    alloc: Global,
+    problem: &Problem,
+    table: &LiteralTable,
+    name: &str,
+    dependencies: &[(Hash, Kinds)],
+) -> Result<Vec<Formula>, AllocError>
+    ensures { IfOk result (λ parts. parts.items
+        ≡ map (λ d. plain_said table.now (dependency_rule problem.now name.now d))
+        (filter (λ d. d.1.link || d.1.run) dependencies.now)) }
+{
+    let mut parts = Vec::new(alloc);
+    for dependency in dependencies {
+        push_dependency(alloc, &mut parts, problem, table, name, dependency)?;
+    }
+    Ok(parts)
+}
+
+fn dependencies_formula(
+    alloc: Global,
+    problem: &Problem,
+    table: &LiteralTable,
+    name: &str,
+    entry: &Record,
+) -> Result<Formula, AllocError>
+    ensures { IfOk result (λ formula. formula ≡ plain_said table.now
+        (each (dependency_rule problem.now name.now) (kept_dependencies entry.now))) }
+{
+    let dependencies = entry.dependencies.as_slice();
+    let parts = dependency_parts(alloc, problem, table, name, dependencies)?;
+    Formula::all(alloc, parts)
+}
+
+// An edge goes to a child of the record.
+fn recorded_formula(
+    alloc: Global,
+    problem: &Problem,
+    table: &LiteralTable,
+    name: &str,
+    entry: &Record,
+    child: &Word,
+) -> Result<Formula, AllocError>
+    ensures { IfOk result (λ formula. formula ≡ plain_said table.now
+        (edge_rule problem.now name.now entry.now child.now)) }
+{
+    let child = child.as_str();
+    let recorded = is_child_name(problem, entry, child);
+    only_recorded(alloc, table, name, child, &no_kinds(), recorded)
+}
+
+fn recorded_edges(
+    alloc: Global,
+    problem: &Problem,
+    table: &LiteralTable,
+    children: &[Word],
+    name: &str,
+    entry: &Record,
+) -> Result<Formula, AllocError>
+    ensures { IfOk result (λ formula. formula ≡ plain_said table.now
+        (each (edge_rule problem.now name.now entry.now) children.now)) }
+{
+    each(alloc, children, |child| {
+        recorded_formula(alloc, problem, table, name, entry, child)
+    })
+}
+
+fn record_formula(
+    alloc: Global,
+    problem: &Problem,
+    table: &LiteralTable,
+    children: &[Word],
+    name: &str,
+    entry: &Record,
+) -> Result<Formula, AllocError>
+    ensures { IfOk result (λ formula. formula ≡ plain_said table.now
+        (record_rule problem.now children.now name.now entry.now)) }
+{
+    let same = same_record(alloc, table, name, entry)?;
+    let dependencies = dependencies_formula(alloc, problem, table, name, entry)?;
+    let first = Formula::both(alloc, same, dependencies)?;
+    let edges = recorded_edges(alloc, problem, table, children, name, entry)?;
+    Formula::both(alloc, first, edges)
+}
+
+fn installed_formula(
+    alloc: Global,
+    problem: &Problem,
+    table: &LiteralTable,
+    children: &[Word],
+    name: &Word,
+    hash: &Hash,
+) -> Result<Formula, AllocError>
+    ensures { IfOk result (λ formula. formula ≡ plain_said table.now
+        (origin_rule problem.now children.now name.now (Installed hash.now))) }
+{
+    match record_at(problem, hash) {
+        Some(entry) => record_formula(alloc, problem, table, children, name.as_str(), entry),
+        None => Ok(given(alloc, false)),
+    }
+}
+
+// ---- externals
+
+fn no_edge(
+    alloc: Global,
+    table: &LiteralTable,
+    name: &str,
+    child: &Word,
+) -> Result<Formula, AllocError>
+    ensures { IfOk result (λ formula. formula
+        ≡ plain_said table.now (isnt (fact (has_edge name.now child.now no_kinds)))) }
+{
+    let edge = has_edge(alloc, table, name, child.as_str(), &no_kinds())?;
+    Ok(edge.negated())
+}
+
+fn no_edges(
+    alloc: Global,
+    table: &LiteralTable,
+    children: &[Word],
+    name: &str,
+) -> Result<Formula, AllocError>
+    ensures { IfOk result (λ formula. formula ≡ plain_said table.now
+        (each (λ child. isnt (fact (has_edge name.now child no_kinds))) children.now)) }
+{
+    each(alloc, children, |child| no_edge(alloc, table, name, child))
+}
+
+fn external_formula(
+    alloc: Global,
+    problem: &Problem,
+    table: &LiteralTable,
+    children: &[Word],
+    name: &Word,
+    place: u64,
+) -> Result<Formula, AllocError>
+    ensures { IfOk result (λ formula. formula ≡ plain_said table.now
+        (origin_rule problem.now children.now name.now (External place))) }
+{
+    let listed = listed_external(alloc, problem, table, name, place)?;
+    let alone = no_edges(alloc, table, children, name.as_str())?;
+    Formula::both(alloc, listed, alone)
+}
+
+// ---- all
+
+fn no_prefix(alloc: Global, table: &LiteralTable, name: &str) -> Result<Formula, AllocError>
+    ensures { IfOk result (λ formula. formula ≡ node_said table.now name.now (has_prefix is_none)) }
+{
+    prefix_passes(alloc, table, name, |prefix| prefix.is_none())
+}
+
+/// What an origin asks of the node of the name, to whose children edges may go.
+pub(crate) fn origin_formula(
+    alloc: Global,
+    problem: &Problem,
+    table: &LiteralTable,
+    children: &[Word],
+    name: &Word,
+    origin: &Origin,
+) -> Result<Formula, AllocError>
+    ensures { IfOk result (λ formula. formula ≡ plain_said table.now
+        (origin_rule problem.now children.now name.now origin.now)) }
+{
+    match origin {
+        Origin::Built => no_prefix(alloc, table, name.as_str()),
+        Origin::External(place) => {
+            external_formula(alloc, problem, table, children, name, *place)
+        }
+        Origin::Installed(hash) => {
+            installed_formula(alloc, problem, table, children, name, hash)
+        }
+    }
+}

@@ -1,0 +1,138 @@
+// The formula of the variants of a node: just these, each with its values.
+ghost use Rattle.std.specs.Prelude.{◌≡◌, ◌++◌, [], IfOk, OnOk};
+ghost use Rattle.graph_words.specs.Facts.{fact_said, has_variants, just_parts, some_parts, variant_parts};
+ghost use Rattle.word_formulas.specs.Builders.{node_said};
+
+use clause_formulas::Formula;
+use clause_store::Lit;
+use literal_table::{Block, LiteralTable};
+use plain_data::{List, Word};
+use std::alloc::{AllocError, Global};
+use variant_values::ValueSet;
+use word_formulas::given;
+
+// Where a value is left that is not offered, never.
+fn push_rest(alloc: Global, parts: &mut Vec<Formula>, values: &[Word]) -> Result<(), AllocError>
+    ensures { OnOk result (parts.new.items ≡ parts.old.items ++ just_parts [] values.now) }
+{
+    if !values.is_empty() {
+        parts.push(Formula::any(Vec::new(alloc)))?;
+    }
+    Ok(())
+}
+
+// Just these values are chosen, in this order.
+fn push_just(
+    alloc: Global,
+    parts: &mut Vec<Formula>,
+    choices: &[(Word, Lit)],
+    values: &[Word],
+) -> Result<(), AllocError>
+    ensures { OnOk result (parts.new.items ≡ parts.old.items ++ just_parts choices.now values.now) }
+{
+    let Some((choice, choices)) = choices.split_first() else {
+        return push_rest(alloc, parts, values);
+    };
+    let Some((value, rest)) = values.split_first() else {
+        parts.push(Formula::lit(choice.1.negated()))?;
+        return push_just(alloc, parts, choices, values);
+    };
+    if choice.0.as_str() == value.as_str() {
+        parts.push(Formula::lit(choice.1))?;
+        return push_just(alloc, parts, choices, rest);
+    }
+    parts.push(Formula::lit(choice.1.negated()))?;
+    push_just(alloc, parts, choices, values)
+}
+
+// There are values.
+fn push_some(alloc: Global, parts: &mut Vec<Formula>, values: &[Word]) -> Result<(), AllocError>
+    ensures { OnOk result (parts.new.items ≡ parts.old.items ++ some_parts values.now) }
+{
+    if values.is_empty() {
+        parts.push(Formula::any(Vec::new(alloc)))?;
+    }
+    Ok(())
+}
+
+// Where a variant is left that is not offered, never.
+fn push_left(
+    alloc: Global,
+    parts: &mut Vec<Formula>,
+    variants: &[(Word, ValueSet)],
+) -> Result<(), AllocError>
+    ensures { OnOk result (parts.new.items ≡ parts.old.items ++ variant_parts [] variants.now) }
+{
+    if !variants.is_empty() {
+        parts.push(Formula::any(Vec::new(alloc)))?;
+    }
+    Ok(())
+}
+
+// The variant has just these values, of which there are some.
+fn push_same(
+    alloc: Global,
+    parts: &mut Vec<Formula>,
+    choices: &[(Word, Lit)],
+    values: &[Word],
+) -> Result<(), AllocError>
+    ensures { OnOk result (parts.new.items ≡ parts.old.items
+        ++ (some_parts values.now ++ just_parts choices.now values.now)) }
+{
+    push_some(alloc, parts, values)?;
+    push_just(alloc, parts, choices, values)
+}
+
+// Just these variants are chosen, each with its values.
+fn push_variants(
+    alloc: Global,
+    parts: &mut Vec<Formula>,
+    offered: &[(Word, List<(Word, Lit)>)],
+    variants: &[(Word, ValueSet)],
+) -> Result<(), AllocError>
+    ensures { OnOk result (parts.new.items ≡ parts.old.items
+        ++ variant_parts offered.now variants.now) }
+{
+    let Some((offer, offered)) = offered.split_first() else {
+        return push_left(alloc, parts, variants);
+    };
+    let Some((variant, rest)) = variants.split_first() else {
+        push_just(alloc, parts, offer.1.as_slice(), &[])?;
+        return push_variants(alloc, parts, offered, variants);
+    };
+    if offer.0.as_str() == variant.0.as_str() {
+        push_same(alloc, parts, offer.1.as_slice(), variant.1.values())?;
+        return push_variants(alloc, parts, offered, rest);
+    }
+    push_just(alloc, parts, offer.1.as_slice(), &[])?;
+    push_variants(alloc, parts, offered, variants)
+}
+
+fn variants_in(
+    alloc: Global,
+    block: &Block,
+    variants: &[(Word, ValueSet)],
+) -> Result<Formula, AllocError>
+    ensures { IfOk result (λ formula. formula ≡ fact_said block.now (has_variants variants.now)) }
+{
+    let mut parts = Vec::new(alloc);
+    parts.push(Formula::lit(block.present))?;
+    push_variants(alloc, &mut parts, block.variants.as_slice(), variants)?;
+    Formula::all(alloc, parts)
+}
+
+/// The node of the name has just these variants, each with its values.
+pub(crate) fn has_variants(
+    alloc: Global,
+    table: &LiteralTable,
+    name: &str,
+    variants: &[(Word, ValueSet)],
+) -> Result<Formula, AllocError>
+    ensures { IfOk result (λ formula. formula
+        ≡ node_said table.now name.now (has_variants variants.now)) }
+{
+    match table.block(name) {
+        Some(block) => variants_in(alloc, block, variants),
+        None => Ok(given(alloc, false)),
+    }
+}

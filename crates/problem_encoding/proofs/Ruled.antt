@@ -1,0 +1,52 @@
+-- The clauses of the rules are those of the closure.
+use Rattle.std.proofs.Common.{◌≡◌, refl, sym, ap, subst, ◌∙◌, ℕ, Bool, true, List, Option, Some, None}
+use Rattle.std.proofs.lemmas.Option.{none-some}
+use Rattle.clause_store.specs.Clauses.{Clauses}
+use Rattle.clause_formulas.specs.declared.defined.Defined.{Defined}
+use Rattle.graph_core.specs.Graphs.{Text, Content}
+use Rattle.problem.specs.Problems.{Problem}
+use Rattle.problem.specs.Closure.{IsClosure}
+use Rattle.literal_table.specs.Tables.{Table}
+use Rattle.problem_formulas.specs.OfGraphEncoding.Formulas.{Formulas}
+use Rattle.problem_formulas.specs.OfGraphEncoding.Encodings.{encode_on, told_in}
+use Rattle.problem_formulas.specs.OfGraphEncoding.Best.{values_for}
+use Rattle.problem_formulas.specs.OfGraphClauses.Ranges.{AreInRange}
+use Rattle.problem_formulas.specs.OfGraphClauses.ProblemClauses.{ProblemClauses}
+use Rattle.problem_formulas.proofs.OfGraphClauses.CallSteps.{ranges_of}
+use Rattle.problem_formulas.specs.OfGraphDecoding.Decoding.{decode}
+use Rattle.ranked_costs.specs.OfClosureEncoding.Kept.{have_values}
+use Rattle.ranked_costs.specs.OfClosureEncoding.Tables.{table_for, size_for}
+use Rattle.ranked_costs.specs.OfClosureEncoding.Targets.{conditions_of, targets_of}
+use Rattle.ranked_costs.specs.OfClosureEncoding.Joined.{IsPlaced, holds_at}
+use Rattle.ranked_costs.specs.OfClosureEncoding.Closures.{closure_formulas, ClosureIsRight}
+use Rattle.problem_formulas.specs.Given.{no_place, formulas_given}
+use Rattle.problem_encoding.specs.Encodings.{IsRuled}
+
+module _ (problem : Problem) (names : List Text) (closure : IsClosure problem names) (has : have_values problem names ≡ true) (right : ClosureIsRight) where
+  placed : IsPlaced (conditions_of problem (table_for problem names)) no_place
+  placed name when k e = absurd (none-some k e)
+
+  -- the formulas are over the variables of the table
+  pub in-range : (t : Table) (n : ℕ) → t ≡ table_for problem names → n ≡ size_for problem names → AreInRange t n (formulas_given problem t)
+  in-range t n e s =
+      let b = right problem names no_place closure has placed in
+      let direct : AreInRange (table_for problem names) (size_for problem names) (formulas_given problem (table_for problem names)) =
+      ranges_of problem (table_for problem names) (size_for problem names) (closure_formulas problem names no_place)
+      (λ v. decode v (table_for problem names)) (told_in (table_for problem names) (targets_of problem (table_for problem names)))
+      (holds_at problem (conditions_of problem (table_for problem names))) b.0 b.1 in
+      subst (λ u. AreInRange u n (formulas_given problem u)) (sym e)
+      (subst (λ m. AreInRange (table_for problem names) m (formulas_given problem (table_for problem names))) (sym s) direct)
+
+  pub ruled : (t : Table) (n : ℕ) (targets : List Text) (made : ProblemClauses) → t ≡ table_for problem names → n ≡ size_for problem names
+      → targets ≡ targets_of problem t → encode_on problem t n (formulas_given problem t) targets ≡ made.list
+      → made.values ≡ values_for problem t n (formulas_given problem t) targets → IsRuled problem t made
+  ruled t n targets made e s w built values = record {
+    names = names;
+    place = no_place;
+    closure = closure;
+    has = has;
+    placed = placed;
+    is_table = e;
+    clauses = sym built ∙ (λ i. encode_on problem (e i) (s i) (formulas_given problem (e i)) ((w ∙ ap (targets_of problem) e) i));
+    values = values ∙ (λ i. values_for problem (e i) (s i) (formulas_given problem (e i)) ((w ∙ ap (targets_of problem) e) i));
+  }

@@ -1,0 +1,2 @@
+pub mod RowsSame
+pub mod OfGraphClauses

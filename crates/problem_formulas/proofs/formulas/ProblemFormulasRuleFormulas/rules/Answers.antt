@@ -1,0 +1,19 @@
+use Rattle.std.proofs.Common.{ap, sym}
+use Rattle.clause_formulas.specs.Drafts.{value_at}
+use Rattle.clause_formulas.specs.Statements.{all_of}
+use Rattle.problem_conditions.specs.OfRightRules.Joined.{condition_said}
+use Rattle.rule_formulas.proofs.OfWordFormulas.Steps.{ok-same}
+use Rattle.problem_conditions.specs.OfPathFormulas.Paths.{path_by}
+use Rattle.problem_formulas.specs.Given.{formulas_given}
+use Rattle.problem_formulas.specs.Rows.{rows_said}
+use Rattle.problem_formulas.proofs.RowsSame.{rows-same}
+use Rattle.problem_formulas.proofs.formulas.ProblemFormulasRuleFormulas.rules.Goals as goal
+
+pub returns : goal.returns
+returns c =
+    let table = c.args.table.now in
+    let problem = c.args.self.now.problem.now in
+    let path = path_by table c.args.paths.now in
+    let condition = condition_said problem table path in
+    ok-same c.all_rules.result (all_of (rows_said problem table condition)) ((formulas_given problem table).rules path (value_at c.args._values.now))
+    (sym (ap all_of (rows-same path condition table problem))) c.all_rules.ensures

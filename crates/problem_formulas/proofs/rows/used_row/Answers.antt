@@ -1,0 +1,14 @@
+use Rattle.std.proofs.Common.{rules}
+use Rattle.graph_core.specs.Graphs.{Text}
+use Rattle.graph_words.specs.Words.{names_for}
+use Rattle.rule_formulas.specs.OfGraphFormulas.Edges.{used_rule, of_provider}
+use Rattle.rule_formulas.specs.OfGraphFormulas.Laws.{names_of}
+use Rattle.rule_formulas.specs.Terms.{plain_term}
+use Rattle.problem_formulas.proofs.rows.used_row.Goals as goal
+
+pub returns : goal.returns
+returns g c =
+    let table = c.args.table.now in
+    let problem = c.args.problem.now in
+    let condition = g.C.MetConditions.condition_of c.args.conditions.now in
+    c.each_virtual.ensures (λ (name : Text). plain_term table condition (of_provider (names_for table) (used_rule problem (names_of table)) name)) (λ x r says. search rules)

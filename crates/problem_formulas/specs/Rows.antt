@@ -1,0 +1,41 @@
+-- The rows of rules, as they are built.
+use Rattle.std.specs.Prelude.{List, [], ◌∷◌, ◌++◌, map}
+use Rattle.clause_formulas.specs.Statements.{Statement, all_of}
+use Rattle.graph_core.specs.Graphs.{Text}
+use Rattle.conditions.specs.declared.recipe.Condition.{Condition}
+use Rattle.problem.specs.Problems.{Problem}
+use Rattle.literal_table.specs.Tables.{Table}
+use Rattle.graph_words.specs.Words.{names_for}
+use Rattle.rule_formulas.specs.OfGraphFormulas.Terms.{where_built}
+use Rattle.rule_formulas.specs.OfGraphFormulas.Built.{buildable_rule, version_rule, compiler_rule, machine_rule, provider_rule}
+use Rattle.rule_formulas.specs.OfGraphFormulas.Edges.{extra_edges_rule, used_rule, of_provider}
+use Rattle.rule_formulas.specs.OfGraphFormulas.Variants.{variants_rule}
+use Rattle.rule_formulas.specs.OfGraphFormulas.Kept.{kept_rule, origins_of}
+use Rattle.rule_formulas.specs.OfGraphFormulas.Laws.{names_of, virtuals_of, children_of, variants_of}
+use Rattle.rule_formulas.specs.OfWordFormulas.Builders.{plain_said}
+use Rattle.node_formulas.specs.Rows.{built_row, there_row, provided_row}
+use Rattle.rule_formulas.specs.Terms.{plain_term}
+
+module _ (problem : Problem) (t : Table) (condition : Text → Condition → Statement) where
+  abbrev pub variant_row : Statement
+  variant_row = all_of (map (λ name. plain_term t condition (where_built name (variants_rule problem (variants_of t name) name))) (names_of t))
+
+  abbrev pub extra_row : Statement
+  extra_row = all_of (map (λ name. plain_term t condition (where_built name (extra_edges_rule problem (names_for t) (children_of t name) name))) (names_of t))
+
+  abbrev pub used_row : Statement
+  used_row = all_of (map (λ name. plain_term t condition (of_provider (names_for t) (used_rule problem (names_of t)) name)) (virtuals_of t))
+
+  abbrev pub first_rows : List Statement
+  first_rows = built_row t (λ name. plain_said t (buildable_rule problem name)) ∷ built_row t (λ name. plain_said t (version_rule problem name)) ∷ variant_row ∷ []
+
+  abbrev pub more_rows : List Statement
+  more_rows = built_row t (λ name. plain_said t (compiler_rule problem name)) ∷ built_row t (λ name. plain_said t (machine_rule problem name)) ∷ extra_row ∷ []
+
+  abbrev pub last_rows : List Statement
+  last_rows =
+      there_row t (λ name. plain_said t (kept_rule problem (children_of t name) (origins_of t name) name))
+      ∷ provided_row t (λ p. plain_said t (provider_rule problem p)) ∷ used_row ∷ []
+
+  abbrev pub rows_said : List Statement
+  rows_said = first_rows ++ (more_rows ++ last_rows)

@@ -1,0 +1,99 @@
+//! Rows of rules over conditions, at all names of a table.
+ghost use Rattle.std.specs.Prelude.{◌≡◌, IfOk};
+ghost use Rattle.rule_formulas.specs.OfGraphFormulas.Variants.{variants_rule};
+ghost use Rattle.rule_formulas.specs.OfGraphFormulas.Edges.{extra_edges_rule};
+ghost use Rattle.rule_formulas.specs.OfGraphFormulas.Laws.{children_of, variants_of};
+ghost use Rattle.rule_formulas.specs.OfGraphFormulas.Terms.{where_built};
+ghost use Rattle.graph_words.specs.Words.{names_for};
+ghost use Rattle.rule_formulas.specs.Terms.{plain_term};
+ghost use Rattle.problem_formulas.specs.Rows.{variant_row, extra_row, used_row};
+
+use clause_formulas::Formula;
+use literal_table::LiteralTable;
+use node_formulas::{each_name, each_virtual};
+use plain_data::Word;
+use problem::Problem;
+use rule_formulas::{
+    MetConditions, extra_edges_formula, used_formula, variants_formula, where_built,
+};
+use std::alloc::{AllocError, Global};
+
+fn variants_at<C: MetConditions>(
+    alloc: Global,
+    problem: &Problem,
+    table: &LiteralTable,
+    conditions: &C,
+    name: &Word,
+) -> Result<Formula, AllocError>
+    ensures { IfOk result (λ formula. formula ≡ plain_term table.now (C.condition_of conditions.now)
+        (where_built name.now (variants_rule problem.now (variants_of table.now name.now) name.now))) }
+{
+    let rule = variants_formula(alloc, problem, table, conditions, name.as_str())?;
+    where_built(alloc, table, name.as_str(), rule)
+}
+
+/// The variants of all nodes to build.
+pub(crate) fn variant_row<C: MetConditions>(
+    alloc: Global,
+    problem: &Problem,
+    table: &LiteralTable,
+    conditions: &C,
+) -> Result<Formula, AllocError>
+    ensures { IfOk result (λ formula. formula
+        ≡ variant_row problem.now table.now (C.condition_of conditions.now)) }
+{
+    each_name(
+        alloc,
+        table,
+        |name| variants_at(alloc, problem, table, conditions, name),
+    )
+}
+
+fn extra_at<C: MetConditions>(
+    alloc: Global,
+    problem: &Problem,
+    table: &LiteralTable,
+    conditions: &C,
+    name: &Word,
+) -> Result<Formula, AllocError>
+    ensures { IfOk result (λ formula. formula ≡ plain_term table.now (C.condition_of conditions.now)
+        (where_built name.now (extra_edges_rule problem.now (names_for table.now)
+        (children_of table.now name.now) name.now))) }
+{
+    let rule = extra_edges_formula(alloc, problem, table, conditions, name.as_str())?;
+    where_built(alloc, table, name.as_str(), rule)
+}
+
+/// The edges of all nodes to build.
+pub(crate) fn extra_row<C: MetConditions>(
+    alloc: Global,
+    problem: &Problem,
+    table: &LiteralTable,
+    conditions: &C,
+) -> Result<Formula, AllocError>
+    ensures { IfOk result (λ formula. formula
+        ≡ extra_row problem.now table.now (C.condition_of conditions.now)) }
+{
+    each_name(
+        alloc,
+        table,
+        |name| extra_at(alloc, problem, table, conditions, name),
+    )
+}
+
+/// The providers of all virtuals.
+pub(crate) fn used_row<C: MetConditions>(
+    alloc: Global,
+    problem: &Problem,
+    table: &LiteralTable,
+    conditions: &C,
+) -> Result<Formula, AllocError>
+    ensures { IfOk result (λ formula. formula
+        ≡ used_row problem.now table.now (C.condition_of conditions.now)) }
+{
+    each_virtual(
+        alloc,
+        table,
+        |name| used_formula(alloc, problem, table, conditions, name),
+    )
+}

@@ -1,0 +1,37 @@
+-- The totals of the lists that were built are those of the costs.
+use Rattle.std.proofs.Common.{◌≡◌, sym, ap, subst, ◌∙◌, ℕ, List}
+use Rattle.clause_store.specs.declared.Lit.{Lit}
+use Rattle.clause_store.specs.Clauses.{Clauses}
+use Rattle.clause_formulas.specs.declared.defined.Defined.{Defined}
+use Rattle.clause_formulas.specs.Drafts.{value_at}
+use Rattle.graph_core.specs.Graphs.{Text}
+use Rattle.problem.specs.Problems.{Problem}
+use Rattle.criteria_totals.specs.Spellings.{AllSmall}
+use Rattle.literal_table.specs.Tables.{Table}
+use Rattle.closure_encoding.specs.OfGraphEncoding.Formulas.{MetBelow}
+use Rattle.formula_totals.specs.declared.weighted.Weighted.{Weighted}
+use Rattle.formula_totals.specs.Weighed.{AllWeighedBelow, AreTotals, tops_said}
+use Rattle.cost_terms.specs.Ranges.{IsTableBelow}
+use Rattle.cost_terms.specs.Sums.{cost_terms}
+use Rattle.cost_terms.proofs.Ranges.{costs-below}
+use Rattle.cost_bits.specs.Least.{AreCostBits}
+use Rattle.graph_terms.specs.Held.{HeldRow, held_in}
+use Rattle.ranked_costs.specs.Given.{held_for}
+use Rattle.ranked_costs.proofs.Ranges.{held-below}
+
+module _ (problem : Problem) (t : Table) (values : List Defined) (order : List Text) (rows given : List HeldRow) (lists items : List (List Weighted))
+    (made : rows ≡ held_for problem t values) (seen : given ≡ rows) (built : lists ≡ cost_terms problem t (held_in given) order) (taken : items ≡ lists) where
+  items-are : items ≡ cost_terms problem t (held_in (held_for problem t values)) order
+  items-are = taken ∙ built ∙ ap (λ held. cost_terms problem t (held_in held) order) (seen ∙ made)
+
+  pub items-below : (n : ℕ) → IsTableBelow n t → MetBelow n (value_at values) → AllWeighedBelow n items
+  items-below n table below =
+      subst (AllWeighedBelow n) (sym items-are)
+      (costs-below n problem t (held_in (held_for problem t values)) table (held-below n problem t values below) order)
+
+  pub are-cost-bits : (old new : Clauses) (bits : List Lit) (tops : List ℕ) (tried : List (List Weighted)) → tried ≡ lists → AllSmall (tops_said tried)
+      → AreTotals old new bits tops items → AreCostBits old new bits tops problem t (held_in (held_for problem t values)) order
+  are-cost-bits old new bits tops tried same small totals = record {
+    totals = subst (AreTotals old new bits tops) items-are totals;
+    small = subst (λ ls. AllSmall (tops_said ls)) (same ∙ sym taken ∙ items-are) small;
+  }

@@ -1,0 +1,7 @@
+-- what public contracts say
+pub mod Given
+pub mod Ranked
+pub mod OfClosureEncoding
+pub mod OfGraphTerms
+pub mod OfCostBits
+pub mod OfCostTerms

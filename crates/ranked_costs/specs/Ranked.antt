@@ -1,0 +1,61 @@
+-- The clauses of a closure, with the bits of costs behind them.
+use Rattle.std.specs.Prelude.{◌≡◌, ℕ, Bool, true, List, map}
+use Rattle.std.specs.List.Sorted.{IsPermutation}
+use Rattle.clause_store.specs.declared.Lit.{Lit}
+use Rattle.clause_store.specs.Clauses.{Clauses, Meets}
+use Rattle.clause_formulas.specs.declared.defined.Defined.{Defined}
+use Rattle.clause_formulas.specs.Drafts.{value_at}
+use Rattle.graph_core.specs.Graphs.{Text}
+use Rattle.problem.specs.Problems.{Problem}
+use Rattle.problem.specs.Closure.{IsClosure}
+use Rattle.graph_costs.specs.Costs.{vector}
+use Rattle.graph_costs.specs.Optimal.{IsOptimal, HasNoGraph}
+use Rattle.literal_table.specs.Tables.{Table, name_of}
+use Rattle.encoding_stages.specs.Bits.{IsLeastModel}
+use Rattle.closure_encoding.specs.OfRightTables.Kept.{have_values}
+use Rattle.closure_encoding.specs.OfRightTables.Decoding.{decode}
+use Rattle.closure_encoding.specs.OfGraphEncoding.Formulas.{MetBelow}
+use Rattle.closure_encoding.specs.OfGraphEncoding.Encodings.{IsValid}
+use Rattle.closure_encoding.specs.OfGraphEncoding.Best.{values_for, RanksGraphs}
+use Rattle.closure_encoding.specs.OfRightTables.Tables.{table_for, size_for}
+use Rattle.closure_encoding.specs.OfRightRules.Targets.{conditions_of, targets_of}
+use Rattle.closure_encoding.specs.OfRightRules.Joined.{Places, IsPlaced}
+use Rattle.closure_encoding.specs.Closures.{closure_formulas, closure_clauses}
+use Rattle.cost_terms.specs.Ranges.{IsTableBelow}
+use Rattle.cost_bits.specs.Least.{AreCostBits}
+use Rattle.graph_terms.specs.Held.{held_in}
+use Rattle.ranked_costs.specs.Given.{held_for}
+
+-- what is defined for the conditions of all directives
+abbrev pub closure_values : Problem → List Text → Places → List Defined
+closure_values problem names place =
+    values_for problem (table_for problem names) (size_for problem names) (closure_formulas problem names place)
+    (targets_of problem (table_for problem names))
+
+-- the variables of the table and of these values are among those of the clauses
+abbrev pub ClosureInRange : Type 0
+ClosureInRange = (problem : Problem) (names : List Text) (place : Places) → IsClosure problem names → have_values problem names ≡ true
+    → IsPlaced (conditions_of problem (table_for problem names)) place
+    → IsTableBelow (closure_clauses problem names place).vars (table_for problem names)
+    × MetBelow (closure_clauses problem names place).vars (value_at (closure_values problem names place))
+
+-- the bits of costs rank the valid graphs by their cost vectors, whatever the order of the names
+abbrev pub ClosureCosts : Type 0
+ClosureCosts = (problem : Problem) (names : List Text) (place : Places) (new : Clauses) (bits : List Lit) (tops : List ℕ) (order : List Text)
+    → IsClosure problem names → have_values problem names ≡ true → IsPlaced (conditions_of problem (table_for problem names)) place
+    → IsPermutation (map name_of (table_for problem names).blocks) order
+    → AreCostBits (closure_clauses problem names place) new bits tops problem (table_for problem names)
+    (held_in (held_for problem (table_for problem names) (closure_values problem names place))) order
+    → RanksGraphs new (λ v. decode v (table_for problem names)) (IsValid problem) bits (vector problem)
+
+-- a model of all clauses with the least bits decodes to an optimal graph
+abbrev pub LeastIsOptimal : Type 0
+LeastIsOptimal = (problem : Problem) (t : Table) (new : Clauses) (bits : List Lit)
+    → RanksGraphs new (λ v. decode v t) (IsValid problem) bits (vector problem)
+    → (v : ℕ → Bool) → Meets (λ d. true) v new.entries → IsLeastModel new bits (λ d. true) v → IsOptimal problem (decode v t)
+
+-- where no assignment meets all clauses, no graph is valid
+abbrev pub NoModelNoGraph : Type 0
+NoModelNoGraph = (problem : Problem) (t : Table) (new : Clauses) (bits : List Lit)
+    → RanksGraphs new (λ v. decode v t) (IsValid problem) bits (vector problem)
+    → ((v : ℕ → Bool) → Meets (λ d. true) v new.entries → ⊥) → HasNoGraph problem

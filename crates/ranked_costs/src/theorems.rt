@@ -1,0 +1,22 @@
+//! What holds of the bits of costs behind the clauses of a closure.
+ghost use Rattle.ranked_costs.specs.Ranked.{ClosureInRange, ClosureCosts, LeastIsOptimal, NoModelNoGraph};
+
+use closure_encoding::closure_laws;
+use graph_rules::valid_laws;
+
+/// Behind the clauses of a closure, what `rank_costs` asks for holds, and its bits rank the graphs by
+/// their cost vectors.
+pub fn costs_laws()
+    ensures range { ClosureInRange }
+    ensures ranks { ClosureCosts }
+{
+    closure_laws();
+}
+
+/// A model with the least bits decodes to an optimal graph; where there is no model, no graph is valid.
+pub fn optimum_laws()
+    ensures least { LeastIsOptimal }
+    ensures none { NoModelNoGraph }
+{
+    valid_laws();
+}

@@ -1,0 +1,48 @@
+// The totals of the costs.
+ghost use Rattle.std.specs.Prelude.{◌≡◌, IfOk};
+ghost use Rattle.clause_formulas.specs.Drafts.{value_at};
+ghost use Rattle.gate_plans.specs.Growth.{Extends};
+ghost use Rattle.cost_terms.specs.Ranges.{IsTableBelow};
+ghost use Rattle.cost_bits.specs.Least.{AreCostBits};
+ghost use Rattle.closure_encoding.specs.OfGraphEncoding.Formulas.{MetBelow};
+ghost use Rattle.graph_terms.specs.Held.{held_in};
+ghost use Rattle.ranked_costs.specs.Given.{held_for};
+
+use crate::held::held_for;
+use crate::small::are_small;
+use clause_formulas::Defined;
+use clause_store::ClauseList;
+use criteria_totals::Bits;
+use formula_totals::define_totals;
+use graph_terms::cost_terms;
+use literal_table::LiteralTable;
+use plain_data::Word;
+use problem::Problem;
+use std::alloc::{AllocError, Global};
+
+/// Bits of the 31 numbers of the cost vector, the first to compare first, behind the clauses.
+///
+/// `values` are those of the conditions of all directives of the table's packages, name by name, and
+/// `order` has the names of the table in any order. An error is want of memory; where the weights of
+/// one number add up to 2^63 or more, it is answered too.
+pub fn rank_costs(
+    alloc: Global,
+    clauses: &mut ClauseList,
+    problem: &Problem,
+    table: &LiteralTable,
+    values: &[Defined],
+    order: &[Word],
+) -> Result<Bits, AllocError>
+    requires table { IsTableBelow clauses.old.vars table.now }
+    requires values { MetBelow clauses.old.vars (value_at values.now) }
+    ensures bits { IfOk result (λ bits. AreCostBits clauses.old clauses.new bits.lits bits.tops
+        problem.now table.now (held_in (held_for problem.now table.now values.now)) order.now) }
+    ensures extends { Extends clauses.old clauses.new }
+{
+    let held = held_for(alloc, problem, table, values)?;
+    let lists = cost_terms(alloc, problem, table, held.as_slice(), order)?;
+    if !are_small(lists.as_slice()) {
+        return Err(AllocError);
+    }
+    define_totals(alloc, clauses, lists.as_slice())
+}

@@ -1,0 +1,5 @@
+-- what public contracts say
+pub mod Targets
+pub mod Joined
+pub mod OfGraphFormulas
+pub mod OfGraphEncoding

@@ -1,0 +1,2 @@
+pub mod RightTable
+pub mod OfTablePlan

@@ -1,0 +1,5 @@
+pub mod Lists
+pub mod Plain
+pub mod Where
+pub mod Governing
+pub mod OfWordFormulas

@@ -1,0 +1,82 @@
+-- Lists of what a table offers, and rules that speak of no condition.
+use Rattle.std.proofs.Common.{◌≡◌, refl, ap, Bool, true, false, List, [], ◌∷◌, map, filter}
+use Rattle.std.specs.List.{list_any}
+use Rattle.std.specs.Str.{bytes_eq}
+use Rattle.std.specs.Prelude.{if◌then◌else◌}
+use Rattle.clause_store.specs.declared.Lit.{Lit}
+use Rattle.clause_formulas.specs.Statements.{Statement, or}
+use Rattle.clause_formulas.specs.Rules.{Rule, in_words}
+use Rattle.condition_rules.specs.Worlds.{World}
+use Rattle.conditions.specs.declared.recipe.Condition.{Condition}
+use Rattle.conditions.specs.declared.recipe.RequireRow.{RequireRow}
+use Rattle.graph_core.specs.Graphs.{Text}
+use Rattle.literal_table.specs.Choices.{Choices, offered}
+use Rattle.literal_table.specs.Tables.{Table, packages_of}
+use Rattle.problem.specs.Problems.{Problem, world_of}
+use Rattle.virtuals.specs.Virtuals.{is_virtual}
+use Rattle.graph_words.specs.Facts.{Word}
+use Rattle.graph_words.specs.Lists.{some, just_one}
+use Rattle.graph_words.specs.Parts.{holds_rule}
+use Rattle.graph_words.specs.Words.{names_for, rule_said}
+use Rattle.graph_formulas.specs.Terms.{term_said, known_rule}
+use Rattle.graph_formulas.specs.Laws.{term_formula}
+use Rattle.graph_formulas.specs.Directives.{choice_rule}
+use Rattle.rule_formulas.specs.Terms.{is_asked, choice_said}
+
+any-offered : (child : Text) (cs : Choices Text) → list_any (λ (c : Text × Lit). bytes_eq child c.0) cs ≡ list_any (bytes_eq child) (offered cs)
+any-offered child [] = refl
+any-offered child (c ∷ cs) = rw (any-offered child cs) refl
+
+module _ (table : Table) (world : World) (child asked : Text) where
+  pub asked-virtual : is_virtual world.recipes asked ≡ true
+      → list_any (λ (c : Text × Lit). bytes_eq child c.0) (packages_of table asked) ≡ is_asked world (names_for table) child asked
+  asked-virtual is = rw is (any-offered child (packages_of table asked))
+
+  pub asked-package : is_virtual world.recipes asked ≡ false → bytes_eq asked child ≡ is_asked world (names_for table) child asked
+  asked-package is = rw is refl
+
+-- a list in two steps
+pub over-mapped : {A B : Type 0} (f : B → Statement) (g : A → B) (xs : List A) → map (λ x. f (g x)) xs ≡ map f (map g xs)
+over-mapped f g [] = refl
+over-mapped f g (x ∷ xs) = ap (λ l. f (g x) ∷ l) (over-mapped f g xs)
+
+-- what passes a test by a key
+pub filter-mapped : {A B : Type 0} (f : B → Statement) (g : A → B) (p : B → Bool) (xs : List A)
+    → map (λ x. f (g x)) (filter (λ x. p (g x)) xs) ≡ map f (filter p (map g xs))
+filter-mapped f g p [] = refl
+filter-mapped f g p (x ∷ xs) = go (p (g x)) (filter-mapped f g p xs)
+  where
+    go : (b : Bool) → map (λ x. f (g x)) (filter (λ x. p (g x)) xs) ≡ map f (filter p (map g xs))
+        → map (λ x. f (g x)) (if b then x ∷ filter (λ x. p (g x)) xs else filter (λ x. p (g x)) xs)
+        ≡ map f (if b then g x ∷ filter p (map g xs) else filter p (map g xs))
+    go true rest = ap (λ l. f (g x) ∷ l) rest
+    go false rest = rest
+
+-- rules of what is known
+module _ (path : Text → Text → Statement) (condition : Text → Condition → Statement) (table : Table) where
+  module _ {T : Type 0} (rule : T → Rule Word) where
+    pub some-known : (xs : List T) → rule_said path table (some rule xs) ≡ term_formula path condition table (some (λ x. known_rule (rule x)) xs)
+    some-known [] = refl
+    some-known (x ∷ xs) = ap (λ f. or (rule_said path table (rule x)) f) (some-known xs)
+
+    pub one-known : (xs : List T) → rule_said path table (just_one rule xs) ≡ term_formula path condition table (just_one (λ x. known_rule (rule x)) xs)
+    one-known [] = refl
+    one-known (x ∷ xs) = rw (some-known xs, one-known xs) refl
+
+  pub choice-known : (problem : Problem) (name : Text) (row : RequireRow)
+      → choice_said path table (world_of problem) name row ≡ term_formula path condition table (choice_rule problem (names_for table) name row)
+  choice-known problem name row = go row.one_of
+    where
+      go : (b : Bool) → (if b then rule_said path table (just_one (holds_rule (world_of problem) (names_for table) name) row.specs)
+          else rule_said path table (some (holds_rule (world_of problem) (names_for table) name) row.specs))
+          ≡ in_words (term_said path condition table) (if b then just_one (λ spec. known_rule (holds_rule (world_of problem) (names_for table) name spec)) row.specs
+          else some (λ spec. known_rule (holds_rule (world_of problem) (names_for table) name spec)) row.specs)
+      go true = one-known (holds_rule (world_of problem) (names_for table) name) row.specs
+      go false = some-known (holds_rule (world_of problem) (names_for table) name) row.specs
+
+module _ (path : Text → Text → Statement) (table : Table) (world : World) (name : Text) (row : RequireRow) where
+  pub chosen-one : row.one_of ≡ true → rule_said path table (just_one (holds_rule world (names_for table) name) row.specs) ≡ choice_said path table world name row
+  chosen-one is = rw is refl
+
+  pub chosen-some : row.one_of ≡ false → rule_said path table (some (holds_rule world (names_for table) name) row.specs) ≡ choice_said path table world name row
+  chosen-some is = rw is refl

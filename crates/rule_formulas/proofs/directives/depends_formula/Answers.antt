@@ -1,0 +1,29 @@
+use Rattle.std.proofs.Common.{rules, sym, ap, ◌∙◌, map, filter, List}
+use Rattle.clause_formulas.specs.Statements.{all_of}
+use Rattle.clause_formulas.specs.Rules.{both_of}
+use Rattle.conditions.specs.declared.recipe.DependRow.{DependRow}
+use Rattle.problem.specs.Problems.{depends_at}
+use Rattle.graph_words.specs.Lists.{each}
+use Rattle.graph_words.specs.Words.{names_for}
+use Rattle.graph_formulas.specs.Terms.{term_said}
+use Rattle.graph_formulas.specs.Directives.{edge_rule, constraint_rule}
+use Rattle.graph_formulas.specs.Laws.{term_formula}
+use Rattle.path_formulas.specs.Paths.{path_by}
+use Rattle.word_formulas.proofs.Steps.{ok-same, each-said}
+use Rattle.std.specs.Prelude.{◌==◌}
+use Rattle.rule_formulas.proofs.directives.depends_formula.Goals as goal
+
+pub returns : goal.returns
+returns g c =
+    let table = c.args.table.now in
+    let problem = c.args.problem.now in
+    let path = path_by table c.args.paths.now in
+    let condition = g.C.MetConditions.condition_of c.args.conditions.now in
+    let name = c.args.name.now in
+    let p = λ (row : DependRow). row.number == c.args.number in
+    let rule = λ (row : DependRow). both_of (edge_rule problem (names_for table) name row) (constraint_rule problem (names_for table) name row) in
+    let formula = λ (row : DependRow). term_formula path condition table (both_of (edge_rule problem (names_for table) name row) (constraint_rule problem (names_for table) name row)) in
+    ok-same c.each_where.result (all_of (map formula (filter p c.depends_at.result.now))) (term_formula path condition table (each rule (filter p (depends_at problem name))))
+    (ap (λ (l : List DependRow). all_of (map formula (filter p l))) c.depends_at.ensures
+    ∙ sym (each-said (term_said path condition table) rule (filter p (depends_at problem name))))
+    (c.each_where.ensures p formula (λ x b says. search rules) (λ x r says. search rules))

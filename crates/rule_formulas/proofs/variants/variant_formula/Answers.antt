@@ -1,0 +1,33 @@
+use Rattle.std.proofs.Common.{ap, ◌∙◌, List}
+use Rattle.clause_formulas.specs.Statements.{any_of, both}
+use Rattle.word_formulas.specs.Builders.{node_said}
+use Rattle.word_formulas.proofs.Steps.{ok-same, ok-is, both-same, implies-same}
+use Rattle.rule_formulas.specs.Terms.{plain_term}
+use Rattle.conditions.specs.declared.recipe.VariantRow.{VariantRow}
+use Rattle.problem.specs.Problems.{variants_at}
+use Rattle.graph_words.specs.Facts.{has_variant}
+use Rattle.graph_formulas.specs.Variants.{variant_rule}
+use Rattle.rule_formulas.specs.Governing.{met_said, last_parts}
+use Rattle.rule_formulas.proofs.Governing.{met-said, last-said}
+use Rattle.rule_formulas.proofs.variants.variant_formula.Goals as goal
+
+pub returns : goal.returns
+returns g c =
+    let condition = g.C.MetConditions.condition_of c.args.conditions.now in
+    let table = c.args.table.now in
+    let problem = c.args.problem.now in
+    let name = c.args.name.now in
+    let variant = c.args.variant.now in
+    let there_said = node_said table name (has_variant variant) in
+    let met_by = λ (rows : List VariantRow). met_said condition name variant rows in
+    let last_by = λ (rows : List VariantRow). any_of (last_parts table condition name variant rows) in
+    let met = ok-is c.met_formula.result c.in_ok-met.met (met_by c.variants_at-rows.result.now) c.in_ok-met.was c.met_formula.ensures
+    ∙ ap met_by c.variants_at-rows.ensures ∙ met-said table condition name variant (variants_at problem name) in
+    let there = ok-is c.has_variant.result c.in_ok-there.there there_said c.in_ok-there.was c.has_variant.ensures in
+    let where_met = c.in_ok-where_met.ensures ∙ implies-same _ _ _ _ met there in
+    let again = ok-is c.has_variant-2.result c.in_ok-again.again there_said c.in_ok-again.was c.has_variant-2.ensures in
+    let last = ok-is c.last_formula.result c.in_ok-last.last (last_by c.variants_at-rows.result.now) c.in_ok-last.was c.last_formula.ensures
+    ∙ ap last_by c.variants_at-rows.ensures ∙ last-said table condition name variant (variants_at problem name) in
+    let where_there = c.in_ok-where_there.ensures ∙ implies-same _ _ _ _ again last in
+    ok-same c.both.result (both c.in_ok-where_met.where_met c.in_ok-where_there.where_there) (plain_term table condition (variant_rule problem name variant))
+    (both-same _ _ _ _ where_met where_there) c.both.ensures

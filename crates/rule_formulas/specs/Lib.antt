@@ -1,0 +1,5 @@
+-- what public contracts say
+pub mod Terms
+pub mod Governing
+pub mod OfWordFormulas
+pub mod OfGraphFormulas

@@ -1,0 +1,67 @@
+-- Formulas of rules over the conditions of a problem.
+use Rattle.std.specs.Prelude.{Bool, true, List, [], ◌∷◌, Option, if◌then◌else◌}
+use Rattle.std.specs.Str.{bytes_eq}
+use Rattle.clause_formulas.specs.Statements.{Statement, any_of, both, opposite}
+use Rattle.clause_formulas.specs.Rules.{Rule}
+use Rattle.spec_grammar.specs.declared.part.Spec.{Spec}
+use Rattle.graph_core.specs.Graphs.{Text}
+use Rattle.graph_core.specs.declared.node.Kinds.{Kinds}
+use Rattle.condition_rules.specs.Words.{among}
+use Rattle.condition_rules.specs.Worlds.{World}
+use Rattle.virtuals.specs.Virtuals.{is_virtual}
+use Rattle.conditions.specs.declared.recipe.Condition.{Condition}
+use Rattle.conditions.specs.declared.recipe.RequireRow.{RequireRow}
+use Rattle.literal_table.specs.Tables.{Table}
+use Rattle.problem.specs.Problems.{Problem}
+use Rattle.graph_words.specs.Facts.{Word}
+use Rattle.graph_words.specs.Lists.{written, some, just_one}
+use Rattle.graph_words.specs.Parts.{holds_rule}
+use Rattle.graph_words.specs.Words.{names_for, rule_said}
+use Rattle.graph_formulas.specs.Terms.{Term}
+use Rattle.graph_formulas.specs.Directives.{root_rule}
+use Rattle.graph_formulas.specs.Edges.{no_kinds}
+use Rattle.graph_formulas.specs.Laws.{term_formula}
+use Rattle.word_formulas.specs.Builders.{no_paths}
+use Rattle.rule_formulas.specs.declared.extra_edges.Kind.{Kind}
+use Rattle.rule_formulas.specs.declared.extra_edges.Kind.TheVariants as kind
+
+-- the formula of a rule that speaks of no path but by conditions
+abbrev pub plain_term : Table → (Text → Condition → Statement) → Rule Term → Statement
+plain_term table condition rule = term_formula no_paths condition table rule
+
+-- ---- kinds of edges
+
+abbrev pub kinds_of : Kind → Kinds
+kinds_of kind.Build = record no_kinds { build = true }
+kinds_of kind.Link = record no_kinds { link = true }
+kinds_of kind.Run = record no_kinds { run = true }
+
+abbrev pub has_of : Kind → Kinds → Bool
+has_of kind.Build = λ kinds. kinds.build
+has_of kind.Link = λ kinds. kinds.link
+has_of kind.Run = λ kinds. kinds.run
+
+-- the name is that of the child, or a virtual that it may provide
+abbrev pub is_asked : World → (Text → List Text) → Text → Text → Bool
+is_asked world packages child asked = if is_virtual world.recipes asked then among (packages asked) child else bytes_eq asked child
+
+-- ---- specs
+
+module _ (path : Text → Text → Statement) (table : Table) where
+  -- as many specs of a requirement hold as it asks for
+  abbrev pub choice_said : World → Text → RequireRow → Statement
+  choice_said world name row =
+      if row.one_of then rule_said path table (just_one (holds_rule world (names_for table) name) row.specs)
+      else rule_said path table (some (holds_rule world (names_for table) name) row.specs)
+
+  -- a thing keeps the rule, and no other
+  abbrev pub alone_said : {T : Type 0} → (T → Rule Word) → T → List T → Statement
+  alone_said rule x rest = both (rule_said path table (rule x)) (opposite (rule_said path table (some rule rest)))
+
+  -- a root, where there is one
+  abbrev pub root_said : Problem → Option Spec → Statement
+  root_said problem o = rule_said path table (written o (root_rule problem (names_for table)))
+
+-- one of two cases
+abbrev pub either_said : Statement → Statement → Statement
+either_said f g = any_of (f ∷ g ∷ [])

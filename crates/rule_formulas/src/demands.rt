@@ -1,0 +1,84 @@
+//! The formula of a demand.
+ghost use Rattle.std.specs.Prelude.{◌≡◌, IfOk, slice_get};
+ghost use Rattle.std.specs.Option.{option_copied};
+ghost use Rattle.graph_words.specs.Words.{names_for, rule_said};
+ghost use Rattle.graph_formulas.specs.Directives.{root_rule};
+ghost use Rattle.graph_formulas.specs.Demands.{demand_rule};
+ghost use Rattle.graph_formulas.specs.Laws.{term_formula};
+ghost use Rattle.path_formulas.specs.Paths.{path_by};
+ghost use Rattle.rule_formulas.specs.Terms.{root_said};
+
+use crate::directives::directive_formula;
+use clause_formulas::Formula;
+use graph_levels::PathLits;
+use literal_table::LiteralTable;
+use path_formulas::holds_formula;
+use problem::{Demand, Problem};
+use spec_grammar::Spec;
+use std::alloc::{AllocError, Global};
+use word_formulas::{MetConditions, given, where_built};
+
+/// The spec holds at the node of its name.
+fn spec_formula(
+    alloc: Global,
+    problem: &Problem,
+    table: &LiteralTable,
+    paths: &PathLits,
+    spec: &Spec,
+) -> Result<Formula, AllocError>
+    ensures { IfOk result (λ formula. formula ≡ rule_said (path_by table.now paths.now) table.now
+        (root_rule problem.now (names_for table.now) spec.now)) }
+{
+    let world = problem.world();
+    match &spec.top.name {
+        Some(name) => holds_formula(alloc, table, &world, paths, name.as_str(), spec),
+        None => Ok(given(alloc, false)),
+    }
+}
+
+/// The root at this place.
+fn root_at(problem: &Problem, place: u64) -> Option<&Spec>
+    ensures { option_copied result ≡ slice_get problem.now.roots place }
+{
+    problem.roots().get(place as usize)
+}
+
+/// The root at this place holds, where there is one.
+fn root_formula(
+    alloc: Global,
+    problem: &Problem,
+    table: &LiteralTable,
+    paths: &PathLits,
+    place: u64,
+) -> Result<Formula, AllocError>
+    ensures { IfOk result (λ formula. formula ≡ root_said (path_by table.now paths.now) table.now
+        problem.now (slice_get problem.now.roots place)) }
+{
+    match root_at(problem, place) {
+        Some(spec) => spec_formula(alloc, problem, table, paths, spec),
+        None => Ok(given(alloc, true)),
+    }
+}
+
+/// The demand is kept.
+pub fn demand_formula<C: MetConditions>(
+    alloc: Global,
+    problem: &Problem,
+    table: &LiteralTable,
+    paths: &PathLits,
+    conditions: &C,
+    demand: &Demand,
+) -> Result<Formula, AllocError>
+    ensures { IfOk result (λ formula. formula
+        ≡ term_formula (path_by table.now paths.now) (C.condition_of conditions.now) table.now
+        (demand_rule problem.now (names_for table.now) demand.now)) }
+{
+    match demand {
+        Demand::Root(place) => root_formula(alloc, problem, table, paths, *place),
+        Demand::Directive { package, number } => {
+            let name = package.as_str();
+            let rule = directive_formula(alloc, problem, table, paths, conditions, name, *number)?;
+            where_built(alloc, table, name, rule)
+        }
+    }
+}

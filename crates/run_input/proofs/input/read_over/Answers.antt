@@ -1,0 +1,11 @@
+use Rattle.std.proofs.Common.{ap}
+use Rattle.run_settings.specs.Words.{Command}
+use Rattle.run_input.specs.Inputs.{Behind, InRepository}
+use Rattle.run_input.proofs.Staged.{staged}
+use Rattle.run_input.proofs.input.read_over.Goals as goal
+
+pub returns-in-Ok-clause-read : goal.returns-in-Ok-clause-read
+returns-in-Ok-clause-read g c =
+    staged _ _ (λ path files. InRepository files path) (λ files. Behind files c.args.command.now c.args.settings) _ _ _ _
+    c.in-Ok.recipes c.read_behind.result (ap (λ (k : Command). k.repo) c.command.view_is)
+    c.in-Ok.ensures.same c.in-Ok.ensures.read c.read_behind.ensures.read

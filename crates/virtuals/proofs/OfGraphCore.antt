@@ -1,0 +1,2 @@
+-- What is passed on of `graph_core`, so that the crates above need not name it.
+pub use Rattle.conditions.proofs.OfGraphCore.PathLaws

@@ -1,0 +1,76 @@
+// Formulas of the node that a name asks for.
+ghost use Rattle.std.specs.Prelude.{◌≡◌, IfOk, map};
+ghost use Rattle.std.specs.Str.{bytes_eq};
+ghost use Rattle.clause_formulas.specs.Rules.{fact};
+ghost use Rattle.graph_words.specs.Facts.{provides_as};
+ghost use Rattle.graph_words.specs.Parts.{asked_rule};
+ghost use Rattle.graph_words.specs.Words.{names_for};
+ghost use Rattle.word_formulas.specs.Asked.{NodeRule, keeping_said};
+ghost use Rattle.word_formulas.specs.Builders.{Builds, plain_said};
+
+use clause_formulas::Formula;
+use clause_store::Lit;
+use condition_rules::World;
+use literal_table::{LiteralTable, any_choice};
+use plain_data::Word;
+use std::alloc::{AllocError, Global};
+
+/// The package provides the virtual.
+pub fn provider_formula(
+    alloc: Global,
+    table: &LiteralTable,
+    virtual_name: &Word,
+    name: &Word,
+) -> Result<Formula, AllocError>
+    ensures { IfOk result (λ formula. formula
+        ≡ plain_said table.now (fact (provides_as virtual_name.now name.now))) }
+{
+    any_choice(alloc, table.packages(virtual_name.as_str()), |package| {
+        package.as_str() == name.as_str()
+    })
+}
+
+/// Of each package that may provide the virtual: it does, and its node keeps the rule.
+fn keeping_providers<F: Fn(&Word) -> Result<Formula, AllocError>>(
+    alloc: Global,
+    table: &LiteralTable,
+    virtual_name: &Word,
+    packages: &[(Word, Lit)],
+    rule: F,
+) -> Result<Vec<Formula>, AllocError>
+    requires { F.IsAlwaysCallable rule }
+    ensures { (keeps : NodeRule) → Builds F.Fn (λ n. plain_said table.now (keeps n)) rule
+        → IfOk result (λ parts. parts.items
+        ≡ map (keeping_said table.now virtual_name.now keeps) packages.now) }
+{
+    let mut parts = Vec::new(alloc);
+    for choice in packages {
+        let provides = provider_formula(alloc, table, virtual_name, &choice.0)?;
+        let kept = rule(&choice.0)?;
+        let both = Formula::both(alloc, provides, kept)?;
+        parts.push(both)?;
+    }
+    Ok(parts)
+}
+
+/// The node that a name asks for keeps a rule.
+pub(crate) fn asked_formula<F: Fn(&Word) -> Result<Formula, AllocError>>(
+    alloc: Global,
+    table: &LiteralTable,
+    world: &World,
+    asked: &Word,
+    rule: F,
+) -> Result<Formula, AllocError>
+    requires { F.IsAlwaysCallable rule }
+    ensures { (keeps : NodeRule) → Builds F.Fn (λ n. plain_said table.now (keeps n)) rule
+        → IfOk result (λ formula. formula
+        ≡ plain_said table.now (asked_rule world.now (names_for table.now) asked.now keeps)) }
+{
+    if world.is_virtual(asked.as_str()) {
+        let packages = table.packages(asked.as_str());
+        let parts = keeping_providers(alloc, table, asked, packages, rule)?;
+        Ok(Formula::any(parts))
+    } else {
+        rule(asked)
+    }
+}

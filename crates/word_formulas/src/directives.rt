@@ -1,0 +1,138 @@
+// Formulas of directives, where their conditions have formulas.
+ghost use Rattle.std.specs.Prelude.{◌≡◌, IfOk};
+ghost use Rattle.clause_formulas.specs.Rules.{fact, both_of};
+ghost use Rattle.clause_formulas.specs.Statements.{implies};
+ghost use Rattle.graph_words.specs.Facts.{has_edge};
+ghost use Rattle.graph_words.specs.Parts.{there_rule, suits_rule};
+ghost use Rattle.graph_words.specs.Words.{names_for};
+ghost use Rattle.graph_formulas.specs.Directives.{edge_to, suits_asked};
+ghost use Rattle.word_formulas.specs.Builders.{plain_said};
+
+use crate::asked_nodes::asked_formula;
+use crate::edges::has_edge;
+use crate::facts::{given, is_there};
+use crate::parts::{meets_formula, rest_formula};
+use crate::virtual_nodes::provides_formula;
+use clause_formulas::Formula;
+use condition_rules::World;
+use conditions::DependRow;
+use graph_core::Kinds;
+use literal_table::LiteralTable;
+use plain_data::Word;
+use problem::Problem;
+use spec_grammar::Part;
+use std::alloc::{AllocError, Global};
+
+/// The child has a node, and an edge with these kinds goes to it.
+fn child_formula(
+    alloc: Global,
+    table: &LiteralTable,
+    name: &str,
+    kinds: &Kinds,
+    child: &Word,
+) -> Result<Formula, AllocError>
+    ensures { IfOk result (λ formula. formula
+        ≡ plain_said table.now (both_of (there_rule child.now) (fact (has_edge name.now child.now kinds.now)))) }
+{
+    let there = is_there(alloc, table, child.as_str());
+    let edge = has_edge(alloc, table, name, child.as_str(), kinds)?;
+    Formula::both(alloc, there, edge)
+}
+
+/// An edge with the kinds of the row goes to the node that it asks for.
+pub fn edge_to_formula(
+    alloc: Global,
+    table: &LiteralTable,
+    problem: &Problem,
+    name: &str,
+    row: &DependRow,
+) -> Result<Formula, AllocError>
+    ensures { IfOk result (λ formula. formula
+        ≡ plain_said table.now (edge_to problem.now (names_for table.now) name.now row.now)) }
+{
+    let world = problem.world();
+    match &row.part.name {
+        Some(asked) => asked_formula(alloc, table, &world, asked, |child| {
+            child_formula(alloc, table, name, &row.kinds, child)
+        }),
+        None => Ok(given(alloc, false)),
+    }
+}
+
+/// The part, which has this name, holds at the node.
+pub fn suits_formula(
+    alloc: Global,
+    table: &LiteralTable,
+    world: &World,
+    part: &Part,
+    asked: &Word,
+    name: &Word,
+) -> Result<Formula, AllocError>
+    ensures { IfOk result (λ formula. formula
+        ≡ plain_said table.now (suits_rule world.now part.now asked.now name.now)) }
+{
+    if world.is_virtual(asked.as_str()) {
+        let provides = provides_formula(
+            alloc,
+            table,
+            world,
+            name.as_str(),
+            asked.as_str(),
+            &part.versions,
+        )?;
+        let rest = rest_formula(alloc, table, world, name.as_str(), part)?;
+        Formula::both(alloc, provides, rest)
+    } else {
+        meets_formula(alloc, table, world, name.as_str(), part)
+    }
+}
+
+/// The node that the row asks for suits it.
+pub fn suits_asked_formula(
+    alloc: Global,
+    table: &LiteralTable,
+    problem: &Problem,
+    row: &DependRow,
+) -> Result<Formula, AllocError>
+    ensures { IfOk result (λ formula. formula
+        ≡ plain_said table.now (suits_asked problem.now (names_for table.now) row.now)) }
+{
+    let world = problem.world();
+    match &row.part.name {
+        Some(asked) => asked_formula(alloc, table, &world, asked, |name| {
+            suits_formula(alloc, table, &world, &row.part, asked, name)
+        }),
+        None => Ok(given(alloc, false)),
+    }
+}
+
+/// Where the condition of the row is met, its edge is there.
+pub fn edge_formula(
+    alloc: Global,
+    table: &LiteralTable,
+    problem: &Problem,
+    name: &str,
+    row: &DependRow,
+    met: Formula,
+) -> Result<Formula, AllocError>
+    ensures { IfOk result (λ formula. formula
+        ≡ implies met (plain_said table.now (edge_to problem.now (names_for table.now) name.now row.now))) }
+{
+    let edge = edge_to_formula(alloc, table, problem, name, row)?;
+    Formula::implies(alloc, met, edge)
+}
+
+/// Where the condition of the row is met, the node that it asks for suits it.
+pub fn constraint_formula(
+    alloc: Global,
+    table: &LiteralTable,
+    problem: &Problem,
+    row: &DependRow,
+    met: Formula,
+) -> Result<Formula, AllocError>
+    ensures { IfOk result (λ formula. formula
+        ≡ implies met (plain_said table.now (suits_asked problem.now (names_for table.now) row.now))) }
+{
+    let suits = suits_asked_formula(alloc, table, problem, row)?;
+    Formula::implies(alloc, met, suits)
+}

@@ -1,0 +1,40 @@
+//! Builders of the formulas of words, parts and rules.
+//!
+//! It promises: each builder answers the formula that the definition of its name in `graph_words` or
+//! `graph_formulas` computes, and errs for want of memory alone. It stands on `literal_table` for
+//! look-ups. It must not know clauses.
+#![tactic(auto)]
+
+mod asked;
+mod asked_nodes;
+mod compilers;
+mod directives;
+mod edges;
+mod extra_edges;
+mod facts;
+mod loops;
+mod met;
+mod node_rules;
+mod parts;
+mod theorems;
+mod variants;
+mod virtual_nodes;
+
+pub use asked_nodes::provider_formula;
+pub use compilers::compiler_formula;
+pub use directives::{
+    constraint_formula, edge_formula, edge_to_formula, suits_asked_formula, suits_formula,
+};
+pub use edges::has_edge;
+pub use extra_edges::asks_formula;
+pub use facts::{
+    compiler_passes, given, has_variant, is_there, origin_passes, os_passes, prefix_passes,
+    target_passes, value_passes, version_passes,
+};
+pub use loops::{each, some};
+pub use met::MetConditions;
+pub use node_rules::{buildable_formula, machine_formula, version_formula, where_built};
+pub use parts::meets_formula;
+pub use theorems::{plain_laws, row_laws};
+pub use variants::allows_formula;
+pub use virtual_nodes::provides_formula;
