@@ -1,3 +1,4 @@
+pub mod Numbers
 pub mod Words
 pub mod Orders
 -- what is answered, for crates above

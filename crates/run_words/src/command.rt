@@ -2,8 +2,10 @@
 
 ghost use Rattle.std.specs.Prelude.{◌≡◌, ◌∷◌, ◌++◌, IfOk};
 ghost use Rattle.std.specs.String.{string_bytes};
-ghost use Rattle.run_words.specs.Words.{words_of, joined_words, concretize_of, judge_of, command_of, is_wrong, is_blank, is_same, is_dash};
+ghost use Rattle.run_words.specs.Words.{words_of, joined_words, command_over, concretize_of, check_of, judge_of, refute_of, explain_of, trial_over, trial_of, command_of, is_wrong, unless_wrong, is_blank, is_same, is_dash};
+ghost use Rattle.run_words.specs.Words as words;
 
+use crate::number::number_in;
 use spec_grammar::is_white;
 use std::alloc::{AllocError, Global};
 use std::marker::Model;
@@ -15,16 +17,26 @@ pub enum Work {
     Concretize,
     /// Judges the graph of a lock file.
     Judge,
+    /// Judges it, and whether a certificate shows that it is the best.
+    Check,
+    /// Checks whether a certificate shows that there is none.
+    Refute,
+    /// Says why there is none.
+    Explain,
+    /// Finds the best graph of a repository that is made in memory, of 1 to 1,000 packages.
+    Trial { packages: u64, seed: u64 },
 }
 
-/// The words of `concretize REPO SETTINGS DATABASE LOCK CERT SPEC` or of
-/// `judge REPO SETTINGS DATABASE LOCK SPEC`.
+/// What the words behind a verb say: `concretize` and `check REPO SETTINGS DATABASE LOCK CERT SPEC`,
+/// `judge REPO SETTINGS DATABASE LOCK SPEC`, `refute REPO SETTINGS DATABASE CERT SPEC`,
+/// `explain REPO SETTINGS DATABASE SPEC`, `trial N SEED`.
 #[derive(Debug, Drop)]
 pub struct Command<'a> {
     pub work: Work,
     pub repo: &'a str,
     pub settings: &'a str,
     pub database: &'a str,
+    /// `-` where there is none.
     pub lock: &'a str,
     /// `-` where there is none.
     pub cert: &'a str,
@@ -74,16 +86,82 @@ pub fn is_dash(path: &str) -> bool
     path == "-"
 }
 
-/// Whether a command has no lock file, one file for both, or no spec.
+/// Whether a file is missing that the command needs, or one stands for both.
+fn lacks_file(command: &Command<'_>) -> bool
+    ensures { result ≡ words.lacks_file command.now.work command.now.lock command.now.cert }
+{
+    match command.work {
+        Work::Concretize => is_dash(command.lock) || is_same(command.lock, command.cert),
+        Work::Judge => is_dash(command.lock),
+        Work::Check => {
+            is_dash(command.lock)
+                || is_dash(command.cert)
+                || is_same(command.lock, command.cert)
+        }
+        Work::Refute => is_dash(command.cert),
+        Work::Explain | Work::Trial { .. } => false,
+    }
+}
+
+/// Whether a command lacks a file, or a spec.
 fn is_wrong(command: &Command<'_>) -> bool
     ensures { result ≡ is_wrong command.now }
 {
-    is_dash(command.lock)
-        || is_same(command.lock, command.cert)
-        || is_blank(command.spec.as_bytes())
+    lacks_file(command) || is_blank(command.spec.as_bytes())
+}
+
+#[tactic(auto, unfolding(crate::specs::Words::unless_wrong))]
+fn unless_wrong(command: Command<'_>) -> Option<Command<'_>>
+    ensures { result ≡ unless_wrong command }
+{
+    if is_wrong(&command) {
+        None
+    } else {
+        Some(command)
+    }
+}
+
+/// The paths of a command.
+#[derive(Clone, Copy)]
+struct Paths<'a> {
+    repo: &'a str,
+    settings: &'a str,
+    database: &'a str,
+    lock: &'a str,
+    cert: &'a str,
+}
+
+/// The command over these paths with these words of the spec.
+#[tactic(auto, unfolding(crate::specs::Words::command_over))]
+fn command_over<'a>(
+    alloc: Global,
+    work: Work,
+    paths: Paths<'a>,
+    first: &str,
+    more: &[String],
+) -> Result<Option<Command<'a>>, AllocError>
+    ensures { IfOk result (λ command. command ≡ command_over work (record {
+      repo = paths.repo.now;
+      settings = paths.settings.now;
+      database = paths.database.now;
+      lock = paths.lock.now;
+      cert = paths.cert.now;
+    }) first.now (words_of more.now)) }
+{
+    let spec = join_words(alloc, first, more)?;
+    Ok(unless_wrong(Command {
+        work,
+        repo: paths.repo,
+        settings: paths.settings,
+        database: paths.database,
+        lock: paths.lock,
+        cert: paths.cert,
+        spec,
+    }))
 }
 
 /// The command that the words behind `concretize` make.
+#[tactic(auto, unfolding(crate::specs::Words::concretize_of))]
 fn read_concretize<'a>(
     alloc: Global,
     words: &'a [String],
@@ -93,43 +171,127 @@ fn read_concretize<'a>(
     let [repo, settings, database, lock, cert, first, more @ ..] = words else {
         return Ok(None);
     };
-    let spec = join_words(alloc, first.as_str(), more)?;
-    let command = Command {
-        work: Work::Concretize,
+    let paths = Paths {
         repo: repo.as_str(),
         settings: settings.as_str(),
         database: database.as_str(),
         lock: lock.as_str(),
         cert: cert.as_str(),
-        spec,
     };
-    if is_wrong(&command) {
+    command_over(alloc, Work::Concretize, paths, first.as_str(), more)
+}
+
+/// The command that the words behind `check` make.
+#[tactic(auto, unfolding(crate::specs::Words::check_of))]
+fn read_check<'a>(alloc: Global, words: &'a [String]) -> Result<Option<Command<'a>>, AllocError>
+    ensures { IfOk result (λ command. command ≡ check_of (words_of words.now)) }
+{
+    let [repo, settings, database, lock, cert, first, more @ ..] = words else {
         return Ok(None);
-    }
-    Ok(Some(command))
+    };
+    let paths = Paths {
+        repo: repo.as_str(),
+        settings: settings.as_str(),
+        database: database.as_str(),
+        lock: lock.as_str(),
+        cert: cert.as_str(),
+    };
+    command_over(alloc, Work::Check, paths, first.as_str(), more)
 }
 
 /// The command that the words behind `judge` make.
+#[tactic(auto, unfolding(crate::specs::Words::judge_of))]
 fn read_judge<'a>(alloc: Global, words: &'a [String]) -> Result<Option<Command<'a>>, AllocError>
     ensures { IfOk result (λ command. command ≡ judge_of (words_of words.now)) }
 {
     let [repo, settings, database, lock, first, more @ ..] = words else {
         return Ok(None);
     };
-    let spec = join_words(alloc, first.as_str(), more)?;
-    let command = Command {
-        work: Work::Judge,
+    let paths = Paths {
         repo: repo.as_str(),
         settings: settings.as_str(),
         database: database.as_str(),
         lock: lock.as_str(),
         cert: "-",
-        spec,
     };
-    if is_wrong(&command) {
+    command_over(alloc, Work::Judge, paths, first.as_str(), more)
+}
+
+/// The command that the words behind `refute` make.
+#[tactic(auto, unfolding(crate::specs::Words::refute_of))]
+fn read_refute<'a>(alloc: Global, words: &'a [String]) -> Result<Option<Command<'a>>, AllocError>
+    ensures { IfOk result (λ command. command ≡ refute_of (words_of words.now)) }
+{
+    let [repo, settings, database, cert, first, more @ ..] = words else {
         return Ok(None);
+    };
+    let paths = Paths {
+        repo: repo.as_str(),
+        settings: settings.as_str(),
+        database: database.as_str(),
+        lock: "-",
+        cert: cert.as_str(),
+    };
+    command_over(alloc, Work::Refute, paths, first.as_str(), more)
+}
+
+/// The command that the words behind `explain` make.
+#[tactic(auto, unfolding(crate::specs::Words::explain_of))]
+fn read_explain<'a>(alloc: Global, words: &'a [String]) -> Result<Option<Command<'a>>, AllocError>
+    ensures { IfOk result (λ command. command ≡ explain_of (words_of words.now)) }
+{
+    let [repo, settings, database, first, more @ ..] = words else {
+        return Ok(None);
+    };
+    let paths = Paths {
+        repo: repo.as_str(),
+        settings: settings.as_str(),
+        database: database.as_str(),
+        lock: "-",
+        cert: "-",
+    };
+    command_over(alloc, Work::Explain, paths, first.as_str(), more)
+}
+
+/// A trial of so many packages.
+#[tactic(auto, unfolding(crate::specs::Words::trial_over))]
+fn trial_over<'a>(
+    alloc: Global,
+    packages: u64,
+    seed: u64,
+) -> Result<Option<Command<'a>>, AllocError>
+    ensures { IfOk result (λ command. command ≡ trial_over packages seed) }
+{
+    if 0 < packages && packages <= 1000 {
+        Ok(Some(Command {
+            work: Work::Trial { packages, seed },
+            repo: "repo",
+            settings: "-",
+            database: "-",
+            lock: "-",
+            cert: "-",
+            spec: String::from_str(alloc, "p0")?,
+        }))
+    } else {
+        Ok(None)
     }
-    Ok(Some(command))
+}
+
+/// The command that the words behind `trial` make.
+#[tactic(auto, unfolding(crate::specs::Words::trial_of))]
+fn read_trial<'a>(alloc: Global, words: &'a [String]) -> Result<Option<Command<'a>>, AllocError>
+    ensures { IfOk result (λ command. command ≡ trial_of (words_of words.now)) }
+{
+    let [packages, seed] = words else {
+        return Ok(None);
+    };
+    let Some(packages) = number_in(alloc, packages.as_str())? else {
+        return Ok(None);
+    };
+    let Some(seed) = number_in(alloc, seed.as_str())? else {
+        return Ok(None);
+    };
+    trial_over(alloc, packages, seed)
 }
 
 /// The command that the words are; `None` where they are none.
@@ -142,10 +304,19 @@ pub fn read_command<'a>(
     let [verb, more @ ..] = words else {
         return Ok(None);
     };
-    if is_same(verb.as_str(), "concretize") {
+    let verb = verb.as_str();
+    if is_same(verb, "concretize") {
         read_concretize(alloc, more)
-    } else if is_same(verb.as_str(), "judge") {
+    } else if is_same(verb, "judge") {
         read_judge(alloc, more)
+    } else if is_same(verb, "check") {
+        read_check(alloc, more)
+    } else if is_same(verb, "refute") {
+        read_refute(alloc, more)
+    } else if is_same(verb, "explain") {
+        read_explain(alloc, more)
+    } else if is_same(verb, "trial") {
+        read_trial(alloc, more)
     } else {
         Ok(None)
     }

@@ -7,6 +7,7 @@
 #![tactic(auto)]
 
 mod command;
+mod number;
 mod order;
 
 pub use command::{Command, Work, is_dash};
