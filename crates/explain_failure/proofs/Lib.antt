@@ -1,0 +1,5 @@
+pub mod Numbers
+pub mod Marking
+pub mod Using
+pub mod Refuting
+pub mod Found

@@ -1,0 +1,14 @@
+pub mod Ids
+pub mod Buckets
+pub mod Marks
+pub mod Values
+pub mod Overlays
+pub mod Clashes
+pub mod OnlyClash
+pub mod Chains
+pub mod Faults
+pub mod Accepted
+pub mod Later
+pub mod Blocks
+pub mod Copies
+pub mod WholeLogs

@@ -1,0 +1,104 @@
+//! The check of a chain, by the signs of variables: its time is that of the clauses of the chain.
+ghost use Rattle.std.specs.Prelude.{◌≡◌, ◌↔◌, ℕ, length, IfOk, OnOk, None, IsTrue};
+ghost use Rattle.std.specs.Option.{option_map};
+ghost use Rattle.proof_log.specs.Resolution.{IdsIn};
+ghost use Rattle.clause_store.specs.Lits.{var_of};
+ghost use Rattle.log_checker.specs.Steps.{chain_why, is_value};
+ghost use Rattle.log_checker.specs.Signs.{sign_of, opposed, clashes, only_one, overlay, strip};
+
+use crate::known::{Known, lits_of};
+use crate::signs::Signs;
+use crate::step::Why;
+use clause_store::Lit;
+use std::alloc::AllocError;
+
+/// Whether a literal's variable has the opposite sign.
+fn is_opposed(signs: &Signs, lit: Lit) -> bool
+    ensures { result ≡ opposed (sign_of signs.now) lit }
+{
+    match signs.get(lit.var.0) {
+        Some(sign) => sign == !lit.positive,
+        None => false,
+    }
+}
+
+/// Whether a literal's variable has its sign.
+fn is_met(signs: &Signs, lit: Lit) -> bool
+    ensures { result ≡ is_value (sign_of signs.now (var_of lit)) lit.positive }
+{
+    match signs.get(lit.var.0) {
+        Some(sign) => sign == lit.positive,
+        None => false,
+    }
+}
+
+/// The only literal of a clause whose variable has the opposite sign.
+fn find_pivot(signs: &Signs, lits: &[Lit]) -> Result<Lit, Why>
+    ensures { result ≡ only_one (clashes (sign_of signs.now) lits.now) }
+{
+    let mut pivot = None;
+    for lit in lits {
+        if is_opposed(signs, *lit) {
+            if pivot.is_some() {
+                return Err(Why::TwoPivots);
+            }
+            pivot = Some(*lit);
+        }
+    }
+    pivot.ok_or(Why::NoPivot)
+}
+
+/// Gives the variables of a clause its signs.
+fn put_all(signs: &mut Signs, lits: &[Lit]) -> Result<(), AllocError>
+    ensures { OnOk result ((x : ℕ)
+        → sign_of signs.new x ≡ overlay lits.now (sign_of signs.old) x) }
+{
+    for lit in lits {
+        signs.put(lit.var.0, lit.positive)?;
+    }
+    Ok(())
+}
+
+/// Whether each sign is that of a literal of the clause.
+fn are_within(signs: &mut Signs, lits: &[Lit]) -> bool
+    ensures { IsTrue result ↔ ((x : ℕ) → strip lits.now (sign_of signs.old) x ≡ None) }
+{
+    for lit in lits {
+        if is_met(signs, *lit) {
+            signs.remove(lit.var.0);
+        }
+    }
+    signs.is_empty()
+}
+
+/// What is wrong with a chain of known ids. Whatever signs there are, they are lost.
+pub fn check_chain(
+    signs: &mut Signs,
+    known: &[Known],
+    chain: &[u64],
+    stated: &[Lit],
+) -> Result<Option<Why>, AllocError>
+    requires { IdsIn (length known.now) chain.now }
+    ensures { IfOk result (λ why. why ≡ chain_why known.now chain.now stated.now) }
+{
+    let Some((first, rest)) = chain.split_first() else {
+        return Ok(Some(Why::NotContained));
+    };
+    signs.clear();
+    put_all(signs, lits_of(known, *first))?;
+    for id in rest {
+        let lits = lits_of(known, *id);
+        match find_pivot(signs, lits) {
+            Ok(pivot) => {
+                put_all(signs, lits)?;
+                signs.remove(pivot.var.0);
+            }
+            Err(why) => return Ok(Some(why)),
+        }
+    }
+    if are_within(signs, stated) {
+        Ok(None)
+    } else {
+        Ok(Some(Why::NotContained))
+    }
+}
