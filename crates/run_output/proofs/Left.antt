@@ -8,7 +8,8 @@ use Rattle.run_task.specs.Problems.{Problem}
 use Rattle.run_task.specs.WriteStop.{WriteStop}
 use Rattle.run_task.specs.WriteStop.TheVariants.{Put, Output, NoMemory}
 use Rattle.run_task.specs.declared.task.Task.TheVariants as tasks
-use Rattle.run_output.specs.Answers.{HoldsFronts, IsFor, KeepsFronts, Leaves, PutsAnswer, Writes}
+use Rattle.run_output.specs.Answers.{HoldsFronts, KeepsFronts, Leaves, PutsAnswer, Writes}
+use Rattle.run_output.specs.Texts.{IsFor}
 use Rattle.run_output.specs.declared.answer.Outcome.{Outcome}
 use Rattle.run_output.specs.declared.answer.Outcome.TheVariants.{Solved, Unsolved, Undecided}
 

@@ -1,4 +1,6 @@
 pub mod Report
+pub mod Texts
+pub mod Told
 pub mod Changes
 pub mod Answers
 -- what crates above name

@@ -7,9 +7,11 @@
 #![tactic(auto)]
 
 mod answer;
+mod find;
 mod found;
 mod put;
 mod report;
+mod said;
 mod told;
 
 pub use answer::{Outcome, write_answer};

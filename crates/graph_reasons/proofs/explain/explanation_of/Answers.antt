@@ -1,0 +1,35 @@
+use Rattle.std.proofs.Common.{[], subst}
+use Rattle.optimum_search.specs.Finding.{IsFound}
+use Rattle.optimum_search.specs.declared.found.Found.TheVariants.{Optimal, Refuted, Spent}
+use Rattle.graph_reasons.proofs.Shown.{satisfiable, unmet, spent}
+use Rattle.graph_reasons.proofs.explain.explanation_of.Goals as goal
+
+pub returns-in-Optimal : goal.returns-in-Optimal
+returns-in-Optimal c =
+    let e = c.args.encoded.now in
+    satisfiable c.args._problem.now e c.requires.encoded c.requires.built c.args._budget c.in-Optimal.model c.in-Optimal.log
+    (subst (IsFound e.clauses [] c.args._budget) c.in-Optimal.is c.requires.found)
+
+pub returns-in-Refuted : goal.returns-in-Refuted
+returns-in-Refuted c =
+    let e = c.args.encoded.now in
+    let found : IsFound e.clauses [] c.args._budget (Refuted c.in-Refuted.log) =
+    subst (IsFound e.clauses [] c.args._budget) c.in-Refuted.is c.requires.found in
+    unmet c.args._problem.now e c.requires.encoded c.requires.built c.args._budget c.reason_laws.ensures c.in-Refuted.log
+    c.in_ok-demands.demands c.requires.in_order found
+    (c.found_laws.ensures e.clauses [] c.args._budget (Refuted c.in-Refuted.log) c.requires.in_order found) c.in_ok-demands.ensures
+
+pub reasons-demands-requires : goal.reasons-demands-requires
+reasons-demands-requires c =
+    let e = c.args.encoded.now in
+    let found : IsFound e.clauses [] c.args._budget (Refuted c.in-Refuted.log) =
+    subst (IsFound e.clauses [] c.args._budget) c.in-Refuted.is c.requires.found in
+    ([], found.0)
+
+pub returns-in-Spent : goal.returns-in-Spent
+returns-in-Spent c =
+    let e = c.args.encoded.now in
+    let found : IsFound e.clauses [] c.args._budget (Spent c.in-Spent.log) =
+    subst (IsFound e.clauses [] c.args._budget) c.in-Spent.is c.requires.found in
+    spent c.args._problem.now e c.requires.encoded c.requires.built c.args._budget c.in-Spent.log found
+    (c.found_laws.ensures e.clauses [] c.args._budget (Spent c.in-Spent.log) c.requires.in_order found)

@@ -1,0 +1,61 @@
+//! The search for a graph, or for what stands against one.
+
+ghost use Rattle.std.specs.Prelude.{◌≡◌, [], IfOk};
+ghost use Rattle.clause_store.specs.Clauses.{clauses_of};
+ghost use Rattle.proof_log.specs.Known.{AllClauses};
+ghost use Rattle.optimum_search.specs.Finding.{IsFound};
+ghost use Rattle.possible_closure.specs.Closures.{closure_of};
+ghost use Rattle.best_graph.specs.OfProblemEncoding.Built.{encoding_of};
+ghost use Rattle.best_graph.specs.OfProblemEncoding.Encodings.{IsEncoded};
+ghost use Rattle.graph_reasons.specs.Explanations.{Explains};
+
+use crate::explanation::Explanation;
+use explain_failure::{reason_laws, reasons};
+use optimum_search::{Found, found_laws, search};
+use possible_closure::Closure;
+use problem::Problem;
+use problem_encoding::{Encoded, encode};
+use std::alloc::{AllocError, Global};
+
+/// Whether some graph is valid, and else the demands that a refutation rests on, where the search may learn so many clauses.
+///
+/// The search is without bits of costs, so it ends at the first graph.
+pub fn explain(
+    alloc: Global,
+    problem: &Problem,
+    closure: &Closure,
+    budget: u64,
+) -> Result<Explanation, AllocError>
+    requires { closure.now ≡ closure_of problem.now }
+    ensures { IfOk result (Explains problem.now budget) }
+{
+    let encoded = encode(alloc, problem, closure)?;
+    let found = search(alloc, &encoded.clauses, &[], budget)?;
+    explanation_of(alloc, problem, &encoded, budget, found)
+}
+
+/// What was found, as an explanation.
+fn explanation_of(
+    alloc: Global,
+    _problem: &Problem,
+    encoded: &Encoded,
+    _budget: u64,
+    found: Found,
+) -> Result<Explanation, AllocError>
+    requires encoded { IsEncoded _problem.now encoded.now }
+    requires built { encoded.now ≡ encoding_of _problem.now }
+    requires found { IsFound encoded.now.clauses [] _budget found }
+    requires in_order { AllClauses (clauses_of encoded.now.clauses.entries) }
+    ensures { IfOk result (Explains _problem.now _budget) }
+{
+    found_laws();
+    reason_laws();
+    match found {
+        Found::Optimal { .. } => Ok(Explanation::Satisfiable),
+        Found::Refuted { log } => {
+            let demands = reasons(alloc, &encoded.clauses, &log)?;
+            Ok(Explanation::Unmet(demands))
+        }
+        Found::Spent { .. } => Ok(Explanation::Undecided),
+    }
+}

@@ -1,0 +1,14 @@
+//! Why no graph of a problem is valid, or that one is.
+//!
+//! What it is: `explain` of a problem and the names that its nodes may have.
+//! What it promises: that some graph is valid; or exactly the demands that a refutation of the problem rests on, for which alone no
+//! graph is valid; or that the budget of learnt clauses was spent.
+//! What it stands on: `problem_encoding` for the clauses, `optimum_search` for a model or a refutation, `explain_failure` for its demands.
+//! What it must not know: what is read or said.
+#![tactic(auto)]
+
+mod explain;
+mod explanation;
+
+pub use explain::explain;
+pub use explanation::Explanation;

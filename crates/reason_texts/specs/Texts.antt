@@ -1,0 +1,43 @@
+-- The lines of demands.
+use Rattle.std.specs.Prelude.{ℕ, ◌==◌, Bool, List, [], ◌∷◌, ◌++◌, Option, Some, None, slice_get, codes, decimal, if◌then◌else◌}
+use Rattle.std.specs.List.{list_any, flat_map}
+use Rattle.graph_core.specs.Graphs.{Text}
+use Rattle.spec_grammar.specs.Canonical.{spec_text}
+use Rattle.spec_grammar.specs.declared.part.Spec.{Spec}
+use Rattle.problem.specs.Problems.{Problem, depends_at, conflicts_at}
+use Rattle.problem.specs.Demands.{demands}
+use Rattle.problem.specs.declared.demand.Demand.{Demand}
+use Rattle.problem.specs.declared.demand.Demand.TheVariants as demand
+
+-- the canonical text of a root
+abbrev pub text_of : Option Spec → List ℕ
+text_of None = []
+text_of (Some spec) = spec_text spec
+
+-- a root by its place and its canonical text
+unfoldable pub root_line : Problem → ℕ → List ℕ
+root_line problem place = codes "root " ++ (decimal place ++ (codes " " ++ (text_of (slice_get problem.roots place) ++ codes "\n")))
+
+-- which directive of the package has the number
+unfoldable pub directive_word : Problem → Text → ℕ → List ℕ
+directive_word problem package number =
+    if list_any (λ row. row.number == number) (depends_at problem package) then codes "depends_on"
+    else if list_any (λ row. row.number == number) (conflicts_at problem package) then codes "conflicts"
+    else codes "requires"
+
+-- a directive by its package, its word and its number
+unfoldable pub directive_line : Problem → Text → ℕ → List ℕ
+directive_line problem package number =
+    package ++ (codes " " ++ (directive_word problem package number ++ (codes " " ++ (decimal number ++ codes "\n"))))
+
+abbrev pub line_of : Problem → Demand → List ℕ
+line_of problem (demand.Root place) = root_line problem place
+line_of problem (demand.Directive package number) = directive_line problem package number
+
+abbrev pub line_for : Problem → Option Demand → List ℕ
+line_for problem None = []
+line_for problem (Some asked) = line_of problem asked
+
+-- a line for each demand, by its number among those of the problem
+abbrev pub reasons_text : Problem → List ℕ → List ℕ
+reasons_text problem ids = flat_map (λ id. line_for problem (slice_get (demands problem) id)) ids

@@ -1,0 +1,31 @@
+//! The answer of a problem.
+
+ghost use Rattle.std.specs.Prelude.{◌≡◌, IfOk};
+ghost use Rattle.run_task.specs.Closures.{closure_of};
+ghost use Rattle.run_output.specs.Texts.{IsFor, outcome_of};
+
+use crate::answer::Outcome;
+use crate::told::budget_of;
+use best_graph::{Answer, best_graph};
+use run_task::Input;
+use std::alloc::{AllocError, Global};
+
+/// The answer of a problem within the budget of its settings.
+pub fn find(alloc: Global, input: &Input) -> Result<Answer, AllocError>
+    requires { input.now.closure ≡ closure_of input.now.problem }
+    ensures { IfOk result (IsFor input.now.problem) }
+{
+    let budget = budget_of(&input.problem);
+    best_graph(alloc, &input.problem, &input.closure, budget)
+}
+
+/// What an answer is as an outcome.
+pub fn outcome_of(answer: &Answer) -> Outcome
+    ensures { result ≡ outcome_of answer.now }
+{
+    match answer {
+        Answer::Best { .. } => Outcome::Solved,
+        Answer::Nothing { .. } => Outcome::Unsolved,
+        Answer::Undecided { .. } => Outcome::Undecided,
+    }
+}

@@ -1,0 +1,196 @@
+//! What is said of a task that puts no file.
+
+ghost use Rattle.std.specs.Prelude.{◌≡◌, ◌≤◌, ◌++◌, ◌∷◌, IfOk, OnOk};
+ghost use Rattle.run_task.specs.Closures.{closure_of};
+ghost use Rattle.run_task.specs.Tasks.{IsReadyInput};
+ghost use Rattle.run_task.specs.declared.task.Task.TheVariants as tasks;
+ghost use Rattle.proof_log.specs.Lines.{learnt_count, learnt_in};
+ghost use Rattle.best_graph.specs.declared.answer.Answer.TheVariants as best;
+ghost use Rattle.run_output.specs.Texts as texts;
+ghost use Rattle.run_output.specs.Told.{Tells};
+
+use crate::answer::Outcome;
+use crate::find::{find, outcome_of};
+use crate::report::write_vector;
+use crate::told::{budget_of, undecided_text, unsatisfiable_text, verdict_text};
+use best_graph::Answer;
+use graph_core::Graph;
+use graph_reasons::{Explanation, explain};
+use problem::Problem;
+use proof_log::{Line, Log};
+use reason_texts::write_reasons;
+use run_task::{Input, vector};
+use std::alloc::{AllocError, Global};
+
+/// What is said of a task, and what the task came to.
+#[derive(Drop)]
+pub struct Said {
+    pub text: Vec<u8>,
+    pub outcome: Outcome,
+}
+
+/// Of a lock file whose graph is valid.
+pub fn of_verdict(alloc: Global, numbers: &[u64]) -> Result<Said, AllocError>
+    ensures { IfOk result (λ said. Tells (tasks.Report numbers.now) said.outcome said.text.items) }
+{
+    Ok(Said {
+        text: verdict_text(alloc, numbers)?,
+        outcome: Outcome::Solved,
+    })
+}
+
+#[tactic(auto, unfolding(crate::specs::Texts::accepted_line))]
+fn accepted_text(alloc: Global) -> Result<Vec<u8>, AllocError>
+    ensures { IfOk result (λ text. text.items ≡ texts.accepted_line) }
+{
+    Vec::from_slice(alloc, b"accepted\n")
+}
+
+/// Of a certificate that is right.
+pub fn of_certificate(alloc: Global) -> Result<Said, AllocError>
+    ensures { IfOk result (λ said. Tells tasks.Accepted said.outcome said.text.items) }
+{
+    Ok(Said {
+        text: accepted_text(alloc)?,
+        outcome: Outcome::Solved,
+    })
+}
+
+// ---- why there is no graph
+
+#[tactic(auto, unfolding(crate::specs::Texts::satisfiable_line))]
+fn satisfiable_text(alloc: Global) -> Result<Vec<u8>, AllocError>
+    ensures { IfOk result (λ text. text.items ≡ texts.satisfiable_line) }
+{
+    Vec::from_slice(alloc, b"satisfiable\n")
+}
+
+fn explanation_text(
+    alloc: Global,
+    problem: &Problem,
+    explanation: &Explanation,
+) -> Result<Vec<u8>, AllocError>
+    ensures { IfOk result (λ text. text.items
+        ≡ texts.explanation_text problem.now explanation.now) }
+{
+    match explanation {
+        Explanation::Satisfiable => satisfiable_text(alloc),
+        Explanation::Unmet(demands) => write_reasons(alloc, problem, demands.as_slice()),
+        Explanation::Undecided => undecided_text(alloc, budget_of(problem)),
+    }
+}
+
+fn explanation_outcome(explanation: &Explanation) -> Outcome
+    ensures { result ≡ texts.explanation_outcome explanation.now }
+{
+    match explanation {
+        Explanation::Satisfiable => Outcome::Solved,
+        Explanation::Unmet(_) => Outcome::Unsolved,
+        Explanation::Undecided => Outcome::Undecided,
+    }
+}
+
+/// Of whether there is a graph, and why there is none.
+pub fn of_reasons(alloc: Global, input: &Input) -> Result<Said, AllocError>
+    requires { IsReadyInput input.now }
+    ensures { IfOk result (λ said. Tells (tasks.Explain input.now) said.outcome said.text.items) }
+{
+    let problem = &input.problem;
+    let explanation = explain(alloc, problem, &input.closure, budget_of(problem))?;
+    let text = explanation_text(alloc, problem, &explanation)?;
+    Ok(Said {
+        text,
+        outcome: explanation_outcome(&explanation),
+    })
+}
+
+// ---- trials
+
+fn learnt_count(line: &Line) -> u64
+    ensures is { result ≡ learnt_count line.now }
+    ensures most { result ≤ 1 }
+{
+    match line {
+        Line::Learnt { .. } => 1,
+        _ => 0,
+    }
+}
+
+/// How many clauses were learnt.
+fn learnt_in(lines: &[Line]) -> u64
+    ensures { result ≡ learnt_in lines.now }
+{
+    let mut count: u64 = 0;
+    for line in lines {
+        count += learnt_count(line);
+    }
+    count
+}
+
+#[tactic(auto, unfolding(crate::specs::Texts::nodes_line))]
+fn write_nodes(alloc: Global, count: usize, out: &mut Vec<u8>) -> Result<(), AllocError>
+    ensures { OnOk result (out.new.items ≡ out.old.items ++ texts.nodes_line count) }
+{
+    let line = format!(in alloc; "nodes {count}\n")?;
+    out.extend_from_slice(line.as_bytes())
+}
+
+#[tactic(auto, unfolding(crate::specs::Texts::learnt_line))]
+fn write_learnt(alloc: Global, count: u64, out: &mut Vec<u8>) -> Result<(), AllocError>
+    ensures { OnOk result (out.new.items ≡ out.old.items ++ texts.learnt_line count) }
+{
+    let line = format!(in alloc; "learnt {count}\n")?;
+    out.extend_from_slice(line.as_bytes())
+}
+
+#[tactic(auto, unfolding(crate::specs::Texts::counts_text))]
+fn counts_text(
+    alloc: Global,
+    nodes: usize,
+    numbers: &[u64],
+    learnt: u64,
+) -> Result<Vec<u8>, AllocError>
+    ensures { IfOk result (λ text. text.items ≡ texts.counts_text nodes numbers.now learnt) }
+{
+    let mut text = Vec::new(alloc);
+    write_nodes(alloc, nodes, &mut text)?;
+    write_vector(alloc, numbers, &mut text)?;
+    write_learnt(alloc, learnt, &mut text)?;
+    Ok(text)
+}
+
+fn solved_text(
+    alloc: Global,
+    problem: &Problem,
+    graph: &Graph,
+    log: &Log,
+) -> Result<Vec<u8>, AllocError>
+    ensures { IfOk result (λ text. text.items
+        ≡ texts.trial_text problem.now (best.Best graph.now log.now)) }
+{
+    let numbers = vector(alloc, problem, graph)?;
+    counts_text(alloc, graph.nodes().len(), &numbers, learnt_in(log.lines()))
+}
+
+fn trial_text(alloc: Global, problem: &Problem, answer: &Answer) -> Result<Vec<u8>, AllocError>
+    ensures { IfOk result (λ text. text.items ≡ texts.trial_text problem.now answer.now) }
+{
+    match answer {
+        Answer::Best { graph, log } => solved_text(alloc, problem, graph, log),
+        Answer::Nothing { .. } => unsatisfiable_text(alloc),
+        Answer::Undecided { .. } => undecided_text(alloc, budget_of(problem)),
+    }
+}
+
+/// Of the best graph of a made input.
+pub fn of_trial(alloc: Global, input: &Input) -> Result<Said, AllocError>
+    requires { IsReadyInput input.now }
+    ensures { IfOk result (λ said. Tells (tasks.Try input.now) said.outcome said.text.items) }
+{
+    let answer = find(alloc, input)?;
+    let text = trial_text(alloc, &input.problem, &answer)?;
+    Ok(Said {
+        text,
+        outcome: outcome_of(&answer),
+    })
+}
