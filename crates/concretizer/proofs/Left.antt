@@ -84,6 +84,10 @@ held words command lock cert task (Some files) between after ordered read same a
 is_concretize : (work : Work) (input : Input) → IsOf work (tasks.Solve input) → work ≡ works.Concretize
 is_concretize works.Concretize input of = refl
 is_concretize works.Judge input of = absurd of
+is_concretize works.Check input of = absurd of
+is_concretize works.Refute input of = absurd of
+is_concretize works.Explain input of = absurd of
+is_concretize (works.Trial packages seed) input of = absurd of
 
 -- the path of a put that failed
 put_path : (words : List (List ℕ)) (lock cert : List ℕ) (input : Input) (answer : Answer) (at : List ℕ) (before after : Option Files)
@@ -102,6 +106,10 @@ follows_here words lock cert (tasks.Solve input) (Put at) before after said_befo
 )
 follows_here words lock cert (tasks.Report numbers) (Put at) before after said_before said_after asked work is_lock is_cert left =
     absurd left.0
+follows_here words lock cert tasks.Accepted (Put at) before after said_before said_after asked work is_lock is_cert left = absurd left.0
+follows_here words lock cert (tasks.Explain input) (Put at) before after said_before said_after asked work is_lock is_cert left =
+    absurd left.0
+follows_here words lock cert (tasks.Try input) (Put at) before after said_before said_after asked work is_lock is_cert left = absurd left.0
 follows_here words lock cert task Output before after said_before said_after asked work is_lock is_cert left = asked
 follows_here words lock cert task NoMemory before after said_before said_after asked work is_lock is_cert left = tt
 

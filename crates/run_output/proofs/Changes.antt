@@ -79,6 +79,9 @@ module _ (lock cert : List ℕ) where
   keeps task (Some m) after (inl same) = keeps_none (Some m) after same
   keeps (tasks.Solve input) (Some m) after (inr kept) = keeps_fronts input.problem kept.answer (Some m) after kept.held
   keeps (tasks.Report numbers) (Some m) after (inr kept) = absurd kept
+  keeps tasks.Accepted (Some m) after (inr kept) = absurd kept
+  keeps (tasks.Explain input) (Some m) after (inr kept) = absurd kept
+  keeps (tasks.Try input) (Some m) after (inr kept) = absurd kept
 
   pub unchanged : (before : Files) (after : Option Files) → after ≡ Some before → ChangesOnly lock cert before after
   unchanged before after same = keeps_none (Some before) after same

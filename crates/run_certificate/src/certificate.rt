@@ -1,0 +1,141 @@
+//! The check of a certificate.
+
+ghost use Rattle.std.specs.Prelude.{◌≡◌, List, OnOk, IfSome};
+ghost use Rattle.std.specs.Option.{option_map};
+ghost use Rattle.outside_desk.specs.Causes.{Counts};
+ghost use Rattle.clause_store.specs.Clauses.{clauses_of};
+ghost use Rattle.proof_log.specs.Known.{AllClauses};
+ghost use Rattle.log_checker.specs.Steps.{begun};
+ghost use Rattle.log_checker.specs.Kinds.{IsLogOf};
+ghost use Rattle.proof_log.specs.declared.line.Line.{Line};
+ghost use Rattle.possible_closure.specs.Closures.{closure_of};
+ghost use Rattle.problem_encoding.specs.Built.{encoding_of};
+ghost use Rattle.problem_encoding.specs.Encodings.{IsEncoded};
+ghost use Rattle.run_answers.specs.Stages.{Is};
+ghost use Rattle.run_answers.specs.Stops.{Gives, EndsInReadFault, EndsInUsage};
+ghost use Rattle.run_certificate.specs.Certificates.{said_at, certified_at, ShowsOf};
+ghost use Rattle.run_certificate.specs.Pieces.{FailsThere};
+
+use crate::pieces::{Next, take_next};
+use crate::verdict::verdict;
+use certified::{TextChecker, text_laws};
+use clause_store::{ClauseList, Lit};
+use graph_check::verdict_laws;
+use outside_desk::Desk;
+use possible_closure::Closure;
+use problem::Problem;
+use problem_encoding::{Encoded, encode, values_of};
+use run_answers::{LineFault, ReadStop, Refusal};
+use std::alloc::Global;
+use std::thread::Threads;
+
+/// How many bytes are asked for at once.
+const PIECE: usize = 65_536;
+
+/// Reads the log at a path, and has it checked over clauses.
+fn check_log<R: Threads + Sync, D: Desk>(
+    rt: &R,
+    alloc: Global,
+    desk: &mut D,
+    path: &str,
+    clauses: &ClauseList,
+    bits: &[Lit],
+    values: Option<&[bool]>,
+) -> Result<(), ReadStop>
+    ensures read { IfSome (D.files desk.old) (λ files. Gives result (Is (said_at files path.now
+        (begun clauses.now bits.now (option_map (λ v. v.now) values.entry))))) }
+    ensures logged { IfSome (D.files desk.old) (λ files. OnOk result ((lines : List Line)
+        × IsLogOf clauses.now.vars (clauses_of clauses.now.entries) bits.now
+        (option_map (λ v. v.now) values.entry) lines)) }
+    ensures in_order { OnOk result (AllClauses (clauses_of clauses.now.entries)) }
+    ensures path { FailsThere path.now result }
+    ensures no_usage { EndsInUsage result → ⊥ }
+    ensures same { D.files desk.new ≡ D.files desk.old }
+    ensures cause { Counts (D.faults desk.old) (D.faults desk.new) (EndsInReadFault result) }
+    ensures put_faults { D.put_faults desk.new ≡ D.put_faults desk.old }
+{
+    text_laws();
+    let mut checker = TextChecker::new(alloc, clauses, bits, values)?;
+    let mut piece = vec![in alloc; 0u8; PIECE]?;
+    let mut from: u64 = 0;
+    'pieces: loop {
+        match take_next(rt, alloc, desk, path, from, &mut checker, piece.as_mut_slice())? {
+            Next::More(place) => from = place,
+            Next::End => return verdict(&checker),
+            Next::Long => return Err(ReadStop::Refused(Refusal::CertificateTooLarge)),
+        }
+    }
+}
+
+/// Reads the certificate at a path, and has it checked over the clauses of a problem.
+fn check_over<R: Threads + Sync, D: Desk>(
+    rt: &R,
+    alloc: Global,
+    desk: &mut D,
+    path: &str,
+    _problem: &Problem,
+    encoded: &Encoded,
+    numbers: Option<&[u64]>,
+) -> Result<(), ReadStop>
+    requires encoded { IsEncoded _problem.now encoded.now }
+    requires built { encoded.now ≡ encoding_of _problem.now }
+    ensures read { IfSome (D.files desk.old) (λ files. Gives result (Is (certified_at files path.now
+        _problem.now (option_map (λ n. n.now) numbers.entry)))) }
+    ensures shown { IfSome (D.files desk.old) (λ files. OnOk result (ShowsOf _problem.now
+        (option_map (λ n. n.now) numbers.entry))) }
+    ensures path { FailsThere path.now result }
+    ensures no_usage { EndsInUsage result → ⊥ }
+    ensures same { D.files desk.new ≡ D.files desk.old }
+    ensures cause { Counts (D.faults desk.old) (D.faults desk.new) (EndsInReadFault result) }
+    ensures put_faults { D.put_faults desk.new ≡ D.put_faults desk.old }
+{
+    verdict_laws();
+    let (clauses, bits) = (&encoded.clauses, encoded.bits.lits());
+    let Some(numbers) = numbers else {
+        return check_log(rt, alloc, desk, path, clauses, bits, None);
+    };
+    match values_of(alloc, encoded, numbers)? {
+        Some(values) => {
+            check_log(rt, alloc, desk, path, clauses, bits, Some(values.as_slice()))
+        }
+        None => Err(ReadStop::Refused(Refusal::BadCertificate(
+            1,
+            LineFault::WrongBit,
+        ))),
+    }
+}
+
+/// Reads the certificate at a path: whether it shows that a valid graph of the problem with these costs is optimal, or,
+/// without costs, that no graph is valid.
+///
+/// It is read in pieces of 65,536 bytes, and a line that is refused ends the reading.
+///
+/// # Errors
+///
+/// The first refusal that is due: `MissingInput`, `BadCertificate` with the first line that is refused, `CertificateTooLarge`
+/// beyond 2^63 - 1 bytes. `Fault` where the desk failed.
+pub fn read_certificate<R: Threads + Sync, D: Desk>(
+    rt: &R,
+    alloc: Global,
+    desk: &mut D,
+    path: &str,
+    problem: &Problem,
+    closure: &Closure,
+    numbers: Option<&[u64]>,
+) -> Result<(), ReadStop>
+    requires { closure.now ≡ closure_of problem.now }
+    ensures read { IfSome (D.files desk.old) (λ files. Gives result (Is (certified_at files path.now
+        problem.now (option_map (λ n. n.now) numbers.entry)))) }
+    ensures shown { IfSome (D.files desk.old) (λ files. OnOk result (ShowsOf problem.now
+        (option_map (λ n. n.now) numbers.entry))) }
+    ensures path { FailsThere path.now result }
+    ensures no_usage { EndsInUsage result → ⊥ }
+    ensures same { D.files desk.new ≡ D.files desk.old }
+    ensures cause { Counts (D.faults desk.old) (D.faults desk.new) (EndsInReadFault result) }
+    ensures put_faults { D.put_faults desk.new ≡ D.put_faults desk.old }
+{
+    let encoded = encode(alloc, problem, closure)?;
+    let checked = check_over(rt, alloc, desk, path, problem, &encoded, numbers);
+    drop(encoded);
+    checked
+}
