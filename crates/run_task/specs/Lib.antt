@@ -1,4 +1,5 @@
 pub mod Tasks
+pub mod Shown
 -- what crates above name
 pub use Rattle.run_input.specs.Exits
 pub use Rattle.run_input.specs.Lines

@@ -21,14 +21,22 @@ use Rattle.trial_input.specs.Inputs.{input_files}
 use Rattle.run_task.specs.declared.task.Task.{Task}
 use Rattle.run_task.specs.declared.task.Task.TheVariants as tasks
 
+-- the number of packages and the seed of a trial
+abbrev pub made_for : Work → Option (ℕ × ℕ)
+made_for works.Concretize = None
+made_for works.Judge = None
+made_for works.Check = None
+made_for works.Refute = None
+made_for works.Explain = None
+made_for (works.Trial packages seed) = Some (packages, seed)
+
+abbrev pub files_by : Option (ℕ × ℕ) → Files → Files
+files_by None files = files
+files_by (Some made) files = input_files made.0 made.1
+
 -- the files over which a command works: those of the desk, or for a trial those that are made
 abbrev pub files_for : Work → Files → Files
-files_for works.Concretize files = files
-files_for works.Judge files = files
-files_for works.Check files = files
-files_for works.Refute files = files
-files_for works.Explain files = files
-files_for (works.Trial packages seed) files = input_files packages seed
+files_for work files = files_by (made_for work) files
 
 -- what is said of the lock file at the path, as a task
 abbrev pub ReportOf : Files → List ℕ → Problem → Result Task Refusal → Type 0
@@ -52,9 +60,13 @@ TaskBy works.Refute files command input = AcceptanceOf files command.cert input.
 TaskBy works.Explain files command input = Is (Ok (tasks.Explain input))
 TaskBy (works.Trial packages seed) files command input = Is (Ok (tasks.Try input))
 
--- the task of a command over the files: what is read is one for all commands
+-- what is read over these files is one for all commands, and then comes the command's own work
+abbrev pub Over : Files → Command → Result Task Refusal → Type 0
+Over files command = Then (Reads files command) (TaskBy command.work files command)
+
+-- the task of a command over the files
 abbrev pub Named : Files → Command → Result Task Refusal → Type 0
-Named files command = Then (Reads (files_for command.work files) command) (TaskBy command.work files command)
+Named files command = Over (files_for command.work files) command
 
 -- the task of the words over the files
 abbrev pub Poses : Files → List (List ℕ) → Result Task Refusal → Type 0
@@ -82,6 +94,16 @@ IsReady (tasks.Try input) = IsReadyInput input
 IsReady (tasks.Report numbers) = Unit {0}
 IsReady tasks.Accepted = Unit {0}
 
+-- ---- what the looks at files give
+
+abbrev pub IsReportTask : Task → Type 0
+IsReportTask (tasks.Report numbers) = Unit {0}
+IsReportTask other = ⊥
+
+abbrev pub IsYes : Task → Type 0
+IsYes tasks.Accepted = Unit {0}
+IsYes other = ⊥
+
 -- ---- faults of devices
 
 -- the lock file is read by `judge` and `check`, the certificate by `check` and `refute`
@@ -99,3 +121,8 @@ IsTaskPath command path = IsInputPath command path ⊎ IsKeptPath command.work c
 abbrev pub FailsAtTask : {A : Type 0} → Command → Result A ReadStop → Type 0
 FailsAtTask command (Err (reads.Fault path)) = IsTaskPath command path
 FailsAtTask command other = Unit {0}
+
+-- a device fails only while one of these files is read
+abbrev pub FailsAtEither : {A : Type 0} → List ℕ → List ℕ → Result A ReadStop → Type 0
+FailsAtEither one other (Err (reads.Fault path)) = (path ≡ one) ⊎ (path ≡ other)
+FailsAtEither one other others = Unit {0}

@@ -4,10 +4,12 @@
 //! work is one case of `Task`.
 //! What it promises: exactly the task or the refusal that is due first, whatever the desk; a device's fault only
 //! where its count rose.
-//! What it stands on: `run_input` for what is read, `run_verdict` for `judge`.
+//! What it stands on: `run_input` for what is read, `run_verdict` for lock files, `run_certificate` for certificates,
+//! `trial_input` for the files of trials.
 //! What it must not know: how a problem is solved, and what is written.
 #![tactic(auto)]
 
+mod looks;
 mod task;
 mod theorems;
 

@@ -11,6 +11,7 @@ mod lock;
 mod roots;
 mod theorems;
 mod verdict;
+mod whole;
 
 // The cost vector, for crates above.
 pub use cost_vector::vector;

@@ -1,19 +1,20 @@
 //! The verdict on a lock file.
 
-ghost use Rattle.std.specs.Prelude.{◌≡◌, IfSome};
+ghost use Rattle.std.specs.Prelude.{◌≡◌, IfOk, IfSome};
 ghost use Rattle.outside_desk.specs.Causes.{Counts};
 ghost use Rattle.graph_rules.specs.Verdict.{verdict};
 ghost use Rattle.run_answers.specs.Stages.{Is};
 ghost use Rattle.run_answers.specs.Stops.{Gives, EndsInReadFault, EndsInUsage};
 ghost use Rattle.run_verdict.specs.Locks.{FailsAtLock};
-ghost use Rattle.run_verdict.specs.Verdicts.{unless_broken, weighed, judged, Judges};
+ghost use Rattle.run_verdict.specs.Verdicts.{unless_broken, weighed, judged, Judges, IsValidLock};
 
 use crate::lock::read_lock_at;
 use crate::roots::are_roots_of;
+use crate::whole::whole;
 use cost_vector::vector;
 use graph_core::Graph;
 use graph_judge::judge;
-use graph_rules::Verdict;
+use graph_rules::{Verdict, valid_laws};
 use lockfile::Lock;
 use outside_desk::Desk;
 use problem::Problem;
@@ -75,13 +76,17 @@ pub fn read_verdict<D: Desk>(
 ) -> Result<[u64; 31], ReadStop>
     ensures read { IfSome (D.files desk.old)
         (λ files. Gives result (Judges files path.now problem.now)) }
+    ensures lock { IfSome (D.files desk.old) (λ files. IfOk result
+        (λ numbers. IsValidLock files path.now problem.now numbers)) }
     ensures path { FailsAtLock path.now result }
     ensures no_usage { EndsInUsage result → ⊥ }
     ensures same { D.files desk.new ≡ D.files desk.old }
     ensures cause { Counts (D.faults desk.old) (D.faults desk.new) (EndsInReadFault result) }
     ensures put_faults { D.put_faults desk.new ≡ D.put_faults desk.old }
 {
+    valid_laws();
     let lock = read_lock_at(alloc, desk, path)?;
+    whole(&lock.graph);
     let said = judged(alloc, problem, &lock);
     drop(lock);
     said

@@ -1,0 +1,41 @@
+-- What the yes of `check` and of `refute` shows.
+use Rattle.std.specs.Prelude.{◌≡◌, ℕ, true, List, Ok}
+use Rattle.outside_desk.specs.Files.{Files}
+use Rattle.lockfile.specs.declared.lock.Lock.{Lock}
+use Rattle.graph_costs.specs.Optimal.{IsOptimal, HasNoGraph}
+use Rattle.problem.specs.Nodes.{IsWellFormed}
+use Rattle.run_input.specs.Stages.{Is}
+use Rattle.run_input.specs.Words.{Command}
+use Rattle.run_input.specs.Orders.{order_of}
+use Rattle.run_input.specs.Work.{Work}
+use Rattle.run_input.specs.Work.TheVariants as works
+use Rattle.run_input.specs.Inputs.{Reads}
+use Rattle.run_input.specs.declared.input.Input.{Input}
+use Rattle.run_verdict.specs.Problems.{Problem}
+use Rattle.run_verdict.specs.Locks.{LockAt}
+use Rattle.run_verdict.specs.Roots.{are_roots_of}
+use Rattle.run_task.specs.Tasks.{files_for}
+
+-- the file at the path is a lock file of just the roots that are asked for, and its graph is optimal
+pub record IsBestLock (files : Files) (path : List ℕ) (problem : Problem) : Type 0 where
+  pub lock : Lock
+  pub at : LockAt files path (Ok lock)
+  pub roots : are_roots_of lock.hashes problem.roots lock.roots ≡ true
+  pub well_formed : IsWellFormed lock.graph
+  pub optimal : IsOptimal problem lock.graph
+
+-- what a command's yes shows of the problem that was read
+abbrev pub ShownBy : Work → Files → Command → Problem → Type 0
+ShownBy works.Check files command problem = IsBestLock files command.lock problem
+ShownBy works.Refute files command problem = HasNoGraph problem
+ShownBy other files command problem = Unit {0}
+
+-- the input that a command reads over these files, of which its yes shows this
+pub record IsShownOver (files : Files) (command : Command) : Type 0 where
+  pub input : Input
+  pub read : Reads files command (Ok input)
+  pub shown : ShownBy command.work files command input.problem
+
+-- the same over the files for which the command asks
+abbrev pub IsShown : Files → Command → Type 0
+IsShown files command = IsShownOver (files_for command.work files) command

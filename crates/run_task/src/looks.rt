@@ -1,0 +1,95 @@
+//! What a command looks at besides its input: a lock file, a certificate.
+
+ghost use Rattle.std.specs.Prelude.{◌≡◌, Some, None, IfOk, IfSome, OnOk};
+ghost use Rattle.std.specs.Option.{option_map};
+ghost use Rattle.outside_desk.specs.Causes.{Counts};
+ghost use Rattle.run_input.specs.Closures.{closure_of};
+ghost use Rattle.run_input.specs.Stops.{Gives, EndsInReadFault, EndsInUsage};
+ghost use Rattle.run_certificate.specs.Certificates.{ShowsOf};
+ghost use Rattle.run_task.specs.Shown.{IsBestLock};
+ghost use Rattle.run_task.specs.Tasks.{AcceptanceOf, CheckOf, ReportOf, IsReportTask, IsYes, FailsAtEither};
+
+use crate::task::Task;
+use outside_desk::Desk;
+use run_certificate::read_certificate;
+use run_input::{Input, ReadStop};
+use run_verdict::read_verdict;
+use std::alloc::Global;
+use std::thread::Threads;
+
+/// What is said of the lock file at a path, as a task.
+#[tactic(auto, using(crate::proofs::Stops::judged_stop))]
+pub(crate) fn read_report<D: Desk>(
+    alloc: Global,
+    desk: &mut D,
+    lock: &str,
+    input: &Input,
+) -> Result<Task, ReadStop>
+    ensures read { IfSome (D.files desk.old)
+        (λ files. Gives result (ReportOf files lock.now input.now.problem)) }
+    ensures report { IfOk result IsReportTask }
+    ensures path { FailsAtEither lock.now lock.now result }
+    ensures no_usage { EndsInUsage result → ⊥ }
+    ensures same { D.files desk.new ≡ D.files desk.old }
+    ensures cause { Counts (D.faults desk.old) (D.faults desk.new) (EndsInReadFault result) }
+    ensures put_faults { D.put_faults desk.new ≡ D.put_faults desk.old }
+{
+    match read_verdict(alloc, desk, lock, &input.problem) {
+        Ok(numbers) => Ok(Task::Report(numbers)),
+        Err(stop) => Err(stop),
+    }
+}
+
+/// What is said of the certificate at a path, of a graph with these costs or of none, as a task.
+#[tactic(auto, using(crate::proofs::Stops::certified_stop))]
+pub(crate) fn read_acceptance<R: Threads + Sync, D: Desk>(
+    rt: &R,
+    alloc: Global,
+    desk: &mut D,
+    cert: &str,
+    input: &Input,
+    numbers: Option<&[u64]>,
+) -> Result<Task, ReadStop>
+    requires { input.now.closure ≡ closure_of input.now.problem }
+    ensures read { IfSome (D.files desk.old)
+        (λ files. Gives result (AcceptanceOf files cert.now input.now.problem
+        (option_map (λ n. n.now) numbers.entry))) }
+    ensures shown { IfSome (D.files desk.old) (λ files. OnOk result
+        (ShowsOf input.now.problem (option_map (λ n. n.now) numbers.entry))) }
+    ensures yes { IfOk result IsYes }
+    ensures path { FailsAtEither cert.now cert.now result }
+    ensures no_usage { EndsInUsage result → ⊥ }
+    ensures same { D.files desk.new ≡ D.files desk.old }
+    ensures cause { Counts (D.faults desk.old) (D.faults desk.new) (EndsInReadFault result) }
+    ensures put_faults { D.put_faults desk.new ≡ D.put_faults desk.old }
+{
+    match read_certificate(rt, alloc, desk, cert, &input.problem, &input.closure, numbers) {
+        Ok(()) => Ok(Task::Accepted),
+        Err(stop) => Err(stop),
+    }
+}
+
+/// What is said of the lock file at a path, and then of the certificate of its graph, as a task.
+pub(crate) fn read_check<R: Threads + Sync, D: Desk>(
+    rt: &R,
+    alloc: Global,
+    desk: &mut D,
+    lock: &str,
+    cert: &str,
+    input: &Input,
+) -> Result<Task, ReadStop>
+    requires { input.now.closure ≡ closure_of input.now.problem }
+    ensures read { IfSome (D.files desk.old)
+        (λ files. Gives result (CheckOf files lock.now cert.now input.now.problem)) }
+    ensures shown { IfSome (D.files desk.old)
+        (λ files. OnOk result (IsBestLock files lock.now input.now.problem)) }
+    ensures yes { IfOk result IsYes }
+    ensures path { FailsAtEither lock.now cert.now result }
+    ensures no_usage { EndsInUsage result → ⊥ }
+    ensures same { D.files desk.new ≡ D.files desk.old }
+    ensures cause { Counts (D.faults desk.old) (D.faults desk.new) (EndsInReadFault result) }
+    ensures put_faults { D.put_faults desk.new ≡ D.put_faults desk.old }
+{
+    let numbers = read_verdict(alloc, desk, lock, &input.problem)?;
+    read_acceptance(rt, alloc, desk, cert, input, Some(numbers.as_slice()))
+}
