@@ -216,6 +216,11 @@ pub same_lits-refl : (c : List Lit) → same_lits c c ≡ true
 same_lits-refl [] = refl
 same_lits-refl (l ∷ c) = and_from (lit_eq l l) (same_lits c c) (lit_eq-refl l) (same_lits-refl c)
 
+-- what holds where a call did not fail, and what follows there
+pub on-ok : {T E : Type 0} {P Q : Type 0} (r : Result T E) → (P → Q) → OnOk r P → OnOk r Q
+on-ok (Ok x) f p = f p
+on-ok (Err x) f p = tt
+
 -- what a call that may fail put
 pub put : {T E : Type 0} {P : Type 0} (r : Result T E) → is_err r ≡ false → OnOk r P → P
 put (Ok x) e p = p
