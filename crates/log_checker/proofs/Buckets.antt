@@ -1,7 +1,7 @@
 -- Buckets of places.
 use Prim.Native.Nat.{zero, suc}
 use Rattle.std.proofs.Common.{◌≡◌, ◌≢◌, ℕ, ◌+◌, ◌-◌, ◌<◌, ◌≤◌, Bool, true, false, not, ◌&&◌, ◌||◌, List, [], ◌∷◌, ◌++◌, take, length, Some, refl, sym, ap, ◌∙◌, subst, arith, slice_set, slice_get, eqb, inl, inr}
-use Rattle.std.specs.Prelude.{if◌then◌else◌, slice_index_or, Result, Ok, Err, is_err, OnOk, OnErr}
+use Rattle.std.specs.Prelude.{if◌then◌else◌, slice_index_or, Result, Ok, Err, is_err, OnOk}
 use Rattle.std.proofs.lemmas.Bool.{false≢true, and_parts, and_from}
 use Rattle.clause_store.proofs.Sets.{same_lit, lit_eq-refl}
 use Rattle.std.proofs.lemmas.Bool.Decides.{eqb_tells}
