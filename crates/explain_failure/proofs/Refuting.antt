@@ -1,7 +1,7 @@
 -- What the clauses that a refutation uses show of assignments.
 use Prim.Native.Nat.{zero, suc}
-use Rattle.std.proofs.Common.{◌≡◌, ◌↔◌, ◌⊎◌, ℕ, ◌+◌, ◌<◌, ◌≤◌, Bool, true, false, ◌||◌, ◌&&◌, not, List, [], ◌∷◌, ◌++◌, Option, Some, None, inl, inr, length, refl, sym, ◌∙◌, subst, ap, arith, eqb, slice_get}
-use Rattle.std.proofs.lemmas.Bool.{false≢true, or_cases, or_left, or_right, and_parts, and_from, cases_Bool}
+use Rattle.std.proofs.Common.{◌≡◌, ◌⊎◌, ℕ, ◌+◌, Bool, true, false, ◌||◌, ◌&&◌, not, List, [], ◌∷◌, ◌++◌, Some, inl, inr, length, refl, sym, ◌∙◌, subst, ap, arith, eqb}
+use Rattle.std.proofs.lemmas.Bool.{false≢true, or_left, or_right, and_from}
 use Rattle.std.proofs.lemmas.Bool.Decides.{eqb_tells}
 use Rattle.std.proofs.lemmas.Option.{same_Some, none-some}
 use Rattle.clause_store.specs.declared.Lit.{Lit}
@@ -15,13 +15,12 @@ use Rattle.proof_log.specs.declared.line.Line.{Line}
 use Rattle.proof_log.specs.declared.line.Line.TheVariants.{Header, Learnt, Zero, One, Unsat, Spent, End}
 use Rattle.proof_log.specs.Known.{AllClauses}
 use Rattle.proof_log.specs.Derivations.{DerivesFrom, IsDerived}
-use Rattle.proof_log.specs.Lines.{added, with_added, settles, ends, AllLines, LastIs, EachLine, EndsLast, SettlesNone}
-use Rattle.proof_log.specs.Logs.{LineHolds, IsSound}
+use Rattle.proof_log.specs.Lines.{ends, AllLines, LastIs, EachLine, SettlesNone}
+use Rattle.proof_log.specs.Logs.{LineHolds}
 use Rattle.proof_log.specs.Certificates.{IsUnsat}
-use Rattle.proof_log.proofs.Ids.{at_id-within}
 use Rattle.proof_log.proofs.Resolvents.{resolvent_holds, resolvent_one_sign}
 use Rattle.explain_failure.specs.Encodings.{IsCompleteFor}
-use Rattle.explain_failure.specs.Uses.{stands, UsesIn, Uses, AreReasons, IsRefuted, chain_of, is_user, used_by}
+use Rattle.explain_failure.specs.Uses.{stands, AreReasons, IsRefuted, chain_of, is_user, used_by}
 use Rattle.explain_failure.proofs.Using.{used-is, head-unsat}
 
 -- a clause that is derived from true ones is true

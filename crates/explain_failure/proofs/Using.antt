@@ -1,27 +1,18 @@
 -- What lines use, computed, is what the refutation uses.
 use Prim.Native.Nat.{zero, suc}
-use Rattle.std.proofs.Common.{◌≡◌, ◌↔◌, ◌⊎◌, ℕ, ◌+◌, ◌<◌, ◌≤◌, Bool, true, false, ◌||◌, ◌&&◌, not, List, [], ◌∷◌, ◌++◌, Option, Some, None, inl, inr, length, refl, sym, ◌∙◌, subst, ap, arith, eqb, slice_get}
+use Rattle.std.proofs.Common.{◌≡◌, ◌↔◌, ℕ, ◌+◌, ◌<◌, ◌≤◌, Bool, true, false, ◌||◌, ◌&&◌, List, [], ◌∷◌, ◌++◌, Option, Some, None, inl, inr, length, refl, sym, ◌∙◌, subst, ap, arith, eqb, slice_get}
 use Rattle.std.proofs.lemmas.Bool.{false≢true, or_cases, or_left, or_right, and_parts, and_from, cases_Bool}
 use Rattle.std.proofs.lemmas.Bool.Decides.{eqb_tells}
 use Rattle.std.proofs.lemmas.Option.{same_Some, none-some}
 use Rattle.clause_store.specs.declared.Lit.{Lit}
-use Rattle.clause_store.specs.declared.Label.{Label}
-use Rattle.clause_store.specs.declared.Label.TheVariants.{Structure, Demand}
-use Rattle.clause_store.specs.declared.list.Entry.{Entry}
-use Rattle.clause_store.specs.Lits.{clause_true, IsClause}
-use Rattle.clause_store.specs.Clauses.{Clauses, clauses_of, at_id, counts, entry_met, Meets}
-use Rattle.clause_store.proofs.Sets.{OneSign, one_sign, has-true, true-has}
+use Rattle.clause_store.specs.Clauses.{at_id}
 use Rattle.proof_log.specs.declared.line.Line.{Line}
 use Rattle.proof_log.specs.declared.line.Line.TheVariants.{Header, Learnt, Zero, One, Unsat, Spent, End}
-use Rattle.proof_log.specs.Known.{AllClauses}
 use Rattle.proof_log.specs.Derivations.{DerivesFrom, IsDerived}
-use Rattle.proof_log.specs.Lines.{added, with_added, settles, ends, AllLines, LastIs, EachLine, EndsLast, SettlesNone}
+use Rattle.proof_log.specs.Lines.{added, with_added, settles, ends, LastIs, EachLine, EndsLast}
 use Rattle.proof_log.specs.Logs.{LineHolds, IsSound}
-use Rattle.proof_log.specs.Certificates.{IsUnsat}
 use Rattle.proof_log.proofs.Ids.{at_id-within}
-use Rattle.proof_log.proofs.Resolvents.{resolvent_holds, resolvent_one_sign}
-use Rattle.explain_failure.specs.Encodings.{IsCompleteFor}
-use Rattle.explain_failure.specs.Uses.{stands, UsesIn, Uses, AreReasons, IsRefuted, chain_of, is_user, used_by}
+use Rattle.explain_failure.specs.Uses.{stands, UsesIn, Uses, chain_of, is_user, used_by}
 
 -- the ids of chains are those of known clauses
 abbrev pub IdsUpTo : ℕ → List ℕ → Type 0

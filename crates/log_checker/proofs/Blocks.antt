@@ -1,9 +1,9 @@
 -- A block is checked as its lines are one after the other.
-use Rattle.std.proofs.Common.{◌≡◌, ℕ, zero, suc, ◌+◌, ◌<◌, ◌≤◌, Bool, true, false, ◌&&◌, ◌||◌, not, List, [], ◌∷◌, ◌++◌, take, drop, Option, Some, None, length, refl, sym, ◌∙◌, subst, ap, arith, leb, eqb, append_assoc}
-use Rattle.std.specs.Prelude.{if◌then◌else◌, slice_index_or, Result, Ok, IfOk}
+use Rattle.std.proofs.Common.{◌≡◌, ℕ, zero, suc, ◌+◌, ◌≤◌, Bool, true, false, ◌&&◌, ◌||◌, not, List, [], ◌∷◌, ◌++◌, take, drop, Option, Some, None, length, refl, sym, ◌∙◌, subst, ap, arith, leb, eqb, append_assoc}
+use Rattle.std.specs.Prelude.{if◌then◌else◌, Result, Ok, IfOk}
 use Rattle.std.proofs.lemmas.Option.{none-some, same_Some}
 use Rattle.std.proofs.lemmas.Bool.{false≢true, le-leb, leb-true}
-use Rattle.std.proofs.lemmas.List.{append-nil, drop_more, take-append-drop}
+use Rattle.std.proofs.lemmas.List.{append-nil, take-append-drop}
 use Rattle.clause_store.specs.declared.Lit.{Lit}
 use Rattle.proof_log.specs.declared.line.Line.{Line}
 use Rattle.proof_log.specs.declared.line.Line.TheVariants.{Header, Learnt, Zero, One, Unsat, Spent, End}
@@ -14,7 +14,7 @@ use Rattle.log_checker.specs.declared.step.Why.TheVariants.{WrongCounts, OutOfOr
 use Rattle.log_checker.specs.Known.{rivals_in}
 use Rattle.log_checker.specs.Steps.{State, Going, Stopped, or_else, unless, begins, may_stand, ids_known, is_among, has_value, ids_fault, derivation_fault, own_fault, place_fault, plain_fault, fault, noted, accept, run}
 use Rattle.log_checker.specs.Blocks.{taken, take_in, own_chain, found, first_bad, either, is_late, verdict, one_more, progress_of, Grows}
-use Rattle.log_checker.proofs.Faults.{or_else-parts, or_else-both, unless-true}
+use Rattle.log_checker.proofs.Faults.{or_else-parts, unless-true}
 use Rattle.log_checker.proofs.Accepted.{stopped-stays, run-accept, run-refuse}
 use Rattle.log_checker.proofs.Later.{own-later, own-now}
 

@@ -1,7 +1,7 @@
 -- Buckets of places.
 use Prim.Native.Nat.{zero, suc}
 use Rattle.std.proofs.Common.{◌≡◌, ◌≢◌, ℕ, ◌+◌, ◌-◌, ◌<◌, ◌≤◌, Bool, true, false, not, ◌&&◌, ◌||◌, List, [], ◌∷◌, ◌++◌, take, length, Some, refl, sym, ap, ◌∙◌, subst, arith, slice_set, slice_get, eqb, inl, inr}
-use Rattle.std.specs.Prelude.{if◌then◌else◌, slice_index_or, Result, Ok, Err, is_err, OnOk, OnErr}
+use Rattle.std.specs.Prelude.{if◌then◌else◌, slice_index_or, Result, Ok, Err, is_err, OnOk}
 use Rattle.std.proofs.lemmas.Bool.{false≢true, and_parts, and_from}
 use Rattle.clause_store.proofs.Sets.{same_lit, lit_eq-refl}
 use Rattle.std.proofs.lemmas.Bool.Decides.{eqb_tells}
@@ -215,6 +215,11 @@ same_lits-is (l ∷ c) (m ∷ d) e = let p = and_parts (lit_eq l m) (same_lits c
 pub same_lits-refl : (c : List Lit) → same_lits c c ≡ true
 same_lits-refl [] = refl
 same_lits-refl (l ∷ c) = and_from (lit_eq l l) (same_lits c c) (lit_eq-refl l) (same_lits-refl c)
+
+-- what holds where a call did not fail, and what follows there
+pub on-ok : {T E : Type 0} {P Q : Type 0} (r : Result T E) → (P → Q) → OnOk r P → OnOk r Q
+on-ok (Ok x) f p = f p
+on-ok (Err x) f p = tt
 
 -- what a call that may fail put
 pub put : {T E : Type 0} {P : Type 0} (r : Result T E) → is_err r ≡ false → OnOk r P → P

@@ -1,6 +1,6 @@
 -- The copy of the input, and what a position keeps.
 use Prim.Native.Nat.{zero, suc}
-use Rattle.std.proofs.Common.{◌≡◌, ℕ, ◌+◌, ◌≤◌, Bool, true, false, ◌&&◌, not, List, [], ◌∷◌, ◌++◌, drop, take, Option, Some, None, length, refl, sym, ◌∙◌, subst, ap, arith, append_assoc, slice_get, eqb}
+use Rattle.std.proofs.Common.{◌≡◌, ℕ, ◌+◌, ◌≤◌, Bool, true, false, ◌&&◌, not, List, [], ◌∷◌, ◌++◌, drop, Option, Some, None, length, refl, sym, ◌∙◌, subst, ap, arith, append_assoc, slice_get, eqb}
 use Rattle.std.specs.Prelude.{if◌then◌else◌, is_some}
 use Rattle.std.specs.Option.{option_map}
 use Rattle.std.proofs.lemmas.Option.{none-some, same_Some}
@@ -17,7 +17,6 @@ use Rattle.log_checker.specs.declared.known.Known.{Known}
 use Rattle.log_checker.specs.declared.step.Why.TheVariants.{WrongCounts, OutOfOrder}
 use Rattle.log_checker.specs.Known.{rival, of_bit, as_known}
 use Rattle.log_checker.specs.Steps.{State, or_else, unless, begins, next_id, next_bit, may_stand, ids_fault, own_fault, place_fault, plain_fault, noted}
-use Rattle.log_checker.specs.Blocks.{Grows, mark_of, back_to}
 use Rattle.clause_store.specs.Lits.{IsClause}
 use Rattle.proof_log.specs.Known.{AllClauses}
 use Rattle.log_checker.specs.Known.{clauses_in}

@@ -1,24 +1,12 @@
 -- Signs of variables, literal by literal: the steps of the loops over a clause.
-use Rattle.std.proofs.Common.{◌≡◌, ◌≢◌, ◌⊎◌, ℕ, ◌+◌, ◌<◌, ◌≤◌, Bool, true, false, List, [], ◌∷◌, ◌++◌, drop, Option, Some, None, inl, inr, length, refl, sym, ◌∙◌, subst, ap, arith}
-use Rattle.std.specs.Prelude.{not, ◌&&◌, ◌||◌, eqb, if◌then◌else◌, Err, slice_index_or, is_some}
-use Rattle.std.specs.Bool.{beq}
-use Rattle.std.specs.Option.{option_to_list}
-use Rattle.std.proofs.lemmas.Bool.{false≢true, or_cases, or_left, or_right, cases_Bool}
+use Rattle.std.proofs.Common.{◌≡◌, ℕ, ◌+◌, ◌<◌, Bool, true, false, List, [], ◌∷◌, drop, Option, Some, None, inl, inr, length, sym, ◌∙◌, subst, ap}
+use Rattle.std.specs.Prelude.{◌&&◌, eqb, if◌then◌else◌, slice_index_or}
 use Rattle.std.proofs.lemmas.Bool.Decides.{eqb_tells}
-use Rattle.std.proofs.lemmas.Option.{none-some}
 use Rattle.std.proofs.lemmas.List.{drop_more}
 use Rattle.clause_store.specs.declared.Lit.{Lit}
-use Rattle.clause_store.specs.Lits.{var_of, negation, has, lit_eq, contained, IsClause, AllAbove}
-use Rattle.proof_log.specs.Derivations.{Clashes, IsResolvent}
-use Rattle.proof_log.specs.Resolution.{Resolved, no_pivot, two_pivots, result, resolved}
-use Rattle.clause_store.proofs.Sets.{negation-twice, one_sign, same_lit, lit_eq-refl}
-use Rattle.proof_log.proofs.Chains.{contained-has, has-contained}
-use Rattle.proof_log.proofs.Counting.{lit}
-use Rattle.proof_log.proofs.Resolvents.{resolved-result, resolved-no_pivot, resolved-two_pivots}
-use Rattle.log_checker.specs.declared.step.Why.TheVariants.{TwoPivots}
+use Rattle.clause_store.specs.Lits.{var_of}
 use Rattle.log_checker.specs.Steps.{is_value}
-use Rattle.log_checker.specs.Signs.{sign_in, with_sign, opposed, clashes, only_one, overlay, strip}
-use Rattle.log_checker.proofs.Values.{value-is, is-value, beq-refl}
+use Rattle.log_checker.specs.Signs.{with_sign, opposed, clashes, overlay, strip}
 
 pub overlay-same : (ls : List Lit) (f g : ℕ → Option Bool) → ((y : ℕ) → f y ≡ g y) → (x : ℕ) → overlay ls f x ≡ overlay ls g x
 overlay-same [] f g e x = e x

@@ -64,13 +64,16 @@ pub struct Mark {
     ended: bool,
 }
 
+/// How many buckets a store begins with at least.
+const LEAST_BUCKETS: usize = 64;
+
 /// The clauses of a list, as the first known ones.
 fn copy_all(alloc: Global, clauses: &ClauseList) -> Result<Store, AllocError>
     ensures copied { IfOk result (λ store. store ≡ as_known (clauses_of clauses.now.entries)) }
     ensures in_order { OnOk result (AllClauses (clauses_of clauses.now.entries)) }
 {
     let count = clauses.len();
-    let mut store = Store::new(alloc, (count as usize).max(4096))?;
+    let mut store = Store::new(alloc, (count as usize).max(LEAST_BUCKETS))?;
     for place in 0..count {
         match clauses.get(alloc, place + 1)? {
             Some(clause) => store.add(input_known(clause))?,
