@@ -22,7 +22,8 @@ use Rattle.run_output.specs.WriteStop.{WriteStop}
 use Rattle.run_output.specs.WriteStop.TheVariants.{Put, Output, NoMemory}
 use Rattle.concretizer.specs.Asked.{IsAsked, IsPutPath}
 use Rattle.concretizer.specs.Attempts.{Attempts, Follows}
-use Rattle.concretizer.specs.Headline.{Keeps}
+use Rattle.run_output.specs.Shown.{IsShown}
+use Rattle.concretizer.specs.Headline.{HasShown, Keeps}
 
 write_carried : (stop : WriteStop) (result : Result Outcome Stop) → IsErrAnd result (λ given. given ≡ Write stop) → result ≡ Err (Write stop)
 write_carried stop (Ok outcome) h = absurd h
@@ -122,3 +123,9 @@ pub follows : (words : List (List ℕ)) (lock cert : List ℕ) (task : Task) (st
 follows words lock cert task stop result before after said_before said_after carried asked work is_lock is_cert left =
     rw (write_carried stop result carried)
     (follows_here words lock cert task stop before after said_before said_after asked work is_lock is_cert left)
+
+-- what a command's yes shows
+pub has_shown : (words : List (List ℕ)) (command : Command) (before : Option Files) → Is (order_of words) (Ok command)
+    → IfSome before (λ files. IsShown files command) → IfSome before (λ files. HasShown files words)
+has_shown words command None ordered shown = tt
+has_shown words command (Some files) ordered shown = record { command = command; ordered = ordered; shown = shown }

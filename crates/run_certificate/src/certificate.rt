@@ -44,7 +44,8 @@ fn check_log<R: Threads + Sync, D: Desk>(
 ) -> Result<(), ReadStop>
     ensures read { IfSome (D.files desk.old) (λ files. Gives result (Is (said_at files path.now
         (begun clauses.now bits.now (option_map (λ v. v.now) values.entry))))) }
-    ensures logged { IfSome (D.files desk.old) (λ files. OnOk result ((lines : List Line)
+    ensures logged { OnOk result (IfSome (D.files desk.old)
+        (λ files. (lines : List Line)
         × IsLogOf clauses.now.vars (clauses_of clauses.now.entries) bits.now
         (option_map (λ v. v.now) values.entry) lines)) }
     ensures in_order { OnOk result (AllClauses (clauses_of clauses.now.entries)) }
@@ -81,7 +82,8 @@ fn check_over<R: Threads + Sync, D: Desk>(
     requires built { encoded.now ≡ encoding_of _problem.now }
     ensures read { IfSome (D.files desk.old) (λ files. Gives result (Is (certified_at files path.now
         _problem.now (option_map (λ n. n.now) numbers.entry)))) }
-    ensures shown { IfSome (D.files desk.old) (λ files. OnOk result (ShowsOf _problem.now
+    ensures shown { OnOk result (IfSome (D.files desk.old)
+        (λ files. ShowsOf _problem.now
         (option_map (λ n. n.now) numbers.entry))) }
     ensures path { FailsThere path.now result }
     ensures no_usage { EndsInUsage result → ⊥ }
@@ -126,7 +128,8 @@ pub fn read_certificate<R: Threads + Sync, D: Desk>(
     requires { closure.now ≡ closure_of problem.now }
     ensures read { IfSome (D.files desk.old) (λ files. Gives result (Is (certified_at files path.now
         problem.now (option_map (λ n. n.now) numbers.entry)))) }
-    ensures shown { IfSome (D.files desk.old) (λ files. OnOk result (ShowsOf problem.now
+    ensures shown { OnOk result (IfSome (D.files desk.old)
+        (λ files. ShowsOf problem.now
         (option_map (λ n. n.now) numbers.entry))) }
     ensures path { FailsThere path.now result }
     ensures no_usage { EndsInUsage result → ⊥ }

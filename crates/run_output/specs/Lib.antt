@@ -20,5 +20,6 @@ pub use Rattle.run_task.specs.Work
 pub use Rattle.run_task.specs.Input
 pub use Rattle.run_task.specs.Roots
 pub use Rattle.run_task.specs.Tasks
+pub use Rattle.run_task.specs.Shown
 pub use Rattle.run_task.specs.declared.task.Task
 pub use Rattle.best_graph.specs.declared.answer.Answer

@@ -54,8 +54,8 @@ pub(crate) fn read_acceptance<R: Threads + Sync, D: Desk>(
     ensures read { IfSome (D.files desk.old)
         (λ files. Gives result (AcceptanceOf files cert.now input.now.problem
         (option_map (λ n. n.now) numbers.entry))) }
-    ensures shown { IfSome (D.files desk.old) (λ files. OnOk result
-        (ShowsOf input.now.problem (option_map (λ n. n.now) numbers.entry))) }
+    ensures shown { OnOk result (IfSome (D.files desk.old)
+        (λ files. ShowsOf input.now.problem (option_map (λ n. n.now) numbers.entry))) }
     ensures yes { IfOk result IsYes }
     ensures path { FailsAtEither cert.now cert.now result }
     ensures no_usage { EndsInUsage result → ⊥ }
@@ -81,8 +81,8 @@ pub(crate) fn read_check<R: Threads + Sync, D: Desk>(
     requires { input.now.closure ≡ closure_of input.now.problem }
     ensures read { IfSome (D.files desk.old)
         (λ files. Gives result (CheckOf files lock.now cert.now input.now.problem)) }
-    ensures shown { IfSome (D.files desk.old)
-        (λ files. OnOk result (IsBestLock files lock.now input.now.problem)) }
+    ensures shown { OnOk result (IfSome (D.files desk.old)
+        (λ files. IsBestLock files lock.now input.now.problem)) }
     ensures yes { IfOk result IsYes }
     ensures path { FailsAtEither lock.now cert.now result }
     ensures no_usage { EndsInUsage result → ⊥ }

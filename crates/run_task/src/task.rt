@@ -47,8 +47,8 @@ fn task_by<R: Threads + Sync, D: Desk>(
     requires names { input.closure ≡ closure_of input.problem }
     ensures read { IfSome (D.files desk.old)
         (λ files. Gives result (TaskBy command.now.work files command.now input)) }
-    ensures shown { IfSome (D.files desk.old)
-        (λ files. OnOk result (ShownBy command.now.work files command.now input.problem)) }
+    ensures shown { OnOk result (IfSome (D.files desk.old)
+        (λ files. ShownBy command.now.work files command.now input.problem)) }
     ensures work { IfOk result (λ task. IsOf command.now.work task) }
     ensures ready { IfOk result (λ task. IsReady task) }
     ensures path { FailsAtTask command.now result }
@@ -88,8 +88,8 @@ fn read_over<R: Threads + Sync, D: Desk>(
     command: &Command<'_>,
 ) -> Result<Task, ReadStop>
     ensures read { IfSome (D.files desk.old) (λ files. Gives result (Over files command.now)) }
-    ensures shown { IfSome (D.files desk.old)
-        (λ files. OnOk result (IsShownOver files command.now)) }
+    ensures shown { OnOk result (IfSome (D.files desk.old)
+        (λ files. IsShownOver files command.now)) }
     ensures work { IfOk result (λ task. IsOf command.now.work task) }
     ensures ready { IfOk result (λ task. IsReady task) }
     ensures roots { IfOk result (λ task. (roots : List Spec)
@@ -152,8 +152,8 @@ pub fn read_task<R: Threads + Sync, D: Desk>(
     command: &Command<'_>,
 ) -> Result<Task, ReadStop>
     ensures read { IfSome (D.files desk.old) (λ files. Gives result (Named files command.now)) }
-    ensures shown { IfSome (D.files desk.old)
-        (λ files. OnOk result (IsShown files command.now)) }
+    ensures shown { OnOk result (IfSome (D.files desk.old)
+        (λ files. IsShown files command.now)) }
     ensures work { IfOk result (λ task. IsOf command.now.work task) }
     ensures ready { IfOk result (λ task. IsReady task) }
     ensures roots { IfOk result (λ task. (roots : List Spec)

@@ -54,15 +54,15 @@ here law files path problem lock numbers formed at e =
     let w = weighed_ok problem lock.graph numbers j.1 in
     record { lock = lock; at = at; roots = j.0; well_formed = formed; is_valid = (law problem lock.graph).1 w.0; costs = w.1 }
 
-by_result : ValidLaw → (files : Files) (path : List ℕ) (problem : Problem) (lock : Lock) (result : Result (List ℕ) ReadStop)
-    → IsWellFormed lock.graph → LockAt files path (Ok lock) → Gives result (Is (judged problem lock))
-    → IfOk result (λ numbers. IsValidLock files path problem numbers)
-by_result law files path problem lock (Ok numbers) formed at read = here law files path problem lock numbers formed at (sym read)
-by_result law files path problem lock (Err stop) formed at read = tt
+by_files : ValidLaw → (before : Option Files) (path : List ℕ) (problem : Problem) (lock : Lock) (numbers : List ℕ) → IsWellFormed lock.graph
+    → IfSome before (λ files. Gives {T = Lock} (Ok lock) (LockAt files path)) → judged problem lock ≡ Ok numbers
+    → IfSome before (λ files. IsValidLock files path problem numbers)
+by_files law None path problem lock numbers formed at e = tt
+by_files law (Some files) path problem lock numbers formed at e = here law files path problem lock numbers formed at e
 
 pub valid_lock : ValidLaw → (before : Option Files) (path : List ℕ) (problem : Problem) (lock : Lock) (result : Result (List ℕ) ReadStop)
     → IsWellFormed lock.graph → IfSome before (λ files. Gives {T = Lock} (Ok lock) (LockAt files path))
     → Gives result (Is (judged problem lock))
-    → IfSome before (λ files. IfOk result (λ numbers. IsValidLock files path problem numbers))
-valid_lock law None path problem lock result formed at read = tt
-valid_lock law (Some files) path problem lock result formed at read = by_result law files path problem lock result formed at read
+    → IfOk result (λ numbers. IfSome before (λ files. IsValidLock files path problem numbers))
+valid_lock law before path problem lock (Ok numbers) formed at read = by_files law before path problem lock numbers formed at (sym read)
+valid_lock law before path problem lock (Err stop) formed at read = tt

@@ -76,8 +76,8 @@ pub fn read_verdict<D: Desk>(
 ) -> Result<[u64; 31], ReadStop>
     ensures read { IfSome (D.files desk.old)
         (λ files. Gives result (Judges files path.now problem.now)) }
-    ensures lock { IfSome (D.files desk.old) (λ files. IfOk result
-        (λ numbers. IsValidLock files path.now problem.now numbers)) }
+    ensures lock { IfOk result (λ numbers. IfSome (D.files desk.old)
+        (λ files. IsValidLock files path.now problem.now numbers)) }
     ensures path { FailsAtLock path.now result }
     ensures no_usage { EndsInUsage result → ⊥ }
     ensures same { D.files desk.new ≡ D.files desk.old }
