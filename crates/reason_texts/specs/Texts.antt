@@ -1,7 +1,7 @@
 -- The lines of demands.
 use Rattle.std.specs.Prelude.{ℕ, ◌==◌, Bool, List, [], ◌∷◌, ◌++◌, Option, Some, None, slice_get, codes, decimal, if◌then◌else◌}
 use Rattle.std.specs.List.{list_any, flat_map}
-use Rattle.graph_core.specs.Graphs.{Text}
+use Rattle.problem.specs.OfGraphCore.Graphs.{Text}
 use Rattle.spec_grammar.specs.Canonical.{spec_text}
 use Rattle.spec_grammar.specs.declared.part.Spec.{Spec}
 use Rattle.problem.specs.Problems.{Problem, depends_at, conflicts_at}
@@ -18,21 +18,21 @@ text_of (Some spec) = spec_text spec
 unfoldable pub root_line : Problem → ℕ → List ℕ
 root_line problem place = codes "root " ++ (decimal place ++ (codes " " ++ (text_of (slice_get problem.roots place) ++ codes "\n")))
 
--- which directive of the package has the number
+-- which directive of the owner has the number
 unfoldable pub directive_word : Problem → Text → ℕ → List ℕ
-directive_word problem package number =
-    if list_any (λ row. row.number == number) (depends_at problem package) then codes "depends_on"
-    else if list_any (λ row. row.number == number) (conflicts_at problem package) then codes "conflicts"
+directive_word problem owner number =
+    if list_any (λ row. row.number == number) (depends_at problem owner) then codes "depends_on"
+    else if list_any (λ row. row.number == number) (conflicts_at problem owner) then codes "conflicts"
     else codes "requires"
 
--- a directive by its package, its word and its number
+-- a directive by its owner, its word and its number
 unfoldable pub directive_line : Problem → Text → ℕ → List ℕ
-directive_line problem package number =
-    package ++ (codes " " ++ (directive_word problem package number ++ (codes " " ++ (decimal number ++ codes "\n"))))
+directive_line problem owner number =
+    owner ++ (codes " " ++ (directive_word problem owner number ++ (codes " " ++ (decimal number ++ codes "\n"))))
 
 abbrev pub line_of : Problem → Demand → List ℕ
 line_of problem (demand.Root place) = root_line problem place
-line_of problem (demand.Directive package number) = directive_line problem package number
+line_of problem (demand.Directive owner number) = directive_line problem owner number
 
 abbrev pub line_for : Problem → Option Demand → List ℕ
 line_for problem None = []

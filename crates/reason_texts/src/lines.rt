@@ -1,6 +1,6 @@
 //! The lines of demands.
 
-ghost use Rattle.std.specs.Prelude.{◌≡◌, ◌++◌, ◌==◌, decimal, OnOk, IfOk};
+ghost use Rattle.std.specs.Prelude.{◌≡◌, ◌++◌, ◌==◌, decimal, slice_get, OnOk, IfOk};
 ghost use Rattle.std.specs.Option.{option_copied};
 ghost use Rattle.std.specs.List.{list_any};
 ghost use Rattle.problem.specs.Problems.{depends_at, conflicts_at};
@@ -21,7 +21,7 @@ fn write_number(alloc: Global, number: u64, out: &mut Vec<u8>) -> Result<(), All
 }
 
 fn write_text_of(alloc: Global, spec: Option<&Spec>, out: &mut Vec<u8>) -> Result<(), AllocError>
-    ensures { OnOk result (out.new.items ≡ out.old.items ++ texts.text_of (option_copied spec)) }
+    ensures { OnOk result (out.new.items ≡ out.old.items ++ texts.text_of (option_copied spec.entry)) }
 {
     match spec {
         Some(spec) => {
@@ -30,6 +30,12 @@ fn write_text_of(alloc: Global, spec: Option<&Spec>, out: &mut Vec<u8>) -> Resul
         }
         None => Ok(()),
     }
+}
+
+fn root_at(problem: &Problem, place: u64) -> Option<&Spec>
+    ensures { option_copied result ≡ slice_get problem.now.roots place }
+{
+    problem.roots().get(place as usize)
 }
 
 /// A root by its place and its canonical text.
@@ -45,34 +51,34 @@ fn write_root(
     out.extend_from_slice(b"root ")?;
     write_number(alloc, place, out)?;
     out.extend_from_slice(b" ")?;
-    write_text_of(alloc, problem.roots().get(place as usize), out)?;
+    write_text_of(alloc, root_at(problem, place), out)?;
     out.extend_from_slice(b"\n")
 }
 
-fn is_dependency(problem: &Problem, package: &str, number: u64) -> bool
-    ensures { result ≡ list_any (λ row. row.number == number) (depends_at problem.now package.now) }
+fn is_dependency(problem: &Problem, owner: &str, number: u64) -> bool
+    ensures { result ≡ list_any (λ row. row.number == number) (depends_at problem.now owner.now) }
 {
-    depends_at(problem, package)
+    depends_at(problem, owner)
         .iter()
         .any(|row| row.number == number)
 }
 
-fn is_conflict(problem: &Problem, package: &str, number: u64) -> bool
-    ensures { result ≡ list_any (λ row. row.number == number) (conflicts_at problem.now package.now) }
+fn is_conflict(problem: &Problem, owner: &str, number: u64) -> bool
+    ensures { result ≡ list_any (λ row. row.number == number) (conflicts_at problem.now owner.now) }
 {
-    conflicts_at(problem, package)
+    conflicts_at(problem, owner)
         .iter()
         .any(|row| row.number == number)
 }
 
 /// Which directive of a package has the number.
 #[tactic(auto, unfolding(crate::specs::Texts::directive_word))]
-fn directive_word(problem: &Problem, package: &str, number: u64) -> &'static str
-    ensures { result.now ≡ texts.directive_word problem.now package.now number }
+fn directive_word(problem: &Problem, owner: &str, number: u64) -> &'static str
+    ensures { result.now ≡ texts.directive_word problem.now owner.now number }
 {
-    if is_dependency(problem, package, number) {
+    if is_dependency(problem, owner, number) {
         "depends_on"
-    } else if is_conflict(problem, package, number) {
+    } else if is_conflict(problem, owner, number) {
         "conflicts"
     } else {
         "requires"
@@ -84,16 +90,16 @@ fn directive_word(problem: &Problem, package: &str, number: u64) -> &'static str
 fn write_directive(
     alloc: Global,
     problem: &Problem,
-    package: &str,
+    owner: &str,
     number: u64,
     out: &mut Vec<u8>,
 ) -> Result<(), AllocError>
     ensures { OnOk result (out.new.items ≡ out.old.items
-        ++ texts.directive_line problem.now package.now number) }
+        ++ texts.directive_line problem.now owner.now number) }
 {
-    out.extend_from_slice(package.as_bytes())?;
+    out.extend_from_slice(owner.as_bytes())?;
     out.extend_from_slice(b" ")?;
-    out.extend_from_slice(directive_word(problem, package, number).as_bytes())?;
+    out.extend_from_slice(directive_word(problem, owner, number).as_bytes())?;
     out.extend_from_slice(b" ")?;
     write_number(alloc, number, out)?;
     out.extend_from_slice(b"\n")
@@ -106,12 +112,15 @@ fn write_demand(
     out: &mut Vec<u8>,
 ) -> Result<(), AllocError>
     ensures { OnOk result (out.new.items ≡ out.old.items
-        ++ texts.line_for problem.now (option_copied demand)) }
+        ++ texts.line_for problem.now (option_copied demand.entry)) }
 {
     match demand {
         Some(Demand::Root(place)) => write_root(alloc, problem, *place, out),
-        Some(Demand::Directive { package, number }) => {
-            write_directive(alloc, problem, package.as_str(), *number, out)
+        Some(Demand::Directive {
+            package: owner,
+            number,
+        }) => {
+            write_directive(alloc, problem, owner.as_str(), *number, out)
         }
         None => Ok(()),
     }
