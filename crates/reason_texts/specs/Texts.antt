@@ -1,5 +1,5 @@
 -- The lines of demands.
-use Rattle.std.specs.Prelude.{ℕ, ◌==◌, Bool, List, [], ◌∷◌, ◌++◌, Option, Some, None, slice_get, codes, decimal, if◌then◌else◌}
+use Rattle.std.specs.Prelude.{ℕ, ◌==◌, List, [], ◌++◌, Option, Some, None, slice_get, codes, decimal, if◌then◌else◌}
 use Rattle.std.specs.List.{list_any, flat_map}
 use Rattle.problem.specs.OfGraphCore.Graphs.{Text}
 use Rattle.spec_grammar.specs.Canonical.{spec_text}

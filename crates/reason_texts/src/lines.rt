@@ -116,12 +116,12 @@ fn write_demand(
 {
     match demand {
         Some(Demand::Root(place)) => write_root(alloc, problem, *place, out),
-        Some(Demand::Directive {
-            package: owner,
-            number,
-        }) => {
-            write_directive(alloc, problem, owner.as_str(), *number, out)
-        }
+        Some(
+            Demand::Directive {
+                package: owner,
+                number,
+            },
+        ) => { write_directive(alloc, problem, owner.as_str(), *number, out) }
         None => Ok(()),
     }
 }

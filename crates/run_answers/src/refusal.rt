@@ -93,9 +93,8 @@ impl Refusal {
             | Refusal::LockTooLarge
             | Refusal::CertificateTooLarge => Status::TooLarge,
             Refusal::BadLock(fault) => lock_status(fault),
-            Refusal::OtherRoots
-            | Refusal::BrokenRule(_, _, _)
-            | Refusal::BadCertificate(_, _) => Status::Refused,
+            Refusal::OtherRoots | Refusal::BrokenRule(_, _, _) | Refusal::BadCertificate(_, _) =>
+                Status::Refused,
         }
     }
 
@@ -250,11 +249,7 @@ fn broken_line(alloc: Global, rule: Rule, node: &str, number: u64) -> Result<Str
 }
 
 #[tactic(auto, unfolding(crate::specs::Refusals::bad_certificate_line))]
-fn bad_certificate_line(
-    alloc: Global,
-    number: u64,
-    fault: LineFault,
-) -> Result<String, AllocError>
+fn bad_certificate_line(alloc: Global, number: u64, fault: LineFault) -> Result<String, AllocError>
     ensures { IfOk result (λ line. string_bytes line ≡ lines.bad_certificate_line number fault) }
 {
     let fault = line_fault_name(fault);

@@ -2,10 +2,9 @@
 
 ghost use Rattle.std.specs.Prelude.{◌≡◌, ◌∷◌, ◌++◌, IfOk};
 ghost use Rattle.std.specs.String.{string_bytes};
-ghost use Rattle.run_words.specs.Words.{words_of, joined_words, command_over, concretize_of, check_of, judge_of, refute_of, explain_of, trial_over, trial_of, command_of, is_wrong, unless_wrong, is_blank, is_same, is_dash};
+ghost use Rattle.run_words.specs.Words.{words_of, joined_words, command_over, is_wrong, unless_wrong, is_blank, is_same, is_dash};
 ghost use Rattle.run_words.specs.Words as words;
 
-use crate::number::number_in;
 use spec_grammar::is_white;
 use std::alloc::{AllocError, Global};
 use std::marker::Model;
@@ -72,7 +71,7 @@ fn is_blank(text: &[u8]) -> bool
 }
 
 #[tactic(auto, unfolding(crate::specs::Words::is_same))]
-fn is_same(a: &str, b: &str) -> bool
+pub(crate) fn is_same(a: &str, b: &str) -> bool
     ensures { result ≡ is_same a.now b.now }
 {
     a == b
@@ -94,9 +93,7 @@ fn lacks_file(command: &Command<'_>) -> bool
         Work::Concretize => is_dash(command.lock) || is_same(command.lock, command.cert),
         Work::Judge => is_dash(command.lock),
         Work::Check => {
-            is_dash(command.lock)
-                || is_dash(command.cert)
-                || is_same(command.lock, command.cert)
+            is_dash(command.lock) || is_dash(command.cert) || is_same(command.lock, command.cert)
         }
         Work::Refute => is_dash(command.cert),
         Work::Explain | Work::Trial { .. } => false,
@@ -112,7 +109,7 @@ fn is_wrong(command: &Command<'_>) -> bool
 
 #[tactic(auto, unfolding(crate::specs::Words::unless_wrong))]
 fn unless_wrong(command: Command<'_>) -> Option<Command<'_>>
-    ensures { result ≡ unless_wrong command }
+    ensures { result ≡ unless_wrong command.entry }
 {
     if is_wrong(&command) {
         None
@@ -123,17 +120,17 @@ fn unless_wrong(command: Command<'_>) -> Option<Command<'_>>
 
 /// The paths of a command.
 #[derive(Clone, Copy)]
-struct Paths<'a> {
-    repo: &'a str,
-    settings: &'a str,
-    database: &'a str,
-    lock: &'a str,
-    cert: &'a str,
+pub(crate) struct Paths<'a> {
+    pub(crate) repo: &'a str,
+    pub(crate) settings: &'a str,
+    pub(crate) database: &'a str,
+    pub(crate) lock: &'a str,
+    pub(crate) cert: &'a str,
 }
 
 /// The command over these paths with these words of the spec.
 #[tactic(auto, unfolding(crate::specs::Words::command_over))]
-fn command_over<'a>(
+pub(crate) fn command_over<'a>(
     alloc: Global,
     work: Work,
     paths: Paths<'a>,
@@ -141,11 +138,11 @@ fn command_over<'a>(
     more: &[String],
 ) -> Result<Option<Command<'a>>, AllocError>
     ensures { IfOk result (λ command. command ≡ command_over work (record {
-      repo = paths.repo.now;
-      settings = paths.settings.now;
-      database = paths.database.now;
-      lock = paths.lock.now;
-      cert = paths.cert.now;
+      repo = paths.entry.repo.now;
+      settings = paths.entry.settings.now;
+      database = paths.entry.database.now;
+      lock = paths.entry.lock.now;
+      cert = paths.entry.cert.now;
     }) first.now (words_of more.now)) }
 {
     let spec = join_words(alloc, first, more)?;
@@ -158,166 +155,4 @@ fn command_over<'a>(
         cert: paths.cert,
         spec,
     }))
-}
-
-/// The command that the words behind `concretize` make.
-#[tactic(auto, unfolding(crate::specs::Words::concretize_of))]
-fn read_concretize<'a>(
-    alloc: Global,
-    words: &'a [String],
-) -> Result<Option<Command<'a>>, AllocError>
-    ensures { IfOk result (λ command. command ≡ concretize_of (words_of words.now)) }
-{
-    let [repo, settings, database, lock, cert, first, more @ ..] = words else {
-        return Ok(None);
-    };
-    let paths = Paths {
-        repo: repo.as_str(),
-        settings: settings.as_str(),
-        database: database.as_str(),
-        lock: lock.as_str(),
-        cert: cert.as_str(),
-    };
-    command_over(alloc, Work::Concretize, paths, first.as_str(), more)
-}
-
-/// The command that the words behind `check` make.
-#[tactic(auto, unfolding(crate::specs::Words::check_of))]
-fn read_check<'a>(alloc: Global, words: &'a [String]) -> Result<Option<Command<'a>>, AllocError>
-    ensures { IfOk result (λ command. command ≡ check_of (words_of words.now)) }
-{
-    let [repo, settings, database, lock, cert, first, more @ ..] = words else {
-        return Ok(None);
-    };
-    let paths = Paths {
-        repo: repo.as_str(),
-        settings: settings.as_str(),
-        database: database.as_str(),
-        lock: lock.as_str(),
-        cert: cert.as_str(),
-    };
-    command_over(alloc, Work::Check, paths, first.as_str(), more)
-}
-
-/// The command that the words behind `judge` make.
-#[tactic(auto, unfolding(crate::specs::Words::judge_of))]
-fn read_judge<'a>(alloc: Global, words: &'a [String]) -> Result<Option<Command<'a>>, AllocError>
-    ensures { IfOk result (λ command. command ≡ judge_of (words_of words.now)) }
-{
-    let [repo, settings, database, lock, first, more @ ..] = words else {
-        return Ok(None);
-    };
-    let paths = Paths {
-        repo: repo.as_str(),
-        settings: settings.as_str(),
-        database: database.as_str(),
-        lock: lock.as_str(),
-        cert: "-",
-    };
-    command_over(alloc, Work::Judge, paths, first.as_str(), more)
-}
-
-/// The command that the words behind `refute` make.
-#[tactic(auto, unfolding(crate::specs::Words::refute_of))]
-fn read_refute<'a>(alloc: Global, words: &'a [String]) -> Result<Option<Command<'a>>, AllocError>
-    ensures { IfOk result (λ command. command ≡ refute_of (words_of words.now)) }
-{
-    let [repo, settings, database, cert, first, more @ ..] = words else {
-        return Ok(None);
-    };
-    let paths = Paths {
-        repo: repo.as_str(),
-        settings: settings.as_str(),
-        database: database.as_str(),
-        lock: "-",
-        cert: cert.as_str(),
-    };
-    command_over(alloc, Work::Refute, paths, first.as_str(), more)
-}
-
-/// The command that the words behind `explain` make.
-#[tactic(auto, unfolding(crate::specs::Words::explain_of))]
-fn read_explain<'a>(alloc: Global, words: &'a [String]) -> Result<Option<Command<'a>>, AllocError>
-    ensures { IfOk result (λ command. command ≡ explain_of (words_of words.now)) }
-{
-    let [repo, settings, database, first, more @ ..] = words else {
-        return Ok(None);
-    };
-    let paths = Paths {
-        repo: repo.as_str(),
-        settings: settings.as_str(),
-        database: database.as_str(),
-        lock: "-",
-        cert: "-",
-    };
-    command_over(alloc, Work::Explain, paths, first.as_str(), more)
-}
-
-/// A trial of so many packages.
-#[tactic(auto, unfolding(crate::specs::Words::trial_over))]
-fn trial_over<'a>(
-    alloc: Global,
-    packages: u64,
-    seed: u64,
-) -> Result<Option<Command<'a>>, AllocError>
-    ensures { IfOk result (λ command. command ≡ trial_over packages seed) }
-{
-    if 0 < packages && packages <= 1000 {
-        Ok(Some(Command {
-            work: Work::Trial { packages, seed },
-            repo: "repo",
-            settings: "-",
-            database: "-",
-            lock: "-",
-            cert: "-",
-            spec: String::from_str(alloc, "p0")?,
-        }))
-    } else {
-        Ok(None)
-    }
-}
-
-/// The command that the words behind `trial` make.
-#[tactic(auto, unfolding(crate::specs::Words::trial_of))]
-fn read_trial<'a>(alloc: Global, words: &'a [String]) -> Result<Option<Command<'a>>, AllocError>
-    ensures { IfOk result (λ command. command ≡ trial_of (words_of words.now)) }
-{
-    let [packages, seed] = words else {
-        return Ok(None);
-    };
-    let Some(packages) = number_in(alloc, packages.as_str())? else {
-        return Ok(None);
-    };
-    let Some(seed) = number_in(alloc, seed.as_str())? else {
-        return Ok(None);
-    };
-    trial_over(alloc, packages, seed)
-}
-
-/// The command that the words are; `None` where they are none.
-pub fn read_command<'a>(
-    alloc: Global,
-    words: &'a [String],
-) -> Result<Option<Command<'a>>, AllocError>
-    ensures { IfOk result (λ command. command ≡ command_of (words_of words.now)) }
-{
-    let [verb, more @ ..] = words else {
-        return Ok(None);
-    };
-    let verb = verb.as_str();
-    if is_same(verb, "concretize") {
-        read_concretize(alloc, more)
-    } else if is_same(verb, "judge") {
-        read_judge(alloc, more)
-    } else if is_same(verb, "check") {
-        read_check(alloc, more)
-    } else if is_same(verb, "refute") {
-        read_refute(alloc, more)
-    } else if is_same(verb, "explain") {
-        read_explain(alloc, more)
-    } else if is_same(verb, "trial") {
-        read_trial(alloc, more)
-    } else {
-        Ok(None)
-    }
 }
