@@ -1,5 +1,5 @@
 -- A lock file that is judged right.
-use Rattle.std.proofs.Common.{◌≡◌, ◌↔◌, refl, sym, ap, ◌∙◌, Bool, true, false, ℕ, List, Option, Some, None, Result, Ok, Err}
+use Rattle.std.proofs.Common.{◌≡◌, ◌↔◌, refl, sym, Bool, true, false, ℕ, List, Option, Some, None, Result, Ok, Err}
 use Rattle.std.specs.Prelude.{IfSome, IfOk}
 use Rattle.outside_desk.specs.Files.{Files}
 use Rattle.lockfile.specs.declared.lock.Lock.{Lock}
@@ -18,7 +18,7 @@ use Rattle.run_answers.specs.declared.refusal.Refusal.TheVariants as refusals
 use Rattle.run_answers.specs.declared.stop.ReadStop.{ReadStop}
 use Rattle.run_verdict.specs.Locks.{LockAt}
 use Rattle.run_verdict.specs.Roots.{are_roots_of}
-use Rattle.run_verdict.specs.Verdicts.{unless_broken, weighed, judged, IsValidLock}
+use Rattle.run_verdict.specs.Verdicts.{unless_broken, weighed, judged, IsRight, IsValidLock}
 
 -- no rule is broken, and these are the costs
 abbrev IsWeighed : Problem → Content → List ℕ → Type 0
@@ -47,22 +47,26 @@ judged_ok problem lock numbers e =
 abbrev pub ValidLaw : Type 0
 ValidLaw = (problem : Problem) (graph : Content) → (valid problem graph ≡ true) ↔ (verdict problem graph ≡ verdicts.Valid)
 
-here : ValidLaw → (files : Files) (path : List ℕ) (problem : Problem) (lock : Lock) (numbers : List ℕ) → IsWellFormed lock.graph
-    → LockAt files path (Ok lock) → judged problem lock ≡ Ok numbers → IsValidLock files path problem numbers
-here law files path problem lock numbers formed at e =
+here : ValidLaw → (problem : Problem) (lock : Lock) (numbers : List ℕ) → IsWellFormed lock.graph → judged problem lock ≡ Ok numbers
+    → IsRight problem lock numbers
+here law problem lock numbers formed e =
     let j = judged_ok problem lock numbers e in
     let w = weighed_ok problem lock.graph numbers j.1 in
-    record { lock = lock; at = at; roots = j.0; well_formed = formed; is_valid = (law problem lock.graph).1 w.0; costs = w.1 }
+    record { roots = j.0; well_formed = formed; is_valid = (law problem lock.graph).1 w.0; costs = w.1 }
 
-by_files : ValidLaw → (before : Option Files) (path : List ℕ) (problem : Problem) (lock : Lock) (numbers : List ℕ) → IsWellFormed lock.graph
-    → IfSome before (λ files. Gives {T = Lock} (Ok lock) (LockAt files path)) → judged problem lock ≡ Ok numbers
+pub right : ValidLaw → (problem : Problem) (lock : Lock) (result : Result (List ℕ) ReadStop) → IsWellFormed lock.graph
+    → Gives result (Is (judged problem lock)) → IfOk result (λ numbers. IsRight problem lock numbers)
+right law problem lock (Ok numbers) formed read = here law problem lock numbers formed (sym read)
+right law problem lock (Err stop) formed read = tt
+
+by_files : (before : Option Files) (path : List ℕ) (problem : Problem) (lock : Lock) (numbers : List ℕ)
+    → IfSome before (λ files. Gives {T = Lock} (Ok lock) (LockAt files path)) → IsRight problem lock numbers
     → IfSome before (λ files. IsValidLock files path problem numbers)
-by_files law None path problem lock numbers formed at e = tt
-by_files law (Some files) path problem lock numbers formed at e = here law files path problem lock numbers formed at e
+by_files None path problem lock numbers at is = tt
+by_files (Some files) path problem lock numbers at is = record { lock = lock; at = at; right = is }
 
-pub valid_lock : ValidLaw → (before : Option Files) (path : List ℕ) (problem : Problem) (lock : Lock) (result : Result (List ℕ) ReadStop)
-    → IsWellFormed lock.graph → IfSome before (λ files. Gives {T = Lock} (Ok lock) (LockAt files path))
-    → Gives result (Is (judged problem lock))
+pub valid_lock : (before : Option Files) (path : List ℕ) (problem : Problem) (lock : Lock) (result : Result (List ℕ) ReadStop)
+    → IfSome before (λ files. Gives {T = Lock} (Ok lock) (LockAt files path)) → IfOk result (λ numbers. IsRight problem lock numbers)
     → IfOk result (λ numbers. IfSome before (λ files. IsValidLock files path problem numbers))
-valid_lock law before path problem lock (Ok numbers) formed at read = by_files law before path problem lock numbers formed at (sym read)
-valid_lock law before path problem lock (Err stop) formed at read = tt
+valid_lock before path problem lock (Ok numbers) at is = by_files before path problem lock numbers at is
+valid_lock before path problem lock (Err stop) at is = tt

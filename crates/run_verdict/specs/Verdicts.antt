@@ -37,11 +37,15 @@ judged problem lock = do
 abbrev pub Judges : Files → List ℕ → Problem → Result (List ℕ) Refusal → Type 0
 Judges files path problem = Then (LockAt files path) (λ lock. Is (judged problem lock))
 
--- the file at the path is a lock file of just the roots that are asked for, and its graph is valid and has these costs
-pub record IsValidLock (files : Files) (path : List ℕ) (problem : Problem) (numbers : List ℕ) : Type 0 where
-  pub lock : Lock
-  pub at : LockAt files path (Ok lock)
+-- a lock file is one of just the roots that are asked for, and its graph is valid and has these costs
+pub record IsRight (problem : Problem) (lock : Lock) (numbers : List ℕ) : Type 0 where
   pub roots : are_roots_of lock.hashes problem.roots lock.roots ≡ true
   pub well_formed : IsWellFormed lock.graph
   pub is_valid : valid problem lock.graph ≡ true
   pub costs : vector problem lock.graph ≡ numbers
+
+-- the file at the path is such a lock file
+pub record IsValidLock (files : Files) (path : List ℕ) (problem : Problem) (numbers : List ℕ) : Type 0 where
+  pub lock : Lock
+  pub at : LockAt files path (Ok lock)
+  pub right : IsRight problem lock numbers

@@ -6,7 +6,7 @@ ghost use Rattle.graph_rules.specs.Verdict.{verdict};
 ghost use Rattle.run_answers.specs.Stages.{Is};
 ghost use Rattle.run_answers.specs.Stops.{Gives, EndsInReadFault, EndsInUsage};
 ghost use Rattle.run_verdict.specs.Locks.{FailsAtLock};
-ghost use Rattle.run_verdict.specs.Verdicts.{unless_broken, weighed, judged, Judges, IsValidLock};
+ghost use Rattle.run_verdict.specs.Verdicts.{unless_broken, weighed, judged, Judges, IsRight, IsValidLock};
 
 use crate::lock::read_lock_at;
 use crate::roots::are_roots_of;
@@ -14,7 +14,7 @@ use crate::whole::whole;
 use cost_vector::vector;
 use graph_core::Graph;
 use graph_judge::judge;
-use graph_rules::{Verdict, valid_laws};
+use graph_rules::{Verdict, rule_laws};
 use lockfile::Lock;
 use outside_desk::Desk;
 use problem::Problem;
@@ -62,6 +62,18 @@ fn judged(alloc: Global, problem: &Problem, lock: &Lock) -> Result<[u64; 31], Re
     weighed(alloc, problem, &lock.graph)
 }
 
+/// The roots, and then the graph, which is well-formed as every value of its type.
+fn judge_lock(alloc: Global, problem: &Problem, lock: &Lock) -> Result<[u64; 31], ReadStop>
+    ensures read { Gives result (Is (judged problem.now lock.now)) }
+    ensures right { IfOk result (λ numbers. IsRight problem.now lock.now numbers) }
+    ensures no_usage { EndsInUsage result → ⊥ }
+    ensures no_fault { EndsInReadFault result → ⊥ }
+{
+    rule_laws();
+    whole(&lock.graph);
+    judged(alloc, problem, lock)
+}
+
 /// What is said of the lock file at a path: the cost vector of its graph.
 ///
 /// # Errors
@@ -84,10 +96,8 @@ pub fn read_verdict<D: Desk>(
     ensures cause { Counts (D.faults desk.old) (D.faults desk.new) (EndsInReadFault result) }
     ensures put_faults { D.put_faults desk.new ≡ D.put_faults desk.old }
 {
-    valid_laws();
     let lock = read_lock_at(alloc, desk, path)?;
-    whole(&lock.graph);
-    let said = judged(alloc, problem, &lock);
+    let said = judge_lock(alloc, problem, &lock);
     drop(lock);
     said
 }
