@@ -11,7 +11,9 @@
 mod check;
 mod text;
 mod theorems;
+mod whole_text;
 
 pub use check::{check_certificate, check_refutation};
 pub use text::{TextAnswer, TextChecker};
 pub use theorems::{clause_laws, encoding_laws, text_laws};
+pub use whole_text::check_text;
