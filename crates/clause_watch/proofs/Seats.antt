@@ -100,7 +100,8 @@ module _ (t : TrailValue) (cs : List (List Lit)) (table : List (List Entry)) (or
       elim (cases_lt p.0 2) [
         | inr late ↦ a p.0 l late p.1 (λ v. ne (one_sign c l s.other rules.0 h guarded.has_second v))
         | inl low ↦ elim (cases_eq p.0 s.slot) [
-          | inl e ↦ subst (λ x. has (lits_of ps) (negation x) ≡ true) (same_Some lit l (sym f.slot.here ∙ ap (slice_get o) (sym e) ∙ p.1)) false-lit
+          | inl e ↦ subst (λ x. has (lits_of ps) (negation x) ≡ true) (same_Some lit l (sym f.slot.here ∙ ap (slice_get o) (sym e) ∙ p.1))
+              false-lit
           | inr nq ↦
               let lo = f.slot.low in
               let r : p.0 ≡ rest = omega (arith, low, lo, nq) in
@@ -145,7 +146,8 @@ module _ (t : TrailValue) (cs : List (List Lit)) (table : List (List Entry)) (or
           (follows-true t u s.other (place + 1) (inr (is, neither-free ps s.other no open_yet)))
 
   -- another literal takes its place
-  module _ (next : ℕ) (found : Lit) (one two : List (List Entry)) (at-next : slice_get o next ≡ Some found) (open_here : IsOpenAt ps o 2 s.other next)
+  module _ (next : ℕ) (found : Lit) (one two : List (List Entry)) (at-next : slice_get o next ≡ Some found)
+      (open_here : IsOpenAt ps o 2 s.other next)
       (pushed : RowIs table one found (row_of table found ++ kept ∷ []))
       (gone : RowIs one two lit (removed (row_of one lit) at)) where
     same-lit : open_here.lit ≡ found
@@ -197,7 +199,8 @@ module _ (t : TrailValue) (cs : List (List Lit)) (table : List (List Entry)) (or
     watched-after = record {
       same = λ l. swap-same o s.slot next slot-within next-within apart l ∙ watched.same l;
       single = λ few. absurd (let n = length-swap o s.slot next in let m = f.slot.many in omega (arith, n, m, few));
-      pair = either after s.slot rest found s.other both after-slot after-rest (IsGuarded ps head c) (guarded-lower ps head c found s.other moved)
+      pair = either after s.slot rest found s.other both after-slot after-rest (IsGuarded ps head c)
+          (guarded-lower ps head c found s.other moved)
           (guarded-turn ps head c found s.other (guarded-lower ps head c found s.other moved));
       first = either after s.slot rest found s.other both after-slot after-rest (λ a b. IsListed one a place) found-there
           (grows.keeps s.other 0 place rest-there);
