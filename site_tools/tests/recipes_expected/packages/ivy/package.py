@@ -1,0 +1,6 @@
+# Written by site_tools/import_repo from packages/ivy/package.py, with parts left out (see the report).
+class Ivy(Package):
+    variant("build_system", default="generic", values=("generic",))
+    version("1.0")
+    variant("d", default=False)
+    variant("e", default=False)
