@@ -141,7 +141,7 @@ def check_site() -> Check:
 def check_cases() -> Check:
     """The folders of tests/settings and tests/installed: files, words, and what comes of them."""
     for folder in sorted((TESTS / "settings").iterdir()):
-        words = (folder / "words").read_text("utf-8").split()
+        words = (folder / "words").read_text("utf-8").replace("@", str(folder)).split()
         with tempfile.TemporaryDirectory() as room:
             out = Path(room) / "settings.json"
             report = run(import_settings.main, out, *sorted(folder.glob("*.yaml")), *words)

@@ -69,12 +69,13 @@ def systems_of(given: argparse.Namespace, compilers: list[dict]) -> list[str]:
 
 def target_table(given: argparse.Namespace, packages: Any, generic: bool, notes: Notes) -> list[dict]:
     """The table of targets, those first that are preferred for all packages."""
+    targets.use(given.archspec)
     if given.targets:
         table = json.loads(given.targets.read_text("utf-8"))
     elif given.target in targets.PARENTS:
         table = targets.table_of(given.target, generic)
     else:
-        raise Cannot("a target that is not known here", f"`{given.target}`: give a table of targets by --targets")
+        raise Cannot("a target that is not known here", f"`{given.target}`: give archspec's table by --archspec")
     names = [each["name"] for each in table]
     wanted = list(yaml_texts.texts((packages or {}).get("all", {}).get("target", [])))
     for text in [text for text in wanted if text not in names]:
@@ -127,6 +128,7 @@ def main(words: Optional[list[str]] = None) -> int:
     which = parser.add_mutually_exclusive_group(required=True)
     which.add_argument("--target", help="the target of the machine, as `spack arch -t` names it")
     which.add_argument("--targets", type=Path, metavar="JSON", help="a table of targets, in the form of the settings' key")
+    parser.add_argument("--archspec", type=Path, metavar="JSON", help="archspec's microarchitectures.json, as Spack has it")
     given = parser.parse_args(words)
     notes = Notes()
     try:
@@ -134,7 +136,7 @@ def main(words: Optional[list[str]] = None) -> int:
     except Cannot as fault:
         print(f"import_settings: {fault.kind}: {fault.detail}", file=sys.stderr)
         return 2
-    except (OSError, ValueError, yaml_texts.NoYaml) as fault:
+    except (OSError, ValueError, KeyError, yaml_texts.NoYaml) as fault:
         print(f"import_settings: {fault}", file=sys.stderr)
         return 2
     given.out.write_text(text_of(settings), "utf-8")

@@ -236,7 +236,7 @@ class Reader:
                 self.set_machine(part, each, piece)
             return
         items = tuple(text.split(","))
-        pattern = rf"(?:{signs.VALUE})" if name == "target" else r"[A-Za-z0-9_\-+./]+"
+        pattern = r"[A-Za-z0-9_\-+./]+" if name != "target" else r"(?!$)[A-Za-z0-9_\-+./]*(?::[A-Za-z0-9_\-+./]*)?"
         if not all(re.fullmatch(pattern, item) for item in items) or name != "target" and len(items) > 1:
             raise self.fail("a value beyond the profile", f"`{name}={text}`")
         attribute = "targets" if name == "target" else name

@@ -1,8 +1,12 @@
 """Targets of processors and what each builds on: a small table of public knowledge (as archspec names them).
 
-Says which targets a machine can run; never looks at the machine. A target that is not here is given by a file of its
-own (`import_settings --targets`), since what it builds on is not guessed.
+Says which targets a machine can run; never looks at the machine. What a target that is not here builds on is not
+guessed: `import_settings` reads archspec's own table by `--archspec`, or a table of targets by `--targets`.
 """
+import json
+from pathlib import Path
+from typing import Optional
+
 X86 = {
     "x86_64": [], "x86_64_v2": ["x86_64"], "x86_64_v3": ["x86_64_v2"], "x86_64_v4": ["x86_64_v3"],
     "nocona": ["x86_64"], "core2": ["nocona"], "nehalem": ["core2", "x86_64_v2"], "westmere": ["nehalem"],
@@ -16,8 +20,10 @@ ARM = {
     "a64fx": ["armv8.2a"],
 }
 POWER = {"ppc64le": [], "power8le": ["ppc64le"], "power9le": ["power8le"], "power10le": ["power9le"]}
-PARENTS: dict[str, list[str]] = {**X86, **ARM, **POWER, "riscv64": [], "ppc64": []}
-GENERIC = frozenset({"x86_64", "x86_64_v2", "x86_64_v3", "x86_64_v4", "aarch64", "ppc64le", "riscv64", "ppc64"})
+KNOWN: dict[str, list[str]] = {**X86, **ARM, **POWER, "riscv64": [], "ppc64": []}
+KNOWN_GENERIC = ("x86_64", "x86_64_v2", "x86_64_v3", "x86_64_v4", "aarch64", "ppc64le", "riscv64", "ppc64")
+PARENTS: dict[str, list[str]] = {}
+GENERIC: set[str] = set()
 
 
 def ancestors(name: str) -> list[str]:
@@ -41,3 +47,18 @@ def nearest(name: str, names: list[str]) -> list[str]:
     for parent in PARENTS[name]:
         found += [each for each in ([parent] if parent in names else nearest(parent, names)) if each not in found]
     return found
+
+
+def use(path: Optional[Path]) -> None:
+    """Takes the table from archspec's own file, microarchitectures.json, or the one above where none is named."""
+    PARENTS.clear()
+    GENERIC.clear()
+    if path is None:
+        PARENTS.update(KNOWN)
+        GENERIC.update(KNOWN_GENERIC)
+        return
+    found = json.loads(path.read_text("utf-8"))["microarchitectures"]
+    for name, each in found.items():
+        parents = each["from"]
+        PARENTS[name] = [parents] if isinstance(parents, str) else list(parents)
+    GENERIC.update(name for name, each in found.items() if each.get("vendor") == "generic")
