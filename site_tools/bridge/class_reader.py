@@ -25,6 +25,11 @@ def called_name(node: ast.expr) -> str:
     return function.id if isinstance(function, ast.Name) else ""
 
 
+def has_changeable(value: Any) -> bool:
+    """Whether a value is, or holds, a list or a dictionary."""
+    return isinstance(value, (list, dict)) or isinstance(value, tuple) and any(map(has_changeable, value))
+
+
 @dataclass(frozen=True)
 class Around:
     """What stands around a statement: conditions of blocks, default arguments, and why nothing in it can be said."""
@@ -84,11 +89,19 @@ class ClassReader:
 
     def forget(self, statement: ast.AST, names: Names, why: str) -> None:
         """Makes the names that a statement gives or could change unknown."""
+        if any(isinstance(node, ast.Call) for node in ast.walk(statement)):
+            self.forget_changeable(names)
         for node in ast.walk(statement):
             if isinstance(node, (ast.Subscript, ast.Attribute)) and isinstance(node.ctx, ast.Store):
                 self.forget_base(node, names, why)
             if isinstance(node, ast.Name) and isinstance(node.ctx, (ast.Store, ast.Del)):
                 names[node.id] = Unknown(why)
+
+    def forget_changeable(self, names: Names) -> None:
+        """Makes the lists and dictionaries unknown, since a call of a function of the recipe may change any of them."""
+        for name in list(names):
+            if has_changeable(names[name]):
+                names[name] = Unknown("may be changed by a call")
 
     def forget_base(self, node: ast.expr, names: Names, why: str) -> None:
         """Makes the name in front of `.a` or `[a]` unknown."""
@@ -132,6 +145,7 @@ class ClassReader:
         owner = node.func.value if isinstance(node, ast.Call) and isinstance(node.func, ast.Attribute) else None
         if not (isinstance(owner, ast.Name) and owner.id in known):
             self.list_left_out(node, "call", "a call that is no directive", "it is not run")
+        self.forget_changeable(names)
         for name in known:
             names[name] = Unknown("may be changed by a call")
 
@@ -155,6 +169,9 @@ class ClassReader:
     def refuse(self, node: ast.Call, name: str, names: Names, kind: str, detail: str) -> None:
         """Lists a directive that is left out, and remembers the variant that is lost with it."""
         self.list_left_out(node, name, kind, detail)
+        for each in ast.walk(node):
+            if isinstance(each, ast.NamedExpr):
+                names[each.target.id] = Unknown("is given in an argument that is not followed")
         first = node.args[0] if node.args else None
         if name == "variant" and first is not None:
             try:
@@ -256,13 +273,24 @@ class ClassReader:
                 for name in node.names:
                     names[name] = Unknown("may be changed by a function")
 
+    def take_import(self, statement: ast.ImportFrom, names: Names, around: Around) -> None:
+        """An import: names of Spack mean what they mean; those of other modules are unknown, also where one is a directive's."""
+        module = (statement.module or "").split(".")[0]
+        if module in ("spack", "spack_repo", "itertools", "llnl", "typing") or statement.level:
+            return
+        for each in statement.names:
+            if each.name == "*":
+                self.list_left_out(statement, "import", "an import of all names of a module that is not Spack's", module)
+            else:
+                names[each.asname or each.name] = Unknown(f"is imported from {statement.module}")
+
     def skip(self, statement: ast.stmt, names: Names, around: Around) -> None:
-        """`pass`, imports: no effect on rows."""
+        """`pass`, `import a`: no effect on rows."""
 
 
 STEPS: dict[type, Callable[..., None]] = {
     ast.Assign: ClassReader.assign, ast.AnnAssign: ClassReader.assign_annotated, ast.AugAssign: ClassReader.assign_more,
     ast.Expr: ClassReader.expression, ast.For: ClassReader.loop, ast.If: ClassReader.branch, ast.With: ClassReader.block,
     ast.FunctionDef: ClassReader.function, ast.AsyncFunctionDef: ClassReader.function, ast.ClassDef: ClassReader.function,
-    ast.Pass: ClassReader.skip, ast.Import: ClassReader.skip, ast.ImportFrom: ClassReader.skip,
+    ast.Pass: ClassReader.skip, ast.Import: ClassReader.skip, ast.ImportFrom: ClassReader.take_import,
 }

@@ -81,6 +81,7 @@ class Call:
 
 def kinds_of(given: Any) -> tuple[str, ...]:
     """The kinds of a dependency, in the order that the profile has them."""
+    given = KINDS if given == "all" else given
     texts = (given,) if isinstance(given, str) else tuple(given if given is not None else ("build", "link"))
     if not texts or not set(texts) <= set(KINDS):
         raise Cannot("a kind of dependency that is none", f"`{given}`")

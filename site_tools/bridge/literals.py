@@ -28,6 +28,10 @@ class Unknown:
         self.why = why
 
 
+class Unordered(tuple):
+    """A set: it may be looped over, sorted, counted and searched; what would show its order is refused."""
+
+
 class ClassValue:
     """A class whose attributes may be asked for, as `CudaPackage.cuda_arch_values`."""
 
@@ -46,7 +50,7 @@ COMPARISONS: dict[type, Callable[[Any, Any], bool]] = {
 }
 FUNCTIONS: dict[str, Callable[..., Any]] = {
     "str": str, "int": int, "len": len, "list": list, "tuple": tuple, "dict": dict, "sorted": sorted,
-    "set": lambda given=(): list(dict.fromkeys(given)),
+    "set": lambda given=(): Unordered(dict.fromkeys(given)),
     "zip": lambda *lists: list(zip(*lists)), "enumerate": lambda *given: list(enumerate(*given)),
     "reversed": lambda given: list(reversed(given)), "min": min, "max": max, "any": any, "all": all, "bool": bool,
     "range": lambda *ends: short_range(*ends), "product": lambda *lists: list(itertools.product(*lists)),
@@ -54,6 +58,7 @@ FUNCTIONS: dict[str, Callable[..., Any]] = {
     "conditional": values_of.conditional, "any_combination_of": values_of.any_combination_of,
     "auto_or_any_combination_of": values_of.auto_or_any_combination_of, "disjoint_sets": values_of.disjoint_sets,
 }
+ORDERLESS = frozenset("set sorted len min max any all bool".split())
 METHODS: dict[type, frozenset[str]] = {
     str: frozenset("format join split replace lower upper strip lstrip rstrip startswith endswith title".split()),
     dict: frozenset("items keys values get".split()),
@@ -125,7 +130,7 @@ class Evaluator:
         found: list[Any] = []
         for node in nodes:
             if isinstance(node, ast.Starred):
-                found.extend(self.value(node.value))
+                found.extend(self.ordered(node.value))
             else:
                 found.append(self.value(node))
         return found
@@ -138,9 +143,16 @@ class Evaluator:
         """A list."""
         return self.items(node.elts)
 
-    def of_set(self, node: ast.Set) -> list:
-        """A set, in the order of the text (an order that Python does not promise is asked for nowhere)."""
-        return list(dict.fromkeys(self.items(node.elts)))
+    def of_set(self, node: ast.Set) -> Unordered:
+        """A set."""
+        return Unordered(dict.fromkeys(self.items(node.elts)))
+
+    def ordered(self, node: ast.expr) -> Any:
+        """A value whose order is looked at: a set has none."""
+        found = self.value(node)
+        if isinstance(found, Unordered) and len(found) > 1:
+            raise NotLiteral(f"`{source(node)}`, a set in some order")
+        return found
 
     def of_dict(self, node: ast.Dict) -> dict:
         """A dictionary, `**other` spread out."""
@@ -161,7 +173,7 @@ class Evaluator:
 
     def of_binop(self, node: ast.BinOp) -> Any:
         """`a + b` and the like."""
-        left, right = self.value(node.left), self.value(node.right)
+        left, right = self.ordered(node.left), self.ordered(node.right)
         numbers = [each for each in (left, right) if isinstance(each, int)]
         if isinstance(node.op, ast.Mult) and max(numbers + [0]) > LONGEST:
             raise NotLiteral(f"`{source(node)}` (too long)")
@@ -197,7 +209,7 @@ class Evaluator:
 
     def of_subscript(self, node: ast.Subscript) -> Any:
         """`a[b]`, `a[b:c]`."""
-        return self.value(node.value)[self.value(node.slice)]
+        return self.ordered(node.value)[self.value(node.slice)]
 
     def of_slice(self, node: ast.Slice) -> slice:
         """`b:c` in brackets."""
@@ -209,17 +221,20 @@ class Evaluator:
         if isinstance(node.func, ast.Attribute):
             name = node.func.attr
             if name in FUNCTIONS and not isinstance(node.func.value, ast.Constant) and name not in self.names:
-                return self.called(FUNCTIONS[name], node)  # spack.variant.any_combination_of, itertools.product
+                return self.called(FUNCTIONS[name], node, name in ORDERLESS)  # spack.variant.any_combination_of
             owner = self.value(node.func.value)
             if name in METHODS.get(type(owner), ()):
                 found = self.called(getattr(owner, name), node)
                 return list(found) if isinstance(owner, dict) and name != "get" else found
         elif name in FUNCTIONS and name not in self.names:
-            return self.called(FUNCTIONS[name], node)
+            return self.called(FUNCTIONS[name], node, name in ORDERLESS)
         raise NotLiteral(f"`{source(node)}`, a call")
 
-    def called(self, function: Callable[..., Any], node: ast.Call) -> Any:
-        """What a known function gives for the arguments."""
+    def called(self, function: Callable[..., Any], node: ast.Call, orderless: bool = False) -> Any:
+        """What a known function gives for the arguments, sets among them only where their order does not matter."""
+        if not orderless:
+            for each in [*node.args, *(word.value for word in node.keywords)]:
+                self.ordered(each.value if isinstance(each, ast.Starred) else each)
         words = {each.arg: self.value(each.value) for each in node.keywords if each.arg}
         if len(words) != len(node.keywords):
             raise NotLiteral(f"`{source(node)}`")
@@ -235,7 +250,7 @@ class Evaluator:
             if not rest:
                 found.append(result(inner))
                 return
-            for value in inner.value(rest[0].iter):
+            for value in inner.ordered(rest[0].iter):
                 bound = dict(names)
                 bind(rest[0].target, value, bound)
                 if all(Evaluator(bound).value(test) for test in rest[0].ifs):

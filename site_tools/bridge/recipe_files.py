@@ -4,6 +4,7 @@ Finds and parses; a file is parsed by `ast` and never run. Base classes come fro
 the repository, or from a folder of build systems.
 """
 import ast
+import copy
 import re
 import string
 from collections import ChainMap
@@ -27,6 +28,8 @@ class Module:
     classes: dict[str, ast.ClassDef] = field(default_factory=dict)
     imports: dict[str, str] = field(default_factory=dict)
     names: dict[str, Any] = field(default_factory=dict)
+    names_at: dict[str, dict[str, Any]] = field(default_factory=dict)  # as they are where a class begins
+    left_out: list[LeftOut] = field(default_factory=list)
 
 
 @dataclass
@@ -92,12 +95,15 @@ class Repository:
         except (SyntaxError, ValueError, RecursionError) as fault:
             raise Cannot("a file that is no Python", f"line {getattr(fault, 'lineno', None) or 1}") from fault
         module = self.modules[path] = Module(path, names={"sys.platform": PLATFORMS.get(self.platform, self.platform)})
+        reader = ClassReader(self.shown(path), self.dialect)
         for statement in tree.body:
             module.imports.update(imported(statement))
             if isinstance(statement, ast.ClassDef):
                 module.classes[statement.name] = statement
-        reader = ClassReader(self.shown(path), self.dialect)
-        reader.run([each for each in tree.body if not isinstance(each, ast.ClassDef)], module.names)
+                module.names_at[statement.name] = copy.deepcopy(module.names)
+            else:
+                reader.run([statement], module.names)
+        module.left_out = [each for each in reader.left_out if each.directive == "import"]
         return module
 
     def class_rows(self, module: Module, name: str, open_classes: tuple[str, ...] = ()) -> ClassRows:
@@ -111,11 +117,11 @@ class Repository:
         found = ClassRows([], [], set(), ClassValue({}), [])
         for base in reversed(node.bases):
             self.add_base(found, module, ast.unparse(base), node, open_classes + (own,))
-        names = ChainMap({}, self.class_values(module, node), module.names)
+        names = ChainMap({}, self.class_values(module, node), copy.deepcopy(module.names_at[name]))
         reader = ClassReader(self.shown(module.path), self.dialect, "python-venv" in self.folders)
         reader.run(node.body, names)
         found.rows += reader.rows
-        found.left_out += reader.left_out
+        found.left_out += [each for each in module.left_out if each not in found.left_out] + reader.left_out
         found.lost_variants |= reader.lost_variants
         found.value.names.update(names.maps[0])
         self.read[own] = found
@@ -149,7 +155,8 @@ class Repository:
             file = next((self.folders[each] for each in self.folders if each.replace("-", "_") == package.group(1).lstrip("_")), None)
             other = self.module(file) if file else None
             return (other, path.rpartition(".")[2]) if other and path.rpartition(".")[2] in other.classes else None
-        return (self.module(self.bases[name]), name) if name in self.bases else None
+        is_spacks = not path or path.lstrip(".").split(".")[0] in ("spack", "spack_repo") or path.startswith(".")
+        return (self.module(self.bases[name]), name) if name in self.bases and is_spacks else None
 
     def class_values(self, module: Module, node: ast.ClassDef) -> dict[str, ClassValue]:
         """The classes that a class body may ask for attributes by name."""

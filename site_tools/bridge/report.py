@@ -23,6 +23,7 @@ MEANING = {
     "generator": "the variant `generator` has the values of the base class",
     "class": "directives of the base class are missing",
     "call": "directives that such a call would make are missing",
+    "import": "names of that module may mean something else than Spack's",
 }
 LONGEST = 110
 

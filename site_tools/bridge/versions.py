@@ -87,6 +87,8 @@ class Version:
 
     def __init__(self, text: object) -> None:
         self.text = str(text)
+        if not signs.is_version(self.text):
+            raise ValueError(f"{self.text} is no version")
 
     def __str__(self) -> str:
         return self.text
@@ -95,6 +97,8 @@ class Version:
         return isinstance(other, Version) and key(self.text) == key(other.text)
 
     def __lt__(self, other: "Version") -> bool:
+        if set(PRE) & set(components(self.text) + components(other.text)):
+            raise ValueError("Spack's releases order alpha, beta and rc differently")
         return key(self.text) < key(other.text)
 
     def __hash__(self) -> int:

@@ -12,3 +12,7 @@ class Clover(Package):
 
     newest = max(Version("1.9"), Version("1.10"))
     conflicts(f"@{newest}")
+    if Version("2.0-rc1") < Version("2.0"):
+        conflicts("@2.0")
+    if Version("1.9") < ver("1.8:2"):
+        conflicts("@1.9")

@@ -1,4 +1,4 @@
-# Written by site_tools/import_repo from packages/clover/package.py.
+# Written by site_tools/import_repo from packages/clover/package.py, with parts left out (see the report).
 class Clover(Package):
     variant("build_system", default="generic", values=("generic",))
     version("2.4.1")
