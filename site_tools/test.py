@@ -177,6 +177,16 @@ def check_views() -> Check:
         yield from compared(f"views/{name}", run(*words).replace(f"{TOP}/", ""), TESTS / "views" / name)
 
 
+def check_completion() -> Check:
+    """What completion.bash offers in the top folder."""
+    script = 'source "$1"; shift; COMP_WORDS=(spack_concretize "$@") COMP_CWORD=$#; _spack_concretize; echo "${COMPREPLY[*]}"'
+    for text, wanted in rows(TESTS / "completion.rows"):
+        words = ["bash", "-c", script, "-", str(TOOLS / "completion.bash"), *text.split()]
+        found = subprocess.run(words, capture_output=True, text=True, cwd=TOP, check=False).stdout.strip()
+        if found != wanted:
+            yield f"completion.rows `{text}`", f"wanted {wanted!r}, got {found!r}"
+
+
 def check_manual() -> Check:
     """The man page is what the script makes of the documents."""
     yield from compared("manual", manual.page(TOP), TOOLS / "spack_concretize.1")
@@ -212,7 +222,7 @@ def check_program() -> Check:
 
 def check_style() -> Check:
     """Each module and function says what it does, has types, and is short."""
-    for path in [*sorted((TOOLS / "bridge").glob("*.py")), Path(__file__)]:
+    for path in [*sorted((TOOLS / "bridge").glob("*.py")), *sorted(TOOLS.glob("*.py"))]:
         text = path.read_text("utf-8")
         tree = ast.parse(text)
         if not ast.get_docstring(tree):
@@ -234,7 +244,7 @@ def main() -> int:
     begun, wrong = time.monotonic(), 0
     # The program's lock file is one that the views show, so it comes first.
     checks = (check_style, check_texts, check_literals, check_recipes, check_site, check_cases, check_program, check_views)
-    for check in (*checks, check_manual):
+    for check in (*checks, check_completion, check_manual):
         faults = list(check())
         wrong += len(faults)
         print(f"{check.__name__.removeprefix('check_')}: {'right' if not faults else f'{len(faults)} wrong'}")

@@ -104,7 +104,7 @@ class VariantReader:
             wanted = default.split(",")
         chosen = list(dict.fromkeys(signs.as_value(each).strip() for each in wanted))
         allowed = list(dict.fromkeys(allowed))
-        if default is None or not allowed or not set(chosen) <= set(allowed) or len(chosen) != 1 and not multi:
+        if default is None or not chosen or not set(chosen) <= set(allowed) or len(chosen) != 1 and not multi:
             raise Cannot("a default that is none of the values", f"`{default}`")
         text = quoted(chosen[0]) if len(chosen) == 1 else listed(chosen)
         return (f"default={text}", f"values={listed(allowed)}") + (("multi=True",) if multi else ())

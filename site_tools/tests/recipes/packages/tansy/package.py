@@ -18,6 +18,7 @@ class Tansy(Package):
     variant("mode", default="fast", values=("fast", "safe"), sticky=True, description="Never chosen by itself")
     variant("sets", default="a", values=("a", "b"), multi=True, validator=lambda *args: None, description="Tested")
     variant("odd", default="c", values=("a", "b"), description="A default that is none")
+    variant("empty", default=(), values=("a", "b"), multi=True, description="No default")
     variant("flag", default="a=b", values=("a=b", "c"), description="A value with a sign")
 
     depends_on("acorn", when="threads=64")
