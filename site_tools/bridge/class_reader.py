@@ -47,6 +47,7 @@ class ClassReader:
     file: str
     dialect: Dialect
     has_python_venv: bool = False
+    text: str = ""
     rows: list[Union[Row, VariantRow]] = field(default_factory=list)
     left_out: list[LeftOut] = field(default_factory=list)
     lost_variants: set[str] = field(default_factory=set)
@@ -61,7 +62,7 @@ class ClassReader:
 
     def list_left_out(self, node: ast.AST, name: str, kind: str, detail: str, is_note: bool = False) -> None:
         """Notes what is not taken."""
-        text = source(node)
+        text = " ".join((ast.get_source_segment(self.text, node) or source(node)).split()) if self.text else source(node)
         self.left_out.append(LeftOut(self.file, getattr(node, "lineno", 0), name, text, kind, detail, is_note))
 
     def unfollowed(self, statement: ast.stmt, names: Names, around: Around) -> None:

@@ -30,6 +30,7 @@ class Module:
     names: dict[str, Any] = field(default_factory=dict)
     names_at: dict[str, dict[str, Any]] = field(default_factory=dict)  # as they are where a class begins
     left_out: list[LeftOut] = field(default_factory=list)
+    text: str = ""
 
 
 @dataclass
@@ -91,11 +92,13 @@ class Repository:
         if path in self.modules:
             return self.modules[path]
         try:
-            tree = ast.parse(path.read_bytes())
+            text = path.read_text("utf-8")
+            tree = ast.parse(text)
         except (SyntaxError, ValueError, RecursionError) as fault:
             raise Cannot("a file that is no Python", f"line {getattr(fault, 'lineno', None) or 1}") from fault
-        module = self.modules[path] = Module(path, names={"sys.platform": PLATFORMS.get(self.platform, self.platform)})
-        reader = ClassReader(self.shown(path), self.dialect)
+        names = {"sys.platform": PLATFORMS.get(self.platform, self.platform)}
+        module = self.modules[path] = Module(path, names=names, text=text)
+        reader = ClassReader(self.shown(path), self.dialect, text=text)
         for statement in tree.body:
             module.imports.update(imported(statement))
             if isinstance(statement, ast.ClassDef):
@@ -118,7 +121,7 @@ class Repository:
         for base in reversed(node.bases):
             self.add_base(found, module, ast.unparse(base), node, open_classes + (own,))
         names = ChainMap({}, self.class_values(module, node), copy.deepcopy(module.names_at[name]))
-        reader = ClassReader(self.shown(module.path), self.dialect, "python-venv" in self.folders)
+        reader = ClassReader(self.shown(module.path), self.dialect, "python-venv" in self.folders, module.text)
         reader.run(node.body, names)
         found.rows += reader.rows
         found.left_out += [each for each in module.left_out if each not in found.left_out] + reader.left_out

@@ -8,6 +8,7 @@ from collections import Counter, defaultdict
 from dataclasses import dataclass
 from pathlib import Path
 
+from . import spec_text
 from .rows import Cannot, LeftOut, Recipe
 
 # What it means for the answers that a directive is not there.
@@ -25,6 +26,10 @@ MEANING = {
     "call": "directives that such a call would make are missing",
     "import": "names of that module may mean something else than Spack's",
 }
+HOW_TO_READ = (
+    "What is written says exactly what Spack's recipe says. What could not be said so is left out, and stands below with",
+    "its file, line and reason; the recipes in packages/ are plain text, so it can be added there by hand.",
+)
 LONGEST = 110
 
 
@@ -42,6 +47,13 @@ class Import:
     def partly(self) -> list[Recipe]:
         """Recipes with parts left out."""
         return [each for each in self.recipes if not each.is_whole()]
+
+
+def counts(found: Import) -> str:
+    """How many directives were written, and how many left out."""
+    written = sum(len(each.rows) for each in found.recipes)
+    left = sum(len(each.left_out) for each in found.recipes)
+    return f"{written} directives written, {left} left out"
 
 
 def summary(found: Import) -> str:
@@ -118,6 +130,19 @@ def lost_lines(found: Import) -> list[str]:
     return [f"{recipe.name}: {', '.join(sorted(recipe.lost_variants))}" for recipe in found.recipes if recipe.lost_variants]
 
 
+def asked_lines(found: Import) -> list[str]:
+    """Variants that a dependency asks for, of a package whose recipe has none of that name."""
+    has = {each.name: {row.arguments[0] for row in each.rows if row.directive == "variant"} for each in found.recipes}
+    asked: dict[tuple[str, str], set[str]] = defaultdict(set)
+    for recipe in found.recipes:
+        for row in [row for row in recipe.rows if row.directive == "depends_on" and row.names and row.names[0] in has]:
+            part = spec_text.read_dependency(row.arguments[0].strip('"'), spec_text.Dialect()).top
+            for name in part.variants:
+                if f'"{name}"' not in has[str(part.name)]:
+                    asked[str(part.name), name].add(recipe.name)
+    return [line for key in sorted(asked) for line in wrapped(f"{key[0]} {key[1]}: asked for by {', '.join(sorted(asked[key]))}")]
+
+
 def stand_ins_of(files: list[Path], found: Import) -> list[str]:
     """The stand-ins of base classes that were used, each with what its file says is not in it."""
     used = {base for recipe in found.recipes for base in recipe.bases}
@@ -138,13 +163,15 @@ def wrapped(text: str) -> list[str]:
 def text_of(found: Import, stand_ins: list[str]) -> str:
     """The whole report."""
     refused = [f"{name}: {fault.kind}: {fault.detail}" for name, fault in sorted(found.refused.items())]
-    lines = [f"import_repo: {summary(found)}"]
+    lines = [f"import_repo: {summary(found)}", counts(found), "", *HOW_TO_READ]
     lines += section("Left out: no recipe was written", refused)
     lines += section("Why parts were left out", reason_lines(found))
     lines += section("What that means for the answers", meaning_lines(found))
     lines += section("Variants that are missing", lost_lines(found))
+    lines += section("Variants that are asked for and that no recipe has: these dependencies cannot be met", asked_lines(found))
     lines += section("Names that no recipe has and none provides: nothing that asks for them can be met", unknown_lines(found))
     lines += section("Base classes that stand-ins were taken for (--build-systems names your Spack's own)", stand_ins)
     lines += section("Taken with parts left out", part_lines(found.partly()))
-    lines += section("Taken whole", wrapped(" ".join(each.name for each in found.whole())))
+    whole = "Taken whole" + (", but for what the stand-ins lack" if stand_ins else "")
+    lines += section(whole, wrapped(" ".join(each.name for each in found.whole())))
     return "\n".join(lines) + "\n"

@@ -17,6 +17,7 @@ class Juniper(Package):
     depends_on("py-pytest@7:", type=("test",))
     depends_on("onyx", type="all")
     depends_on("onyx", type="link", optional=True)
+    depends_on("tansy threads=64 mode=fast")
     extends("py-ember", when="@1.0")
     redistribute(source=False, when="@1.0")
     can_splice("juniper@0.9", when="@1.0")

@@ -11,4 +11,5 @@ class Juniper(Package):
     depends_on("basalt", type=("run", "test"))
     depends_on("py-pytest@7:", type="test")
     depends_on("onyx", type=("build", "link", "run", "test"))
+    depends_on("tansy mode=fast threads=64")
     depends_on("py-ember", type=("build", "run"), when="@1.0")
