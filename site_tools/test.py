@@ -162,10 +162,14 @@ def check_views() -> Check:
     """What lock_view and export_spec show of the lock files of the examples."""
     mpi, site = TOP / "examples" / "mpi", SITE / "hdf5.lock"
     broken = TESTS / "views" / "changed.lock"
+    mpi_costs = (lock_view.main, mpi / "hdf5.lock", "--vector", TESTS / "views" / "mpi.out")
+    site_costs = (lock_view.main, site, "--vector", TESTS / "answers" / "site_hdf5.wanted")
     views: dict[str, tuple] = {
         "mpi_dot.txt": (lock_view.main, mpi / "hdf5.lock", "--format", "dot"),
         "mpi_costs.txt": (lock_view.main, mpi / "hdf5.lock", "--vector", TESTS / "views" / "mpi.out"),
-        "mpi_all.txt": (lock_view.main, mpi / "hdf5.lock", "--vector", TESTS / "views" / "mpi.out", "--all"),
+        "mpi_reasons.txt": (*mpi_costs, "--settings", mpi / "settings.json"),
+        "site_costs.txt": (*site_costs, "--settings", SITE / "settings.json"),
+        "mpi_all.txt": (*mpi_costs, "--all"),
         "mpi_diff.txt": (lock_view.main, mpi / "hdf5.lock", "--diff", mpi / "broken.lock"),
         "site_diff.txt": (lock_view.main, mpi / "hdf5.lock", "--diff", site),
         "changed.txt": (lock_view.main, broken),

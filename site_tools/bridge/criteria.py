@@ -1,4 +1,6 @@
 """The 31 numbers of a cost vector in words, as docs/RULES.md has them."""
+import textwrap
+from typing import Callable, Optional
 
 WORDS = (
     "deprecated versions", "places that roots' versions stand behind the preferred ones",
@@ -23,9 +25,14 @@ def read(text: str) -> list[int]:
     return [int(word) for word in lines[-1]]
 
 
-def lines(vector: list[int], everything: bool = False) -> list[str]:
-    """The numbers in words, the heaviest first; those that are 0 only where all are asked for."""
+def lines(vector: list[int], reason_of: Callable[[int, int], Optional[str]], everything: bool = False) -> list[str]:
+    """The numbers in words with their reasons, the heaviest first; those that are 0 only where all are asked for."""
     names = [f"to build: {words}" for words in WORDS] + ["packages to build"] + [f"not to build: {words}" for words in WORDS]
-    return [
-        f"{place:4}. {number:6}  {name}" for place, (number, name) in enumerate(zip(vector, names), start=1) if number or everything
-    ]
+    found = []
+    for place, (number, name) in enumerate(zip(vector, names), start=1):
+        if number or everything:
+            found.append(f"{place:4}. {number:6}  {name}")
+        reason = reason_of(place, number) if number else None
+        indent = " " * 14
+        found += textwrap.wrap(reason or "", 110, initial_indent=indent, subsequent_indent=indent, break_on_hyphens=False)
+    return found

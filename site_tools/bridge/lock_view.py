@@ -4,12 +4,13 @@ With `--vector` it says what the 31 numbers are, in words: from a file with the 
 `--judge REPO SETTINGS DATABASE`, by asking the program. It computes no cost itself.
 """
 import argparse
+import json
 import subprocess
 import sys
 from pathlib import Path
 from typing import Optional
 
-from . import criteria, lock, lock_formats
+from . import cost_reasons, criteria, lock, lock_formats
 
 TOP = Path(__file__).resolve().parent.parent.parent
 
@@ -37,6 +38,12 @@ def vector_text(found: lock.Lock, given: argparse.Namespace) -> Optional[str]:
     return Path(given.vector).read_text("utf-8") if given.vector else None
 
 
+def settings_of(given: argparse.Namespace) -> Optional[dict]:
+    """The settings that the costs are by, where they are known; `-` are the standard ones."""
+    path = given.judge[1] if given.judge else given.settings
+    return None if path is None else {} if path == "-" else json.loads(Path(path).read_text("utf-8"))
+
+
 def arguments(words: Optional[list[str]]) -> argparse.Namespace:
     """The words of the command line."""
     parser = argparse.ArgumentParser(prog="lock_view", description=__doc__)
@@ -45,6 +52,7 @@ def arguments(words: Optional[list[str]]) -> argparse.Namespace:
     parser.add_argument("--diff", type=Path, metavar="OTHER", help="what is other in the lock file OTHER")
     parser.add_argument("--vector", metavar="FILE", help="what concretize or judge said, for the costs in words; - is standard input")
     parser.add_argument("--judge", nargs=3, metavar=("REPO", "SETTINGS", "DATABASE"), help="asks the program for the costs")
+    parser.add_argument("--settings", metavar="SETTINGS", help="with --vector: the settings, for more of the reasons")
     parser.add_argument("--all", action="store_true", help="also the costs that are 0")
     return parser.parse_args(words)
 
@@ -60,9 +68,10 @@ def main(words: Optional[list[str]] = None) -> int:
             lines = lock_formats.FORMATS[given.format](found)
         text = vector_text(found, given)
         if text is not None:
-            costs = criteria.lines(criteria.read(text), given.all)
+            reasons = cost_reasons.reasons(found, settings_of(given))
+            costs = criteria.lines(criteria.read(text), lambda *number: cost_reasons.text_of(*number, reasons), given.all)
             lines += ["", "Costs, the heaviest first (a number counts only where all before it are equal):"] + (costs or ["  none"])
-    except (OSError, lock.NoLock, criteria.NoVector, NotJudged) as fault:
+    except (OSError, ValueError, lock.NoLock, criteria.NoVector, NotJudged) as fault:
         print(f"lock_view: {fault}", file=sys.stderr)
         return 2
     print("\n".join(lines))

@@ -92,10 +92,10 @@ class Repository:
         if path in self.modules:
             return self.modules[path]
         try:
-            text = path.read_text("utf-8")
+            text = path.read_text("utf-8-sig")
             tree = ast.parse(text)
         except (SyntaxError, ValueError, RecursionError) as fault:
-            raise Cannot("a file that is no Python", f"line {getattr(fault, 'lineno', None) or 1}") from fault
+            raise Cannot("a file that is no Python in UTF-8", f"line {getattr(fault, 'lineno', None) or 1}") from fault
         names = {"sys.platform": PLATFORMS.get(self.platform, self.platform)}
         module = self.modules[path] = Module(path, names=names, text=text)
         reader = ClassReader(self.shown(path), self.dialect, text=text)
