@@ -2,7 +2,8 @@
 # Which file is the build of a program crate from these very sources, and how one is made. Sourced by the launchers at the
 # top and by the scripts of bench/ and tools/, with `top` set to the top of the checkout; it needs bash and coreutils.
 #
-#   launch NAME WORD..          runs NAME with the words; `--where` alone says which file that would be, and runs nothing
+#   launch NAME WORD..          runs NAME with the words; `--where` alone says which file that would be, `--help` how NAME is
+#                               called, `--version` of which sources it is: these three run and build nothing
 #   find_program NAME           sets `program` to a build of these sources and `why` to how that is known, or is false
 #   ready_program NAME          the same, and proves and builds one where none is there
 #   sources_hash NAME           the hash of all that NAME is made of
@@ -16,12 +17,51 @@
 # The program crates that are released.
 programs=(spack_concretize)
 
-# A status and the words of a run that ends with it, touches no file, and tells that a file is the program and runs here:
-# a status that neither `rt`, the shell nor the loader gives.
+# A status and the words of a run that ends with it, touches no file, whatever stands in the caller's folder, and tells
+# that a file is the program and runs here: a status that neither `rt`, the shell nor the loader gives.
 trial_of() {
   case $1 in
-  spack_concretize) echo 4 concretize r - - l - @ ;;
+  spack_concretize) echo 4 concretize /dev/null - - l - @ ;;
   esac
+}
+
+# How a program is called, for --help.
+help_of() {
+  case $1 in
+  spack_concretize) cat <<'HELP' ;;
+spack_concretize concretize REPO SETTINGS DATABASE LOCK CERT SPEC..
+    finds the best graph of the specs, and puts it at LOCK as a lock file
+spack_concretize judge REPO SETTINGS DATABASE LOCK SPEC..
+    says whether the graph of the lock file LOCK is valid, and what it costs
+
+REPO      a folder with packages/NAME/package.py           docs/formats/recipes.md
+SETTINGS  a JSON file, or - for the standard settings      docs/formats/settings.md
+DATABASE  what is installed, or - for nothing              docs/formats/database.md
+LOCK      where the lock file is put; judge reads it       docs/formats/lock-file.md
+CERT      where the log of the search is put, or -         docs/formats/proof_log.md
+SPEC      such as 'hdf5@1.14: +mpi ^mpich'                 docs/formats/specs.md
+
+0 done  1 unsatisfiable  2 usage  3 undecided  4 bad input  5 read fault  6 write fault  7 too large  8 refused
+9 no memory  10 no words  70 no program could be built. What a refusal means: docs/WHEN-REFUSED.md
+
+spack_concretize --where | --version | --help
+    which file runs, and why; of which sources it is; this text. They run nothing, and build nothing.
+HELP
+  *) echo "$1 WORD.. | --where | --version | --help" ;;
+  esac
+}
+
+# Of which sources a program is: their hash, and whether its release is of them.
+version_of() {
+  local hash fault key name of=none
+  hash="$(sources_hash "$1")" || hash='that cannot be read'
+  fault="$(release_fault "$1" "$hash" 2>/dev/null)"
+  printf '%s of the sources %s\n' "$1" "$hash"
+  printf 'release: %s\n' "${fault:-of these sources}"
+  while read -r key name; do
+    [ "$key" != kit ] || of=$name
+  done 2>/dev/null <"$top/release/PROVENANCE" || true
+  printf 'kit of the release: %s\n' "$of"
 }
 
 tell() { printf '%s\n' "$*" >&2; }
@@ -177,6 +217,16 @@ ready_program() {
 launch() {
   local name=$1
   shift
+  case "$*" in
+  --help | -h)
+    help_of "$name"
+    exit 0
+    ;;
+  --version)
+    version_of "$name"
+    exit 0
+    ;;
+  esac
   if [ "$*" = --where ]; then
     find_program "$name" || {
       tell "$name: $why; a call proves and builds one"

@@ -1,0 +1,20 @@
+# Written by site_tools/import_repo from packages/cmake/package.py.
+class Cmake(Package):
+    variant("build_system", default="generic", values=("generic",))
+    version("3.29.2")
+    version("3.28.5")
+    version("3.27.9")
+    version("3.20.6")
+    variant("ownlibs", default=True)
+    variant("ncurses", default=True)
+    depends_on("c", type="build")
+    depends_on("cxx", type="build")
+    depends_on("gmake", type=("build", "run"))
+    depends_on("ncurses", when="+ncurses")
+    with when("~ownlibs"):
+        depends_on("curl")
+        depends_on("zlib-api")
+        depends_on("zstd")
+        depends_on("expat", when="@3.20:")
+    depends_on("curl", when="+ownlibs")
+    conflicts("%gcc@:4.8", when="@3.11:")

@@ -1,0 +1,25 @@
+# Written by site_tools/import_repo from packages/openblas/package.py.
+class Openblas(Package):
+    with when("build_system=makefile"):
+        conflicts("platform=windows")
+        depends_on("gmake", type="build")
+    with when("build_system=cmake"):
+        variant("build_type", default="Release", values=("Debug", "Release", "RelWithDebInfo", "MinSizeRel"))
+        variant("ipo", default=False, when="^cmake@3.9:")
+        variant("generator", default="make", values=("make", "ninja"))
+        depends_on("cmake", type="build")
+        depends_on("gmake", type="build", when="generator=make")
+        depends_on("ninja", type="build", when="generator=ninja")
+    version("0.3.27")
+    version("0.3.26")
+    version("0.3.20")
+    variant("ilp64", default=False)
+    variant("shared", default=True)
+    variant("threads", default="none", values=("pthreads", "openmp", "none"))
+    variant("build_system", default="makefile", values=("makefile", "cmake"))
+    provides("blas", "lapack")
+    depends_on("c", type="build")
+    depends_on("fortran", type="build")
+    depends_on("perl", type="build")
+    conflicts("threads=openmp", when="%clang")
+    requires("%gcc@8:", "%clang", policy="any_of", when="@0.3.27:")

@@ -1,0 +1,22 @@
+# Written by site_tools/import_repo from packages/py-numpy/package.py.
+class PyNumpy(Package):
+    variant("build_system", default="python_pip", values=("python_pip",))
+    with when("build_system=python_pip"):
+        depends_on("python", type=("build", "run"))
+        depends_on("py-pip", type="build")
+        depends_on("py-wheel", type="build")
+    version("1.26.4")
+    version("1.24.4")
+    version("1.21.6")
+    depends_on("c", type="build")
+    depends_on("cxx", type="build")
+    depends_on("python@3.9:3.12", type=("build", "link", "run"), when="@1.26")
+    depends_on("python@3.8:3.11", type=("build", "link", "run"), when="@1.24")
+    depends_on("python@3.7:3.10", type=("build", "link", "run"), when="@1.21")
+    depends_on("py-cython@0.29.34:", type="build", when="@1.26:")
+    depends_on("py-cython@0.29.24:2", type="build", when="@:1.25")
+    depends_on("py-setuptools@:63", type="build", when="@:1.25")
+    depends_on("meson", type="build", when="@1.26:")
+    depends_on("blas")
+    depends_on("lapack")
+    conflicts("%gcc@:4.9", when="@1.21:")

@@ -1,0 +1,20 @@
+# Written by site_tools/import_repo from packages/zlib-ng/package.py.
+class ZlibNg(Package):
+    variant("build_system", default="cmake", values=("cmake",))
+    with when("build_system=cmake"):
+        variant("build_type", default="Release", values=("Debug", "Release", "RelWithDebInfo", "MinSizeRel"))
+        variant("ipo", default=False, when="^cmake@3.9:")
+        variant("generator", default="make", values=("make", "ninja"))
+        depends_on("cmake", type="build")
+        depends_on("gmake", type="build", when="generator=make")
+        depends_on("ninja", type="build", when="generator=ninja")
+    version("2.1.6")
+    version("2.1.5")
+    version("2.0.7")
+    variant("compat", default=True)
+    variant("opt", default=True)
+    variant("shared", default=True)
+    provides("zlib-api", when="+compat")
+    depends_on("c", type="build")
+    depends_on("cmake@3.5.1:", type="build")
+    conflicts("%gcc@:4")

@@ -1,0 +1,26 @@
+# Written by site_tools/import_repo from packages/zstd/package.py.
+class Zstd(Package):
+    with when("build_system=makefile"):
+        conflicts("platform=windows")
+        depends_on("gmake", type="build")
+    with when("build_system=cmake"):
+        variant("build_type", default="Release", values=("Debug", "Release", "RelWithDebInfo", "MinSizeRel"))
+        variant("ipo", default=False, when="^cmake@3.9:")
+        variant("generator", default="make", values=("make", "ninja"))
+        depends_on("cmake", type="build")
+        depends_on("gmake", type="build", when="generator=make")
+        depends_on("ninja", type="build", when="generator=ninja")
+    version("1.5.6")
+    version("1.5.5")
+    variant("programs", default=False)
+    variant("compression", default="none", values=("none", "zlib", "lz4", "lzma"), multi=True, when="+programs")
+    conflicts("compression=none,zlib", when="+programs")
+    conflicts("compression=lz4,none", when="+programs")
+    conflicts("compression=lzma,none", when="+programs")
+    variant("libs", default=("shared", "static"), values=("shared", "static"), multi=True)
+    variant("build_system", default="makefile", values=("cmake", "makefile"))
+    depends_on("c", type="build")
+    depends_on("cxx", type="build")
+    depends_on("zlib-api", when="compression=zlib")
+    depends_on("lz4", when="compression=lz4")
+    depends_on("xz", when="compression=lzma")

@@ -1,0 +1,78 @@
+"""`lock_view`: a lock file as a tree like `spack spec` prints, as a table, for graphviz, or as JSON by names.
+
+With `--vector` it says what the 31 numbers are, in words: from a file with the program's output, from `-`, or, with
+`--judge REPO SETTINGS DATABASE`, by asking the program. It computes no cost itself.
+"""
+import argparse
+import json
+import subprocess
+import sys
+from pathlib import Path
+from typing import Optional
+
+from . import cost_reasons, criteria, lock, lock_formats
+
+TOP = Path(__file__).resolve().parent.parent.parent
+
+
+class NotJudged(RuntimeError):
+    """The program did not say `valid`."""
+
+
+def judged(found: lock.Lock, path: Path, words: list[str]) -> str:
+    """What the program's `judge` says of the lock file."""
+    specs = " ".join(spec for spec, _ in found.roots)
+    command = [str(TOP / "spack_concretize"), "judge", *words, str(path), specs]
+    done = subprocess.run(command, capture_output=True, text=True, check=False)
+    if done.returncode != 0:
+        raise NotJudged(done.stderr.strip() or f"the program ended with {done.returncode}")
+    return done.stdout
+
+
+def vector_text(found: lock.Lock, given: argparse.Namespace) -> Optional[str]:
+    """The text with the vector's line; None where none was asked for."""
+    if given.judge:
+        return judged(found, given.lock, given.judge)
+    if given.vector == "-":
+        return sys.stdin.read()
+    return Path(given.vector).read_text("utf-8") if given.vector else None
+
+
+def settings_of(given: argparse.Namespace) -> Optional[dict]:
+    """The settings that the costs are by, where they are known; `-` are the standard ones."""
+    path = given.judge[1] if given.judge else given.settings
+    return None if path is None else {} if path == "-" else json.loads(Path(path).read_text("utf-8"))
+
+
+def arguments(words: Optional[list[str]]) -> argparse.Namespace:
+    """The words of the command line."""
+    parser = argparse.ArgumentParser(prog="lock_view", description=__doc__)
+    parser.add_argument("lock", type=Path, metavar="LOCK", help="a lock file")
+    parser.add_argument("--format", choices=sorted(lock_formats.FORMATS), default="tree", help="tree is the standard")
+    parser.add_argument("--diff", type=Path, metavar="OTHER", help="what is other in the lock file OTHER")
+    parser.add_argument("--vector", metavar="FILE", help="what concretize or judge said, for the costs in words; - is standard input")
+    parser.add_argument("--judge", nargs=3, metavar=("REPO", "SETTINGS", "DATABASE"), help="asks the program for the costs")
+    parser.add_argument("--settings", metavar="SETTINGS", help="with --vector: the settings, for more of the reasons")
+    parser.add_argument("--all", action="store_true", help="also the costs that are 0")
+    return parser.parse_args(words)
+
+
+def main(words: Optional[list[str]] = None) -> int:
+    """Shows a lock file: 0 where it was shown, 2 where it is none or the program refuses it."""
+    given = arguments(words)
+    try:
+        found = lock.read(given.lock)
+        if given.diff:
+            lines = lock_formats.diff_lines(found, lock.read(given.diff))
+        else:
+            lines = lock_formats.FORMATS[given.format](found)
+        text = vector_text(found, given)
+        if text is not None:
+            reasons = cost_reasons.reasons(found, settings_of(given))
+            costs = criteria.lines(criteria.read(text), lambda *number: cost_reasons.text_of(*number, reasons), given.all)
+            lines += ["", "Costs, the heaviest first (a number counts only where all before it are equal):"] + (costs or ["  none"])
+    except (OSError, ValueError, lock.NoLock, criteria.NoVector, NotJudged) as fault:
+        print(f"lock_view: {fault}", file=sys.stderr)
+        return 2
+    print("\n".join(lines))
+    return 0

@@ -1,0 +1,79 @@
+"""What an import gives: the rows of a recipe, and what was left out.
+
+Data alone.
+"""
+from dataclasses import dataclass, field
+from typing import Optional
+
+
+class Cannot(ValueError):
+    """Something of a recipe that the profile cannot say: a kind of reason, and what it is here."""
+
+    def __init__(self, kind: str, detail: str) -> None:
+        super().__init__(f"{kind}: {detail}")
+        self.kind, self.detail = kind, detail
+
+
+@dataclass(frozen=True)
+class Conditions:
+    """The conditions of the blocks around a directive, the outermost first, and its own."""
+
+    blocks: tuple[str, ...] = ()
+    own: Optional[str] = None
+
+    def all(self) -> frozenset[str]:
+        """All of them, as a set: they hold together in any order."""
+        return frozenset(self.blocks + ((self.own,) if self.own else ()))
+
+    def with_own_as_block(self) -> tuple[str, ...]:
+        """The same with the own one as the innermost block."""
+        return self.blocks + ((self.own,) if self.own else ())
+
+
+@dataclass(frozen=True)
+class Row:
+    """One directive of the recipe that is written: its name, its arguments as text, its conditions."""
+
+    directive: str
+    arguments: tuple[str, ...]
+    conditions: Conditions = Conditions()
+    names: tuple[str, ...] = ()  # the packages that it names (of provides: the virtuals)
+
+
+@dataclass(frozen=True)
+class VariantRow:
+    """A definition of a variant, with the rows that say what its values may not be together."""
+
+    name: str
+    row: Row
+    rules: tuple[Row, ...] = ()
+
+
+@dataclass(frozen=True)
+class LeftOut:
+    """Something that was not taken: where it stands, its text, and why."""
+
+    file: str
+    line: int
+    directive: str
+    text: str
+    kind: str
+    detail: str
+    is_note: bool = False  # a note changes nothing in what the recipe says
+
+
+@dataclass
+class Recipe:
+    """A package as it is written, and what was left out of it."""
+
+    name: str
+    file: str
+    class_name: str
+    rows: list[Row] = field(default_factory=list)
+    left_out: list[LeftOut] = field(default_factory=list)
+    bases: list[str] = field(default_factory=list)
+    lost_variants: set[str] = field(default_factory=set)
+
+    def is_whole(self) -> bool:
+        """Whether nothing was left out."""
+        return all(each.is_note for each in self.left_out)

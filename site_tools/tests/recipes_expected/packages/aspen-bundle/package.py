@@ -1,0 +1,15 @@
+# Written by site_tools/import_repo from packages/aspen-bundle/package.py.
+class AspenBundle(Package):
+    variant("build_system", default="bundle", values=("bundle",))
+    version("2024.1")
+    version("2023.2")
+    depends_on("acorn", type="run")
+    depends_on("cedar", type="run")
+    depends_on("dunes", type="run")
+    depends_on("acorn@1.4:", type="run", when="@2024.1")
+    depends_on("cedar@4:", type="run", when="@2024.1")
+    depends_on("dunes@0.9:", type="run", when="@2024.1")
+    depends_on("py-ember", type=("build", "run"))
+    variant("full", default=True)
+    variant("docs", default=False)
+    depends_on("basalt", type="run", when="+docs +full")

@@ -1,0 +1,11 @@
+# Written by site_tools/import_repo from packages/ivy/package.py, with parts left out (see the report).
+class Ivy(Package):
+    variant("build_system", default="generic", values=("generic",))
+    version("1.0")
+    depends_on("pine", when="+before")
+    variant("d", default=False)
+    variant("e", default=False)
+    depends_on("basalt", when="+x")
+    depends_on("basalt", when="+y")
+    depends_on("quartz", when="+g")
+    depends_on("quartz", when="+h")

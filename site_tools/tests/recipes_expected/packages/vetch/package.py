@@ -1,0 +1,5 @@
+# Written by site_tools/import_repo from packages/vetch/package.py, with parts left out (see the report).
+class Vetch(Package):
+    variant("build_system", default="generic", values=("generic",))
+    version("1.1")
+    depends_on("cedar")
