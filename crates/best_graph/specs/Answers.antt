@@ -12,7 +12,9 @@ use Rattle.graph_core.specs.Graphs.{Content}
 use Rattle.problem.specs.Nodes.{IsWellFormed}
 use Rattle.problem.specs.Problems.{Problem}
 use Rattle.graph_costs.specs.Optimal.{IsOptimal, HasNoGraph}
-use Rattle.problem_encoding.specs.Encodings.{Encodes}
+use Rattle.graph_decoding.specs.Decoding.{decode as table_decode}
+use Rattle.problem_encoding.specs.Encodings.{Encodes, IsEncoded}
+use Rattle.problem_encoding.specs.Built.{is_encodable, encoding_of}
 use Rattle.best_graph.specs.declared.answer.Answer.{Answer}
 use Rattle.best_graph.specs.declared.answer.Answer.TheVariants.{Best, Nothing, Undecided}
 
@@ -36,12 +38,18 @@ Shows clauses bits decode budget (Best graph log) =
 Shows clauses bits decode budget (Nothing log) = IsFound clauses bits budget (found.Refuted log)
 Shows clauses bits decode budget (Undecided log) = IsFound clauses bits budget (found.Spent log) × (budget < 3 ^ clauses.vars)
 
--- an answer, with clauses of the problem over which its log shows it; each line of the log may be written
+-- an answer, with clauses of the problem over which its log shows it: those of its encoding, with the bits and the table of this;
+-- each line of the log may be written
 pub record IsAnswer (problem : Problem) (budget : ℕ) (answer : Answer) : Type 0 where
   pub means : Means problem budget answer
   pub writable : AllLines (λ line. may_write line ≡ true) (log_of answer)
   pub clauses : Clauses
   pub bits : List Lit
   pub decode : (ℕ → Bool) → Content
+  pub encodable : is_encodable problem ≡ true
+  pub encoded : IsEncoded problem (encoding_of problem)
+  pub are_clauses : clauses ≡ (encoding_of problem).clauses
+  pub are_bits : bits ≡ (encoding_of problem).bits.lits
+  pub decodes : decode ≡ (λ v. table_decode v (encoding_of problem).table)
   pub encodes : Encodes problem clauses bits decode
   pub shows : Shows clauses bits decode budget answer

@@ -6,6 +6,7 @@ ghost use Rattle.proof_log.specs.Lines.{AllLines};
 ghost use Rattle.proof_log.specs.Texts.{may_write};
 ghost use Rattle.optimum_search.specs.Finding.{IsFound};
 ghost use Rattle.possible_closure.specs.Closures.{closure_of};
+ghost use Rattle.problem_encoding.specs.Built.{is_encodable, encoding_of};
 ghost use Rattle.problem_encoding.specs.Encodings.{IsEncoded};
 ghost use Rattle.best_graph.specs.Answers.{IsAnswer};
 
@@ -15,7 +16,7 @@ use graph_decoding::decode;
 use optimum_search::{Found, found_laws, search_by_numbers};
 use possible_closure::Closure;
 use problem::Problem;
-use problem_encoding::{Encoded, encode};
+use problem_encoding::{Encoded, encode, number_ends};
 use proof_log::{Log, may_write};
 use std::alloc::{AllocError, Global};
 
@@ -30,11 +31,12 @@ pub fn best_graph(
     ensures { IfOk result (IsAnswer problem.now budget) }
 {
     let encoded = encode(alloc, problem, closure)?;
+    let ends = number_ends(alloc, encoded.bits.tops())?;
     let found = search_by_numbers(
         alloc,
         &encoded.clauses,
-        encoded.bits.as_slice(),
-        encoded.ends.as_slice(),
+        encoded.bits.lits(),
+        ends.as_slice(),
         budget,
     )?;
     answer_of(alloc, problem, &encoded, budget, found)
@@ -56,7 +58,9 @@ fn answer_of(
     found: Found,
 ) -> Result<Answer, AllocError>
     requires encoded { IsEncoded _problem.now encoded.now }
-    requires found { IsFound encoded.now.clauses encoded.now.bits _budget found }
+    requires encodable { is_encodable _problem.now ≡ true }
+    requires built { encoded.now ≡ encoding_of _problem.now }
+    requires found { IsFound encoded.now.clauses encoded.now.bits.lits _budget found }
     requires in_order { AllClauses (clauses_of encoded.now.clauses.entries) }
     ensures { IfOk result (IsAnswer _problem.now _budget) }
 {

@@ -1,2 +1,4 @@
 pub mod Whole
 pub mod Ruled
+pub mod Same
+pub mod Lengths

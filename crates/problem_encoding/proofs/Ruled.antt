@@ -20,16 +20,28 @@ use Rattle.ranked_costs.specs.OfClosureEncoding.Targets.{conditions_of, targets_
 use Rattle.ranked_costs.specs.OfClosureEncoding.Joined.{IsPlaced, holds_at}
 use Rattle.ranked_costs.specs.OfClosureEncoding.Closures.{closure_formulas, ClosureIsRight}
 use Rattle.problem_formulas.specs.Given.{no_place, formulas_given}
+use Rattle.ranked_costs.specs.OfClosureEncoding.Kept.{has_right_values}
+use Rattle.ranked_costs.specs.OfClosureEncoding.Closures.{closure_clauses}
+use Rattle.ranked_costs.specs.Ranked.{closure_values}
+use Rattle.possible_closure.specs.Closures.{closure_of}
 use Rattle.problem_encoding.specs.Encodings.{IsRuled}
 
-module _ (problem : Problem) (names : List Text) (closure : IsClosure problem names) (has : have_values problem names ≡ true) (right : ClosureIsRight) where
-  placed : IsPlaced (conditions_of problem (table_for problem names)) no_place
-  placed name when k e = absurd (none-some k e)
+-- no condition has a place
+pub unplaced : (problem : Problem) (names : List Text) → IsPlaced (conditions_of problem (table_for problem names)) no_place
+unplaced problem names name when k e = absurd (none-some k e)
 
+-- what is made over some closed names
+abbrev Over : Problem → Table → ProblemClauses → List Text → Type 0
+Over problem t made names =
+    IsClosure problem names × (have_values problem names ≡ true) × (t ≡ table_for problem names)
+    × (made.list ≡ closure_clauses problem names no_place) × (made.values ≡ closure_values problem names no_place)
+
+module _ (problem : Problem) (names : List Text) (closure : IsClosure problem names) (has : have_values problem names ≡ true) where
   -- the formulas are over the variables of the table
-  pub in-range : (t : Table) (n : ℕ) → t ≡ table_for problem names → n ≡ size_for problem names → AreInRange t n (formulas_given problem t)
-  in-range t n e s =
-      let b = right problem names no_place closure has placed in
+  pub in-range : ClosureIsRight → (t : Table) (n : ℕ) → t ≡ table_for problem names → n ≡ size_for problem names
+      → AreInRange t n (formulas_given problem t)
+  in-range right t n e s =
+      let b = right problem names no_place closure has (unplaced problem names) in
       let direct : AreInRange (table_for problem names) (size_for problem names) (formulas_given problem (table_for problem names)) =
       ranges_of problem (table_for problem names) (size_for problem names) (closure_formulas problem names no_place)
       (λ v. decode v (table_for problem names)) (told_in (table_for problem names) (targets_of problem (table_for problem names)))
@@ -37,16 +49,27 @@ module _ (problem : Problem) (names : List Text) (closure : IsClosure problem na
       subst (λ u. AreInRange u n (formulas_given problem u)) (sym e)
       (subst (λ m. AreInRange (table_for problem names) m (formulas_given problem (table_for problem names))) (sym s) direct)
 
-  pub ruled : (t : Table) (n : ℕ) (targets : List Text) (made : ProblemClauses) → t ≡ table_for problem names → n ≡ size_for problem names
+  over : (t : Table) (n : ℕ) (targets : List Text) (made : ProblemClauses) → t ≡ table_for problem names → n ≡ size_for problem names
       → targets ≡ targets_of problem t → encode_on problem t n (formulas_given problem t) targets ≡ made.list
-      → made.values ≡ values_for problem t n (formulas_given problem t) targets → IsRuled problem t made
-  ruled t n targets made e s w built values = record {
-    names = names;
-    place = no_place;
-    closure = closure;
-    has = has;
-    placed = placed;
-    is_table = e;
-    clauses = sym built ∙ (λ i. encode_on problem (e i) (s i) (formulas_given problem (e i)) ((w ∙ ap (targets_of problem) e) i));
-    values = values ∙ (λ i. values_for problem (e i) (s i) (formulas_given problem (e i)) ((w ∙ ap (targets_of problem) e) i));
-  }
+      → made.values ≡ values_for problem t n (formulas_given problem t) targets → Over problem t made names
+  over t n targets made e s w built values = (
+    closure,
+    has,
+    e,
+    sym built ∙ (λ i. encode_on problem (e i) (s i) (formulas_given problem (e i)) ((w ∙ ap (targets_of problem) e) i)),
+    values ∙ (λ i. values_for problem (e i) (s i) (formulas_given problem (e i)) ((w ∙ ap (targets_of problem) e) i)),
+  )
+
+  pub ruled : has_right_values problem ≡ true → names ≡ closure_of problem → (t : Table) (n : ℕ) (targets : List Text) (made : ProblemClauses)
+      → t ≡ table_for problem names → n ≡ size_for problem names → targets ≡ targets_of problem t
+      → encode_on problem t n (formulas_given problem t) targets ≡ made.list → made.values ≡ values_for problem t n (formulas_given problem t) targets
+      → IsRuled problem t made
+  ruled right same t n targets made e s w built values =
+      let all : Over problem t made (closure_of problem) = subst (Over problem t made) same (over t n targets made e s w built values) in record {
+        right = right;
+        closure = all.0;
+        has = all.1;
+        is_table = all.2;
+        clauses = all.3;
+        values = all.4;
+      }

@@ -1,6 +1,5 @@
 -- Clauses with the bits of costs behind them are an encoding.
 use Rattle.std.proofs.Common.{◌≡◌, sym, subst, ℕ, Bool, true, List, map, Result, Ok, Err, IfOk}
-use Rattle.problem_encoding.specs.declared.encoded.Costs.{Costs}
 use Rattle.std.specs.List.Sorted.{IsPermutation}
 use Rattle.clause_store.specs.declared.Lit.{Lit}
 use Rattle.clause_store.specs.Lits.{AllBelow}
@@ -9,6 +8,7 @@ use Rattle.clause_formulas.specs.declared.defined.Defined.{Defined}
 use Rattle.graph_core.specs.Graphs.{Text, Content}
 use Rattle.problem.specs.Problems.{Problem}
 use Rattle.problem.specs.Closure.{IsClosure}
+use Rattle.criteria_totals.specs.Totals.{Spelling}
 use Rattle.optimum_search.specs.Finding.{MeetsAll}
 use Rattle.literal_table.specs.Tables.{Table, name_of}
 use Rattle.ranked_costs.proofs.OfEncodingStages.Growing.{meets-parts}
@@ -24,22 +24,23 @@ use Rattle.ranked_costs.specs.Given.{held_for}
 use Rattle.clause_formulas.specs.Drafts.{value_at}
 use Rattle.problem_formulas.specs.OfGraphEncoding.Formulas.{MetBelow}
 use Rattle.ranked_costs.specs.OfCostTerms.Ranges.{IsTableBelow}
-use Rattle.ranked_costs.specs.Ranked.{closure_values, ClosureInRange, ClosureCosts}
+use Rattle.ranked_costs.specs.Ranked.{closure_values, ClosureInRange, ClosureCosts, ClosureSpells}
 use Rattle.problem_encoding.specs.Encodings.{AreCosted}
 
 -- from the bits of costs behind these clauses
 abbrev pub FromBits : Problem → Table → Clauses → List Defined → Type 0
-FromBits problem t old values = (new : Clauses) (bits : List Lit) (tops : List ℕ) (order : List Text) → IsPermutation (map name_of t.blocks) order
-    → AreCostBits old new bits tops problem t (held_in (held_for problem t values)) order → AreCosted problem t new bits
+FromBits problem t old values = (new : Clauses) (bits : Spelling) (order : List Text) → IsPermutation (map name_of t.blocks) order
+    → AreCostBits old new bits.lits bits.tops problem t (held_in (held_for problem t values)) order → AreCosted problem t new bits
 
 module _ (problem : Problem) (names : List Text) (place : Places) (closure : IsClosure problem names) (has : have_values problem names ≡ true)
-    (placed : IsPlaced (conditions_of problem (table_for problem names)) place) (ranks : ClosureCosts) (structured : ClosureStructured) where
+    (placed : IsPlaced (conditions_of problem (table_for problem names)) place) (ranks : ClosureCosts) (spells : ClosureSpells) (structured : ClosureStructured) where
   direct : FromBits problem (table_for problem names) (closure_clauses problem names place) (closure_values problem names place)
-  direct new bits tops order each are = record {
-    encodes = ranks problem names place new bits tops order closure has placed each are;
+  direct new bits order each are = record {
+    encodes = ranks problem names place new bits.lits bits.tops order closure has placed each are;
     in_range = are.totals.below;
     structured = λ v meets. structured problem names place closure has placed (λ d. true) v
         (meets-parts (closure_clauses problem names place) new (λ d. true) v are.totals.defines.says.grows meets).0;
+    spells = spells problem names place new bits.lits bits.tops order closure has placed each are;
   }
 
   pub whole : (t : Table) (old : Clauses) (values : List Defined) → t ≡ table_for problem names → old ≡ closure_clauses problem names place
@@ -61,9 +62,3 @@ module _ (problem : Problem) (names : List Text) (place : Places) (closure : IsC
       subst (λ s. InRange s old values) (sym e)
       (subst (λ s. InRange (table_for problem names) s values) (sym o)
       (subst (λ s. InRange (table_for problem names) (closure_clauses problem names place) s) (sym w) (range problem names place closure has placed)))
-
--- what holds of bits holds of those of an answer that has them
-pub if_same_bits : {E : Type 0} (r : Result Costs E) (P : List Lit → Type 0) (bits : List Lit) → P bits → IfOk r (λ costs. costs.bits ≡ bits)
-    → IfOk r (λ costs. P costs.bits)
-if_same_bits (Ok costs) P bits p same = subst P (sym same) p
-if_same_bits (Err e) P bits p same = tt

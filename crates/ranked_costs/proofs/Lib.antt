@@ -3,6 +3,8 @@ pub mod Agreeing
 pub mod Sums
 pub mod Ranges
 pub mod Lists
+pub mod SmallSums
+pub mod Finding
 pub mod Steps
 pub mod Optimal
 pub mod OfEncodingStages

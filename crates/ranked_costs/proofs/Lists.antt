@@ -1,5 +1,5 @@
 -- The totals of the lists that were built are those of the costs.
-use Rattle.std.proofs.Common.{◌≡◌, sym, ap, subst, ◌∙◌, ℕ, List}
+use Rattle.std.proofs.Common.{◌≡◌, sym, ap, subst, ◌∙◌, ℕ, true, List}
 use Rattle.clause_store.specs.declared.Lit.{Lit}
 use Rattle.clause_store.specs.Clauses.{Clauses}
 use Rattle.clause_formulas.specs.declared.defined.Defined.{Defined}
@@ -16,7 +16,11 @@ use Rattle.cost_terms.specs.Sums.{cost_terms}
 use Rattle.cost_terms.proofs.Ranges.{costs-below}
 use Rattle.cost_bits.specs.Least.{AreCostBits}
 use Rattle.graph_terms.specs.Held.{HeldRow, held_in}
+use Rattle.criteria_totals.specs.Totals.{Spelling}
+use Rattle.formula_totals.specs.Built.{define_totals_on}
 use Rattle.ranked_costs.specs.Given.{held_for}
+use Rattle.ranked_costs.specs.Built.{are_small, terms_for, rank_costs_on}
+use Rattle.ranked_costs.proofs.SmallSums.{all-small}
 use Rattle.ranked_costs.proofs.Ranges.{held-below}
 
 module _ (problem : Problem) (t : Table) (values : List Defined) (order : List Text) (rows given : List HeldRow) (lists items : List (List Weighted))
@@ -29,9 +33,19 @@ module _ (problem : Problem) (t : Table) (values : List Defined) (order : List T
       subst (AllWeighedBelow n) (sym items-are)
       (costs-below n problem t (held_in (held_for problem t values)) table (held-below n problem t values below) order)
 
-  pub are-cost-bits : (old new : Clauses) (bits : List Lit) (tops : List ℕ) (tried : List (List Weighted)) → tried ≡ lists → AllSmall (tops_said tried)
+  pub rank-small : (tried : List (List Weighted)) → tried ≡ lists → are_small tried ≡ true → are_small (terms_for problem t values order) ≡ true
+  rank-small tried same small = subst (λ ls. are_small ls ≡ true) (same ∙ sym taken ∙ items-are) small
+
+  pub are-cost-bits : (old new : Clauses) (bits : List Lit) (tops : List ℕ) (tried : List (List Weighted)) → tried ≡ lists → are_small tried ≡ true
       → AreTotals old new bits tops items → AreCostBits old new bits tops problem t (held_in (held_for problem t values)) order
   are-cost-bits old new bits tops tried same small totals = record {
     totals = subst (AreTotals old new bits tops) items-are totals;
-    small = subst (λ ls. AllSmall (tops_said ls)) (same ∙ sym taken ∙ items-are) small;
+    small = all-small (terms_for problem t values order) (rank-small tried same small);
   }
+
+  -- the clauses and the bits are those of the definition
+  pub rank-built : (old new : Clauses) (bits : Spelling) → define_totals_on old items ≡ record { list = new; answer = bits }
+      → rank_costs_on old problem t values order ≡ record { list = new; answer = bits }
+  unfolding rank_costs_on
+  rank-built old new bits built = ap (define_totals_on old) (sym items-are) ∙ built
+

@@ -1,5 +1,5 @@
 -- The clauses of a closure, with the bits of costs behind them.
-use Rattle.std.specs.Prelude.{◌≡◌, ℕ, Bool, true, List, map}
+use Rattle.std.specs.Prelude.{◌≡◌, ℕ, Bool, true, List, map, Some}
 use Rattle.std.specs.List.Sorted.{IsPermutation}
 use Rattle.clause_store.specs.declared.Lit.{Lit}
 use Rattle.clause_store.specs.Clauses.{Clauses, Meets}
@@ -11,6 +11,8 @@ use Rattle.problem.specs.Closure.{IsClosure}
 use Rattle.graph_costs.specs.Costs.{vector}
 use Rattle.graph_costs.specs.Optimal.{IsOptimal, HasNoGraph}
 use Rattle.literal_table.specs.Tables.{Table, name_of}
+use Rattle.criteria_totals.specs.Spellings.{bits_for}
+use Rattle.criteria_totals.specs.Totals.{values_at}
 use Rattle.encoding_stages.specs.Bits.{IsLeastModel}
 use Rattle.closure_encoding.specs.OfRightTables.Kept.{have_values}
 use Rattle.closure_encoding.specs.OfRightTables.Decoding.{decode}
@@ -47,6 +49,16 @@ ClosureCosts = (problem : Problem) (names : List Text) (place : Places) (new : C
     → AreCostBits (closure_clauses problem names place) new bits tops problem (table_for problem names)
     (held_in (held_for problem (table_for problem names) (closure_values problem names place))) order
     → RanksGraphs new (λ v. decode v (table_for problem names)) (IsValid problem) bits (vector problem)
+
+-- in each model of all clauses the bits have the values that spell the cost vector of its graph
+abbrev pub ClosureSpells : Type 0
+ClosureSpells = (problem : Problem) (names : List Text) (place : Places) (new : Clauses) (bits : List Lit) (tops : List ℕ) (order : List Text)
+    → IsClosure problem names → have_values problem names ≡ true → IsPlaced (conditions_of problem (table_for problem names)) place
+    → IsPermutation (map name_of (table_for problem names).blocks) order
+    → AreCostBits (closure_clauses problem names place) new bits tops problem (table_for problem names)
+    (held_in (held_for problem (table_for problem names) (closure_values problem names place))) order
+    → (v : ℕ → Bool) → Meets (λ d. true) v new.entries
+    → bits_for tops (vector problem (decode v (table_for problem names))) ≡ Some (values_at v bits)
 
 -- a model of all clauses with the least bits decodes to an optimal graph
 abbrev pub LeastIsOptimal : Type 0

@@ -1,7 +1,7 @@
 // Whether the weights of a list add up to less than 2^63.
-ghost use Rattle.std.specs.Prelude.{◌≡◌, ◌<◌, ◌^◌, true};
-ghost use Rattle.criteria_totals.specs.Spellings.{AllSmall};
-ghost use Rattle.formula_totals.specs.Weighed.{top_said, tops_said};
+ghost use Rattle.std.specs.Prelude.{◌≡◌, ◌^◌, nat_lt};
+ghost use Rattle.formula_totals.specs.Weighed.{top_said};
+ghost use Rattle.ranked_costs.specs.Built.{are_small};
 
 use formula_totals::Weighted;
 use plain_data::List;
@@ -9,7 +9,7 @@ use plain_data::List;
 const MOST: u64 = (1 << 63) - 1;
 
 fn is_small(terms: &[Weighted]) -> bool
-    ensures { result ≡ true → top_said terms.now < 2 ^ 63 }
+    ensures { result ≡ nat_lt (top_said terms.now) (2 ^ 63) }
 {
     let mut left: u64 = MOST;
     for term in terms {
@@ -23,10 +23,7 @@ fn is_small(terms: &[Weighted]) -> bool
 
 /// Whether those of each list do.
 pub(crate) fn are_small(lists: &[List<Weighted>]) -> bool
-    ensures { result ≡ true → AllSmall (tops_said lists.now) }
+    ensures { result ≡ are_small lists.now }
 {
-    let Some((first, rest)) = lists.split_first() else {
-        return true;
-    };
-    is_small(first.as_slice()) && are_small(rest)
+    lists.iter().all(|terms| is_small(terms.as_slice()))
 }

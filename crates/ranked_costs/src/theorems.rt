@@ -1,14 +1,15 @@
 //! What holds of the bits of costs behind the clauses of a closure.
-ghost use Rattle.ranked_costs.specs.Ranked.{ClosureInRange, ClosureCosts, LeastIsOptimal, NoModelNoGraph};
+ghost use Rattle.ranked_costs.specs.Ranked.{ClosureInRange, ClosureCosts, ClosureSpells, LeastIsOptimal, NoModelNoGraph};
 
 use closure_encoding::closure_laws;
 use graph_rules::valid_laws;
 
 /// Behind the clauses of a closure, what `rank_costs` asks for holds, and its bits rank the graphs by
-/// their cost vectors.
+/// their cost vectors. In each model they spell the vector of its graph.
 pub fn costs_laws()
     ensures range { ClosureInRange }
     ensures ranks { ClosureCosts }
+    ensures spells { ClosureSpells }
 {
     closure_laws();
 }

@@ -1,5 +1,5 @@
 // The totals of the costs.
-ghost use Rattle.std.specs.Prelude.{◌≡◌, IfOk};
+ghost use Rattle.std.specs.Prelude.{◌≡◌, true, IfOk};
 ghost use Rattle.clause_formulas.specs.Drafts.{value_at};
 ghost use Rattle.gate_plans.specs.Growth.{Extends};
 ghost use Rattle.cost_terms.specs.Ranges.{IsTableBelow};
@@ -7,6 +7,7 @@ ghost use Rattle.cost_bits.specs.Least.{AreCostBits};
 ghost use Rattle.closure_encoding.specs.OfGraphEncoding.Formulas.{MetBelow};
 ghost use Rattle.graph_terms.specs.Held.{held_in};
 ghost use Rattle.ranked_costs.specs.Given.{held_for};
+ghost use Rattle.ranked_costs.specs.Built.{are_small, terms_for, rank_costs_on};
 
 use crate::held::held_for;
 use crate::small::are_small;
@@ -35,6 +36,10 @@ pub fn rank_costs(
 ) -> Result<Bits, AllocError>
     requires table { IsTableBelow clauses.old.vars table.now }
     requires values { MetBelow clauses.old.vars (value_at values.now) }
+    ensures built { IfOk result (λ bits. rank_costs_on clauses.old problem.now table.now values.now order.now
+        ≡ record { list = clauses.new; answer = bits }) }
+    ensures small { IfOk result (λ bits. are_small (terms_for problem.now table.now values.now order.now)
+        ≡ true) }
     ensures bits { IfOk result (λ bits. AreCostBits clauses.old clauses.new bits.lits bits.tops
         problem.now table.now (held_in (held_for problem.now table.now values.now)) order.now) }
     ensures extends { Extends clauses.old clauses.new }

@@ -1,31 +1,42 @@
 use Rattle.std.proofs.Common.{◌≡◌, sym, ap, subst, ◌∙◌}
 use Rattle.optimum_search.specs.Finding.{IsFound, IsBest}
-use Rattle.optimum_search.specs.declared.found.Found.TheVariants.{Optimal, Refuted}
+use Rattle.optimum_search.specs.declared.found.Found.TheVariants.{Optimal, Refuted, Spent}
 use Rattle.graph_decoding.specs.Decoding.{assignment_of, decode, IsStructured}
-use Rattle.best_graph.proofs.Found.{best-answer, nothing-answer}
+use Rattle.best_graph.proofs.Found.{best-answer, nothing-answer, spent-answer}
 use Rattle.best_graph.proofs.best.answer_of.Goals as goal
 
 pub decode-requires : goal.decode-requires
 decode-requires c =
     let e = c.args.encoded.now in
-    let found : IsFound e.clauses e.bits c.args._budget (Optimal c.in-Optimal.model c.in-Optimal.log) =
-    subst (IsFound e.clauses e.bits c.args._budget) c.in-Optimal.is c.requires.found in
+    let found : IsFound e.clauses e.bits.lits c.args._budget (Optimal c.in-Optimal.model c.in-Optimal.log) =
+    subst (IsFound e.clauses e.bits.lits c.args._budget) c.in-Optimal.is c.requires.found in
     subst (λ values. IsStructured (assignment_of values) e.table) (sym c.as_slice.ensures) (c.requires.encoded.structured (assignment_of c.in-Optimal.model) found.1)
 
 pub returns-then-is_writable : goal.returns-then-is_writable
 returns-then-is_writable c =
     let e = c.args.encoded.now in
-    let found : IsFound e.clauses e.bits c.args._budget (Optimal c.in-Optimal.model c.in-Optimal.log) =
-    subst (IsFound e.clauses e.bits c.args._budget) c.in-Optimal.is c.requires.found in
-    best-answer c.args._problem.now e c.requires.encoded c.args._budget c.in-Optimal.log (c.is_writable.ensures c.if-is_writable.true)
+    let found : IsFound e.clauses e.bits.lits c.args._budget (Optimal c.in-Optimal.model c.in-Optimal.log) =
+    subst (IsFound e.clauses e.bits.lits c.args._budget) c.in-Optimal.is c.requires.found in
+    best-answer c.args._problem.now e c.requires.encoded c.requires.encodable c.requires.built c.args._budget c.in-Optimal.log
+    (c.is_writable.ensures c.if-is_writable.true)
     c.in-Optimal.model c.in_ok-graph-in-Optimal.graph found
-    (c.found_laws.ensures e.clauses e.bits c.args._budget (Optimal c.in-Optimal.model c.in-Optimal.log) c.requires.in_order found)
+    (c.found_laws.ensures e.clauses e.bits.lits c.args._budget (Optimal c.in-Optimal.model c.in-Optimal.log) c.requires.in_order found)
     (c.in_ok-graph-in-Optimal.ensures ∙ ap (λ values. decode (assignment_of values) e.table) c.as_slice.ensures)
 
 pub returns-then-is_writable-2 : goal.returns-then-is_writable-2
 returns-then-is_writable-2 c =
     let e = c.args.encoded.now in
-    let found : IsFound e.clauses e.bits c.args._budget (Refuted c.in-Refuted.log) =
-    subst (IsFound e.clauses e.bits c.args._budget) c.in-Refuted.is c.requires.found in
-    nothing-answer c.args._problem.now e c.requires.encoded c.args._budget c.in-Refuted.log (c.is_writable-in-Refuted.ensures c.if-is_writable-2.true) found
-    (c.found_laws.ensures e.clauses e.bits c.args._budget (Refuted c.in-Refuted.log) c.requires.in_order found)
+    let found : IsFound e.clauses e.bits.lits c.args._budget (Refuted c.in-Refuted.log) =
+    subst (IsFound e.clauses e.bits.lits c.args._budget) c.in-Refuted.is c.requires.found in
+    nothing-answer c.args._problem.now e c.requires.encoded c.requires.encodable c.requires.built c.args._budget c.in-Refuted.log
+    (c.is_writable-in-Refuted.ensures c.if-is_writable-2.true) found
+    (c.found_laws.ensures e.clauses e.bits.lits c.args._budget (Refuted c.in-Refuted.log) c.requires.in_order found)
+
+pub returns-then-is_writable-3 : goal.returns-then-is_writable-3
+returns-then-is_writable-3 c =
+    let e = c.args.encoded.now in
+    let found : IsFound e.clauses e.bits.lits c.args._budget (Spent c.in-Spent.log) =
+    subst (IsFound e.clauses e.bits.lits c.args._budget) c.in-Spent.is c.requires.found in
+    spent-answer c.args._problem.now e c.requires.encoded c.requires.encodable c.requires.built c.args._budget c.in-Spent.log
+    (c.is_writable-in-Spent.ensures c.if-is_writable-3.true) found
+    (c.found_laws.ensures e.clauses e.bits.lits c.args._budget (Spent c.in-Spent.log) c.requires.in_order found)

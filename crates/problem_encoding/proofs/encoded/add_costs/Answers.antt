@@ -1,31 +1,59 @@
-use Rattle.std.proofs.Common.{◌≡◌, sym, subst, ◌∙◌}
+use Rattle.std.proofs.Common.{◌≡◌, sym, subst, ap, ◌∙◌, true, List}
 use Rattle.std.specs.List.Sorted.{IsPermutation}
-use Rattle.std.proofs.lemmas.Result.{on_ok_weaker}
-use Rattle.name_order.specs.Walks.{all_names}
-use Rattle.problem_encoding.specs.Encodings.{AreCosted}
-use Rattle.problem_encoding.proofs.Whole.{whole, in-range, if_same_bits}
+use Rattle.std.specs.List.{filter_map}
+use Rattle.std.proofs.lemmas.Result.{IfOk-weaker}
+use Rattle.graph_core.specs.Graphs.{Text}
+use Rattle.possible_closure.specs.Closures.{closure_of}
+use Rattle.name_order.specs.Walks.{all_names, post_order}
+use Rattle.problem_formulas.specs.Given.{no_place}
+use Rattle.ranked_costs.specs.Built.{are_small, terms_for, rank_costs_on}
+use Rattle.problem_encoding.specs.Built.{order_in}
+use Rattle.problem_encoding.proofs.Ruled.{unplaced}
+use Rattle.problem_encoding.proofs.Whole.{whole, in-range}
 use Rattle.problem_encoding.proofs.encoded.add_costs.Goals as goal
 
 pub rank_costs-requires-clause-table : goal.rank_costs-requires-clause-table
 rank_costs-requires-clause-table c =
+    let p = c.args.problem.now in
     let r = c.requires in
-    (in-range c.args.problem.now r.names r.place r.closure r.has r.placed c.costs_laws.ensures.range c.args.table.now c.args.clauses.now c.args.values.now
-    r.is_table r.clauses r.values).0
+    (in-range p (closure_of p) no_place r.closure r.has (unplaced p (closure_of p)) c.costs_laws.ensures.range c.args.table.now c.args.clauses.now
+    c.args.values.now r.is_table r.clauses r.values).0
 
 pub rank_costs-requires-clause-values : goal.rank_costs-requires-clause-values
 rank_costs-requires-clause-values c =
+    let p = c.args.problem.now in
     let r = c.requires in
-    (in-range c.args.problem.now r.names r.place r.closure r.has r.placed c.costs_laws.ensures.range c.args.table.now c.args.clauses.now c.args.values.now
-    r.is_table r.clauses r.values).1
+    (in-range p (closure_of p) no_place r.closure r.has (unplaced p (closure_of p)) c.costs_laws.ensures.range c.args.table.now c.args.clauses.now
+    c.args.values.now r.is_table r.clauses r.values).1
 
-pub returns : goal.returns
-returns c =
+pub returns-clause-costed : goal.returns-clause-costed
+returns-clause-costed c =
+    let p = c.args.problem.now in
     let r = c.requires in
     let each : IsPermutation (all_names c.args.table.now) c.as_slice-2.result.now =
     subst (IsPermutation (all_names c.args.table.now)) (sym (c.as_slice-2.ensures.value ∙ c.in_ok-order.ensures))
     (c.order_laws.ensures.each c.args.table.now c.as_slice.result.now) in
-    let made : AreCosted c.args.problem.now c.args.table.now c.rank_costs.new.clauses c.in_ok-bits.bits.lits =
-    whole c.args.problem.now r.names r.place r.closure r.has r.placed c.costs_laws.ensures.ranks c.closure_laws.ensures.structured
-    c.args.table.now c.args.clauses.now c.args.values.now r.is_table r.clauses r.values
-    c.rank_costs.new.clauses c.in_ok-bits.bits.lits c.in_ok-bits.bits.tops c.as_slice-2.result.now each c.in_ok-bits.ensures.bits in
-    if_same_bits c.costs_of.result (AreCosted c.args.problem.now c.args.table.now c.rank_costs.new.clauses) c.in_ok-bits.bits.lits made c.costs_of.ensures
+    IfOk-weaker c.rank_costs.result _ _ (λ bits are.
+    whole p (closure_of p) no_place r.closure r.has (unplaced p (closure_of p)) c.costs_laws.ensures.ranks c.costs_laws.ensures.spells
+    c.closure_laws.ensures.structured c.args.table.now c.args.clauses.now c.args.values.now r.is_table r.clauses r.values c.rank_costs.new.clauses bits
+    c.as_slice-2.result.now each are) c.rank_costs.ensures.bits
+
+pub returns-clause-small : goal.returns-clause-small
+returns-clause-small c =
+    let p = c.args.problem.now in
+    let roots : c.as_slice.result.now ≡ filter_map (λ spec. spec.top.name) p.roots =
+    c.as_slice.ensures.value ∙ c.in_ok-roots.ensures ∙ ap (filter_map (λ spec. spec.top.name)) c.roots.ensures in
+    let order : c.as_slice-2.result.now ≡ order_in p c.args.table.now =
+    c.as_slice-2.ensures.value ∙ c.in_ok-order.ensures ∙ ap (post_order c.args.table.now) roots in
+    IfOk-weaker c.rank_costs.result _ _ (λ bits small.
+    subst (λ (order : List Text). are_small (terms_for p c.args.table.now c.args.values.now order) ≡ true) order small) c.rank_costs.ensures.small
+
+pub returns-clause-built : goal.returns-clause-built
+returns-clause-built c =
+    let p = c.args.problem.now in
+    let roots : c.as_slice.result.now ≡ filter_map (λ spec. spec.top.name) p.roots =
+    c.as_slice.ensures.value ∙ c.in_ok-roots.ensures ∙ ap (filter_map (λ spec. spec.top.name)) c.roots.ensures in
+    let order : c.as_slice-2.result.now ≡ order_in p c.args.table.now =
+    c.as_slice-2.ensures.value ∙ c.in_ok-order.ensures ∙ ap (post_order c.args.table.now) roots in
+    IfOk-weaker c.rank_costs.result _ _ (λ bits built.
+    ap (rank_costs_on c.args.clauses.now p c.args.table.now c.args.values.now) (sym order) ∙ built) c.rank_costs.ensures.built

@@ -3,6 +3,7 @@ use Rattle.closure_encoding.specs.OfRightTables.Tables.{table_for, size_for}
 use Rattle.closure_encoding.specs.Closures.{closure_clauses}
 use Rattle.ranked_costs.proofs.Ranges.{table-below}
 use Rattle.ranked_costs.proofs.Steps.{sums, orders, same}
+use Rattle.ranked_costs.proofs.Finding.{found}
 use Rattle.ranked_costs.proofs.theorems.costs_laws.Goals as goal
 
 pub returns : goal.returns
@@ -15,4 +16,8 @@ returns c = record {
       let table = c.closure_laws.ensures.table problem names closure in
       c.closure_laws.ensures.ranks problem names place new bits (sums problem names place order new bits tops costs) (vector problem) closure has placed
       (orders problem names place order new bits tops costs) (same problem names place order new bits tops costs table.0 ordered);
+  spells = λ problem names place new bits tops order closure has placed ordered costs.
+      let table = c.closure_laws.ensures.table problem names closure in
+      let b = c.closure_laws.ensures.right problem names place closure has placed in
+      found problem names place order b.0 b.1 new bits tops costs table.0 ordered;
 }

@@ -1,0 +1,56 @@
+-- What logs over the encoding of a problem show.
+use Rattle.std.specs.Prelude.{◌≡◌, ℕ, Bool, true, List, Some}
+use Rattle.clause_store.specs.Clauses.{clauses_of}
+use Rattle.criteria_totals.specs.Spellings.{bits_for}
+use Rattle.proof_log.specs.declared.line.Line.{Line}
+use Rattle.proof_log.specs.Known.{AllClauses}
+use Rattle.proof_log.specs.Certificates.{bits_at, IsCertificate, IsRefutation}
+use Rattle.optimum_search.specs.Finding.{MeetsAll}
+use Rattle.graph_core.specs.Graphs.{Content}
+use Rattle.problem.specs.Problems.{Problem}
+use Rattle.problem.specs.Nodes.{IsWellFormed}
+use Rattle.graph_rules.specs.Valid.{valid}
+use Rattle.graph_costs.specs.Costs.{vector}
+use Rattle.graph_costs.specs.Optimal.{IsOptimal, HasNoGraph}
+use Rattle.graph_decoding.specs.Decoding.{decode}
+use Rattle.best_graph.specs.OfProblemEncoding.Encoded.{Encoded}
+use Rattle.best_graph.specs.OfProblemEncoding.Encodings.{IsEncoded}
+use Rattle.best_graph.specs.OfProblemEncoding.Built.{encoding_of}
+use Rattle.best_graph.specs.declared.answer.Answer.TheVariants.{Best, Nothing}
+use Rattle.best_graph.specs.Answers.{IsAnswer}
+
+-- these values of the bits spell the cost vector of a graph
+abbrev pub SpellsCost : Problem → Encoded → Content → List Bool → Type 0
+SpellsCost problem e graph values = bits_for e.bits.tops (vector problem graph) ≡ Some values
+
+-- a log is a certificate of some values of the bits, or a refutation, over the clauses of an encoding
+abbrev pub Certifies : Encoded → List Bool → List Line → Type 0
+Certifies e values log = IsCertificate e.clauses.vars (clauses_of e.clauses.entries) e.bits.lits values log
+
+abbrev pub Refutes : Encoded → List Line → Type 0
+Refutes e log = IsRefutation e.clauses.vars (clauses_of e.clauses.entries) e.bits.lits log
+
+-- where values spell the costs of a graph, each model that decodes to it has them at the bits
+abbrev pub ValuesAreAModels : Type 0
+ValuesAreAModels = (problem : Problem) (e : Encoded) (graph : Content) (values : List Bool) (v : ℕ → Bool) → IsEncoded problem e
+    → MeetsAll v e.clauses → decode v e.table ≡ graph → SpellsCost problem e graph values → bits_at v e.bits.lits ≡ values
+
+-- a valid graph whose cost a certificate certifies is optimal
+abbrev pub CertifiedIsOptimal : Type 0
+CertifiedIsOptimal = (problem : Problem) (e : Encoded) (graph : Content) (values : List Bool) (log : List Line) → IsEncoded problem e
+    → AllClauses (clauses_of e.clauses.entries) → IsWellFormed graph → valid problem graph ≡ true → SpellsCost problem e graph values
+    → Certifies e values log → IsOptimal problem graph
+
+-- where a log refutes the clauses, no graph is valid
+abbrev pub RefutedHasNoGraph : Type 0
+RefutedHasNoGraph = (problem : Problem) (e : Encoded) (log : List Line) → IsEncoded problem e → AllClauses (clauses_of e.clauses.entries)
+    → Refutes e log → HasNoGraph problem
+
+-- the log of an answer certifies the cost of its graph, over the encoding of the problem
+abbrev pub BestIsCertified : Type 0
+BestIsCertified = (problem : Problem) (budget : ℕ) (graph : Content) (log : List Line) → IsAnswer problem budget (Best graph log)
+    → (values : List Bool) × SpellsCost problem (encoding_of problem) graph values × Certifies (encoding_of problem) values log
+
+-- and where it says that there is none, refutes the clauses
+abbrev pub NothingIsRefuted : Type 0
+NothingIsRefuted = (problem : Problem) (budget : ℕ) (log : List Line) → IsAnswer problem budget (Nothing log) → Refutes (encoding_of problem) log
