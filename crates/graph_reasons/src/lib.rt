@@ -7,8 +7,8 @@
 //! What it must not know: what is read or said.
 #![tactic(auto)]
 
-mod explain;
+mod answer;
 mod explanation;
 
-pub use explain::explain;
+pub use answer::explain;
 pub use explanation::Explanation;

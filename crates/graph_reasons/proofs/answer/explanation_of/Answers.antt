@@ -2,7 +2,7 @@ use Rattle.std.proofs.Common.{[], subst}
 use Rattle.optimum_search.specs.Finding.{IsFound}
 use Rattle.optimum_search.specs.declared.found.Found.TheVariants.{Optimal, Refuted, Spent}
 use Rattle.graph_reasons.proofs.Shown.{satisfiable, unmet, spent}
-use Rattle.graph_reasons.proofs.explain.explanation_of.Goals as goal
+use Rattle.graph_reasons.proofs.answer.explanation_of.Goals as goal
 
 pub returns-in-Optimal : goal.returns-in-Optimal
 returns-in-Optimal c =
