@@ -1,5 +1,5 @@
 -- What was found, as an answer.
-use Rattle.std.proofs.Common.{◌≡◌, refl, sym, ap, subst, ℕ, ◌<◌, ◌^◌, Bool, true, List}
+use Rattle.std.proofs.Common.{◌≡◌, refl, sym, ap, subst, ℕ, Bool, true, List}
 use Rattle.proof_log.specs.declared.line.Line.{Line}
 use Rattle.proof_log.specs.Lines.{AllLines}
 use Rattle.proof_log.specs.Texts.{may_write}
@@ -37,7 +37,7 @@ module _ (problem : Problem) (e : Encoded) (encoded : IsEncoded problem e) (enco
     encoded = subst (IsEncoded problem) built encoded;
     are_clauses = ap (λ (x : Encoded). x.clauses) built;
     are_bits = ap (λ (x : Encoded). x.bits.lits) built;
-    decodes = ap (λ (x : Encoded) v. decode v x.table) built;
+    decodes = λ i v. decode v (built i).table;
     encodes = encoded.encodes;
     shows = shows;
   }

@@ -1,13 +1,10 @@
 -- What the least bits of an encoding mean for graphs.
-use Rattle.std.proofs.Common.{◌≡◌, refl, sym, ap, subst, ◌∙◌, ℕ, ◌+◌, Bool, true, false, not, List, [], ◌∷◌, map, length, inl, inr, arith}
-use Rattle.std.specs.Ordering.{is_lt, bool_cmp, nat_cmp, ordering_reverse}
+use Rattle.std.proofs.Common.{◌≡◌, refl, sym, ap, subst, ◌∙◌, ℕ, ◌+◌, Bool, true, false, List, [], ◌∷◌, length, inl, inr, arith}
+use Rattle.std.specs.Ordering.{is_lt, ordering_reverse}
 use Rattle.std.specs.declared.cmp.Ordering.{Ordering}
 use Rattle.std.specs.declared.cmp.Ordering.TheVariants.{Less, Equal, Greater}
-use Rattle.std.specs.Cmp.{IsTotalOrder}
-use Rattle.std.specs.Cmp.Lexicographic.{slice_cmp}
 use Rattle.std.proofs.lemmas.Cmp.{nat_list_cmp_total}
 use Rattle.clause_store.specs.declared.Lit.{Lit}
-use Rattle.clause_store.specs.Lits.{lit_true}
 use Rattle.clause_store.specs.Clauses.{Clauses}
 use Rattle.proof_log.specs.Certificates.{bits_at, IsBelow}
 use Rattle.criteria_totals.specs.Spellings.{compare_bits, compare_numbers}
@@ -17,7 +14,7 @@ use Rattle.problem.specs.Problems.{Problem}
 use Rattle.problem.specs.Demands.{demands}
 use Rattle.graph_rules.specs.Valid.{valid, valid_for}
 use Rattle.graph_rules.proofs.ValidLaws.{valid-for_any, valid-from_demands}
-use Rattle.graph_costs.specs.Costs.{vector, smaller}
+use Rattle.graph_costs.specs.Costs.{vector}
 use Rattle.graph_costs.specs.Optimal.{IsOptimal, HasNoGraph}
 use Rattle.optimum_search.specs.Finding.{MeetsAll}
 use Rattle.encoding_stages.specs.Rules.{asked_among}

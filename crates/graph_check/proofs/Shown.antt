@@ -1,5 +1,5 @@
 -- What certificates and refutations show.
-use Rattle.std.proofs.Common.{◌≡◌, sym, ap, subst, ◌∙◌, ℕ, Bool, true, List, Option, Some}
+use Rattle.std.proofs.Common.{◌≡◌, sym, ap, subst, ◌∙◌, ℕ, Bool, true, List, Some}
 use Rattle.clause_store.specs.declared.Lit.{Lit}
 use Rattle.clause_store.specs.Clauses.{Clauses, clauses_of}
 use Rattle.clause_store.proofs.Entries.{Meets-all}
@@ -36,20 +36,29 @@ module _ (problem : Problem) (e : Encoded) (encoded : IsEncoded problem e) where
       some-same (bits_at v e.bits.lits) values
       (sym (encoded.spells v meets) ∙ ap (λ g. bits_for e.bits.tops (vector problem g)) same ∙ spelled)
 
+  pub least-optimal : (graph : Content) (values : List Bool) → IsWellFormed graph → valid problem graph ≡ true → SpellsCost problem e graph values
+      → ((v : ℕ → Bool) → MeetsAll v e.clauses → IsBelow (bits_at v e.bits.lits) values → ⊥) → IsOptimal problem graph
+  least-optimal graph values formed ok spelled least =
+      let w = encoded.encodes.decodes.complete all graph (is-valid problem graph formed ok) in
+      let same = values-are graph values w.0 w.2 w.1 spelled in
+      let best = optimal problem e.clauses e.bits.lits (λ v. decode v e.table) encoded.encodes w.0 w.2
+      (λ u meets below. least u meets (subst (IsBelow (bits_at u e.bits.lits)) same below)) in
+      subst (IsOptimal problem) w.1 best.1
+
+  pub no-graph : ((v : ℕ → Bool) → MeetsAll v e.clauses → ⊥) → HasNoGraph problem
+  no-graph none = nothing problem e.clauses e.bits.lits (λ v. decode v e.table) encoded.encodes none
+
   module _ (ordered : AllClauses (clauses_of e.clauses.entries)) (log : List Line) where
     pub certified : (graph : Content) (values : List Bool) → IsWellFormed graph → valid problem graph ≡ true → SpellsCost problem e graph values
         → Certifies e values log → IsOptimal problem graph
     certified graph values formed ok spelled certificate =
-        let w = encoded.encodes.decodes.complete all graph (is-valid problem graph formed ok) in
-        let same = values-are graph values w.0 w.2 w.1 spelled in
-        let best = optimal problem e.clauses e.bits.lits (λ v. decode v e.table) encoded.encodes w.0 w.2 (λ u meets below.
-        certificate_least e.clauses.vars (clauses_of e.clauses.entries) e.bits.lits values log u ordered certificate
-        ((Meets-all u e.clauses.entries).0 meets) (subst (IsBelow (bits_at u e.bits.lits)) same below)) in
-        subst (IsOptimal problem) w.1 best.1
+        least-optimal graph values formed ok spelled (λ v meets below.
+        certificate_least e.clauses.vars (clauses_of e.clauses.entries) e.bits.lits values log v ordered certificate
+        ((Meets-all v e.clauses.entries).0 meets) below)
 
     pub refuted : Refutes e log → HasNoGraph problem
     refuted refutation =
-        nothing problem e.clauses e.bits.lits (λ v. decode v e.table) encoded.encodes (λ v meets.
+        no-graph (λ v meets.
         refutation_none e.clauses.vars (clauses_of e.clauses.entries) e.bits.lits log v ordered refutation ((Meets-all v e.clauses.entries).0 meets))
 
 -- the log of an answer that has a graph

@@ -4,7 +4,7 @@ use Rattle.clause_store.specs.Clauses.{clauses_of}
 use Rattle.criteria_totals.specs.Spellings.{bits_for}
 use Rattle.proof_log.specs.declared.line.Line.{Line}
 use Rattle.proof_log.specs.Known.{AllClauses}
-use Rattle.proof_log.specs.Certificates.{bits_at, IsCertificate, IsRefutation}
+use Rattle.proof_log.specs.Certificates.{bits_at, IsBelow, IsCertificate, IsRefutation}
 use Rattle.optimum_search.specs.Finding.{MeetsAll}
 use Rattle.graph_core.specs.Graphs.{Content}
 use Rattle.problem.specs.Problems.{Problem}
@@ -35,13 +35,23 @@ abbrev pub ValuesAreAModels : Type 0
 ValuesAreAModels = (problem : Problem) (e : Encoded) (graph : Content) (values : List Bool) (v : ℕ → Bool) → IsEncoded problem e
     → MeetsAll v e.clauses → decode v e.table ≡ graph → SpellsCost problem e graph values → bits_at v e.bits.lits ≡ values
 
--- a valid graph whose cost a certificate certifies is optimal
+-- a valid graph is optimal where no model has bits below those that spell its costs
+abbrev pub LeastIsOptimal : Type 0
+LeastIsOptimal = (problem : Problem) (e : Encoded) (graph : Content) (values : List Bool) → IsEncoded problem e → IsWellFormed graph
+    → valid problem graph ≡ true → SpellsCost problem e graph values
+    → ((v : ℕ → Bool) → MeetsAll v e.clauses → IsBelow (bits_at v e.bits.lits) values → ⊥) → IsOptimal problem graph
+
+-- where the clauses have no model, no graph is valid
+abbrev pub NoModelNoGraph : Type 0
+NoModelNoGraph = (problem : Problem) (e : Encoded) → IsEncoded problem e → ((v : ℕ → Bool) → MeetsAll v e.clauses → ⊥) → HasNoGraph problem
+
+-- so a valid graph whose costs a certificate certifies is optimal
 abbrev pub CertifiedIsOptimal : Type 0
 CertifiedIsOptimal = (problem : Problem) (e : Encoded) (graph : Content) (values : List Bool) (log : List Line) → IsEncoded problem e
     → AllClauses (clauses_of e.clauses.entries) → IsWellFormed graph → valid problem graph ≡ true → SpellsCost problem e graph values
     → Certifies e values log → IsOptimal problem graph
 
--- where a log refutes the clauses, no graph is valid
+-- and where a log refutes the clauses, no graph is valid
 abbrev pub RefutedHasNoGraph : Type 0
 RefutedHasNoGraph = (problem : Problem) (e : Encoded) (log : List Line) → IsEncoded problem e → AllClauses (clauses_of e.clauses.entries)
     → Refutes e log → HasNoGraph problem

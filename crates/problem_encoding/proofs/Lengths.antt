@@ -1,8 +1,7 @@
 -- No vector of another length is spelled.
-use Prim.Native.Nat.{suc, zero}
-use Rattle.std.proofs.Common.{◌≡◌, refl, sym, ap, ◌∙◌, ℕ, Bool, true, false, List, [], ◌∷◌, length, leb, Option, Some, None, arith}
+use Rattle.std.proofs.Common.{◌≡◌, refl, ℕ, Bool, true, false, List, [], ◌∷◌, length, leb, None, arith}
 use Rattle.std.proofs.lemmas.Bool.{and_parts}
-use Rattle.criteria_totals.specs.Spellings.{within, spell_all, bits_for}
+use Rattle.criteria_totals.specs.Spellings.{within, bits_for}
 
 as-long : (tops numbers : List ℕ) → within tops numbers ≡ true → length numbers ≡ length tops
 as-long [] [] h = refl

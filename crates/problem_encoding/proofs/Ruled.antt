@@ -1,13 +1,10 @@
 -- The clauses of the rules are those of the closure.
-use Rattle.std.proofs.Common.{◌≡◌, refl, sym, ap, subst, ◌∙◌, ℕ, Bool, true, List, Option, Some, None}
+use Rattle.std.proofs.Common.{◌≡◌, sym, ap, subst, ◌∙◌, ℕ, true, List}
 use Rattle.std.proofs.lemmas.Option.{none-some}
-use Rattle.clause_store.specs.Clauses.{Clauses}
-use Rattle.clause_formulas.specs.declared.defined.Defined.{Defined}
-use Rattle.graph_core.specs.Graphs.{Text, Content}
+use Rattle.graph_core.specs.Graphs.{Text}
 use Rattle.problem.specs.Problems.{Problem}
 use Rattle.problem.specs.Closure.{IsClosure}
 use Rattle.literal_table.specs.Tables.{Table}
-use Rattle.problem_formulas.specs.OfGraphEncoding.Formulas.{Formulas}
 use Rattle.problem_formulas.specs.OfGraphEncoding.Encodings.{encode_on, told_in}
 use Rattle.problem_formulas.specs.OfGraphEncoding.Best.{values_for}
 use Rattle.problem_formulas.specs.OfGraphClauses.Ranges.{AreInRange}

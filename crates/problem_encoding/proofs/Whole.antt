@@ -1,19 +1,15 @@
 -- Clauses with the bits of costs behind them are an encoding.
-use Rattle.std.proofs.Common.{◌≡◌, sym, subst, ℕ, Bool, true, List, map, Result, Ok, Err, IfOk}
+use Rattle.std.proofs.Common.{◌≡◌, sym, subst, true, List, map}
 use Rattle.std.specs.List.Sorted.{IsPermutation}
-use Rattle.clause_store.specs.declared.Lit.{Lit}
-use Rattle.clause_store.specs.Lits.{AllBelow}
 use Rattle.clause_store.specs.Clauses.{Clauses}
 use Rattle.clause_formulas.specs.declared.defined.Defined.{Defined}
-use Rattle.graph_core.specs.Graphs.{Text, Content}
+use Rattle.graph_core.specs.Graphs.{Text}
 use Rattle.problem.specs.Problems.{Problem}
 use Rattle.problem.specs.Closure.{IsClosure}
 use Rattle.criteria_totals.specs.Totals.{Spelling}
-use Rattle.optimum_search.specs.Finding.{MeetsAll}
 use Rattle.literal_table.specs.Tables.{Table, name_of}
 use Rattle.ranked_costs.proofs.OfEncodingStages.Growing.{meets-parts}
 use Rattle.ranked_costs.specs.OfClosureEncoding.Kept.{have_values}
-use Rattle.problem_formulas.specs.OfGraphDecoding.Decoding.{decode, IsStructured}
 use Rattle.ranked_costs.specs.OfClosureEncoding.Tables.{table_for}
 use Rattle.ranked_costs.specs.OfClosureEncoding.Targets.{conditions_of}
 use Rattle.ranked_costs.specs.OfClosureEncoding.Joined.{Places, IsPlaced}

@@ -6,11 +6,10 @@ use Rattle.clause_formulas.specs.declared.defined.Defined.{Defined}
 use Rattle.clause_formulas.specs.Drafts.{value_at}
 use Rattle.graph_core.specs.Graphs.{Text}
 use Rattle.problem.specs.Problems.{Problem}
-use Rattle.criteria_totals.specs.Spellings.{AllSmall}
 use Rattle.literal_table.specs.Tables.{Table}
 use Rattle.closure_encoding.specs.OfGraphEncoding.Formulas.{MetBelow}
 use Rattle.formula_totals.specs.declared.weighted.Weighted.{Weighted}
-use Rattle.formula_totals.specs.Weighed.{AllWeighedBelow, AreTotals, tops_said}
+use Rattle.formula_totals.specs.Weighed.{AllWeighedBelow, AreTotals}
 use Rattle.cost_terms.specs.Ranges.{IsTableBelow}
 use Rattle.cost_terms.specs.Sums.{cost_terms}
 use Rattle.cost_terms.proofs.Ranges.{costs-below}
@@ -48,4 +47,3 @@ module _ (problem : Problem) (t : Table) (values : List Defined) (order : List T
       → rank_costs_on old problem t values order ≡ record { list = new; answer = bits }
   unfolding rank_costs_on
   rank-built old new bits built = ap (define_totals_on old) (sym items-are) ∙ built
-

@@ -1,5 +1,5 @@
-use Rattle.std.proofs.Common.{◌≡◌, sym, ap, subst, ◌∙◌}
-use Rattle.optimum_search.specs.Finding.{IsFound, IsBest}
+use Rattle.std.proofs.Common.{sym, ap, subst, ◌∙◌}
+use Rattle.optimum_search.specs.Finding.{IsFound}
 use Rattle.optimum_search.specs.declared.found.Found.TheVariants.{Optimal, Refuted, Spent}
 use Rattle.graph_decoding.specs.Decoding.{assignment_of, decode, IsStructured}
 use Rattle.best_graph.proofs.Found.{best-answer, nothing-answer, spent-answer}

@@ -1,6 +1,5 @@
-use Rattle.std.proofs.Common.{◌≡◌, sym, subst, ◌∙◌, true}
+use Rattle.std.proofs.Common.{sym, subst, ◌∙◌}
 use Rattle.problem.specs.Closure.{IsClosure}
-use Rattle.ranked_costs.specs.OfClosureEncoding.Kept.{have_values}
 use Rattle.problem_formulas.proofs.OfGraphClauses.CallSteps.{if_both}
 use Rattle.problem_encoding.proofs.Ruled.{in-range, ruled}
 use Rattle.problem_encoding.proofs.encoded.ruled.Goals as goal

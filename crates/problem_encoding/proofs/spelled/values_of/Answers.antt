@@ -1,4 +1,4 @@
-use Rattle.std.proofs.Common.{◌≡◌, sym, ap, ◌∙◌, length}
+use Rattle.std.proofs.Common.{sym, ap, ◌∙◌, length}
 use Rattle.problem_encoding.proofs.Lengths.{unspelled}
 use Rattle.problem_encoding.proofs.spelled.values_of.Goals as goal
 

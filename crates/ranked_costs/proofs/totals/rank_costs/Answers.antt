@@ -1,7 +1,6 @@
 use Rattle.std.proofs.Common.{rules, ◌≡◌, ◌∙◌, sym, true}
 use Rattle.std.proofs.lemmas.Result.{IfOk-weaker}
 use Rattle.gate_plans.proofs.Composed.{Extends-refl}
-use Rattle.ranked_costs.specs.Built.{are_small}
 use Rattle.ranked_costs.proofs.SmallSums.{all-small}
 use Rattle.ranked_costs.proofs.Lists.{items-below, rank-small, are-cost-bits, rank-built}
 use Rattle.ranked_costs.proofs.totals.rank_costs.Goals as goal
