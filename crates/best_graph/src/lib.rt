@@ -12,3 +12,5 @@ mod meaning;
 
 pub use answer::Answer;
 pub use best::best_graph;
+// What crates above encode with.
+pub use problem_encoding::{Encoded, encode, values_of};

@@ -1,2 +1,3 @@
 -- what public contracts say
 pub mod Verdicts
+pub mod OfBestGraph

@@ -10,3 +10,5 @@
 mod theorems;
 
 pub use theorems::verdict_laws;
+// What crates above answer with.
+pub use best_graph::{Answer, Encoded, best_graph, encode, values_of};

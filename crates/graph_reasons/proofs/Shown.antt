@@ -13,10 +13,10 @@ use Rattle.graph_core.specs.Graphs.{Content}
 use Rattle.graph_decoding.specs.Decoding.{decode}
 use Rattle.graph_encoding.specs.Encodings.{IsValid}
 use Rattle.problem.specs.Problems.{Problem}
-use Rattle.best_graph.specs.OfProblemEncoding.Encoded.{Encoded}
-use Rattle.best_graph.specs.OfProblemEncoding.Encodings.{IsEncoded}
-use Rattle.best_graph.specs.OfProblemEncoding.Built.{encoding_of}
-use Rattle.best_graph.proofs.Least.{all, valid-is, nothing}
+use Rattle.graph_check.specs.OfBestGraph.Encoded.{Encoded}
+use Rattle.graph_check.specs.OfBestGraph.Encodings.{IsEncoded}
+use Rattle.graph_check.specs.OfBestGraph.Built.{encoding_of}
+use Rattle.graph_check.proofs.Least.{all, valid-is, nothing}
 use Rattle.graph_reasons.specs.Explanations.{HasGraph, IsUnmet, IsSpent}
 
 -- no assignment meets the clauses of the structure and of the reasons

@@ -10,7 +10,7 @@ use Rattle.problem.specs.Problems.{Problem}
 use Rattle.graph_rules.specs.Valid.{valid}
 use Rattle.graph_costs.specs.Optimal.{HasNoGraph}
 use Rattle.graph_encoding.specs.Encodings.{IsValid}
-use Rattle.best_graph.specs.OfProblemEncoding.Built.{encoding_of}
+use Rattle.graph_check.specs.OfBestGraph.Built.{encoding_of}
 use Rattle.graph_reasons.specs.declared.explanation.Explanation.{Explanation}
 use Rattle.graph_reasons.specs.declared.explanation.Explanation.TheVariants.{Satisfiable, Unmet, Undecided}
 

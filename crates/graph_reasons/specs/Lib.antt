@@ -1,2 +1,3 @@
 -- what public contracts say
 pub mod Explanations
+pub mod OfGraphCheck

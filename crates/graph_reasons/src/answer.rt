@@ -5,8 +5,8 @@ ghost use Rattle.clause_store.specs.Clauses.{clauses_of};
 ghost use Rattle.proof_log.specs.Known.{AllClauses};
 ghost use Rattle.optimum_search.specs.Finding.{IsFound};
 ghost use Rattle.possible_closure.specs.Closures.{closure_of};
-ghost use Rattle.best_graph.specs.OfProblemEncoding.Built.{encoding_of};
-ghost use Rattle.best_graph.specs.OfProblemEncoding.Encodings.{IsEncoded};
+ghost use Rattle.graph_check.specs.OfBestGraph.Built.{encoding_of};
+ghost use Rattle.graph_check.specs.OfBestGraph.Encodings.{IsEncoded};
 ghost use Rattle.graph_reasons.specs.Explanations.{Explains};
 
 use crate::explanation::Explanation;
@@ -14,7 +14,7 @@ use explain_failure::{reason_laws, reasons};
 use optimum_search::{Found, found_laws, search};
 use possible_closure::Closure;
 use problem::Problem;
-use problem_encoding::{Encoded, encode};
+use graph_check::{Encoded, encode};
 use std::alloc::{AllocError, Global};
 
 /// Whether some graph is valid, and else the demands that a refutation rests on, where the search may learn so many clauses.

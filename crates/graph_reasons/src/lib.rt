@@ -3,7 +3,7 @@
 //! What it is: `explain` of a problem and the names that its nodes may have.
 //! What it promises: that some graph is valid; or exactly the demands that a refutation of the problem rests on, for which alone no
 //! graph is valid; or that the budget of learnt clauses was spent.
-//! What it stands on: `problem_encoding` for the clauses, `optimum_search` for a model or a refutation, `explain_failure` for its demands.
+//! What it stands on: `graph_check` for the clauses and what they mean, `optimum_search` for a model or a refutation, `explain_failure` for its demands.
 //! What it must not know: what is read or said.
 #![tactic(auto)]
 
@@ -12,3 +12,5 @@ mod explanation;
 
 pub use answer::explain;
 pub use explanation::Explanation;
+// What crates above answer with.
+pub use graph_check::{Answer, Encoded, best_graph, encode, values_of, verdict_laws};

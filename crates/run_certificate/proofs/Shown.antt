@@ -19,9 +19,9 @@ use Rattle.run_answers.specs.declared.refusal.Refusal.{Refusal}
 use Rattle.run_answers.specs.declared.refusal.Refusal.TheVariants as refusals
 use Rattle.criteria_totals.specs.Spellings.{bits_for}
 use Rattle.problem.specs.Problems.{Problem}
-use Rattle.problem_encoding.specs.Encodings.{IsEncoded}
-use Rattle.problem_encoding.specs.declared.encoded.Encoded.{Encoded}
-use Rattle.graph_check.specs.Verdicts.{CertifiedIsOptimal, RefutedHasNoGraph}
+use Rattle.graph_reasons.specs.OfGraphCheck.Encodings.{IsEncoded}
+use Rattle.graph_reasons.specs.OfGraphCheck.Encoded.{Encoded}
+use Rattle.graph_reasons.specs.OfGraphCheck.Verdicts.{CertifiedIsOptimal, RefutedHasNoGraph}
 use Rattle.run_certificate.specs.Certificates.{said_of, said_at, verdict_of, most, ShowsOf}
 
 -- what an accepted text says

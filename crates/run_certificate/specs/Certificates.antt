@@ -17,8 +17,8 @@ use Rattle.problem.specs.Problems.{Problem}
 use Rattle.graph_rules.specs.Valid.{valid}
 use Rattle.graph_costs.specs.Costs.{vector}
 use Rattle.graph_costs.specs.Optimal.{IsOptimal, HasNoGraph}
-use Rattle.problem_encoding.specs.Built.{encoding_of}
-use Rattle.problem_encoding.specs.declared.encoded.Encoded.{Encoded}
+use Rattle.graph_reasons.specs.OfGraphCheck.Built.{encoding_of}
+use Rattle.graph_reasons.specs.OfGraphCheck.Encoded.{Encoded}
 use Rattle.run_answers.specs.Stages.{◌>>=◌, or_refuse}
 use Rattle.run_answers.specs.declared.refusal.Refusal.{Refusal}
 use Rattle.run_answers.specs.declared.refusal.Refusal.TheVariants as refusals

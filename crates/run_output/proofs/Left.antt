@@ -1,8 +1,8 @@
 -- What the writing of an answer leaves, by the answer.
 use Rattle.std.proofs.Common.{◌≡◌, ◌⊎◌, inl, inr, refl, ℕ, List, Option, Result, Ok, Err}
 use Rattle.outside_desk.specs.Files.{Files}
-use Rattle.best_graph.specs.declared.answer.Answer.{Answer}
-use Rattle.best_graph.specs.declared.answer.Answer.TheVariants as answers
+use Rattle.run_task.specs.Answer.{Answer}
+use Rattle.run_task.specs.Answer.TheVariants as answers
 use Rattle.run_task.specs.Input.{Input}
 use Rattle.run_task.specs.Problems.{Problem}
 use Rattle.run_task.specs.WriteStop.{WriteStop}

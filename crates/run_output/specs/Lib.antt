@@ -22,4 +22,4 @@ pub use Rattle.run_task.specs.Roots
 pub use Rattle.run_task.specs.Tasks
 pub use Rattle.run_task.specs.Shown
 pub use Rattle.run_task.specs.declared.task.Task
-pub use Rattle.best_graph.specs.declared.answer.Answer
+pub use Rattle.run_task.specs.Answer

@@ -4,11 +4,11 @@ use Rattle.graph_core.specs.Graphs.{Content}
 use Rattle.proof_log.specs.Lines.{learnt_in}
 use Rattle.run_task.specs.Problems.{Problem}
 use Rattle.run_task.specs.Costs.{vector}
-use Rattle.best_graph.specs.Answers.{IsAnswer}
-use Rattle.best_graph.specs.declared.answer.Answer.{Answer}
-use Rattle.best_graph.specs.declared.answer.Answer.TheVariants as answers
-use Rattle.graph_reasons.specs.declared.explanation.Explanation.{Explanation}
-use Rattle.graph_reasons.specs.declared.explanation.Explanation.TheVariants as explanations
+use Rattle.run_task.specs.Answers.{IsAnswer}
+use Rattle.run_task.specs.Answer.{Answer}
+use Rattle.run_task.specs.Answer.TheVariants as answers
+use Rattle.run_task.specs.Explanation.{Explanation}
+use Rattle.run_task.specs.Explanation.TheVariants as explanations
 use Rattle.reason_texts.specs.Texts.{reasons_text}
 use Rattle.run_output.specs.Report.{report_text, vector_line}
 use Rattle.run_output.specs.declared.answer.Outcome.{Outcome}

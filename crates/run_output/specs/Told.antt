@@ -4,9 +4,9 @@ use Rattle.outside_desk.specs.Files.{Files, and_said}
 use Rattle.run_task.specs.Problems.{Problem}
 use Rattle.run_task.specs.declared.task.Task.{Task}
 use Rattle.run_task.specs.declared.task.Task.TheVariants as tasks
-use Rattle.best_graph.specs.declared.answer.Answer.{Answer}
-use Rattle.graph_reasons.specs.Explanations.{Explains}
-use Rattle.graph_reasons.specs.declared.explanation.Explanation.{Explanation}
+use Rattle.run_task.specs.Answer.{Answer}
+use Rattle.run_task.specs.Explanations.{Explains}
+use Rattle.run_task.specs.Explanation.{Explanation}
 use Rattle.run_output.specs.Texts.{IsFor, verdict_text, accepted_line, explanation_text, explanation_outcome, trial_text, outcome_of}
 use Rattle.run_output.specs.declared.answer.Outcome.{Outcome}
 use Rattle.run_output.specs.declared.answer.Outcome.TheVariants as outcomes

@@ -6,8 +6,7 @@ ghost use Rattle.run_output.specs.Texts.{IsFor, outcome_of};
 
 use crate::answer::Outcome;
 use crate::told::budget_of;
-use best_graph::{Answer, best_graph};
-use run_task::Input;
+use run_task::{Answer, Input, best_graph};
 use std::alloc::{AllocError, Global};
 
 /// The answer of a problem within the budget of its settings.

@@ -5,7 +5,7 @@ ghost use Rattle.run_task.specs.Closures.{closure_of};
 ghost use Rattle.run_task.specs.Tasks.{IsReadyInput};
 ghost use Rattle.run_task.specs.declared.task.Task.TheVariants as tasks;
 ghost use Rattle.proof_log.specs.Lines.{learnt_count, learnt_in};
-ghost use Rattle.best_graph.specs.declared.answer.Answer.TheVariants as best;
+ghost use Rattle.run_task.specs.Answer.TheVariants as best;
 ghost use Rattle.run_output.specs.Texts as texts;
 ghost use Rattle.run_output.specs.Told.{Tells};
 
@@ -13,13 +13,11 @@ use crate::answer::Outcome;
 use crate::find::{find, outcome_of};
 use crate::report::write_vector;
 use crate::told::{budget_of, undecided_text, unsatisfiable_text, verdict_text};
-use best_graph::Answer;
 use graph_core::Graph;
-use graph_reasons::{Explanation, explain};
 use problem::Problem;
 use proof_log::{Line, Log};
 use reason_texts::write_reasons;
-use run_task::{Input, vector};
+use run_task::{Answer, Explanation, Input, explain, vector};
 use std::alloc::{AllocError, Global};
 
 /// What is said of a task, and what the task came to.

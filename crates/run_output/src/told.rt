@@ -7,11 +7,10 @@ ghost use Rattle.run_task.specs.Stops.{EndsInPutFault, EndsInOutputFault};
 ghost use Rattle.run_output.specs.Texts.{graph_text, text_of, undecided_line, unsatisfiable_line, verdict_text};
 
 use crate::report::{report_text, write_vector};
-use best_graph::Answer;
 use graph_core::Graph;
 use outside_desk::{Sink, SinkFault};
 use problem::Problem;
-use run_task::{WriteStop, vector};
+use run_task::{Answer, WriteStop, vector};
 use std::alloc::{AllocError, Global};
 
 /// Says a text on the sink of the answer.

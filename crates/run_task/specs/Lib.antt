@@ -21,3 +21,7 @@ pub use Rattle.run_input.specs.declared.input.Input
 pub use Rattle.run_verdict.specs.Problems
 pub use Rattle.run_verdict.specs.Costs
 pub use Rattle.run_input.specs.Closures
+pub use Rattle.run_certificate.specs.Explanations
+pub use Rattle.run_certificate.specs.Explanation
+pub use Rattle.run_certificate.specs.Answers
+pub use Rattle.run_certificate.specs.Answer

@@ -17,6 +17,7 @@ mod theorems;
 pub use run_input::{
     Command, Input, ReadStop, Refusal, Status, Stop, Work, WriteStop, is_dash, read_order,
 };
+pub use run_certificate::{Answer, Explanation, best_graph, explain};
 pub use run_verdict::vector;
 pub use task::{Task, read_task};
 pub use theorems::task_laws;

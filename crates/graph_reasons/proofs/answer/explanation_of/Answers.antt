@@ -15,19 +15,19 @@ returns-in-Refuted c =
     let e = c.args.encoded.now in
     let found : IsFound e.clauses [] c.args._budget (Refuted c.in-Refuted.log) =
     subst (IsFound e.clauses [] c.args._budget) c.in-Refuted.is c.requires.found in
-    unmet c.args._problem.now e c.requires.encoded c.requires.built c.args._budget c.reason_laws.ensures c.in-Refuted.log
-    c.in_ok-demands.demands c.requires.in_order found
-    (c.found_laws.ensures e.clauses [] c.args._budget (Refuted c.in-Refuted.log) c.requires.in_order found) c.in_ok-demands.ensures
+    unmet c.args._problem.now e c.requires.encoded c.requires.built c.args._budget c.reason_laws.ensures.no_model c.in-Refuted.log
+    c.in_ok-demands-in-Refuted.demands c.requires.in_order found
+    (c.found_laws.ensures e.clauses [] c.args._budget (Refuted c.in-Refuted.log) c.requires.in_order found) c.in_ok-demands-in-Refuted.ensures
 
-pub reasons-demands-requires : goal.reasons-demands-requires
-reasons-demands-requires c =
+pub reasons-requires : goal.reasons-requires
+reasons-requires c =
     let e = c.args.encoded.now in
     let found : IsFound e.clauses [] c.args._budget (Refuted c.in-Refuted.log) =
     subst (IsFound e.clauses [] c.args._budget) c.in-Refuted.is c.requires.found in
     ([], found.0)
 
-pub returns-in-Spent : goal.returns-in-Spent
-returns-in-Spent c =
+pub returns : goal.returns
+returns c =
     let e = c.args.encoded.now in
     let found : IsFound e.clauses [] c.args._budget (Spent c.in-Spent.log) =
     subst (IsFound e.clauses [] c.args._budget) c.in-Spent.is c.requires.found in
