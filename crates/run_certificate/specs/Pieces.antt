@@ -1,5 +1,5 @@
 -- Where the reading of a certificate stands, and what one piece more leaves.
-use Rattle.std.specs.Prelude.{◌≡◌, ℕ, ◌<◌, ◌≤◌, false, List, take, length, Option, None, IsSomeAnd, Result, Ok, Err}
+use Rattle.std.specs.Prelude.{◌≡◌, ℕ, ◌<◌, ◌≤◌, Bool, true, false, List, take, length, Option, None, IsSomeAnd, Result, Ok, Err}
 use Rattle.log_checker.specs.Steps.{State}
 use Rattle.certified.specs.Texts.{Stage, IsAfter, answer_at, is_settled_by}
 use Rattle.outside_desk.specs.Files.{IsPiece}
@@ -34,6 +34,15 @@ TakesNext s file from path old new (Ok next) = IsSomeAnd file (λ bytes. IsReady
 TakesNext s file from path old new (Err (reads.Refused refusal)) = (file ≡ None) × (refusal ≡ refusals.MissingInput path)
 TakesNext s file from path old new (Err (reads.Fault at)) = Unit {0}
 TakesNext s file from path old new (Err reads.NoMemory) = Unit {0}
+
+-- what all pieces leave, from the file's begin on: what was read decides, or there is too much
+abbrev pub end_of : Bool → Next
+end_of true = End
+end_of false = Long
+
+abbrev pub TakesAll : State → Option (List ℕ) → List ℕ → Stage → Stage → Result Bool ReadStop → Type 0
+TakesAll s file path old new (Ok decided) = TakesNext s file 0 path old new (Ok (end_of decided))
+TakesAll s file path old new (Err stop) = TakesNext s file 0 path old new (Err stop)
 
 -- a reading goes on, within the limit
 abbrev pub Moves : ℕ → Next → Type 0

@@ -1,13 +1,12 @@
 //! The check of a certificate.
 
-ghost use Rattle.std.specs.Prelude.{◌≡◌, List, OnOk, IfSome};
+ghost use Rattle.std.specs.Prelude.{◌≡◌, ◌<◌, [], length, IfOk, OnOk, IfSome};
 ghost use Rattle.std.specs.Option.{option_map};
 ghost use Rattle.outside_desk.specs.Causes.{Counts};
 ghost use Rattle.clause_store.specs.Clauses.{clauses_of};
 ghost use Rattle.proof_log.specs.Known.{AllClauses};
-ghost use Rattle.log_checker.specs.Steps.{begun};
-ghost use Rattle.log_checker.specs.Kinds.{IsLogOf};
-ghost use Rattle.proof_log.specs.declared.line.Line.{Line};
+ghost use Rattle.log_checker.specs.Steps.{State, begun};
+ghost use Rattle.certified.specs.Texts.{IsAfter};
 ghost use Rattle.possible_closure.specs.Closures.{closure_of};
 ghost use Rattle.graph_reasons.specs.OfGraphCheck.Built.{encoding_of};
 ghost use Rattle.graph_reasons.specs.OfGraphCheck.Encodings.{IsEncoded};
@@ -16,7 +15,7 @@ ghost use Rattle.run_answers.specs.Stops.{Gives, EndsInReadFault, EndsInUsage};
 ghost use Rattle.run_certificate.specs.Certificates.{said_at, certified_at, ShowsOf};
 ghost use Rattle.run_certificate.specs.Pieces.{FailsThere};
 
-use crate::pieces::{Next, take_next};
+use crate::pieces::take_all;
 use crate::verdict::verdict;
 use certified::{TextChecker, text_laws};
 use clause_store::{ClauseList, Lit};
@@ -25,11 +24,43 @@ use outside_desk::Desk;
 use possible_closure::Closure;
 use problem::Problem;
 use run_answers::{LineFault, ReadStop, Refusal};
-use std::alloc::Global;
+use std::alloc::{AllocError, Global};
 use std::thread::Threads;
 
 /// How many bytes are asked for at once.
 const PIECE: usize = 65_536;
+
+/// Room for a piece.
+fn buffer(alloc: Global, size: usize) -> Result<Vec<u8>, AllocError>
+    requires { 0 < size }
+    ensures { IfOk result (λ bytes. 0 < length bytes.items) }
+{
+    vec![in alloc; 0u8; size]
+}
+
+/// Reads the log at a path, and has it checked.
+fn check_text<R: Threads + Sync, D: Desk>(
+    rt: &R,
+    alloc: Global,
+    desk: &mut D,
+    path: &str,
+    checker: &mut TextChecker,
+) -> Result<(), ReadStop>
+    ensures read { (s : State) → IsAfter s [] checker.old
+        → IfSome (D.files desk.old) (λ files. Gives result (Is (said_at files path.now s))) }
+    ensures path { FailsThere path.now result }
+    ensures no_usage { EndsInUsage result → ⊥ }
+    ensures same { D.files desk.new ≡ D.files desk.old }
+    ensures cause { Counts (D.faults desk.old) (D.faults desk.new) (EndsInReadFault result) }
+    ensures put_faults { D.put_faults desk.new ≡ D.put_faults desk.old }
+{
+    let mut piece = buffer(alloc, PIECE)?;
+    match take_all(rt, alloc, desk, path, checker, piece.as_mut_slice()) {
+        Ok(true) => verdict(checker),
+        Ok(false) => Err(ReadStop::Refused(Refusal::CertificateTooLarge)),
+        Err(stop) => Err(stop),
+    }
+}
 
 /// Reads the log at a path, and has it checked over clauses.
 fn check_log<R: Threads + Sync, D: Desk>(
@@ -43,10 +74,6 @@ fn check_log<R: Threads + Sync, D: Desk>(
 ) -> Result<(), ReadStop>
     ensures read { IfSome (D.files desk.old) (λ files. Gives result (Is (said_at files path.now
         (begun clauses.now bits.now (option_map (λ v. v.now) values.entry))))) }
-    ensures logged { OnOk result (IfSome (D.files desk.old)
-        (λ files. (lines : List Line)
-        × IsLogOf clauses.now.vars (clauses_of clauses.now.entries) bits.now
-        (option_map (λ v. v.now) values.entry) lines)) }
     ensures in_order { OnOk result (AllClauses (clauses_of clauses.now.entries)) }
     ensures path { FailsThere path.now result }
     ensures no_usage { EndsInUsage result → ⊥ }
@@ -54,17 +81,8 @@ fn check_log<R: Threads + Sync, D: Desk>(
     ensures cause { Counts (D.faults desk.old) (D.faults desk.new) (EndsInReadFault result) }
     ensures put_faults { D.put_faults desk.new ≡ D.put_faults desk.old }
 {
-    text_laws();
     let mut checker = TextChecker::new(alloc, clauses, bits, values)?;
-    let mut piece = vec![in alloc; 0u8; PIECE]?;
-    let mut from: u64 = 0;
-    'pieces: loop {
-        match take_next(rt, alloc, desk, path, from, &mut checker, piece.as_mut_slice())? {
-            Next::More(place) => from = place,
-            Next::End => return verdict(&checker),
-            Next::Long => return Err(ReadStop::Refused(Refusal::CertificateTooLarge)),
-        }
-    }
+    check_text(rt, alloc, desk, path, &mut checker)
 }
 
 /// Reads the certificate at a path, and has it checked over the clauses of a problem.
@@ -90,6 +108,7 @@ fn check_over<R: Threads + Sync, D: Desk>(
     ensures cause { Counts (D.faults desk.old) (D.faults desk.new) (EndsInReadFault result) }
     ensures put_faults { D.put_faults desk.new ≡ D.put_faults desk.old }
 {
+    text_laws();
     verdict_laws();
     let (clauses, bits) = (&encoded.clauses, encoded.bits.lits());
     let Some(numbers) = numbers else {

@@ -6,7 +6,7 @@ ghost use Rattle.outside_desk.specs.Causes.{Counts};
 ghost use Rattle.log_checker.specs.Steps.{State};
 ghost use Rattle.run_answers.specs.Stops.{EndsInReadFault, EndsInUsage};
 ghost use Rattle.run_certificate.specs.Certificates.{most};
-ghost use Rattle.run_certificate.specs.Pieces.{GivesPiece, TakesNext, Moves, FailsThere};
+ghost use Rattle.run_certificate.specs.Pieces.{GivesPiece, TakesNext, TakesAll, Moves, FailsThere};
 
 use certified::TextChecker;
 use outside_desk::{Desk, DeskFault};
@@ -98,4 +98,34 @@ pub(crate) fn take_next<R: Threads + Sync, D: Desk>(
         return Ok(Next::Long);
     }
     Ok(Next::More(from + taken as u64))
+}
+
+/// Reads the file at a path to its end, or to where it is decided, and has it checked. Answers whether it is; it is not where
+/// there are more bytes than a certificate may have.
+pub(crate) fn take_all<R: Threads + Sync, D: Desk>(
+    rt: &R,
+    alloc: Global,
+    desk: &mut D,
+    path: &str,
+    checker: &mut TextChecker,
+    piece: &mut [u8],
+) -> Result<bool, ReadStop>
+    requires { 0 < length piece.old }
+    ensures taken { IfSome (D.files desk.old) (λ files. (s : State)
+        → TakesAll s (get files path.now) path.now checker.old checker.new result) }
+    ensures path { FailsThere path.now result }
+    ensures no_usage { EndsInUsage result → ⊥ }
+    ensures same { D.files desk.new ≡ D.files desk.old }
+    ensures cause { Counts (D.faults desk.old) (D.faults desk.new) (EndsInReadFault result) }
+    ensures put_faults { D.put_faults desk.new ≡ D.put_faults desk.old }
+{
+    let mut from: u64 = 0;
+    'pieces: loop {
+        match take_next(rt, alloc, desk, path, from, checker, piece) {
+            Ok(Next::More(place)) => from = place,
+            Ok(Next::End) => return Ok(true),
+            Ok(Next::Long) => return Ok(false),
+            Err(stop) => return Err(stop),
+        }
+    }
 }
