@@ -1,28 +1,21 @@
 -- What the yes of `check` and of `refute` shows.
-use Rattle.std.specs.Prelude.{◌≡◌, ℕ, true, List, Ok}
+use Rattle.std.specs.Prelude.{ℕ, List, Ok}
 use Rattle.outside_desk.specs.Files.{Files}
-use Rattle.lockfile.specs.declared.lock.Lock.{Lock}
 use Rattle.graph_costs.specs.Optimal.{IsOptimal, HasNoGraph}
-use Rattle.problem.specs.Nodes.{IsWellFormed}
-use Rattle.run_input.specs.Stages.{Is}
 use Rattle.run_input.specs.Words.{Command}
-use Rattle.run_input.specs.Orders.{order_of}
 use Rattle.run_input.specs.Work.{Work}
 use Rattle.run_input.specs.Work.TheVariants as works
 use Rattle.run_input.specs.Inputs.{Reads}
 use Rattle.run_input.specs.declared.input.Input.{Input}
 use Rattle.run_verdict.specs.Problems.{Problem}
-use Rattle.run_verdict.specs.Locks.{LockAt}
-use Rattle.run_verdict.specs.Roots.{are_roots_of}
+use Rattle.run_verdict.specs.Verdicts.{IsValidLock}
 use Rattle.run_task.specs.Tasks.{files_for}
 
--- the file at the path is a lock file of just the roots that are asked for, and its graph is optimal
+-- the file at the path is a lock file of just the roots that are asked for, and its graph is valid, with these costs, and optimal
 pub record IsBestLock (files : Files) (path : List ℕ) (problem : Problem) : Type 0 where
-  pub lock : Lock
-  pub at : LockAt files path (Ok lock)
-  pub roots : are_roots_of lock.hashes problem.roots lock.roots ≡ true
-  pub well_formed : IsWellFormed lock.graph
-  pub optimal : IsOptimal problem lock.graph
+  pub costs : List ℕ
+  pub valid : IsValidLock files path problem costs
+  pub optimal : IsOptimal problem valid.lock.graph
 
 -- what a command's yes shows of the problem that was read
 abbrev pub ShownBy : Work → Files → Command → Problem → Type 0
