@@ -1,5 +1,5 @@
 -- What was looked at, as a task, and what holds beside any answer.
-use Rattle.std.proofs.Common.{◌≡◌, sym, subst, ℕ, List, Option, Some, None, Result, Ok, Err, inl, inr}
+use Rattle.std.proofs.Common.{◌≡◌, ◌∙◌, sym, subst, ℕ, List, Option, Some, None, Result, Ok, Err, inl, inr}
 use Rattle.std.specs.Prelude.{IfSome, IfOk, OnOk}
 use Rattle.outside_desk.specs.Files.{Files}
 use Rattle.run_input.specs.Stages.{Is, Then}
@@ -12,10 +12,12 @@ use Rattle.run_input.specs.Work.{Work}
 use Rattle.run_input.specs.Work.TheVariants as works
 use Rattle.run_input.specs.declared.input.Input.{Input}
 use Rattle.run_verdict.specs.Problems.{Problem}
-use Rattle.run_verdict.specs.Verdicts.{Judges}
-use Rattle.run_certificate.specs.Certificates.{certified_at}
-use Rattle.run_task.specs.Shown.{ShownBy}
-use Rattle.run_task.specs.Tasks.{AcceptanceOf, CheckOf, FailsAtTask, FailsAtEither, IsKeptPath, IsOf, IsReady, IsReportTask, IsYes, ReportOf, TaskBy}
+use Rattle.run_verdict.specs.Verdicts.{IsValidLock, Judges}
+use Rattle.run_certificate.specs.Certificates.{ShowsOf, certified_at}
+use Rattle.trial_input.specs.Inputs.{input_files}
+use Rattle.run_task.specs.Shown.{IsBestLock, IsShown, IsShownOver}
+use Rattle.run_task.specs.Tasks.{AcceptanceOf, CheckOf, FailsAtTask, FailsAtEither, IsKeptPath, IsOf, IsReady, IsReportTask, IsYes, Named, Over, ReportOf, TaskBy,
+    files_by, made_for}
 use Rattle.run_task.specs.declared.task.Task.{Task}
 use Rattle.run_task.specs.declared.task.Task.TheVariants as tasks
 
@@ -148,3 +150,58 @@ accepted_ready (Err stop) is = tt
 pub any_ok : {A : Type 0} (P : Type 0) (result : Result A ReadStop) → P → IfOk result (λ x. P)
 any_ok P (Ok x) p = p
 any_ok P (Err stop) p = tt
+
+-- ---- what a yes shows
+
+-- the certificate shows that the graph of the lock file is best; nothing was written in between
+pub best_lock : (before after : Option Files) (path : List ℕ) (problem : Problem) (costs numbers : List ℕ) (result : Result Task ReadStop)
+    → after ≡ before → numbers ≡ costs → IfSome before (λ files. IsValidLock files path problem costs)
+    → OnOk result (IfSome after (λ files. ShowsOf problem (Some numbers)))
+    → OnOk result (IfSome before (λ files. IsBestLock files path problem))
+best_lock None after path problem costs numbers (Ok task) same they valid shows = tt
+best_lock (Some files) None path problem costs numbers (Ok task) same they valid shows = cc
+best_lock (Some files) (Some others) path problem costs numbers (Ok task) same they valid shows = record {
+    costs = costs; valid = valid;
+    optimal = shows valid.lock.graph valid.right.well_formed valid.right.is_valid (valid.right.costs ∙ sym they) }
+best_lock before after path problem costs numbers (Err stop) same they valid shows = tt
+
+-- ---- over which files
+
+module _ (command : Command) where
+  made_shown : (before : Option Files) (result : Result Task ReadStop) (packages seed : ℕ) → made_for command.work ≡ Some (packages, seed)
+      → OnOk result (IsShownOver (input_files packages seed) command) → OnOk result (IfSome before (λ files. IsShown files command))
+  made_shown None (Ok task) packages seed made shown = tt
+  made_shown (Some files) (Ok task) packages seed made shown =
+      subst (λ (m : Option (ℕ × ℕ)). IsShownOver (files_by m files) command) (sym made) shown
+  made_shown before (Err stop) packages seed made shown = tt
+
+  there_shown : (before : Option Files) (result : Result Task ReadStop) → made_for command.work ≡ None
+      → OnOk result (IfSome before (λ files. IsShownOver files command)) → OnOk result (IfSome before (λ files. IsShown files command))
+  there_shown None (Ok task) made shown = tt
+  there_shown (Some files) (Ok task) made shown = subst (λ (m : Option (ℕ × ℕ)). IsShownOver (files_by m files) command) (sym made) shown
+  there_shown before (Err stop) made shown = tt
+
+module _ (command : Command) (result : Result Task ReadStop) where
+  pub over_made : (before : Option Files) (files : Files) → before ≡ Some files → IfSome before (λ f. Gives result (Over f command))
+      → Gives result (Over files command)
+  over_made before files same read = subst (λ (b : Option Files). IfSome b (λ f. Gives result (Over f command))) same read
+
+  pub named_made : (before : Option Files) (packages seed : ℕ) → made_for command.work ≡ Some (packages, seed)
+      → Gives result (Over (input_files packages seed) command) → IfSome before (λ files. Gives result (Named files command))
+  named_made None packages seed made read = tt
+  named_made (Some files) packages seed made read =
+      subst (λ (m : Option (ℕ × ℕ)). Gives result (Over (files_by m files) command)) (sym made) read
+
+  pub named_there : (before : Option Files) → made_for command.work ≡ None → IfSome before (λ files. Gives result (Over files command))
+      → IfSome before (λ files. Gives result (Named files command))
+  named_there None made read = tt
+  named_there (Some files) made read =
+      subst (λ (m : Option (ℕ × ℕ)). Gives result (Over (files_by m files) command)) (sym made) read
+
+  pub shown_made : (before : Option Files) (packages seed : ℕ) → made_for command.work ≡ Some (packages, seed)
+      → OnOk result (IsShownOver (input_files packages seed) command) → OnOk result (IfSome before (λ files. IsShown files command))
+  shown_made before packages seed made shown = made_shown command before result packages seed made shown
+
+  pub shown_there : (before : Option Files) → made_for command.work ≡ None → OnOk result (IfSome before (λ files. IsShownOver files command))
+      → OnOk result (IfSome before (λ files. IsShown files command))
+  shown_there before made shown = there_shown command before result made shown

@@ -6,7 +6,7 @@ use Rattle.run_task.proofs.Roots.{texts_of}
 use Rattle.run_task.proofs.task.read_over.Goals as goal
 
 pub task_by-requires-clause-texts : goal.task_by-requires-clause-texts
-task_by-requires-clause-texts g c =
+task_by-requires-clause-texts g c κs long =
     texts_of c.writing_laws.ensures.read_again c.reading_laws.ensures.ascii c.args.command.now.spec
     c.in_ok-input.input.problem.roots c.in_ok-input.ensures.roots
 

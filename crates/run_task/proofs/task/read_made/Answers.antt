@@ -1,0 +1,7 @@
+use Rattle.std.proofs.Common.{ap, Some}
+use Rattle.run_task.proofs.Stops.{over_made}
+use Rattle.run_task.proofs.task.read_made.Goals as goal
+
+pub returns-clause-read : goal.returns-clause-read
+returns-clause-read g c =
+    over_made c.args.command.now c.read_over-task.result _ _ (ap Some c.in_ok-made.ensures) c.read_over-task.ensures.read

@@ -1,0 +1,14 @@
+use Rattle.std.proofs.Common.{ap, sym, ◌∙◌}
+use Rattle.run_input.specs.Words.{Command}
+use Rattle.run_task.proofs.Stops.{judged, checked}
+use Rattle.run_task.proofs.task.task_by.Goals as goal
+
+pub returns-in-Judge-clause-read : goal.returns-in-Judge-clause-read
+returns-in-Judge-clause-read g c =
+    judged _ c.args.command.now c.args.input c.read_report-task.result _ (sym (ap (λ (k : Command). k.work) c.command.view_is) ∙ c.in-Judge.is)
+    (ap (λ (k : Command). k.lock) c.command.view_is) c.read_report-task.ensures.read
+
+pub returns-in-Check-clause-read : goal.returns-in-Check-clause-read
+returns-in-Check-clause-read g c =
+    checked _ c.args.command.now c.args.input c.read_check-task.result _ _ (sym (ap (λ (k : Command). k.work) c.command.view_is) ∙ c.in-Check.is)
+    (ap (λ (k : Command). k.lock) c.command.view_is) (ap (λ (k : Command). k.cert) c.command.view_is) c.read_check-task.ensures.read
