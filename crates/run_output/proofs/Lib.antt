@@ -1,5 +1,5 @@
 pub mod Changes
 pub mod Fronts
 pub mod Left
-pub mod Told
+pub mod Tellings
 pub use Rattle.run_task.proofs.StageLaws

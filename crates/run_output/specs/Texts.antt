@@ -1,7 +1,9 @@
 -- What is said of answers.
-use Rattle.std.specs.Prelude.{ℕ, List, [], ◌∷◌, ◌++◌, length, codes, decimal}
+use Rattle.std.specs.Prelude.{Bool, true, false, ℕ, List, [], ◌∷◌, ◌++◌, length, codes, decimal}
 use Rattle.graph_core.specs.Graphs.{Content}
 use Rattle.proof_log.specs.Lines.{learnt_in}
+use Rattle.proof_log.specs.declared.line.Line.{Line}
+use Rattle.proof_log.specs.declared.line.Line.TheVariants.{Learnt}
 use Rattle.run_task.specs.Problems.{Problem}
 use Rattle.run_task.specs.Costs.{vector}
 use Rattle.run_task.specs.Answers.{IsAnswer}
@@ -63,6 +65,10 @@ abbrev pub explanation_outcome : Explanation → Outcome
 explanation_outcome explanations.Satisfiable = outcomes.Solved
 explanation_outcome (explanations.Unmet demands) = outcomes.Unsolved
 explanation_outcome explanations.Undecided = outcomes.Undecided
+
+abbrev pub is_learnt : Line → Bool
+is_learnt (Learnt id c chain) = true
+is_learnt other = false
 
 unfoldable pub nodes_line : ℕ → List ℕ
 nodes_line count = codes "nodes " ++ (decimal count ++ 10 ∷ [])

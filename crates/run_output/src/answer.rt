@@ -54,7 +54,7 @@ fn write_best<D: Desk, O: Sink>(
 }
 
 /// Says what is said of a task that puts no file.
-#[tactic(auto, using(crate::proofs::Told::told_writes, crate::proofs::Told::told_stops))]
+#[tactic(auto, using(crate::proofs::Tellings::told_writes, crate::proofs::Tellings::told_stops))]
 fn tell<O: Sink>(
     alloc: Global,
     _task: &Task,

@@ -1,10 +1,10 @@
 //! What is said of a task that puts no file.
 
-ghost use Rattle.std.specs.Prelude.{◌≡◌, ◌≤◌, ◌++◌, ◌∷◌, IfOk, OnOk};
+ghost use Rattle.std.specs.Prelude.{◌≡◌, ◌++◌, IfOk, OnOk};
 ghost use Rattle.run_task.specs.Closures.{closure_of};
 ghost use Rattle.run_task.specs.Tasks.{IsReadyInput};
 ghost use Rattle.run_task.specs.declared.task.Task.TheVariants as tasks;
-ghost use Rattle.proof_log.specs.Lines.{learnt_count, learnt_in};
+ghost use Rattle.proof_log.specs.Lines.{learnt_in};
 ghost use Rattle.run_task.specs.Answer.TheVariants as best;
 ghost use Rattle.run_output.specs.Texts as texts;
 ghost use Rattle.run_output.specs.Told.{Tells};
@@ -104,25 +104,18 @@ pub fn of_reasons(alloc: Global, input: &Input) -> Result<Said, AllocError>
 
 // ---- trials
 
-fn learnt_count(line: &Line) -> u64
-    ensures is { result ≡ learnt_count line.now }
-    ensures most { result ≤ 1 }
+fn is_learnt(line: &Line) -> bool
+    ensures { result ≡ texts.is_learnt line.now }
 {
-    match line {
-        Line::Learnt { .. } => 1,
-        _ => 0,
-    }
+    matches!(line, Line::Learnt { .. })
 }
 
 /// How many clauses were learnt.
-fn learnt_in(lines: &[Line]) -> u64
+#[tactic(auto, using(crate::proofs::Tellings::counted))]
+fn learnt_in(lines: &[Line]) -> usize
     ensures { result ≡ learnt_in lines.now }
 {
-    let mut count: u64 = 0;
-    for line in lines {
-        count += learnt_count(line);
-    }
-    count
+    lines.iter().filter(|line| is_learnt(line)).count()
 }
 
 #[tactic(auto, unfolding(crate::specs::Texts::nodes_line))]
@@ -134,7 +127,7 @@ fn write_nodes(alloc: Global, count: usize, out: &mut Vec<u8>) -> Result<(), All
 }
 
 #[tactic(auto, unfolding(crate::specs::Texts::learnt_line))]
-fn write_learnt(alloc: Global, count: u64, out: &mut Vec<u8>) -> Result<(), AllocError>
+fn write_learnt(alloc: Global, count: usize, out: &mut Vec<u8>) -> Result<(), AllocError>
     ensures { OnOk result (out.new.items ≡ out.old.items ++ texts.learnt_line count) }
 {
     let line = format!(in alloc; "learnt {count}\n")?;
@@ -146,7 +139,7 @@ fn counts_text(
     alloc: Global,
     nodes: usize,
     numbers: &[u64],
-    learnt: u64,
+    learnt: usize,
 ) -> Result<Vec<u8>, AllocError>
     ensures { IfOk result (λ text. text.items ≡ texts.counts_text nodes numbers.now learnt) }
 {

@@ -1,11 +1,17 @@
 -- What saying leaves, of a task that puts no file.
-use Rattle.std.proofs.Common.{◌≡◌, refl, ℕ, List, Option, Ok, Err}
+use Rattle.std.proofs.Common.{◌≡◌, ◌∙◌, refl, ap, cond, ℕ, ◌+◌, List, [], ◌∷◌, Option, Ok, Err}
+use Rattle.std.specs.Prelude.{count_by}
+use Rattle.std.proofs.lemmas.List.Sums.{sum_by-cons}
 use Rattle.outside_desk.specs.Files.{Files, and_said}
 use Rattle.run_task.specs.WriteStop.{WriteStop}
 use Rattle.run_task.specs.WriteStop.TheVariants.{Put, Output, NoMemory}
 use Rattle.run_task.specs.declared.task.Task.{Task}
 use Rattle.run_task.specs.declared.task.Task.TheVariants as tasks
+use Rattle.proof_log.specs.declared.line.Line.{Line}
+use Rattle.proof_log.specs.declared.line.Line.TheVariants.{Header, Learnt, Zero, One, Unsat, Spent, End}
+use Rattle.proof_log.specs.Lines.{learnt_count, learnt_in}
 use Rattle.run_output.specs.Answers.{Writes}
+use Rattle.run_output.specs.Texts.{is_learnt}
 use Rattle.run_output.specs.Told.{Tells, IsTold}
 use Rattle.run_output.specs.declared.answer.Outcome.{Outcome}
 use Rattle.run_output.specs.declared.answer.Outcome.TheVariants.{Solved, Unsolved, Undecided}
@@ -37,3 +43,21 @@ module _ (lock cert : List ℕ) (files : Option Files) (said more : Option (List
   told_stops (tasks.Explain input) outcome Output tells no_put = refl
   told_stops (tasks.Try input) outcome Output tells no_put = refl
   told_stops task outcome NoMemory tells no_put = tt
+
+-- ---- trials
+
+one_line : (line : Line) → cond (is_learnt line) 1 0 ≡ learnt_count line
+one_line (Header vars clauses bits) = refl
+one_line (Learnt id c chain) = refl
+one_line (Zero id b) = refl
+one_line (One id b chain) = refl
+one_line (Unsat chain) = refl
+one_line Spent = refl
+one_line End = refl
+
+-- what is counted are the clauses that were learnt
+pub counted : (lines : List Line) → count_by is_learnt lines ≡ learnt_in lines
+counted [] = refl
+counted (line ∷ lines) =
+    sum_by-cons (λ (l : Line). cond (is_learnt l) 1 0) line lines ∙ ap (λ n. n + count_by is_learnt lines) (one_line line)
+    ∙ ap (λ n. learnt_count line + n) (counted lines)
