@@ -68,6 +68,7 @@ class Notes:
         found.update({name: lambda *_, **__: None for name in directives.PASSED_OVER | {"run_before", "run_after"}})
         constructors = ("conditional", "any_combination_of", "auto_or_any_combination_of", "disjoint_sets", "Version", "ver")
         found.update({name: literals.FUNCTIONS[name] for name in constructors})
+        found["unknown"] = "u"  # what Python knows, and the importer does not
         found["when"] = lambda condition: Block(self, condition, {})
         found["default_args"] = lambda **words: Block(self, None, words)
         return found
@@ -139,7 +140,7 @@ def compared(module: Module, name: str, repository: Repository, notes: Notes) ->
     reader = ClassReader("recipe", repository.dialect, text=module.text)
     reader.run(node.body, ChainMap({}, repository.class_values(module, node), copy.deepcopy(module.names_at[name])))
     listed = {each.line for each in reader.left_out}
-    taken, wrong = list(reader.rows), []
+    wrong, places = [], {0}  # how many of the taken rows are accounted for
     for called in notes.called.get(name, []):
         try:
             rows = rows_of(called, repository.dialect)
@@ -147,11 +148,12 @@ def compared(module: Module, name: str, repository: Repository, notes: Notes) ->
             wrong += [f"{name}:{called[0]}: cannot be said ({fault}), and is not listed"] * (called[0] not in listed)
             continue
         # A line that is listed for one turn of a loop may have been taken in another.
-        if taken[: len(rows)] == rows:
-            del taken[: len(rows)]
-        elif called[0] not in listed:
-            return wrong + [f"{name}:{called[0]}: {rows} was called, and {taken[:1]} was taken"]
-    return wrong + [f"{name}: {taken} was taken, and not called"] * bool(taken)
+        next_places = {place + len(rows) for place in places if reader.rows[place : place + len(rows)] == rows}
+        next_places |= places if called[0] in listed else set()
+        if not next_places:
+            return wrong + [f"{name}:{called[0]}: {rows} was called, and not taken"]
+        places = next_places
+    return wrong + [f"{name}: {reader.rows[max(places):]} was taken, and not called"] * (len(reader.rows) not in places)
 
 
 def compare(repository: Repository) -> tuple[int, list[str]]:

@@ -79,7 +79,7 @@ class Maker:
             f"conflicts({self.random.choice(WHENS)}{self.keywords(when=when)})",
             f"requires({self.random.choice(WHENS)}, {self.random.choice(WHENS)}{self.keywords(when=when)})",
             f"version({self.random.choice(VALUES)}{self.keywords(preferred=multi, deprecated=multi)})",
-            self.random.choice(WHOLE), self.random.choice(STATEMENTS), self.random.choice(STATEMENTS),
+            self.random.choice(WHOLE), *self.random.choices(STATEMENTS, k=5),
         ])
 
     def block(self, depth: int) -> list[str]:
