@@ -102,7 +102,10 @@ def check_literals() -> Check:
 
 
 def check_recipes() -> Check:
-    """The 40 recipes of tests/recipes, and their report."""
+    """The 40 recipes of tests/recipes, a repository of Spack 1.0, and their reports."""
+    with tempfile.TemporaryDirectory() as room:
+        run(import_repo.main, TESTS / "spack_1", Path(room) / "out", "--build-systems", TOOLS / "build_systems")
+        yield from compared_folders("import_repo spack_1", Path(room) / "out", TESTS / "spack_1_expected")
     runs: dict[str, tuple[str, ...]] = {"recipes_expected": (), "strict": ("--strict",), "windows": ("--platform", "windows")}
     for name, words in runs.items():
         with tempfile.TemporaryDirectory() as room:
