@@ -13,6 +13,7 @@ from pathlib import Path
 from typing import Any, Iterator, Optional
 
 from .class_reader import ClassReader
+from .directives import DIRECTIVES
 from .literals import ClassValue
 from .rows import Cannot, LeftOut, Row, VariantRow
 from .spec_text import Dialect
@@ -105,6 +106,8 @@ class Repository:
                 module.names_at[statement.name] = copy.deepcopy(module.names)
             else:
                 reader.run([statement], module.names)
+            if path in self.base_files and isinstance(statement, ast.FunctionDef) and statement.name in DIRECTIVES:
+                del module.names[statement.name]  # Spack's own directives, as `generator` in its build_systems/cmake.py
         module.left_out = [each for each in reader.left_out if each.directive == "import"]
         return module
 
@@ -134,7 +137,7 @@ class Repository:
         place = self.find_class(module, base)
         found.bases.append(base.rpartition(".")[2])
         if place is None:
-            if base not in ("PackageBase", "object"):
+            if base.rpartition(".")[2] not in ("PackageBase", "object"):
                 what = "what it declares is not known: name its folder by --build-systems"
                 found.left_out.append(
                     LeftOut(self.shown(module.path), node.lineno, "class", base, "a base class that is not found", what)

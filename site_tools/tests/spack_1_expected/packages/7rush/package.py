@@ -3,7 +3,9 @@ class _7rush(Package):
     variant("build_system", default="cmake", values=("cmake",))
     with when("build_system=cmake"):
         variant("unity", default=False)
+        variant("generator", default="make", values=("make", "ninja"))
         depends_on("cmake", type="build")
+        depends_on("ninja", type="build", when="generator=ninja")
     version("3.1")
     variant("shared", default=True)
     variant("size", default="small", values=("small", "large"))
