@@ -35,6 +35,17 @@ WHOLE = (
     'generator("ninja")', 'build_system("cmake", "autotools", default="cmake")', 'extends("python")', 'patch("x.patch")',
     'build_system(conditional("cmake", when="@1:"), "generic", default="generic")', 'depends_on("c", type="build")',
 )
+# Statements over the names `v`, `w` and `names`, which each class gives first.
+GIVEN = ('    v, w, names = "z", "y", ["m", "n"]',)
+STATEMENTS = (
+    'w = v + "y"', 'names = ["m", v]', "names += [w]", "names.append(v)", "w = names[0]", "w = len(names) * v", "other = names",
+    'v = "%s-%s" % (v, len(w))', "names[0] = w", "w = unknown", 'conflicts(f"+{v}")', 'conflicts("+" + w)', 'depends_on(f"z-{len(names)}")',
+    'conflicts("+" + names[-1], when="+{0}".format(v))', '[conflicts("+" + x) for x in names]', 'version(f"{len(names)}.{len(v)}")',
+)
+HEADS = (
+    'with default_args(type="build"):', 'for v in "ab":', 'for v in [x + "c" for x in ("a", "b")]:', "for x in names[:3]:", 'if v < "b":',
+    "if len(names) > 2 and w:", 'for x, v in {"p": "q", "r": "s"}.items():', 'for v in sorted(names)[:2]:', "if unknown:",
+)
 
 
 class Maker:
@@ -68,14 +79,14 @@ class Maker:
             f"conflicts({self.random.choice(WHENS)}{self.keywords(when=when)})",
             f"requires({self.random.choice(WHENS)}, {self.random.choice(WHENS)}{self.keywords(when=when)})",
             f"version({self.random.choice(VALUES)}{self.keywords(preferred=multi, deprecated=multi)})",
-            self.random.choice(WHOLE),
+            self.random.choice(WHOLE), *self.random.choices(STATEMENTS, k=5),
         ])
 
     def block(self, depth: int) -> list[str]:
         """Directives, some in blocks and loops."""
         lines: list[str] = []
         for _ in range(self.random.randint(1, 4)):
-            head = self.random.choice([f"with when({self.random.choice(WHENS)}):", 'with default_args(type="build"):', 'for v in "ab":'])
+            head = self.random.choice([f"with when({self.random.choice(WHENS)}):", *HEADS])
             if depth < 4 and self.random.random() < 0.3:
                 lines += ["    " * depth + head, *self.block(depth + 1)]
             else:
@@ -110,7 +121,7 @@ def compare_recipes(maker: Maker, program: str, room: Path) -> str:
     for number in range(150):
         folder = room / "in" / "packages" / f"p{number}"
         folder.mkdir(parents=True)
-        lines = [f"class P{number}({maker.random.choice(BASES)}):", *maker.block(1)]
+        lines = [f"class P{number}({maker.random.choice(BASES)}):", *GIVEN, *maker.block(1)]
         (folder / "package.py").write_text("\n".join(lines) + "\n", "utf-8")
     import_repo.main([str(room / "in"), str(room / "out")])
     return refused(program, room / "out") or "all are read"

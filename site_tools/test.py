@@ -102,7 +102,10 @@ def check_literals() -> Check:
 
 
 def check_recipes() -> Check:
-    """The 40 recipes of tests/recipes, and their report."""
+    """The 40 recipes of tests/recipes, a repository of Spack 1.0, and their reports."""
+    with tempfile.TemporaryDirectory() as room:
+        run(import_repo.main, TESTS / "spack_1", Path(room) / "out", "--build-systems", TOOLS / "build_systems")
+        yield from compared_folders("import_repo spack_1", Path(room) / "out", TESTS / "spack_1_expected")
     runs: dict[str, tuple[str, ...]] = {"recipes_expected": (), "strict": ("--strict",), "windows": ("--platform", "windows")}
     for name, words in runs.items():
         with tempfile.TemporaryDirectory() as room:
@@ -210,6 +213,23 @@ def answer(program: str, file: Path, room: Path) -> str:
     return f"{done.stdout}{done.stderr}status {done.returncode}\n"
 
 
+def check_read(program: str) -> Check:
+    """The settings and databases of the cases are read by the program."""
+    for wanted in sorted(TESTS.glob("settings/*/wanted.txt")) + sorted(TESTS.glob("installed/*/wanted.txt")):
+        lines = [line for line in wanted.read_text("utf-8").splitlines() if line.startswith(("{", "}", " ", "]"))]
+        start = next((place for place, line in enumerate(lines) if line.startswith("{")), None)
+        if start is None:
+            continue
+        with tempfile.TemporaryDirectory() as room:
+            file = Path(room) / "file.json"
+            file.write_text("\n".join(lines[start:]), "utf-8")
+            words = [str(file), "-"] if wanted.parent.parent.name == "settings" else ["-", str(file)]
+            command = [program, "concretize", "examples/versions", *words, f"{room}/lock", "-", "zlib"]
+            done = subprocess.run(command, capture_output=True, text=True, cwd=TOP, check=False)
+            if done.returncode not in (0, 1):
+                yield f"{wanted.parent.relative_to(TESTS)}", f"the program says {done.stderr.strip()!r}"
+
+
 def check_program() -> Check:
     """What the released program says over the examples, and that it reads all recipes that were imported."""
     program = released()
@@ -222,6 +242,7 @@ def check_program() -> Check:
             yield from compared(f"answers/{file.stem}", text.replace(f"{room}/", ""), file.with_suffix(".wanted"))
         lock = (Path(room) / "site_hdf5.lock").read_text("utf-8")
         yield from compared("examples/site/hdf5.lock", lock, SITE / "hdf5.lock")
+    yield from check_read(program)
 
 
 def check_style() -> Check:

@@ -10,24 +10,12 @@ from typing import Any, Callable, Optional, Union
 
 from . import directives, literals
 from .directives import Call, Rows
+from .effects import called_name, has_changeable, may_change
 from .literals import Evaluator, Names, NotLiteral, Unknown, bind, source
 from .rows import Cannot, LeftOut, Row, VariantRow
 from .spec_text import Dialect, NotInProfile
 
 MOST_ROWS = 50_000
-
-
-def called_name(node: ast.expr) -> str:
-    """The name of the function that a call calls, `spack.directives.version` too; empty where there is none."""
-    function = node.func if isinstance(node, ast.Call) else None
-    if isinstance(function, ast.Attribute) and source(function.value).split(".")[0] == "spack":
-        return function.attr
-    return function.id if isinstance(function, ast.Name) else ""
-
-
-def has_changeable(value: Any) -> bool:
-    """Whether a value is, or holds, a list or a dictionary."""
-    return isinstance(value, (list, dict)) or isinstance(value, tuple) and any(map(has_changeable, value))
 
 
 @dataclass(frozen=True)
@@ -76,8 +64,7 @@ class ClassReader:
         for node in ast.walk(statement):
             if isinstance(node, ast.Call) and called_name(node) in directives.DIRECTIVES:
                 self.call(node, names, around)
-            elif isinstance(node, ast.Name) and isinstance(node.ctx, (ast.Store, ast.Del)):
-                names[node.id] = Unknown("is given in a statement that is not followed")
+        self.forget(statement, names, "is given in a statement that is not followed")
 
     def assign(self, statement: ast.Assign, names: Names, around: Around) -> None:
         """`a = b`: the value where it can be computed, else unknown."""
@@ -90,10 +77,10 @@ class ClassReader:
 
     def forget(self, statement: ast.AST, names: Names, why: str) -> None:
         """Makes the names that a statement gives or could change unknown."""
-        if any(isinstance(node, ast.Call) for node in ast.walk(statement)):
+        if any(map(may_change, ast.walk(statement))):
             self.forget_changeable(names)
         for node in ast.walk(statement):
-            if isinstance(node, (ast.Subscript, ast.Attribute)) and isinstance(node.ctx, ast.Store):
+            if isinstance(node, (ast.Subscript, ast.Attribute)) and not isinstance(node.ctx, ast.Load):
                 self.forget_base(node, names, why)
             if isinstance(node, ast.Name) and isinstance(node.ctx, (ast.Store, ast.Del)):
                 names[node.id] = Unknown(why)

@@ -98,11 +98,12 @@ def main(words: Optional[list[str]] = None) -> int:
     if (given.out / "packages").exists() and any((given.out / "packages").iterdir()):
         print(f"import_repo: {given.out}/packages is not empty: name a new folder", file=sys.stderr)
         return 2
-    folders = given.build_systems or [TOOLS / "build_systems"]
-    repository = Repository(given.repo, folders, given.platform)
+    own = given.repo / "build_systems"
+    named = ([own] if own.is_dir() else []) + (given.build_systems or [])
+    repository = Repository(given.repo, named or [TOOLS / "build_systems"], given.platform)
     found = read_all(repository, given.strict)
     write_all(found, given.out)
-    stand_ins = [] if given.build_systems or (given.repo / "build_systems").is_dir() else repository.base_files
+    stand_ins = [] if named else repository.base_files
     text = report.text_of(found, report.stand_ins_of(stand_ins, found))
     (given.report or given.out / "report.txt").write_text(text, "utf-8")
     if given.json:

@@ -87,6 +87,8 @@ def settings_of(given: argparse.Namespace, notes: Notes) -> dict:
     """The whole settings."""
     files = read_files(given.files)
     packages_file, packages = files.get("packages", ("packages.yaml", {}))
+    notes.file = packages_file
+    packages = settings_packages.maps(packages, notes)
     compilers_file, listed = files.get("compilers", ("compilers.yaml", []))
     notes.file, concretizer = files.get("concretizer", ("concretizer.yaml", {}))
     generic = read_concretizer(concretizer, notes)
@@ -135,6 +137,9 @@ def main(words: Optional[list[str]] = None) -> int:
         settings = settings_of(given, notes)
     except Cannot as fault:
         print(f"import_settings: {fault.kind}: {fault.detail}", file=sys.stderr)
+        return 2
+    except (AttributeError, TypeError) as fault:
+        print(f"import_settings: a file that is not of Spack's form: {fault}", file=sys.stderr)
         return 2
     except (OSError, ValueError, KeyError, yaml_texts.NoYaml) as fault:
         print(f"import_settings: {fault}", file=sys.stderr)

@@ -122,10 +122,12 @@ def record_of(old: str, found: Import) -> Record:
         raise Cannot("another platform", f"`{arch.get('platform')}`")
     parts: list[str] = []
     external = spec.get("external") or None
+    if external and not isinstance(external.get("path"), str):
+        raise Cannot("an external without a path", "")
     record = {
         "compiler": compiler_of(spec, found),
         "dependencies": dependencies_of(spec, found),
-        "external": (external.get("path") or "") if external else None,
+        "external": external["path"] if external else None,
         "name": spec["name"], "os": arch["platform_os"], "target": target_of(arch),
         "variants": variants_of(spec, parts), "version": str(spec["version"]),
     }

@@ -13,6 +13,7 @@ from pathlib import Path
 from typing import Any, Iterator, Optional
 
 from .class_reader import ClassReader
+from .directives import DIRECTIVES
 from .literals import ClassValue
 from .rows import Cannot, LeftOut, Row, VariantRow
 from .spec_text import Dialect
@@ -67,8 +68,7 @@ class Repository:
         is_v2 = re.search(r"^\s*api:\s*['\"]?v2", text, re.M) is not None
         self.dialect = Dialect((found.group(1) if found else "builtin").rpartition(".")[2], is_v2)
         self.folders = {self.package_of(each.parent.name): each for each in sorted(root.glob("packages/*/package.py"))}
-        own = root / "build_systems"
-        self.base_files = sorted(path for folder in ([own] if own.is_dir() else build_systems) for path in folder.glob("*.py"))
+        self.base_files = [path for folder in build_systems for path in sorted(folder.glob("*.py"))]
         self.modules: dict[Path, Module] = {}
         self.read: dict[str, ClassRows] = {}
         self.bases: dict[str, Path] = {}
@@ -106,6 +106,8 @@ class Repository:
                 module.names_at[statement.name] = copy.deepcopy(module.names)
             else:
                 reader.run([statement], module.names)
+            if path in self.base_files and isinstance(statement, ast.FunctionDef) and statement.name in DIRECTIVES:
+                del module.names[statement.name]  # Spack's own directives, as `generator` in its build_systems/cmake.py
         module.left_out = [each for each in reader.left_out if each.directive == "import"]
         return module
 
@@ -135,7 +137,7 @@ class Repository:
         place = self.find_class(module, base)
         found.bases.append(base.rpartition(".")[2])
         if place is None:
-            if base not in ("PackageBase", "object"):
+            if base.rpartition(".")[2] not in ("PackageBase", "object"):
                 what = "what it declares is not known: name its folder by --build-systems"
                 found.left_out.append(
                     LeftOut(self.shown(module.path), node.lineno, "class", base, "a base class that is not found", what)

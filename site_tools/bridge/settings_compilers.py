@@ -41,7 +41,7 @@ def from_externals(packages: Any, notes: Notes) -> list[dict]:
     """The externals of packages.yaml with `extra_attributes: compilers`."""
     found = []
     for package, inner in (packages or {}).items():
-        for external in inner.get("externals", []) if isinstance(inner, dict) else []:
+        for external in [each for each in inner.get("externals") or [] if isinstance(each, dict)]:
             if not (external.get("extra_attributes") or {}).get("compilers"):
                 continue
             name = COMPILER_OF_PACKAGE.get(str(package), str(package))

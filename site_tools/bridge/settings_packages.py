@@ -5,7 +5,7 @@ and no requirement.
 """
 from typing import Any, Optional
 
-from . import spec_text, versions
+from . import signs, spec_text, versions
 from .settings_notes import Notes
 from .spec_text import Dialect, NotInProfile
 from .yaml_texts import Text, texts
@@ -74,12 +74,27 @@ def package_of(package: str, inner: Any, platform: str, notes: Notes) -> dict:
         elif key == "buildable" and truth(value) is not None:
             found["buildable"] = truth(value)
         elif key == "externals":
-            given = [external_of(package, each, platform, notes) for each in value]
+            listed = value if isinstance(value, list) else [value]
+            entries = [each for each in listed if isinstance(each, dict)]
+            if len(entries) < len(listed):
+                notes.leave_out(value, f"packages.{package}.externals", "an entry is no map")
+            given = [external_of(package, each, platform, notes) for each in entries]
             found["externals"] = [each for each in given if each is not None]
         elif key not in SILENT:
             why = "it is no truth value" if key == "buildable" else ADVICE.get(str(key), "the settings have no such key")
             notes.leave_out(value, f"packages.{package}.{key}", why)
     return {key: found[key] for key in ("versions", "buildable", "externals") if key in found and found[key] != []}
+
+
+def maps(packages: Any, notes: Notes) -> dict[str, Any]:
+    """The packages that are maps under a name; others are listed."""
+    found: dict[str, Any] = {}
+    for name, inner in (packages or {}).items():
+        if isinstance(inner, dict) and signs.is_name(str(name)):
+            found[str(name)] = inner
+        else:
+            notes.leave_out(inner, f"packages.{name}", "it is no map under the name of a package")
+    return found
 
 
 def read(packages: Any, platform: str, notes: Notes) -> dict:
@@ -89,8 +104,13 @@ def read(packages: Any, platform: str, notes: Notes) -> dict:
     for name, inner in (packages or {}).items():
         if name != "all":
             continue
-        for virtual, order in inner.get("providers", {}).items():
-            providers[str(virtual)] = list(dict.fromkeys(str(each) for each in texts(order)))
+        virtuals = inner.get("providers", {})
+        for virtual, order in virtuals.items() if isinstance(virtuals, dict) else ():
+            names = list(dict.fromkeys(str(each) for each in texts(order)))
+            if not all(map(signs.is_name, [str(virtual), *names])):
+                notes.leave_out(order, f"packages.all.providers.{virtual}", "a name beyond the profile, or one with a version")
+            providers[str(virtual)] = [each for each in names if signs.is_name(each)]
+        providers = {virtual: providers[virtual] for virtual in providers if signs.is_name(virtual)}
         for key in inner:
             if key not in ALL | SILENT:
                 notes.leave_out(inner[key], f"packages.all.{key}", ADVICE.get(str(key), "it is read of single packages alone"))
