@@ -2,7 +2,7 @@
 //!
 //! `new`, then `take` for each piece as long as it says so, and `finish`.
 
-ghost use Rattle.std.specs.Prelude.{◌≡◌, [], true, not, IfOk, OnOk, OnErr};
+ghost use Rattle.std.specs.Prelude.{◌≡◌, [], true, not, IfOk, OnOk, OnErr, IsErr};
 ghost use Rattle.std.specs.Option.{option_map};
 ghost use Rattle.clause_store.specs.Clauses.{clauses_of};
 ghost use Rattle.proof_log.specs.Known.{AllClauses};
@@ -111,6 +111,7 @@ impl TextChecker {
         ensures fed { OnOk result (IsFed self.old self.new piece.now) }
         ensures goes_on { IfOk result (λ goes_on. goes_on ≡ not (is_settled self.new)) }
         ensures err { OnErr result (self.new.short ≡ true) }
+        ensures stays { self.old.short ≡ true → IsErr result }
     {
         if self.short {
             return Err(AllocError);

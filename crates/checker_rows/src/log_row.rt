@@ -5,6 +5,8 @@
 //! pieces of one byte; its lines, where none is bad, are checked in turn, in blocks of 1, 2 and 1,024, and as
 //! a whole. The answer is one where all are the same.
 
+ghost use Rattle.std.specs.Prelude.{◌<◌};
+
 use crate::answers::{joined, step_text, text_answer};
 use crate::input::{bits_of_word, clauses_of, lits_of, number_of, text_of_words};
 use certified::{TextChecker, check_certificate, check_refutation};
@@ -55,9 +57,8 @@ pub fn answer<R: Threads + Sync>(
     };
     let text = text_of_words(alloc, text)?;
     let mut answers = Vec::new(alloc);
-    for size in [65_536, 1] {
-        answers.push(in_pieces(rt, alloc, &case, &text, size)?)?;
-    }
+    answers.push(in_pieces(rt, alloc, &case, &text, 65_536)?)?;
+    answers.push(in_pieces(rt, alloc, &case, &text, 1)?)?;
     let mut reader = Reader::new(alloc);
     let mut lines = Vec::new(alloc);
     if reader.feed(alloc, &text, &mut lines).is_ok() && reader.at_line_start() {
@@ -73,7 +74,9 @@ fn in_pieces<R: Threads + Sync>(
     case: &Case,
     text: &[u8],
     size: usize,
-) -> Result<String, AllocError> {
+) -> Result<String, AllocError>
+    requires { 0 < size }
+{
     let mut checker = TextChecker::new(alloc, &case.clauses, &case.bits, case.values())?;
     for piece in text.chunks(size) {
         if !checker.take(rt, piece)? {
@@ -92,9 +95,9 @@ fn of_lines<R: Threads + Sync>(
     answers: &mut Vec<String>,
 ) -> Result<(), AllocError> {
     answers.push(in_turn(alloc, case, lines)?)?;
-    for size in [1, 2, 1024] {
-        answers.push(in_blocks(rt, alloc, case, lines, size)?)?;
-    }
+    answers.push(in_blocks(rt, alloc, case, lines, 1)?)?;
+    answers.push(in_blocks(rt, alloc, case, lines, 2)?)?;
+    answers.push(in_blocks(rt, alloc, case, lines, 1024)?)?;
     let step = whole(rt, alloc, case, lines)?;
     answers.push(step_text(alloc, step)?)?;
     Ok(())
@@ -114,7 +117,9 @@ fn in_blocks<R: Threads + Sync>(
     case: &Case,
     lines: &[Line],
     size: usize,
-) -> Result<String, AllocError> {
+) -> Result<String, AllocError>
+    requires { 0 < size }
+{
     let mut checker = case.checker(alloc)?;
     for block in lines.chunks(size) {
         checker.step_block(rt, &OpenGate, block)?;
