@@ -12,8 +12,8 @@ use std::alloc::{AllocError, Global};
 
 /// The commands `define`, `literal` (of the value that is defined), `assert` and `demand` (of id 7) of
 /// a formula, and `each` and `demands` (of ids from 0 on) of formulas, in Polish order backwards:
-/// a literal; `!` for the opposite; `|3` and `&3` for any and all of the last three; `>` where the
-/// last but one implies the last; `^1,-2` for exactly one of literals.
+/// a literal; `!` for the opposite; `|3` and `&3` for any and all of the last three; `+` for both of the
+/// last two; `>` where the last but one implies the last; `^1,-2` for exactly one of literals.
 pub fn ask(
     alloc: Global,
     clauses: &mut ClauseList,
@@ -118,6 +118,10 @@ fn made(
     }
     match word {
         "!" => Ok(stack.pop().map(|formula| formula.negated())),
+        "+" => match (stack.pop(), stack.pop()) {
+            (Some(second), Some(first)) => Ok(Some(Formula::both(alloc, first, second)?)),
+            _ => Ok(None),
+        },
         ">" => match (stack.pop(), stack.pop()) {
             (Some(second), Some(first)) => Ok(Some(Formula::implies(alloc, first, second)?)),
             _ => Ok(None),

@@ -79,7 +79,7 @@ fn list_of(alloc: Global, word: &str, vars: u64) -> Result<Option<Terms>, AllocE
 {
     let words = parts(alloc, word)?;
     match terms_of(alloc, words.as_slice(), vars)? {
-        Some(terms) => Ok(Some(Terms::from_vec(terms))),
+        Some(terms) => Ok(Some(Terms::from_slice(alloc, terms.as_slice())?)),
         None => Ok(None),
     }
 }

@@ -1,8 +1,9 @@
 //! What a false clause teaches: a clause with one literal of the last level, or the end of the search.
 //!
 //! Both walk the trail back and resolve with reasons, by marks. They know of the watch only what it promises.
-ghost use Rattle.std.specs.Prelude.{◌≡◌, ℕ, ◌+◌, ◌<◌, ◌≤◌, [], ◌∷◌, ◌++◌, length, IfOk, IfSome, OnOk, Some};
+ghost use Rattle.std.specs.Prelude.{◌≡◌, ℕ, ◌+◌, ◌==◌, ◌<◌, ◌≤◌, [], ◌∷◌, ◌++◌, length, IfOk, IfSome, OnOk, Some};
 ghost use Rattle.clause_store.specs.Lits.{var_of, AllBelow};
+ghost use Rattle.clause_store.specs.Clauses.{at_id};
 ghost use Rattle.clause_watch.specs.Trails.{decisions};
 ghost use Rattle.clause_watch.specs.Reasons.{NamesFalse};
 ghost use Rattle.clause_watch.specs.Watches.{IsWatch};
@@ -91,6 +92,7 @@ fn low_reason(watch: &Watch, lit: Lit) -> Option<u64>
 /// Whether a clause has one literal.
 fn is_single(watch: &Watch, id: u64) -> bool
     requires known { IsKnown watch.now.clauses id }
+    ensures { IfSome (at_id watch.now.clauses id) (λ c. result ≡ (length c == 1)) }
 {
     watch.clause(id).lits().len() == 1
 }

@@ -1,11 +1,13 @@
 //! Which literal is decided next. No proof rests on the choice: any variable without value will do.
-ghost use Rattle.std.specs.Prelude.{◌≡◌, ℕ, ◌<◌, min, IfSome, IfNone, IfOk, false, true, length, unwrap_or};
-ghost use Rattle.clause_store.specs.Lits.{var_of};
+ghost use Rattle.std.specs.Prelude.{◌≡◌, ℕ, ◌<◌, min, Some, IfSome, IfNone, IfOk, false, true, length, unwrap_or};
+ghost use Rattle.std.specs.List.{find};
+ghost use Rattle.std.specs.Option.{option_map};
+ghost use Rattle.clause_store.specs.Lits.{var_of, negation};
 ghost use Rattle.proof_log.specs.Known.{has_var};
 ghost use Rattle.clause_watch.specs.Trails.{lits_of, value_in, decisions};
 ghost use Rattle.clause_watch.specs.Watches.{back};
 ghost use Rattle.clause_solver.specs.Marks.{mark_at};
-ghost use Rattle.clause_solver.specs.Models.{HaveValues, IsModelOf};
+ghost use Rattle.clause_solver.specs.Models.{HaveValues, is_open, IsModelOf};
 ghost use Rattle.clause_solver.specs.Searches.{IsOver, IsAssumed, IsNext, OnlyLeaves, stated};
 
 use activity_order::Order;
@@ -33,6 +35,8 @@ fn active(watch: &Watch, order: &mut Order) -> Option<usize>
 fn negated_first(watch: &Watch, first: &[Lit]) -> Option<Lit>
     ensures in_range { IfSome result (λ l. var_of l < watch.now.vars) }
     ensures free { IfSome result (λ l. has_var (lits_of watch.now.placed) (var_of l) ≡ false) }
+    ensures first { result ≡ option_map negation
+        (find (is_open watch.now.placed watch.now.vars) first.now) }
 {
     for lit in first {
         if (lit.var.0 as usize) < watch.vars() {
@@ -51,6 +55,8 @@ pub fn choose(watch: &Watch, order: &mut Order, first: &[Lit]) -> Option<Lit>
     ensures in_range { IfSome result (λ l. var_of l < watch.now.vars) }
     ensures free { IfSome result (λ l. has_var (lits_of watch.now.placed) (var_of l) ≡ false) }
     ensures none { IfNone result (HaveValues watch.now.placed watch.now.vars) }
+    ensures first { IfSome (find (is_open watch.now.placed watch.now.vars) first.now)
+        (λ l. result ≡ Some (negation l)) }
 {
     if let Some(lit) = negated_first(watch, first) {
         return Some(lit);

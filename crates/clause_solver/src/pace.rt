@@ -1,5 +1,6 @@
 //! When a search begins again from level 0.
-ghost use Rattle.std.specs.Prelude.{◌≡◌, ◌⊎◌};
+ghost use Rattle.std.specs.Prelude.{◌≡◌, ◌-◌, ◌<◌, ◌≤◌, ◌⊎◌};
+ghost use Rattle.clause_solver.specs.Runs.{IsNextRun};
 
 /// So many conflicts make one step.
 const STEP: u64 = 100;
@@ -19,7 +20,9 @@ pub struct Pace {
 
 impl Pace {
     /// The first run.
-    pub fn new() -> Pace {
+    pub fn new() -> Pace
+        ensures { result ≡ record { left = STEP; steps = 1; round = 1 } }
+    {
         Pace {
             left: STEP,
             steps: 1,
@@ -29,7 +32,10 @@ impl Pace {
 
     /// After a conflict: the level to go back to, and 0 where the search begins again.
     pub fn level(&mut self, level: u64) -> u64
-        ensures { (result ≡ level) ⊎ (result ≡ 0) }
+        ensures either { (result ≡ level) ⊎ (result ≡ 0) }
+        ensures within { 1 < self.old.left
+            → (result ≡ level) × (self.new ≡ record self.old { left = self.old.left - 1 }) }
+        ensures over { self.old.left ≤ 1 → (result ≡ 0) × IsNextRun STEP self.old self.new }
     {
         if self.left > 1 {
             self.left -= 1;
@@ -40,7 +46,9 @@ impl Pace {
     }
 
     /// The next run: twice as many steps, or one where the number of rounds has no more factors 2.
-    fn next_run(&mut self) {
+    fn next_run(&mut self)
+        ensures { IsNextRun STEP self.old self.new }
+    {
         if self.round & self.steps == 0 {
             self.steps = self.steps.saturating_mul(2);
         } else {

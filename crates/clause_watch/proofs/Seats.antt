@@ -45,7 +45,7 @@ module _ (t : TrailValue) (cs : List (List Lit)) (table : List (List Entry)) (or
 
   -- the entry that the clause has in a list afterwards
   abbrev kept : Entry
-  kept = record { place = place; other = s.other }
+  kept = record { place = place; two = false; other = s.other }
 
   both : rest + s.slot ≡ 1
   both = let lo = f.slot.low in omega (arith, lo)
@@ -75,8 +75,8 @@ module _ (t : TrailValue) (cs : List (List Lit)) (table : List (List Entry)) (or
   false-lit : has (lits_of ps) (negation lit) ≡ true
   false-lit = lit-false t.vars cs ps table orders head lit at s.entry k w f.listed
 
-  sound : IsOfClause cs kept
-  sound = (c, there.1, guarded.has_second)
+  sound : (l : Lit) → IsOfClause cs l kept
+  sound l = ((c, there.1, guarded.has_second), λ two. absurd (false≢true two))
 
   pub other-below : var_of s.other < t.vars
   other-below = has-below t.vars c s.other rules.1 guarded.has_second
@@ -122,10 +122,10 @@ module _ (t : TrailValue) (cs : List (List Lit)) (table : List (List Entry)) (or
   -- the other watched literal is true
   module _ (new : List (List Entry)) (is : RowIs table new lit (set (row_of table lit) at kept)) where
     pub true-kept : IsKept t.vars cs ps new orders head
-    true-kept = put-kept t.vars cs ps table orders head lit at s.entry k w f.listed new kept is refl sound
+    true-kept = put-kept t.vars cs ps table orders head lit at s.entry k w f.listed new kept is refl (sound lit)
 
     pub true-next : has (lits_of ps) s.other ≡ true → IsNext cs ps table new orders head lit at (at + 1)
-    true-next h = put-next t.vars cs ps table orders head lit at s.entry k w f.listed new kept is refl sound right.orderly.levels h
+    true-next h = put-next t.vars cs ps table orders head lit at s.entry k w f.listed new kept is refl (sound lit) right.orderly.levels h
 
   -- it becomes true
   module _ (u : TrailValue) (a : AreFalseFrom ps o 2 s.other) (no : has (lits_of ps) s.other ≡ false)
@@ -137,11 +137,11 @@ module _ (t : TrailValue) (cs : List (List Lit)) (table : List (List Entry)) (or
     module _ (new : List (List Entry)) (put : RowIs table new lit (set (row_of table lit) at kept)) where
       pub placed-kept : IsKept u.vars cs u.placed new orders head
       placed-kept = put-kept u.vars cs u.placed table orders head lit at s.entry (tended-grown cs t u table orders head placed-grown k)
-          (walk-grown cs t u table orders head lit at placed-grown w) f.listed new kept put refl sound
+          (walk-grown cs t u table orders head lit at placed-grown w) f.listed new kept put refl (sound lit)
 
       pub placed-next : IsNext cs u.placed table new orders head lit at (at + 1)
       placed-next = put-next u.vars cs u.placed table orders head lit at s.entry (tended-grown cs t u table orders head placed-grown k)
-          (walk-grown cs t u table orders head lit at placed-grown w) f.listed new kept put refl sound
+          (walk-grown cs t u table orders head lit at placed-grown w) f.listed new kept put refl (sound lit)
           (IsWatch-grown cs cs t u refl right placed-grown).orderly.levels
           (follows-true t u s.other (place + 1) (inr (is, neither-free ps s.other no open_yet)))
 
@@ -167,7 +167,7 @@ module _ (t : TrailValue) (cs : List (List Lit)) (table : List (List Entry)) (or
         (found-has next found at-next) (λ e. open_here.apart (ap var_of same-lit ∙ e)) not-false
 
     grows : TableGrows cs table one
-    grows = TableGrows-push cs table one found kept pushed sound
+    grows = TableGrows-push cs table one found kept pushed (sound found)
 
     abbrev after : List Lit
     after = swap o s.slot next

@@ -202,7 +202,8 @@ certified s bits budget n u model ls g end log r over m e =
     let k = certificate bits budget u h log in
     let o = certificate-over bits budget u h log r in
     subst (λ y. (length y ≡ s.vars) × MeetsAll (values_in y) s
-    × IsCertificate s.vars (clauses_of s.entries) bits (bits_at (values_in y) bits) ls × AreOver s.vars ls × (learnt_in ls ≤ budget)) (sym m) (
+    × IsCertificate s.vars (clauses_of s.entries) bits (bits_at (values_in y) bits) ls × AreOver s.vars ls
+    × (learnt_in ls ≤ budget)) (sym m) (
       g.whole ∙ over.1,
       (Meets-all w s.entries).1 (subst (AllTrue w) over.0 g.meets),
       subst (IsCertificate s.vars (clauses_of s.entries) bits (bits_at w bits)) (sym e)

@@ -1,5 +1,6 @@
 -- What a search finds, and where it stands on the way.
-use Rattle.std.specs.Prelude.{◌≡◌, ℕ, ◌+◌, ◌^◌, ◌<◌, ◌≤◌, Bool, true, false, List, length, take}
+use Rattle.std.specs.Prelude.{◌≡◌, ℕ, ◌+◌, ◌^◌, ◌<◌, ◌≤◌, Bool, true, false, ◌&&◌, nat_lt, nat_le, Option, Some, None, List, [], length, take, slice_range}
+use Rattle.std.specs.List.{find}
 use Rattle.clause_store.specs.declared.Lit.{Lit}
 use Rattle.clause_store.specs.Clauses.{Clauses, clauses_of, Meets, AllTrue}
 use Rattle.proof_log.specs.Lines.{IsOpen, learnt_in, AllLines}
@@ -48,3 +49,15 @@ IsOver input vars t = (t.input ≡ input) × (t.vars ≡ vars)
 abbrev pub Settles : List Lit → ℕ → ℕ → SolverValue → SolverValue → Bool → Type 0
 Settles bits budget n old new true = IsOver old.input old.vars new × IsSearching bits budget (n + 1) new
 Settles bits budget n old new false = IsOver old.input old.vars new × IsSpentLog new.vars new.input bits budget new.lines
+
+-- an end behind a place, and not beyond the bits
+abbrev pub ends_past : List Lit → ℕ → ℕ → Bool
+ends_past bits at end = nat_lt at end && nat_le end (length bits)
+
+abbrev pub upto_end : List Lit → ℕ → Option ℕ → List Lit
+upto_end bits at None = []
+upto_end bits at (Some end) = slice_range bits at end
+
+-- the bits from a place up to the first such end
+abbrev pub left_of : List Lit → List ℕ → ℕ → List Lit
+left_of bits ends at = upto_end bits at (find (ends_past bits at) ends)

@@ -2,7 +2,7 @@
 ghost use Rattle.std.specs.Prelude.{◌≡◌, ◌<◌, length, IfOk};
 ghost use Rattle.clause_store.specs.Lits.{AllBelow, lit_true};
 ghost use Rattle.clause_solver.specs.Models.{values_in};
-ghost use Rattle.optimum_search.specs.Finding.{IsSearching, Settles};
+ghost use Rattle.optimum_search.specs.Finding.{IsSearching, Settles, left_of};
 
 use clause_solver::{Outcome, Solver};
 use clause_store::Lit;
@@ -41,7 +41,9 @@ fn settle(solver: &mut Solver, bits: &[Lit], at: usize, budget: u64) -> Result<b
 }
 
 /// The bits from a place up to the end of their number; none where no end stands behind the place.
-fn left_of_number<'a>(bits: &'a [Lit], ends: &[usize], at: usize) -> &'a [Lit] {
+fn left_of_number<'a>(bits: &'a [Lit], ends: &[usize], at: usize) -> &'a [Lit]
+    ensures { result.now ≡ left_of bits.now ends.now at }
+{
     for end in ends {
         if at < *end && *end <= bits.len() {
             return &bits[at..*end];

@@ -1,7 +1,8 @@
 //! `search BUDGET VARS BITS.. 0 CLAUSES..`: the least bits; `numbers BUDGET VARS ENDS.. 0 BITS.. 0 CLAUSES..`: the same where
-//! the bits spell numbers that end before these places.
+//! the bits spell numbers that end before these places; `within` and the same words: only what was found, so that
+//! these rows show how much a search has to learn.
 use crate::input::{are_below, clauses_of, lits_of, number_of, places_of};
-use crate::output::{push_line, push_log, push_model};
+use crate::output::{push_line, push_log, push_model, said_no};
 use optimum_search::{Found, search, search_by_numbers};
 use std::alloc::{AllocError, Global};
 
@@ -28,20 +29,46 @@ pub fn answer_numbers(
     vars: &str,
     words: &[&str],
 ) -> Result<Vec<u8>, AllocError> {
+    match found_by_numbers(alloc, budget, vars, words)? {
+        Some(found) => text_of(alloc, &found),
+        None => said_no(alloc),
+    }
+}
+
+/// Which of the three `search_by_numbers` finds. The log is left out: a row holds whatever is learnt, as long as it is
+/// within the budget.
+pub fn answer_within(
+    alloc: Global,
+    budget: &str,
+    vars: &str,
+    words: &[&str],
+) -> Result<Vec<u8>, AllocError> {
+    let word = match found_by_numbers(alloc, budget, vars, words)? {
+        Some(Found::Optimal { .. }) => "optimal",
+        Some(Found::Refuted { .. }) => "refuted",
+        Some(Found::Spent { .. }) => "spent",
+        None => "no",
+    };
+    let mut text = Vec::new(alloc);
+    push_line(&mut text, word)?;
+    Ok(text)
+}
+
+/// What `search_by_numbers` finds, where the bits are over the variables.
+fn found_by_numbers(
+    alloc: Global,
+    budget: &str,
+    vars: &str,
+    words: &[&str],
+) -> Result<Option<Found>, AllocError> {
     let (ends, words) = places_of(alloc, words)?;
     let (bits, rest) = lits_of(alloc, number_of(vars), words)?;
     let clauses = clauses_of(alloc, number_of(vars), rest)?;
     if !are_below(&bits, clauses.vars()) {
-        return said_no(alloc);
+        return Ok(None);
     }
     let found = search_by_numbers(alloc, &clauses, &bits, &ends, number_of(budget))?;
-    text_of(alloc, &found)
-}
-
-fn said_no(alloc: Global) -> Result<Vec<u8>, AllocError> {
-    let mut text = Vec::new(alloc);
-    push_line(&mut text, "no")?;
-    Ok(text)
+    Ok(Some(found))
 }
 
 /// `optimal` and the model, `refuted` or `spent`, and then the log.

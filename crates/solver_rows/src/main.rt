@@ -7,6 +7,7 @@
 
 mod input;
 mod least;
+mod logs;
 mod output;
 mod steps;
 mod trails;
@@ -29,6 +30,8 @@ fn answer(alloc: Global, line: &str) -> Result<Vec<u8>, AllocError> {
     match words.as_slice() {
         ["search", budget, vars, rest @ ..] => least::answer(alloc, budget, vars, rest),
         ["numbers", budget, vars, rest @ ..] => least::answer_numbers(alloc, budget, vars, rest),
+        ["within", budget, vars, rest @ ..] => least::answer_within(alloc, budget, vars, rest),
+        ["log", piece, vars, rest @ ..] => logs::answer(alloc, piece, vars, rest),
         ["solve", budget, vars, rest @ ..] => steps::answer(alloc, budget, vars, rest),
         ["watch", vars, rest @ ..] => trails::answer(alloc, vars, rest),
         _ => Ok(Vec::new(alloc)),

@@ -44,3 +44,10 @@ pub fn push_log(alloc: Global, text: &mut Vec<u8>, lines: &[Line]) -> Result<(),
     }
     Ok(())
 }
+
+/// The answer to words that no call takes.
+pub fn said_no(alloc: Global) -> Result<Vec<u8>, AllocError> {
+    let mut text = Vec::new(alloc);
+    push_line(&mut text, "no")?;
+    Ok(text)
+}

@@ -7,7 +7,7 @@ use Rattle.clause_solver.proofs.search.Search.teach.Goals as goal
 
 pub add-requires-clause-settled : goal.add-requires-clause-settled
 add-requires-clause-settled c = lesson-addable c.args.self.now.watch c.go_back.new.watch c.in_ok-clause.field-0 c.level-back.result
-    c.in_ok-clause.ensures.lesson c.level-back.ensures c.go_back.ensures.kept c.go_back.ensures.depth
+    c.in_ok-clause.ensures.lesson c.level-back.ensures.either c.go_back.ensures.kept c.go_back.ensures.depth
 
 pub overflow_add-self : goal.overflow_add-self
 overflow_add-self c =

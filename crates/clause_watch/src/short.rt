@@ -1,0 +1,43 @@
+//! Clauses of two literals: the other one is true, where the first became false.
+ghost use Rattle.std.specs.Prelude.{◌≡◌, ◌+◌, ◌^◌, ◌<◌, true, slice_get, Some, IfOk};
+ghost use Rattle.clause_watch.specs.Reasons.{Grown};
+ghost use Rattle.clause_watch.specs.Watches.{IsWatch};
+ghost use Rattle.clause_watch.specs.Lists.{row_of};
+ghost use Rattle.clause_watch.specs.Watching.{IsTended, IsWalking, IsTurn};
+
+use crate::arrivals::follow;
+use crate::lists::Entry;
+use crate::queue::{Queue, Turn};
+use crate::trail::Trail;
+use clause_store::{Clause, Lit};
+use std::alloc::AllocError;
+
+impl Queue {
+    /// Looks at a clause that has no literal but the list's and the entry's other one.
+    pub fn follow_other(
+        &self,
+        trail: &mut Trail,
+        clauses: &[Clause],
+        lit: Lit,
+        at: usize,
+        entry: Entry,
+    ) -> Result<Turn, AllocError>
+        requires right { IsWatch trail.old.vars clauses.now trail.old.placed }
+        requires tended { IsTended trail.old.vars clauses.now trail.old.placed self.now }
+        requires walking { IsWalking clauses.now trail.old.placed self.now lit at }
+        requires here { slice_get (row_of self.now.lists lit) at ≡ Some entry }
+        requires small { at + 1 < 2 ^ 64 }
+        requires two { entry.two ≡ true }
+        ensures grown { Grown clauses.now trail.old trail.new }
+        ensures tended { IsTended trail.new.vars clauses.now trail.new.placed self.now }
+        ensures turn { IfOk result (IsTurn clauses.now trail.new.placed self.now self.now lit at) }
+    {
+        let _ = clauses;
+        let id = entry.place as u64 + 1;
+        if trail.is_false(entry.other) {
+            return Ok(Turn::False(id));
+        }
+        follow(trail, entry.other, id)?;
+        Ok(Turn::Next(at + 1))
+    }
+}
