@@ -52,8 +52,6 @@ refuses refusals.LockTooLarge = tt
 refuses (refusals.BadLock fault) = lock_refuses fault
 refuses refusals.OtherRoots = tt
 refuses (refusals.BrokenRule rule node number) = tt
-refuses refusals.CertificateTooLarge = tt
-refuses (refusals.BadCertificate number fault) = tt
 
 -- a status that no refusal has
 unlike : (refusal : Refusal) (result status : Status) → result ≡ status_of refusal → result ≡ status → (IsRefusalStatus status → ⊥) → ⊥
@@ -240,8 +238,6 @@ by_words words refusals.LockTooLarge follows = inr tt
 by_words words (refusals.BadLock fault) follows = inr (lock_other fault)
 by_words words refusals.OtherRoots follows = inr tt
 by_words words (refusals.BrokenRule rule node number) follows = inr tt
-by_words words refusals.CertificateTooLarge follows = inr tt
-by_words words (refusals.BadCertificate number fault) follows = inr tt
 
 stops_by_words : (words : List (List ℕ)) (stop : Stop) → Follows words (Err stop) → (command_of words ≡ None) ⊎ IsOther (stop_status stop)
 stops_by_words words (Read (Refused refusal)) follows = by_words words refusal follows

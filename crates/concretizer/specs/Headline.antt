@@ -5,10 +5,7 @@
 use Rattle.std.specs.Prelude.{◌≡◌, ◌⊎◌, ℕ, List, Option, Some, Ok, Err, IfSome}
 use Rattle.outside_desk.specs.Causes.{Rose}
 use Rattle.outside_desk.specs.Files.{Files, and_said}
-use Rattle.run_output.specs.Orders.{order_of}
-use Rattle.run_output.specs.Shown.{IsShown}
-use Rattle.run_output.specs.Stages.{Is}
-use Rattle.run_output.specs.Words.{Command, lock_path, cert_path}
+use Rattle.run_output.specs.Words.{lock_path, cert_path}
 use Rattle.run_output.specs.Task.{Task}
 use Rattle.run_output.specs.Tasks.{Poses}
 use Rattle.run_output.specs.Refusals.{status_of, line_of}
@@ -33,33 +30,24 @@ Says said line = said.1 ≡ and_said said.0 line
 
 -- Done, by `concretize` (`IsSolved` in `run_output`): LOCK holds the lock file of a graph that is well-formed and optimal
 -- for the problem that was read, CERT, unless it is `-`, the text of a log that is a certificate of its costs, every
--- other file is as at entry, its lines were said, and nothing else was. By the other commands (`IsTold`): no file changed, and
--- what the task comes to was said: of `judge` the cost vector of the lock file's valid graph, of `check` and `refute` that the
--- certificate is right, of `explain` that some graph is valid, of `trial` the counts of an optimal graph
+-- other file is as at entry, its lines were said, and nothing else was. By `judge`: the graph of the lock file is
+-- valid, that and its cost vector were said, and no file changed
 pub record IsDone (files : Files) (words : List (List ℕ)) (after : Option Files) (out err : Spoken) : Type 0 where
   pub task : Task
   pub read : Poses files words (Ok task)
   pub finished : IsFinished (lock_path words) (cert_path words) task (Some files) after out.0 out.1
   pub errors : IsSilent err
 
--- What the yes of a command shows, whoever made the files (`IsShown` in `run_task`): of `check`, that LOCK holds a lock file of just
--- the roots that are asked for, and that its graph is optimal for the problem that was read; of `refute`, that no graph is valid
-pub record HasShown (files : Files) (words : List (List ℕ)) : Type 0 where
-  pub command : Command
-  pub ordered : Is (order_of words) (Ok command)
-  pub shown : IsShown files command
-
--- Unsatisfiable, by `concretize`: no graph is valid, CERT holds the text of a log that refutes the problem, and every
--- other file is as at entry. By `explain`: a line was said for each demand that a refutation of the problem rests on, and no
--- graph is valid for these alone; by `trial`: no graph of the made input is valid; no file changed
+-- Unsatisfiable, by `concretize` alone: no graph is valid, CERT holds the text of a log that refutes the problem, and every
+-- other file is as at entry
 pub record IsUnsatisfiable (files : Files) (words : List (List ℕ)) (after : Option Files) (out err : Spoken) : Type 0 where
   pub task : Task
   pub read : Poses files words (Ok task)
   pub none : HasNone (cert_path words) task (Some files) after out.0 out.1
   pub errors : IsSilent err
 
--- Undecided, by `concretize`: the budget of the settings was spent, CERT holds the text of the log that shows it, and
--- every other file is as at entry; by `explain` and `trial` likewise, and no file changed
+-- Undecided, by `concretize` alone: the budget of the settings was spent, CERT holds the text of the log that shows it, and
+-- every other file is as at entry
 pub record IsUndecided (files : Files) (words : List (List ℕ)) (after : Option Files) (out err : Spoken) : Type 0 where
   pub task : Task
   pub read : Poses files words (Ok task)
@@ -75,8 +63,8 @@ pub record IsRefused (files : Files) (words : List (List ℕ)) (answer : Status)
   pub output : IsSilent out
   pub errors : Says err (line_of refusal)
 
--- ReadFault: the desk failed to read the settings, the folder of packages, a recipe, the database, or what the command looks at
--- besides: the lock file (`judge`, `check`), the certificate (`check`, `refute`); and that was said
+-- ReadFault: the desk failed to read the settings, the folder of packages, a recipe, the database or, by `judge`, the lock file,
+-- and that was said
 pub record IsReadFault (words : List (List ℕ)) (faults : ℕ × ℕ) (files : Option Files × Option Files) (out err : Spoken) : Type 0 where
   pub path : List ℕ
   pub read : IsRead words path
@@ -101,7 +89,7 @@ pub record IsPutFault (words : List (List ℕ)) (files : Option Files × Option 
   pub output : IsSilent out
   pub errors : Says err (write_fault_line path)
 
--- what a fault of the sink of the answer leaves: all files of the answer whole, and no file changed by other commands than `concretize`
+-- what a fault of the sink of the answer leaves: all files of the answer whole, and no file changed by `judge`
 pub record LeavesAll (files : Files) (words : List (List ℕ)) (after : Option Files) : Type 0 where
   pub task : Task
   pub read : Poses files words (Ok task)

@@ -1,6 +1,6 @@
 //! The reading of a task, and the writing of its answer.
 
-ghost use Rattle.std.specs.Prelude.{◌≡◌, ◌≤◌, Err, IfSome, OnOk};
+ghost use Rattle.std.specs.Prelude.{◌≡◌, ◌≤◌, Err, IfSome};
 ghost use Rattle.outside_desk.specs.Causes.{Counts};
 ghost use Rattle.run_output.specs.Orders.{order_of};
 ghost use Rattle.run_output.specs.Refusal.{Refusal};
@@ -8,16 +8,14 @@ ghost use Rattle.run_output.specs.Stages.{Is};
 ghost use Rattle.run_output.specs.Stops.{stop_status, stop_line};
 ghost use Rattle.run_output.specs.Words.{words_of};
 ghost use Rattle.concretizer.specs.Attempts.{Attempts, Follows, StopsAtOnce, FailsToRead, FailsToPut, FailsToSay};
-ghost use Rattle.concretizer.specs.Headline.{HasShown, Keeps, Reports};
+ghost use Rattle.concretizer.specs.Headline.{Keeps, Reports};
 
 use outside_desk::{Desk, Sink, SinkFault};
 use run_output::{Outcome, Status, Stop, read_order, read_task, write_answer};
 use std::alloc::Global;
-use std::thread::Threads;
 
 /// Reads the task that the words name, and writes its answer.
-pub fn attempt<R: Threads + Sync, D: Desk, O: Sink>(
-    rt: &R,
+pub fn attempt<D: Desk, O: Sink>(
     alloc: Global,
     words: &[String],
     desk: &mut D,
@@ -26,8 +24,6 @@ pub fn attempt<R: Threads + Sync, D: Desk, O: Sink>(
     ensures outcome { IfSome (D.files desk.old)
         (λ files. Attempts files (words_of words.now) (D.files desk.new) (O.said out.old)
         (O.said out.new) result) }
-    ensures shown { OnOk result (IfSome (D.files desk.old)
-        (λ files. HasShown files (words_of words.now))) }
     ensures follows { Follows (words_of words.now) result }
     ensures at_once { (refusal : Refusal) → Is (order_of (words_of words.now)) (Err refusal)
         → StopsAtOnce refusal result
@@ -43,7 +39,7 @@ pub fn attempt<R: Threads + Sync, D: Desk, O: Sink>(
     ensures said { Counts (O.faults out.old) (O.faults out.new) (FailsToSay result) }
 {
     let command = read_order(alloc, words)?;
-    let task = read_task(rt, alloc, desk, &command)?;
+    let task = read_task(alloc, desk, &command)?;
     let answer = write_answer(alloc, &task, command.lock, command.cert, desk, out);
     drop(task);
     Ok(answer?)

@@ -4,7 +4,7 @@ ghost use Rattle.std.specs.Prelude.{◌≡◌, ◌≢◌, Ok, Err, Some};
 ghost use Rattle.run_output.specs.Words.{words_of};
 ghost use Rattle.run_output.specs.Task.{Task};
 ghost use Rattle.run_output.specs.Tasks.{Poses};
-ghost use Rattle.concretizer.specs.Headline.{IsDone, HasShown, IsUnsatisfiable, IsUndecided, IsRefused, Settles, IsRefusalStatus, IsAnsweredBy};
+ghost use Rattle.concretizer.specs.Headline.{IsDone, IsUnsatisfiable, IsUndecided, IsRefused, Settles, IsRefusalStatus, IsAnsweredBy};
 ghost use Rattle.run_output.specs.Refusals.{status_of};
 ghost use Rattle.run_output.specs.Refusal.{Refusal};
 
@@ -27,7 +27,6 @@ pub fn run_steady<R: Threads + Sync>(
     ensures done { result ≡ Status.Done
         → IsDone desk.old (words_of words.now) (Some desk.new) (Some out.old, Some out.new)
         (Some err.old, Some err.new) }
-    ensures shown { result ≡ Status.Done → HasShown desk.old (words_of words.now) }
     ensures unsatisfiable { result ≡ Status.Unsatisfiable
         → IsUnsatisfiable desk.old (words_of words.now) (Some desk.new) (Some out.old, Some out.new)
         (Some err.old, Some err.new) }

@@ -10,7 +10,7 @@ ghost use Rattle.run_output.specs.Stages.{Is};
 ghost use Rattle.run_output.specs.Task.{Task};
 ghost use Rattle.run_output.specs.Tasks.{Poses};
 ghost use Rattle.run_output.specs.Words.{words_of, command_of, lock_path, cert_path};
-ghost use Rattle.concretizer.specs.Headline.{IsDone, HasShown, IsUnsatisfiable, IsUndecided, IsRefused, IsReadFault, IsPutFault, IsOutputFault, Keeps, Settles, IsRefusalStatus, Reports, IsAnsweredBy};
+ghost use Rattle.concretizer.specs.Headline.{IsDone, IsUnsatisfiable, IsUndecided, IsRefused, IsReadFault, IsPutFault, IsOutputFault, Keeps, Settles, IsRefusalStatus, Reports, IsAnsweredBy};
 
 use crate::attempt::{attempt, report};
 use outside_desk::{Desk, Sink};
@@ -18,22 +18,17 @@ use run_output::{Outcome, Status, task_laws};
 use std::alloc::Global;
 use std::thread::Threads;
 
-/// Does what the words ask for, which are those behind the program's name.
+/// Does what the words ask for: `concretize REPO SETTINGS DATABASE LOCK CERT SPEC..` or
+/// `judge REPO SETTINGS DATABASE LOCK SPEC..`.
 ///
-/// A run reads the settings and all recipes of the repository, `REPO/packages/NAME/package.py`. Then it does the command's own
-/// work; `err` gets one line where it stops before its end.
-///
-/// - `concretize REPO SETTINGS DATABASE LOCK CERT SPEC..` finds the best graph of the specs; the certificate of that is put at
-///   CERT, unless that is `-`, and then the lock file at LOCK, and `out` gets the nodes and the cost vector. Where no graph is
-///   valid, or the budget of the settings is spent, CERT gets the log of that, and LOCK is not touched.
-/// - `judge REPO SETTINGS DATABASE LOCK SPEC..`: where LOCK holds a valid graph of the specs, `out` gets `valid` and the cost vector.
-/// - `check REPO SETTINGS DATABASE LOCK CERT SPEC..`: where besides CERT shows that no valid graph costs less, `out` gets `accepted`.
-/// - `refute REPO SETTINGS DATABASE CERT SPEC..`: where CERT shows that no graph is valid, `out` gets `accepted`.
-/// - `explain REPO SETTINGS DATABASE SPEC..`: `out` gets `satisfiable`, or a line for each demand that stands against a graph.
-/// - `trial N SEED` finds the best graph of N packages that are made in memory; `out` gets how many nodes it has, its cost vector
-///   and how many clauses were learnt.
+/// The words are those behind the program's name. A run reads the settings and all recipes of the repository,
+/// `REPO/packages/NAME/package.py`. For `concretize` the best graph of the specs is found; the certificate of that is put
+/// at CERT, unless that is `-`, and then the lock file at LOCK, and the nodes and the cost vector are said on `out`. Where
+/// no graph is valid, or the budget of the settings is spent, CERT gets the log of that, and LOCK is not touched. For
+/// `judge`, where LOCK holds a valid graph of the specs, `out` gets `valid` and the cost vector. `err` gets one line
+/// where the run stops before that.
 pub fn run<R: Threads + Sync, D: Desk, O: Sink, E: Sink>(
-    rt: &R,
+    _rt: &R,
     alloc: Global,
     words: &[String],
     desk: &mut D,
@@ -53,8 +48,6 @@ pub fn run<R: Threads + Sync, D: Desk, O: Sink, E: Sink>(
     ensures done { result ≡ Status.Done → IfSome (D.files desk.old) (λ files.
         IsDone files (words_of words.now) (D.files desk.new) (O.said out.old, O.said out.new)
         (E.said err.old, E.said err.new)) }
-    ensures shown { result ≡ Status.Done → IfSome (D.files desk.old) (λ files.
-        HasShown files (words_of words.now)) }
     ensures unsatisfiable { result ≡ Status.Unsatisfiable → IfSome (D.files desk.old) (λ files.
         IsUnsatisfiable files (words_of words.now) (D.files desk.new)
         (O.said out.old, O.said out.new) (E.said err.old, E.said err.new)) }
@@ -105,7 +98,7 @@ pub fn run<R: Threads + Sync, D: Desk, O: Sink, E: Sink>(
         × (O.faults out.old ≤ O.faults out.new) × (E.faults err.old ≤ E.faults err.new) }
 {
     task_laws();
-    match attempt(rt, alloc, words, desk, out) {
+    match attempt(alloc, words, desk, out) {
         Ok(Outcome::Solved) => Status::Done,
         Ok(Outcome::Unsolved) => Status::Unsatisfiable,
         Ok(Outcome::Undecided) => Status::Undecided,

@@ -10,8 +10,6 @@ use Rattle.report_texts.specs.LockFault.TheVariants as faults
 use Rattle.report_texts.specs.Rule.{Rule}
 use Rattle.report_texts.specs.FaultTexts.{spec_fault_text, settings_fault_text, recipe_fault_text, lock_fault_text, rule_name}
 use Rattle.report_texts.specs.Lines.{line}
-use Rattle.run_answers.specs.declared.line_fault.LineFault.{LineFault}
-use Rattle.run_answers.specs.declared.line_fault.LineFault.TheVariants as line_faults
 use Rattle.run_answers.specs.declared.refusal.Refusal.{Refusal}
 use Rattle.run_answers.specs.declared.refusal.Refusal.TheVariants as refusals
 use Rattle.run_answers.specs.declared.status.Status.{Status}
@@ -49,8 +47,6 @@ status_of refusals.LockTooLarge = statuses.TooLarge
 status_of (refusals.BadLock fault) = lock_status fault
 status_of refusals.OtherRoots = statuses.Refused
 status_of (refusals.BrokenRule rule node number) = statuses.Refused
-status_of refusals.CertificateTooLarge = statuses.TooLarge
-status_of (refusals.BadCertificate number fault) = statuses.Refused
 
 unfoldable pub missing_line : List ℕ → List ℕ
 missing_line path = line (codes "bad input: missing " ∷ path ∷ [])
@@ -96,22 +92,6 @@ broken_line rule node number = line (codes "refused: graph " ∷ rule_name rule 
 unfoldable pub too_large_line : List ℕ → List ℕ
 too_large_line name = line (codes "too large: recipe " ∷ name ∷ [])
 
-abbrev pub line_fault_name : LineFault → List ℕ
-line_fault_name line_faults.BadLine = codes "BadLine"
-line_fault_name line_faults.WrongCounts = codes "WrongCounts"
-line_fault_name line_faults.OutOfOrder = codes "OutOfOrder"
-line_fault_name line_faults.UnknownId = codes "UnknownId"
-line_fault_name line_faults.NoPivot = codes "NoPivot"
-line_fault_name line_faults.TwoPivots = codes "TwoPivots"
-line_fault_name line_faults.NotContained = codes "NotContained"
-line_fault_name line_faults.WrongBit = codes "WrongBit"
-line_fault_name line_faults.NotNew = codes "NotNew"
-line_fault_name line_faults.Unfinished = codes "Unfinished"
-
-unfoldable pub bad_certificate_line : ℕ → LineFault → List ℕ
-bad_certificate_line number fault =
-    line (codes "refused: certificate line " ∷ decimal number ∷ codes " " ∷ line_fault_name fault ∷ [])
-
 -- the line that is said
 unfoldable pub line_of : Refusal → List ℕ
 line_of refusals.Usage = line (codes "usage: spack_concretize COMMAND ARGUMENT..." ∷ [])
@@ -136,5 +116,3 @@ line_of refusals.LockTooLarge = line (codes "too large: lock" ∷ [])
 line_of (refusals.BadLock fault) = bad_lock_line fault
 line_of refusals.OtherRoots = line (codes "refused: roots" ∷ [])
 line_of (refusals.BrokenRule rule node number) = broken_line rule node number
-line_of refusals.CertificateTooLarge = line (codes "too large: certificate" ∷ [])
-line_of (refusals.BadCertificate number fault) = bad_certificate_line number fault

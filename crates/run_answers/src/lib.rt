@@ -6,12 +6,10 @@
 //! What it must not know: which commands there are, and when they refuse.
 #![tactic(auto)]
 
-mod line_fault;
 mod refusal;
 mod status;
 mod stop;
 
-pub use line_fault::LineFault;
 pub use refusal::Refusal;
 pub use status::Status;
 pub use stop::{ReadStop, Stop, WriteStop};

@@ -5,7 +5,6 @@ ghost use Rattle.std.specs.String.{string_bytes};
 ghost use Rattle.run_answers.specs.Refusals.{status_of};
 ghost use Rattle.run_answers.specs.Refusals as lines;
 
-use crate::line_fault::{LineFault, line_fault_name};
 use crate::status::Status;
 use plain_data::Word;
 use report_texts::{
@@ -61,10 +60,6 @@ pub enum Refusal {
     OtherRoots,
     /// The graph of the lock file breaks the rule, at the node and there at the number of a directive.
     BrokenRule(Rule, Word, u64),
-    /// The certificate is longer than 2^63 - 1 bytes.
-    CertificateTooLarge,
-    /// The line of the certificate with the number, from 1, has the fault.
-    BadCertificate(u64, LineFault),
 }
 
 impl Refusal {
@@ -90,11 +85,9 @@ impl Refusal {
             | Refusal::SpecsTooLarge
             | Refusal::TooManyRoots
             | Refusal::TooManyPackages
-            | Refusal::LockTooLarge
-            | Refusal::CertificateTooLarge => Status::TooLarge,
+            | Refusal::LockTooLarge => Status::TooLarge,
             Refusal::BadLock(fault) => lock_status(fault),
-            Refusal::OtherRoots | Refusal::BrokenRule(_, _, _) | Refusal::BadCertificate(_, _) =>
-                Status::Refused,
+            Refusal::OtherRoots | Refusal::BrokenRule(_, _, _) => Status::Refused,
         }
     }
 
@@ -128,8 +121,6 @@ impl Refusal {
             Refusal::BrokenRule(rule, node, number) => {
                 broken_line(alloc, *rule, node.as_str(), *number)
             }
-            Refusal::CertificateTooLarge => format!(in alloc; "too large: certificate\n"),
-            Refusal::BadCertificate(number, fault) => bad_certificate_line(alloc, *number, *fault),
         }
     }
 }
@@ -246,12 +237,4 @@ fn broken_line(alloc: Global, rule: Rule, node: &str, number: u64) -> Result<Str
 {
     let rule = rule_name(rule);
     format!(in alloc; "refused: graph {rule} {node} {number}\n")
-}
-
-#[tactic(auto, unfolding(crate::specs::Refusals::bad_certificate_line))]
-fn bad_certificate_line(alloc: Global, number: u64, fault: LineFault) -> Result<String, AllocError>
-    ensures { IfOk result (λ line. string_bytes line ≡ lines.bad_certificate_line number fault) }
-{
-    let fault = line_fault_name(fault);
-    format!(in alloc; "refused: certificate line {number} {fault}\n")
 }

@@ -9,9 +9,9 @@ use Rattle.std.proofs.lemmas.Bool.{false_from_ne_true}
 use Rattle.outside_desk.specs.Files.{Files, with_file, MayHold}
 use Rattle.proof_log.specs.declared.line.Line.{Line}
 use Rattle.proof_log.specs.Readings.{log_text}
-use Rattle.run_task.specs.Answers.{log_of}
-use Rattle.run_task.specs.Answer.{Answer}
-use Rattle.run_task.specs.Answer.TheVariants as answers
+use Rattle.best_graph.specs.Answers.{log_of}
+use Rattle.best_graph.specs.declared.answer.Answer.{Answer}
+use Rattle.best_graph.specs.declared.answer.Answer.TheVariants as answers
 use Rattle.valid_locks.specs.Locks.{lock_of}
 use Rattle.run_task.specs.Words.{is_dash}
 use Rattle.run_task.specs.Problems.{Problem}
@@ -79,9 +79,6 @@ module _ (lock cert : List ℕ) where
   keeps task (Some m) after (inl same) = keeps_none (Some m) after same
   keeps (tasks.Solve input) (Some m) after (inr kept) = keeps_fronts input.problem kept.answer (Some m) after kept.held
   keeps (tasks.Report numbers) (Some m) after (inr kept) = absurd kept
-  keeps tasks.Accepted (Some m) after (inr kept) = absurd kept
-  keeps (tasks.Explain input) (Some m) after (inr kept) = absurd kept
-  keeps (tasks.Try input) (Some m) after (inr kept) = absurd kept
 
   pub unchanged : (before : Files) (after : Option Files) → after ≡ Some before → ChangesOnly lock cert before after
   unchanged before after same = keeps_none (Some before) after same

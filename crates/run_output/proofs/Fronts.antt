@@ -6,9 +6,9 @@ use Rattle.outside_desk.specs.Files.{Files, with_file, MayHold}
 use Rattle.graph_core.specs.Graphs.{Content}
 use Rattle.proof_log.specs.declared.line.Line.{Line}
 use Rattle.proof_log.specs.Readings.{log_text}
-use Rattle.run_task.specs.Answers.{log_of}
-use Rattle.run_task.specs.Answer.{Answer}
-use Rattle.run_task.specs.Answer.TheVariants as answers
+use Rattle.best_graph.specs.Answers.{log_of}
+use Rattle.best_graph.specs.declared.answer.Answer.{Answer}
+use Rattle.best_graph.specs.declared.answer.Answer.TheVariants as answers
 use Rattle.valid_locks.specs.Locks.{lock_of}
 use Rattle.run_task.specs.Words.{is_dash}
 use Rattle.run_task.specs.Problems.{Problem}

@@ -1,15 +1,14 @@
 -- What the writing of an answer leaves, by the answer.
 use Rattle.std.proofs.Common.{◌≡◌, ◌⊎◌, inl, inr, refl, ℕ, List, Option, Result, Ok, Err}
 use Rattle.outside_desk.specs.Files.{Files}
-use Rattle.run_task.specs.Answer.{Answer}
-use Rattle.run_task.specs.Answer.TheVariants as answers
+use Rattle.best_graph.specs.declared.answer.Answer.{Answer}
+use Rattle.best_graph.specs.declared.answer.Answer.TheVariants as answers
 use Rattle.run_task.specs.Input.{Input}
 use Rattle.run_task.specs.Problems.{Problem}
 use Rattle.run_task.specs.WriteStop.{WriteStop}
 use Rattle.run_task.specs.WriteStop.TheVariants.{Put, Output, NoMemory}
 use Rattle.run_task.specs.declared.task.Task.TheVariants as tasks
-use Rattle.run_output.specs.Answers.{HoldsFronts, KeepsFronts, Leaves, PutsAnswer, Writes}
-use Rattle.run_output.specs.Texts.{IsFor}
+use Rattle.run_output.specs.Answers.{HoldsFronts, IsFor, KeepsFronts, Leaves, PutsAnswer, Writes}
 use Rattle.run_output.specs.declared.answer.Outcome.{Outcome}
 use Rattle.run_output.specs.declared.answer.Outcome.TheVariants.{Solved, Unsolved, Undecided}
 

@@ -1,5 +1,4 @@
 pub mod Changes
 pub mod Fronts
 pub mod Left
-pub mod Told
 pub use Rattle.run_task.proofs.StageLaws

@@ -1,23 +1,49 @@
 -- What a run leaves of its answer: the certificate, the lock file and what was said.
-use Rattle.std.specs.Prelude.{◌≡◌, ◌⊎◌, ℕ, Bool, true, false, List, [], ◌∷◌, ◌++◌, Option, Result, Ok, Err}
+use Rattle.std.specs.Prelude.{◌≡◌, ◌⊎◌, ℕ, Bool, true, false, List, [], ◌∷◌, ◌++◌, Option, Result, Ok, Err, codes, decimal}
 use Rattle.outside_desk.specs.Files.{Files, with_file, and_said, MayHold}
 use Rattle.graph_core.specs.Graphs.{Content}
 use Rattle.run_task.specs.Problems.{Problem}
+use Rattle.run_task.specs.Costs.{vector}
 use Rattle.proof_log.specs.declared.line.Line.{Line}
 use Rattle.proof_log.specs.Readings.{log_text}
-use Rattle.run_task.specs.Answers.{log_of}
-use Rattle.run_task.specs.Answer.{Answer}
-use Rattle.run_task.specs.Answer.TheVariants as answers
+use Rattle.best_graph.specs.Answers.{IsAnswer, log_of}
+use Rattle.best_graph.specs.declared.answer.Answer.{Answer}
+use Rattle.best_graph.specs.declared.answer.Answer.TheVariants as answers
 use Rattle.valid_locks.specs.Locks.{lock_of}
 use Rattle.run_task.specs.Words.{is_dash}
 use Rattle.run_task.specs.WriteStop.{WriteStop}
 use Rattle.run_task.specs.WriteStop.TheVariants as writes
 use Rattle.run_task.specs.declared.task.Task.{Task}
 use Rattle.run_task.specs.declared.task.Task.TheVariants as tasks
-use Rattle.run_output.specs.Texts.{IsFor, graph_text, text_of, outcome_of, unsatisfiable_line, undecided_line}
-use Rattle.run_output.specs.Told.{IsTold}
+use Rattle.run_output.specs.Report.{report_text, vector_line}
 use Rattle.run_output.specs.declared.answer.Outcome.{Outcome}
 use Rattle.run_output.specs.declared.answer.Outcome.TheVariants as outcomes
+
+-- ---- the answer of a problem
+
+-- the answer means what it says within the budget of the settings, and its log shows it over clauses of the problem
+abbrev pub IsFor : Problem → Answer → Type 0
+IsFor problem answer = IsAnswer problem problem.settings.conflict_budget answer
+
+unfoldable pub unsatisfiable_line : List ℕ
+unsatisfiable_line = codes "unsatisfiable\n"
+
+unfoldable pub undecided_line : ℕ → List ℕ
+undecided_line budget = codes "undecided " ++ (decimal budget ++ 10 ∷ [])
+
+-- what is said of a graph: its nodes, and its cost vector
+abbrev pub graph_text : Problem → Content → List ℕ
+graph_text problem graph = report_text graph.nodes (vector problem graph)
+
+abbrev pub text_of : Problem → Answer → List ℕ
+text_of problem (answers.Best graph log) = graph_text problem graph
+text_of problem (answers.Nothing log) = unsatisfiable_line
+text_of problem (answers.Undecided log) = undecided_line problem.settings.conflict_budget
+
+abbrev pub outcome_of : Answer → Outcome
+outcome_of (answers.Best graph log) = outcomes.Solved
+outcome_of (answers.Nothing log) = outcomes.Unsolved
+outcome_of (answers.Undecided log) = outcomes.Undecided
 
 -- ---- files
 
@@ -141,33 +167,44 @@ pub record HasFronts (lock cert : List ℕ) (problem : Problem) (before after : 
   pub found : IsFor problem answer
   pub held : HoldsFronts lock cert problem answer before after
 
--- ---- what writing leaves, by the task: all but `concretize` put no file
+-- ---- verdicts
+
+-- what is said of a lock file whose graph is valid
+unfoldable pub verdict_text : List ℕ → List ℕ
+verdict_text numbers = codes "valid\n" ++ vector_line numbers
+
+-- that was said, and no file changed
+pub record IsJudged (numbers : List ℕ) (before after : Option Files) (out_before out_after : Option (List ℕ)) : Type 0 where
+  pub files : after ≡ before
+  pub out : out_after ≡ and_said out_before (verdict_text numbers)
+
+-- ---- what writing leaves, by the task
 
 -- what was asked for is done
 abbrev pub IsFinished : List ℕ → List ℕ → Task → Option Files → Option Files → Option (List ℕ) → Option (List ℕ) → Type 0
 IsFinished lock cert (tasks.Solve input) before after out_before out_after =
     IsSolved lock cert input.problem before after out_before out_after
-IsFinished lock cert task before after out_before out_after = IsTold task outcomes.Solved before after out_before out_after
+IsFinished lock cert (tasks.Report numbers) before after out_before out_after = IsJudged numbers before after out_before out_after
 
 -- there is no graph
 abbrev pub HasNone : List ℕ → Task → Option Files → Option Files → Option (List ℕ) → Option (List ℕ) → Type 0
 HasNone cert (tasks.Solve input) before after out_before out_after = IsUnsolved cert input.problem before after out_before out_after
-HasNone cert task before after out_before out_after = IsTold task outcomes.Unsolved before after out_before out_after
+HasNone cert (tasks.Report numbers) before after out_before out_after = ⊥
 
 -- the budget was spent
 abbrev pub HasSpent : List ℕ → Task → Option Files → Option Files → Option (List ℕ) → Option (List ℕ) → Type 0
 HasSpent cert (tasks.Solve input) before after out_before out_after = IsUndecided cert input.problem before after out_before out_after
-HasSpent cert task before after out_before out_after = IsTold task outcomes.Undecided before after out_before out_after
+HasSpent cert (tasks.Report numbers) before after out_before out_after = ⊥
 
--- a put at the path failed
+-- a put at the path failed, of which `judge` makes none
 abbrev pub IsHalfDone : List ℕ → List ℕ → Task → List ℕ → Option Files → Option Files → Type 0
 IsHalfDone lock cert (tasks.Solve input) path before after = HasHalfPut lock cert input.problem path before after
-IsHalfDone lock cert task path before after = ⊥
+IsHalfDone lock cert (tasks.Report numbers) path before after = ⊥
 
 -- the sink failed
 abbrev pub IsUntold : List ℕ → List ℕ → Task → Option Files → Option Files → Type 0
 IsUntold lock cert (tasks.Solve input) before after = IsUnsaid lock cert input.problem before after
-IsUntold lock cert task before after = after ≡ before
+IsUntold lock cert (tasks.Report numbers) before after = after ≡ before
 
 -- what writing leaves
 abbrev pub Writes : List ℕ → List ℕ → Task → Option Files → Option Files → Option (List ℕ) → Option (List ℕ)
@@ -180,7 +217,7 @@ Writes lock cert task before after out_before out_after (Err (writes.Put at)) =
 Writes lock cert task before after out_before out_after (Err writes.Output) = IsUntold lock cert task before after
 Writes lock cert task before after out_before out_after (Err writes.NoMemory) = Unit {0}
 
--- files were put
+-- files were put, of which `judge` puts none
 abbrev pub KeepsFronts : List ℕ → List ℕ → Task → Option Files → Option Files → Type 0
 KeepsFronts lock cert (tasks.Solve input) before after = HasFronts lock cert input.problem before after
-KeepsFronts lock cert task before after = ⊥
+KeepsFronts lock cert (tasks.Report numbers) before after = ⊥

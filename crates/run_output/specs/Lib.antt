@@ -1,6 +1,4 @@
 pub mod Report
-pub mod Texts
-pub mod Told
 pub mod Changes
 pub mod Answers
 -- what crates above name
@@ -20,6 +18,5 @@ pub use Rattle.run_task.specs.Work
 pub use Rattle.run_task.specs.Input
 pub use Rattle.run_task.specs.Roots
 pub use Rattle.run_task.specs.Tasks
-pub use Rattle.run_task.specs.Shown
 pub use Rattle.run_task.specs.declared.task.Task
-pub use Rattle.run_task.specs.Answer
+pub use Rattle.best_graph.specs.declared.answer.Answer

@@ -1,21 +1,20 @@
 //! The answer of a run.
 
-ghost use Rattle.std.specs.Prelude.{◌≡◌, ◌⊎◌, ℕ, List, Option};
+ghost use Rattle.std.specs.Prelude.{◌≡◌, ◌⊎◌, IfOk, OnOk};
 ghost use Rattle.outside_desk.specs.Causes.{Counts};
-ghost use Rattle.outside_desk.specs.Files.{Files};
+ghost use Rattle.outside_desk.specs.Files.{and_said};
+ghost use Rattle.run_task.specs.Closures.{closure_of};
 ghost use Rattle.run_task.specs.Stops.{EndsInPutFault, EndsInOutputFault};
 ghost use Rattle.run_task.specs.Tasks.{IsReady};
 ghost use Rattle.run_task.specs.declared.task.Task.TheVariants as tasks;
-ghost use Rattle.run_output.specs.Answers.{KeepsFronts, Writes};
-ghost use Rattle.run_output.specs.Told.{Tells};
+ghost use Rattle.run_output.specs.Answers.{IsFor, KeepsFronts, Writes, verdict_text};
 
-use crate::find::find;
 use crate::found::write_found;
-use crate::said::{Said, of_certificate, of_reasons, of_trial, of_verdict};
-use crate::told::say;
+use crate::told::{budget_of, say, verdict_text};
+use best_graph::{Answer, best_graph};
 use outside_desk::{Desk, Sink};
 use run_task::{Input, Task, WriteStop};
-use std::alloc::Global;
+use std::alloc::{AllocError, Global};
 
 /// What a task came to.
 #[derive(Clone, Copy, Debug, PartialEq, Eq)]
@@ -26,6 +25,15 @@ pub enum Outcome {
     Unsolved,
     /// The budget was spent.
     Undecided,
+}
+
+/// The answer of a problem within the budget of its settings.
+fn find(alloc: Global, input: &Input) -> Result<Answer, AllocError>
+    requires { input.now.closure ≡ closure_of input.now.problem }
+    ensures { IfOk result (IsFor input.now.problem) }
+{
+    let budget = budget_of(&input.problem);
+    best_graph(alloc, &input.problem, &input.closure, budget)
 }
 
 /// Finds and writes the answer of a problem.
@@ -53,26 +61,21 @@ fn write_best<D: Desk, O: Sink>(
     written
 }
 
-/// Says what is said of a task that puts no file.
-#[tactic(auto, using(crate::proofs::Told::told_writes, crate::proofs::Told::told_stops))]
-fn tell<O: Sink>(
-    alloc: Global,
-    _task: &Task,
-    said: Said,
-    out: &mut O,
-) -> Result<Outcome, WriteStop>
-    requires { Tells _task.now said.outcome said.text.items }
-    ensures left { (lock cert : List ℕ) (files : Option Files)
-        → Writes lock cert _task.now files files (O.said out.old) (O.said out.new) result }
+/// Says what is said of a lock file.
+fn write_verdict<O: Sink>(alloc: Global, numbers: &[u64], out: &mut O) -> Result<Outcome, WriteStop>
+    ensures said { OnOk result (O.said out.new ≡ and_said (O.said out.old)
+        (verdict_text numbers.now)) }
+    ensures solved { IfOk result (λ outcome. outcome ≡ Outcome.Solved) }
     ensures cause { Counts (O.faults out.old) (O.faults out.new) (EndsInOutputFault result) }
     ensures no_put { EndsInPutFault result → ⊥ }
 {
-    say(alloc, out, said.text.as_slice())?;
-    Ok(said.outcome)
+    let text = verdict_text(alloc, numbers)?;
+    say(alloc, out, text.as_slice())?;
+    Ok(Outcome::Solved)
 }
 
-/// Writes the answer of a task: of a problem to solve the certificate at `cert`, unless that is `-`, then the lock file at `lock`
-/// where there is a graph, and then what is said; of any other task what is said alone.
+/// Writes the answer of a task: of a problem the certificate at `cert`, unless that is `-`, then the lock file at `lock`
+/// where there is a graph, and then what is said.
 pub fn write_answer<D: Desk, O: Sink>(
     alloc: Global,
     task: &Task,
@@ -92,21 +95,6 @@ pub fn write_answer<D: Desk, O: Sink>(
 {
     match task {
         Task::Solve(input) => write_best(alloc, input, lock, cert, desk, out),
-        Task::Report(numbers) => {
-            let said = of_verdict(alloc, numbers)?;
-            tell(alloc, task, said, out)
-        }
-        Task::Accepted => {
-            let said = of_certificate(alloc)?;
-            tell(alloc, task, said, out)
-        }
-        Task::Explain(input) => {
-            let said = of_reasons(alloc, input)?;
-            tell(alloc, task, said, out)
-        }
-        Task::Try(input) => {
-            let said = of_trial(alloc, input)?;
-            tell(alloc, task, said, out)
-        }
+        Task::Report(numbers) => write_verdict(alloc, numbers, out),
     }
 }

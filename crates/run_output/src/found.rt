@@ -4,22 +4,31 @@ ghost use Rattle.std.specs.Prelude.{◌≡◌, ◌⊎◌, All};
 ghost use Rattle.std.specs.Str.{IsUtf8};
 ghost use Rattle.outside_desk.specs.Causes.{Counts};
 ghost use Rattle.spec_grammar.specs.Canonical.{spec_text};
-ghost use Rattle.run_task.specs.Answer.TheVariants as answers;
+ghost use Rattle.best_graph.specs.declared.answer.Answer.TheVariants as answers;
 ghost use Rattle.run_task.specs.Stops.{EndsInPutFault, EndsInOutputFault};
-ghost use Rattle.run_output.specs.Answers.{HoldsFronts, Leaves, PutsAnswer};
-ghost use Rattle.run_output.specs.Texts.{IsFor, outcome_of};
+ghost use Rattle.run_output.specs.Answers.{HoldsFronts, IsFor, Leaves, PutsAnswer, outcome_of};
 
 use crate::answer::Outcome;
-use crate::find::outcome_of;
 use crate::put::{put_cert, put_file};
 use crate::told::{answer_text, say};
+use best_graph::Answer;
 use graph_core::Graph;
 use outside_desk::{Desk, Sink};
 use problem::Problem;
 use proof_log::Log;
-use run_task::{Answer, WriteStop};
+use run_task::WriteStop;
 use std::alloc::Global;
 use valid_locks::write_valid;
+
+fn outcome_of(answer: &Answer) -> Outcome
+    ensures { result ≡ outcome_of answer.now }
+{
+    match answer {
+        Answer::Best { .. } => Outcome::Solved,
+        Answer::Nothing { .. } => Outcome::Unsolved,
+        Answer::Undecided { .. } => Outcome::Undecided,
+    }
+}
 
 /// Puts the certificate of a graph, and then its lock file.
 fn put_best<D: Desk>(

@@ -7,11 +7,9 @@
 #![tactic(auto)]
 
 mod answer;
-mod find;
 mod found;
 mod put;
 mod report;
-mod said;
 mod told;
 
 pub use answer::{Outcome, write_answer};

@@ -4,13 +4,14 @@ ghost use Rattle.std.specs.Prelude.{◌≡◌, IfOk, OnOk};
 ghost use Rattle.outside_desk.specs.Causes.{Counts};
 ghost use Rattle.outside_desk.specs.Files.{and_said};
 ghost use Rattle.run_task.specs.Stops.{EndsInPutFault, EndsInOutputFault};
-ghost use Rattle.run_output.specs.Texts.{graph_text, text_of, undecided_line, unsatisfiable_line, verdict_text};
+ghost use Rattle.run_output.specs.Answers.{graph_text, text_of, undecided_line, unsatisfiable_line, verdict_text};
 
 use crate::report::{report_text, write_vector};
+use best_graph::Answer;
 use graph_core::Graph;
 use outside_desk::{Sink, SinkFault};
 use problem::Problem;
-use run_task::{Answer, WriteStop, vector};
+use run_task::{WriteStop, vector};
 use std::alloc::{AllocError, Global};
 
 /// Says a text on the sink of the answer.
@@ -34,15 +35,15 @@ fn graph_text(alloc: Global, problem: &Problem, graph: &Graph) -> Result<Vec<u8>
     report_text(alloc, graph.nodes(), &numbers)
 }
 
-#[tactic(auto, unfolding(crate::specs::Texts::unsatisfiable_line))]
-pub(crate) fn unsatisfiable_text(alloc: Global) -> Result<Vec<u8>, AllocError>
+#[tactic(auto, unfolding(crate::specs::Answers::unsatisfiable_line))]
+fn unsatisfiable_text(alloc: Global) -> Result<Vec<u8>, AllocError>
     ensures { IfOk result (λ text. text.items ≡ unsatisfiable_line) }
 {
     Vec::from_slice(alloc, b"unsatisfiable\n")
 }
 
-#[tactic(auto, unfolding(crate::specs::Texts::undecided_line))]
-pub(crate) fn undecided_text(alloc: Global, budget: u64) -> Result<Vec<u8>, AllocError>
+#[tactic(auto, unfolding(crate::specs::Answers::undecided_line))]
+fn undecided_text(alloc: Global, budget: u64) -> Result<Vec<u8>, AllocError>
     ensures { IfOk result (λ text. text.items ≡ undecided_line budget) }
 {
     let line = format!(in alloc; "undecided {budget}\n")?;
@@ -68,7 +69,7 @@ pub fn answer_text(alloc: Global, problem: &Problem, answer: &Answer) -> Result<
 }
 
 /// What is said of a lock file whose graph is valid.
-#[tactic(auto, unfolding(crate::specs::Texts::verdict_text))]
+#[tactic(auto, unfolding(crate::specs::Answers::verdict_text))]
 pub fn verdict_text(alloc: Global, numbers: &[u64]) -> Result<Vec<u8>, AllocError>
     ensures { IfOk result (λ text. text.items ≡ verdict_text numbers.now) }
 {

@@ -1,5 +1,4 @@
 pub mod Tasks
-pub mod Shown
 -- what crates above name
 pub use Rattle.run_input.specs.Exits
 pub use Rattle.run_input.specs.Lines
@@ -21,7 +20,3 @@ pub use Rattle.run_input.specs.declared.input.Input
 pub use Rattle.run_verdict.specs.Problems
 pub use Rattle.run_verdict.specs.Costs
 pub use Rattle.run_input.specs.Closures
-pub use Rattle.run_certificate.specs.Explanations
-pub use Rattle.run_certificate.specs.Explanation
-pub use Rattle.run_certificate.specs.Answers
-pub use Rattle.run_certificate.specs.Answer

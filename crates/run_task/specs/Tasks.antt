@@ -1,5 +1,5 @@
 -- What a run is to answer, or the refusal that is due first.
-use Rattle.std.specs.Prelude.{◌≡◌, ◌⊎◌, ℕ, List, All, Option, Some, None, Result, Ok, Err}
+use Rattle.std.specs.Prelude.{◌≡◌, ◌⊎◌, ℕ, List, All, Result, Ok, Err}
 use Rattle.std.specs.Str.{IsUtf8}
 use Rattle.outside_desk.specs.Files.{Files}
 use Rattle.run_input.specs.Closures.{closure_of}
@@ -16,57 +16,22 @@ use Rattle.run_input.specs.Inputs.{Reads, IsInputPath}
 use Rattle.run_input.specs.declared.input.Input.{Input}
 use Rattle.run_verdict.specs.Problems.{Problem}
 use Rattle.run_verdict.specs.Verdicts.{Judges}
-use Rattle.run_certificate.specs.Certificates.{certified_at}
-use Rattle.trial_input.specs.Inputs.{input_files}
 use Rattle.run_task.specs.declared.task.Task.{Task}
 use Rattle.run_task.specs.declared.task.Task.TheVariants as tasks
-
--- the number of packages and the seed of a trial
-abbrev pub made_for : Work → Option (ℕ × ℕ)
-made_for works.Concretize = None
-made_for works.Judge = None
-made_for works.Check = None
-made_for works.Refute = None
-made_for works.Explain = None
-made_for (works.Trial packages seed) = Some (packages, seed)
-
-abbrev pub files_by : Option (ℕ × ℕ) → Files → Files
-files_by None files = files
-files_by (Some made) files = input_files made.0 made.1
-
--- the files over which a command works: those of the desk, or for a trial those that are made
-abbrev pub files_for : Work → Files → Files
-files_for work files = files_by (made_for work) files
 
 -- what is said of the lock file at the path, as a task
 abbrev pub ReportOf : Files → List ℕ → Problem → Result Task Refusal → Type 0
 ReportOf files lock problem = Then (Judges files lock problem) (λ numbers. Is (Ok (tasks.Report numbers)))
 
--- what is said of the certificate at the path, as a task: of a graph with these costs, or of none
-abbrev pub AcceptanceOf : Files → List ℕ → Problem → Option (List ℕ) → Result Task Refusal → Type 0
-AcceptanceOf files cert problem numbers = Then (Is (certified_at files cert problem numbers)) (λ done. Is (Ok tasks.Accepted))
+-- a command's own work over what was read: `concretize` has a problem to solve, and `judge` says what is said of
+-- the lock file
+abbrev pub TaskBy : Work → Files → List ℕ → Input → Result Task Refusal → Type 0
+TaskBy works.Concretize files lock input = Is (Ok (tasks.Solve input))
+TaskBy works.Judge files lock input = ReportOf files lock input.problem
 
--- the lock file's graph first, and then its certificate
-abbrev pub CheckOf : Files → List ℕ → List ℕ → Problem → Result Task Refusal → Type 0
-CheckOf files lock cert problem = Then (Judges files lock problem) (λ numbers. AcceptanceOf files cert problem (Some numbers))
-
--- a command's own work over what was read: `concretize`, `explain` and `trial` have a problem to solve, `judge` says what is
--- said of the lock file, `check` and `refute` of the certificate
-abbrev pub TaskBy : Work → Files → Command → Input → Result Task Refusal → Type 0
-TaskBy works.Concretize files command input = Is (Ok (tasks.Solve input))
-TaskBy works.Judge files command input = ReportOf files command.lock input.problem
-TaskBy works.Check files command input = CheckOf files command.lock command.cert input.problem
-TaskBy works.Refute files command input = AcceptanceOf files command.cert input.problem None
-TaskBy works.Explain files command input = Is (Ok (tasks.Explain input))
-TaskBy (works.Trial packages seed) files command input = Is (Ok (tasks.Try input))
-
--- what is read over these files is one for all commands, and then comes the command's own work
-abbrev pub Over : Files → Command → Result Task Refusal → Type 0
-Over files command = Then (Reads files command) (TaskBy command.work files command)
-
--- the task of a command over the files
+-- the task of a command over the files: what is read is one for all commands
 abbrev pub Named : Files → Command → Result Task Refusal → Type 0
-Named files command = Over (files_for command.work files) command
+Named files command = Then (Reads files command) (TaskBy command.work files command.lock)
 
 -- the task of the words over the files
 abbrev pub Poses : Files → List (List ℕ) → Result Task Refusal → Type 0
@@ -75,54 +40,24 @@ Poses files words = Then (Is (order_of words)) (Named files)
 -- the task is of this work
 abbrev pub IsOf : Work → Task → Type 0
 IsOf works.Concretize (tasks.Solve input) = Unit {0}
+IsOf works.Concretize (tasks.Report numbers) = ⊥
+IsOf works.Judge (tasks.Solve input) = ⊥
 IsOf works.Judge (tasks.Report numbers) = Unit {0}
-IsOf works.Check tasks.Accepted = Unit {0}
-IsOf works.Refute tasks.Accepted = Unit {0}
-IsOf works.Explain (tasks.Explain input) = Unit {0}
-IsOf (works.Trial packages seed) (tasks.Try input) = Unit {0}
-IsOf other task = ⊥
 
 -- the canonical texts of the roots that are to be written are UTF-8, as those of all specs which were read, and
 -- the names are those of the problem
-abbrev pub IsReadyInput : Input → Type 0
-IsReadyInput input = All (λ spec. IsUtf8 (spec_text spec)) input.problem.roots × (input.closure ≡ closure_of input.problem)
-
 abbrev pub IsReady : Task → Type 0
-IsReady (tasks.Solve input) = IsReadyInput input
-IsReady (tasks.Explain input) = IsReadyInput input
-IsReady (tasks.Try input) = IsReadyInput input
+IsReady (tasks.Solve input) =
+    All (λ spec. IsUtf8 (spec_text spec)) input.problem.roots × (input.closure ≡ closure_of input.problem)
 IsReady (tasks.Report numbers) = Unit {0}
-IsReady tasks.Accepted = Unit {0}
-
--- ---- what the looks at files give
-
-abbrev pub IsReportTask : Task → Type 0
-IsReportTask (tasks.Report numbers) = Unit {0}
-IsReportTask other = ⊥
-
-abbrev pub IsYes : Task → Type 0
-IsYes tasks.Accepted = Unit {0}
-IsYes other = ⊥
 
 -- ---- faults of devices
 
--- the lock file is read by `judge` and `check`, the certificate by `check` and `refute`
-abbrev pub IsKeptPath : Work → Command → List ℕ → Type 0
-IsKeptPath works.Judge command path = path ≡ command.lock
-IsKeptPath works.Check command path = (path ≡ command.lock) ⊎ (path ≡ command.cert)
-IsKeptPath works.Refute command path = path ≡ command.cert
-IsKeptPath other command path = ⊥
-
--- what is read: the input, and what the command looks at besides
+-- what is read: the input, and by `judge` the lock file
 abbrev pub IsTaskPath : Command → List ℕ → Type 0
-IsTaskPath command path = IsInputPath command path ⊎ IsKeptPath command.work command path
+IsTaskPath command path = IsInputPath command path ⊎ ((command.work ≡ works.Judge) × (path ≡ command.lock))
 
 -- a device fails only while such a path is read
 abbrev pub FailsAtTask : {A : Type 0} → Command → Result A ReadStop → Type 0
 FailsAtTask command (Err (reads.Fault path)) = IsTaskPath command path
 FailsAtTask command other = Unit {0}
-
--- a device fails only while one of these files is read
-abbrev pub FailsAtEither : {A : Type 0} → List ℕ → List ℕ → Result A ReadStop → Type 0
-FailsAtEither one other (Err (reads.Fault path)) = (path ≡ one) ⊎ (path ≡ other)
-FailsAtEither one other others = Unit {0}

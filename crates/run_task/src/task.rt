@@ -1,6 +1,6 @@
 //! The reading of a task.
 
-ghost use Rattle.std.specs.Prelude.{◌≡◌, All, Some, None, Ok, IfOk, IfSome, OnOk, List};
+ghost use Rattle.std.specs.Prelude.{◌≡◌, All, Ok, IfOk, IfSome, List};
 ghost use Rattle.std.specs.Str.{IsUtf8};
 ghost use Rattle.outside_desk.specs.Causes.{Counts};
 ghost use Rattle.run_input.specs.Closures.{closure_of};
@@ -8,17 +8,16 @@ ghost use Rattle.spec_grammar.specs.Canonical.{spec_text};
 ghost use Rattle.spec_grammar.specs.declared.part.Spec.{Spec};
 ghost use Rattle.run_input.specs.Stops.{Gives, EndsInReadFault, EndsInUsage};
 ghost use Rattle.run_input.specs.Roots.{RootsOf};
-ghost use Rattle.trial_input.specs.Inputs.{input_files};
-ghost use Rattle.run_task.specs.Shown.{IsShown, IsShownOver, ShownBy};
-ghost use Rattle.run_task.specs.Tasks.{TaskBy, Over, Named, IsOf, IsReady, FailsAtTask, made_for};
+ghost use Rattle.run_input.specs.Work.TheVariants as works;
+ghost use Rattle.run_verdict.specs.Locks.{FailsAtLock};
+ghost use Rattle.run_task.specs.Tasks.{ReportOf, TaskBy, Named, IsOf, IsReady, FailsAtTask};
 
-use crate::looks::{read_acceptance, read_check, read_report};
 use outside_desk::Desk;
+use problem::Problem;
 use run_input::{Command, Input, ReadStop, Work, read_input};
+use run_verdict::read_verdict;
 use spec_grammar::{reading_laws, writing_laws};
 use std::alloc::Global;
-use std::thread::Threads;
-use trial_input::make;
 
 /// What a run is to answer.
 #[derive(Drop)]
@@ -27,17 +26,34 @@ pub enum Task {
     Solve(Input),
     /// The lock file's graph is valid, and has this cost vector.
     Report([u64; 31]),
-    /// The certificate is right.
-    Accepted,
-    /// It is to be said whether there is a graph, and else why there is none.
-    Explain(Input),
-    /// The best graph of a made input is to be found.
-    Try(Input),
+}
+
+/// What is said of the lock file at a path, as a task.
+#[tactic(auto, using(crate::proofs::Stops::judged_stop))]
+fn read_report<D: Desk>(
+    alloc: Global,
+    desk: &mut D,
+    lock: &str,
+    problem: &Problem,
+) -> Result<Task, ReadStop>
+    ensures read { IfSome (D.files desk.old)
+        (λ files. Gives result (ReportOf files lock.now problem.now)) }
+    ensures work { IfOk result (λ task. IsOf works.Judge task) }
+    ensures ready { IfOk result (λ task. IsReady task) }
+    ensures path { FailsAtLock lock.now result }
+    ensures no_usage { EndsInUsage result → ⊥ }
+    ensures same { D.files desk.new ≡ D.files desk.old }
+    ensures cause { Counts (D.faults desk.old) (D.faults desk.new) (EndsInReadFault result) }
+    ensures put_faults { D.put_faults desk.new ≡ D.put_faults desk.old }
+{
+    match read_verdict(alloc, desk, lock, problem) {
+        Ok(numbers) => Ok(Task::Report(numbers)),
+        Err(stop) => Err(stop),
+    }
 }
 
 /// A command's own work over what was read.
-fn task_by<R: Threads + Sync, D: Desk>(
-    rt: &R,
+fn task_by<D: Desk>(
     alloc: Global,
     desk: &mut D,
     command: &Command<'_>,
@@ -46,9 +62,7 @@ fn task_by<R: Threads + Sync, D: Desk>(
     requires texts { All (λ spec. IsUtf8 (spec_text spec)) input.problem.roots }
     requires names { input.closure ≡ closure_of input.problem }
     ensures read { IfSome (D.files desk.old)
-        (λ files. Gives result (TaskBy command.now.work files command.now input)) }
-    ensures shown { OnOk result (IfSome (D.files desk.old)
-        (λ files. ShownBy command.now.work files command.now input.problem)) }
+        (λ files. Gives result (TaskBy command.now.work files command.now.lock input)) }
     ensures work { IfOk result (λ task. IsOf command.now.work task) }
     ensures ready { IfOk result (λ task. IsReady task) }
     ensures path { FailsAtTask command.now result }
@@ -59,37 +73,27 @@ fn task_by<R: Threads + Sync, D: Desk>(
 {
     match command.work {
         Work::Concretize => Ok(Task::Solve(input)),
-        Work::Explain => Ok(Task::Explain(input)),
-        Work::Trial { .. } => Ok(Task::Try(input)),
         Work::Judge => {
-            let task = read_report(alloc, desk, command.lock, &input);
-            drop(input);
-            task
-        }
-        Work::Check => {
-            let task = read_check(rt, alloc, desk, command.lock, command.cert, &input);
-            drop(input);
-            task
-        }
-        Work::Refute => {
-            let task = read_acceptance(rt, alloc, desk, command.cert, &input, None);
+            let task = read_report(alloc, desk, command.lock, &input.problem);
             drop(input);
             task
         }
     }
 }
 
-/// The task of a command over the files of a desk.
+/// The task of a command over the desk's files.
+///
+/// # Errors
+///
+/// The first refusal that is due, in the order of work: those of `read_input`, and then those of the command's own
+/// work. `Fault` where the desk failed.
 #[tactic(auto, using(crate::proofs::Paths::of_input))]
-fn read_over<R: Threads + Sync, D: Desk>(
-    rt: &R,
+pub fn read_task<D: Desk>(
     alloc: Global,
     desk: &mut D,
     command: &Command<'_>,
 ) -> Result<Task, ReadStop>
-    ensures read { IfSome (D.files desk.old) (λ files. Gives result (Over files command.now)) }
-    ensures shown { OnOk result (IfSome (D.files desk.old)
-        (λ files. IsShownOver files command.now)) }
+    ensures read { IfSome (D.files desk.old) (λ files. Gives result (Named files command.now)) }
     ensures work { IfOk result (λ task. IsOf command.now.work task) }
     ensures ready { IfOk result (λ task. IsReady task) }
     ensures roots { IfOk result (λ task. (roots : List Spec)
@@ -103,69 +107,5 @@ fn read_over<R: Threads + Sync, D: Desk>(
     reading_laws();
     writing_laws();
     let input = read_input(alloc, desk, command)?;
-    task_by(rt, alloc, desk, command, input)
-}
-
-/// The number of packages and the seed of a trial.
-fn made_for(work: Work) -> Option<(u64, u64)>
-    ensures { result ≡ made_for work }
-{
-    match work {
-        Work::Trial { packages, seed } => Some((packages, seed)),
-        Work::Concretize | Work::Judge | Work::Check | Work::Refute | Work::Explain => None,
-    }
-}
-
-/// The task of a command over files that are made.
-fn read_made<R: Threads + Sync>(
-    rt: &R,
-    alloc: Global,
-    command: &Command<'_>,
-    packages: u64,
-    seed: u64,
-) -> Result<Task, ReadStop>
-    ensures read { Gives result (Over (input_files packages seed) command.now) }
-    ensures shown { OnOk result (IsShownOver (input_files packages seed) command.now) }
-    ensures work { IfOk result (λ task. IsOf command.now.work task) }
-    ensures ready { IfOk result (λ task. IsReady task) }
-    ensures roots { IfOk result (λ task. (roots : List Spec)
-        × RootsOf command.now.spec (Ok roots)) }
-    ensures no_usage { EndsInUsage result → ⊥ }
-    ensures no_fault { EndsInReadFault result → ⊥ }
-{
-    let mut made = make(alloc, packages, seed)?;
-    let task = read_over(rt, alloc, &mut made, command);
-    drop(made);
-    task
-}
-
-/// The task of a command over the desk's files; of a trial, over files that are made.
-///
-/// # Errors
-///
-/// The first refusal that is due, in the order of work: those of `read_input`, and then those of the command's own
-/// work. `Fault` where the desk failed.
-pub fn read_task<R: Threads + Sync, D: Desk>(
-    rt: &R,
-    alloc: Global,
-    desk: &mut D,
-    command: &Command<'_>,
-) -> Result<Task, ReadStop>
-    ensures read { IfSome (D.files desk.old) (λ files. Gives result (Named files command.now)) }
-    ensures shown { OnOk result (IfSome (D.files desk.old)
-        (λ files. IsShown files command.now)) }
-    ensures work { IfOk result (λ task. IsOf command.now.work task) }
-    ensures ready { IfOk result (λ task. IsReady task) }
-    ensures roots { IfOk result (λ task. (roots : List Spec)
-        × RootsOf command.now.spec (Ok roots)) }
-    ensures path { FailsAtTask command.now result }
-    ensures no_usage { EndsInUsage result → ⊥ }
-    ensures same { D.files desk.new ≡ D.files desk.old }
-    ensures cause { Counts (D.faults desk.old) (D.faults desk.new) (EndsInReadFault result) }
-    ensures put_faults { D.put_faults desk.new ≡ D.put_faults desk.old }
-{
-    match made_for(command.work) {
-        Some((packages, seed)) => read_made(rt, alloc, command, packages, seed),
-        None => read_over(rt, alloc, desk, command),
-    }
+    task_by(alloc, desk, command, input)
 }

@@ -1,3 +1,1 @@
 pub mod One
-pub mod Elements
-pub mod ValidLocks

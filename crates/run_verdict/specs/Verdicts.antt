@@ -1,5 +1,5 @@
 -- What is said of a lock file: the cost vector of its graph, or the refusal that is due first.
-use Rattle.std.specs.Prelude.{◌≡◌, true, ℕ, List, Result, Ok, Err}
+use Rattle.std.specs.Prelude.{ℕ, List, Result, Ok, Err}
 use Rattle.outside_desk.specs.Files.{Files}
 use Rattle.graph_core.specs.Graphs.{Content}
 use Rattle.problem.specs.Problems.{Problem}
@@ -7,8 +7,6 @@ use Rattle.graph_rules.specs.Verdict.{verdict}
 use Rattle.graph_rules.specs.declared.rule.Verdict.{Verdict}
 use Rattle.graph_rules.specs.declared.rule.Verdict.TheVariants as verdicts
 use Rattle.graph_costs.specs.Costs.{vector}
-use Rattle.problem.specs.Nodes.{IsWellFormed}
-use Rattle.graph_rules.specs.Valid.{valid}
 use Rattle.lockfile.specs.declared.lock.Lock.{Lock}
 use Rattle.run_answers.specs.Stages.{Is, Then, ◌>>=◌, check}
 use Rattle.run_answers.specs.declared.refusal.Refusal.{Refusal}
@@ -36,16 +34,3 @@ judged problem lock = do
 -- what is said of the lock file at the path
 abbrev pub Judges : Files → List ℕ → Problem → Result (List ℕ) Refusal → Type 0
 Judges files path problem = Then (LockAt files path) (λ lock. Is (judged problem lock))
-
--- a lock file is one of just the roots that are asked for, and its graph is valid and has these costs
-pub record IsRight (problem : Problem) (lock : Lock) (numbers : List ℕ) : Type 0 where
-  pub roots : are_roots_of lock.hashes problem.roots lock.roots ≡ true
-  pub well_formed : IsWellFormed lock.graph
-  pub is_valid : valid problem lock.graph ≡ true
-  pub costs : vector problem lock.graph ≡ numbers
-
--- the file at the path is such a lock file
-pub record IsValidLock (files : Files) (path : List ℕ) (problem : Problem) (numbers : List ℕ) : Type 0 where
-  pub lock : Lock
-  pub at : LockAt files path (Ok lock)
-  pub right : IsRight problem lock numbers

@@ -11,7 +11,6 @@ mod lock;
 mod roots;
 mod theorems;
 mod verdict;
-mod whole;
 
 // The cost vector, for crates above.
 pub use cost_vector::vector;

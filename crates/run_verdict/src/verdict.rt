@@ -1,20 +1,19 @@
 //! The verdict on a lock file.
 
-ghost use Rattle.std.specs.Prelude.{◌≡◌, IfOk, IfSome};
+ghost use Rattle.std.specs.Prelude.{◌≡◌, IfSome};
 ghost use Rattle.outside_desk.specs.Causes.{Counts};
 ghost use Rattle.graph_rules.specs.Verdict.{verdict};
 ghost use Rattle.run_answers.specs.Stages.{Is};
 ghost use Rattle.run_answers.specs.Stops.{Gives, EndsInReadFault, EndsInUsage};
 ghost use Rattle.run_verdict.specs.Locks.{FailsAtLock};
-ghost use Rattle.run_verdict.specs.Verdicts.{unless_broken, weighed, judged, Judges, IsRight, IsValidLock};
+ghost use Rattle.run_verdict.specs.Verdicts.{unless_broken, weighed, judged, Judges};
 
 use crate::lock::read_lock_at;
 use crate::roots::are_roots_of;
-use crate::whole::whole;
 use cost_vector::vector;
 use graph_core::Graph;
 use graph_judge::judge;
-use graph_rules::{Verdict, rule_laws};
+use graph_rules::Verdict;
 use lockfile::Lock;
 use outside_desk::Desk;
 use problem::Problem;
@@ -62,18 +61,6 @@ fn judged(alloc: Global, problem: &Problem, lock: &Lock) -> Result<[u64; 31], Re
     weighed(alloc, problem, &lock.graph)
 }
 
-/// The roots, and then the graph, which is well-formed as every value of its type.
-fn judge_lock(alloc: Global, problem: &Problem, lock: &Lock) -> Result<[u64; 31], ReadStop>
-    ensures read { Gives result (Is (judged problem.now lock.now)) }
-    ensures right { IfOk result (λ numbers. IsRight problem.now lock.now numbers) }
-    ensures no_usage { EndsInUsage result → ⊥ }
-    ensures no_fault { EndsInReadFault result → ⊥ }
-{
-    rule_laws();
-    whole(&lock.graph);
-    judged(alloc, problem, lock)
-}
-
 /// What is said of the lock file at a path: the cost vector of its graph.
 ///
 /// # Errors
@@ -88,8 +75,6 @@ pub fn read_verdict<D: Desk>(
 ) -> Result<[u64; 31], ReadStop>
     ensures read { IfSome (D.files desk.old)
         (λ files. Gives result (Judges files path.now problem.now)) }
-    ensures lock { IfOk result (λ numbers. IfSome (D.files desk.old)
-        (λ files. IsValidLock files path.now problem.now numbers)) }
     ensures path { FailsAtLock path.now result }
     ensures no_usage { EndsInUsage result → ⊥ }
     ensures same { D.files desk.new ≡ D.files desk.old }
@@ -97,7 +82,7 @@ pub fn read_verdict<D: Desk>(
     ensures put_faults { D.put_faults desk.new ≡ D.put_faults desk.old }
 {
     let lock = read_lock_at(alloc, desk, path)?;
-    let said = judge_lock(alloc, problem, &lock);
+    let said = judged(alloc, problem, &lock);
     drop(lock);
     said
 }

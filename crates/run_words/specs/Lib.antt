@@ -1,4 +1,3 @@
-pub mod Numbers
 pub mod Words
 pub mod Orders
 -- what is answered, for crates above

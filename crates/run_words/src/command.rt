@@ -2,8 +2,7 @@
 
 ghost use Rattle.std.specs.Prelude.{◌≡◌, ◌∷◌, ◌++◌, IfOk};
 ghost use Rattle.std.specs.String.{string_bytes};
-ghost use Rattle.run_words.specs.Words.{words_of, joined_words, command_over, is_wrong, unless_wrong, is_blank, is_same, is_dash};
-ghost use Rattle.run_words.specs.Words as words;
+ghost use Rattle.run_words.specs.Words.{words_of, joined_words, concretize_of, judge_of, command_of, is_wrong, is_blank, is_same, is_dash};
 
 use spec_grammar::is_white;
 use std::alloc::{AllocError, Global};
@@ -16,26 +15,16 @@ pub enum Work {
     Concretize,
     /// Judges the graph of a lock file.
     Judge,
-    /// Judges it, and whether a certificate shows that it is the best.
-    Check,
-    /// Checks whether a certificate shows that there is none.
-    Refute,
-    /// Says why there is none.
-    Explain,
-    /// Finds the best graph of a repository that is made in memory, of 1 to 1,000 packages.
-    Trial { packages: u64, seed: u64 },
 }
 
-/// What the words behind a verb say: `concretize` and `check REPO SETTINGS DATABASE LOCK CERT SPEC`,
-/// `judge REPO SETTINGS DATABASE LOCK SPEC`, `refute REPO SETTINGS DATABASE CERT SPEC`,
-/// `explain REPO SETTINGS DATABASE SPEC`, `trial N SEED`.
+/// The words of `concretize REPO SETTINGS DATABASE LOCK CERT SPEC` or of
+/// `judge REPO SETTINGS DATABASE LOCK SPEC`.
 #[derive(Debug, Drop)]
 pub struct Command<'a> {
     pub work: Work,
     pub repo: &'a str,
     pub settings: &'a str,
     pub database: &'a str,
-    /// `-` where there is none.
     pub lock: &'a str,
     /// `-` where there is none.
     pub cert: &'a str,
@@ -71,7 +60,7 @@ fn is_blank(text: &[u8]) -> bool
 }
 
 #[tactic(auto, unfolding(crate::specs::Words::is_same))]
-pub(crate) fn is_same(a: &str, b: &str) -> bool
+fn is_same(a: &str, b: &str) -> bool
     ensures { result ≡ is_same a.now b.now }
 {
     a == b
@@ -85,74 +74,79 @@ pub fn is_dash(path: &str) -> bool
     path == "-"
 }
 
-/// Whether a file is missing that the command needs, or one stands for both.
-fn lacks_file(command: &Command<'_>) -> bool
-    ensures { result ≡ words.lacks_file command.now.work command.now.lock command.now.cert }
-{
-    match command.work {
-        Work::Concretize => is_dash(command.lock) || is_same(command.lock, command.cert),
-        Work::Judge => is_dash(command.lock),
-        Work::Check => {
-            is_dash(command.lock) || is_dash(command.cert) || is_same(command.lock, command.cert)
-        }
-        Work::Refute => is_dash(command.cert),
-        Work::Explain | Work::Trial { .. } => false,
-    }
-}
-
-/// Whether a command lacks a file, or a spec.
+/// Whether a command has no lock file, one file for both, or no spec.
 fn is_wrong(command: &Command<'_>) -> bool
     ensures { result ≡ is_wrong command.now }
 {
-    lacks_file(command) || is_blank(command.spec.as_bytes())
+    is_dash(command.lock)
+        || is_same(command.lock, command.cert)
+        || is_blank(command.spec.as_bytes())
 }
 
-#[tactic(auto, unfolding(crate::specs::Words::unless_wrong))]
-fn unless_wrong(command: Command<'_>) -> Option<Command<'_>>
-    ensures { result ≡ unless_wrong command.entry }
-{
-    if is_wrong(&command) {
-        None
-    } else {
-        Some(command)
-    }
-}
-
-/// The paths of a command.
-#[derive(Clone, Copy)]
-pub(crate) struct Paths<'a> {
-    pub(crate) repo: &'a str,
-    pub(crate) settings: &'a str,
-    pub(crate) database: &'a str,
-    pub(crate) lock: &'a str,
-    pub(crate) cert: &'a str,
-}
-
-/// The command over these paths with these words of the spec.
-#[tactic(auto, unfolding(crate::specs::Words::command_over))]
-pub(crate) fn command_over<'a>(
+/// The command that the words behind `concretize` make.
+fn read_concretize<'a>(
     alloc: Global,
-    work: Work,
-    paths: Paths<'a>,
-    first: &str,
-    more: &[String],
+    words: &'a [String],
 ) -> Result<Option<Command<'a>>, AllocError>
-    ensures { IfOk result (λ command. command ≡ command_over work (record {
-      repo = paths.entry.repo.now;
-      settings = paths.entry.settings.now;
-      database = paths.entry.database.now;
-      lock = paths.entry.lock.now;
-      cert = paths.entry.cert.now;
-    }) first.now (words_of more.now)) }
+    ensures { IfOk result (λ command. command ≡ concretize_of (words_of words.now)) }
 {
-    let spec = join_words(alloc, first, more)?;
-    Ok(unless_wrong(Command {
-        work,
-        repo: paths.repo,
-        settings: paths.settings,
-        database: paths.database,
-        lock: paths.lock,
-        cert: paths.cert,
+    let [repo, settings, database, lock, cert, first, more @ ..] = words else {
+        return Ok(None);
+    };
+    let spec = join_words(alloc, first.as_str(), more)?;
+    let command = Command {
+        work: Work::Concretize,
+        repo: repo.as_str(),
+        settings: settings.as_str(),
+        database: database.as_str(),
+        lock: lock.as_str(),
+        cert: cert.as_str(),
         spec,
-    }))
+    };
+    if is_wrong(&command) {
+        return Ok(None);
+    }
+    Ok(Some(command))
+}
+
+/// The command that the words behind `judge` make.
+fn read_judge<'a>(alloc: Global, words: &'a [String]) -> Result<Option<Command<'a>>, AllocError>
+    ensures { IfOk result (λ command. command ≡ judge_of (words_of words.now)) }
+{
+    let [repo, settings, database, lock, first, more @ ..] = words else {
+        return Ok(None);
+    };
+    let spec = join_words(alloc, first.as_str(), more)?;
+    let command = Command {
+        work: Work::Judge,
+        repo: repo.as_str(),
+        settings: settings.as_str(),
+        database: database.as_str(),
+        lock: lock.as_str(),
+        cert: "-",
+        spec,
+    };
+    if is_wrong(&command) {
+        return Ok(None);
+    }
+    Ok(Some(command))
+}
+
+/// The command that the words are; `None` where they are none.
+pub fn read_command<'a>(
+    alloc: Global,
+    words: &'a [String],
+) -> Result<Option<Command<'a>>, AllocError>
+    ensures { IfOk result (λ command. command ≡ command_of (words_of words.now)) }
+{
+    let [verb, more @ ..] = words else {
+        return Ok(None);
+    };
+    if is_same(verb.as_str(), "concretize") {
+        read_concretize(alloc, more)
+    } else if is_same(verb.as_str(), "judge") {
+        read_judge(alloc, more)
+    } else {
+        Ok(None)
+    }
 }

@@ -7,9 +7,7 @@
 #![tactic(auto)]
 
 mod command;
-mod number;
 mod order;
-mod verbs;
 
 pub use command::{Command, Work, is_dash};
 pub use order::read_order;

@@ -6,8 +6,7 @@ ghost use Rattle.run_answers.specs.Stops.{Gives, EndsInReadFault, EndsInUsage};
 ghost use Rattle.run_words.specs.Words.{words_of, command_of, lock_path, cert_path};
 ghost use Rattle.run_words.specs.Orders.{order_of};
 
-use crate::command::Command;
-use crate::verbs::read_command;
+use crate::command::{Command, read_command};
 use run_answers::{ReadStop, Refusal};
 use std::alloc::Global;
 

@@ -1,6 +1,6 @@
 use Rattle.std.proofs.Common.{refl, ap, ◌∙◌}
 use Rattle.run_output.specs.Words.{Command, words_of}
-use Rattle.concretizer.proofs.Left.{stopped, answered, held, follows, has_shown}
+use Rattle.concretizer.proofs.Left.{stopped, answered, held, follows}
 use Rattle.concretizer.specs.Asked.{IsAsked}
 use Rattle.concretizer.proofs.Stages.{stops_at_once, not_refused}
 use Rattle.concretizer.proofs.attempt.attempt.Goals as goal
@@ -79,7 +79,3 @@ returns-in_err-answer-clause-held g c =
     c.in_ok-task.ensures.read c.in_ok-task.ensures.same
     (ap (λ (k : Command). k.lock) c.command.view_is ∙ c.in_ok-command.ensures.lock)
     (ap (λ (k : Command). k.cert) c.command.view_is ∙ c.in_ok-command.ensures.cert) c.in_err-answer.ensures.held
-
-pub returns-clause-shown : goal.returns-clause-shown
-returns-clause-shown g c =
-    has_shown (words_of c.args.words.now) c.in_ok-command.command _ c.in_ok-command.ensures.read c.in_ok-task.ensures.shown

@@ -85,7 +85,3 @@ returns-in-Ok-Undecided-clause-others g c = others (words_of c.args.words.now) _
 
 pub returns-in-Err-clause-others : goal.returns-in-Err-clause-others
 returns-in-Err-clause-others g c = others (words_of c.args.words.now) _ _ c.in-Err.ensures.held
-
-pub returns-in-Err-clause-shown : goal.returns-in-Err-clause-shown
-returns-in-Err-clause-shown g c = λ is.
-    absurd (unanswered c.in-Err.stop statuses.Done tt (_, _) (_, _) _ c.report.ensures.reports is)

@@ -1,5 +1,5 @@
 use Rattle.std.proofs.Common.{◌∙◌}
-use Rattle.run_task.specs.Answer.TheVariants.{Best}
+use Rattle.best_graph.specs.declared.answer.Answer.TheVariants.{Best}
 use Rattle.run_output.proofs.Fronts.{carried, first_stopped, first_held, second_put, second_held}
 use Rattle.run_output.proofs.found.put_best.Goals as goal
 
