@@ -11,10 +11,10 @@ ghost use Rattle.graph_reasons.specs.Explanations.{Explains};
 
 use crate::explanation::Explanation;
 use explain_failure::{reason_laws, reasons};
+use graph_check::{Encoded, encode};
 use optimum_search::{Found, found_laws, search};
 use possible_closure::Closure;
 use problem::Problem;
-use graph_check::{Encoded, encode};
 use std::alloc::{AllocError, Global};
 
 /// Whether some graph is valid, and else the demands that a refutation rests on, where the search may learn so many clauses.
