@@ -116,12 +116,17 @@ fn check_over<R: Threads + Sync, D: Desk>(
     };
     match values_of(alloc, encoded, numbers)? {
         Some(values) => {
-            check_log(rt, alloc, desk, path, clauses, bits, Some(values.as_slice()))
+            check_log(
+                rt,
+                alloc,
+                desk,
+                path,
+                clauses,
+                bits,
+                Some(values.as_slice()),
+            )
         }
-        None => Err(ReadStop::Refused(Refusal::BadCertificate(
-            1,
-            LineFault::WrongBit,
-        ))),
+        None => Err(ReadStop::Refused(Refusal::BadCertificate(1, LineFault::WrongBit))),
     }
 }
 

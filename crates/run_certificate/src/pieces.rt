@@ -62,7 +62,11 @@ fn within(from: u64, count: usize) -> usize
     ensures { result ≡ min count (most - from) }
 {
     let room = LIMIT - from;
-    if count as u64 <= room { count } else { room as usize }
+    if count as u64 <= room {
+        count
+    } else {
+        room as usize
+    }
 }
 
 /// Reads a piece from a place on, and has it checked.

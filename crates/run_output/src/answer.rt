@@ -55,12 +55,7 @@ fn write_best<D: Desk, O: Sink>(
 
 /// Says what is said of a task that puts no file.
 #[tactic(auto, using(crate::proofs::Tellings::told_writes, crate::proofs::Tellings::told_stops))]
-fn tell<O: Sink>(
-    alloc: Global,
-    _task: &Task,
-    said: Said,
-    out: &mut O,
-) -> Result<Outcome, WriteStop>
+fn tell<O: Sink>(alloc: Global, _task: &Task, said: Said, out: &mut O) -> Result<Outcome, WriteStop>
     requires { Tells _task.now said.outcome said.text.items }
     ensures left { (lock cert : List ℕ) (files : Option Files)
         → Writes lock cert _task.now files files (O.said out.old) (O.said out.new) result }

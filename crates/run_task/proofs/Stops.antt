@@ -16,8 +16,23 @@ use Rattle.run_verdict.specs.Verdicts.{IsValidLock, Judges}
 use Rattle.run_certificate.specs.Certificates.{ShowsOf, certified_at}
 use Rattle.trial_input.specs.Inputs.{input_files}
 use Rattle.run_task.specs.Shown.{IsBestLock, IsShown, IsShownOver}
-use Rattle.run_task.specs.Tasks.{AcceptanceOf, CheckOf, FailsAtTask, FailsAtEither, IsKeptPath, IsOf, IsReady, IsReportTask, IsYes, Named, Over, ReportOf, TaskBy,
-    files_by, made_for}
+use Rattle.run_task.specs.Tasks.{
+  AcceptanceOf,
+  CheckOf,
+  FailsAtTask,
+  FailsAtEither,
+  IsKeptPath,
+  IsOf,
+  IsReady,
+  IsReportTask,
+  IsYes,
+  Named,
+  Over,
+  ReportOf,
+  TaskBy,
+  files_by,
+  made_for,
+}
 use Rattle.run_task.specs.declared.task.Task.{Task}
 use Rattle.run_task.specs.declared.task.Task.TheVariants as tasks
 
@@ -161,8 +176,10 @@ pub best_lock : (before after : Option Files) (path : List ℕ) (problem : Probl
 best_lock None after path problem costs numbers (Ok task) same they valid shows = tt
 best_lock (Some files) None path problem costs numbers (Ok task) same they valid shows = cc
 best_lock (Some files) (Some others) path problem costs numbers (Ok task) same they valid shows = record {
-    costs = costs; valid = valid;
-    optimal = shows valid.lock.graph valid.right.well_formed valid.right.is_valid (valid.right.costs ∙ sym they) }
+  costs = costs;
+  valid = valid;
+  optimal = shows valid.lock.graph valid.right.well_formed valid.right.is_valid (valid.right.costs ∙ sym they);
+}
 best_lock before after path problem costs numbers (Err stop) same they valid shows = tt
 
 -- ---- over which files

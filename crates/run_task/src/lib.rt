@@ -14,10 +14,10 @@ mod task;
 mod theorems;
 
 // What crates above answer with.
+pub use run_certificate::{Answer, Explanation, best_graph, explain};
 pub use run_input::{
     Command, Input, ReadStop, Refusal, Status, Stop, Work, WriteStop, is_dash, read_order,
 };
-pub use run_certificate::{Answer, Explanation, best_graph, explain};
 pub use run_verdict::vector;
 pub use task::{Task, read_task};
 pub use theorems::task_laws;

@@ -63,7 +63,15 @@ pub(crate) fn read_acceptance<R: Threads + Sync, D: Desk>(
     ensures cause { Counts (D.faults desk.old) (D.faults desk.new) (EndsInReadFault result) }
     ensures put_faults { D.put_faults desk.new ≡ D.put_faults desk.old }
 {
-    match read_certificate(rt, alloc, desk, cert, &input.problem, &input.closure, numbers) {
+    match read_certificate(
+        rt,
+        alloc,
+        desk,
+        cert,
+        &input.problem,
+        &input.closure,
+        numbers,
+    ) {
         Ok(()) => Ok(Task::Accepted),
         Err(stop) => Err(stop),
     }
