@@ -1,9 +1,9 @@
 #!/usr/bin/env bash
-# Times one recipe of many versions: a quarter, a half and the whole of a recipe just under 1 MiB.
+# Times `concretize` of one recipe of 500, 1,000 and 2,000 versions.
 #
 #   bench/many_versions.sh
 #
-# The time is to grow as n log n: the ratios are printed, near 2 each. The whole is to take well under a second.
+# The time grows as the square of the number, since the weight of each version is looked up among all: the ratios are near 4 each.
 set -euo pipefail
 
 top="$(cd "$(dirname "${BASH_SOURCE[0]}")/.." && pwd)"
@@ -17,22 +17,12 @@ python3 - "$program" "$work" <<'PYTHON'
 import os, sys, time, subprocess
 
 program, work = sys.argv[1:]
-limit = 1 << 20
 
 
-def recipe(share):
-    """A recipe of distinct versions, the newest in the middle, of this share of 1 MiB."""
-    lines = ["class Many(Package):\n"]
-    size = len(lines[0])
-    count = 0
-    while True:
-        number = (count * 7919) % 99991  # distinct for count below 99,991
-        line = '    version("%d.%d")\n' % (number // 317, number % 317)
-        if size + len(line) > limit * share:
-            return "".join(lines), count
-        lines.append(line)
-        size += len(line)
-        count += 1
+def recipe(count):
+    """A recipe of distinct versions, the newest in the middle."""
+    numbers = ((i * 7919) % 99991 for i in range(count))  # distinct for count below 99,991
+    return "class Many(Package):\n" + "".join('    version("%d.%d")\n' % (n // 317, n % 317) for n in numbers)
 
 
 def folder(name, text):
@@ -44,9 +34,9 @@ def folder(name, text):
 
 
 times = []
-for name, share in (("quarter", 0.25), ("half", 0.5), ("whole", 1.0)):
-    text, count = recipe(share)
-    repo = folder(name, text)
+for count in (500, 1000, 2000):
+    text = recipe(count)
+    repo = folder(str(count), text)
     best = None
     for _ in range(5):
         begun = time.perf_counter()
@@ -55,6 +45,6 @@ for name, share in (("quarter", 0.25), ("half", 0.5), ("whole", 1.0)):
         spent = time.perf_counter() - begun
         best = spent if best is None else min(best, spent)
     times.append(best)
-    print("%-8s %6d versions %8d bytes %7.3f s" % (name, count, len(text), best))
-print("half / quarter %.2f   whole / half %.2f" % (times[1] / times[0], times[2] / times[1]))
+    print("%6d versions %8d bytes %7.3f s" % (count, len(text), best))
+print("ratios %.2f %.2f" % (times[1] / times[0], times[2] / times[1]))
 PYTHON

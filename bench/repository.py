@@ -5,7 +5,10 @@
 
 A line each: the recipes, the bytes, the seconds (of the clock, best of three), the seconds of the processor, how often the bytes fit
 into the memory that was used, and the ratio to the line before. `read` stops at a fault of the first recipe, so all files are listed and
-read and nothing is parsed; `whole` parses all of them and chooses a version.
+read and nothing is parsed; `whole` parses all of them and chooses a version. These runs have one processor.
+
+Then 7,000 recipes of about 6 KB, and ten of them, on one, two and four processors, up to the refusal of an unknown root: all are read
+and parsed, and no graph is looked for.
 """
 import os
 import resource
@@ -38,6 +41,8 @@ class P(CMakePackage):
         return []
 '''
 
+ZLIB = 'class Zlib(Package):\n    version("1")\n'
+
 
 def write(path, text):
     os.makedirs(os.path.dirname(path), exist_ok=True)
@@ -45,14 +50,15 @@ def write(path, text):
         file.write(text)
 
 
-def measure(program, repo, root):
-    """Seconds of the clock and of the processor, and the memory of the best of three runs."""
+def measure(program, repo, root, processors=1, runs=3):
+    """Seconds of the clock and of the processors, and the memory of the best of some runs on the first of the processors."""
+    allowed = sorted(os.sched_getaffinity(0))[:processors]
     best = None
-    for _ in range(3):
+    for _ in range(runs):
         before = resource.getrusage(resource.RUSAGE_CHILDREN)
         start = time.monotonic()
         done = subprocess.run(["/usr/bin/time", "-f", "%M", program, "concretize", repo, "-", "-", "/dev/null", "-", root],
-                              capture_output=True, text=True)
+                              capture_output=True, text=True, preexec_fn=lambda: os.sched_setaffinity(0, allowed))
         clock = time.monotonic() - start
         after = resource.getrusage(resource.RUSAGE_CHILDREN)
         spent = after.ru_utime + after.ru_stime - before.ru_utime - before.ru_stime
@@ -62,27 +68,47 @@ def measure(program, repo, root):
     return best
 
 
+def lengths(program, room):
+    last = {}
+    for count in (1000, 2000, 4000, 8000):
+        repo = os.path.join(room, str(count))
+        for i in range(count):
+            write("%s/packages/p%d/package.py" % (repo, i), RECIPE)
+        write(repo + "/packages/zlib/package.py", ZLIB)
+        size = count * len(RECIPE)
+        for kind in ("read", "whole"):
+            first = repo + "/packages/a/package.py"
+            if kind == "read":
+                write(first, "x\n")
+            else:
+                os.remove(first)
+            clock, spent, memory = measure(program, repo, "zlib")
+            ratio = "%.2f" % (spent / last[kind]) if kind in last else "-"
+            last[kind] = spent
+            print("%-5s %5d recipes %9d bytes  %.2f s  %.2f s of a processor  %4.1f times in memory  ratio %s"
+                  % (kind, count, size, clock, spent, memory / size, ratio))
+
+
+def processors(program, room):
+    """As many recipes as Spack has, and ten."""
+    more = "".join('    version("2.%d.0", sha256="%064x")\n' % (i, i) for i in range(16))
+    recipe = RECIPE.replace("    variant(", more + "    variant(", 1)
+    for count, runs in ((7000, 5), (10, 50)):
+        repo = os.path.join(room, "beside%d" % count)
+        for i in range(count):
+            write("%s/packages/p%d/package.py" % (repo, i), recipe)
+        for number in (1, 2, 4):
+            if number <= len(os.sched_getaffinity(0)):
+                clock, spent, memory = measure(program, repo, "none", number, runs)
+                print("%d processors %5d recipes of %d bytes  %.4f s  %.4f s of processors  %4.1f times in memory"
+                      % (number, count, len(recipe), clock, spent, memory / (count * len(recipe))))
+
+
 def main():
     program = os.path.abspath(sys.argv[1])
     with tempfile.TemporaryDirectory() as room:
-        last = {}
-        for count in (1000, 2000, 4000, 8000):
-            repo = os.path.join(room, str(count))
-            for i in range(count):
-                write("%s/packages/p%d/package.py" % (repo, i), RECIPE)
-            write(repo + "/packages/zlib/package.py", 'class Zlib(Package):\n    version("1")\n')
-            size = count * len(RECIPE)
-            for kind in ("read", "whole"):
-                first = repo + "/packages/a/package.py"
-                if kind == "read":
-                    write(first, "x\n")
-                else:
-                    os.remove(first)
-                clock, spent, memory = measure(program, repo, "zlib")
-                ratio = "%.2f" % (spent / last[kind]) if kind in last else "-"
-                last[kind] = spent
-                print("%-5s %5d recipes %9d bytes  %.2f s  %.2f s of a processor  %4.1f times in memory  ratio %s"
-                      % (kind, count, size, clock, spent, memory / size, ratio))
+        lengths(program, room)
+        processors(program, room)
 
 
 if __name__ == "__main__":

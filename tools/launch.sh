@@ -33,12 +33,20 @@ spack_concretize concretize REPO SETTINGS DATABASE LOCK CERT SPEC..
     finds the best graph of the specs, and puts it at LOCK as a lock file
 spack_concretize judge REPO SETTINGS DATABASE LOCK SPEC..
     says whether the graph of the lock file LOCK is valid, and what it costs
+spack_concretize check REPO SETTINGS DATABASE LOCK CERT SPEC..
+    says whether it is the best besides, as the certificate CERT shows
+spack_concretize refute REPO SETTINGS DATABASE CERT SPEC..
+    says whether the certificate CERT shows that there is no valid graph
+spack_concretize explain REPO SETTINGS DATABASE SPEC..
+    says that there is a graph, or which directives and specs stand against one
+spack_concretize trial N SEED
+    finds the best graph of N packages (1 to 1,000) that are made from SEED
 
 REPO      a folder with packages/NAME/package.py           docs/formats/recipes.md
 SETTINGS  a JSON file, or - for the standard settings      docs/formats/settings.md
 DATABASE  what is installed, or - for nothing              docs/formats/database.md
 LOCK      where the lock file is put; judge reads it       docs/formats/lock-file.md
-CERT      where the log of the search is put, or -         docs/formats/proof_log.md
+CERT      the log of the search, or - for none             docs/CERTIFICATES.md
 SPEC      such as 'hdf5@1.14: +mpi ^mpich'                 docs/formats/specs.md
 
 0 done  1 unsatisfiable  2 usage  3 undecided  4 bad input  5 read fault  6 write fault  7 too large  8 refused
