@@ -1,0 +1,9 @@
+-- what public contracts say
+pub mod Texts
+pub mod Choices
+pub mod Labels
+pub mod Sums
+pub mod Clauses
+-- inside
+pub mod Signs
+pub mod Meanings
