@@ -1,5 +1,5 @@
 -- What was found, as an answer.
-use Rattle.std.proofs.Common.{◌≡◌, refl, sym, ap, subst, ℕ, Bool, true, List}
+use Rattle.std.proofs.Common.{◌≡◌, refl, sym, ap, subst, ℕ, ◌<◌, ◌^◌, Bool, true, List, length, arith}
 use Rattle.proof_log.specs.declared.line.Line.{Line}
 use Rattle.proof_log.specs.Lines.{AllLines}
 use Rattle.proof_log.specs.Texts.{may_write}
@@ -52,6 +52,6 @@ module _ (problem : Problem) (e : Encoded) (encoded : IsEncoded problem e) (enco
       → IsAnswer problem budget (Nothing log)
   nothing-answer found best = over (Nothing log) refl (nothing problem e.clauses e.bits.lits read encoded.encodes best) found
 
-  pub spent-answer : IsFound e.clauses e.bits.lits budget (Spent log) → IsBest e.clauses e.bits.lits budget (Spent log)
+  pub spent-answer : length log < 2 ^ 64 → IsFound e.clauses e.bits.lits budget (Spent log) → IsBest e.clauses e.bits.lits budget (Spent log)
       → IsAnswer problem budget (Undecided log)
-  spent-answer found best = over (Undecided log) refl best.1 (found, best.0)
+  spent-answer finite found best = over (Undecided log) refl (best.1, omega (arith, finite, best.1)) (found, best.0)

@@ -1,5 +1,5 @@
 -- What is answered for a problem, and what shows it.
-use Rattle.std.specs.Prelude.{◌≡◌, ℕ, ◌<◌, ◌^◌, Bool, true, List, length}
+use Rattle.std.specs.Prelude.{◌≡◌, ℕ, ◌<◌, ◌-◌, ◌^◌, Bool, true, List, length}
 use Rattle.clause_store.specs.declared.Lit.{Lit}
 use Rattle.clause_store.specs.Clauses.{Clauses}
 use Rattle.proof_log.specs.declared.line.Line.{Line}
@@ -24,11 +24,12 @@ log_of (Best graph log) = log
 log_of (Nothing log) = log
 log_of (Undecided log) = log
 
--- the graph is optimal; or no graph is valid; or more lines were written than the budget counts
+-- the graph is optimal; or no graph is valid; or more lines were written than the budget counts, which no budget of 2^64 - 1
+-- or more lets happen, since no list in memory has so many
 abbrev pub Means : Problem → ℕ → Answer → Type 0
 Means problem budget (Best graph log) = IsWellFormed graph × IsOptimal problem graph
 Means problem budget (Nothing log) = HasNoGraph problem
-Means problem budget (Undecided log) = budget < length log
+Means problem budget (Undecided log) = (budget < length log) × (budget < 2 ^ 64 - 1)
 
 -- the log is a certificate of the bits of a model that decodes to the graph; a refutation; or a spent log of a budget below 3
 -- to the number of variables, which is the number of clauses that there are

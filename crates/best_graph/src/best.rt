@@ -1,5 +1,5 @@
 //! The search for the best graph.
-ghost use Rattle.std.specs.Prelude.{◌≡◌, true, IfOk};
+ghost use Rattle.std.specs.Prelude.{◌≡◌, ◌<◌, ◌^◌, true, IfOk, length};
 ghost use Rattle.clause_store.specs.Clauses.{clauses_of};
 ghost use Rattle.proof_log.specs.Known.{AllClauses};
 ghost use Rattle.proof_log.specs.Lines.{AllLines};
@@ -49,6 +49,13 @@ fn is_writable(log: &Log) -> bool
     log.lines().iter().all(|line| may_write(line))
 }
 
+/// A log in memory has fewer lines than 2^64.
+fn is_finite(log: &Log)
+    ensures { length log.now < 2 ^ 64 }
+{
+    let _count = log.lines().len();
+}
+
 /// What was found, as an answer. A log that may not be written is want of memory.
 fn answer_of(
     alloc: Global,
@@ -83,6 +90,7 @@ fn answer_of(
             }
         }
         Found::Spent { log } => {
+            is_finite(&log);
             if is_writable(&log) {
                 Ok(Answer::Undecided { log })
             } else {

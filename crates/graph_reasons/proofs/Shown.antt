@@ -1,5 +1,5 @@
 -- What a search without bits shows of the graphs of a problem.
-use Rattle.std.proofs.Common.{◌≡◌, refl, sym, ap, subst, ◌∙◌, ℕ, ◌<◌, ◌^◌, Bool, true, List, []}
+use Rattle.std.proofs.Common.{◌≡◌, refl, sym, ap, subst, ◌∙◌, ℕ, ◌<◌, ◌^◌, Bool, true, List, [], length, arith}
 use Rattle.clause_store.specs.declared.Lit.{Lit}
 use Rattle.clause_store.specs.Clauses.{Clauses, clauses_of, Meets}
 use Rattle.clause_solver.specs.Models.{values_in}
@@ -50,9 +50,11 @@ module _ (problem : Problem) (e : Encoded) (encoded : IsEncoded problem e) (buil
         none = nothing problem e.clauses e.bits.lits (λ v. decode v e.table) encoded.encodes best;
       }
 
-  pub spent : (log : List Line) → IsFound e.clauses [] budget (Spent log) → IsBest e.clauses [] budget (Spent log) → IsSpent problem budget
-  spent log found best = record {
+  pub spent : (log : List Line) → length log < 2 ^ 64 → IsFound e.clauses [] budget (Spent log) → IsBest e.clauses [] budget (Spent log)
+      → IsSpent problem budget
+  spent log short found best = record {
     log = log;
     spent = subst (λ (x : Encoded). IsSpentLog x.clauses.vars (clauses_of x.clauses.entries) [] budget log) built found;
     small = subst (λ (x : Encoded). budget < 3 ^ x.clauses.vars) built best.0;
+    finite = omega (arith, short, best.1);
   }

@@ -1,5 +1,5 @@
 -- Why no graph of a problem is valid, or that one is.
-use Rattle.std.specs.Prelude.{◌≡◌, ℕ, ◌<◌, ◌^◌, true, List, []}
+use Rattle.std.specs.Prelude.{◌≡◌, ℕ, ◌<◌, ◌-◌, ◌^◌, true, List, []}
 use Rattle.clause_store.specs.Clauses.{clauses_of}
 use Rattle.proof_log.specs.declared.line.Line.{Line}
 use Rattle.proof_log.specs.Certificates.{IsRefutation, IsSpentLog}
@@ -28,11 +28,12 @@ pub record IsUnmet (problem : Problem) (demands : List ℕ) : Type 0 where
   pub alone : (graph : Content) → IsValid problem (stands demands) graph → ⊥
   pub none : HasNoGraph problem
 
--- one clause more was learnt than the budget, which is below 3 to the number of variables
+-- one clause more was learnt than the budget, which is below 3 to the number of variables, and below 2^64 - 1
 pub record IsSpent (problem : Problem) (budget : ℕ) : Type 0 where
   pub log : List Line
   pub spent : let e = encoding_of problem in IsSpentLog e.clauses.vars (clauses_of e.clauses.entries) [] budget log
   pub small : budget < 3 ^ (encoding_of problem).clauses.vars
+  pub finite : budget < 2 ^ 64 - 1
 
 abbrev pub Explains : Problem → ℕ → Explanation → Type 0
 Explains problem budget Satisfiable = HasGraph problem

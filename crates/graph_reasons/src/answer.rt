@@ -1,6 +1,6 @@
 //! The search for a graph, or for what stands against one.
 
-ghost use Rattle.std.specs.Prelude.{◌≡◌, [], IfOk};
+ghost use Rattle.std.specs.Prelude.{◌≡◌, ◌<◌, ◌^◌, [], IfOk, length};
 ghost use Rattle.clause_store.specs.Clauses.{clauses_of};
 ghost use Rattle.proof_log.specs.Known.{AllClauses};
 ghost use Rattle.optimum_search.specs.Finding.{IsFound};
@@ -15,6 +15,7 @@ use graph_check::{Encoded, encode};
 use optimum_search::{Found, found_laws, search};
 use possible_closure::Closure;
 use problem::Problem;
+use proof_log::Log;
 use std::alloc::{AllocError, Global};
 
 /// Whether some graph is valid, and else the demands that a refutation rests on, where the search may learn so many clauses.
@@ -32,6 +33,13 @@ pub fn explain(
     let encoded = encode(alloc, problem, closure)?;
     let found = search(alloc, &encoded.clauses, &[], budget)?;
     explanation_of(alloc, problem, &encoded, budget, found)
+}
+
+/// A log in memory has fewer lines than 2^64.
+fn is_finite(log: &Log)
+    ensures { length log.now < 2 ^ 64 }
+{
+    let _count = log.lines().len();
 }
 
 /// What was found, as an explanation.
@@ -56,6 +64,9 @@ fn explanation_of(
             let demands = reasons(alloc, &encoded.clauses, &log)?;
             Ok(Explanation::Unmet(demands))
         }
-        Found::Spent { .. } => Ok(Explanation::Undecided),
+        Found::Spent { log } => {
+            is_finite(&log);
+            Ok(Explanation::Undecided)
+        }
     }
 }

@@ -38,5 +38,5 @@ returns-then-is_writable-3 c =
     let found : IsFound e.clauses e.bits.lits c.args._budget (Spent c.in-Spent.log) =
     subst (IsFound e.clauses e.bits.lits c.args._budget) c.in-Spent.is c.requires.found in
     spent-answer c.args._problem.now e c.requires.encoded c.requires.encodable c.requires.built c.args._budget c.in-Spent.log
-    (c.is_writable-in-Spent.ensures c.if-is_writable-3.true) found
+    (c.is_writable-in-Spent.ensures c.if-is_writable-3.true) (c.is_finite.ensures) found
     (c.found_laws.ensures e.clauses e.bits.lits c.args._budget (Spent c.in-Spent.log) c.requires.in_order found)

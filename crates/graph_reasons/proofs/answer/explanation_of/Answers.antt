@@ -31,5 +31,5 @@ returns c =
     let e = c.args.encoded.now in
     let found : IsFound e.clauses [] c.args._budget (Spent c.in-Spent.log) =
     subst (IsFound e.clauses [] c.args._budget) c.in-Spent.is c.requires.found in
-    spent c.args._problem.now e c.requires.encoded c.requires.built c.args._budget c.in-Spent.log found
+    spent c.args._problem.now e c.requires.encoded c.requires.built c.args._budget c.in-Spent.log c.is_finite.ensures found
     (c.found_laws.ensures e.clauses [] c.args._budget (Spent c.in-Spent.log) c.requires.in_order found)
