@@ -15,13 +15,15 @@
 # is the build of these sources, or nothing runs.
 
 # The program crates that are released.
-programs=(spack_concretize)
+programs=(replay_scenarios spack_concretize)
 
 # A status and the words of a run that ends with it, touches no file, whatever stands in the caller's folder, and tells
 # that a file is the program and runs here: a status that neither `rt`, the shell nor the loader gives.
 trial_of() {
   case $1 in
   spack_concretize) echo 4 concretize /dev/null - - l - @ ;;
+  # Without words it says how it is called.
+  replay_scenarios) echo 64 ;;
   esac
 }
 
@@ -54,6 +56,11 @@ SPEC      such as 'hdf5@1.14: +mpi ^mpich'                 docs/formats/specs.md
 
 spack_concretize --where | --version | --help
     which file runs, and why; of which sources it is; this text. They run nothing, and build nothing.
+HELP
+  replay_scenarios) cat <<'HELP' ;;
+replay FILE-OR-FOLDER..     replays scenarios (docs/SCENARIOS.md); without words those of the repository
+replay --where | --version | --help
+0 all the same  1 something differs or is no scenario  2 could not be said  70 no program could be built
 HELP
   *) echo "$1 WORD.. | --where | --version | --help" ;;
   esac
