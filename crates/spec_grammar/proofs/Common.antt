@@ -26,7 +26,7 @@ unfoldable pub use Rattle.spec_grammar.specs.Forms.{form_at, form_behind, form_o
 pub use Rattle.spec_grammar.specs.Reading.{empty_place, Read, last_item, place_of, has_gap, IsRead, IsFirst, IsDark, IsItemAt, begin, first_part, Spells, HasNoEmpty}
 unfoldable pub use Rattle.spec_grammar.specs.Reading.{take_steps}
 pub use Rattle.spec_grammar.specs.Faults.{IsFault, IsWrong, IsAtItem, EndsEarly}
-pub use Rattle.spec_grammar.specs.Canonical.{values_text, one_text, variant_text, target_text, more_targets, targets_items, variant_names, word_text, key_text, variants_text, compiler_text, targets_text, below_text, AreNamed, AreInOrder}
+pub use Rattle.spec_grammar.specs.Canonical.{values_text, one_text, variant_text, target_text, more_targets, targets_items, variant_names, word_text, key_text, variants_text, compiler_text, targets_text, below_text, AreNamed, AreInOrder, AreValued}
 unfoldable pub use Rattle.spec_grammar.specs.Canonical.{part_text, spec_text}
 pub use Rattle.spec_grammar.specs.Locals.{IsStuckHere, IsViable, varied, IsListAt, IsListFault, IsCutOff, IsItemFault, IsStuck, Varies, moved, IsAllowedItem, IsFaultHere, Fits, IsItemFaultHere, refused_place, AreStuck, AreValuesAt, IsValuesFault, goes_on, AreFirst}
 pub use Rattle.spec_grammar.specs.declared.draft.Draft.{Draft}

@@ -1,5 +1,5 @@
 -- What is read of a part can be written again.
-use Rattle.std.proofs.Common.{◌≡◌, ℕ, Bool, true, false, List, [], ◌∷◌, ◌++◌, map, Option, Some, None, refl, sym, subst, ◌∙◌, IfSome, option_and_then, if◌then◌else◌, codes}
+use Rattle.std.proofs.Common.{◌≡◌, ℕ, ◌<◌, Bool, true, false, List, [], ◌∷◌, ◌++◌, length, arith, map, Option, Some, None, refl, sym, subst, ◌∙◌, IfSome, option_and_then, if◌then◌else◌, codes}
 use Rattle.std.specs.List.Sorted.{IsStrictlySortedBy}
 use Rattle.variant_values.proofs.Texts.{with_text_in_order}
 use Rattle.spec_grammar.specs.declared.key.KeyKind.TheVariants as key
@@ -16,6 +16,7 @@ pub record IsKept (mode : Mode) (p : Part) : Type 0 where
   pub versions : IfSome p.versions (λ l. AreListed l × (first_empty 1 l ≡ None))
   pub variants : AllByRecursion (λ v. Asks mode (variant_text v.0 v.1) (set_variant v.0 v.1)) p.variants
   pub ordered : IsInByteOrder (variant_names p.variants)
+  pub valued : AllByRecursion (λ v. 0 < length v.1) p.variants
   pub compiler : IfSome p.compiler (λ c. Asks mode (37 ∷ (c.0 ++ spell_list c.1)) (compiler_is c))
   pub platform : IfSome p.platform (λ w. Asks mode (codes "platform=" ++ w) (platform_is w))
   pub os : IfSome p.os (λ w. Asks mode (codes "os=" ++ w) (os_is w))
@@ -28,6 +29,7 @@ kept_empty mode name is = record {
   versions = tt;
   variants = tt;
   ordered = tt;
+  valued = tt;
   compiler = tt;
   platform = tt;
   os =
@@ -41,6 +43,7 @@ kept_name mode p w is h = record {
   versions = h.versions;
   variants = h.variants;
   ordered = h.ordered;
+  valued = h.valued;
   compiler =
       h.compiler;
   platform = h.platform;
@@ -68,6 +71,7 @@ kept_versions mode p next l h are none e =
         versions = (are, none);
         variants = h.variants;
         ordered = h.ordered;
+        valued = h.valued;
         compiler =
             h.compiler;
         platform = h.platform;
@@ -86,6 +90,7 @@ kept_compiler mode p next c h asks e =
         versions = h.versions;
         variants = h.variants;
         ordered = h.ordered;
+        valued = h.valued;
         compiler =
             asks;
         platform = h.platform;
@@ -104,6 +109,7 @@ kept_platform mode p next w h asks e =
         versions = h.versions;
         variants = h.variants;
         ordered = h.ordered;
+        valued = h.valued;
         compiler =
             h.compiler;
         platform = asks;
@@ -122,6 +128,7 @@ kept_os mode p next w h asks e =
         versions = h.versions;
         variants = h.variants;
         ordered = h.ordered;
+        valued = h.valued;
         compiler =
             h.compiler;
         platform = h.platform;
@@ -142,6 +149,7 @@ kept_targets mode p next (v ∷ values) h may are targets e =
         versions = h.versions;
         variants = h.variants;
         ordered = h.ordered;
+        valued = h.valued;
         compiler = h.compiler;
         platform =
             h.platform;
@@ -152,8 +160,8 @@ kept_targets mode p next (v ∷ values) h may are targets e =
     )
 
 kept_variant : (mode : Mode) (p next : Part) (w : List ℕ) (values : List (List ℕ)) → IsKept mode p
-    → Asks mode (variant_text w values) (set_variant w values) → set_variant w values p ≡ Some next → IsMore mode p next
-kept_variant mode p next w values h asks e =
+    → Asks mode (variant_text w values) (set_variant w values) → 0 < length values → set_variant w values p ≡ Some next → IsMore mode p next
+kept_variant mode p next w values h asks some e =
     let new = unless (has_variant w p.variants) (record p { variants = with_variant (w, values) p.variants }) next e in
     subst (IsMore mode p) new.1 (
       record {
@@ -162,6 +170,7 @@ kept_variant mode p next w values h asks e =
         variants = all_set _ (w, values) p.variants h.variants asks;
         ordered = subst IsInByteOrder (sym (names_set (w, values) p.variants new.0))
             (with_text_in_order (variant_names p.variants) w h.ordered);
+        valued = all_set _ (w, values) p.variants h.valued some;
         compiler = h.compiler;
         platform = h.platform;
         os = h.os;
@@ -199,7 +208,7 @@ kept_key mode p next key.Target w (v ∷ values) is h may name are takes e = kep
 kept_key mode p next key.Flags w (v ∷ values) is h may name are takes e = absurd takes
 kept_key mode p next key.Variant w (v ∷ values) is h may name are takes e =
     kept_variant mode p next w (put_all [] (v ∷ values)) h
-    (setting_asks mode w (put_all [] (v ∷ values)) may name is (values_kept (v ∷ values) are)) e
+    (setting_asks mode w (put_all [] (v ∷ values)) may name is (values_kept (v ∷ values) are)) (values_kept (v ∷ values) are).some e
 
 -- an item that was read keeps it so
 pub kept_add : (mode : Mode) (p next : Part) (item : Item) → IsKept mode p → (IsBehind item → may_have_all mode ≡ true) → IsItem item
@@ -207,7 +216,7 @@ pub kept_add : (mode : Mode) (p next : Part) (item : Item) → IsKept mode p →
 kept_add mode p next (Name w) h may form none e = absurd cc
 kept_add mode p next (Versions items) h may form none e = kept_versions mode p next items h form.0 none e
 kept_add mode p next (Variant mark w) h may form none e =
-    kept_variant mode p next w (mark_value mark ∷ []) h (variant_asks mode mark w (may tt) form.0) e
+    kept_variant mode p next w (mark_value mark ∷ []) h (variant_asks mode mark w (may tt) form.0) (omega arith) e
 kept_add mode p next (Compiler w items) h may form none e =
     kept_compiler mode p next (w, items) h (compiler_asks mode w items (may tt) form none) e
 kept_add mode p next (Key w values) h may form none e = kept_key mode p next (key_of w) w values refl h (may tt) form.0.0 form.0.1 form.1 e

@@ -1,10 +1,11 @@
 -- The canonical text of a spec that was read is read again as it.
-use Rattle.std.proofs.Common.{◌≡◌, ℕ, true, false, List, [], ◌∷◌, ◌++◌, Option, Some, None, refl, sym, ap, subst, ◌∙◌, arith, append_assoc, Contains, ◌==◌, IsSome, codes, append-nil}
+use Rattle.std.proofs.Common.{◌≡◌, ℕ, true, false, List, [], ◌∷◌, ◌++◌, ◌<◌, length, All, Option, Some, None, refl, sym, ap, subst, ◌∙◌, arith, append_assoc, Contains, ◌==◌, IsSome, codes, append-nil}
 use Rattle.spec_grammar.specs.declared.mode.Mode.TheVariants.{Condition, LocalCondition}
-use Rattle.spec_grammar.proofs.Common.{AllByRecursion, list_all, and_parts, nat_tests, All-from_recursion, IsInByteOrder, is_name_byte, IsName, is_start, IsOver, before_of, last_of, may_constrain, needs_name, empty_part, begin_part, spec_with, nest_in, nest, Spells, begin, part_text, below_text, spec_text, AreNamed, AreInOrder, variant_names}
+use Rattle.spec_grammar.proofs.Common.{AllByRecursion, list_all, and_parts, nat_tests, All-from_recursion, IsInByteOrder, is_name_byte, IsName, is_start, IsOver, before_of, last_of, may_constrain, needs_name, empty_part, begin_part, spec_with, nest_in, nest, Spells, begin, part_text, below_text, spec_text, AreNamed, AreInOrder, AreValued, variant_names}
 use Rattle.spec_grammar.proofs.Common.{Item, Caret, Mode, Part, Spec, Draft}
 use Rattle.spec_grammar.proofs.RunLaws.{two_cons, true_false}
 use Rattle.spec_grammar.proofs.DraftLaws.{IsTop, IsBelow, whole}
+use Rattle.spec_grammar.proofs.KeptLaws.{IsKept}
 use Rattle.spec_grammar.proofs.PieceLaws.{Leads, leads_then, leads_none, leads_cons, over_space, at, MayBegin, part_leads}
 use Rattle.spec_grammar.proofs.StepLaws.{nested_part, nested_specs, recursion_weaker}
 
@@ -152,3 +153,12 @@ ordered mode text specs spec s has =
     let w = whole mode text specs spec s has in
     All-from_recursion _ (spec.top ∷ spec.below)
     (w.0.0.ordered, recursion_weaker (IsBelow mode) (λ p. IsInByteOrder (variant_names p.variants)) (λ p h. h.0.ordered) spec.below w.1)
+
+pub valued : (mode : Mode) (text : List ℕ) (specs : List Spec) (spec : Spec) → Spells mode text specs → Contains specs spec
+    → AreValued spec
+valued mode text specs spec s has =
+    let w = whole mode text specs spec s has in
+    let of_part : (p : Part) → IsKept mode p → All (λ v. 0 < length v.1) p.variants =
+    λ p h. All-from_recursion (λ v. 0 < length v.1) p.variants h.valued in
+    All-from_recursion _ (spec.top ∷ spec.below)
+    (of_part spec.top w.0.0, recursion_weaker (IsBelow mode) (λ p. All (λ v. 0 < length v.1) p.variants) (λ p h. of_part p h.0) spec.below w.1)

@@ -1,5 +1,5 @@
 -- The canonical text of a spec.
-use Rattle.std.specs.Prelude.{◌≡◌, ℕ, true, List, [], ◌∷◌, ◌++◌, map, Option, Some, None, IsSome, if◌then◌else◌, codes}
+use Rattle.std.specs.Prelude.{◌≡◌, ◌<◌, ℕ, true, List, [], ◌∷◌, ◌++◌, length, map, Option, Some, None, IsSome, if◌then◌else◌, codes}
 use Rattle.std.specs.List.{All}
 use Rattle.std.specs.Str.{bytes_eq}
 use Rattle.version_order.specs.declared.item.Item.{Item as VersionItem}
@@ -86,3 +86,7 @@ variant_names variants = map (λ v. v.0) variants
 -- each part names a variant once, in byte order
 abbrev pub AreInOrder : Spec → Type 0
 AreInOrder s = All (λ p. IsInByteOrder (variant_names p.variants)) (s.top ∷ s.below)
+
+-- each variant of a part has a value
+abbrev pub AreValued : Spec → Type 0
+AreValued s = All (λ p. All (λ v. 0 < length v.1) p.variants) (s.top ∷ s.below)

@@ -4,7 +4,7 @@ ghost use Rattle.std.specs.Prelude.{◌≡◌, ◌≢◌, ◌⊎◌, ℕ, List, 
 ghost use Rattle.std.specs.Str.{IsAscii};
 ghost use Rattle.spec_grammar.specs.Reading.{Spells};
 ghost use Rattle.spec_grammar.specs.Faults.{IsFault};
-ghost use Rattle.spec_grammar.specs.Canonical.{spec_text, AreNamed, AreInOrder};
+ghost use Rattle.spec_grammar.specs.Canonical.{spec_text, AreNamed, AreInOrder, AreValued};
 ghost use Rattle.spec_grammar.specs.declared.mode.Mode.{Mode};
 ghost use Rattle.spec_grammar.specs.declared.part.Spec.{Spec};
 ghost use Rattle.spec_grammar.specs.declared.fault.SpecFault.{SpecFault};
@@ -30,7 +30,8 @@ pub fn reading_is_total()
         ⊎ ((fault : SpecFault) × IsFault mode text fault × (fault ≢ SpecFault.OutOfMemory)) }
 {}
 
-/// The canonical text of each spec that was read spells that spec alone, in a text of the same kind.
+/// The canonical text of each spec that was read spells that spec alone, in a text of the same kind. Its variants are in
+/// order of their names, each with a value.
 pub fn writing_laws()
     ensures read_again { (mode : Mode) (text : List ℕ) (specs : List Spec) (spec : Spec)
         → Spells mode text specs → Contains specs spec → Spells mode (spec_text spec) (spec ∷ []) }
@@ -38,4 +39,6 @@ pub fn writing_laws()
         → Spells mode text specs → Contains specs spec → AreNamed mode spec }
     ensures ordered { (mode : Mode) (text : List ℕ) (specs : List Spec) (spec : Spec)
         → Spells mode text specs → Contains specs spec → AreInOrder spec }
+    ensures valued { (mode : Mode) (text : List ℕ) (specs : List Spec) (spec : Spec)
+        → Spells mode text specs → Contains specs spec → AreValued spec }
 {}

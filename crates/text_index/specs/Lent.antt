@@ -1,0 +1,12 @@
+-- Elements that are lent, each with a text.
+use Rattle.std.specs.Prelude.{ℕ, List, map, filter}
+use Rattle.std.specs.Borrow.{Bor}
+use Rattle.std.specs.Str.{bytes_eq}
+
+-- what is lent, each behind its text
+abbrev pub lent : {T : Type 0} → List (Bor (List ℕ) × Bor T) → List (List ℕ × T)
+lent entries = map (λ e. (e.0.now, e.1.now)) entries
+
+-- those with a text
+abbrev pub with_text : {T : Type 0} → List ℕ → List (List ℕ × T) → List (List ℕ × T)
+with_text text entries = filter (λ e. bytes_eq e.0 text) entries
