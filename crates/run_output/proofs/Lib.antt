@@ -1,5 +1,6 @@
 pub mod Changes
 pub mod Fronts
 pub mod Left
+pub mod Spent
 pub mod Tellings
 pub use Rattle.run_task.proofs.StageLaws

@@ -3,6 +3,7 @@ pub mod Texts
 pub mod Told
 pub mod Changes
 pub mod Answers
+pub mod Budgets
 -- what crates above name
 pub use Rattle.run_task.specs.Exits
 pub use Rattle.run_task.specs.LockFault

@@ -12,10 +12,12 @@ mod found;
 mod put;
 mod report;
 mod said;
+mod theorems;
 mod told;
 
 pub use answer::{Outcome, write_answer};
 pub use report::worked_texts;
+pub use theorems::budget_laws;
 // What crates above answer with.
 pub use run_task::{
     Command, ReadStop, Refusal, Status, Stop, Task, WriteStop, read_order, read_task, task_laws,

@@ -1,0 +1,38 @@
+-- Under which budgets a run is left undecided.
+use Rattle.std.proofs.Common.{◌≡◌, ℕ, ◌<◌, ◌-◌, ◌^◌, List, Option}
+use Rattle.outside_desk.specs.Files.{Files}
+use Rattle.run_task.specs.Problems.{Problem}
+use Rattle.run_task.specs.declared.task.Task.{Task}
+use Rattle.run_task.specs.declared.task.Task.TheVariants as tasks
+use Rattle.run_task.specs.Answer.{Answer}
+use Rattle.run_task.specs.Answer.TheVariants as answers
+use Rattle.run_task.specs.Explanations.{Explains}
+use Rattle.run_task.specs.Explanation.{Explanation}
+use Rattle.run_task.specs.Explanation.TheVariants as explanations
+use Rattle.run_output.specs.Answers.{HasSpent}
+use Rattle.run_output.specs.Budgets.{budget_of}
+use Rattle.run_output.specs.Texts.{IsFor, explanation_outcome, outcome_of}
+use Rattle.run_output.specs.declared.answer.Outcome.TheVariants.{Undecided}
+
+of_answer : (problem : Problem) (answer : Answer) → IsFor problem answer → Undecided ≡ outcome_of answer
+    → problem.settings.conflict_budget < 2 ^ 64 - 1
+of_answer problem (answers.Best graph log) found is = absurd (cc)
+of_answer problem (answers.Nothing log) found is = absurd (cc)
+of_answer problem (answers.Undecided log) found is = found.means.1
+
+of_explanation : (problem : Problem) (explanation : Explanation) → Explains problem problem.settings.conflict_budget explanation
+    → Undecided ≡ explanation_outcome explanation → problem.settings.conflict_budget < 2 ^ 64 - 1
+of_explanation problem explanations.Satisfiable explains is = absurd (cc)
+of_explanation problem (explanations.Unmet demands) explains is = absurd (cc)
+of_explanation problem explanations.Undecided explains is = explains.finite
+
+-- no budget of 2^64 - 1 is spent
+pub spent_below : (cert : List ℕ) (task : Task) (before after : Option Files) (said more : Option (List ℕ))
+    → HasSpent cert task before after said more → budget_of task < 2 ^ 64 - 1
+spent_below cert (tasks.Solve input) before after said more spent = spent.spent.means.1
+spent_below cert (tasks.Report numbers) before after said more spent = absurd (let e = spent.tells.0 in cc)
+spent_below cert tasks.Accepted before after said more spent = absurd (let e = spent.tells.0 in cc)
+spent_below cert (tasks.Explain input) before after said more spent =
+    let t = spent.tells in of_explanation input.problem t.explanation t.explains t.is_outcome
+spent_below cert (tasks.Try input) before after said more spent =
+    let t = spent.tells in of_answer input.problem t.answer t.found t.is_outcome
