@@ -1,5 +1,5 @@
 -- What the clauses of a formula say.
-use Rattle.std.proofs.Common.{◌≡◌, ℕ, ◌+◌, Bool, true, false, not, ◌&&◌, ◌||◌, List, [], ◌∷◌, refl, sym, ap, ◌∙◌, arith}
+use Rattle.std.proofs.Common.{◌≡◌, ℕ, ◌+◌, Bool, true, false, not, ◌&&◌, ◌||◌, List, [], ◌∷◌, refl, sym, ap, ◌∙◌}
 use Rattle.clause_store.specs.declared.Label.{Label}
 use Rattle.clause_store.specs.declared.Label.TheVariants.{Demand}
 use Rattle.clause_store.specs.Lits.{negation, lit_true}

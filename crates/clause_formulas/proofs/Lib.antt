@@ -5,5 +5,6 @@ pub mod AskLaws
 pub mod Laws
 pub mod SpreadSteps
 pub mod CallSteps
+pub mod AllowLaws
 pub mod Words
 pub mod RuleLaws

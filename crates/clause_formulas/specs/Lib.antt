@@ -3,6 +3,7 @@ pub mod Statements
 pub mod Drafts
 pub mod Values
 pub mod Built
+pub mod Allowed
 pub mod Rules
 pub mod Rows
 -- what is inside

@@ -1,6 +1,7 @@
 //! The clause of a formula that is asked for: of what stands under the other sign one side is enough.
 ghost use Rattle.std.specs.Prelude.{◌≡◌, Some, IfOk, OnOk};
 ghost use Rattle.clause_store.specs.Lits.{AllBelow};
+ghost use Rattle.gate_plans.specs.Growth.{Extends};
 ghost use Rattle.clause_formulas.specs.Statements.{SaidBelow, any_of, no};
 ghost use Rattle.clause_formulas.specs.Built.{ask_on, by_cover, cover_on, covered_on};
 
@@ -22,11 +23,12 @@ pub(crate) fn ask(
 ) -> Result<(), AllocError>
     requires formula_below { SaidBelow clauses.old.vars formula.now }
     requires draft_below { AllBelow clauses.old.vars draft.old.lits }
-    ensures { OnOk result (ask_on clauses.old draft.old formula.now ≡ record {
+    ensures built { OnOk result (ask_on clauses.old draft.old formula.now ≡ record {
       list =
           clauses.new;
       answer = draft.new;
     }) }
+    ensures extends { Extends clauses.old clauses.new }
 {
     match &formula.node {
         Node::Atom(lit) => draft.put(Defined::By(*lit)),
@@ -45,11 +47,12 @@ pub(crate) fn ask_any(
 ) -> Result<(), AllocError>
     requires parts_below { SaidBelow clauses.old.vars (any_of parts.now) }
     requires draft_below { AllBelow clauses.old.vars draft.old.lits }
-    ensures { OnOk result (ask_on clauses.old draft.old (any_of parts.now) ≡ record {
+    ensures built { OnOk result (ask_on clauses.old draft.old (any_of parts.now) ≡ record {
       list =
           clauses.new;
       answer = draft.new;
     }) }
+    ensures extends { Extends clauses.old clauses.new }
 {
     for part in parts {
         ask(alloc, clauses, draft, part)?;
@@ -65,11 +68,12 @@ fn ask_none(
     parts: &[Formula],
 ) -> Result<(), AllocError>
     requires { SaidBelow clauses.old.vars (any_of parts.now) }
-    ensures { OnOk result (ask_on clauses.old draft.old (no (any_of parts.now)) ≡ record {
+    ensures built { OnOk result (ask_on clauses.old draft.old (no (any_of parts.now)) ≡ record {
       list =
           clauses.new;
       answer = draft.new;
     }) }
+    ensures extends { Extends clauses.old clauses.new }
 {
     let mut inner = Draft::new(alloc);
     spread_any(alloc, clauses, &mut inner, parts)?;
@@ -80,11 +84,12 @@ fn ask_none(
 // A value that is true where the draft is.
 fn covered(alloc: Global, clauses: &mut ClauseList, draft: &Draft) -> Result<Defined, AllocError>
     requires { AllBelow clauses.old.vars draft.now.lits }
-    ensures { IfOk result (λ value. covered_on clauses.old draft.now ≡ record {
+    ensures built { IfOk result (λ value. covered_on clauses.old draft.now ≡ record {
       list =
           clauses.new;
       answer = value;
     }) }
+    ensures extends { Extends clauses.old clauses.new }
 {
     if draft.always() {
         return Ok(Defined::Known(true));
@@ -98,11 +103,12 @@ fn covered(alloc: Global, clauses: &mut ClauseList, draft: &Draft) -> Result<Def
 // A value that is true where a clause is; a new variable only for two literals and more.
 fn by_cover(alloc: Global, clauses: &mut ClauseList, lits: &[Lit]) -> Result<Defined, AllocError>
     requires { AllBelow clauses.old.vars lits.now }
-    ensures { IfOk result (λ value. by_cover clauses.old (Some lits.now) ≡ record {
+    ensures built { IfOk result (λ value. by_cover clauses.old (Some lits.now) ≡ record {
       list =
           clauses.new;
       answer = value;
     }) }
+    ensures extends { Extends clauses.old clauses.new }
 {
     match lits {
         [] => Ok(Defined::Known(false)),
@@ -114,11 +120,12 @@ fn by_cover(alloc: Global, clauses: &mut ClauseList, lits: &[Lit]) -> Result<Def
 // A literal that is true where some literal of the list is.
 fn cover(alloc: Global, clauses: &mut ClauseList, lits: &[Lit]) -> Result<Lit, AllocError>
     requires { AllBelow clauses.old.vars lits.now }
-    ensures { IfOk result (λ lit. cover_on clauses.old lits.now ≡ record {
+    ensures built { IfOk result (λ lit. cover_on clauses.old lits.now ≡ record {
       list =
           clauses.new;
       answer = lit;
     }) }
+    ensures extends { Extends clauses.old clauses.new }
 {
     let lit = define_cover(alloc, clauses, lits)?;
     Ok(lit)

@@ -1,10 +1,11 @@
 //! Formulas are asked for.
-ghost use Rattle.std.specs.Prelude.{◌≡◌, true, OnOk};
+ghost use Rattle.std.specs.Prelude.{◌≡◌, true, OnOk, OnErr};
 ghost use Rattle.clause_store.specs.declared.Label.TheVariants.{Demand as DemandOf};
 ghost use Rattle.clause_store.specs.Lits.{AllBelow};
 ghost use Rattle.gate_plans.specs.Growth.{Says, where_asked};
 ghost use Rattle.clause_formulas.specs.Statements.{SaidBelow, any_of, eval};
-ghost use Rattle.clause_formulas.specs.Built.{with_draft, assert_on, demand_on, demand_all_on, demands_true};
+ghost use Rattle.clause_formulas.specs.Built.{with_draft, assert_on, claimed, demand_on, demand_all_on, demands_true};
+ghost use Rattle.clause_formulas.specs.Allowed.{Allows};
 
 use crate::asked::ask_any;
 use crate::defined::{Defined, Draft};
@@ -15,8 +16,8 @@ use std::alloc::{AllocError, Global};
 
 /// Adds clauses with a label that hold exactly where the formula is true.
 ///
-/// An all-of is asserted part by part, and an any-of as one clause. After want of memory nothing is
-/// said of the list.
+/// An all-of is asserted part by part, and an any-of as one clause. After want of memory the list may
+/// have grown by some of the clauses.
 pub fn assert(
     alloc: Global,
     clauses: &mut ClauseList,
@@ -27,12 +28,15 @@ pub fn assert(
     ensures built { OnOk result (assert_on label clauses.old true formula.now ≡ clauses.new) }
     ensures says { OnOk result (Says clauses.old clauses.new
         (where_asked label (λ v. eval v formula.now))) }
+    ensures allows { Allows clauses.old clauses.new
+        (λ asked v. where_asked label (λ w. eval w formula.now) asked v ≡ true) }
 {
     claim(alloc, clauses, true, formula, label)
 }
 
 /// Defines the formula's value, and adds the clause of this value alone for a demand. A demand that
-/// always holds gets no clause, and one that never does the empty clause.
+/// always holds gets no clause, and one that never does the empty clause. After want of memory the
+/// list may have grown by definitions.
 pub fn demand(
     alloc: Global,
     clauses: &mut ClauseList,
@@ -43,6 +47,8 @@ pub fn demand(
     ensures built { OnOk result (demand_on clauses.old formula.now id ≡ clauses.new) }
     ensures says { OnOk result (Says clauses.old clauses.new
         (where_asked (DemandOf id) (λ v. eval v formula.now))) }
+    ensures allows { Allows clauses.old clauses.new
+        (λ asked v. where_asked (DemandOf id) (λ w. eval w formula.now) asked v ≡ true) }
 {
     let value = define(alloc, clauses, formula)?;
     let mut draft = Draft::new(alloc);
@@ -50,7 +56,8 @@ pub fn demand(
     add_draft(alloc, clauses, &draft, Label::Demand(id))
 }
 
-/// Demands with the ids 0, 1, 2 and so on.
+/// Demands with the ids 0, 1, 2 and so on. After want of memory the list may have grown by some of
+/// them.
 pub fn demand_all(
     alloc: Global,
     clauses: &mut ClauseList,
@@ -60,6 +67,8 @@ pub fn demand_all(
     ensures built { OnOk result (demand_all_on clauses.old 0 formulas.now ≡ clauses.new) }
     ensures says { OnOk result (Says clauses.old clauses.new
         (λ asked v. demands_true asked v 0 formulas.now)) }
+    ensures allows { Allows clauses.old clauses.new
+        (λ asked v. demands_true asked v 0 formulas.now ≡ true) }
 {
     for (i, formula) in formulas.iter().enumerate() {
         demand(alloc, clauses, formula, i as u64)?;
@@ -77,7 +86,9 @@ fn claim(
     label: Label,
 ) -> Result<(), AllocError>
     requires { SaidBelow clauses.old.vars formula.now }
-    ensures { OnOk result (assert_on label clauses.old sign formula.now ≡ clauses.new) }
+    ensures built { OnOk result (assert_on label clauses.old sign formula.now ≡ clauses.new) }
+    ensures allows { Allows clauses.old clauses.new
+        (λ asked v. where_asked label (λ w. claimed sign (eval w formula.now)) asked v ≡ true) }
 {
     match &formula.node {
         Node::Atom(lit) => {
@@ -100,7 +111,10 @@ fn claim_any(
     label: Label,
 ) -> Result<(), AllocError>
     requires { SaidBelow clauses.old.vars (any_of parts.now) }
-    ensures { OnOk result (assert_on label clauses.old sign (any_of parts.now) ≡ clauses.new) }
+    ensures built { OnOk result (assert_on label clauses.old sign (any_of parts.now) ≡ clauses.new) }
+    ensures allows { Allows clauses.old clauses.new
+        (λ asked v. where_asked label (λ w. claimed sign (eval w (any_of parts.now))) asked v
+        ≡ true) }
 {
     if sign {
         let mut draft = Draft::new(alloc);
@@ -113,7 +127,7 @@ fn claim_any(
     Ok(())
 }
 
-// Adds the clause of a draft, if it doesn't always hold.
+// Adds the clause of a draft, if it doesn't always hold. After an error the list is as it was.
 fn add_draft(
     alloc: Global,
     clauses: &mut ClauseList,
@@ -121,7 +135,8 @@ fn add_draft(
     label: Label,
 ) -> Result<(), AllocError>
     requires { AllBelow clauses.old.vars draft.now.lits }
-    ensures { OnOk result (clauses.new ≡ with_draft clauses.old label draft.now) }
+    ensures built { OnOk result (clauses.new ≡ with_draft clauses.old label draft.now) }
+    ensures err { OnErr result (clauses.new ≡ clauses.old) }
 {
     if draft.always() {
         return Ok(());

@@ -1,7 +1,8 @@
-use Rattle.std.proofs.Common.{◌<◌, length, subst, sym, ap, ◌∙◌, arith}
+use Rattle.std.proofs.Common.{◌<◌, length, subst, sym, ap, refl, ◌∙◌, arith}
 use Rattle.std.proofs.lemmas.Grind.{common_steps}
 use Rattle.clause_formulas.specs.Statements.{any_of, no, weight, SaidBelow}
 use Rattle.clause_formulas.specs.Nodes.{said}
+use Rattle.gate_plans.proofs.Composed.{Extends-refl, Extends-trans}
 use Rattle.clause_formulas.proofs.SpreadSteps.{ask_at, weight-at, SaidBelow-at}
 use Rattle.clause_formulas.proofs.asked.+ask.Goals as goal
 
@@ -21,7 +22,7 @@ ask_any-ask-requires t c =
       omega (arith, weight-at c.args.parts.now c.loop-part.part-index c.part-item.result h c.part-item.is),
       (
         SaidBelow-at c.args.clauses.now.vars c.loop-part.clauses.vars c.args.parts.now c.loop-part.part-index c.part-item.result
-            c.loop-part.invariant.more h c.part-item.is c.requires.parts_below,
+            c.loop-part.invariant.extends.grows.more h c.part-item.is c.requires.parts_below,
         c.loop-part.invariant.below,
       ),
     )
@@ -30,10 +31,19 @@ pub ask_any-loop-part-preserved : goal.ask_any-loop-part-preserved
 ask_any-loop-part-preserved t c =
     let a = ask_at c.loop-part.clauses _ c.loop-part.draft _ c.part-item.result c.loop-part.invariant.below
     (SaidBelow-at c.args.clauses.now.vars c.loop-part.clauses.vars c.args.parts.now c.loop-part.part-index c.part-item.result
-    c.loop-part.invariant.more (omega arith) c.part-item.is c.requires.parts_below)
-    c.in_ok-ask.ensures in
+    c.loop-part.invariant.extends.grows.more (omega arith) c.part-item.is c.requires.parts_below)
+    c.in_ok-ask.ensures.built in
     record {
       rest = grind (arith, common_steps);
       below = a.below;
-      more = omega (arith, a.grows.more, c.loop-part.invariant.more);
+      extends = Extends-trans _ _ _ c.loop-part.invariant.extends c.ask.ensures.extends;
     }
+
+pub ask-returns-in-Atom-clause-extends : goal.ask-returns-in-Atom-clause-extends
+ask-returns-in-Atom-clause-extends t c = Extends-refl c.args.clauses.now
+
+pub ask_any-loop-part-init : goal.ask_any-loop-part-init
+ask_any-loop-part-init t c = record { rest = refl; below = c.requires.draft_below; extends = Extends-refl c.args.clauses.now }
+
+pub ask_any-returns-in_err-ask-clause-extends : goal.ask_any-returns-in_err-ask-clause-extends
+ask_any-returns-in_err-ask-clause-extends t c = Extends-trans _ _ _ c.loop-part.invariant.extends c.ask.ensures.extends

@@ -6,6 +6,7 @@ use Rattle.clause_formulas.specs.declared.defined.Defined.TheVariants.{Known}
 use Rattle.clause_formulas.specs.Drafts.{Draft}
 use Rattle.clause_formulas.specs.Built.{covered_on, by_cover}
 use Rattle.clause_store.proofs.Meaning.{AllBelow-clause_of}
+use Rattle.gate_plans.proofs.Composed.{Extends-refl}
 use Rattle.clause_formulas.proofs.asked.covered.Goals as goal
 
 covered-always : (s : Clauses) (d : Draft) → d.always ≡ true → covered_on s d ≡ record { list = s; answer = Known true }
@@ -17,11 +18,11 @@ covered-clause : (s : Clauses) (d : Draft) (ls : List Lit) (o : Option (List Lit
 unfolding covered_on
 covered-clause s d ls o e f q = rw (e, q, f) refl
 
-pub returns-then-always : goal.returns-then-always
-returns-then-always c = covered-always c.args.clauses.now c.args.draft.now (sym c.always.ensures ∙ c.if-always.true)
+pub returns-then-always-clause-built : goal.returns-then-always-clause-built
+returns-then-always-clause-built c = covered-always c.args.clauses.now c.args.draft.now (sym c.always.ensures ∙ c.if-always.true)
 
-pub returns-in-None : goal.returns-in-None
-returns-in-None c = covered-clause c.args.clauses.now c.args.draft.now _ None (sym c.always.ensures ∙ c.if-always.false) c.lits.ensures
+pub returns-in-None-clause-built : goal.returns-in-None-clause-built
+returns-in-None-clause-built c = covered-clause c.args.clauses.now c.args.draft.now _ None (sym c.always.ensures ∙ c.if-always.false) c.lits.ensures
     (sym c.in-None.is ∙ c.in_ok-new.ensures)
 
 pub by_cover-requires : goal.by_cover-requires
@@ -30,8 +31,17 @@ by_cover-requires c =
     (AllBelow-clause_of c.args.clauses.now.vars c.lits.result.now _
     (subst (AllBelow c.args.clauses.now.vars) (sym c.lits.ensures) c.requires) (sym c.in_ok-new.ensures ∙ c.in-Some.is))
 
-pub returns-in-Some : goal.returns-in-Some
-returns-in-Some c =
+pub returns-in-Some-clause-built : goal.returns-in-Some-clause-built
+returns-in-Some-clause-built c =
     let e = covered-clause c.args.clauses.now c.args.draft.now _ (Some c.lits-in-Some.result.now) (sym c.always.ensures ∙ c.if-always.false)
     c.lits.ensures (ap Some c.lits-in-Some.ensures.value ∙ sym c.in-Some.is ∙ c.in_ok-new.ensures) in
-    subst (λ m. IfOk c.by_cover.result (λ value. m ≡ record { list = c.by_cover.new.clauses; answer = value })) (sym e) c.by_cover.ensures
+    subst (λ m. IfOk c.by_cover.result (λ value. m ≡ record { list = c.by_cover.new.clauses; answer = value })) (sym e) c.by_cover.ensures.built
+
+pub returns-then-always-clause-extends : goal.returns-then-always-clause-extends
+returns-then-always-clause-extends c = Extends-refl c.args.clauses.now
+
+pub returns-in_err-new-clause-extends : goal.returns-in_err-new-clause-extends
+returns-in_err-new-clause-extends c = Extends-refl c.args.clauses.now
+
+pub returns-in-None-clause-extends : goal.returns-in-None-clause-extends
+returns-in-None-clause-extends c = Extends-refl c.args.clauses.now

@@ -1,12 +1,14 @@
-use Rattle.std.proofs.Common.{◌≡◌, ◌+◌, ◌*◌, ◌≤◌, false, drop}
+use Rattle.std.proofs.Common.{◌≡◌, ◌+◌, ◌*◌, false, drop}
 use Rattle.clause_formulas.specs.Statements.{any_of, weight}
 use Rattle.clause_formulas.specs.Built.{assert_on}
+use Rattle.clause_formulas.specs.Allowed.{Allows}
+use Rattle.clause_formulas.proofs.AllowLaws.{claims}
 use Rattle.clause_formulas.proofs.claims.+claim.Given as goal
 
 abbrev pub invariant-claim_any-loop-part : goal.invariant-claim_any-loop-part
 invariant-claim_any-loop-part l = record {
   rest : assert_on l.label l.clauses false (any_of (drop l.part-index l.parts)) ≡ assert_on l.label l.fn.clauses false (any_of l.parts);
-  more : l.fn.clauses.vars ≤ l.clauses.vars;
+  allows : Allows l.fn.clauses l.clauses (claims l.label false (any_of l.parts));
 }
 
 abbrev pub decreases-claim : goal.decreases-claim
