@@ -25,7 +25,7 @@ assert_all-none s = refl
 pub AllSaidBelow-le : (m n : ℕ) (fs : List Statement) → m ≤ n → AllSaidBelow m fs → AllSaidBelow n fs
 AllSaidBelow-le m n fs h b = SaidBelow-le m n (any_of fs) h b
 
-all-agree : (n : ℕ) (v w : ℕ → Bool) → Agree n v w → (fs : List Statement) → AllSaidBelow n fs → list_all (eval v) fs ≡ list_all (eval w) fs
+pub all-agree : (n : ℕ) (v w : ℕ → Bool) → Agree n v w → (fs : List Statement) → AllSaidBelow n fs → list_all (eval v) fs ≡ list_all (eval w) fs
 all-agree n v w a [] b = refl
 all-agree n v w a (f ∷ fs) b = rw (eval-agree n v w a f b.0, all-agree n v w a fs b.1) refl
 

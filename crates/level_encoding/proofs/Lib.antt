@@ -12,4 +12,5 @@ pub mod AssertedLaws
 pub mod RuleLaws
 pub mod Sound
 pub mod Complete
+pub mod OpenLaws
 pub mod Told

@@ -2,9 +2,10 @@
 
 ghost use Rattle.std.specs.Prelude.{◌≡◌, ◌+◌, ◌<◌, ◌≤◌, ◌++◌, ◌^◌, true, OnOk};
 ghost use Rattle.clause_formulas.specs.Statements.{atom};
-ghost use Rattle.level_encoding.specs.Composed.{rising, row};
+ghost use Rattle.clause_formulas.specs.Allowed.{Allows};
+ghost use Rattle.level_encoding.specs.Composed.{rising, row, Meets};
 ghost use Rattle.level_encoding.specs.Input.{IsRight, numbers};
-ghost use Rattle.level_encoding.specs.Encoding.{level, is_inside, turns, turn_start, arc_rules, arcs_rules, end};
+ghost use Rattle.level_encoding.specs.Encoding.{level, is_inside, turns, turn_start, arc_rules, arcs_rules, constraints, end};
 ghost use Rattle.level_encoding.specs.Asserted.{assert_all};
 ghost use Rattle.level_encoding.specs.Laws.{AllSaidBelow};
 ghost use Rattle.level_encoding.specs.Plan.{IsPlan};
@@ -122,6 +123,8 @@ fn assert_arc(
     requires below { AllSaidBelow clauses.old.vars (arc_rules input.now turn arc.now) }
     ensures built { OnOk result (clauses.new ≡ assert_all clauses.old (arc_rules input.now turn arc.now)) }
     ensures more { OnOk result (clauses.old.vars ≤ clauses.new.vars) }
+    ensures allows { Allows clauses.old clauses.new
+        (λ asked v. Meets v (arc_rules input.now turn arc.now)) }
 {
     let mut rules = Vec::new(alloc);
     add_rules(alloc, input, plan, arc, turn, &mut rules)?;
@@ -143,6 +146,8 @@ pub(crate) fn assert_arcs(
     ensures built { OnOk result (clauses.new
         ≡ assert_all clauses.old (arcs_rules input.now (turn_start input.now) input.now.arcs)) }
     ensures more { OnOk result (clauses.old.vars ≤ clauses.new.vars) }
+    ensures allows { Allows clauses.old clauses.new
+        (λ asked v. Meets v (constraints input.now)) }
 {
     let mut turn = plan.turns;
     for arc in input.arcs() {

@@ -1,10 +1,11 @@
 //! Levels and paths as clauses.
-ghost use Rattle.std.specs.Prelude.{◌≡◌, ◌+◌, ◌*◌, ◌<◌, ◌^◌, length, IfOk, IfSome, IsTrue, OnOk};
+ghost use Rattle.std.specs.Prelude.{◌≡◌, ◌+◌, ◌*◌, ◌<◌, ◌^◌, ◌≤◌, length, IfOk, IfSome, IfNone, IsTrue, OnOk};
 ghost use Rattle.std.specs.List.{All};
+ghost use Rattle.clause_formulas.specs.Allowed.{Allows};
 ghost use Rattle.level_encoding.specs.Input.{IsRight, numbers, input_of};
 ghost use Rattle.level_encoding.specs.Encoding.{paths_of, end};
 ghost use Rattle.level_encoding.specs.Asserted.{levels_on};
-ghost use Rattle.level_encoding.specs.Laws.{KeepsLevels};
+ghost use Rattle.level_encoding.specs.Laws.{KeepsLevels, IsSound};
 ghost use Rattle.level_encoding.specs.Plan.{IsPlan};
 
 use crate::arc_rules::{assert_arcs, end_of};
@@ -23,7 +24,8 @@ use std::alloc::{AllocError, Global};
 /// Numbers are places in `nodes`, whose literals choose them. The promises on cycles, founded nodes
 /// and paths are of models in which a chosen arc's parent is chosen. New variables are at most two
 /// for each pair of numbers and one for each arc and number; where with the old ones they could be
-/// 2^63, as where there are 2^32 numbers, there is no memory for them.
+/// 2^63, as where there are 2^32 numbers, there is no memory for them. After want of memory the list
+/// may have grown by some of them and some of the clauses.
 pub fn levels(
     alloc: Global,
     clauses: &mut ClauseList,
@@ -44,6 +46,8 @@ pub fn levels(
     ensures levels { IfOk result (λ paths. let s =
         input_of nodes.now roots.now arcs.now asked.now clauses.old.vars in
         KeepsLevels s clauses.old clauses.new paths.items) }
+    ensures allows { let s = input_of nodes.now roots.now arcs.now asked.now clauses.old.vars in
+        Allows clauses.old clauses.new (λ asked v. IsSound s v) }
 {
     let input = LevelInput::new(nodes, roots, arcs, asked, clauses.vars());
     if !has_room(&input) {
@@ -60,6 +64,9 @@ pub fn levels(
 fn has_room(input: &LevelInput) -> bool
     ensures few { IsTrue result → numbers input.now < 2 ^ 32 }
     ensures room { IsTrue result → end input.now < 2 ^ 63 }
+    ensures enough { numbers input.now < 2 ^ 32 → input.now.first
+        + 2 * (numbers input.now * numbers input.now)
+        + length input.now.arcs * numbers input.now < 2 ^ 63 → IsTrue result }
 {
     let numbers = input.size() as u64;
     numbers < 1 << 32 && most(input.first(), numbers, input.arcs().len() as u64).is_some()
@@ -67,8 +74,9 @@ fn has_room(input: &LevelInput) -> bool
 
 // How many variables there can be: None for 2^63 and more.
 fn most(first: u64, numbers: u64, arcs: u64) -> Option<u64>
-    ensures { IfSome result (λ most. (most ≡ first + 2 * (numbers * numbers) + arcs * numbers)
+    ensures some { IfSome result (λ most. (most ≡ first + 2 * (numbers * numbers) + arcs * numbers)
         × (most < 2 ^ 63)) }
+    ensures none { IfNone result (2 ^ 63 ≤ first + 2 * (numbers * numbers) + arcs * numbers) }
 {
     let pairs = numbers.checked_mul(numbers)?;
     let twice = pairs.checked_mul(2)?;
@@ -88,7 +96,8 @@ fn assert_input(
     requires plan { IsPlan input.now plan.now }
     requires room { end input.now < 2 ^ 63 }
     requires first { input.now.first ≡ clauses.old.vars }
-    ensures { OnOk result (clauses.new ≡ levels_on input.now clauses.old) }
+    ensures built { OnOk result (clauses.new ≡ levels_on input.now clauses.old) }
+    ensures allows { Allows clauses.old clauses.new (λ asked v. IsSound input.now v) }
 {
     add_vars(clauses, end_of(input, plan) - clauses.vars())?;
     assert_arcs(alloc, input, plan, clauses)?;

@@ -3,8 +3,10 @@
 ghost use Rattle.std.specs.Prelude.{◌≡◌, ◌<◌, ◌≤◌, ◌++◌, ◌∷◌, IfOk, OnOk, map};
 ghost use Rattle.std.specs.List.{flat_map};
 ghost use Rattle.clause_formulas.specs.Statements.{atom, any_of, opposite};
+ghost use Rattle.clause_formulas.specs.Allowed.{Allows};
+ghost use Rattle.level_encoding.specs.Composed.{Meets};
 ghost use Rattle.level_encoding.specs.Input.{IsRight, numbers, node, is_root};
-ghost use Rattle.level_encoding.specs.Encoding.{below, node_rules, end};
+ghost use Rattle.level_encoding.specs.Encoding.{below, node_rules, constraints, end};
 ghost use Rattle.level_encoding.specs.Asserted.{assert_all};
 ghost use Rattle.level_encoding.specs.Plan.{IsPlan};
 
@@ -75,6 +77,7 @@ fn assert_node(
     requires made { end input.now ≤ clauses.old.vars }
     ensures built { OnOk result (clauses.new ≡ assert_all clauses.old (node_rules input.now i)) }
     ensures more { OnOk result (clauses.old.vars ≤ clauses.new.vars) }
+    ensures allows { Allows clauses.old clauses.new (λ asked v. Meets v (node_rules input.now i)) }
 {
     let mut rules = Vec::new(alloc);
     add_rules(alloc, input, plan, i, &mut rules)?;
@@ -96,6 +99,8 @@ pub(crate) fn assert_nodes(
     ensures built { OnOk result (clauses.new
         ≡ assert_all clauses.old (flat_map (node_rules input.now) (below (numbers input.now)))) }
     ensures more { OnOk result (clauses.old.vars ≤ clauses.new.vars) }
+    ensures allows { Allows clauses.old clauses.new
+        (λ asked v. Meets v (constraints input.now)) }
 {
     for i in 0..input.size() {
         assert_node(alloc, input, plan, i, clauses)?;

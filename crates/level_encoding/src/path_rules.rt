@@ -3,8 +3,10 @@
 ghost use Rattle.std.specs.Prelude.{◌≡◌, ◌<◌, ◌≤◌, ◌++◌, ◌∷◌, [], IfOk, OnOk, map, if◌then◌else◌};
 ghost use Rattle.std.specs.List.{All, flat_map};
 ghost use Rattle.clause_formulas.specs.Statements.{any_of, opposite};
+ghost use Rattle.clause_formulas.specs.Allowed.{Allows};
+ghost use Rattle.level_encoding.specs.Composed.{Meets};
 ghost use Rattle.level_encoding.specs.Input.{IsRight, numbers, literal_at};
-ghost use Rattle.level_encoding.specs.Encoding.{below, leads, leaving, begins, way_rules, path_rules, way, path, end};
+ghost use Rattle.level_encoding.specs.Encoding.{below, leads, leaving, begins, way_rules, path_rules, way, path, constraints, end};
 ghost use Rattle.level_encoding.specs.Asserted.{assert_all};
 ghost use Rattle.level_encoding.specs.Plan.{IsPlan};
 
@@ -158,6 +160,8 @@ fn assert_way(
     ensures built { OnOk result (clauses.new
         ≡ assert_all clauses.old (if leads input.now q p then way_rules input.now q p else [])) }
     ensures more { OnOk result (clauses.old.vars ≤ clauses.new.vars) }
+    ensures allows { Allows clauses.old clauses.new
+        (λ asked v. Meets v (if leads input.now q p then way_rules input.now q p else [])) }
 {
     if !has_way(input, plan, q, p) {
         return Ok(());
@@ -183,6 +187,8 @@ fn assert_target(
     requires made { end input.now ≤ clauses.old.vars }
     ensures built { OnOk result (clauses.new ≡ assert_all clauses.old (path_rules input.now q)) }
     ensures more { OnOk result (clauses.old.vars ≤ clauses.new.vars) }
+    ensures allows { Allows clauses.old clauses.new
+        (λ asked v. Meets v (constraints input.now)) }
 {
     for p in 0..input.size() {
         assert_way(alloc, input, plan, q, p, clauses)?;
@@ -204,6 +210,8 @@ pub(crate) fn assert_paths(
     ensures built { OnOk result (clauses.new
         ≡ assert_all clauses.old (flat_map (path_rules input.now) (below (numbers input.now)))) }
     ensures more { OnOk result (clauses.old.vars ≤ clauses.new.vars) }
+    ensures allows { Allows clauses.old clauses.new
+        (λ asked v. Meets v (constraints input.now)) }
 {
     for q in 0..input.size() {
         assert_target(alloc, input, plan, q, clauses)?;

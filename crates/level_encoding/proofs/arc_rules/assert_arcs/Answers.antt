@@ -2,6 +2,8 @@ use Rattle.std.proofs.Common.{◌+◌, ap, ◌∙◌, arith}
 use Rattle.std.specs.List.{sum_by}
 use Rattle.level_encoding.specs.Asserted.{assert_all}
 use Rattle.level_encoding.specs.Encoding.{turns, turn_start, arcs_rules}
+use Rattle.clause_formulas.proofs.AllowLaws.{Allows-refl, Allows-then}
+use Rattle.level_encoding.proofs.OpenLaws.{arcs-kept, arcs-left, arc-open}
 use Rattle.level_encoding.proofs.RuleLaws.{arcs_rules-all, arcs_rules-step, turns-step, arc-below-at, end-is}
 use Rattle.level_encoding.proofs.arc_rules.assert_arcs.Goals as goal
 
@@ -19,6 +21,8 @@ loop-arc-init c =
       turns_left = ap (λ x. x + sum_by (turns s) arcs) c.requires.plan.turns
           ∙ ap (λ xs. turn_start s + sum_by (turns s) xs) c.arcs-arc-items.ensures ∙ end-is s;
       more = omega arith;
+      left = arcs-kept s _ arcs c.requires.plan.turns c.arcs-arc-items.ensures;
+      allows = Allows-refl c.args.clauses.now _;
     }
 
 pub loop-arc-preserved : goal.loop-arc-preserved
@@ -30,6 +34,12 @@ loop-arc-preserved c =
       turns_left = turns-step s c.loop-arc.turn c.turns.result c.loop-arc.arc-index arcs _ c.loop-arc-test.true c.turns.ensures
           c.loop-arc.invariant.turns_left;
       more = omega (arith, c.loop-arc.invariant.more, c.in_ok-assert_arc.ensures.more);
+      left = arcs-left s c.loop-arc.turn c.turns.result c.loop-arc.arc-index arcs _ c.loop-arc-test.true c.turns.ensures
+          c.loop-arc.invariant.left;
+      allows =
+          Allows-then _ _ _ _ _ c.loop-arc.invariant.allows c.assert_arc.ensures.allows
+          (arc-open c.args.input.now c.args.clauses.now.vars c.loop-arc.turn c.loop-arc.arc-index c.arcs-arc-items.result.now _ c.requires.right
+          c.requires.made c.loop-arc-test.true c.loop-arc.invariant.left);
     }
 
 pub returns-clause-built : goal.returns-clause-built
@@ -38,3 +48,9 @@ returns-clause-built c =
     arcs_rules-all s c.loop-arc.turn c.loop-arc.arc-index c.arcs-arc-items.result.now c.loop-arc.clauses _ c.loop-arc-test.false
     c.loop-arc.invariant.rest
     ∙ ap (λ xs. assert_all c.args.clauses.now (arcs_rules s (turn_start s) xs)) c.arcs-arc-items.ensures
+
+pub returns-in_err-assert_arc-clause-allows : goal.returns-in_err-assert_arc-clause-allows
+returns-in_err-assert_arc-clause-allows c =
+    Allows-then _ _ _ _ _ c.loop-arc.invariant.allows c.assert_arc.ensures.allows
+    (arc-open c.args.input.now c.args.clauses.now.vars c.loop-arc.turn c.loop-arc.arc-index c.arcs-arc-items.result.now _ c.requires.right
+    c.requires.made c.loop-arc-test.true c.loop-arc.invariant.left)
