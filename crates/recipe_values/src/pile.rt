@@ -1,6 +1,6 @@
 //! A list that grows and shrinks at its front.
 
-ghost use Rattle.std.specs.Prelude.{◌≡◌, [], ◌∷◌, ◌++◌, ◌==◌, length, drop, OnOk, MatchOption};
+ghost use Rattle.std.specs.Prelude.{◌≡◌, [], ◌∷◌, ◌++◌, ◌==◌, length, drop, OnOk, OnErr, MatchOption};
 ghost use Rattle.std.specs.Option.{option_copied};
 ghost use Rattle.std.specs.List.{slice_get};
 
@@ -73,14 +73,17 @@ impl<T: Drop> Pile<T> {
 
     /// Adds an element in front. After an error the list is as it was, without the element.
     pub fn push(&mut self, value: T) -> Result<(), AllocError>
-        ensures { OnOk result (self.new ≡ value ∷ self.old) }
+        ensures ok { OnOk result (self.new ≡ value ∷ self.old) }
+        ensures err { OnErr result (self.new ≡ self.old) }
     {
         self.items.push_front(value)?;
         Ok(())
     }
+
     /// Adds an element behind all others. After an error the list is as it was, without the element.
     pub fn push_last(&mut self, value: T) -> Result<(), AllocError>
-        ensures { OnOk result (self.new ≡ self.old ++ value ∷ []) }
+        ensures ok { OnOk result (self.new ≡ self.old ++ value ∷ []) }
+        ensures err { OnErr result (self.new ≡ self.old) }
     {
         self.items.push_back(value)?;
         Ok(())
