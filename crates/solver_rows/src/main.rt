@@ -9,6 +9,7 @@ mod input;
 mod least;
 mod logs;
 mod output;
+mod pairs;
 mod steps;
 mod trails;
 
@@ -33,6 +34,7 @@ fn answer(alloc: Global, line: &str) -> Result<Vec<u8>, AllocError> {
         ["within", budget, vars, rest @ ..] => least::answer_within(alloc, budget, vars, rest),
         ["log", piece, vars, rest @ ..] => logs::answer(alloc, piece, vars, rest),
         ["solve", budget, vars, rest @ ..] => steps::answer(alloc, budget, vars, rest),
+        ["pairs", count, lit] => pairs::answer(alloc, count, lit),
         ["watch", vars, rest @ ..] => trails::answer(alloc, vars, rest),
         _ => Ok(Vec::new(alloc)),
     }

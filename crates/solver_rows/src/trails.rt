@@ -30,7 +30,7 @@ fn answer_over(alloc: Global, watch: &mut Watch, decisions: &[Lit]) -> Result<Ve
 
 /// Propagates, decides if nothing is false, and propagates again; says the trail with levels and reasons, and whether
 /// no clause is false.
-fn go_on(
+pub fn go_on(
     alloc: Global,
     text: &mut Vec<u8>,
     watch: &mut Watch,
