@@ -9,6 +9,7 @@ use plain_data::Word;
 use problem::Problem;
 use reuse_db::Record;
 use std::alloc::{AllocError, Global};
+use std::thread::Threads;
 
 /// The parts of the next problem, the problem that was put together last, and the graph.
 #[derive(Drop)]
@@ -39,9 +40,13 @@ impl Case {
         drop(std::mem::replace(&mut self.graph, Graph::new(alloc)));
     }
 
-    fn put_together(&mut self, alloc: Global) -> Result<bool, AllocError> {
+    fn put_together<R: Threads + Sync>(
+        &mut self,
+        rt: &R,
+        alloc: Global,
+    ) -> Result<bool, AllocError> {
         self.begin_graph(alloc);
-        let problem = self.draft.problem(alloc)?;
+        let problem = self.draft.problem(rt, alloc)?;
         self.draft.clear(alloc);
         let is_there = problem.is_some();
         drop(std::mem::replace(&mut self.problem, problem));
@@ -126,11 +131,16 @@ impl Case {
     }
 
     // Lines of a graph.
-    fn take_words(&mut self, alloc: Global, words: &[&str]) -> Result<Option<String>, AllocError> {
+    fn take_words<R: Threads + Sync>(
+        &mut self,
+        rt: &R,
+        alloc: Global,
+        words: &[&str],
+    ) -> Result<Option<String>, AllocError> {
         match words {
             [] => Ok(None),
             [what] if *what == "problem" => {
-                let taken = self.put_together(alloc)?;
+                let taken = self.put_together(rt, alloc)?;
                 answered(alloc, taken)
             }
             [what] if *what == "same" => {
@@ -177,7 +187,12 @@ impl Case {
     }
 
     /// Takes a line; what it answers.
-    pub fn take_line(&mut self, alloc: Global, line: &str) -> Result<Option<String>, AllocError> {
+    pub fn take_line<R: Threads + Sync>(
+        &mut self,
+        rt: &R,
+        alloc: Global,
+        line: &str,
+    ) -> Result<Option<String>, AllocError> {
         let (what, rest) = line.split_once(' ').unwrap_or((line, ""));
         if what == "#" {
             return Ok(Some(String::from_str(alloc, line)?));
@@ -186,6 +201,6 @@ impl Case {
             return answered(alloc, taken);
         }
         let words: Vec<&str> = line.split_whitespace().collect(alloc)?;
-        self.take_words(alloc, words.as_slice())
+        self.take_words(rt, alloc, words.as_slice())
     }
 }

@@ -18,6 +18,7 @@ use site_settings::Settings;
 use spec_grammar::{Spec, SpecFault, read_specs};
 use spec_hash::Hash;
 use std::alloc::{AllocError, Global};
+use std::thread::Threads;
 
 /// What was given so far.
 #[derive(Drop)]
@@ -29,11 +30,15 @@ pub struct Draft {
     roots: List<Spec>,
 }
 
-fn recipes_of(alloc: Global, files: &[RecipeFile]) -> Result<Option<List<Recipe>>, AllocError>
+fn recipes_of<R: Threads + Sync>(
+    rt: &R,
+    alloc: Global,
+    files: &[RecipeFile],
+) -> Result<Option<List<Recipe>>, AllocError>
     ensures { IfOk result (λ recipes. IfSome recipes
         (λ recipes. list_all is_right_recipe recipes ≡ true)) }
 {
-    match read_recipes(alloc, files) {
+    match read_recipes(rt, alloc, files) {
         Ok(recipes) => Ok(Some(recipes)),
         Err((_, RecipeFault::OutOfMemory)) => Err(AllocError),
         Err(_) => Ok(None),
@@ -149,8 +154,12 @@ impl Draft {
     }
 
     /// The problem of these parts, where they may be put together, which takes them.
-    pub fn problem(&mut self, alloc: Global) -> Result<Option<Problem>, AllocError> {
-        match recipes_of(alloc, self.files.as_slice())? {
+    pub fn problem<R: Threads + Sync>(
+        &mut self,
+        rt: &R,
+        alloc: Global,
+    ) -> Result<Option<Problem>, AllocError> {
+        match recipes_of(rt, alloc, self.files.as_slice())? {
             Some(recipes) => self.of_recipes(alloc, recipes),
             None => Ok(None),
         }

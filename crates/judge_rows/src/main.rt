@@ -17,11 +17,15 @@ mod parts;
 mod read;
 
 use crate::case::Case;
+use std::thread::Threads;
 
 // The case is the caller's, so that no early return drops it.
-fn answer_lines(rt: &HostRuntime, case: &mut Case) -> anyhow::Result<()> {
+fn answer_lines<R: Input + Print + AllocGlobal + Threads + Sync>(
+    rt: &R,
+    case: &mut Case,
+) -> anyhow::Result<()> {
     for line in rt.lines(rt.alloc()) {
-        if let Some(text) = case.take_line(rt.alloc(), line?.as_str())? {
+        if let Some(text) = case.take_line(rt, rt.alloc(), line?.as_str())? {
             println!(rt; "{text}")?;
         }
     }

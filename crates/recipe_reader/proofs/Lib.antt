@@ -6,3 +6,4 @@ pub mod HeadLaws
 pub mod RowLaws
 pub mod KeptLaws
 pub mod FileLaws
+pub mod PartLaws

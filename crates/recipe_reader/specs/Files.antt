@@ -1,5 +1,5 @@
 -- Recipes of files, one after the other.
-use Rattle.std.specs.Prelude.{◌≡◌, ℕ, List, map, take, Some, Ok, Err}
+use Rattle.std.specs.Prelude.{◌≡◌, ℕ, List, map, take, Result, Some, Ok, Err, IfOk, IfErr}
 use Rattle.std.specs.List.{slice_get}
 use Rattle.conditions.specs.declared.recipe.Recipe.{Recipe}
 use Rattle.recipe_reader.specs.declared.fault.RecipeFault.{RecipeFault}
@@ -23,3 +23,12 @@ pub record IsFirstFault (place : ℕ) (e : RecipeFault) (files : List RecipeFile
 abbrev pub FailsAt : ℕ → RecipeFault → List RecipeFile → Type 0
 FailsAt place fault.OutOfMemory files = Unit {0}
 FailsAt place e files = IsFirstFault place e files
+
+-- what reading files is answered by: the recipes, or the place of a file and its fault
+abbrev pub Answer : Type 0
+Answer = Result (List Recipe) (ℕ × RecipeFault)
+
+-- that is the answer of reading them one after the other
+pub record IsReadOf (files : List RecipeFile) (answer : Answer) : Type 0 where
+  pub found : IfOk answer (λ recipes. map recipe_in_file files ≡ map Ok recipes)
+  pub fault : IfErr answer (λ fault. FailsAt fault.0 fault.1 files)

@@ -8,6 +8,7 @@
 #![tactic(auto)]
 
 mod escape;
+mod files;
 mod show;
 mod show_recipe;
 mod stage;
@@ -16,6 +17,8 @@ mod values;
 
 use crate::stage::{Stage, answer};
 use crate::table::go_over;
+use std::rt::Files;
+use std::thread::Threads;
 use std::{env, fs, io};
 
 fn stage_of(word: &str) -> Stage {
@@ -28,9 +31,13 @@ fn stage_of(word: &str) -> Stage {
     }
 }
 
-fn print_file(rt: &HostRuntime, stage: Stage, path: &str) -> io::Result<()> {
+fn print_file<R: Files + AllocGlobal + Print + Threads + Sync>(
+    rt: &R,
+    stage: Stage,
+    path: &str,
+) -> io::Result<()> {
     let bytes = fs::read(rt, path)?;
-    let text = answer(rt.alloc(), stage, &bytes)?;
+    let text = answer(rt, stage, &bytes)?;
     println!(rt; "{text}")
 }
 
@@ -40,7 +47,11 @@ fn main(rt: HostRuntime) -> io::Result<()> {
         go_over(&rt, Stage::Tokens, "tokens.txt")?;
         go_over(&rt, Stage::Items, "items.txt")?;
         go_over(&rt, Stage::Values, "values.txt")?;
-        return go_over(&rt, Stage::Recipe, "recipes.txt");
+        go_over(&rt, Stage::Recipe, "recipes.txt")?;
+        for threads in [0, 1, 2, 3, 8, 100] {
+            go_over(&rt, Stage::Files(threads), "files.txt")?;
+        }
+        return Ok(());
     };
     for path in paths {
         print_file(&rt, stage_of(word.as_str()), path.as_str())?;

@@ -1,5 +1,6 @@
 //! The stages, and what they answer to a text.
 
+use crate::files::files_text;
 use crate::show::{items_text, lex_fault_text, statement_fault_text, tokens_text};
 use crate::show_recipe::{recipe_fault_text, recipe_text};
 use crate::values::values_text;
@@ -8,6 +9,7 @@ use recipe_lexer::{Token, lex};
 use recipe_reader::read_recipe;
 use recipe_statements::statements;
 use std::alloc::{AllocError, Global};
+use std::thread::Threads;
 
 /// What is shown of a text.
 #[derive(Clone, Copy)]
@@ -20,6 +22,8 @@ pub(crate) enum Stage {
     Values,
     /// Its recipe.
     Recipe,
+    /// The recipes of the files in it, read by so many threads.
+    Files(u64),
     /// How many tokens and items it has.
     Count,
 }
@@ -55,7 +59,15 @@ fn of_recipe(alloc: Global, bytes: &[u8]) -> Result<String, AllocError> {
 }
 
 /// What a stage answers to a text, or the first fault.
-pub(crate) fn answer(alloc: Global, stage: Stage, bytes: &[u8]) -> Result<String, AllocError> {
+pub(crate) fn answer<R: AllocGlobal + Threads + Sync>(
+    rt: &R,
+    stage: Stage,
+    bytes: &[u8],
+) -> Result<String, AllocError> {
+    let alloc = rt.alloc();
+    if let Stage::Files(threads) = stage {
+        return files_text(rt, threads, bytes);
+    }
     if let Stage::Recipe = stage {
         return of_recipe(alloc, bytes);
     }

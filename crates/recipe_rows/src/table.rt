@@ -5,6 +5,8 @@
 
 use crate::escape::unescaped;
 use crate::stage::{Stage, answer};
+use std::rt::Files;
+use std::thread::Threads;
 use std::{fs, io};
 
 /// What was met so far.
@@ -22,7 +24,7 @@ fn is_same(a: &str, b: &str) -> bool {
     a.split_whitespace().eq(b.split_whitespace())
 }
 
-fn compare(rt: &HostRuntime, tally: &mut Tally, wanted: &str) -> io::Result<()> {
+fn compare<R: Print>(rt: &R, tally: &mut Tally, wanted: &str) -> io::Result<()> {
     tally.rows = tally.rows.saturating_add(1);
     if is_same(tally.shown.as_str(), wanted) {
         return Ok(());
@@ -33,14 +35,19 @@ fn compare(rt: &HostRuntime, tally: &mut Tally, wanted: &str) -> io::Result<()> 
     println!(rt; "got    {shown}")
 }
 
-fn take_line(rt: &HostRuntime, stage: Stage, tally: &mut Tally, line: &str) -> io::Result<()> {
+fn take_line<R: Files + AllocGlobal + Print + Threads + Sync>(
+    rt: &R,
+    stage: Stage,
+    tally: &mut Tally,
+    line: &str,
+) -> io::Result<()> {
     if let Some(text) = line
         .strip_prefix("text «")
         .and_then(|rest| rest.strip_suffix("»"))
     {
-        tally.shown = answer(rt.alloc(), stage, &unescaped(rt.alloc(), text.as_bytes())?)?;
+        tally.shown = answer(rt, stage, &unescaped(rt.alloc(), text.as_bytes())?)?;
     } else if let Some(name) = line.strip_prefix("file ") {
-        tally.shown = answer(rt.alloc(), stage, &fs::read(rt, name)?)?;
+        tally.shown = answer(rt, stage, &fs::read(rt, name)?)?;
     } else if let Some(wanted) = line.strip_prefix("want ") {
         return compare(rt, tally, wanted);
     } else if let Some(name) = line.strip_prefix("want_file ") {
@@ -51,7 +58,11 @@ fn take_line(rt: &HostRuntime, stage: Stage, tally: &mut Tally, line: &str) -> i
 }
 
 /// Goes over a table, and prints what differs and how many rows there are.
-pub(crate) fn go_over(rt: &HostRuntime, stage: Stage, name: &str) -> io::Result<()> {
+pub(crate) fn go_over<R: Files + AllocGlobal + Print + Threads + Sync>(
+    rt: &R,
+    stage: Stage,
+    name: &str,
+) -> io::Result<()> {
     let text = fs::read_to_string(rt, name)?;
     let mut tally = Tally {
         shown: String::new(rt.alloc()),

@@ -24,6 +24,7 @@ use run_settings::{Command, ReadStop, Refusal, read_site};
 use site_settings::Settings;
 use spec_grammar::Spec;
 use std::alloc::Global;
+use std::thread::Threads;
 
 /// What a run reads.
 #[derive(Drop)]
@@ -150,7 +151,8 @@ fn read_behind<D: Desk>(
 
 /// The repository, and then what is behind it.
 #[tactic(auto, using(crate::proofs::Paths::of_repository))]
-fn read_over<D: Desk>(
+fn read_over<R: Threads + Sync, D: Desk>(
+    rt: &R,
     alloc: Global,
     desk: &mut D,
     command: &Command<'_>,
@@ -166,7 +168,7 @@ fn read_over<D: Desk>(
     ensures cause { Counts (D.faults desk.old) (D.faults desk.new) (EndsInReadFault result) }
     ensures put_faults { D.put_faults desk.new ≡ D.put_faults desk.old }
 {
-    match read_repository(alloc, desk, command.repo) {
+    match read_repository(rt, alloc, desk, command.repo) {
         Ok(recipes) => read_behind(alloc, desk, command, settings, recipes),
         Err(stop) => Err(stop),
     }
@@ -179,7 +181,8 @@ fn read_over<D: Desk>(
 /// The first refusal that is due, in the order of work: the settings, the listing and the reading of all recipe files,
 /// their parsing, the clash of names, the database, the specs, the roots, the closure. `Fault` where the desk failed.
 #[tactic(auto, using(crate::proofs::Paths::of_settings))]
-pub fn read_input<D: Desk>(
+pub fn read_input<R: Threads + Sync, D: Desk>(
+    rt: &R,
     alloc: Global,
     desk: &mut D,
     command: &Command<'_>,
@@ -194,5 +197,5 @@ pub fn read_input<D: Desk>(
     ensures put_faults { D.put_faults desk.new ≡ D.put_faults desk.old }
 {
     let settings = read_site(alloc, desk, command.settings)?;
-    read_over(alloc, desk, command, settings)
+    read_over(rt, alloc, desk, command, settings)
 }

@@ -17,6 +17,7 @@ use plain_data::{Duplicate, List};
 use recipe_reader::{RecipeFault, RecipeFile, read_recipes};
 use run_settings::{ReadStop, Refusal};
 use std::alloc::{AllocError, Global};
+use std::thread::Threads;
 use virtuals::{Providers, ProvidersFault};
 
 /// The refusal for the first file that has a fault.
@@ -58,7 +59,11 @@ fn stop_at(
 
 /// The recipes of files, one of each and in their order.
 #[tactic(auto, using(crate::proofs::Files::all_read, crate::proofs::Files::named_alike))]
-pub fn recipes_of(alloc: Global, files: &[RecipeFile]) -> Result<List<Recipe>, ReadStop>
+pub fn recipes_of<R: Threads + Sync>(
+    rt: &R,
+    alloc: Global,
+    files: &[RecipeFile],
+) -> Result<List<Recipe>, ReadStop>
     ensures read { Gives result (Is (recipes_of (map source_of files.now))) }
     ensures right { IfOk result (λ recipes. list_all is_right_recipe recipes ≡ true) }
     ensures names { IfOk result (λ recipes. map name_of recipes ≡ map (λ source. source.0)
@@ -66,7 +71,7 @@ pub fn recipes_of(alloc: Global, files: &[RecipeFile]) -> Result<List<Recipe>, R
     ensures no_usage { EndsInUsage result → ⊥ }
     ensures no_fault { EndsInReadFault result → ⊥ }
 {
-    match read_recipes(alloc, files) {
+    match read_recipes(rt, alloc, files) {
         Ok(recipes) => Ok(recipes),
         Err((place, fault)) => stop_at(alloc, files, place, fault),
     }

@@ -20,9 +20,14 @@ use recipe_files::{Sources, read_sources};
 use recipe_reader::RecipeFile;
 use run_settings::ReadStop;
 use std::alloc::Global;
+use std::thread::Threads;
 
 /// The parsing of all files, and then the clash of names.
-fn read_over(alloc: Global, files: &[RecipeFile]) -> Result<List<Recipe>, ReadStop>
+fn read_over<R: Threads + Sync>(
+    rt: &R,
+    alloc: Global,
+    files: &[RecipeFile],
+) -> Result<List<Recipe>, ReadStop>
     ensures read { Gives result (Over (map source_of files.now)) }
     ensures right { IfOk result (λ recipes. list_all is_right_recipe recipes ≡ true) }
     ensures names { IfOk result (λ recipes. map virtuals.name_of recipes ≡ map (λ source. source.0)
@@ -30,7 +35,7 @@ fn read_over(alloc: Global, files: &[RecipeFile]) -> Result<List<Recipe>, ReadSt
     ensures no_usage { EndsInUsage result → ⊥ }
     ensures no_fault { EndsInReadFault result → ⊥ }
 {
-    let recipes = recipes_of(alloc, files)?;
+    let recipes = recipes_of(rt, alloc, files)?;
     match check_apart(alloc, recipes.as_slice()) {
         Ok(()) => Ok(recipes),
         Err(stop) => Err(stop),
@@ -38,7 +43,11 @@ fn read_over(alloc: Global, files: &[RecipeFile]) -> Result<List<Recipe>, ReadSt
 }
 
 /// What is read over a pile of files.
-fn read_pile(alloc: Global, sources: &Sources) -> Result<List<Recipe>, ReadStop>
+fn read_pile<R: Threads + Sync>(
+    rt: &R,
+    alloc: Global,
+    sources: &Sources,
+) -> Result<List<Recipe>, ReadStop>
     requires { IsInByteOrder (names_of sources.now) }
     ensures read { Gives result (Over sources.now.files) }
     ensures order { IfOk result (λ recipes. AreInOrder recipes) }
@@ -46,14 +55,15 @@ fn read_pile(alloc: Global, sources: &Sources) -> Result<List<Recipe>, ReadStop>
     ensures no_usage { EndsInUsage result → ⊥ }
     ensures no_fault { EndsInReadFault result → ⊥ }
 {
-    match read_over(alloc, sources.as_slice()) {
+    match read_over(rt, alloc, sources.as_slice()) {
         Ok(recipes) => Ok(recipes),
         Err(stop) => Err(stop),
     }
 }
 
 /// The reading of all files, and then their parsing.
-pub fn read_repository<D: Desk>(
+pub fn read_repository<R: Threads + Sync, D: Desk>(
+    rt: &R,
     alloc: Global,
     desk: &mut D,
     repo: &str,
@@ -68,7 +78,7 @@ pub fn read_repository<D: Desk>(
     ensures put_faults { D.put_faults desk.new ≡ D.put_faults desk.old }
 {
     let sources = read_sources(alloc, desk, repo)?;
-    let read = read_pile(alloc, &sources);
+    let read = read_pile(rt, alloc, &sources);
     drop(sources);
     read
 }

@@ -102,7 +102,7 @@ fn read_over<R: Threads + Sync, D: Desk>(
 {
     reading_laws();
     writing_laws();
-    let input = read_input(alloc, desk, command)?;
+    let input = read_input(rt, alloc, desk, command)?;
     task_by(rt, alloc, desk, command, input)
 }
 
