@@ -15,7 +15,7 @@
 # is the build of these sources, or nothing runs.
 
 # The program crates that are released.
-programs=(replay_scenarios spack_concretize)
+programs=(encode_dimacs replay_scenarios spack_concretize)
 
 # A status and the words of a run that ends with it, touches no file, whatever stands in the caller's folder, and tells
 # that a file is the program and runs here: a status that neither `rt`, the shell nor the loader gives.
@@ -24,6 +24,7 @@ trial_of() {
   spack_concretize) echo 4 concretize /dev/null - - l - @ ;;
   # Without words it says how it is called.
   replay_scenarios) echo 64 ;;
+  encode_dimacs) echo 4 /dev/null - - @ ;;
   esac
 }
 
@@ -61,6 +62,12 @@ HELP
 replay FILE-OR-FOLDER..     replays scenarios (docs/SCENARIOS.md); without words those of the repository
 replay --where | --version | --help
 0 all the same  1 something differs or is no scenario  2 could not be said  70 no program could be built
+HELP
+  encode_dimacs) cat <<'HELP' ;;
+encode_dimacs REPO SETTINGS DATABASE SPEC..
+    prints the clauses of the problem as DIMACS, with comments that say what its variables mean (docs/ENCODING.md)
+encode_dimacs --where | --version | --help
+0 done  2 usage  4 bad input  5 read fault  6 write fault  7 too large  9 no memory  10 no words  70 no program could be built
 HELP
   *) echo "$1 WORD.. | --where | --version | --help" ;;
   esac

@@ -1,0 +1,77 @@
+-- What words pose, and what each answer of a run means.
+--
+-- `files` are the files at entry of a desk that tells them, `words` the words behind the program's name, and `out` and `err` what the two
+-- sinks tell before and after.
+use Rattle.std.specs.Prelude.{◌≡◌, ◌⊎◌, ℕ, List, [], ◌∷◌, Option, Result, Ok, Err, codes}
+use Rattle.outside_desk.specs.Files.{Files, and_said}
+use Rattle.problem.specs.Problems.{Problem}
+use Rattle.problem_encoding.specs.Built.{encoding_of}
+use Rattle.dimacs_text.specs.Texts.{dimacs_text}
+use Rattle.run_input.specs.Inputs.{Reads}
+use Rattle.run_input.specs.Orders.{order_of}
+use Rattle.run_input.specs.Refusal.{Refusal}
+use Rattle.run_input.specs.Refusal.TheVariants.{Usage}
+use Rattle.run_input.specs.Refusals as lines
+use Rattle.run_input.specs.Stages.{Is, Then}
+use Rattle.run_input.specs.Status.{Status}
+use Rattle.run_input.specs.Status.TheVariants as statuses
+use Rattle.run_input.specs.Words.{Command}
+
+-- the text of the one encoding of a problem
+unfoldable pub text_of : Problem → List ℕ
+text_of problem = let e = encoding_of problem in dimacs_text problem e.clauses e.bits e.table
+
+-- what is read is what `explain` reads that has these words behind it
+unfoldable pub explained : List (List ℕ) → List (List ℕ)
+explained words = codes "explain" ∷ words
+
+-- the text of the problem that a command names over the files
+abbrev pub Over : Files → Command → Result (List ℕ) Refusal → Type 0
+Over files command = Then (Reads files command) (λ input. Is (Ok (text_of input.problem)))
+
+-- the text that the words ask for, or the refusal that is due first
+abbrev pub Poses : Files → List (List ℕ) → Result (List ℕ) Refusal → Type 0
+Poses files words = Then (Is (order_of (explained words))) (Over files)
+
+-- ---- what is answered
+
+unfoldable pub usage_line : List ℕ
+usage_line = codes "usage: encode_dimacs REPO SETTINGS DATABASE SPEC...\n"
+
+-- the line of a refusal: of wrong words it is the program's own
+abbrev pub refusal_line : Refusal → List ℕ
+refusal_line Usage = usage_line
+refusal_line other = lines.line_of other
+
+abbrev pub status_of : Result (List ℕ) Refusal → Status
+status_of (Ok text) = statuses.Done
+status_of (Err refusal) = lines.status_of refusal
+
+-- what a sink tells of what was said, before and after
+abbrev pub Spoken : Type 0
+Spoken = Option (List ℕ) × Option (List ℕ)
+
+-- the text was said, and nothing else
+abbrev pub SaysText : Spoken → Spoken → Result (List ℕ) Refusal → Type 0
+SaysText out err (Ok text) = (out.1 ≡ and_said out.0 text) × (err.1 ≡ err.0)
+SaysText out err (Err refusal) = (out.1 ≡ out.0) × (err.1 ≡ and_said err.0 (refusal_line refusal))
+
+-- the words pose this, which has the status, and just that was said
+pub record IsSaid (files : Files) (words : List (List ℕ)) (out err : Spoken) (status : Status) : Type 0 where
+  pub posed : Result (List ℕ) Refusal
+  pub poses : Poses files words posed
+  pub has_status : status ≡ status_of posed
+  pub said : SaysText out err posed
+
+-- Done and a refusal's status come only where just that was said; `Unsatisfiable` and `Undecided` never come
+abbrev pub Answers : Files → List (List ℕ) → Spoken → Spoken → Status → Type 0
+Answers files words out err statuses.Unsatisfiable = ⊥
+Answers files words out err statuses.Undecided = ⊥
+Answers files words out err statuses.ReadFault = Unit {0}
+Answers files words out err statuses.WriteFault = Unit {0}
+Answers files words out err statuses.NoMemory = Unit {0}
+Answers files words out err status = IsSaid files words out err status
+
+-- what is posed is answered so, or memory ran out
+abbrev pub IsAnsweredBy : Status → Status → Type 0
+IsAnsweredBy status result = (result ≡ status) ⊎ (result ≡ statuses.NoMemory)

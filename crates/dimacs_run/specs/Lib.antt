@@ -1,0 +1,4 @@
+-- what public contracts say
+pub mod Answers
+-- inside
+pub mod Attempts

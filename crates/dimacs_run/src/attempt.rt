@@ -1,0 +1,96 @@
+//! The reading of a problem, and the saying of its encoding.
+
+ghost use Rattle.std.specs.Prelude.{◌≡◌, IfOk, IfSome, OnOk};
+ghost use Rattle.outside_desk.specs.Causes.{Counts};
+ghost use Rattle.outside_desk.specs.Files.{and_said};
+ghost use Rattle.run_input.specs.Closures.{closure_of};
+ghost use Rattle.run_input.specs.Stops.{EndsInOutputFault, EndsInPutFault};
+ghost use Rattle.run_input.specs.Words.{words_of};
+ghost use Rattle.dimacs_run.specs.Answers.{explained, text_of};
+ghost use Rattle.dimacs_run.specs.Attempts.{Attempts, FailsToRead, FailsToPut, FailsToSay};
+
+use dimacs_text::dimacs_text;
+use outside_desk::{Desk, Sink, SinkFault};
+use problem_encoding::encode;
+use run_input::{Input, ReadStop, Stop, WriteStop, read_input, read_order};
+use std::alloc::{AllocError, Global};
+
+/// The words of the command that reads what these name.
+#[tactic(auto, unfolding(crate::specs::Answers::explained))]
+fn explained(alloc: Global, words: &[String]) -> Result<Vec<String>, AllocError>
+    ensures { IfOk result (λ all. words_of all.items ≡ explained (words_of words.now)) }
+{
+    let mut all = Vec::new(alloc);
+    all.push(String::from_str(alloc, "explain")?)?;
+    for word in words {
+        all.push(word.clone()?)?;
+    }
+    Ok(all)
+}
+
+/// The text of the encoding of what was read.
+#[tactic(auto, unfolding(crate::specs::Answers::text_of))]
+fn text_of(alloc: Global, input: &Input) -> Result<Vec<u8>, AllocError>
+    requires { input.now.closure ≡ closure_of input.now.problem }
+    ensures { IfOk result (λ text. text.items ≡ text_of input.now.problem) }
+{
+    let problem = &input.problem;
+    let encoded = encode(alloc, problem, &input.closure)?;
+    dimacs_text(
+        alloc,
+        problem,
+        &encoded.clauses,
+        &encoded.bits,
+        &encoded.table,
+    )
+}
+
+/// Says a text on the sink of the answer.
+fn say<O: Sink>(alloc: Global, out: &mut O, text: &[u8]) -> Result<(), WriteStop>
+    ensures ok { OnOk result (O.said out.new ≡ and_said (O.said out.old) text.now) }
+    ensures cause { Counts (O.faults out.old) (O.faults out.new) (EndsInOutputFault result) }
+    ensures no_put { EndsInPutFault result → ⊥ }
+{
+    match out.say(alloc, text) {
+        Ok(()) => Ok(()),
+        Err(SinkFault::Failed) => Err(WriteStop::Output),
+        Err(SinkFault::OutOfMemory) => Err(WriteStop::NoMemory),
+    }
+}
+
+/// Says the encoding of what was read.
+fn say_encoded<O: Sink>(alloc: Global, out: &mut O, input: &Input) -> Result<(), WriteStop>
+    requires { input.now.closure ≡ closure_of input.now.problem }
+    ensures ok { OnOk result (O.said out.new
+        ≡ and_said (O.said out.old) (text_of input.now.problem)) }
+    ensures cause { Counts (O.faults out.old) (O.faults out.new) (EndsInOutputFault result) }
+    ensures no_put { EndsInPutFault result → ⊥ }
+{
+    let text = text_of(alloc, input)?;
+    say(alloc, out, text.as_slice())
+}
+
+/// Reads the problem that the words name, and says its encoding.
+pub fn attempt<D: Desk, O: Sink>(
+    alloc: Global,
+    words: &[String],
+    desk: &mut D,
+    out: &mut O,
+) -> Result<(), Stop>
+    ensures outcome { IfSome (D.files desk.old) (λ files. Attempts files (words_of words.now)
+        (O.said out.old) (O.said out.new) result) }
+    ensures read { Counts (D.faults desk.old) (D.faults desk.new) (FailsToRead result) }
+    ensures said { Counts (O.faults out.old) (O.faults out.new) (FailsToSay result) }
+    ensures no_put { FailsToPut result → ⊥ }
+    ensures same { D.files desk.new ≡ D.files desk.old }
+    ensures put_faults { D.put_faults desk.new ≡ D.put_faults desk.old }
+{
+    let Ok(words) = explained(alloc, words) else {
+        return Err(Stop::Read(ReadStop::NoMemory));
+    };
+    let command = read_order(alloc, &words)?;
+    let input = read_input(alloc, desk, &command)?;
+    let said = say_encoded(alloc, out, &input);
+    drop(input);
+    Ok(said?)
+}

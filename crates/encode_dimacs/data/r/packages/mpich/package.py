@@ -1,0 +1,3 @@
+class Mpich(Package):
+    version("3.2")
+    provides("mpi")

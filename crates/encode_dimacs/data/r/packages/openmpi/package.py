@@ -1,0 +1,3 @@
+class Openmpi(Package):
+    version("4.1")
+    provides("mpi")

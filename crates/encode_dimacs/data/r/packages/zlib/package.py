@@ -1,0 +1,2 @@
+class Zlib(Package):
+    version("1.3")
