@@ -173,9 +173,9 @@ ROWS = [
      with_node("b", "a", version="1", origin="external 0", compiler=None, prefix="/usr", os="u")),
     ("Unreachable", "installed", {"a": [*TWO, 'depends_on("z", when="@1")'], "z": ONE}, site(KEPT), [ZLIB1], "a@2", ANY,
      with_node("z", "a", version="1", origin="installed " + ZLIB1["hash"], os="u")),
-    ("no lock file: Cycle", "off the roots", {"a": [*TWO, 'depends_on("b", when="@1")'], "b": [*ONE, 'depends_on("c", type="link")'],
-     "c": [*ONE, 'depends_on("b", type="link")']}, site(), [], "a@2", ANY,
-     both(with_node("b", "a", version="1", edges={"c": ["link"]}), with_node("c", "a", version="1", edges={"b": ["link"]}))),
+    ("no lock file: Cycle", "off the roots", {"a": [*TWO, 'depends_on("b", when="@1")'], "b": [*ONE, 'depends_on("d", type="link")'],
+     "d": [*ONE, 'depends_on("b", type="link")']}, site(), [], "a@2", ANY,
+     both(with_node("b", "a", version="1", edges={"d": ["link"]}), with_node("d", "a", version="1", edges={"b": ["link"]}))),
 ]
 
 
