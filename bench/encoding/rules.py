@@ -1,7 +1,7 @@
 #!/usr/bin/env python3
 """For each rule a small problem with a graph that keeps all of them, and one that differs from it and breaks that rule.
 
-    bench/encoding/rules.sh [--encode PROGRAM] [--program PROGRAM]
+    bench/encoding/compare.sh rules [--encode PROGRAM] [--program PROGRAM]
 
 Of each row `judge` has to call the first graph valid and name the rule for the second. The clauses, with the table's literals as the
 graph has them, must have a model of the first, whose bits spell the vector that `judge` prints, and none of the second; that is also
