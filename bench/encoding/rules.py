@@ -1,7 +1,7 @@
 #!/usr/bin/env python3
 """For each rule a small problem with a graph that keeps all of them, and one that differs from it and breaks that rule.
 
-    bench/encoding/rules.sh [--encode PROGRAM] [--program PROGRAM]
+    bench/encoding/compare.sh rules [--encode PROGRAM] [--program PROGRAM]
 
 Of each row `judge` has to call the first graph valid and name the rule for the second. The clauses, with the table's literals as the
 graph has them, must have a model of the first, whose bits spell the vector that `judge` prints, and none of the second; that is also
@@ -173,9 +173,9 @@ ROWS = [
      with_node("b", "a", version="1", origin="external 0", compiler=None, prefix="/usr", os="u")),
     ("Unreachable", "installed", {"a": [*TWO, 'depends_on("z", when="@1")'], "z": ONE}, site(KEPT), [ZLIB1], "a@2", ANY,
      with_node("z", "a", version="1", origin="installed " + ZLIB1["hash"], os="u")),
-    ("no lock file: Cycle", "off the roots", {"a": [*TWO, 'depends_on("b", when="@1")'], "b": [*ONE, 'depends_on("c", type="link")'],
-     "c": [*ONE, 'depends_on("b", type="link")']}, site(), [], "a@2", ANY,
-     both(with_node("b", "a", version="1", edges={"c": ["link"]}), with_node("c", "a", version="1", edges={"b": ["link"]}))),
+    ("no lock file: Cycle", "off the roots", {"a": [*TWO, 'depends_on("b", when="@1")'], "b": [*ONE, 'depends_on("d", type="link")'],
+     "d": [*ONE, 'depends_on("b", type="link")']}, site(), [], "a@2", ANY,
+     both(with_node("b", "a", version="1", edges={"d": ["link"]}), with_node("d", "a", version="1", edges={"b": ["link"]}))),
 ]
 
 

@@ -15,7 +15,7 @@ use Rattle.run_input.specs.Refusals as lines
 use Rattle.run_input.specs.Stages.{Is, Then}
 use Rattle.run_input.specs.Status.{Status}
 use Rattle.run_input.specs.Status.TheVariants as statuses
-use Rattle.run_input.specs.Words.{Command}
+use Rattle.run_input.specs.declared.input.Input.{Input}
 
 -- the text of the one encoding of a problem
 unfoldable pub text_of : Problem → List ℕ
@@ -25,13 +25,13 @@ text_of problem = let e = encoding_of problem in dimacs_text problem e.clauses e
 unfoldable pub explained : List (List ℕ) → List (List ℕ)
 explained words = codes "explain" ∷ words
 
--- the text of the problem that a command names over the files
-abbrev pub Over : Files → Command → Result (List ℕ) Refusal → Type 0
-Over files command = Then (Reads files command) (λ input. Is (Ok (text_of input.problem)))
+-- the problem that the words name over the files
+abbrev pub Asks : Files → List (List ℕ) → Result Input Refusal → Type 0
+Asks files words = Then (Is (order_of (explained words))) (Reads files)
 
 -- the text that the words ask for, or the refusal that is due first
 abbrev pub Poses : Files → List (List ℕ) → Result (List ℕ) Refusal → Type 0
-Poses files words = Then (Is (order_of (explained words))) (Over files)
+Poses files words = Then (Asks files words) (λ input. Is (Ok (text_of input.problem)))
 
 -- ---- what is answered
 
@@ -63,14 +63,16 @@ pub record IsSaid (files : Files) (words : List (List ℕ)) (out err : Spoken) (
   pub has_status : status ≡ status_of posed
   pub said : SaysText out err posed
 
--- Done and a refusal's status come only where just that was said; `Unsatisfiable` and `Undecided` never come
+-- a device failed, or memory ran out
+abbrev pub IsFault : Status → Type 0
+IsFault statuses.ReadFault = Unit {0}
+IsFault statuses.WriteFault = Unit {0}
+IsFault statuses.NoMemory = Unit {0}
+IsFault other = ⊥
+
+-- what is posed is answered, and just that was said; or there is a fault
 abbrev pub Answers : Files → List (List ℕ) → Spoken → Spoken → Status → Type 0
-Answers files words out err statuses.Unsatisfiable = ⊥
-Answers files words out err statuses.Undecided = ⊥
-Answers files words out err statuses.ReadFault = Unit {0}
-Answers files words out err statuses.WriteFault = Unit {0}
-Answers files words out err statuses.NoMemory = Unit {0}
-Answers files words out err status = IsSaid files words out err status
+Answers files words out err status = IsSaid files words out err status ⊎ IsFault status
 
 -- what is posed is answered so, or memory ran out
 abbrev pub IsAnsweredBy : Status → Status → Type 0

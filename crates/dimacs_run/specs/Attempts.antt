@@ -2,7 +2,6 @@
 use Rattle.std.specs.Prelude.{◌≡◌, ◌⊎◌, ℕ, List, Option, Result, Ok, Err}
 use Rattle.outside_desk.specs.Causes.{Rose}
 use Rattle.outside_desk.specs.Files.{Files, and_said}
-use Rattle.run_input.specs.Refusal.TheVariants.{Usage}
 use Rattle.run_input.specs.ReadStop.TheVariants as reads
 use Rattle.run_input.specs.Status.{Status}
 use Rattle.run_input.specs.Status.TheVariants as statuses
@@ -10,7 +9,7 @@ use Rattle.run_input.specs.Stop.{Stop}
 use Rattle.run_input.specs.Stop.TheVariants.{Read, Write}
 use Rattle.run_input.specs.Stops as stops
 use Rattle.run_input.specs.WriteStop.TheVariants as writes
-use Rattle.dimacs_run.specs.Answers.{Poses, Spoken, usage_line}
+use Rattle.dimacs_run.specs.Answers.{Poses, Spoken, refusal_line}
 
 -- the text that was said
 pub record IsWritten (files : Files) (words : List (List ℕ)) (before after : Option (List ℕ)) : Type 0 where
@@ -37,9 +36,14 @@ abbrev pub FailsToSay : Result (Unit {0}) Stop → Type 0
 FailsToSay (Err (Write writes.Output)) = Unit {0}
 FailsToSay other = ⊥
 
+-- a reading that stopped
+abbrev pub IsReadStop : Result (Unit {0}) Stop → Type 0
+IsReadStop (Err (Read stop)) = Unit {0}
+IsReadStop other = ⊥
+
 -- the line of a stop: of wrong words it is the program's own
 abbrev pub line_of : Stop → List ℕ
-line_of (Read (reads.Refused Usage)) = usage_line
+line_of (Read (reads.Refused refusal)) = refusal_line refusal
 line_of other = stops.stop_line other
 
 -- what is said of a stop, and answered: its status with its line, unless the report failed or memory ran out
@@ -47,3 +51,11 @@ abbrev pub Reports : Stop → Spoken → ℕ × ℕ → Status → Type 0
 Reports stop said faults result =
     ((result ≡ stops.stop_status stop) × (said.1 ≡ and_said said.0 (line_of stop)))
     ⊎ (((result ≡ statuses.WriteFault) × Rose faults.0 faults.1) ⊎ (result ≡ statuses.NoMemory))
+
+-- the answers that a refusal has
+abbrev pub IsRefusalStatus : Status → Type 0
+IsRefusalStatus statuses.Usage = Unit {0}
+IsRefusalStatus statuses.BadInput = Unit {0}
+IsRefusalStatus statuses.TooLarge = Unit {0}
+IsRefusalStatus statuses.Refused = Unit {0}
+IsRefusalStatus other = ⊥

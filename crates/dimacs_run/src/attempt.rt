@@ -4,10 +4,13 @@ ghost use Rattle.std.specs.Prelude.{◌≡◌, IfOk, IfSome, OnOk};
 ghost use Rattle.outside_desk.specs.Causes.{Counts};
 ghost use Rattle.outside_desk.specs.Files.{and_said};
 ghost use Rattle.run_input.specs.Closures.{closure_of};
-ghost use Rattle.run_input.specs.Stops.{EndsInOutputFault, EndsInPutFault};
+ghost use Rattle.run_input.specs.Inputs.{Reads};
+ghost use Rattle.run_input.specs.Orders.{order_of};
+ghost use Rattle.run_input.specs.Stages.{Is, Then};
+ghost use Rattle.run_input.specs.Stops.{Gives, EndsInReadFault, EndsInOutputFault, EndsInPutFault};
 ghost use Rattle.run_input.specs.Words.{words_of};
-ghost use Rattle.dimacs_run.specs.Answers.{explained, text_of};
-ghost use Rattle.dimacs_run.specs.Attempts.{Attempts, FailsToRead, FailsToPut, FailsToSay};
+ghost use Rattle.dimacs_run.specs.Answers.{Asks, explained, text_of};
+ghost use Rattle.dimacs_run.specs.Attempts.{Attempts, IsReadStop, FailsToRead, FailsToPut, FailsToSay};
 
 use dimacs_text::dimacs_text;
 use outside_desk::{Desk, Sink, SinkFault};
@@ -70,7 +73,57 @@ fn say_encoded<O: Sink>(alloc: Global, out: &mut O, input: &Input) -> Result<(),
     say(alloc, out, text.as_slice())
 }
 
+/// The same, as a run ends.
+fn say_input<O: Sink>(alloc: Global, out: &mut O, input: &Input) -> Result<(), Stop>
+    requires { input.now.closure ≡ closure_of input.now.problem }
+    ensures ok { OnOk result (O.said out.new
+        ≡ and_said (O.said out.old) (text_of input.now.problem)) }
+    ensures cause { Counts (O.faults out.old) (O.faults out.new) (FailsToSay result) }
+    ensures no_put { FailsToPut result → ⊥ }
+    ensures no_read { IsReadStop result → ⊥ }
+{
+    match say_encoded(alloc, out, input) {
+        Ok(()) => Ok(()),
+        Err(stop) => Err(Stop::Write(stop)),
+    }
+}
+
+/// The problem that words name, which are those of a command.
+fn read_ordered<D: Desk>(
+    alloc: Global,
+    words: &[String],
+    desk: &mut D,
+) -> Result<Input, ReadStop>
+    ensures read { IfSome (D.files desk.old) (λ files. Gives result
+        (Then (Is (order_of (words_of words.now))) (Reads files))) }
+    ensures names { IfOk result (λ input. input.closure ≡ closure_of input.problem) }
+    ensures cause { Counts (D.faults desk.old) (D.faults desk.new) (EndsInReadFault result) }
+    ensures same { D.files desk.new ≡ D.files desk.old }
+    ensures put_faults { D.put_faults desk.new ≡ D.put_faults desk.old }
+{
+    match read_order(alloc, words) {
+        Ok(command) => read_input(alloc, desk, &command),
+        Err(stop) => Err(stop),
+    }
+}
+
+/// The problem that the words name.
+fn read_asked<D: Desk>(alloc: Global, words: &[String], desk: &mut D) -> Result<Input, ReadStop>
+    ensures read { IfSome (D.files desk.old)
+        (λ files. Gives result (Asks files (words_of words.now))) }
+    ensures names { IfOk result (λ input. input.closure ≡ closure_of input.problem) }
+    ensures cause { Counts (D.faults desk.old) (D.faults desk.new) (EndsInReadFault result) }
+    ensures same { D.files desk.new ≡ D.files desk.old }
+    ensures put_faults { D.put_faults desk.new ≡ D.put_faults desk.old }
+{
+    match explained(alloc, words) {
+        Ok(all) => read_ordered(alloc, all.as_slice(), desk),
+        Err(AllocError) => Err(ReadStop::NoMemory),
+    }
+}
+
 /// Reads the problem that the words name, and says its encoding.
+#[tactic(auto, using(crate::proofs::Ends::was_said, crate::proofs::Ends::was_stopped))]
 pub fn attempt<D: Desk, O: Sink>(
     alloc: Global,
     words: &[String],
@@ -85,12 +138,12 @@ pub fn attempt<D: Desk, O: Sink>(
     ensures same { D.files desk.new ≡ D.files desk.old }
     ensures put_faults { D.put_faults desk.new ≡ D.put_faults desk.old }
 {
-    let Ok(words) = explained(alloc, words) else {
-        return Err(Stop::Read(ReadStop::NoMemory));
-    };
-    let command = read_order(alloc, &words)?;
-    let input = read_input(alloc, desk, &command)?;
-    let said = say_encoded(alloc, out, &input);
-    drop(input);
-    Ok(said?)
+    match read_asked(alloc, words, desk) {
+        Ok(input) => {
+            let said = say_input(alloc, out, &input);
+            drop(input);
+            said
+        }
+        Err(stop) => Err(Stop::Read(stop)),
+    }
 }

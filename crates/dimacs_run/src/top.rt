@@ -7,7 +7,7 @@ ghost use Rattle.outside_desk.specs.Files.{and_said};
 ghost use Rattle.run_input.specs.Refusal.{Refusal};
 ghost use Rattle.run_input.specs.Stops.{stop_status};
 ghost use Rattle.run_input.specs.Words.{words_of};
-ghost use Rattle.dimacs_run.specs.Answers.{Answers, IsAnsweredBy, Poses, status_of, usage_line};
+ghost use Rattle.dimacs_run.specs.Answers.{Answers, IsAnsweredBy, Poses, refusal_line, status_of, usage_line};
 ghost use Rattle.dimacs_run.specs.Attempts.{Reports, line_of};
 
 use crate::attempt::attempt;
@@ -25,13 +25,23 @@ fn usage_line(alloc: Global) -> Result<String, AllocError>
     )
 }
 
+/// The line of a refusal.
+fn refusal_line(alloc: Global, refusal: &Refusal) -> Result<String, AllocError>
+    ensures { IfOk result (λ line. string_bytes line ≡ refusal_line refusal.now) }
+{
+    match refusal {
+        Refusal::Usage => usage_line(alloc),
+        other => other.line(alloc),
+    }
+}
+
 /// The line of a stop.
 fn line_of(alloc: Global, stop: &Stop) -> Result<String, AllocError>
     ensures { IfOk result (λ line. string_bytes line ≡ line_of stop.now) }
 {
     match stop {
-        Stop::Read(ReadStop::Refused(Refusal::Usage)) => usage_line(alloc),
-        _ => stop.line(alloc),
+        Stop::Read(ReadStop::Refused(refusal)) => refusal_line(alloc, refusal),
+        other => other.line(alloc),
     }
 }
 
