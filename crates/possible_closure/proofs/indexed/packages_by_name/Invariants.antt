@@ -1,0 +1,6 @@
+use Rattle.std.proofs.Common.{◌≡◌, take, map}
+use Rattle.text_index.specs.Lent.{lent}
+use Rattle.possible_closure.proofs.indexed.packages_by_name.Given as goal
+
+abbrev pub invariant-loop-entry : goal.invariant-loop-entry
+invariant-loop-entry l = lent l.named.items ≡ map (λ entry. (entry.name, entry)) (take l.entry-index l.packages)
