@@ -1,6 +1,7 @@
 use Rattle.std.proofs.Common.{◌≡◌, take, map}
 use Rattle.text_index.specs.Lent.{lent}
+use Rattle.text_index.proofs.Lent.{pair_of}
 use Rattle.possible_closure.proofs.indexed.packages_by_name.Given as goal
 
 abbrev pub invariant-loop-entry : goal.invariant-loop-entry
-invariant-loop-entry l = lent l.named.items ≡ map (λ entry. (entry.name, entry)) (take l.entry-index l.packages)
+invariant-loop-entry l = lent l.named.items ≡ map (pair_of (λ entry. entry.name)) (take l.entry-index l.packages)
