@@ -3,7 +3,8 @@
 //! Of recipes: `possible VIRTUAL` (the packages that may provide it), `virtual NAME`, `clash` (the least name that is a package and a
 //! virtual). Of a node of the graph: `meets NODE SPEC`, `rest NODE SPEC` (without name and version), `provides NODE SPEC` (the virtual SPEC),
 //! `holds NODE SPEC`, `all NODE SPEC & SPEC` (both), `governing NODE VARIANT` (the number of the definition). `node NAME` is the node that a
-//! name asks for. `problem SPEC SPEC` has the demands where these are requested, or why they are refused.
+//! name asks for. `problem SPEC SPEC` has the demands where these are requested, or why they are refused; `closure SPEC SPEC` the names that nodes
+//! may then have.
 
 ghost use Rattle.std.specs.Prelude.{◌≡◌, true};
 ghost use Rattle.std.specs.List.{list_all};
@@ -13,11 +14,13 @@ ghost use Rattle.virtuals.specs.Virtuals.{AreInOrder, AreProviders};
 use crate::graph::graph_of;
 use crate::recipes::recipes_of;
 use crate::roots::problem_text;
+use crate::site::site_of;
 use condition_rules::{World, all_hold, asked_node, governing, holds, meets, meets_rest, provides};
 use conditions::{Condition, Recipe};
 use graph_core::{Graph, Node};
 use plain_data::List;
 use recipe_reader::{RecipeFault, RecipeFile};
+use reuse_db::DbFault;
 use site_settings::Settings;
 use spec_grammar::{Part, Spec, SpecFault, read_condition};
 use std::alloc::{AllocError, Global};
@@ -189,6 +192,7 @@ fn of_world(
 fn of_recipes(
     alloc: Global,
     recipes: Vec<Recipe>,
+    site: &str,
     graph: &str,
     what: &str,
     rest: &str,
@@ -196,8 +200,12 @@ fn of_recipes(
     requires order { AreInOrder recipes.items }
     requires right { list_all is_right_recipe recipes.items ≡ true }
 {
-    if what == "problem" {
-        return problem_text(alloc, List::from_vec(recipes), rest);
+    if what == "problem" || what == "closure" {
+        return match site_of(alloc, site) {
+            Ok(site) => problem_text(alloc, List::from_vec(recipes), site, what, rest),
+            Err(DbFault::OutOfMemory) => Err(AllocError),
+            Err(_) => text_of(alloc, "no database"),
+        };
     }
     if what == "clash" {
         return clash_text(alloc, recipes.as_slice());
@@ -213,16 +221,17 @@ fn of_recipes(
     }
 }
 
-/// The answer to a question of these recipes and this graph.
+/// The answer to a question of these recipes, this site and this graph.
 pub(crate) fn answer(
     alloc: Global,
     files: &[RecipeFile],
+    site: &str,
     graph: &str,
     question: &str,
 ) -> Result<String, AllocError> {
     let (what, rest) = question.split_once(' ').unwrap_or((question, ""));
     match recipes_of(alloc, files) {
-        Ok(recipes) => of_recipes(alloc, recipes, graph, what, rest),
+        Ok(recipes) => of_recipes(alloc, recipes, site, graph, what, rest),
         Err(RecipeFault::OutOfMemory) => Err(AllocError),
         Err(_) => text_of(alloc, "no recipes"),
     }

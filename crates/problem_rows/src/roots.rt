@@ -5,11 +5,11 @@ ghost use Rattle.std.specs.List.{list_all};
 ghost use Rattle.conditions.specs.Right.{is_right_recipe};
 ghost use Rattle.virtuals.specs.Virtuals.{AreInOrder};
 
+use crate::site::Site;
 use conditions::Recipe;
 use plain_data::List;
+use possible_closure::{Closure, ClosureFault, closure};
 use problem::{Demand, Problem, ProblemFault, assemble};
-use reuse_db::Database;
-use site_settings::Settings;
 use spec_grammar::{Spec, SpecFault, read_specs};
 use std::alloc::{AllocError, Global};
 
@@ -57,17 +57,43 @@ fn demanded(alloc: Global, problem: Problem) -> Result<String, AllocError> {
     text
 }
 
+fn names_text(alloc: Global, closure: &Closure) -> Result<String, AllocError> {
+    let mut text = String::from_str(alloc, "names")?;
+    for name in closure.names() {
+        text.push_str(" ")?;
+        text.push_str(name.as_str())?;
+    }
+    Ok(text)
+}
+
+fn closed_text(alloc: Global, problem: &Problem) -> Result<String, AllocError> {
+    match closure(alloc, problem) {
+        Ok(closure) => names_text(alloc, &closure),
+        Err(ClosureFault::TooManyPackages) => String::from_str(alloc, "too many"),
+        Err(ClosureFault::OutOfMemory) => Err(AllocError),
+    }
+}
+
+fn closed(alloc: Global, problem: Problem) -> Result<String, AllocError> {
+    let text = closed_text(alloc, &problem);
+    drop(problem);
+    text
+}
+
 fn assembled_text(
     alloc: Global,
     recipes: List<Recipe>,
+    site: Site,
     roots: List<Spec>,
+    what: &str,
 ) -> Result<String, AllocError>
     requires order { AreInOrder recipes }
     requires right { list_all is_right_recipe recipes ≡ true }
     requires named { list_all (λ spec. is_some spec.top.name) roots ≡ true }
 {
-    let settings = Settings::standard(alloc)?;
-    match assemble(alloc, recipes, settings, Database::empty(alloc), roots) {
+    let Site { settings, database } = site;
+    match assemble(alloc, recipes, settings, database, roots) {
+        Ok(problem) if what == "closure" => closed(alloc, problem),
         Ok(problem) => demanded(alloc, problem),
         Err(fault) => fault_text(alloc, fault),
     }
@@ -79,17 +105,21 @@ fn are_named(roots: &[Spec]) -> bool
     roots.iter().all(|spec| spec.top.name.is_some())
 }
 
-/// The demands where specs are requested of these recipes, or why they are refused.
+/// The demands, or the names of the closure, where specs are requested of these recipes at a site, or why they are refused.
 pub(crate) fn problem_text(
     alloc: Global,
     recipes: List<Recipe>,
+    site: Site,
+    what: &str,
     texts: &str,
 ) -> Result<String, AllocError>
     requires order { AreInOrder recipes }
     requires right { list_all is_right_recipe recipes ≡ true }
 {
     match read_specs(alloc, texts) {
-        Ok(roots) if are_named(roots.as_slice()) => assembled_text(alloc, recipes, roots),
+        Ok(roots) if are_named(roots.as_slice()) => {
+            assembled_text(alloc, recipes, site, roots, what)
+        }
         Err(SpecFault::OutOfMemory) => Err(AllocError),
         _ => String::from_str(alloc, "no specs"),
     }

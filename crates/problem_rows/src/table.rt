@@ -1,6 +1,6 @@
 //! A table: its rows, one after the other.
 //!
-//! `recipe NAME: STATEMENT; STATEMENT` adds a recipe, `graph ITEM..` makes the graph, and `new` forgets both. A row is a line
+//! `recipe NAME: STATEMENT; STATEMENT` adds a recipe, `site LINE` a line of the site, `graph ITEM..` makes the graph, and `new` forgets all. A row is a line
 //! `ask QUESTION` and then a line `= ANSWER`. Other lines are comments.
 
 use crate::ask::answer;
@@ -13,6 +13,7 @@ use std::{fs, io};
 #[derive(Drop)]
 struct Tally {
     files: Vec<RecipeFile>,
+    site: String,
     graph: String,
     /// The answer to the row that waits for the one wanted.
     shown: String,
@@ -54,16 +55,21 @@ fn take_line(rt: &HostRuntime, tally: &mut Tally, line: &str) -> io::Result<()> 
     }
     if line == "new" {
         tally.files = Vec::new(alloc);
+        tally.site = String::new(alloc);
         tally.graph = String::new(alloc);
     } else if let Some(recipe) = line.strip_prefix("recipe ") {
         let (name, statements) = recipe.split_once(": ").unwrap_or((recipe, "pass"));
         tally.files.push(file_of(alloc, name, statements)?)?;
+    } else if let Some(line) = line.strip_prefix("site ") {
+        tally.site.push_str(line)?;
+        tally.site.push_str("\n")?;
     } else if let Some(items) = line.strip_prefix("graph ") {
         tally.graph = String::from_str(alloc, items)?;
     } else if let Some(question) = line.strip_prefix("ask ") {
         tally.shown = answer(
             alloc,
             tally.files.as_slice(),
+            tally.site.as_str(),
             tally.graph.as_str(),
             question,
         )?;
@@ -76,6 +82,7 @@ pub(crate) fn go_over(rt: &HostRuntime, name: &str) -> io::Result<()> {
     let text = fs::read_to_string(rt, name)?;
     let mut tally = Tally {
         files: Vec::new(rt.alloc()),
+        site: String::new(rt.alloc()),
         graph: String::new(rt.alloc()),
         shown: String::new(rt.alloc()),
         rows: 0,

@@ -1,4 +1,5 @@
-//! Whole runs that only code can show: over steady devices, and with each allocation failing in turn.
+//! Whole runs that only code can show: over steady devices, with each allocation failing in turn, and with more recipes than stored
+//! files would serve.
 //!
 //! All other whole runs are scenarios, in the data of `replay_scenarios`.
 //! It stands on the top call and the devices. Nothing stands on it.
@@ -8,5 +9,7 @@
 mod checks;
 #[cfg(test)]
 mod faults;
+#[cfg(test)]
+mod packages;
 #[cfg(test)]
 mod steady;

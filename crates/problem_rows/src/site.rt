@@ -1,0 +1,141 @@
+//! What a site has, line by line.
+//!
+//! `package NAME` is what the settings say of a package without externals, `external NAME` of one with an external; `record NAME CHILD:KIND..` is
+//! an installed package, whose children are records above it, KIND being `build`, `link` or `run`.
+
+use graph_core::Kinds;
+use plain_data::{List, Word};
+use reuse_db::{Database, DbFault, Record, canonical};
+use site_settings::{ExternalEntry, PackageEntry, Settings};
+use spec_hash::{Hash, hash_text};
+use std::alloc::{AllocError, Global};
+use version_order::Version;
+
+/// What a site has.
+#[derive(Drop)]
+pub(crate) struct Site {
+    pub(crate) settings: Settings,
+    pub(crate) database: Database,
+}
+
+// ---- settings
+
+fn version_of(alloc: Global) -> Result<Version, AllocError> {
+    match Version::read(alloc, "1") {
+        Ok(version) => Ok(version),
+        Err(_) => Err(AllocError),
+    }
+}
+
+fn external_of(alloc: Global) -> Result<ExternalEntry, AllocError> {
+    Ok(ExternalEntry {
+        version: version_of(alloc)?,
+        variants: List::new(alloc),
+        compiler: None,
+        os: None,
+        target: None,
+        prefix: Word::new(alloc, "/usr")?,
+    })
+}
+
+fn package_of(alloc: Global, name: &str, is_there: bool) -> Result<PackageEntry, AllocError> {
+    let mut externals = List::new(alloc);
+    if is_there {
+        externals.push(external_of(alloc)?)?;
+    }
+    Ok(PackageEntry {
+        name: Word::new(alloc, name)?,
+        versions: List::new(alloc),
+        buildable: true,
+        externals,
+    })
+}
+
+fn add_package(alloc: Global, settings: &mut Settings, line: &str) -> Result<(), AllocError> {
+    if let Some(name) = line.strip_prefix("package ") {
+        settings.packages.push(package_of(alloc, name, false)?)?;
+    } else if let Some(name) = line.strip_prefix("external ") {
+        settings.packages.push(package_of(alloc, name, true)?)?;
+    }
+    Ok(())
+}
+
+/// The standard settings with the packages of these lines.
+fn settings_of(alloc: Global, lines: &str) -> Result<Settings, AllocError> {
+    let mut settings = Settings::standard(alloc)?;
+    for line in lines.lines() {
+        add_package(alloc, &mut settings, line)?;
+    }
+    Ok(settings)
+}
+
+// ---- records
+
+fn kinds_of(word: &str) -> Kinds {
+    Kinds {
+        build: word == "build",
+        link: word == "link",
+        run: word == "run",
+    }
+}
+
+fn hash_at(records: &[Record], name: &str) -> Option<Hash> {
+    for record in records {
+        if record.name.as_str() == name {
+            return Some(record.hash);
+        }
+    }
+    None
+}
+
+fn children_of(
+    alloc: Global,
+    records: &[Record],
+    words: &str,
+) -> Result<List<(Hash, Kinds)>, AllocError> {
+    let mut children = List::new(alloc);
+    for word in words.split_whitespace() {
+        let (name, kind) = word.split_once(':').unwrap_or((word, "link"));
+        if let Some(hash) = hash_at(records, name) {
+            children.push((hash, kinds_of(kind)))?;
+        }
+    }
+    Ok(children)
+}
+
+fn record_of(alloc: Global, records: &[Record], words: &str) -> Result<Record, AllocError> {
+    let (name, children) = words.split_once(' ').unwrap_or((words, ""));
+    let mut record = Record {
+        hash: hash_text(b""),
+        name: Word::new(alloc, name)?,
+        version: version_of(alloc)?,
+        variants: List::new(alloc),
+        compiler: None,
+        os: Word::new(alloc, "ubuntu22.04")?,
+        target: Word::new(alloc, "x86_64")?,
+        external: None,
+        dependencies: children_of(alloc, records, children)?,
+    };
+    let text = canonical(alloc, &record)?;
+    record.hash = hash_text(text.as_slice());
+    Ok(record)
+}
+
+/// The records of these lines.
+fn database_of(alloc: Global, lines: &str) -> Result<Database, DbFault> {
+    let mut records = List::new(alloc);
+    for line in lines.lines() {
+        if let Some(words) = line.strip_prefix("record ") {
+            let record = record_of(alloc, records.as_slice(), words)?;
+            records.push(record)?;
+        }
+    }
+    Database::from_records(alloc, records)
+}
+
+/// The site of these lines, or the fault of its records.
+pub(crate) fn site_of(alloc: Global, lines: &str) -> Result<Site, DbFault> {
+    let settings = settings_of(alloc, lines)?;
+    let database = database_of(alloc, lines)?;
+    Ok(Site { settings, database })
+}
