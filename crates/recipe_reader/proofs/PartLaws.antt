@@ -21,7 +21,8 @@ get_behind (y ∷ front) files place =
     let one : suc (length front) + place ≡ suc (length front + place) = omega arith in
     rw one (get_behind front files place)
 
-get_before : {X : Type 0} (files more : List X) (place : ℕ) (x : X) → slice_get files place ≡ Some x → slice_get (files ++ more) place ≡ Some x
+get_before : {X : Type 0} (files more : List X) (place : ℕ) (x : X) → slice_get files place ≡ Some x
+    → slice_get (files ++ more) place ≡ Some x
 get_before [] more place x is = absurd cc
 get_before (y ∷ files) more zero x is = is
 get_before (y ∷ files) more (suc place) x is = get_before files more place x is
@@ -102,19 +103,22 @@ at_answer (p ∷ parts) (a ∷ before) answer more all =
 abbrev flat : List (List RecipeFile) → List RecipeFile
 flat parts = flat_map (λ part. part) parts
 
--- what the answers so far say, and one more that has recipes
+-- what the answers so far say: the files of their parts have these recipes
 abbrev pub AreSoFar : List Answer → List Recipe → Type 0
-AreSoFar answers recipes = (parts : List (List RecipeFile)) → AllZip IsReadOf parts answers → map recipe_in_file (flat parts) ≡ map Ok recipes
+AreSoFar answers recipes = (parts : List (List RecipeFile)) → AllZip IsReadOf parts answers
+    → map recipe_in_file (flat parts) ≡ map Ok recipes
 
 none_left : (parts : List (List RecipeFile)) → AllZip IsReadOf parts [] → parts ≡ []
 none_left [] all = refl
 none_left (p ∷ parts) all = absurd all
 
-flat_split : (parts : List (List RecipeFile)) (before : List Answer) (answer : Answer) (more : List Answer) (at : At parts before answer more)
+flat_split : (parts : List (List RecipeFile)) (before : List Answer) (answer : Answer) (more : List Answer)
+    (at : At parts before answer more)
     → flat parts ≡ flat at.front ++ (at.part ++ flat at.later)
 flat_split parts before answer more at = ap flat at.are ∙ flat_map-append (λ part. part) at.front (at.part ∷ at.later)
 
-pub one_more : (before : List Answer) (recipes more : List Recipe) → AreSoFar before recipes → AreSoFar (before ++ Ok more ∷ []) (recipes ++ more)
+pub one_more : (before : List Answer) (recipes more : List Recipe) → AreSoFar before recipes
+    → AreSoFar (before ++ Ok more ∷ []) (recipes ++ more)
 one_more before recipes more so_far parts all =
     let at = at_answer parts before (Ok more) [] all in
     let none = none_left at.later at.left in

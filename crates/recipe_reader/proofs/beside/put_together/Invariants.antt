@@ -1,4 +1,4 @@
-use Rattle.std.proofs.Common.{◌≡◌, ◌++◌, ◌<◌, ◌^◌, List, flat_map, length, map}
+use Rattle.std.proofs.Common.{◌≡◌, ◌++◌, List, flat_map, map}
 use Rattle.std.specs.Prelude.{Ok}
 use Rattle.std.specs.List.{AllZip}
 use Rattle.recipe_reader.specs.declared.files.RecipeFile.{RecipeFile as File}
