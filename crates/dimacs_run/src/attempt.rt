@@ -17,6 +17,7 @@ use outside_desk::{Desk, Sink, SinkFault};
 use problem_encoding::encode;
 use run_input::{Input, ReadStop, Stop, WriteStop, read_input, read_order};
 use std::alloc::{AllocError, Global};
+use std::thread::Threads;
 
 /// The words of the command that reads what these name.
 #[tactic(auto, unfolding(crate::specs::Answers::explained))]
@@ -89,7 +90,8 @@ fn say_input<O: Sink>(alloc: Global, out: &mut O, input: &Input) -> Result<(), S
 }
 
 /// The problem that words name, which are those of a command.
-fn read_ordered<D: Desk>(
+fn read_ordered<R: Threads + Sync, D: Desk>(
+    rt: &R,
     alloc: Global,
     words: &[String],
     desk: &mut D,
@@ -102,13 +104,18 @@ fn read_ordered<D: Desk>(
     ensures put_faults { D.put_faults desk.new ≡ D.put_faults desk.old }
 {
     match read_order(alloc, words) {
-        Ok(command) => read_input(alloc, desk, &command),
+        Ok(command) => read_input(rt, alloc, desk, &command),
         Err(stop) => Err(stop),
     }
 }
 
 /// The problem that the words name.
-fn read_asked<D: Desk>(alloc: Global, words: &[String], desk: &mut D) -> Result<Input, ReadStop>
+fn read_asked<R: Threads + Sync, D: Desk>(
+    rt: &R,
+    alloc: Global,
+    words: &[String],
+    desk: &mut D,
+) -> Result<Input, ReadStop>
     ensures read { IfSome (D.files desk.old)
         (λ files. Gives result (Asks files (words_of words.now))) }
     ensures names { IfOk result (λ input. input.closure ≡ closure_of input.problem) }
@@ -117,14 +124,15 @@ fn read_asked<D: Desk>(alloc: Global, words: &[String], desk: &mut D) -> Result<
     ensures put_faults { D.put_faults desk.new ≡ D.put_faults desk.old }
 {
     match explained(alloc, words) {
-        Ok(all) => read_ordered(alloc, all.as_slice(), desk),
+        Ok(all) => read_ordered(rt, alloc, all.as_slice(), desk),
         Err(AllocError) => Err(ReadStop::NoMemory),
     }
 }
 
 /// Reads the problem that the words name, and says its encoding.
 #[tactic(auto, using(crate::proofs::Ends::was_said, crate::proofs::Ends::was_stopped))]
-pub fn attempt<D: Desk, O: Sink>(
+pub fn attempt<R: Threads + Sync, D: Desk, O: Sink>(
+    rt: &R,
     alloc: Global,
     words: &[String],
     desk: &mut D,
@@ -138,7 +146,7 @@ pub fn attempt<D: Desk, O: Sink>(
     ensures same { D.files desk.new ≡ D.files desk.old }
     ensures put_faults { D.put_faults desk.new ≡ D.put_faults desk.old }
 {
-    match read_asked(alloc, words, desk) {
+    match read_asked(rt, alloc, words, desk) {
         Ok(input) => {
             let said = say_input(alloc, out, &input);
             drop(input);

@@ -12,6 +12,7 @@ use std::env::Env;
 use std::io::{Error, ErrorKind, Write};
 use std::process::ExitCode;
 use std::rt::Files;
+use std::thread::Threads;
 
 /// The exit status where the system refuses the words for another cause than memory.
 const NO_WORDS: u8 = 10;
@@ -36,11 +37,11 @@ fn refused(error: &Error) -> ExitCode {
 /// It ends with the place of the answer in the list of answers: 0 for `Done`, 2 for `Usage`, 4 for `BadInput`, 5 for `ReadFault`, 6 for
 /// `WriteFault`, 7 for `TooLarge`, 9 for `NoMemory`. Where the system refuses the words it says nothing, and ends with 9 for want of
 /// memory and with 10 for any other cause.
-pub fn dimacs_machine<R: Env + Files + AllocGlobal, O: Write + Drop, E: Write + Drop>(
-    rt: &R,
-    out: O,
-    err: E,
-) -> ExitCode {
+pub fn dimacs_machine<
+    R: Env + Files + Threads + Sync + AllocGlobal,
+    O: Write + Drop,
+    E: Write + Drop,
+>(rt: &R, out: O, err: E) -> ExitCode {
     let alloc = rt.alloc();
     let words: Vec<String> = match env::args(rt) {
         Ok(args) => match args.skip(1).collect(alloc) {
@@ -52,5 +53,5 @@ pub fn dimacs_machine<R: Env + Files + AllocGlobal, O: Write + Drop, E: Write + 
     let mut desk = RealDesk::new(rt);
     let mut out = RealSink::new(out);
     let mut err = RealSink::new(err);
-    ended(run(alloc, &words, &mut desk, &mut out, &mut err))
+    ended(run(rt, alloc, &words, &mut desk, &mut out, &mut err))
 }

@@ -14,6 +14,7 @@ use crate::attempt::attempt;
 use outside_desk::{Desk, Sink, SinkFault};
 use run_input::{ReadStop, Refusal, Status, Stop, input_laws};
 use std::alloc::{AllocError, Global};
+use std::thread::Threads;
 
 #[tactic(auto, unfolding(crate::specs::Answers::usage_line))]
 fn usage_line(alloc: Global) -> Result<String, AllocError>
@@ -64,7 +65,8 @@ fn report<E: Sink>(alloc: Global, err: &mut E, stop: &Stop) -> Status
 /// the table, each clause of a demand and each number.
 ///
 /// `out` gets the text; `err` gets one line where a run stops before its end.
-pub fn run<D: Desk, O: Sink, E: Sink>(
+pub fn run<R: Threads + Sync, D: Desk, O: Sink, E: Sink>(
+    rt: &R,
     alloc: Global,
     words: &[String],
     desk: &mut D,
@@ -94,7 +96,7 @@ pub fn run<D: Desk, O: Sink, E: Sink>(
     ensures put_faults { D.put_faults desk.new ≡ D.put_faults desk.old }
 {
     input_laws();
-    match attempt(alloc, words, desk, out) {
+    match attempt(rt, alloc, words, desk, out) {
         Ok(()) => Status::Done,
         Err(stop) => report(alloc, err, &stop),
     }

@@ -16,7 +16,7 @@ loop-answer-preserved c = record {
 pub returns-in-Err : goal.returns-in-Err
 returns-in-Err c = λ parts all fits.
     let rest : c.loop-answer.yielded ++ (c.in-Some.answer ∷ c.next.new.self.rest.items) ≡ c.args.answers.items =
-        grind (arith, common_steps) in
+    grind (arith, common_steps) in
     let count : c.len.result ≡ length c.loop-answer.recipes.items = omega arith in
     let here = rw (← rest, c.in-Err.is) at all in
     first_faulty c.loop-answer.yielded c.next.new.self.rest.items c.loop-answer.recipes.items c.len.result c.in-Err.fault c.behind.result
