@@ -9,6 +9,7 @@
 #![tactic(auto)]
 
 mod answer;
+mod nothing;
 mod show;
 mod table;
 

@@ -2,11 +2,13 @@
 //!
 //! A row is a line with a letter and a text, and then a line `= ANSWER`. The letters: `C` a record, `D` a list of
 //! records, `B` a whole database, `L` a lock file, `W` alone: the last lock file, written again with the last
-//! list of records. A line that begins with `#` is a comment.
+//! list of records; `N` alone: the lock file of no node, written and read again. A line that begins with `#` is a
+//! comment.
 
 use crate::answer::{
     Kept, database_answer, file_answer, lock_answer, record_answer, written_answer,
 };
+use crate::nothing::nothing_answer;
 use reuse_db::Database;
 use std::alloc::{AllocError, Global};
 use std::{fs, io};
@@ -42,6 +44,8 @@ fn answer(alloc: Global, kept: &mut Kept, line: &str) -> Result<String, AllocErr
         file_answer(alloc, text.as_bytes())
     } else if let Some(text) = line.strip_prefix("L ") {
         lock_answer(alloc, kept, text)
+    } else if line == "N" {
+        nothing_answer(alloc)
     } else {
         written_answer(alloc, kept)
     }
