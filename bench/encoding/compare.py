@@ -181,6 +181,23 @@ def compare(case, options, counts, draw):
         (compare_all if is_small else compare_some)(problem, found, has, options, counts, draw)
 
 
+def compare_answer(case, options, counts):
+    """Whether clasp finds a model of what is printed, as it is."""
+    with tempfile.TemporaryDirectory() as folder:
+        unpack(case["files"], folder)
+        _, repo, settings, database, _, _, *spec = case["words"]
+        done = subprocess.run([options.encode, repo, settings, database, *spec], cwd=folder, capture_output=True, text=True)
+        if done.returncode:
+            if case["want"]["status"] not in ("BadInput", "TooLarge") or done.stderr != case["want"]["err"]:
+                raise Differs("refused: " + done.stderr)
+            counts.add("refused")
+            return
+        found = subprocess.run(["clasp", "-n", "1", "-q", "-V1"], input=done.stdout, capture_output=True, text=True).returncode
+        if found not in (10, 20, 30) or (found != 20) != (case["want"]["status"] == "Done"):
+            raise Differs("clasp ends with %d where the case says %s" % (found, case["want"]["status"]))
+        counts.add("the answer is the case's", "the answer is the case's, a graph" if found != 20 else "the answer is the case's, none")
+
+
 def decoded(encoding, found):
     """The models by the graphs that they decode to."""
     models = {compact(encoding.graph(true)): true for true in found}
@@ -241,6 +258,7 @@ def main():
     parser.add_argument("--graphs", type=int, default=2000, help="how many graphs over its table a small problem has at most")
     parser.add_argument("--models", type=int, default=10, help="how many models of other problems are decoded")
     parser.add_argument("--changes", type=int, default=10, help="how many graphs are made from them")
+    parser.add_argument("--answers", action="store_true", help="compare answers alone")
     parser.add_argument("--recipes", type=int, default=1000, help="cases with more recipes are left out")
     parser.add_argument("--from", dest="first", type=int, default=0, help="the first case")
     parser.add_argument("--to", dest="last", type=int, default=None, help="the one behind the last")
@@ -255,7 +273,10 @@ def main():
                 counts.add("cases left out")
                 continue
             try:
-                compare(case, options, counts, draw)
+                if options.answers:
+                    compare_answer(case, options, counts)
+                else:
+                    compare(case, options, counts, draw)
             except (Differs, Wrong) as fault:
                 print("%s (words %s): %s" % (case["name"], " ".join(case["words"]), fault))
                 sys.exit(1)
