@@ -178,7 +178,7 @@ find_program() {
     return
   fi
   if fault="$(release_fault "$name" "$sources" 2>/dev/null)" && [ -z "$fault" ]; then
-    program="$top/release/$name-x86_64-linux" why="the release: the gate's build of these sources"
+    program="$top/release/$name-x86_64-linux" why="the release of these sources"
     return
   fi
   why="no build of these sources is here, and ${fault:-its release cannot be judged}"
