@@ -12,8 +12,11 @@ ghost use Rattle.best_graph.specs.Answers.{IsAnswer};
 
 use crate::answer::Answer;
 use crate::meaning::meaning_laws;
+use clause_store::Lit;
+use criteria_totals::{Bits, Terms};
 use graph_decoding::decode;
-use optimum_search::{Found, found_laws, search_by_numbers};
+use optimum_search::{Found, Number, found_laws, search_by_numbers};
+use plain_data::List;
 use possible_closure::Closure;
 use problem::Problem;
 use problem_encoding::{Encoded, encode, number_ends};
@@ -31,15 +34,35 @@ pub fn best_graph(
     ensures { IfOk result (IsAnswer problem.now budget) }
 {
     let encoded = encode(alloc, problem, closure)?;
-    let ends = number_ends(alloc, encoded.bits.tops())?;
+    let numbers = numbers_of(alloc, &encoded.bits)?;
     let found = search_by_numbers(
         alloc,
         &encoded.clauses,
         encoded.bits.lits(),
-        ends.as_slice(),
+        numbers.as_slice(),
         budget,
     )?;
     answer_of(alloc, problem, &encoded, budget, found)
+}
+
+/// The numbers that the bits spell, each with what it adds up.
+fn numbers_of(alloc: Global, bits: &Bits) -> Result<Vec<Number>, AllocError> {
+    let ends = number_ends(alloc, bits.tops())?;
+    let mut numbers = Vec::new(alloc);
+    for (end, terms) in ends.iter().zip(bits.terms()) {
+        let parts = parts_of(alloc, terms)?;
+        numbers.push(Number { end: *end, parts })?;
+    }
+    Ok(numbers)
+}
+
+/// The literals that a sum counts.
+fn parts_of(alloc: Global, terms: &Terms) -> Result<List<Lit>, AllocError> {
+    let mut parts = List::new(alloc);
+    for (_weight, lit) in terms.as_slice() {
+        parts.push(*lit)?;
+    }
+    Ok(parts)
 }
 
 /// Whether each line of a log may be written.

@@ -150,6 +150,18 @@ pub fn go_back(watch: &mut Watch, order: &mut Order, level: u64)
     watch.undo(level);
 }
 
+/// Goes back to level 0. Each of these literals is decided soon, at false, unless what is learnt speaks against it.
+pub fn lean(watch: &mut Watch, order: &mut Order, lits: &[Lit])
+    ensures { watch.new ≡ back watch.old 0 }
+{
+    go_back(watch, order, 0);
+    for lit in lits {
+        let var = lit.var.0 as usize;
+        order.release(var, !lit.positive);
+        order.touch(var);
+    }
+}
+
 /// The values of all variables.
 pub fn values_of(alloc: Global, watch: &Watch) -> Result<Vec<bool>, AllocError>
     ensures { IfOk result (λ model. IsModelOf watch.now.placed watch.now.vars model.items) }

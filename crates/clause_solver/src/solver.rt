@@ -6,6 +6,7 @@ ghost use Rattle.proof_log.specs.Known.{AllClauses, AllOver};
 ghost use Rattle.clause_solver.specs.Solvers.{IsLogOf, Answers, Fixes, IsInOrder, start_of};
 
 use crate::Outcome;
+use crate::choice::lean;
 use crate::marks::Marks;
 use crate::pace::Pace;
 use crate::search::Search;
@@ -30,7 +31,7 @@ use std::marker::Model;
 ///
 /// `fix` and `solve` require an open log (`open_log`), the next bit (`next`, `in_order`), literals over
 /// the variables (`in_range`), and a budget that is not below what was learnt (`in_budget`).
-/// `decide_first`, `log`, `learnt` and `model` may be called in any state; a failed solver promises of its log the lines alone.
+/// `decide_first`, `lean`, `log`, `learnt` and `model` may be called in any state; a failed solver promises of its log the lines alone.
 #[derive(Drop)]
 pub struct Solver {
     /// The search, whose invariant holds unless memory ran out.
@@ -93,6 +94,16 @@ impl Solver {
         ensures { self.new ≡ self.old }
     {
         self.search.first = lits;
+    }
+
+    /// From now on these literals are decided soon, each at false, unless what is learnt speaks against it.
+    ///
+    /// What is answered does not rest on it, but which model is found may. A literal whose variable is none of the list's
+    /// is passed over.
+    pub fn lean(&mut self, lits: &[Lit])
+        ensures { self.new ≡ self.old }
+    {
+        lean(&mut self.search.watch, &mut self.search.order, lits);
     }
 
     /// Settles the next bit at 0: the negation of its literal is known from now on, and the log gets a Zero line.

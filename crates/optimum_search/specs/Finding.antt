@@ -8,6 +8,7 @@ use Rattle.proof_log.specs.Certificates.{bits_at, IsBelow, HasValue, IsCertifica
 use Rattle.clause_solver.specs.Models.{values_in}
 use Rattle.clause_solver.specs.Solvers.{SolverValue}
 use Rattle.optimum_search.specs.declared.found.Found.{Found}
+use Rattle.optimum_search.specs.declared.number.Number.{Number}
 use Rattle.optimum_search.specs.declared.found.Found.TheVariants.{Optimal, Refuted, Spent}
 
 -- an assignment meets all clauses, whatever their labels
@@ -50,14 +51,15 @@ abbrev pub Settles : List Lit → ℕ → ℕ → SolverValue → SolverValue �
 Settles bits budget n old new true = IsOver old.input old.vars new × IsSearching bits budget (n + 1) new
 Settles bits budget n old new false = IsOver old.input old.vars new × IsSpentLog new.vars new.input bits budget new.lines
 
--- an end behind a place, and not beyond the bits
-abbrev pub ends_past : List Lit → ℕ → ℕ → Bool
-ends_past bits at end = nat_lt at end && nat_le end (length bits)
+-- a number ends behind a place, and not beyond the bits
+abbrev pub ends_past : List Lit → ℕ → Number → Bool
+ends_past bits at number = nat_lt at number.end && nat_le number.end (length bits)
 
-abbrev pub upto_end : List Lit → ℕ → Option ℕ → List Lit
-upto_end bits at None = []
-upto_end bits at (Some end) = slice_range bits at end
+-- the number that a bit is of
+abbrev pub number_at : List Lit → List Number → ℕ → Option Number
+number_at bits numbers at = find (ends_past bits at) numbers
 
--- the bits from a place up to the first such end
-abbrev pub left_of : List Lit → List ℕ → ℕ → List Lit
-left_of bits ends at = upto_end bits at (find (ends_past bits at) ends)
+-- the bits of a number from a place on
+abbrev pub left_of : List Lit → ℕ → Option Number → List Lit
+left_of bits at None = []
+left_of bits at (Some number) = slice_range bits at number.end

@@ -6,8 +6,8 @@ ghost use Rattle.clause_store.specs.Clauses.{clauses_of};
 ghost use Rattle.proof_log.specs.Known.{AllClauses};
 ghost use Rattle.optimum_search.specs.Finding.{IsFound};
 
-use crate::Found;
 use crate::settle::settle_next;
+use crate::{Found, Number};
 use clause_solver::{Outcome, Solver};
 use clause_store::{ClauseList, Lit};
 use plain_data::List;
@@ -28,15 +28,15 @@ pub fn search(
     search_by_numbers(alloc, clauses, bits, &[], budget)
 }
 
-/// The same where the bits spell numbers, one behind another: `ends` has the place behind the last bit of each, in order.
+/// The same where the bits spell numbers, one behind another.
 ///
-/// While a number's bits are settled, those that are left are decided first, at 0. What is found has the same bits, whatever
-/// stands in `ends`; how long it takes may differ.
+/// While a number's bits are settled, those that are left are decided first, at 0, and its parts soon, at false. What is found
+/// has the same bits, whatever stands in `numbers`; how long it takes may differ.
 pub fn search_by_numbers(
     alloc: Global,
     clauses: &ClauseList,
     bits: &[Lit],
-    ends: &[usize],
+    numbers: &[Number],
     budget: u64,
 ) -> Result<Found, AllocError>
     requires in_range { AllBelow clauses.now.vars bits.now }
@@ -58,7 +58,7 @@ pub fn search_by_numbers(
         }
     }
     for at in 0..bits.len() {
-        if !settle_next(alloc, &mut solver, bits, ends, at, budget)? {
+        if !settle_next(alloc, &mut solver, bits, numbers, at, budget)? {
             return Ok(Found::Spent {
                 log: solver.into_log(),
             });

@@ -12,9 +12,11 @@
 
 mod descent;
 mod found;
+mod number;
 mod settle;
 mod theorems;
 
 pub use descent::{search, search_by_numbers};
 pub use found::Found;
+pub use number::Number;
 pub use theorems::found_laws;

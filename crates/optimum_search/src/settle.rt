@@ -1,9 +1,11 @@
 //! One bit: at 0 where the last model has it so, or where another model does, and otherwise at 1.
-ghost use Rattle.std.specs.Prelude.{◌≡◌, ◌<◌, length, IfOk};
+ghost use Rattle.std.specs.Prelude.{◌≡◌, ◌<◌, length, true, Some, IfOk};
+ghost use Rattle.std.specs.Option.{option_copied};
 ghost use Rattle.clause_store.specs.Lits.{AllBelow, lit_true};
 ghost use Rattle.clause_solver.specs.Models.{values_in};
-ghost use Rattle.optimum_search.specs.Finding.{IsSearching, Settles, left_of};
+ghost use Rattle.optimum_search.specs.Finding.{IsSearching, Settles, ends_past, number_at, left_of};
 
+use crate::Number;
 use clause_solver::{Outcome, Solver};
 use clause_store::Lit;
 use plain_data::List;
@@ -40,16 +42,47 @@ fn settle(solver: &mut Solver, bits: &[Lit], at: usize, budget: u64) -> Result<b
     }
 }
 
-/// The bits from a place up to the end of their number; none where no end stands behind the place.
-fn left_of_number<'a>(bits: &'a [Lit], ends: &[usize], at: usize) -> &'a [Lit]
-    ensures { result.now ≡ left_of bits.now ends.now at }
+/// The number that a bit is of; none where none ends behind it.
+fn number_at<'a>(bits: &[Lit], numbers: &'a [Number], at: usize) -> Option<&'a Number>
+    ensures { option_copied result ≡ number_at bits.now numbers.now at }
 {
-    for end in ends {
-        if at < *end && *end <= bits.len() {
-            return &bits[at..*end];
+    numbers
+        .iter()
+        .find(|number| at < number.end && number.end <= bits.len())
+}
+
+/// Whether a bit is the first of its number.
+fn begins(numbers: &[Number], at: usize) -> bool {
+    at == 0 || numbers.iter().any(|number| number.end == at)
+}
+
+/// The bits of a number from a place on.
+fn left_of<'a>(bits: &'a [Lit], at: usize, number: &Number) -> &'a [Lit]
+    requires { ends_past bits.now at number.now ≡ true }
+    ensures { result.now ≡ left_of bits.now at (Some number.now) }
+{
+    &bits[at..number.end]
+}
+
+/// What is decided before all else while the bit at a place is settled; the parts of a number that begins there come soon.
+fn lean(
+    alloc: Global,
+    solver: &mut Solver,
+    bits: &[Lit],
+    numbers: &[Number],
+    at: usize,
+) -> Result<(), AllocError>
+    ensures { solver.new ≡ solver.old }
+{
+    let mut first = Vec::new(alloc);
+    if let Some(number) = number_at(bits, numbers, at) {
+        first.extend_from_slice(left_of(bits, at, number))?;
+        if begins(numbers, at) {
+            solver.lean(number.parts.as_slice());
         }
     }
-    &[]
+    solver.decide_first(List::from_vec(first));
+    Ok(())
 }
 
 /// Settles the bit at a place while those left of its number are decided first.
@@ -57,7 +90,7 @@ pub fn settle_next(
     alloc: Global,
     solver: &mut Solver,
     bits: &[Lit],
-    ends: &[usize],
+    numbers: &[Number],
     at: usize,
     budget: u64,
 ) -> Result<bool, AllocError>
@@ -66,7 +99,6 @@ pub fn settle_next(
     requires in_range { AllBelow solver.old.vars bits.now }
     ensures { IfOk result (Settles bits.now budget at solver.old solver.new) }
 {
-    let first = Vec::from_slice(alloc, left_of_number(bits, ends, at))?;
-    solver.decide_first(List::from_vec(first));
+    lean(alloc, solver, bits, numbers, at)?;
     settle(solver, bits, at, budget)
 }

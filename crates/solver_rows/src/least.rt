@@ -1,9 +1,10 @@
-//! `search BUDGET VARS BITS.. 0 CLAUSES..`: the least bits; `numbers BUDGET VARS ENDS.. 0 BITS.. 0 CLAUSES..`: the same where
-//! the bits spell numbers that end before these places; `within` and the same words: only what was found, so that
-//! these rows show how much a search has to learn.
+//! `search BUDGET VARS BITS.. 0 CLAUSES..`: the least bits; `numbers BUDGET VARS ENDS.. 0 PARTS.. 0 BITS.. 0 CLAUSES..`: the
+//! same where the bits spell numbers that end before these places, each with these parts; `within` and the same words: only
+//! what was found, so that these rows show how much a search has to learn.
 use crate::input::{are_below, clauses_of, lits_of, number_of, places_of};
 use crate::output::{push_line, push_log, push_model, said_no};
-use optimum_search::{Found, search, search_by_numbers};
+use optimum_search::{Found, Number, search, search_by_numbers};
+use plain_data::List;
 use std::alloc::{AllocError, Global};
 
 /// What `search` finds.
@@ -62,12 +63,18 @@ fn found_by_numbers(
     words: &[&str],
 ) -> Result<Option<Found>, AllocError> {
     let (ends, words) = places_of(alloc, words)?;
+    let (parts, words) = lits_of(alloc, number_of(vars), words)?;
     let (bits, rest) = lits_of(alloc, number_of(vars), words)?;
     let clauses = clauses_of(alloc, number_of(vars), rest)?;
     if !are_below(&bits, clauses.vars()) {
         return Ok(None);
     }
-    let found = search_by_numbers(alloc, &clauses, &bits, &ends, number_of(budget))?;
+    let mut numbers = Vec::new(alloc);
+    for end in ends {
+        let parts = List::from_vec(Vec::from_slice(alloc, &parts)?);
+        numbers.push(Number { end, parts })?;
+    }
+    let found = search_by_numbers(alloc, &clauses, &bits, &numbers, number_of(budget))?;
     Ok(Some(found))
 }
 
