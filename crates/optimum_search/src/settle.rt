@@ -1,5 +1,5 @@
 //! One bit: at 0 where the last model has it so, or where another model does, and otherwise at 1.
-ghost use Rattle.std.specs.Prelude.{◌≡◌, ◌<◌, length, true, Some, IfOk};
+ghost use Rattle.std.specs.Prelude.{◌≡◌, ◌<◌, length, true, Some, IfOk, IfSome};
 ghost use Rattle.std.specs.Option.{option_copied};
 ghost use Rattle.clause_store.specs.Lits.{AllBelow, lit_true};
 ghost use Rattle.clause_solver.specs.Models.{values_in};
@@ -44,7 +44,8 @@ fn settle(solver: &mut Solver, bits: &[Lit], at: usize, budget: u64) -> Result<b
 
 /// The number that a bit is of; none where none ends behind it.
 fn number_at<'a>(bits: &[Lit], numbers: &'a [Number], at: usize) -> Option<&'a Number>
-    ensures { option_copied result ≡ number_at bits.now numbers.now at }
+    ensures found { option_copied result ≡ number_at bits.now numbers.now at }
+    ensures past { IfSome result (λ number. ends_past bits.now at number.now ≡ true) }
 {
     numbers
         .iter()
