@@ -6,7 +6,9 @@ ghost use Rattle.cost_terms.specs.Terms.{deprecated_terms, version_terms, os_ter
 
 use choice_terms::spread;
 use clause_store::Lit;
-use cost_weights::{compiler_weight, deprecated_weights, os_weight, target_weight, version_weights};
+use cost_weights::{
+    compiler_weight, deprecated_weights, os_weight, target_weight, version_weights,
+};
 use formula_totals::Weighted;
 use graph_core::Compiler;
 use literal_table::Block;

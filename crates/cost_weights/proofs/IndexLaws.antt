@@ -58,8 +58,8 @@ marks problem name rows index found rows_are version =
 
 pub all_marked : {L : Type 0} (problem : Problem) (name : Text) (rows : List VersionRow) (index : List (List ℕ × VersionRow))
     → IsIndexOf (λ row. row.version) rows index → rows ≡ versions_at problem name → (choices : List (Text × L))
-    → map (λ c. (if list_any (λ e. e.1.deprecated) (with_text c.0 index) then 1 else 0, c.1)) choices
-    ≡ map (λ c. (if is_deprecated problem name c.0 then 1 else 0, c.1)) choices
-all_marked problem name rows index found rows_are choices =
+    → map {B = ℕ × L} (λ c. (if list_any (λ e. e.1.deprecated) (with_text c.0 index) then 1 else 0, c.1)) choices
+    ≡ map {B = ℕ × L} (λ c. (if is_deprecated problem name c.0 then 1 else 0, c.1)) choices
+all_marked {L = L} problem name rows index found rows_are choices =
     ap (λ (is : Text → Bool). map {B = ℕ × L} (λ c. (if is c.0 then 1 else 0, c.1)) choices)
     (λ i version. marks problem name rows index found rows_are version i)

@@ -101,7 +101,7 @@ weighs problem name table lists rows is lists_are rows_are version =
 pub all_weigh : {L : Type 0} (problem : Problem) (name : Text) (table : List Rank) (lists : List (List Range)) (rows : List VersionRow)
     → table ≡ map (rank lists) rows → lists ≡ listed_in (entry_of problem name) → rows ≡ versions_at problem name
     → (choices : List (Text × L))
-    → map (λ c. (weight_among table c.0, c.1)) choices ≡ map (λ c. (version_weight problem name c.0, c.1)) choices
-all_weigh problem name table lists rows is lists_are rows_are choices =
+    → map {B = ℕ × L} (λ c. (weight_among table c.0, c.1)) choices ≡ map {B = ℕ × L} (λ c. (version_weight problem name c.0, c.1)) choices
+all_weigh {L = L} problem name table lists rows is lists_are rows_are choices =
     ap (λ (weight : Text → ℕ). map {B = ℕ × L} (λ c. (weight c.0, c.1)) choices)
     (λ i version. weighs problem name table lists rows is lists_are rows_are version i)

@@ -50,10 +50,7 @@ impl<'a> Model for RankTable<'a> {
 
 impl<'a> RankTable<'a> {
     /// Takes n log n comparisons for n ranks.
-    pub(crate) fn new(
-        alloc: Global,
-        ranked: &'a [Ranked<'a>],
-    ) -> Result<RankTable<'a>, AllocError>
+    pub(crate) fn new(alloc: Global, ranked: &'a [Ranked<'a>]) -> Result<RankTable<'a>, AllocError>
         ensures { IfOk result (λ table. table ≡ ranked.now) }
     {
         let sorted = sorted(alloc, ranked)?;
