@@ -1,57 +1,20 @@
 //! The terms of the weights of attributes.
-ghost use Rattle.std.specs.Prelude.{◌≡◌, ◌++◌, map, IfOk, OnOk, if◌then◌else◌};
-ghost use Rattle.graph_costs.specs.Weights.{version_weight, is_deprecated, os_weight, target_weight, compiler_weight};
+ghost use Rattle.std.specs.Prelude.{◌≡◌, IfOk};
+ghost use Rattle.graph_costs.specs.Weights.{os_weight, target_weight, compiler_weight};
 ghost use Rattle.choice_terms.specs.Spread.{weighed};
-ghost use Rattle.cost_terms.specs.Terms.{weight_terms, deprecated_terms, version_terms, os_terms, target_terms, compiler_terms};
+ghost use Rattle.cost_terms.specs.Terms.{deprecated_terms, version_terms, os_terms, target_terms, compiler_terms};
 
-use crate::weights::{compiler_weight, is_deprecated, os_weight, target_weight, version_weight};
 use choice_terms::spread;
 use clause_store::Lit;
+use cost_weights::{
+    compiler_weight, deprecated_weights, os_weight, target_weight, version_weights,
+};
 use formula_totals::Weighted;
 use graph_core::Compiler;
 use literal_table::Block;
 use plain_data::Word;
 use problem::Problem;
 use std::alloc::{AllocError, Global};
-use version_order::Version;
-
-fn deprecated_weights(
-    alloc: Global,
-    problem: &Problem,
-    name: &str,
-    choices: &[(Version, Lit)],
-) -> Result<Vec<(u64, Lit)>, AllocError>
-    ensures { IfOk result (λ weights. weights.items
-        ≡ weighed (λ version. if is_deprecated problem.now name.now version then 1 else 0) choices.now) }
-{
-    let mut weights = Vec::new(alloc);
-    for choice in choices {
-        let weight = if is_deprecated(problem, name, choice.0.text()) {
-            1
-        } else {
-            0
-        };
-        weights.push((weight, choice.1))?;
-    }
-    Ok(weights)
-}
-
-fn version_weights(
-    alloc: Global,
-    problem: &Problem,
-    name: &str,
-    choices: &[(Version, Lit)],
-) -> Result<Vec<(u64, Lit)>, AllocError>
-    ensures { IfOk result (λ weights. weights.items
-        ≡ weighed (version_weight problem.now name.now) choices.now) }
-{
-    let mut weights = Vec::new(alloc);
-    for choice in choices {
-        let weight = version_weight(problem, name, choice.0.text());
-        weights.push((weight as u64, choice.1))?;
-    }
-    Ok(weights)
-}
 
 fn os_weights(
     alloc: Global,

@@ -11,9 +11,9 @@ ghost use Rattle.graph_costs.specs.Costs.{is_root, missing, stopped};
 ghost use Rattle.cost_vector.specs.Terms.{beside, variant_cost, weight_at, differs, edge_differs};
 
 use crate::terms::Attribute;
-use crate::weights::provider_weight;
 use condition_rules::{Paths, governing};
 use conditions::VariantRow;
+use cost_weights::provider_weight;
 use graph_core::{Compiler, Edge, Node};
 use plain_data::Word;
 use problem::Problem;
@@ -114,7 +114,7 @@ fn weight_at(problem: &Problem, name: &str, p: &(Word, Word)) -> usize
     ensures { result ≡ weight_at problem.now name.now p.now }
 {
     if p.1.as_str() == name {
-        provider_weight(problem, p)
+        provider_weight(problem, p.0.as_str(), p.1.as_str())
     } else {
         0
     }

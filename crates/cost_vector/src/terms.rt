@@ -4,8 +4,8 @@ ghost use Rattle.graph_costs.specs.Costs.{stopped};
 ghost use Rattle.cost_vector.specs.Terms.{term_cost, placed, in_part, part_cost};
 
 use crate::node_costs::{edges_differing, is_root, over_variants, provider_weights};
-use crate::weights::{compiler_weight, is_deprecated, os_weight, target_weight, version_weight};
 use condition_rules::Paths;
+use cost_weights::{compiler_weight, is_deprecated, os_weight, target_weight, version_weight};
 use graph_core::Node;
 use problem::Problem;
 use problem_lookups::{Explored, is_built};
