@@ -1,4 +1,5 @@
 -- What is passed on of `problem_encoding`, so that the crates above need not name it.
 pub use Rattle.problem_encoding.specs.Encodings
 pub use Rattle.problem_encoding.specs.Built
+pub use Rattle.problem_encoding.specs.OfRankedCosts.Kept
 pub use Rattle.problem_encoding.specs.declared.encoded.Encoded

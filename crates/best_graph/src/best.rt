@@ -8,6 +8,7 @@ ghost use Rattle.optimum_search.specs.Finding.{IsFound};
 ghost use Rattle.possible_closure.specs.Closures.{closure_of};
 ghost use Rattle.problem_encoding.specs.Built.{is_encodable, encoding_of};
 ghost use Rattle.problem_encoding.specs.Encodings.{IsEncoded};
+ghost use Rattle.problem_encoding.specs.OfRankedCosts.Kept.{has_right_values};
 ghost use Rattle.best_graph.specs.Answers.{IsAnswer};
 
 use crate::answer::Answer;
@@ -23,14 +24,16 @@ use problem_encoding::{Encoded, encode, number_ends};
 use proof_log::{Log, may_write};
 use std::alloc::{AllocError, Global};
 
-/// The best graph of a problem, where the search may learn so many clauses.
+/// The best graph of a problem, where the search may learn so many clauses. Externals and records have values for their variants
+/// (`has_right_values`).
 pub fn best_graph(
     alloc: Global,
     problem: &Problem,
     closure: &Closure,
     budget: u64,
 ) -> Result<Answer, AllocError>
-    requires { closure.now ≡ closure_of problem.now }
+    requires closure { closure.now ≡ closure_of problem.now }
+    requires values { has_right_values problem.now ≡ true }
     ensures { IfOk result (IsAnswer problem.now budget) }
 {
     let encoded = encode(alloc, problem, closure)?;

@@ -1,9 +1,10 @@
 //! The reading of a problem, and the saying of its encoding.
 
-ghost use Rattle.std.specs.Prelude.{◌≡◌, IfOk, IfSome, OnOk};
+ghost use Rattle.std.specs.Prelude.{◌≡◌, true, IfOk, IfSome, OnOk};
 ghost use Rattle.outside_desk.specs.Causes.{Counts};
 ghost use Rattle.outside_desk.specs.Files.{and_said};
 ghost use Rattle.run_input.specs.Closures.{closure_of};
+ghost use Rattle.run_input.specs.Kept.{has_right_values};
 ghost use Rattle.run_input.specs.Inputs.{Reads};
 ghost use Rattle.run_input.specs.Orders.{order_of};
 ghost use Rattle.run_input.specs.Stages.{Is, Then};
@@ -35,7 +36,8 @@ fn explained(alloc: Global, words: &[String]) -> Result<Vec<String>, AllocError>
 /// The text of the encoding of what was read.
 #[tactic(auto, unfolding(crate::specs::Answers::text_of))]
 fn text_of(alloc: Global, input: &Input) -> Result<Vec<u8>, AllocError>
-    requires { input.now.closure ≡ closure_of input.now.problem }
+    requires names { input.now.closure ≡ closure_of input.now.problem }
+    requires values { has_right_values input.now.problem ≡ true }
     ensures { IfOk result (λ text. text.items ≡ text_of input.now.problem) }
 {
     let problem = &input.problem;
@@ -64,7 +66,8 @@ fn say<O: Sink>(alloc: Global, out: &mut O, text: &[u8]) -> Result<(), WriteStop
 
 /// Says the encoding of what was read.
 fn say_encoded<O: Sink>(alloc: Global, out: &mut O, input: &Input) -> Result<(), WriteStop>
-    requires { input.now.closure ≡ closure_of input.now.problem }
+    requires names { input.now.closure ≡ closure_of input.now.problem }
+    requires values { has_right_values input.now.problem ≡ true }
     ensures ok { OnOk result (O.said out.new
         ≡ and_said (O.said out.old) (text_of input.now.problem)) }
     ensures cause { Counts (O.faults out.old) (O.faults out.new) (EndsInOutputFault result) }
@@ -76,7 +79,8 @@ fn say_encoded<O: Sink>(alloc: Global, out: &mut O, input: &Input) -> Result<(),
 
 /// The same, as a run ends.
 fn say_input<O: Sink>(alloc: Global, out: &mut O, input: &Input) -> Result<(), Stop>
-    requires { input.now.closure ≡ closure_of input.now.problem }
+    requires names { input.now.closure ≡ closure_of input.now.problem }
+    requires values { has_right_values input.now.problem ≡ true }
     ensures ok { OnOk result (O.said out.new
         ≡ and_said (O.said out.old) (text_of input.now.problem)) }
     ensures cause { Counts (O.faults out.old) (O.faults out.new) (FailsToSay result) }
@@ -99,6 +103,7 @@ fn read_ordered<R: Threads + Sync, D: Desk>(
     ensures read { IfSome (D.files desk.old) (λ files. Gives result
         (Then (Is (order_of (words_of words.now))) (Reads files))) }
     ensures names { IfOk result (λ input. input.closure ≡ closure_of input.problem) }
+    ensures values { IfOk result (λ input. has_right_values input.problem ≡ true) }
     ensures cause { Counts (D.faults desk.old) (D.faults desk.new) (EndsInReadFault result) }
     ensures same { D.files desk.new ≡ D.files desk.old }
     ensures put_faults { D.put_faults desk.new ≡ D.put_faults desk.old }
@@ -119,6 +124,7 @@ fn read_asked<R: Threads + Sync, D: Desk>(
     ensures read { IfSome (D.files desk.old)
         (λ files. Gives result (Asks files (words_of words.now))) }
     ensures names { IfOk result (λ input. input.closure ≡ closure_of input.problem) }
+    ensures values { IfOk result (λ input. has_right_values input.problem ≡ true) }
     ensures cause { Counts (D.faults desk.old) (D.faults desk.new) (EndsInReadFault result) }
     ensures same { D.files desk.new ≡ D.files desk.old }
     ensures put_faults { D.put_faults desk.new ≡ D.put_faults desk.old }

@@ -11,4 +11,4 @@ mod theorems;
 
 pub use theorems::verdict_laws;
 // What crates above answer with.
-pub use best_graph::{Answer, Encoded, best_graph, encode, values_of};
+pub use best_graph::{Answer, Encoded, best_graph, encode, has_right_values, values_of};

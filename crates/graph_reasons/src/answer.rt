@@ -1,12 +1,13 @@
 //! The search for a graph, or for what stands against one.
 
-ghost use Rattle.std.specs.Prelude.{◌≡◌, ◌<◌, ◌^◌, [], IfOk, length};
+ghost use Rattle.std.specs.Prelude.{◌≡◌, ◌<◌, ◌^◌, true, [], IfOk, length};
 ghost use Rattle.clause_store.specs.Clauses.{clauses_of};
 ghost use Rattle.proof_log.specs.Known.{AllClauses};
 ghost use Rattle.optimum_search.specs.Finding.{IsFound};
 ghost use Rattle.possible_closure.specs.Closures.{closure_of};
 ghost use Rattle.graph_check.specs.OfBestGraph.Built.{encoding_of};
 ghost use Rattle.graph_check.specs.OfBestGraph.Encodings.{IsEncoded};
+ghost use Rattle.graph_check.specs.OfBestGraph.Kept.{has_right_values};
 ghost use Rattle.graph_reasons.specs.Explanations.{Explains};
 
 use crate::explanation::Explanation;
@@ -20,14 +21,16 @@ use std::alloc::{AllocError, Global};
 
 /// Whether some graph is valid, and else the demands that a refutation rests on, where the search may learn so many clauses.
 ///
-/// The search is without bits of costs, so it ends at the first graph.
+/// The search is without bits of costs, so it ends at the first graph. Externals and records have values for their variants
+/// (`has_right_values`).
 pub fn explain(
     alloc: Global,
     problem: &Problem,
     closure: &Closure,
     budget: u64,
 ) -> Result<Explanation, AllocError>
-    requires { closure.now ≡ closure_of problem.now }
+    requires closure { closure.now ≡ closure_of problem.now }
+    requires values { has_right_values problem.now ≡ true }
     ensures { IfOk result (Explains problem.now budget) }
 {
     let encoded = encode(alloc, problem, closure)?;

@@ -13,4 +13,6 @@ mod explanation;
 pub use answer::explain;
 pub use explanation::Explanation;
 // What crates above answer with.
-pub use graph_check::{Answer, Encoded, best_graph, encode, values_of, verdict_laws};
+pub use graph_check::{
+    Answer, Encoded, best_graph, encode, has_right_values, values_of, verdict_laws,
+};

@@ -17,7 +17,6 @@ use Rattle.ranked_costs.specs.OfClosureEncoding.Targets.{conditions_of, targets_
 use Rattle.ranked_costs.specs.OfClosureEncoding.Joined.{IsPlaced, holds_at}
 use Rattle.ranked_costs.specs.OfClosureEncoding.Closures.{closure_formulas, ClosureIsRight}
 use Rattle.problem_formulas.specs.Given.{no_place, formulas_given}
-use Rattle.ranked_costs.specs.OfClosureEncoding.Kept.{has_right_values}
 use Rattle.ranked_costs.specs.OfClosureEncoding.Closures.{closure_clauses}
 use Rattle.ranked_costs.specs.Ranked.{closure_values}
 use Rattle.possible_closure.specs.Closures.{closure_of}
@@ -57,13 +56,12 @@ module _ (problem : Problem) (names : List Text) (closure : IsClosure problem na
     values ∙ (λ i. values_for problem (e i) (s i) (formulas_given problem (e i)) ((w ∙ ap (targets_of problem) e) i)),
   )
 
-  pub ruled : has_right_values problem ≡ true → names ≡ closure_of problem → (t : Table) (n : ℕ) (targets : List Text) (made : ProblemClauses)
+  pub ruled : names ≡ closure_of problem → (t : Table) (n : ℕ) (targets : List Text) (made : ProblemClauses)
       → t ≡ table_for problem names → n ≡ size_for problem names → targets ≡ targets_of problem t
       → encode_on problem t n (formulas_given problem t) targets ≡ made.list → made.values ≡ values_for problem t n (formulas_given problem t) targets
       → IsRuled problem t made
-  ruled right same t n targets made e s w built values =
+  ruled same t n targets made e s w built values =
       let all : Over problem t made (closure_of problem) = subst (Over problem t made) same (over t n targets made e s w built values) in record {
-        right = right;
         closure = all.0;
         has = all.1;
         is_table = all.2;

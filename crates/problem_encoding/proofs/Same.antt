@@ -1,13 +1,11 @@
 -- What the code makes is the encoding of the definition.
 use Rattle.std.proofs.Common.{◌≡◌, sym, ◌∙◌, true}
-use Rattle.std.proofs.lemmas.Bool.{and_from}
 use Rattle.clause_store.specs.Clauses.{Clauses}
 use Rattle.criteria_totals.specs.Totals.{Spelling}
 use Rattle.problem.specs.Problems.{Problem}
 use Rattle.literal_table.specs.Tables.{Table}
 use Rattle.ranked_costs.specs.Built.{rank_costs_on}
 use Rattle.problem_formulas.specs.OfGraphClauses.ProblemClauses.{ProblemClauses}
-use Rattle.ranked_costs.specs.OfClosureEncoding.Kept.{has_right_values}
 use Rattle.problem_encoding.specs.Built.{order_in, has_small_costs, is_encodable, encoding_of}
 use Rattle.problem_encoding.specs.Encodings.{IsRuled}
 use Rattle.problem_encoding.specs.declared.encoded.Encoded.{Encoded}
@@ -15,7 +13,7 @@ use Rattle.problem_encoding.specs.declared.encoded.Encoded.{Encoded}
 module _ (problem : Problem) (t : Table) (made : ProblemClauses) (ruled : IsRuled problem t made) where
   pub encodable : has_small_costs problem t made.values ≡ true → is_encodable problem ≡ true
   unfolding is_encodable
-  encodable small = and_from (has_right_values problem) _ ruled.right ((λ i. has_small_costs problem (sym ruled.is_table i) (sym ruled.values i)) ∙ small)
+  encodable small = (λ i. has_small_costs problem (sym ruled.is_table i) (sym ruled.values i)) ∙ small
 
   pub encoded-is : (new : Clauses) (bits : Spelling)
       → rank_costs_on made.list problem t made.values (order_in problem t) ≡ record { list = new; answer = bits }

@@ -1,5 +1,5 @@
 -- The encoding of a problem, as a function.
-use Rattle.std.specs.Prelude.{Bool, ◌&&◌, List}
+use Rattle.std.specs.Prelude.{Bool, List}
 use Rattle.clause_store.specs.Clauses.{Clauses}
 use Rattle.clause_formulas.specs.declared.defined.Defined.{Defined}
 use Rattle.graph_core.specs.Graphs.{Text}
@@ -8,7 +8,6 @@ use Rattle.possible_closure.specs.Closures.{root_names, closure_of}
 use Rattle.literal_table.specs.Tables.{Table}
 use Rattle.name_order.specs.Walks.{post_order}
 use Rattle.problem_formulas.specs.Given.{no_place}
-use Rattle.ranked_costs.specs.OfClosureEncoding.Kept.{has_right_values}
 use Rattle.ranked_costs.specs.OfClosureEncoding.Tables.{table_for}
 use Rattle.ranked_costs.specs.OfClosureEncoding.Closures.{closure_clauses}
 use Rattle.ranked_costs.specs.Ranked.{closure_values}
@@ -33,9 +32,9 @@ order_in problem t = post_order t (root_names problem)
 abbrev pub has_small_costs : Problem → Table → List Defined → Bool
 has_small_costs problem t values = are_small (terms_for problem t values (order_in problem t))
 
--- whether a problem is encoded where memory suffices: kept nodes have values for their variants, and sums are small
+-- whether a problem is encoded where memory suffices: its own sums are small
 unfoldable pub is_encodable : Problem → Bool
-is_encodable problem = has_right_values problem && has_small_costs problem (table_of problem) (rule_values problem)
+is_encodable problem = has_small_costs problem (table_of problem) (rule_values problem)
 
 -- the clauses of the rules with the bits of the costs behind them, and the table that reads a model
 unfoldable pub encoding_of : Problem → Encoded

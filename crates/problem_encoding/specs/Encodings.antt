@@ -16,7 +16,7 @@ use Rattle.problem_formulas.specs.OfGraphClauses.ProblemClauses.{ProblemClauses}
 use Rattle.literal_table.specs.Tables.{Table}
 use Rattle.problem.specs.Closure.{IsClosure}
 use Rattle.possible_closure.specs.Closures.{closure_of}
-use Rattle.ranked_costs.specs.OfClosureEncoding.Kept.{have_values, has_right_values}
+use Rattle.ranked_costs.specs.OfClosureEncoding.Kept.{have_values}
 use Rattle.problem_encoding.specs.Built.{table_of, rule_clauses, rule_values}
 use Rattle.problem_encoding.specs.declared.encoded.Encoded.{Encoded}
 
@@ -38,7 +38,6 @@ IsEncoded problem encoded = AreCosted problem encoded.table encoded.clauses enco
 
 -- the clauses of the rules of a problem over its table
 pub record IsRuled (problem : Problem) (table : Table) (made : ProblemClauses) : Type 0 where
-  pub right : has_right_values problem ≡ true
   pub closure : IsClosure problem (closure_of problem)
   pub has : have_values problem (closure_of problem) ≡ true
   pub is_table : table ≡ table_of problem

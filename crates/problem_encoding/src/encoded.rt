@@ -8,7 +8,6 @@ ghost use Rattle.problem_encoding.specs.Built.{order_in, has_small_costs, is_enc
 ghost use Rattle.problem_encoding.specs.Encodings.{AreCosted, IsEncoded, IsRuled};
 
 use crate::roots::root_names;
-use crate::values::has_right_values;
 use clause_formulas::Defined;
 use clause_store::ClauseList;
 use criteria_totals::Bits;
@@ -32,17 +31,16 @@ pub struct Encoded {
 
 /// The clauses of a problem over the names that its nodes may have: one encoding for each problem.
 ///
-/// An error is want of memory. It comes too where a kept node has a variant without a value, or where the weights of one number
-/// add up to 2^63 or more.
+/// Externals and records have values for their variants, as all that are read do; `has_right_values` tests it.
+///
+/// An error is want of memory. It comes too where the weights of one number add up to 2^63 or more.
 pub fn encode(alloc: Global, problem: &Problem, closure: &Closure) -> Result<Encoded, AllocError>
-    requires { closure.now ≡ closure_of problem.now }
+    requires closure { closure.now ≡ closure_of problem.now }
+    requires values { has_right_values problem.now ≡ true }
     ensures encoded { IfOk result (IsEncoded problem.now) }
     ensures encodable { IfOk result (λ encoded. is_encodable problem.now ≡ true) }
     ensures built { IfOk result (λ encoded. encoded ≡ encoding_of problem.now) }
 {
-    if !has_right_values(problem) {
-        return Err(AllocError);
-    }
     let mut vars = 0;
     let table = table_of(alloc, problem, closure, &mut vars)?;
     let made = ruled(alloc, problem, closure, &table, vars)?;

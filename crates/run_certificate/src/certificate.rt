@@ -1,6 +1,6 @@
 //! The check of a certificate.
 
-ghost use Rattle.std.specs.Prelude.{◌≡◌, ◌<◌, [], length, IfOk, OnOk, IfSome};
+ghost use Rattle.std.specs.Prelude.{◌≡◌, ◌<◌, true, [], length, IfOk, OnOk, IfSome};
 ghost use Rattle.std.specs.Option.{option_map};
 ghost use Rattle.outside_desk.specs.Causes.{Counts};
 ghost use Rattle.clause_store.specs.Clauses.{clauses_of};
@@ -10,6 +10,7 @@ ghost use Rattle.certified.specs.Texts.{IsAfter};
 ghost use Rattle.possible_closure.specs.Closures.{closure_of};
 ghost use Rattle.graph_reasons.specs.OfGraphCheck.Built.{encoding_of};
 ghost use Rattle.graph_reasons.specs.OfGraphCheck.Encodings.{IsEncoded};
+ghost use Rattle.graph_reasons.specs.OfGraphCheck.Kept.{has_right_values};
 ghost use Rattle.run_answers.specs.Stages.{Is};
 ghost use Rattle.run_answers.specs.Stops.{Gives, EndsInReadFault, EndsInUsage};
 ghost use Rattle.run_certificate.specs.Certificates.{said_at, certified_at, ShowsOf};
@@ -148,7 +149,8 @@ pub fn read_certificate<R: Threads + Sync, D: Desk>(
     closure: &Closure,
     numbers: Option<&[u64]>,
 ) -> Result<(), ReadStop>
-    requires { closure.now ≡ closure_of problem.now }
+    requires closure { closure.now ≡ closure_of problem.now }
+    requires values { has_right_values problem.now ≡ true }
     ensures read { IfSome (D.files desk.old) (λ files. Gives result (Is (certified_at files path.now
         problem.now (option_map (λ n. n.now) numbers.entry)))) }
     ensures shown { OnOk result (IfSome (D.files desk.old)

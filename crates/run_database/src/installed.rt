@@ -1,6 +1,8 @@
 //! The reading of a database.
 
-ghost use Rattle.std.specs.Prelude.{◌≡◌, false, IfSome};
+ghost use Rattle.std.specs.Prelude.{◌≡◌, true, false, IfOk, IfSome};
+ghost use Rattle.std.specs.List.{list_all};
+ghost use Rattle.recorded_values.specs.Values.{has_values};
 ghost use Rattle.outside_desk.specs.Causes.{Counts};
 ghost use Rattle.run_words.specs.Stops.{Gives, EndsInReadFault, EndsInUsage};
 ghost use Rattle.run_words.specs.Words.{is_dash};
@@ -9,6 +11,7 @@ ghost use Rattle.run_database.specs.Installed.{bytes_at, GivesBytes, DatabaseIn,
 use database_reader::read_database;
 use outside_desk::{Desk, ReadFault, read_whole};
 use plain_data::Word;
+use recorded_values::value_laws;
 use reuse_db::{Database, DbFault};
 use run_words::{ReadStop, Refusal, is_dash};
 use std::alloc::Global;
@@ -43,9 +46,11 @@ fn read_bytes<D: Desk>(alloc: Global, desk: &mut D, path: &str) -> Result<Vec<u8
 /// The database that the bytes of a file are.
 fn database_in(alloc: Global, bytes: &[u8]) -> Result<Database, ReadStop>
     ensures read { Gives result (DatabaseIn bytes.now) }
+    ensures values { IfOk result (λ database. list_all has_values database ≡ true) }
     ensures no_usage { EndsInUsage result → ⊥ }
     ensures no_fault { EndsInReadFault result → ⊥ }
 {
+    value_laws();
     match read_database(alloc, bytes) {
         Ok(database) => Ok(database),
         Err(DbFault::OutOfMemory) => Err(ReadStop::NoMemory),
@@ -65,6 +70,7 @@ pub fn read_installed<D: Desk>(
     path: &str,
 ) -> Result<Database, ReadStop>
     ensures read { IfSome (D.files desk.old) (λ files. Gives result (DatabaseAt files path.now)) }
+    ensures values { IfOk result (λ database. list_all has_values database ≡ true) }
     ensures path { FailsThere path.now result }
     ensures no_usage { EndsInUsage result → ⊥ }
     ensures same { D.files desk.new ≡ D.files desk.old }

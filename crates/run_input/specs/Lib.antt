@@ -17,3 +17,4 @@ pub use Rattle.run_settings.specs.Words
 pub use Rattle.run_settings.specs.Orders
 pub use Rattle.run_settings.specs.Work
 pub use Rattle.possible_closure.specs.Closures
+pub use Rattle.table_plan.specs.Kept

@@ -6,6 +6,9 @@ ghost use Rattle.outside_desk.specs.Causes.{Counts};
 ghost use Rattle.conditions.specs.Right.{is_right_recipe};
 ghost use Rattle.virtuals.specs.Virtuals.{AreInOrder};
 ghost use Rattle.possible_closure.specs.Closures.{closure_of};
+ghost use Rattle.table_plan.specs.Kept.{has_right_values};
+ghost use Rattle.run_settings.specs.Values.{are_valued};
+ghost use Rattle.run_database.specs.Values.{has_values};
 ghost use Rattle.run_settings.specs.Stages.{Is};
 ghost use Rattle.run_settings.specs.Stops.{Gives, EndsInReadFault, EndsInUsage};
 ghost use Rattle.run_input.specs.Roots.{RootsOf, are_named};
@@ -47,8 +50,11 @@ fn posed(
     requires order { AreInOrder recipes }
     requires right { list_all is_right_recipe recipes ≡ true }
     requires named { are_named roots ≡ true }
+    requires externals { are_valued settings ≡ true }
+    requires records { list_all has_values database ≡ true }
     ensures read { Gives result (Is (posed_by recipes settings database roots)) }
     ensures roots { IfOk result (λ problem. problem.roots ≡ roots) }
+    ensures values { IfOk result (λ problem. has_right_values problem ≡ true) }
     ensures no_usage { EndsInUsage result → ⊥ }
     ensures no_fault { EndsInReadFault result → ⊥ }
 {
@@ -66,8 +72,10 @@ fn posed(
 /// What a run reads: the problem, with the names that its nodes may have.
 #[tactic(auto, unfolding(crate::specs::Inputs::closed_of))]
 fn closed(alloc: Global, problem: Problem) -> Result<Input, ReadStop>
+    requires { has_right_values problem ≡ true }
     ensures read { Gives result (Is (closed_of problem)) }
     ensures roots { IfOk result (λ input. input.problem.roots ≡ problem.roots) }
+    ensures values { IfOk result (λ input. has_right_values input.problem ≡ true) }
     ensures names { IfOk result (λ input. input.closure ≡ closure_of input.problem) }
     ensures no_usage { EndsInUsage result → ⊥ }
     ensures no_fault { EndsInReadFault result → ⊥ }
@@ -90,8 +98,11 @@ fn put_together(
     requires order { AreInOrder recipes }
     requires right { list_all is_right_recipe recipes ≡ true }
     requires named { are_named roots ≡ true }
+    requires externals { are_valued settings ≡ true }
+    requires records { list_all has_values database ≡ true }
     ensures read { Gives result (InputBy recipes settings database roots) }
     ensures roots { IfOk result (λ input. input.problem.roots ≡ roots) }
+    ensures values { IfOk result (λ input. has_right_values input.problem ≡ true) }
     ensures names { IfOk result (λ input. input.closure ≡ closure_of input.problem) }
     ensures no_usage { EndsInUsage result → ⊥ }
     ensures no_fault { EndsInReadFault result → ⊥ }
@@ -110,8 +121,11 @@ fn read_asked(
 ) -> Result<Input, ReadStop>
     requires order { AreInOrder recipes }
     requires right { list_all is_right_recipe recipes ≡ true }
+    requires externals { are_valued settings ≡ true }
+    requires records { list_all has_values database ≡ true }
     ensures read { Gives result (Asked recipes settings spec.now database) }
     ensures roots { IfOk result (λ input. RootsOf spec.now (Ok input.problem.roots)) }
+    ensures values { IfOk result (λ input. has_right_values input.problem ≡ true) }
     ensures names { IfOk result (λ input. input.closure ≡ closure_of input.problem) }
     ensures no_usage { EndsInUsage result → ⊥ }
     ensures no_fault { EndsInReadFault result → ⊥ }
@@ -133,9 +147,11 @@ fn read_behind<D: Desk>(
 ) -> Result<Input, ReadStop>
     requires order { AreInOrder recipes }
     requires right { list_all is_right_recipe recipes ≡ true }
+    requires externals { are_valued settings ≡ true }
     ensures read { IfSome (D.files desk.old)
         (λ files. Gives result (Behind files command.now settings recipes)) }
     ensures roots { IfOk result (λ input. RootsOf command.now.spec (Ok input.problem.roots)) }
+    ensures values { IfOk result (λ input. has_right_values input.problem ≡ true) }
     ensures names { IfOk result (λ input. input.closure ≡ closure_of input.problem) }
     ensures path { FailsAtInput command.now result }
     ensures no_usage { EndsInUsage result → ⊥ }
@@ -158,9 +174,11 @@ fn read_over<R: Threads + Sync, D: Desk>(
     command: &Command<'_>,
     settings: Settings,
 ) -> Result<Input, ReadStop>
+    requires { are_valued settings ≡ true }
     ensures read { IfSome (D.files desk.old)
         (λ files. Gives result (OverSettings files command.now settings)) }
     ensures roots { IfOk result (λ input. RootsOf command.now.spec (Ok input.problem.roots)) }
+    ensures values { IfOk result (λ input. has_right_values input.problem ≡ true) }
     ensures names { IfOk result (λ input. input.closure ≡ closure_of input.problem) }
     ensures path { FailsAtInput command.now result }
     ensures no_usage { EndsInUsage result → ⊥ }
@@ -189,6 +207,7 @@ pub fn read_input<R: Threads + Sync, D: Desk>(
 ) -> Result<Input, ReadStop>
     ensures read { IfSome (D.files desk.old) (λ files. Gives result (Reads files command.now)) }
     ensures roots { IfOk result (λ input. RootsOf command.now.spec (Ok input.problem.roots)) }
+    ensures values { IfOk result (λ input. has_right_values input.problem ≡ true) }
     ensures names { IfOk result (λ input. input.closure ≡ closure_of input.problem) }
     ensures path { FailsAtInput command.now result }
     ensures no_usage { EndsInUsage result → ⊥ }

@@ -1,7 +1,7 @@
 //! The answer of a problem.
 
 ghost use Rattle.std.specs.Prelude.{◌≡◌, IfOk};
-ghost use Rattle.run_task.specs.Closures.{closure_of};
+ghost use Rattle.run_task.specs.Tasks.{IsReadyInput};
 ghost use Rattle.run_output.specs.Texts.{IsFor, outcome_of};
 
 use crate::answer::Outcome;
@@ -11,7 +11,7 @@ use std::alloc::{AllocError, Global};
 
 /// The answer of a problem within the budget of its settings.
 pub fn find(alloc: Global, input: &Input) -> Result<Answer, AllocError>
-    requires { input.now.closure ≡ closure_of input.now.problem }
+    requires { IsReadyInput input.now }
     ensures { IfOk result (IsFor input.now.problem) }
 {
     let budget = budget_of(&input.problem);

@@ -1,5 +1,6 @@
 pub mod Sites
 -- what crates above name
+pub use Rattle.settings_reader.specs.Values
 pub use Rattle.run_words.specs.Exits
 pub use Rattle.run_words.specs.Lines
 pub use Rattle.run_words.specs.LockFault

@@ -1,6 +1,7 @@
 //! The reading of settings.
 
-ghost use Rattle.std.specs.Prelude.{◌≡◌, false, IfSome};
+ghost use Rattle.std.specs.Prelude.{◌≡◌, true, false, IfOk, IfSome};
+ghost use Rattle.settings_reader.specs.Values.{are_valued};
 ghost use Rattle.outside_desk.specs.Causes.{Counts};
 ghost use Rattle.run_words.specs.Stops.{Gives, EndsInReadFault, EndsInUsage};
 ghost use Rattle.run_words.specs.Words.{is_dash};
@@ -9,7 +10,7 @@ ghost use Rattle.run_settings.specs.Sites.{bytes_at, GivesBytes, SettingsIn, Set
 use outside_desk::{Desk, ReadFault, read_whole};
 use plain_data::Word;
 use run_words::{ReadStop, Refusal, is_dash};
-use settings_reader::{SettingsFault, read_settings};
+use settings_reader::{SettingsFault, read_settings, settings_laws};
 use site_settings::Settings;
 use std::alloc::Global;
 
@@ -43,9 +44,11 @@ fn read_bytes<D: Desk>(alloc: Global, desk: &mut D, path: &str) -> Result<Vec<u8
 /// The settings that the bytes of a file say.
 fn settings_in(alloc: Global, bytes: &[u8]) -> Result<Settings, ReadStop>
     ensures read { Gives result (SettingsIn bytes.now) }
+    ensures values { IfOk result (λ settings. are_valued settings ≡ true) }
     ensures no_usage { EndsInUsage result → ⊥ }
     ensures no_fault { EndsInReadFault result → ⊥ }
 {
+    settings_laws();
     match read_settings(alloc, bytes) {
         Ok(settings) => Ok(settings),
         Err(SettingsFault::OutOfMemory) => Err(ReadStop::NoMemory),
@@ -61,6 +64,7 @@ fn settings_in(alloc: Global, bytes: &[u8]) -> Result<Settings, ReadStop>
 /// fault of the text. `Fault` where the desk failed, with the path.
 pub fn read_site<D: Desk>(alloc: Global, desk: &mut D, path: &str) -> Result<Settings, ReadStop>
     ensures read { IfSome (D.files desk.old) (λ files. Gives result (SettingsAt files path.now)) }
+    ensures values { IfOk result (λ settings. are_valued settings ≡ true) }
     ensures path { FailsThere path.now result }
     ensures no_usage { EndsInUsage result → ⊥ }
     ensures same { D.files desk.new ≡ D.files desk.old }

@@ -1,8 +1,9 @@
 -- What a run is to answer, or the refusal that is due first.
-use Rattle.std.specs.Prelude.{◌≡◌, ◌⊎◌, ℕ, List, All, Option, Some, None, Result, Ok, Err}
+use Rattle.std.specs.Prelude.{◌≡◌, ◌⊎◌, ℕ, true, List, All, Option, Some, None, Result, Ok, Err}
 use Rattle.std.specs.Str.{IsUtf8}
 use Rattle.outside_desk.specs.Files.{Files}
 use Rattle.run_input.specs.Closures.{closure_of}
+use Rattle.run_input.specs.Kept.{has_right_values}
 use Rattle.spec_grammar.specs.Canonical.{spec_text}
 use Rattle.run_input.specs.Stages.{Is, Then}
 use Rattle.run_input.specs.Refusal.{Refusal}
@@ -82,10 +83,11 @@ IsOf works.Explain (tasks.Explain input) = Unit {0}
 IsOf (works.Trial packages seed) (tasks.Try input) = Unit {0}
 IsOf other task = ⊥
 
--- the canonical texts of the roots that are to be written are UTF-8, as those of all specs which were read, and
--- the names are those of the problem
+-- the canonical texts of the roots that are to be written are UTF-8, as those of all specs which were read, the names are those of
+-- the problem, and its externals and records have values for their variants
 abbrev pub IsReadyInput : Input → Type 0
 IsReadyInput input = All (λ spec. IsUtf8 (spec_text spec)) input.problem.roots × (input.closure ≡ closure_of input.problem)
+    × (has_right_values input.problem ≡ true)
 
 abbrev pub IsReady : Task → Type 0
 IsReady (tasks.Solve input) = IsReadyInput input

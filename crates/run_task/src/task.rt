@@ -1,9 +1,10 @@
 //! The reading of a task.
 
-ghost use Rattle.std.specs.Prelude.{◌≡◌, All, Some, None, Ok, IfOk, IfSome, OnOk, List};
+ghost use Rattle.std.specs.Prelude.{◌≡◌, true, All, Some, None, Ok, IfOk, IfSome, OnOk, List};
 ghost use Rattle.std.specs.Str.{IsUtf8};
 ghost use Rattle.outside_desk.specs.Causes.{Counts};
 ghost use Rattle.run_input.specs.Closures.{closure_of};
+ghost use Rattle.run_input.specs.Kept.{has_right_values};
 ghost use Rattle.spec_grammar.specs.Canonical.{spec_text};
 ghost use Rattle.spec_grammar.specs.declared.part.Spec.{Spec};
 ghost use Rattle.run_input.specs.Stops.{Gives, EndsInReadFault, EndsInUsage};
@@ -45,6 +46,7 @@ fn task_by<R: Threads + Sync, D: Desk>(
 ) -> Result<Task, ReadStop>
     requires texts { All (λ spec. IsUtf8 (spec_text spec)) input.problem.roots }
     requires names { input.closure ≡ closure_of input.problem }
+    requires values { has_right_values input.problem ≡ true }
     ensures read { IfSome (D.files desk.old)
         (λ files. Gives result (TaskBy command.now.work files command.now input)) }
     ensures shown { OnOk result (IfSome (D.files desk.old)

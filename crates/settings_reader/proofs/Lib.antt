@@ -3,3 +3,4 @@ pub mod Each
 pub mod Items
 pub mod One
 pub mod OneFile
+pub mod Valued

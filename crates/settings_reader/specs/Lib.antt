@@ -7,6 +7,7 @@ pub mod Lists
 pub mod Packages
 pub mod Externals
 pub mod Versions
+pub mod Values
 -- How steps of reading are put together.
 pub mod Told
 pub mod Parsed

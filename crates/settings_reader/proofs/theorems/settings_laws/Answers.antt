@@ -1,6 +1,7 @@
 use Rattle.spec_grammar.specs.declared.mode.Mode.TheVariants.{Specs}
 use Rattle.settings_reader.proofs.One.{ReadsSetsOnce, ReadsSpecsOnce}
 use Rattle.settings_reader.proofs.OneFile.{fault_one, file_one, right_one}
+use Rattle.settings_reader.proofs.Valued.{file_valued}
 use Rattle.settings_reader.proofs.theorems.settings_laws.Goals as goal
 
 pub returns : goal.returns
@@ -12,4 +13,9 @@ returns c =
           c.reading_laws.ensures.one_fault Specs;
       right = c.reading_laws.ensures.right Specs;
     } in
-    record { one_reading = file_one sets specs; one_fault = fault_one sets specs; right = right_one sets specs }
+    record {
+      one_reading = file_one sets specs;
+      one_fault = fault_one sets specs;
+      right = right_one sets specs;
+      valued = file_valued (c.writing_laws.ensures.valued Specs);
+    }
