@@ -7,7 +7,7 @@ use Rattle.run_output.specs.Answer.{Answer}
 use Rattle.run_output.specs.Answers.{IsHalfPut, KeepsFronts, Writes}
 use Rattle.run_output.specs.declared.answer.Outcome.{Outcome}
 use Rattle.run_output.specs.Input.{Input}
-use Rattle.run_output.specs.Orders.{order_of}
+use Rattle.run_output.specs.Orders.{command_in}
 use Rattle.run_output.specs.Stages.{Is}
 use Rattle.run_output.specs.Stops.{Gives}
 use Rattle.run_output.specs.Stop.{Stop}
@@ -37,7 +37,7 @@ by_paths A lock cert lock_of cert_of at certified left = subst (λ (q : List ℕ
 -- a writing that stopped, of a task that was read
 pub stopped : (words : List (List ℕ)) (command : Command) (lock cert : List ℕ) (task : Task) (stop : WriteStop)
     (result : Result Outcome Stop) (before between after : Option Files) (said_before said_after : Option (List ℕ))
-    → IsErrAnd result (λ given. given ≡ Write stop) → Is (order_of words) (Ok command)
+    → IsErrAnd result (λ given. given ≡ Write stop) → Is (command_in words) (Ok command)
     → IfSome before (λ files. Gives {T = Task} (Ok task) (Named files command)) → between ≡ before
     → lock ≡ lock_path words → cert ≡ cert_path words → Writes lock cert task between after said_before said_after (Err stop)
     → IfSome before (λ files. Attempts files words after said_before said_after result)
@@ -53,7 +53,7 @@ stopped words command lock cert task stop result (Some files) between after said
 
 -- a writing that answered
 pub answered : (words : List (List ℕ)) (command : Command) (lock cert : List ℕ) (task : Task) (outcome : Outcome)
-    (before between after : Option Files) (said_before said_after : Option (List ℕ)) → Is (order_of words) (Ok command)
+    (before between after : Option Files) (said_before said_after : Option (List ℕ)) → Is (command_in words) (Ok command)
     → IfSome before (λ files. Gives {T = Task} (Ok task) (Named files command)) → between ≡ before
     → lock ≡ lock_path words → cert ≡ cert_path words → Writes lock cert task between after said_before said_after (Ok outcome)
     → IfSome before (λ files. Attempts files words after said_before said_after (Ok outcome))
@@ -69,7 +69,7 @@ answered words command lock cert task outcome (Some files) between after said_be
 
 -- what any end of writing keeps
 pub held : (words : List (List ℕ)) (command : Command) (lock cert : List ℕ) (task : Task) (before between after : Option Files)
-    → Is (order_of words) (Ok command) → IfSome before (λ files. Gives {T = Task} (Ok task) (Named files command)) → between ≡ before
+    → Is (command_in words) (Ok command) → IfSome before (λ files. Gives {T = Task} (Ok task) (Named files command)) → between ≡ before
     → lock ≡ lock_path words → cert ≡ cert_path words → (after ≡ between) ⊎ KeepsFronts lock cert task between after
     → IfSome before (λ files. Keeps files words after)
 held words command lock cert task None between after ordered read same at certified kept = tt
@@ -125,7 +125,7 @@ follows words lock cert task stop result before after said_before said_after car
     (follows_here words lock cert task stop before after said_before said_after asked work is_lock is_cert left)
 
 -- what a command's yes shows
-pub has_shown : (words : List (List ℕ)) (command : Command) (before : Option Files) → Is (order_of words) (Ok command)
+pub has_shown : (words : List (List ℕ)) (command : Command) (before : Option Files) → Is (command_in words) (Ok command)
     → IfSome before (λ files. IsShown files command) → IfSome before (λ files. HasShown files words)
 has_shown words command None ordered shown = tt
 has_shown words command (Some files) ordered shown = record { command = command; ordered = ordered; shown = shown }

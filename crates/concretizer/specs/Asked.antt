@@ -1,7 +1,7 @@
 -- What the words say of a run, for any desk.
 use Rattle.std.specs.Prelude.{◌≡◌, ◌⊎◌, ℕ, false, List, Ok}
 use Rattle.spec_grammar.specs.declared.part.Spec.{Spec}
-use Rattle.run_output.specs.Orders.{order_of}
+use Rattle.run_output.specs.Orders.{command_in}
 use Rattle.run_output.specs.Roots.{RootsOf}
 use Rattle.run_output.specs.Stages.{Is}
 use Rattle.run_output.specs.Tasks.{IsTaskPath}
@@ -11,7 +11,7 @@ use Rattle.run_output.specs.Work.TheVariants as works
 -- the words are a command whose specs are read
 pub record IsAsked (words : List (List ℕ)) : Type 0 where
   pub command : Command
-  pub ordered : Is (order_of words) (Ok command)
+  pub ordered : Is (command_in words) (Ok command)
   pub roots : List Spec
   pub asks : RootsOf command.spec (Ok roots)
 
@@ -27,5 +27,5 @@ IsPutPath words path = (path ≡ lock_path words) ⊎ ((path ≡ cert_path words
 -- the words are a command that reads a file or folder at the path
 pub record IsRead (words : List (List ℕ)) (path : List ℕ) : Type 0 where
   pub command : Command
-  pub ordered : Is (order_of words) (Ok command)
+  pub ordered : Is (command_in words) (Ok command)
   pub inside : IsTaskPath command path

@@ -5,7 +5,7 @@
 use Rattle.std.specs.Prelude.{◌≡◌, ◌⊎◌, ℕ, List, Option, Some, Ok, Err, IfSome}
 use Rattle.outside_desk.specs.Causes.{Rose}
 use Rattle.outside_desk.specs.Files.{Files, and_said}
-use Rattle.run_output.specs.Orders.{order_of}
+use Rattle.run_output.specs.Orders.{command_in}
 use Rattle.run_output.specs.Shown.{IsShown}
 use Rattle.run_output.specs.Stages.{Is}
 use Rattle.run_output.specs.Words.{Command, lock_path, cert_path}
@@ -46,7 +46,7 @@ pub record IsDone (files : Files) (words : List (List ℕ)) (after : Option File
 -- the roots that are asked for, and that its graph is optimal for the problem that was read; of `refute`, that no graph is valid
 pub record HasShown (files : Files) (words : List (List ℕ)) : Type 0 where
   pub command : Command
-  pub ordered : Is (order_of words) (Ok command)
+  pub ordered : Is (command_in words) (Ok command)
   pub shown : IsShown files command
 
 -- Unsatisfiable, by `concretize`: no graph is valid, CERT holds the text of a log that refutes the problem, and every

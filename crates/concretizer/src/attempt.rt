@@ -2,7 +2,7 @@
 
 ghost use Rattle.std.specs.Prelude.{◌≡◌, ◌≤◌, Err, IfSome, OnOk};
 ghost use Rattle.outside_desk.specs.Causes.{Counts};
-ghost use Rattle.run_output.specs.Orders.{order_of};
+ghost use Rattle.run_output.specs.Orders.{command_in};
 ghost use Rattle.run_output.specs.Refusal.{Refusal};
 ghost use Rattle.run_output.specs.Stages.{Is};
 ghost use Rattle.run_output.specs.Stops.{stop_status, stop_line};
@@ -29,7 +29,7 @@ pub fn attempt<R: Threads + Sync, D: Desk, O: Sink>(
     ensures shown { OnOk result (IfSome (D.files desk.old)
         (λ files. HasShown files (words_of words.now))) }
     ensures follows { Follows (words_of words.now) result }
-    ensures at_once { (refusal : Refusal) → Is (order_of (words_of words.now)) (Err refusal)
+    ensures at_once { (refusal : Refusal) → Is (command_in (words_of words.now)) (Err refusal)
         → StopsAtOnce refusal result
         × (D.files desk.new ≡ D.files desk.old) × (D.faults desk.new ≡ D.faults desk.old)
         × (O.said out.new ≡ O.said out.old) }

@@ -3,7 +3,7 @@
 ghost use Rattle.std.specs.Prelude.{◌≡◌, ◌⊎◌, ◌≤◌, None, Ok, Err, IfSome};
 ghost use Rattle.outside_desk.specs.Causes.{Rose};
 ghost use Rattle.run_output.specs.Changes.{ChangesOnly};
-ghost use Rattle.run_output.specs.Orders.{order_of};
+ghost use Rattle.run_output.specs.Orders.{command_in};
 ghost use Rattle.run_output.specs.Refusal.{Refusal};
 ghost use Rattle.run_output.specs.Refusals.{status_of, line_of};
 ghost use Rattle.run_output.specs.Stages.{Is};
@@ -42,7 +42,7 @@ pub fn run<R: Threads + Sync, D: Desk, O: Sink, E: Sink>(
 ) -> Status
     // Words that are no command are answered so whatever the desk tells, and only words are Usage. No call on
     // the desk failed, no file changed and nothing was said but the refusal.
-    ensures words { (refusal : Refusal) → Is (order_of (words_of words.now)) (Err refusal)
+    ensures words { (refusal : Refusal) → Is (command_in (words_of words.now)) (Err refusal)
         → (D.files desk.new ≡ D.files desk.old)
         × (D.faults desk.new ≡ D.faults desk.old) × (O.said out.new ≡ O.said out.old)
         × Reports (status_of refusal) (line_of refusal) (E.said err.old, E.said err.new)

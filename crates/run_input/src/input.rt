@@ -7,7 +7,7 @@ ghost use Rattle.conditions.specs.Right.{is_right_recipe};
 ghost use Rattle.virtuals.specs.Virtuals.{AreInOrder};
 ghost use Rattle.possible_closure.specs.Closures.{closure_of};
 ghost use Rattle.run_settings.specs.Stages.{Is};
-ghost use Rattle.run_settings.specs.Stops.{Gives, EndsInReadFault, EndsInUsage};
+ghost use Rattle.run_settings.specs.Stops.{Gives, EndsByInput, EndsInReadFault, EndsInUsage};
 ghost use Rattle.run_input.specs.Roots.{RootsOf, are_named};
 ghost use Rattle.run_input.specs.Inputs.{posed_by, closed_of, InputBy, Asked, Behind, OverSettings, Reads, FailsAtInput};
 
@@ -137,10 +137,11 @@ fn read_behind<D: Desk>(
         (λ files. Gives result (Behind files command.now settings recipes)) }
     ensures roots { IfOk result (λ input. RootsOf command.now.spec (Ok input.problem.roots)) }
     ensures names { IfOk result (λ input. input.closure ≡ closure_of input.problem) }
-    ensures path { FailsAtInput command.now result }
+    ensures path { FailsAtInput (D.files desk.old) command.now result }
     ensures no_usage { EndsInUsage result → ⊥ }
     ensures same { D.files desk.new ≡ D.files desk.old }
     ensures cause { Counts (D.faults desk.old) (D.faults desk.new) (EndsInReadFault result) }
+    ensures steady { EndsByInput result → D.faults desk.new ≡ D.faults desk.old }
     ensures put_faults { D.put_faults desk.new ≡ D.put_faults desk.old }
 {
     match read_installed(alloc, desk, command.database) {
@@ -162,10 +163,11 @@ fn read_over<R: Threads + Sync, D: Desk>(
         (λ files. Gives result (OverSettings files command.now settings)) }
     ensures roots { IfOk result (λ input. RootsOf command.now.spec (Ok input.problem.roots)) }
     ensures names { IfOk result (λ input. input.closure ≡ closure_of input.problem) }
-    ensures path { FailsAtInput command.now result }
+    ensures path { FailsAtInput (D.files desk.old) command.now result }
     ensures no_usage { EndsInUsage result → ⊥ }
     ensures same { D.files desk.new ≡ D.files desk.old }
     ensures cause { Counts (D.faults desk.old) (D.faults desk.new) (EndsInReadFault result) }
+    ensures steady { EndsByInput result → D.faults desk.new ≡ D.faults desk.old }
     ensures put_faults { D.put_faults desk.new ≡ D.put_faults desk.old }
 {
     match read_repository(rt, alloc, desk, command.repo) {
@@ -190,10 +192,11 @@ pub fn read_input<R: Threads + Sync, D: Desk>(
     ensures read { IfSome (D.files desk.old) (λ files. Gives result (Reads files command.now)) }
     ensures roots { IfOk result (λ input. RootsOf command.now.spec (Ok input.problem.roots)) }
     ensures names { IfOk result (λ input. input.closure ≡ closure_of input.problem) }
-    ensures path { FailsAtInput command.now result }
+    ensures path { FailsAtInput (D.files desk.old) command.now result }
     ensures no_usage { EndsInUsage result → ⊥ }
     ensures same { D.files desk.new ≡ D.files desk.old }
     ensures cause { Counts (D.faults desk.old) (D.faults desk.new) (EndsInReadFault result) }
+    ensures steady { EndsByInput result → D.faults desk.new ≡ D.faults desk.old }
     ensures put_faults { D.put_faults desk.new ≡ D.put_faults desk.old }
 {
     let settings = read_site(alloc, desk, command.settings)?;
