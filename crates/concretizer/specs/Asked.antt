@@ -1,5 +1,6 @@
 -- What the words say of a run, for any desk.
-use Rattle.std.specs.Prelude.{◌≡◌, ◌⊎◌, ℕ, false, List, Ok}
+use Rattle.std.specs.Prelude.{◌≡◌, ◌⊎◌, ℕ, false, List, Option, Ok}
+use Rattle.outside_desk.specs.Files.{Files}
 use Rattle.spec_grammar.specs.declared.part.Spec.{Spec}
 use Rattle.run_output.specs.Orders.{command_in}
 use Rattle.run_output.specs.Roots.{RootsOf}
@@ -24,8 +25,9 @@ pub record IsLocking (words : List (List ℕ)) : Type 0 where
 abbrev pub IsPutPath : List (List ℕ) → List ℕ → Type 0
 IsPutPath words path = (path ≡ lock_path words) ⊎ ((path ≡ cert_path words) × (is_dash (cert_path words) ≡ false))
 
--- the words are a command that reads a file or folder at the path
-pub record IsRead (words : List (List ℕ)) (path : List ℕ) : Type 0 where
+-- the words are a command that reads a file or folder at the path: of recipes those that the folder of packages names, where
+-- the desk tells its files
+pub record IsRead (told : Option Files) (words : List (List ℕ)) (path : List ℕ) : Type 0 where
   pub command : Command
   pub ordered : Is (command_in words) (Ok command)
-  pub inside : IsTaskPath command path
+  pub inside : IsTaskPath told command path
