@@ -26,7 +26,7 @@ counts before now result c none = record { later = c.later; cause = λ ends. abs
 pub is_item : (names : List (String Global)) (k : ℕ) (name : String Global) → k < length names → name ≡ get_or names k name
     → Contains (map string_bytes names) (string_bytes name)
 is_item names k name within is =
-    (k, (rw (length-map string_bytes names) within), get_or-map string_bytes names k name (string_bytes name) within ∙ ap string_bytes (sym is))
+    (k, rw (length-map names) within, get_or-map string_bytes names k name (string_bytes name) within ∙ ap string_bytes (sym is))
 
 -- one of the entries stopped
 pub among : {A B : Type 0} (repo name : List ℕ) (names : List (List ℕ)) (stop : ReadStop) → Contains names name
