@@ -7,8 +7,8 @@ use Rattle.run_output.specs.Task.{Task}
 use Rattle.run_output.specs.Tasks.{Poses}
 use Rattle.run_output.specs.Refusals.{status_of, line_of}
 use Rattle.run_output.specs.Stops.{stop_status, stop_line}
-use Rattle.concretizer.specs.Attempts.{Attempts, StopsAtOnce, FailsToRead, FailsToPut, FailsToSay}
-use Rattle.concretizer.specs.Headline.{IsRefused, IsRefusalStatus, Settles, Reports, IsAnsweredBy, Spoken, Says}
+use Rattle.concretizer.specs.Attempts.{Attempts, Concludes, StopsAtOnce, FailsToRead, FailsToPut, FailsToSay}
+use Rattle.concretizer.specs.Headline.{IsRefused, IsOfInput, IsRefusalStatus, Settles, Reports, ReportsWords, IsAnsweredBy, Spoken, Says}
 use Rattle.run_output.specs.declared.answer.Outcome.{Outcome}
 use Rattle.run_output.specs.Refusal.{Refusal}
 use Rattle.run_output.specs.Status.{Status}
@@ -24,20 +24,14 @@ PosesOnce = (files : Files) (words : List (List ℕ)) (a b : Result Task Refusal
 
 -- ---- words that are refused
 
-reports_none : (status : Status) (line other : List ℕ) (said : Spoken) (faults : ℕ × ℕ) (result : Status)
-    → Reports statuses.NoMemory other said faults result → Reports status line said faults result
-reports_none status line other said faults result (inl (is, line_said)) = inr (inr is)
-reports_none status line other said faults result (inr more) = inr more
-
 -- what is reported of words that are refused
 pub reports_words : (refusal : Refusal) (stop : Stop) (said : Spoken) (faults : ℕ × ℕ) (result : Status)
     → StopsAtOnce refusal (Err stop) → Reports (stop_status stop) (stop_line stop) said faults result
-    → Reports (status_of refusal) (line_of refusal) said faults result
+    → ReportsWords refusal said faults result
 reports_words refusal (Read (Refused given)) said faults result same reports =
-    subst (λ (r : Refusal). Reports (status_of r) (line_of r) said faults result) same reports
+    inl (subst (λ (r : Refusal). Reports (status_of r) (line_of r) said faults result) same reports)
 reports_words refusal (Read (Fault path)) said faults result no_fault reports = absurd no_fault
-reports_words refusal (Read NoMemory) said faults result h reports =
-    reports_none (status_of refusal) (line_of refusal) _ said faults result reports
+reports_words refusal (Read NoMemory) said faults result h reports = inr reports
 reports_words refusal (Write stop) said faults result no_write reports = absurd no_write
 
 -- ---- answers that a refusal has
@@ -48,9 +42,9 @@ Said status line said result = (result ≡ status) × Says said line
 -- a report that did not fail
 report_said : (status : Status) (line : List ℕ) (said : Spoken) (faults : ℕ × ℕ) (result : Status)
     → Reports status line said faults result → IsRefusalStatus result → Said status line said result
-report_said status line said faults result (inl is) refuses = is
-report_said status line said faults result (inr (inl (is, rose))) refuses = absurd (rw is at refuses)
-report_said status line said faults result (inr (inr is)) refuses = absurd (rw is at refuses)
+report_said status line said faults result (inl (is, (line_said, still))) refuses = (is, line_said)
+report_said status line said faults result (inr (inl (is, late))) refuses = absurd (rw is at refuses)
+report_said status line said faults result (inr (inr (is, silent))) refuses = absurd (rw is at refuses)
 
 refused_here : (files : Files) (words : List (List ℕ)) (stop : Stop) (after : Option Files) (out err : Spoken) (result : Status)
     → Attempts files words after out.0 out.1 (Err stop) → Said (stop_status stop) (stop_line stop) err result → IsRefusalStatus result
@@ -77,9 +71,9 @@ refused (Some files) words stop after out err faults result left reports refuses
 -- a report of want of memory, where the sink did not fail
 settles_none : (line : List ℕ) (said : Spoken) (faults : ℕ × ℕ) (result : Status)
     → Reports statuses.NoMemory line said faults result → ¬ Rose faults.0 faults.1 → Settles result
-settles_none line said faults result (inl (is, line_said)) still = rw is tt
-settles_none line said faults result (inr (inl (is, rose))) still = absurd (still rose)
-settles_none line said faults result (inr (inr is)) still = rw is tt
+settles_none line said faults result (inl (is, reported_so)) still = rw is tt
+settles_none line said faults result (inr (inl (is, (front, rose)))) still = absurd (still rose)
+settles_none line said faults result (inr (inr (is, silent))) still = rw is tt
 
 -- no device failed
 pub record AreStill (reads puts says errs : ℕ × ℕ) : Type 0 where
@@ -129,16 +123,16 @@ settles laws (Some files) words stop after out err reads puts says errs result l
 -- a report, where the sink did not fail
 reported : (status : Status) (line : List ℕ) (said : Spoken) (faults : ℕ × ℕ) (result : Status)
     → Reports status line said faults result → ¬ Rose faults.0 faults.1 → IsAnsweredBy status result
-reported status line said faults result (inl (is, line_said)) still = inl is
-reported status line said faults result (inr (inl (is, rose))) still = absurd (still rose)
-reported status line said faults result (inr (inr is)) still = inr is
+reported status line said faults result (inl (is, reported_so)) still = inl is
+reported status line said faults result (inr (inl (is, (front, rose)))) still = absurd (still rose)
+reported status line said faults result (inr (inr (is, silent))) still = inr is
 
 -- a report of want of memory, where the sink did not fail
 none_reported : (status : Status) (line : List ℕ) (said : Spoken) (faults : ℕ × ℕ) (result : Status)
     → Reports statuses.NoMemory line said faults result → ¬ Rose faults.0 faults.1 → IsAnsweredBy status result
-none_reported status line said faults result (inl (is, line_said)) still = inr is
-none_reported status line said faults result (inr (inl (is, rose))) still = absurd (still rose)
-none_reported status line said faults result (inr (inr is)) still = inr is
+none_reported status line said faults result (inl (is, reported_so)) still = inr is
+none_reported status line said faults result (inr (inl (is, (front, rose)))) still = absurd (still rose)
+none_reported status line said faults result (inr (inr (is, silent))) still = inr is
 
 not_both : {A : Type 0} → PosesOnce → (files : Files) (words : List (List ℕ)) (task : Task) (refusal : Refusal)
     → Poses files words (Ok task) → Poses files words (Err refusal) → A
@@ -192,3 +186,24 @@ pub written : PosesOnce → (before : Option Files) (words : List (List ℕ)) (o
 written laws None words outcome after out reads puts says errs result left = tt
 written laws (Some files) words outcome after out reads puts says errs result left = λ refusal poses read put said late.
     not_both laws files words left.task refusal left.read poses
+
+-- ---- counts
+
+-- a stop that is reported as the input's own
+concluded : (stop : Stop) → IsOfInput (stop_status stop) → Concludes (Err stop)
+concluded (Read (Refused refusal)) of = tt
+concluded (Read (Fault path)) of = absurd of
+concluded (Read NoMemory) of = absurd of
+concluded (Write (writes.Put path)) of = absurd of
+concluded (Write writes.Output) of = absurd of
+concluded (Write writes.NoMemory) of = absurd of
+
+-- no device failed
+pub steady : (stop : Stop) (err : Spoken) (reads puts says errs : ℕ × ℕ) (result : Status)
+    → (Concludes (Err stop) → (reads.1 ≡ reads.0) × (puts.1 ≡ puts.0) × (says.1 ≡ says.0))
+    → Reports (stop_status stop) (stop_line stop) err errs result → IsOfInput result
+    → (reads.1 ≡ reads.0) × (puts.1 ≡ puts.0) × (says.1 ≡ says.0) × (errs.1 ≡ errs.0)
+steady stop err reads puts says errs result kept (inl (is, (said, still))) of =
+    let all = kept (concluded stop (subst IsOfInput is of)) in (all.0, all.1, all.2, still)
+steady stop err reads puts says errs result kept (inr (inl (is, late))) of = absurd (rw is at of)
+steady stop err reads puts says errs result kept (inr (inr (is, silent))) of = absurd (rw is at of)

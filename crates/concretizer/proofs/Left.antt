@@ -7,7 +7,7 @@ use Rattle.run_output.specs.Answer.{Answer}
 use Rattle.run_output.specs.Answers.{IsHalfPut, KeepsFronts, Writes}
 use Rattle.run_output.specs.declared.answer.Outcome.{Outcome}
 use Rattle.run_output.specs.Input.{Input}
-use Rattle.run_output.specs.Orders.{order_of}
+use Rattle.run_output.specs.Orders.{command_in}
 use Rattle.run_output.specs.Stages.{Is}
 use Rattle.run_output.specs.Stops.{Gives}
 use Rattle.run_output.specs.Stop.{Stop}
@@ -21,7 +21,7 @@ use Rattle.run_output.specs.Work.TheVariants as works
 use Rattle.run_output.specs.WriteStop.{WriteStop}
 use Rattle.run_output.specs.WriteStop.TheVariants.{Put, Output, NoMemory}
 use Rattle.concretizer.specs.Asked.{IsAsked, IsPutPath}
-use Rattle.concretizer.specs.Attempts.{Attempts, Follows}
+use Rattle.concretizer.specs.Attempts.{Attempts, Follows, StopsBefore}
 use Rattle.run_output.specs.Shown.{IsShown}
 use Rattle.concretizer.specs.Headline.{HasShown, Keeps}
 
@@ -37,7 +37,7 @@ by_paths A lock cert lock_of cert_of at certified left = subst (λ (q : List ℕ
 -- a writing that stopped, of a task that was read
 pub stopped : (words : List (List ℕ)) (command : Command) (lock cert : List ℕ) (task : Task) (stop : WriteStop)
     (result : Result Outcome Stop) (before between after : Option Files) (said_before said_after : Option (List ℕ))
-    → IsErrAnd result (λ given. given ≡ Write stop) → Is (order_of words) (Ok command)
+    → IsErrAnd result (λ given. given ≡ Write stop) → Is (command_in words) (Ok command)
     → IfSome before (λ files. Gives {T = Task} (Ok task) (Named files command)) → between ≡ before
     → lock ≡ lock_path words → cert ≡ cert_path words → Writes lock cert task between after said_before said_after (Err stop)
     → IfSome before (λ files. Attempts files words after said_before said_after result)
@@ -53,7 +53,7 @@ stopped words command lock cert task stop result (Some files) between after said
 
 -- a writing that answered
 pub answered : (words : List (List ℕ)) (command : Command) (lock cert : List ℕ) (task : Task) (outcome : Outcome)
-    (before between after : Option Files) (said_before said_after : Option (List ℕ)) → Is (order_of words) (Ok command)
+    (before between after : Option Files) (said_before said_after : Option (List ℕ)) → Is (command_in words) (Ok command)
     → IfSome before (λ files. Gives {T = Task} (Ok task) (Named files command)) → between ≡ before
     → lock ≡ lock_path words → cert ≡ cert_path words → Writes lock cert task between after said_before said_after (Ok outcome)
     → IfSome before (λ files. Attempts files words after said_before said_after (Ok outcome))
@@ -69,7 +69,7 @@ answered words command lock cert task outcome (Some files) between after said_be
 
 -- what any end of writing keeps
 pub held : (words : List (List ℕ)) (command : Command) (lock cert : List ℕ) (task : Task) (before between after : Option Files)
-    → Is (order_of words) (Ok command) → IfSome before (λ files. Gives {T = Task} (Ok task) (Named files command)) → between ≡ before
+    → Is (command_in words) (Ok command) → IfSome before (λ files. Gives {T = Task} (Ok task) (Named files command)) → between ≡ before
     → lock ≡ lock_path words → cert ≡ cert_path words → (after ≡ between) ⊎ KeepsFronts lock cert task between after
     → IfSome before (λ files. Keeps files words after)
 held words command lock cert task None between after ordered read same at certified kept = tt
@@ -97,35 +97,48 @@ put_path words lock cert input answer at before after is_lock is_cert (inl (same
     inr (same ∙ is_cert, subst (λ (c : List ℕ). is_dash c ≡ false) is_cert dash)
 put_path words lock cert input answer at before after is_lock is_cert (inr (same, held)) = inl (same ∙ is_lock)
 
-follows_here : (words : List (List ℕ)) (lock cert : List ℕ) (task : Task) (stop : WriteStop) (before after : Option Files)
+follows_here : (told : Option Files) (words : List (List ℕ)) (lock cert : List ℕ) (task : Task) (stop : WriteStop) (before after : Option Files)
     (said_before said_after : Option (List ℕ))
     → (asked : IsAsked words) → IsOf asked.command.work task → lock ≡ lock_path words → cert ≡ cert_path words
-    → Writes lock cert task before after said_before said_after (Err stop) → Follows words (Err (Write stop))
-follows_here words lock cert (tasks.Solve input) (Put at) before after said_before said_after asked work is_lock is_cert (left, unsaid) = (
+    → Writes lock cert task before after said_before said_after (Err stop) → Follows told words (Err (Write stop))
+follows_here told words lock cert (tasks.Solve input) (Put at) before after said_before said_after asked work is_lock is_cert (left, unsaid) = (
   record { asked = asked; work = is_concretize asked.command.work input work },
   put_path words lock cert input left.answer at before after is_lock is_cert left.half,
 )
-follows_here words lock cert (tasks.Report numbers) (Put at) before after said_before said_after asked work is_lock is_cert left =
+follows_here told words lock cert (tasks.Report numbers) (Put at) before after said_before said_after asked work is_lock is_cert left =
     absurd left.0
-follows_here words lock cert tasks.Accepted (Put at) before after said_before said_after asked work is_lock is_cert left = absurd left.0
-follows_here words lock cert (tasks.Explain input) (Put at) before after said_before said_after asked work is_lock is_cert left =
+follows_here told words lock cert tasks.Accepted (Put at) before after said_before said_after asked work is_lock is_cert left = absurd left.0
+follows_here told words lock cert (tasks.Explain input) (Put at) before after said_before said_after asked work is_lock is_cert left =
     absurd left.0
-follows_here words lock cert (tasks.Try input) (Put at) before after said_before said_after asked work is_lock is_cert left = absurd left.0
-follows_here words lock cert task Output before after said_before said_after asked work is_lock is_cert left = asked
-follows_here words lock cert task NoMemory before after said_before said_after asked work is_lock is_cert left = tt
+follows_here told words lock cert (tasks.Try input) (Put at) before after said_before said_after asked work is_lock is_cert left = absurd left.0
+follows_here told words lock cert task Output before after said_before said_after asked work is_lock is_cert left = asked
+follows_here told words lock cert task NoMemory before after said_before said_after asked work is_lock is_cert left = tt
 
 -- a writing that stopped, by the words
-pub follows : (words : List (List ℕ)) (lock cert : List ℕ) (task : Task) (stop : WriteStop) (result : Result Outcome Stop)
+pub follows : (told : Option Files) (words : List (List ℕ)) (lock cert : List ℕ) (task : Task) (stop : WriteStop) (result : Result Outcome Stop)
     (before after : Option Files) (said_before said_after : Option (List ℕ))
     → IsErrAnd result (λ given. given ≡ Write stop) → (asked : IsAsked words) → IsOf asked.command.work task
     → lock ≡ lock_path words → cert ≡ cert_path words
-    → Writes lock cert task before after said_before said_after (Err stop) → Follows words result
-follows words lock cert task stop result before after said_before said_after carried asked work is_lock is_cert left =
+    → Writes lock cert task before after said_before said_after (Err stop) → Follows told words result
+follows told words lock cert task stop result before after said_before said_after carried asked work is_lock is_cert left =
     rw (write_carried stop result carried)
-    (follows_here words lock cert task stop before after said_before said_after asked work is_lock is_cert left)
+    (follows_here told words lock cert task stop before after said_before said_after asked work is_lock is_cert left)
 
 -- what a command's yes shows
-pub has_shown : (words : List (List ℕ)) (command : Command) (before : Option Files) → Is (order_of words) (Ok command)
+pub has_shown : (words : List (List ℕ)) (command : Command) (before : Option Files) → Is (command_in words) (Ok command)
     → IfSome before (λ files. IsShown files command) → IfSome before (λ files. HasShown files words)
 has_shown words command None ordered shown = tt
 has_shown words command (Some files) ordered shown = record { command = command; ordered = ordered; shown = shown }
+
+-- what is said by a writing that stopped before
+quiet : (lock cert : List ℕ) (task : Task) (stop : WriteStop) (before after : Option Files) (said_before said_after : Option (List ℕ))
+    → Writes lock cert task before after said_before said_after (Err stop) → StopsBefore (Err (Write stop)) → said_after ≡ said_before
+quiet lock cert task (Put at) before after said_before said_after left stops = left.1
+quiet lock cert task Output before after said_before said_after left stops = absurd stops
+quiet lock cert task NoMemory before after said_before said_after left stops = left
+
+pub unsaid : (lock cert : List ℕ) (task : Task) (stop : WriteStop) (result : Result Outcome Stop) (before after : Option Files)
+    (said_before said_after : Option (List ℕ)) → IsErrAnd result (λ given. given ≡ Write stop)
+    → Writes lock cert task before after said_before said_after (Err stop) → StopsBefore result → said_after ≡ said_before
+unsaid lock cert task stop result before after said_before said_after carried left stops =
+    quiet lock cert task stop before after said_before said_after left (rw (write_carried stop result carried) at stops)

@@ -2,4 +2,5 @@ pub mod Ends
 pub mod Faults
 pub mod Kept
 pub mod Left
+pub mod Reported
 pub mod Stages

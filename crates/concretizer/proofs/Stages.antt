@@ -10,17 +10,17 @@ use Rattle.run_output.specs.Stop.{Stop}
 use Rattle.run_output.specs.Stop.TheVariants.{Read}
 use Rattle.run_output.proofs.StageLaws.{ok_not_err, err_same}
 use Rattle.run_output.specs.Words.{Command}
-use Rattle.run_output.specs.Orders.{order_of}
+use Rattle.run_output.specs.Orders.{command_in}
 use Rattle.run_output.specs.declared.answer.Outcome.{Outcome}
 use Rattle.concretizer.specs.Attempts.{StopsAtOnce}
 
 -- words that are a command are not refused
-pub not_refused : {A : Type 0} (words : List (List ℕ)) (command : Command) → Is (order_of words) (Ok command) → (refusal : Refusal)
-    → Is (order_of words) (Err refusal) → A
+pub not_refused : {A : Type 0} (words : List (List ℕ)) (command : Command) → Is (command_in words) (Ok command) → (refusal : Refusal)
+    → Is (command_in words) (Err refusal) → A
 not_refused words command ordered refusal refused = ok_not_err command refusal (ordered ∙ sym refused)
 
-stops : (words : List (List ℕ)) (stop : ReadStop) → Gives {T = Command} (Err stop) (Is (order_of words))
-    → (EndsInReadFault {T = Command} (Err stop) → ⊥) → (refusal : Refusal) → Is (order_of words) (Err refusal)
+stops : (words : List (List ℕ)) (stop : ReadStop) → Gives {T = Command} (Err stop) (Is (command_in words))
+    → (EndsInReadFault {T = Command} (Err stop) → ⊥) → (refusal : Refusal) → Is (command_in words) (Err refusal)
     → StopsAtOnce refusal (Err (Read stop))
 stops words (Refused given) read fault refusal refused = err_same given refusal (read ∙ sym refused)
 stops words (Fault path) read fault refusal refused = absurd (fault tt)
@@ -31,7 +31,7 @@ stop_carried stop (Ok outcome) h = absurd h
 stop_carried stop (Err given) h = ap Err h
 
 pub stops_at_once : (words : List (List ℕ)) (stop : ReadStop) (result : Result Outcome Stop) → IsErrAnd result (λ given. given ≡ Read stop)
-    → Gives {T = Command} (Err stop) (Is (order_of words)) → (EndsInReadFault {T = Command} (Err stop) → ⊥)
-    → (refusal : Refusal) → Is (order_of words) (Err refusal) → StopsAtOnce refusal result
+    → Gives {T = Command} (Err stop) (Is (command_in words)) → (EndsInReadFault {T = Command} (Err stop) → ⊥)
+    → (refusal : Refusal) → Is (command_in words) (Err refusal) → StopsAtOnce refusal result
 stops_at_once words stop result carried read fault refusal refused =
     rw (stop_carried stop result carried) (stops words stop read fault refusal refused)

@@ -1,7 +1,8 @@
 -- What the words say of a run, for any desk.
-use Rattle.std.specs.Prelude.{◌≡◌, ◌⊎◌, ℕ, false, List, Ok}
+use Rattle.std.specs.Prelude.{◌≡◌, ◌⊎◌, ℕ, false, List, Option, Ok}
+use Rattle.outside_desk.specs.Files.{Files}
 use Rattle.spec_grammar.specs.declared.part.Spec.{Spec}
-use Rattle.run_output.specs.Orders.{order_of}
+use Rattle.run_output.specs.Orders.{command_in}
 use Rattle.run_output.specs.Roots.{RootsOf}
 use Rattle.run_output.specs.Stages.{Is}
 use Rattle.run_output.specs.Tasks.{IsTaskPath}
@@ -11,7 +12,7 @@ use Rattle.run_output.specs.Work.TheVariants as works
 -- the words are a command whose specs are read
 pub record IsAsked (words : List (List ℕ)) : Type 0 where
   pub command : Command
-  pub ordered : Is (order_of words) (Ok command)
+  pub ordered : Is (command_in words) (Ok command)
   pub roots : List Spec
   pub asks : RootsOf command.spec (Ok roots)
 
@@ -24,8 +25,9 @@ pub record IsLocking (words : List (List ℕ)) : Type 0 where
 abbrev pub IsPutPath : List (List ℕ) → List ℕ → Type 0
 IsPutPath words path = (path ≡ lock_path words) ⊎ ((path ≡ cert_path words) × (is_dash (cert_path words) ≡ false))
 
--- the words are a command that reads a file or folder at the path
-pub record IsRead (words : List (List ℕ)) (path : List ℕ) : Type 0 where
+-- the words are a command that reads a file or folder at the path: of recipes those that the folder of packages names, where
+-- the desk tells its files
+pub record IsRead (told : Option Files) (words : List (List ℕ)) (path : List ℕ) : Type 0 where
   pub command : Command
-  pub ordered : Is (order_of words) (Ok command)
-  pub inside : IsTaskPath command path
+  pub ordered : Is (command_in words) (Ok command)
+  pub inside : IsTaskPath told command path

@@ -39,14 +39,14 @@ Attempts files words after out_before out_after (Err (Write stop)) = IsWritten f
 
 -- ---- for any desk
 
--- what the words say of how an attempt ended
-abbrev pub Follows : List (List ℕ) → Result Outcome Stop → Type 0
-Follows words (Ok outcome) = IsAsked words
-Follows words (Err (Read (reads.Refused Usage))) = command_of words ≡ None
-Follows words (Err (Read (reads.Fault path))) = IsRead words path
-Follows words (Err (Write (writes.Put path))) = IsLocking words × IsPutPath words path
-Follows words (Err (Write writes.Output)) = IsAsked words
-Follows words other = Unit {0}
+-- what the words say of how an attempt ended, and where the desk tells its files, what these say of what was read
+abbrev pub Follows : Option Files → List (List ℕ) → Result Outcome Stop → Type 0
+Follows told words (Ok outcome) = IsAsked words
+Follows told words (Err (Read (reads.Refused Usage))) = command_of words ≡ None
+Follows told words (Err (Read (reads.Fault path))) = IsRead told words path
+Follows told words (Err (Write (writes.Put path))) = IsLocking words × IsPutPath words path
+Follows told words (Err (Write writes.Output)) = IsAsked words
+Follows told words other = Unit {0}
 
 -- the words alone were refused, or memory ran out over them
 abbrev pub StopsAtOnce : Refusal → Result Outcome Stop → Type 0
@@ -66,3 +66,15 @@ FailsToPut other = ⊥
 abbrev pub FailsToSay : Result Outcome Stop → Type 0
 FailsToSay (Err (Write writes.Output)) = Unit {0}
 FailsToSay other = ⊥
+
+-- an attempt that came to an answer, or to a refusal
+abbrev pub Concludes : Result Outcome Stop → Type 0
+Concludes (Ok outcome) = Unit {0}
+Concludes (Err (Read (reads.Refused refusal))) = Unit {0}
+Concludes other = ⊥
+
+-- one that stopped before anything of an answer was said
+abbrev pub StopsBefore : Result Outcome Stop → Type 0
+StopsBefore (Ok outcome) = ⊥
+StopsBefore (Err (Write writes.Output)) = ⊥
+StopsBefore other = Unit {0}

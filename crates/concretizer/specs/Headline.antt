@@ -4,20 +4,22 @@
 -- `after` the files at the return, and `out` and `err` what the two sinks tell before and after.
 use Rattle.std.specs.Prelude.{◌≡◌, ◌⊎◌, ℕ, List, Option, Some, Ok, Err, IfSome}
 use Rattle.outside_desk.specs.Causes.{Rose}
-use Rattle.outside_desk.specs.Files.{Files, and_said}
-use Rattle.run_output.specs.Orders.{order_of}
+use Rattle.outside_desk.specs.Files.{Files, and_said, SaysPart}
+use Rattle.run_output.specs.Orders.{command_in}
 use Rattle.run_output.specs.Shown.{IsShown}
 use Rattle.run_output.specs.Stages.{Is}
 use Rattle.run_output.specs.Words.{Command, lock_path, cert_path}
 use Rattle.run_output.specs.Task.{Task}
 use Rattle.run_output.specs.Tasks.{Poses}
 use Rattle.run_output.specs.Refusals.{status_of, line_of}
-use Rattle.run_output.specs.Stops.{read_fault_line, write_fault_line, output_fault_line}
+use Rattle.run_output.specs.Stop.{Stop}
+use Rattle.run_output.specs.Stops.{read_fault_line, write_fault_line, output_fault_line, no_memory_line, stop_line}
 use Rattle.run_output.specs.Answers.{IsFinished, HasNone, HasSpent, IsHalfDone, IsUntold, KeepsFronts}
 use Rattle.run_output.specs.Refusal.{Refusal}
 use Rattle.run_output.specs.Status.{Status}
 use Rattle.run_output.specs.Status.TheVariants as statuses
-use Rattle.concretizer.specs.Asked.{IsLocking, IsRead, IsPutPath}
+use Rattle.concretizer.specs.Asked.{IsAsked, IsLocking, IsRead, IsPutPath}
+use Rattle.concretizer.specs.Attempts.{Attempts, Follows}
 
 -- what a sink tells of what was said, before and after
 abbrev pub Spoken : Type 0
@@ -30,6 +32,10 @@ IsSilent said = said.1 ≡ said.0
 -- this was said, and nothing else
 abbrev pub Says : Spoken → List ℕ → Type 0
 Says said line = said.1 ≡ and_said said.0 line
+
+-- a front of this was said, and nothing behind it
+abbrev pub SaysFront : Spoken → List ℕ → Type 0
+SaysFront said line = SaysPart said.0 said.1 line
 
 -- Done, by `concretize` (`IsSolved` in `run_output`): LOCK holds the lock file of a graph that is well-formed and optimal
 -- for the problem that was read, CERT, unless it is `-`, the text of a log that is a certificate of its costs, every
@@ -46,7 +52,7 @@ pub record IsDone (files : Files) (words : List (List ℕ)) (after : Option File
 -- the roots that are asked for, and that its graph is optimal for the problem that was read; of `refute`, that no graph is valid
 pub record HasShown (files : Files) (words : List (List ℕ)) : Type 0 where
   pub command : Command
-  pub ordered : Is (order_of words) (Ok command)
+  pub ordered : Is (command_in words) (Ok command)
   pub shown : IsShown files command
 
 -- Unsatisfiable, by `concretize`: no graph is valid, CERT holds the text of a log that refutes the problem, and every
@@ -75,11 +81,11 @@ pub record IsRefused (files : Files) (words : List (List ℕ)) (answer : Status)
   pub output : IsSilent out
   pub errors : Says err (line_of refusal)
 
--- ReadFault: the desk failed to read the settings, the folder of packages, a recipe, the database, or what the command looks at
--- besides: the lock file (`judge`, `check`), the certificate (`check`, `refute`); and that was said
+-- ReadFault: the desk failed to read the settings, the folder of packages, a recipe that it names, the database, or what the command
+-- looks at besides: the lock file (`judge`, `check`), the certificate (`check`, `refute`); and that was said
 pub record IsReadFault (words : List (List ℕ)) (faults : ℕ × ℕ) (files : Option Files × Option Files) (out err : Spoken) : Type 0 where
   pub path : List ℕ
-  pub read : IsRead words path
+  pub read : IsRead files.0 words path
   pub rose : Rose faults.0 faults.1
   pub unchanged : files.1 ≡ files.0
   pub output : IsSilent out
@@ -101,17 +107,37 @@ pub record IsPutFault (words : List (List ℕ)) (files : Option Files × Option 
   pub output : IsSilent out
   pub errors : Says err (write_fault_line path)
 
--- what a fault of the sink of the answer leaves: all files of the answer whole, and no file changed by other commands than `concretize`
-pub record LeavesAll (files : Files) (words : List (List ℕ)) (after : Option Files) : Type 0 where
+-- what a fault of the sink of the answer leaves: all files of the answer whole, no file changed by other commands than `concretize`,
+-- and a front of what was to be said
+pub record LeavesAll (files : Files) (words : List (List ℕ)) (after : Option Files) (out : Spoken) : Type 0 where
   pub task : Task
   pub read : Poses files words (Ok task)
-  pub left : IsUntold (lock_path words) (cert_path words) task (Some files) after
+  pub left : IsUntold (lock_path words) (cert_path words) task (Some files) after out.0 out.1
 
 -- WriteFault where the sink of the answer failed, and that was said
-pub record IsOutputFault (words : List (List ℕ)) (files : Option Files × Option Files) (faults : ℕ × ℕ) (err : Spoken) : Type 0 where
-  pub left : IfSome files.0 (λ before. LeavesAll before words files.1)
+pub record IsOutputFault (words : List (List ℕ)) (files : Option Files × Option Files) (faults : ℕ × ℕ) (out err : Spoken) : Type 0 where
+  pub asked : IsAsked words
+  pub left : IfSome files.0 (λ before. LeavesAll before words files.1 out)
   pub rose : Rose faults.0 faults.1
   pub errors : Says err output_fault_line
+
+-- a run stopped for this cause, which leaves the files and the sink of the answer so; `faults` counts those of that sink
+pub record IsStopped (words : List (List ℕ)) (files : Option Files × Option Files) (faults : ℕ × ℕ) (out : Spoken) : Type 0 where
+  pub stop : Stop
+  pub follows : Follows files.0 words (Err stop)
+  pub left : IfSome files.0 (λ before. Attempts before words files.1 out.0 out.1 (Err stop))
+  pub output : IsSilent out ⊎ Rose faults.0 faults.1
+
+-- WriteFault where the sink of the report failed: a front of the line of why the run stopped was said
+pub record IsReportFault (words : List (List ℕ)) (files : Option Files × Option Files) (faults errs : ℕ × ℕ) (out err : Spoken) : Type 0 where
+  pub stopped : IsStopped words files faults out
+  pub rose : Rose errs.0 errs.1
+  pub errors : SaysFront err (stop_line stopped.stop)
+
+-- NoMemory, which needs no cause: that was said, or nothing
+pub record IsOutOfMemory (words : List (List ℕ)) (files : Option Files × Option Files) (faults : ℕ × ℕ) (out err : Spoken) : Type 0 where
+  pub stopped : IsStopped words files faults out
+  pub errors : IsSilent err ⊎ Says err no_memory_line
 
 -- Whatever the answer: the files are as at entry, or reading gave a problem to solve, and CERT holds a front of the log
 -- of its answer; or all of it, and LOCK a front of the lock file of an optimal graph
@@ -143,8 +169,21 @@ IsRefusalStatus other = ⊥
 abbrev pub IsAnsweredBy : Status → Status → Type 0
 IsAnsweredBy status result = (result ≡ status) ⊎ (result ≡ statuses.NoMemory)
 
--- what a refusal of the words alone is answered by, whatever the desk tells: its status with its line,
--- unless the report failed or memory ran out
+-- the answers that come of the input, and neither of a device nor of want of memory
+abbrev pub IsOfInput : Status → Type 0
+IsOfInput statuses.ReadFault = ⊥
+IsOfInput statuses.WriteFault = ⊥
+IsOfInput statuses.NoMemory = ⊥
+IsOfInput other = Unit {0}
+
+-- what is reported: the status with its line, and the sink did not fail; or WriteFault, where it did, with a front of the line; or
+-- NoMemory, with nothing said
 abbrev pub Reports : Status → List ℕ → Spoken → ℕ × ℕ → Status → Type 0
 Reports status line said faults result =
-    ((result ≡ status) × Says said line) ⊎ (((result ≡ statuses.WriteFault) × Rose faults.0 faults.1) ⊎ (result ≡ statuses.NoMemory))
+    ((result ≡ status) × Says said line × (faults.1 ≡ faults.0))
+    ⊎ (((result ≡ statuses.WriteFault) × SaysFront said line × Rose faults.0 faults.1) ⊎ ((result ≡ statuses.NoMemory) × IsSilent said))
+
+-- what a refusal of the words alone is answered by, whatever the desk tells: it is reported, or want of memory is
+abbrev pub ReportsWords : Refusal → Spoken → ℕ × ℕ → Status → Type 0
+ReportsWords refusal said faults result =
+    Reports (status_of refusal) (line_of refusal) said faults result ⊎ Reports statuses.NoMemory no_memory_line said faults result

@@ -2,12 +2,12 @@
 
 ghost use Rattle.std.specs.Prelude.{◌≡◌, ◌≤◌, Err, IfSome, OnOk};
 ghost use Rattle.outside_desk.specs.Causes.{Counts};
-ghost use Rattle.run_output.specs.Orders.{order_of};
+ghost use Rattle.run_output.specs.Orders.{command_in};
 ghost use Rattle.run_output.specs.Refusal.{Refusal};
 ghost use Rattle.run_output.specs.Stages.{Is};
 ghost use Rattle.run_output.specs.Stops.{stop_status, stop_line};
 ghost use Rattle.run_output.specs.Words.{words_of};
-ghost use Rattle.concretizer.specs.Attempts.{Attempts, Follows, StopsAtOnce, FailsToRead, FailsToPut, FailsToSay};
+ghost use Rattle.concretizer.specs.Attempts.{Attempts, Concludes, Follows, StopsAtOnce, StopsBefore, FailsToRead, FailsToPut, FailsToSay};
 ghost use Rattle.concretizer.specs.Headline.{HasShown, Keeps, Reports};
 
 use outside_desk::{Desk, Sink, SinkFault};
@@ -28,14 +28,17 @@ pub fn attempt<R: Threads + Sync, D: Desk, O: Sink>(
         (O.said out.new) result) }
     ensures shown { OnOk result (IfSome (D.files desk.old)
         (λ files. HasShown files (words_of words.now))) }
-    ensures follows { Follows (words_of words.now) result }
-    ensures at_once { (refusal : Refusal) → Is (order_of (words_of words.now)) (Err refusal)
+    ensures follows { Follows (D.files desk.old) (words_of words.now) result }
+    ensures at_once { (refusal : Refusal) → Is (command_in (words_of words.now)) (Err refusal)
         → StopsAtOnce refusal result
-        × (D.files desk.new ≡ D.files desk.old) × (D.faults desk.new ≡ D.faults desk.old)
-        × (O.said out.new ≡ O.said out.old) }
-    ensures unread { FailsToRead result → (D.files desk.new ≡ D.files desk.old)
-        × (O.said out.new ≡ O.said out.old) }
-    ensures unsaid { FailsToPut result → O.said out.new ≡ O.said out.old }
+        × (D.files desk.new ≡ D.files desk.old) × (O.said out.new ≡ O.said out.old)
+        × (D.faults desk.new ≡ D.faults desk.old) × (D.put_faults desk.new ≡ D.put_faults desk.old)
+        × (O.faults out.new ≡ O.faults out.old) }
+    ensures unread { FailsToRead result → D.files desk.new ≡ D.files desk.old }
+    ensures unsaid { StopsBefore result → O.said out.new ≡ O.said out.old }
+    ensures steady { Concludes result → (D.faults desk.new ≡ D.faults desk.old)
+        × (D.put_faults desk.new ≡ D.put_faults desk.old)
+        × (O.faults out.new ≡ O.faults out.old) }
     ensures held { IfSome (D.files desk.old)
         (λ files. Keeps files (words_of words.now) (D.files desk.new)) }
     ensures read { Counts (D.faults desk.old) (D.faults desk.new) (FailsToRead result) }

@@ -3,14 +3,14 @@
 ghost use Rattle.std.specs.Prelude.{◌≡◌, ◌⊎◌, ◌≤◌, None, Ok, Err, IfSome};
 ghost use Rattle.outside_desk.specs.Causes.{Rose};
 ghost use Rattle.run_output.specs.Changes.{ChangesOnly};
-ghost use Rattle.run_output.specs.Orders.{order_of};
+ghost use Rattle.run_output.specs.Orders.{command_in};
 ghost use Rattle.run_output.specs.Refusal.{Refusal};
-ghost use Rattle.run_output.specs.Refusals.{status_of, line_of};
+ghost use Rattle.run_output.specs.Refusals.{status_of};
 ghost use Rattle.run_output.specs.Stages.{Is};
 ghost use Rattle.run_output.specs.Task.{Task};
 ghost use Rattle.run_output.specs.Tasks.{Poses};
 ghost use Rattle.run_output.specs.Words.{words_of, command_of, lock_path, cert_path};
-ghost use Rattle.concretizer.specs.Headline.{IsDone, HasShown, IsUnsatisfiable, IsUndecided, IsRefused, IsReadFault, IsPutFault, IsOutputFault, Keeps, Settles, IsRefusalStatus, Reports, IsAnsweredBy};
+ghost use Rattle.concretizer.specs.Headline.{IsDone, HasShown, IsUnsatisfiable, IsUndecided, IsRefused, IsReadFault, IsPutFault, IsOutputFault, IsReportFault, IsOutOfMemory, IsOfInput, Keeps, Settles, IsRefusalStatus, ReportsWords, IsAnsweredBy};
 
 use crate::attempt::{attempt, report};
 use outside_desk::{Desk, Sink};
@@ -40,13 +40,14 @@ pub fn run<R: Threads + Sync, D: Desk, O: Sink, E: Sink>(
     out: &mut O,
     err: &mut E,
 ) -> Status
-    // Words that are no command are answered so whatever the desk tells, and only words are Usage. No call on
-    // the desk failed, no file changed and nothing was said but the refusal.
-    ensures words { (refusal : Refusal) → Is (order_of (words_of words.now)) (Err refusal)
-        → (D.files desk.new ≡ D.files desk.old)
-        × (D.faults desk.new ≡ D.faults desk.old) × (O.said out.new ≡ O.said out.old)
-        × Reports (status_of refusal) (line_of refusal) (E.said err.old, E.said err.new)
-        (E.faults err.old, E.faults err.new) result }
+    // Words that are no command are answered so whatever the desk tells, and only words are Usage. No call on the
+    // desk or on `out` failed, no file changed and nothing was said but the refusal, or that memory ran out.
+    ensures words { (refusal : Refusal) → Is (command_in (words_of words.now)) (Err refusal)
+        → (D.files desk.new ≡ D.files desk.old) × (O.said out.new ≡ O.said out.old)
+        × (D.faults desk.new ≡ D.faults desk.old) × (D.put_faults desk.new ≡ D.put_faults desk.old)
+        × (O.faults out.new ≡ O.faults out.old)
+        × ReportsWords refusal (E.said err.old, E.said err.new) (E.faults err.old, E.faults err.new)
+        result }
     ensures usage { result ≡ Status.Usage → command_of (words_of words.now) ≡ None }
 
     // The answers of a desk that tells its files.
@@ -74,8 +75,18 @@ pub fn run<R: Threads + Sync, D: Desk, O: Sink, E: Sink>(
         IsPutFault (words_of words.now) (D.files desk.old, D.files desk.new)
         (D.put_faults desk.old, D.put_faults desk.new) (O.said out.old, O.said out.new) (E.said err.old, E.said err.new)
         ⊎ (IsOutputFault (words_of words.now) (D.files desk.old, D.files desk.new)
-        (O.faults out.old, O.faults out.new) (E.said err.old, E.said err.new)
-        ⊎ Rose (E.faults err.old) (E.faults err.new)) }
+        (O.faults out.old, O.faults out.new) (O.said out.old, O.said out.new) (E.said err.old, E.said err.new)
+        ⊎ IsReportFault (words_of words.now) (D.files desk.old, D.files desk.new)
+        (O.faults out.old, O.faults out.new) (E.faults err.old, E.faults err.new)
+        (O.said out.old, O.said out.new) (E.said err.old, E.said err.new)) }
+    ensures no_memory { result ≡ Status.NoMemory →
+        IsOutOfMemory (words_of words.now) (D.files desk.old, D.files desk.new)
+        (O.faults out.old, O.faults out.new) (O.said out.old, O.said out.new) (E.said err.old, E.said err.new) }
+
+    // Any other answer is of a run in which no device failed: none that did is asked again, or passed over.
+    ensures steady { IsOfInput result → (D.faults desk.new ≡ D.faults desk.old)
+        × (D.put_faults desk.new ≡ D.put_faults desk.old)
+        × (O.faults out.new ≡ O.faults out.old) × (E.faults err.new ≡ E.faults err.old) }
 
     // No file but the certificate and the lock file changes, and each holds a front of its text at the worst.
     ensures others { IfSome (D.files desk.old) (λ files. ChangesOnly

@@ -5,7 +5,7 @@ use Rattle.outside_desk.specs.Causes.{Counts, Rose}
 use Rattle.outside_desk.specs.Files.{Files, and_said}
 use Rattle.run_input.proofs.StageLaws.{IsOne, one_is, one_then}
 use Rattle.run_input.specs.Inputs.{Reads}
-use Rattle.run_input.specs.Orders.{order_of}
+use Rattle.run_input.specs.Orders.{command_in}
 use Rattle.run_input.specs.ReadStop.{ReadStop}
 use Rattle.run_input.specs.ReadStop.TheVariants.{Refused, Fault, NoMemory}
 use Rattle.run_input.specs.Refusal.{Refusal}
@@ -60,7 +60,7 @@ ReadsOnce = (files : Files) (command : Command) → IsOne (Reads files command)
 one_posed : ReadsOnce → (files : Files) (words : List (List ℕ)) → IsOne (Poses files words)
 one_posed one files words =
     one_then (Asks files words) (λ input. Is (Ok (text_of input.problem)))
-    (one_then (Is (order_of (explained words))) (Reads files) (one_is (order_of (explained words))) (one files))
+    (one_then (Is (command_in (explained words))) (Reads files) (one_is (command_in (explained words))) (one files))
     (λ input. one_is (Ok (text_of input.problem)))
 
 answered_here : (files : Files) (words : List (List ℕ)) (stop : Stop) (out err : Spoken) (faults : ℕ × ℕ) (result : Status)

@@ -8,7 +8,7 @@ use Rattle.problem.specs.Problems.{Problem}
 use Rattle.problem_encoding.specs.Built.{encoding_of}
 use Rattle.dimacs_text.specs.Texts.{dimacs_text}
 use Rattle.run_input.specs.Inputs.{Reads}
-use Rattle.run_input.specs.Orders.{order_of}
+use Rattle.run_input.specs.Orders.{command_in}
 use Rattle.run_input.specs.Refusal.{Refusal}
 use Rattle.run_input.specs.Refusal.TheVariants.{Usage}
 use Rattle.run_input.specs.Refusals as lines
@@ -27,7 +27,7 @@ explained words = codes "explain" ∷ words
 
 -- the problem that the words name over the files
 abbrev pub Asks : Files → List (List ℕ) → Result Input Refusal → Type 0
-Asks files words = Then (Is (order_of (explained words))) (Reads files)
+Asks files words = Then (Is (command_in (explained words))) (Reads files)
 
 -- the text that the words ask for, or the refusal that is due first
 abbrev pub Poses : Files → List (List ℕ) → Result (List ℕ) Refusal → Type 0

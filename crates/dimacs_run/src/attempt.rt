@@ -6,7 +6,7 @@ ghost use Rattle.outside_desk.specs.Files.{and_said};
 ghost use Rattle.run_input.specs.Closures.{closure_of};
 ghost use Rattle.run_input.specs.Kept.{has_right_values};
 ghost use Rattle.run_input.specs.Inputs.{Reads};
-ghost use Rattle.run_input.specs.Orders.{order_of};
+ghost use Rattle.run_input.specs.Orders.{command_in};
 ghost use Rattle.run_input.specs.Stages.{Is, Then};
 ghost use Rattle.run_input.specs.Stops.{Gives, EndsInReadFault, EndsInOutputFault, EndsInPutFault};
 ghost use Rattle.run_input.specs.Words.{words_of};
@@ -101,7 +101,7 @@ fn read_ordered<R: Threads + Sync, D: Desk>(
     desk: &mut D,
 ) -> Result<Input, ReadStop>
     ensures read { IfSome (D.files desk.old) (λ files. Gives result
-        (Then (Is (order_of (words_of words.now))) (Reads files))) }
+        (Then (Is (command_in (words_of words.now))) (Reads files))) }
     ensures names { IfOk result (λ input. input.closure ≡ closure_of input.problem) }
     ensures values { IfOk result (λ input. has_right_values input.problem ≡ true) }
     ensures cause { Counts (D.faults desk.old) (D.faults desk.new) (EndsInReadFault result) }

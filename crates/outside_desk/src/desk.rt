@@ -16,8 +16,8 @@ use std::alloc::Global;
 ///   put           ──► the file holds the bytes ─ Failed: put_faults rises
 /// ```
 ///
-/// Calls come in any order, also after a fault: no fault closes a desk.
-/// A count never falls, is below 2^64, and stays at 2^64 - 1 once it stands there.
+/// Calls come in any order, also after a fault: no fault closes a desk. A call that does not answer `Failed` leaves
+/// both counts. A count never falls, is below 2^64, and stays at 2^64 - 1 once it stands there.
 pub trait Desk {
     /// The files, where the desk tells them.
     ghost files: { Self → Option Files };
@@ -45,6 +45,7 @@ pub trait Desk {
         ensures same { files self.new ≡ files self.old }
         ensures cause { Counts (faults self.old) (faults self.new)
             (IsErrOf result DeskFault.Failed) }
+        ensures steady { ¬ IsErrOf result DeskFault.Failed → faults self.new ≡ faults self.old }
         ensures put_faults { put_faults self.new ≡ put_faults self.old };
 
     /// The names in the folder at `path`: the distinct texts that stand between `path/` and the next `/`,
@@ -57,6 +58,7 @@ pub trait Desk {
         ensures same { files self.new ≡ files self.old }
         ensures cause { Counts (faults self.old) (faults self.new)
             (IsErrOf result DeskFault.Failed) }
+        ensures steady { ¬ IsErrOf result DeskFault.Failed → faults self.new ≡ faults self.old }
         ensures put_faults { put_faults self.new ≡ put_faults self.old };
 
     /// Makes the file at `path` hold `bytes`, and leaves all other files.
@@ -71,6 +73,8 @@ pub trait Desk {
         ensures never_missing { IsErrOf result DeskFault.Missing → ⊥ }
         ensures cause { Counts (put_faults self.old) (put_faults self.new)
             (IsErrOf result DeskFault.Failed) }
+        ensures steady { ¬ IsErrOf result DeskFault.Failed
+            → put_faults self.new ≡ put_faults self.old }
         ensures faults { faults self.new ≡ faults self.old };
 
     /// Each count fits 64 bits.

@@ -12,8 +12,8 @@ use std::alloc::Global;
 ///   say ──► the bytes stand at the end ── Failed: faults rises, a front of them may stand there
 /// ```
 ///
-/// Calls come in any order, also after a fault. The count never falls, is below 2^64, and stays at
-/// 2^64 - 1 once it stands there.
+/// Calls come in any order, also after a fault. A call that does not answer `Failed` leaves the count. It never
+/// falls, is below 2^64, and stays at 2^64 - 1 once it stands there.
 pub trait Sink {
     /// What was said, where the sink tells it.
     ghost said: { Self → Option (List ℕ) };
@@ -30,7 +30,8 @@ pub trait Sink {
             → SaysPart (said self.old) (said self.new) bytes.now }
         ensures memory { IsErrOf result SinkFault.OutOfMemory → said self.new ≡ said self.old }
         ensures cause { Counts (faults self.old) (faults self.new)
-            (IsErrOf result SinkFault.Failed) };
+            (IsErrOf result SinkFault.Failed) }
+        ensures steady { ¬ IsErrOf result SinkFault.Failed → faults self.new ≡ faults self.old };
 
     /// The count fits 64 bits.
     ghost faults_fit: { (sink : Self) → faults sink < 2 ^ 64 };

@@ -25,6 +25,7 @@ pub fn read_whole<D: Desk>(
     ensures same { D.files desk.new ≡ D.files desk.old }
     ensures cause { Counts (D.faults desk.old) (D.faults desk.new)
         (IsErrOf result ReadFault.Failed) }
+    ensures steady { ¬ IsErrOf result ReadFault.Failed → D.faults desk.new ≡ D.faults desk.old }
     ensures put_faults { D.put_faults desk.new ≡ D.put_faults desk.old }
 {
     let mut bytes = Vec::new(alloc);

@@ -6,8 +6,8 @@ ghost use Rattle.outside_desk.specs.Causes.{Counts};
 ghost use Rattle.outside_desk.specs.Listing.{AreInOrder};
 ghost use Rattle.variant_values.specs.Texts.{IsInByteOrder};
 ghost use Rattle.run_answers.specs.Stages.{Is};
-ghost use Rattle.run_answers.specs.Stops.{Gives, EndsInReadFault, EndsInUsage};
-ghost use Rattle.recipe_files.specs.Paths.{FailsInside};
+ghost use Rattle.run_answers.specs.Stops.{Gives, EndsByInput, EndsInReadFault, EndsInUsage};
+ghost use Rattle.recipe_files.specs.Paths.{FailsAmong, FailsAtEntry, FailsInside};
 ghost use Rattle.recipe_files.specs.Sources.{Leaves, names_of, no_files, recipe_at, with_entry, with_entries, pile_of};
 
 use crate::paths::{packages_path, recipe_path};
@@ -19,7 +19,7 @@ use spec_grammar::is_name;
 use std::alloc::Global;
 
 /// Reads an entry of the folder: it is a recipe where its name is a NAME and its file is there.
-#[tactic(auto, unfolding(crate::specs::Sources::recipe_at), using(crate::proofs::Ends::inside, crate::proofs::Ends::counts))]
+#[tactic(auto, unfolding(crate::specs::Sources::recipe_at), using(crate::proofs::Ends::at_entry, crate::proofs::Ends::counts))]
 fn read_entry<D: Desk>(
     alloc: Global,
     desk: &mut D,
@@ -33,10 +33,11 @@ fn read_entry<D: Desk>(
     ensures order { (names : List (List ℕ))
         → IsInByteOrder (names_of sources.old ++ name.now ∷ names)
         → OnOk result (IsInByteOrder (names_of sources.new ++ names)) }
-    ensures path { FailsInside repo.now result }
+    ensures path { FailsAtEntry repo.now name.now result }
     ensures no_usage { EndsInUsage result → ⊥ }
     ensures same { D.files desk.new ≡ D.files desk.old }
     ensures cause { Counts (D.faults desk.old) (D.faults desk.new) (EndsInReadFault result) }
+    ensures steady { EndsByInput result → D.faults desk.new ≡ D.faults desk.old }
     ensures put_faults { D.put_faults desk.new ≡ D.put_faults desk.old }
 {
     if !is_name(name.as_bytes()) {
@@ -64,10 +65,11 @@ fn read_entries<D: Desk>(
         (λ files. Gives result
         (Is (with_entries files repo.now no_files (map string_bytes names.now)))) }
     ensures order { IfOk result (λ sources. IsInByteOrder (names_of sources)) }
-    ensures path { FailsInside repo.now result }
+    ensures path { FailsAmong repo.now (map string_bytes names.now) result }
     ensures no_usage { EndsInUsage result → ⊥ }
     ensures same { D.files desk.new ≡ D.files desk.old }
     ensures cause { Counts (D.faults desk.old) (D.faults desk.new) (EndsInReadFault result) }
+    ensures steady { EndsByInput result → D.faults desk.new ≡ D.faults desk.old }
     ensures put_faults { D.put_faults desk.new ≡ D.put_faults desk.old }
 {
     let mut sources = Sources::new(alloc);
@@ -91,10 +93,11 @@ fn read_entries<D: Desk>(
 pub fn read_sources<D: Desk>(alloc: Global, desk: &mut D, repo: &str) -> Result<Sources, ReadStop>
     ensures read { IfSome (D.files desk.old) (λ files. Gives result (Is (pile_of files repo.now))) }
     ensures order { IfOk result (λ sources. IsInByteOrder (names_of sources)) }
-    ensures path { FailsInside repo.now result }
+    ensures path { FailsInside (D.files desk.old) repo.now result }
     ensures no_usage { EndsInUsage result → ⊥ }
     ensures same { D.files desk.new ≡ D.files desk.old }
     ensures cause { Counts (D.faults desk.old) (D.faults desk.new) (EndsInReadFault result) }
+    ensures steady { EndsByInput result → D.faults desk.new ≡ D.faults desk.old }
     ensures put_faults { D.put_faults desk.new ≡ D.put_faults desk.old }
 {
     let folder = packages_path(alloc, repo)?;

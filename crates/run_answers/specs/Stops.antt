@@ -25,6 +25,12 @@ abbrev pub EndsInReadFault : {T : Type 0} → Result T ReadStop → Type 0
 EndsInReadFault (Err (reads.Fault path)) = Unit {0}
 EndsInReadFault other = ⊥
 
+-- a reading that ended as what was read has it: no device failed, and memory sufficed
+abbrev pub EndsByInput : {T : Type 0} → Result T ReadStop → Type 0
+EndsByInput (Ok x) = Unit {0}
+EndsByInput (Err (reads.Refused refusal)) = Unit {0}
+EndsByInput other = ⊥
+
 -- a writing that a put made fail, and one that the sink of the answer made fail
 abbrev pub EndsInPutFault : {T : Type 0} → Result T WriteStop → Type 0
 EndsInPutFault (Err (writes.Put path)) = Unit {0}

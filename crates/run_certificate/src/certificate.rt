@@ -12,7 +12,7 @@ ghost use Rattle.graph_reasons.specs.OfGraphCheck.Built.{encoding_of};
 ghost use Rattle.graph_reasons.specs.OfGraphCheck.Encodings.{IsEncoded};
 ghost use Rattle.graph_reasons.specs.OfGraphCheck.Kept.{has_right_values};
 ghost use Rattle.run_answers.specs.Stages.{Is};
-ghost use Rattle.run_answers.specs.Stops.{Gives, EndsInReadFault, EndsInUsage};
+ghost use Rattle.run_answers.specs.Stops.{Gives, EndsByInput, EndsInReadFault, EndsInUsage};
 ghost use Rattle.run_certificate.specs.Certificates.{said_at, certified_at, ShowsOf};
 ghost use Rattle.run_certificate.specs.Pieces.{FailsThere};
 
@@ -53,6 +53,7 @@ fn check_text<R: Threads + Sync, D: Desk>(
     ensures no_usage { EndsInUsage result → ⊥ }
     ensures same { D.files desk.new ≡ D.files desk.old }
     ensures cause { Counts (D.faults desk.old) (D.faults desk.new) (EndsInReadFault result) }
+    ensures steady { EndsByInput result → D.faults desk.new ≡ D.faults desk.old }
     ensures put_faults { D.put_faults desk.new ≡ D.put_faults desk.old }
 {
     let mut piece = buffer(alloc, PIECE)?;
@@ -80,6 +81,7 @@ fn check_log<R: Threads + Sync, D: Desk>(
     ensures no_usage { EndsInUsage result → ⊥ }
     ensures same { D.files desk.new ≡ D.files desk.old }
     ensures cause { Counts (D.faults desk.old) (D.faults desk.new) (EndsInReadFault result) }
+    ensures steady { EndsByInput result → D.faults desk.new ≡ D.faults desk.old }
     ensures put_faults { D.put_faults desk.new ≡ D.put_faults desk.old }
 {
     let mut checker = TextChecker::new(alloc, clauses, bits, values)?;
@@ -107,6 +109,7 @@ fn check_over<R: Threads + Sync, D: Desk>(
     ensures no_usage { EndsInUsage result → ⊥ }
     ensures same { D.files desk.new ≡ D.files desk.old }
     ensures cause { Counts (D.faults desk.old) (D.faults desk.new) (EndsInReadFault result) }
+    ensures steady { EndsByInput result → D.faults desk.new ≡ D.faults desk.old }
     ensures put_faults { D.put_faults desk.new ≡ D.put_faults desk.old }
 {
     text_laws();
@@ -160,6 +163,7 @@ pub fn read_certificate<R: Threads + Sync, D: Desk>(
     ensures no_usage { EndsInUsage result → ⊥ }
     ensures same { D.files desk.new ≡ D.files desk.old }
     ensures cause { Counts (D.faults desk.old) (D.faults desk.new) (EndsInReadFault result) }
+    ensures steady { EndsByInput result → D.faults desk.new ≡ D.faults desk.old }
     ensures put_faults { D.put_faults desk.new ≡ D.put_faults desk.old }
 {
     let encoded = encode(alloc, problem, closure)?;

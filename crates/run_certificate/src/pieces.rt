@@ -4,7 +4,7 @@ ghost use Rattle.std.specs.Prelude.{◌≡◌, ◌≤◌, ◌<◌, ◌-◌, min,
 ghost use Rattle.std.specs.FinMap.{get};
 ghost use Rattle.outside_desk.specs.Causes.{Counts};
 ghost use Rattle.log_checker.specs.Steps.{State};
-ghost use Rattle.run_answers.specs.Stops.{EndsInReadFault, EndsInUsage};
+ghost use Rattle.run_answers.specs.Stops.{EndsByInput, EndsInReadFault, EndsInUsage};
 ghost use Rattle.run_certificate.specs.Certificates.{most};
 ghost use Rattle.run_certificate.specs.Pieces.{GivesPiece, TakesNext, TakesAll, Moves, FailsThere};
 
@@ -43,6 +43,7 @@ fn read_piece<D: Desk>(
     ensures no_usage { EndsInUsage result → ⊥ }
     ensures same { D.files desk.new ≡ D.files desk.old }
     ensures cause { Counts (D.faults desk.old) (D.faults desk.new) (EndsInReadFault result) }
+    ensures steady { EndsByInput result → D.faults desk.new ≡ D.faults desk.old }
     ensures put_faults { D.put_faults desk.new ≡ D.put_faults desk.old }
 {
     match desk.read_at(alloc, path, from, out) {
@@ -88,6 +89,7 @@ pub(crate) fn take_next<R: Threads + Sync, D: Desk>(
     ensures no_usage { EndsInUsage result → ⊥ }
     ensures same { D.files desk.new ≡ D.files desk.old }
     ensures cause { Counts (D.faults desk.old) (D.faults desk.new) (EndsInReadFault result) }
+    ensures steady { EndsByInput result → D.faults desk.new ≡ D.faults desk.old }
     ensures put_faults { D.put_faults desk.new ≡ D.put_faults desk.old }
 {
     let count = read_piece(alloc, desk, path, from, piece)?;
@@ -121,6 +123,7 @@ pub(crate) fn take_all<R: Threads + Sync, D: Desk>(
     ensures no_usage { EndsInUsage result → ⊥ }
     ensures same { D.files desk.new ≡ D.files desk.old }
     ensures cause { Counts (D.faults desk.old) (D.faults desk.new) (EndsInReadFault result) }
+    ensures steady { EndsByInput result → D.faults desk.new ≡ D.faults desk.old }
     ensures put_faults { D.put_faults desk.new ≡ D.put_faults desk.old }
 {
     let mut from: u64 = 0;

@@ -4,7 +4,7 @@ ghost use Rattle.std.specs.Prelude.{◌≡◌, true, false, IfOk, IfSome};
 ghost use Rattle.std.specs.List.{list_all};
 ghost use Rattle.recorded_values.specs.Values.{has_values};
 ghost use Rattle.outside_desk.specs.Causes.{Counts};
-ghost use Rattle.run_words.specs.Stops.{Gives, EndsInReadFault, EndsInUsage};
+ghost use Rattle.run_words.specs.Stops.{Gives, EndsByInput, EndsInReadFault, EndsInUsage};
 ghost use Rattle.run_words.specs.Words.{is_dash};
 ghost use Rattle.run_database.specs.Installed.{bytes_at, GivesBytes, DatabaseIn, DatabaseAt, FailsThere};
 
@@ -29,6 +29,7 @@ fn read_bytes<D: Desk>(alloc: Global, desk: &mut D, path: &str) -> Result<Vec<u8
     ensures no_usage { EndsInUsage result → ⊥ }
     ensures same { D.files desk.new ≡ D.files desk.old }
     ensures cause { Counts (D.faults desk.old) (D.faults desk.new) (EndsInReadFault result) }
+    ensures steady { EndsByInput result → D.faults desk.new ≡ D.faults desk.old }
     ensures put_faults { D.put_faults desk.new ≡ D.put_faults desk.old }
 {
     match read_whole(alloc, desk, path, DATABASE_LIMIT) {
@@ -75,6 +76,7 @@ pub fn read_installed<D: Desk>(
     ensures no_usage { EndsInUsage result → ⊥ }
     ensures same { D.files desk.new ≡ D.files desk.old }
     ensures cause { Counts (D.faults desk.old) (D.faults desk.new) (EndsInReadFault result) }
+    ensures steady { EndsByInput result → D.faults desk.new ≡ D.faults desk.old }
     ensures put_faults { D.put_faults desk.new ≡ D.put_faults desk.old }
 {
     if is_dash(path) {

@@ -1,5 +1,6 @@
 -- Where a device fails.
-use Rattle.std.proofs.Common.{Err, inl, inr}
+use Rattle.std.proofs.Common.{◌≡◌, subst, Option, Result, Err, inl, inr}
+use Rattle.outside_desk.specs.Files.{Files}
 use Rattle.run_settings.specs.ReadStop.{ReadStop}
 use Rattle.run_settings.specs.ReadStop.TheVariants.{Refused, Fault, NoMemory}
 use Rattle.run_settings.specs.Words.{Command}
@@ -9,22 +10,27 @@ use Rattle.recipe_files.specs.Paths.{FailsInside}
 use Rattle.run_input.specs.Inputs.{FailsAtInput}
 
 -- over the settings
-pub of_settings : (A B : Type 0) (command : Command) (stop : ReadStop) → settings.FailsThere {A = A} command.settings (Err stop)
-    → FailsAtInput {A = B} command (Err stop)
-of_settings A B command (Refused refusal) there = tt
-of_settings A B command (Fault path) there = inl there
-of_settings A B command NoMemory there = tt
+pub of_settings : (A B : Type 0) (told : Option Files) (command : Command) (stop : ReadStop) → settings.FailsThere {A = A} command.settings (Err stop)
+    → FailsAtInput {A = B} told command (Err stop)
+of_settings A B told command (Refused refusal) there = tt
+of_settings A B told command (Fault path) there = inl there
+of_settings A B told command NoMemory there = tt
 
 -- over the repository
-pub of_repository : (A B : Type 0) (command : Command) (stop : ReadStop) → FailsInside {A = A} command.repo (Err stop)
-    → FailsAtInput {A = B} command (Err stop)
-of_repository A B command (Refused refusal) inside = tt
-of_repository A B command (Fault path) inside = inr (inl inside)
-of_repository A B command NoMemory inside = tt
+pub of_repository : (A B : Type 0) (told : Option Files) (command : Command) (stop : ReadStop) → FailsInside {A = A} told command.repo (Err stop)
+    → FailsAtInput {A = B} told command (Err stop)
+of_repository A B told command (Refused refusal) inside = tt
+of_repository A B told command (Fault path) inside = inr (inl inside)
+of_repository A B told command NoMemory inside = tt
 
 -- over the database
-pub of_database : (A B : Type 0) (command : Command) (stop : ReadStop) → database.FailsThere {A = A} command.database (Err stop)
-    → FailsAtInput {A = B} command (Err stop)
-of_database A B command (Refused refusal) there = tt
-of_database A B command (Fault path) there = inr (inr there)
-of_database A B command NoMemory there = tt
+pub of_database : (A B : Type 0) (told : Option Files) (command : Command) (stop : ReadStop) → database.FailsThere {A = A} command.database (Err stop)
+    → FailsAtInput {A = B} told command (Err stop)
+of_database A B told command (Refused refusal) there = tt
+of_database A B told command (Fault path) there = inr (inr there)
+of_database A B told command NoMemory there = tt
+
+-- nothing was written in between
+pub later : {A : Type 0} (before between : Option Files) (command : Command) (result : Result A ReadStop) → between ≡ before
+    → FailsAtInput between command result → FailsAtInput before command result
+later before between command result same there = subst (λ (told : Option Files). FailsAtInput told command result) same there

@@ -85,12 +85,12 @@ Reads files command = Then (SettingsAt files command.settings) (OverSettings fil
 
 -- ---- faults of devices
 
--- what is read: the settings, the folder of the packages, their recipes, and the database
-abbrev pub IsInputPath : Command → List ℕ → Type 0
-IsInputPath command path =
-    IsSettingsPath command.settings path ⊎ IsReadPath command.repo path ⊎ IsDatabasePath command.database path
+-- what is read: the settings, the folder of the packages, the recipes of the names in it, and the database
+abbrev pub IsInputPath : Option Files → Command → List ℕ → Type 0
+IsInputPath told command path =
+    IsSettingsPath command.settings path ⊎ IsReadPath told command.repo path ⊎ IsDatabasePath command.database path
 
 -- a device fails only while such a path is read
-abbrev pub FailsAtInput : {A : Type 0} → Command → Result A ReadStop → Type 0
-FailsAtInput command (Err (reads.Fault path)) = IsInputPath command path
-FailsAtInput command other = Unit {0}
+abbrev pub FailsAtInput : {A : Type 0} → Option Files → Command → Result A ReadStop → Type 0
+FailsAtInput told command (Err (reads.Fault path)) = IsInputPath told command path
+FailsAtInput told command other = Unit {0}

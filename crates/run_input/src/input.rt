@@ -10,7 +10,7 @@ ghost use Rattle.table_plan.specs.Kept.{has_right_values};
 ghost use Rattle.run_settings.specs.Values.{are_valued};
 ghost use Rattle.run_database.specs.Values.{has_values};
 ghost use Rattle.run_settings.specs.Stages.{Is};
-ghost use Rattle.run_settings.specs.Stops.{Gives, EndsInReadFault, EndsInUsage};
+ghost use Rattle.run_settings.specs.Stops.{Gives, EndsByInput, EndsInReadFault, EndsInUsage};
 ghost use Rattle.run_input.specs.Roots.{RootsOf, are_named};
 ghost use Rattle.run_input.specs.Inputs.{posed_by, closed_of, InputBy, Asked, Behind, OverSettings, Reads, FailsAtInput};
 
@@ -153,10 +153,11 @@ fn read_behind<D: Desk>(
     ensures roots { IfOk result (λ input. RootsOf command.now.spec (Ok input.problem.roots)) }
     ensures values { IfOk result (λ input. has_right_values input.problem ≡ true) }
     ensures names { IfOk result (λ input. input.closure ≡ closure_of input.problem) }
-    ensures path { FailsAtInput command.now result }
+    ensures path { FailsAtInput (D.files desk.old) command.now result }
     ensures no_usage { EndsInUsage result → ⊥ }
     ensures same { D.files desk.new ≡ D.files desk.old }
     ensures cause { Counts (D.faults desk.old) (D.faults desk.new) (EndsInReadFault result) }
+    ensures steady { EndsByInput result → D.faults desk.new ≡ D.faults desk.old }
     ensures put_faults { D.put_faults desk.new ≡ D.put_faults desk.old }
 {
     match read_installed(alloc, desk, command.database) {
@@ -180,10 +181,11 @@ fn read_over<R: Threads + Sync, D: Desk>(
     ensures roots { IfOk result (λ input. RootsOf command.now.spec (Ok input.problem.roots)) }
     ensures values { IfOk result (λ input. has_right_values input.problem ≡ true) }
     ensures names { IfOk result (λ input. input.closure ≡ closure_of input.problem) }
-    ensures path { FailsAtInput command.now result }
+    ensures path { FailsAtInput (D.files desk.old) command.now result }
     ensures no_usage { EndsInUsage result → ⊥ }
     ensures same { D.files desk.new ≡ D.files desk.old }
     ensures cause { Counts (D.faults desk.old) (D.faults desk.new) (EndsInReadFault result) }
+    ensures steady { EndsByInput result → D.faults desk.new ≡ D.faults desk.old }
     ensures put_faults { D.put_faults desk.new ≡ D.put_faults desk.old }
 {
     match read_repository(rt, alloc, desk, command.repo) {
@@ -209,10 +211,11 @@ pub fn read_input<R: Threads + Sync, D: Desk>(
     ensures roots { IfOk result (λ input. RootsOf command.now.spec (Ok input.problem.roots)) }
     ensures values { IfOk result (λ input. has_right_values input.problem ≡ true) }
     ensures names { IfOk result (λ input. input.closure ≡ closure_of input.problem) }
-    ensures path { FailsAtInput command.now result }
+    ensures path { FailsAtInput (D.files desk.old) command.now result }
     ensures no_usage { EndsInUsage result → ⊥ }
     ensures same { D.files desk.new ≡ D.files desk.old }
     ensures cause { Counts (D.faults desk.old) (D.faults desk.new) (EndsInReadFault result) }
+    ensures steady { EndsByInput result → D.faults desk.new ≡ D.faults desk.old }
     ensures put_faults { D.put_faults desk.new ≡ D.put_faults desk.old }
 {
     let settings = read_site(alloc, desk, command.settings)?;

@@ -6,7 +6,7 @@ ghost use Rattle.outside_desk.specs.Causes.{Counts};
 ghost use Rattle.conditions.specs.Right.{is_right_recipe};
 ghost use Rattle.virtuals.specs.Virtuals as virtuals;
 ghost use Rattle.virtuals.specs.Virtuals.{AreInOrder};
-ghost use Rattle.run_settings.specs.Stops.{Gives, EndsInReadFault, EndsInUsage};
+ghost use Rattle.run_settings.specs.Stops.{Gives, EndsByInput, EndsInReadFault, EndsInUsage};
 ghost use Rattle.recipe_files.specs.Paths.{FailsInside};
 ghost use Rattle.variant_values.specs.Texts.{IsInByteOrder};
 ghost use Rattle.recipe_files.specs.Sources.{names_of, source_of};
@@ -71,10 +71,11 @@ pub fn read_repository<R: Threads + Sync, D: Desk>(
     ensures read { IfSome (D.files desk.old) (λ files. Gives result (InRepository files repo.now)) }
     ensures order { IfOk result (λ recipes. AreInOrder recipes) }
     ensures right { IfOk result (λ recipes. list_all is_right_recipe recipes ≡ true) }
-    ensures path { FailsInside repo.now result }
+    ensures path { FailsInside (D.files desk.old) repo.now result }
     ensures no_usage { EndsInUsage result → ⊥ }
     ensures same { D.files desk.new ≡ D.files desk.old }
     ensures cause { Counts (D.faults desk.old) (D.faults desk.new) (EndsInReadFault result) }
+    ensures steady { EndsByInput result → D.faults desk.new ≡ D.faults desk.old }
     ensures put_faults { D.put_faults desk.new ≡ D.put_faults desk.old }
 {
     let sources = read_sources(alloc, desk, repo)?;

@@ -8,8 +8,8 @@ use Rattle.run_task.specs.Problems.{Problem}
 use Rattle.run_task.specs.WriteStop.{WriteStop}
 use Rattle.run_task.specs.WriteStop.TheVariants.{Put, Output, NoMemory}
 use Rattle.run_task.specs.declared.task.Task.TheVariants as tasks
-use Rattle.run_output.specs.Answers.{HoldsFronts, KeepsFronts, Leaves, PutsAnswer, Writes}
-use Rattle.run_output.specs.Texts.{IsFor}
+use Rattle.run_output.specs.Answers.{HoldsFronts, KeepsFronts, Leaves, PutsAnswer, SaysText, Writes}
+use Rattle.run_output.specs.Texts.{IsFor, text_of}
 use Rattle.run_output.specs.declared.answer.Outcome.{Outcome}
 use Rattle.run_output.specs.declared.answer.Outcome.TheVariants.{Solved, Unsolved, Undecided}
 
@@ -19,21 +19,15 @@ pub put_stopped : (lock cert : List ℕ) (problem : Problem) (answer : Answer) (
     → Leaves lock cert problem answer before after said said (Err stop)
 put_stopped lock cert problem answer (Put at) before after said left = (left, refl)
 put_stopped lock cert problem answer Output before after said left = absurd left
-put_stopped lock cert problem answer NoMemory before after said left = tt
-
--- the stop of a put
-abbrev pub EndsInPut : WriteStop → Type 0
-EndsInPut (Put at) = Unit {0}
-EndsInPut Output = ⊥
-EndsInPut NoMemory = ⊥
+put_stopped lock cert problem answer NoMemory before after said left = refl
 
 -- the sink stopped
 pub say_stopped : (lock cert : List ℕ) (problem : Problem) (answer : Answer) (stop : WriteStop) (before after : Option Files)
     (said more : Option (List ℕ)) → PutsAnswer lock cert problem answer before after (Ok tt)
-    → (EndsInPut stop → ⊥) → Leaves lock cert problem answer before after said more (Err stop)
-say_stopped lock cert problem answer (Put at) before after said more left no_put = absurd (no_put tt)
-say_stopped lock cert problem answer Output before after said more left no_put = left
-say_stopped lock cert problem answer NoMemory before after said more left no_put = tt
+    → SaysText (text_of problem answer) said more (Err stop) → Leaves lock cert problem answer before after said more (Err stop)
+say_stopped lock cert problem answer (Put at) before after said more left says = absurd says
+say_stopped lock cert problem answer Output before after said more left says = (left, says)
+say_stopped lock cert problem answer NoMemory before after said more left says = says
 
 module _ (lock cert : List ℕ) (input : Input) (before after : Option Files) (said more : Option (List ℕ)) where
   solved : (answer : Answer) → IsFor input.problem answer
@@ -65,8 +59,8 @@ module _ (lock cert : List ℕ) (input : Input) (before after : Option Files) (s
   written answer (Ok Unsolved) found left = unsolved answer found left
   written answer (Ok Undecided) found left = undecided answer found left
   written answer (Err (Put at)) found left = (record { answer = answer; found = found; half = left.0 }, left.1)
-  written answer (Err Output) found left = record { answer = answer; found = found; files = left }
-  written answer (Err NoMemory) found left = tt
+  written answer (Err Output) found left = record { answer = answer; found = found; files = left.0; out = left.1 }
+  written answer (Err NoMemory) found left = left
 
   -- what it keeps at any end
   pub kept : (answer : Answer) → IsFor input.problem answer

@@ -2,7 +2,7 @@
 use Rattle.std.proofs.Common.{◌≡◌, ◌∙◌, refl, ap, cond, ℕ, ◌+◌, List, [], ◌∷◌, Option, Ok, Err}
 use Rattle.std.specs.Prelude.{count_by}
 use Rattle.std.proofs.lemmas.List.Sums.{sum_by-cons}
-use Rattle.outside_desk.specs.Files.{Files, and_said}
+use Rattle.outside_desk.specs.Files.{Files, and_said, SaysPart}
 use Rattle.run_task.specs.WriteStop.{WriteStop}
 use Rattle.run_task.specs.WriteStop.TheVariants.{Put, Output, NoMemory}
 use Rattle.run_task.specs.declared.task.Task.{Task}
@@ -10,12 +10,11 @@ use Rattle.run_task.specs.declared.task.Task.TheVariants as tasks
 use Rattle.proof_log.specs.declared.line.Line.{Line}
 use Rattle.proof_log.specs.declared.line.Line.TheVariants.{Header, Learnt, Zero, One, Unsat, Spent, End}
 use Rattle.proof_log.specs.Lines.{learnt_count, learnt_in}
-use Rattle.run_output.specs.Answers.{Writes}
+use Rattle.run_output.specs.Answers.{SaysText, Writes}
 use Rattle.run_output.specs.Texts.{is_learnt}
-use Rattle.run_output.specs.Told.{Tells, IsTold}
+use Rattle.run_output.specs.Told.{Tells, IsHalfTold}
 use Rattle.run_output.specs.declared.answer.Outcome.{Outcome}
 use Rattle.run_output.specs.declared.answer.Outcome.TheVariants.{Solved, Unsolved, Undecided}
-use Rattle.run_output.proofs.Left.{EndsInPut}
 
 module _ (lock cert : List ℕ) (files : Option Files) (said more : Option (List ℕ)) (text : List ℕ) where
   pub told_writes : (task : Task) (outcome : Outcome) → Tells task outcome text → more ≡ and_said said text
@@ -34,15 +33,18 @@ module _ (lock cert : List ℕ) (files : Option Files) (said more : Option (List
   told_writes (tasks.Try input) Unsolved tells out = record { text = text; tells = tells; files = refl; out = out }
   told_writes (tasks.Try input) Undecided tells out = record { text = text; tells = tells; files = refl; out = out }
 
-  pub told_stops : (task : Task) (outcome : Outcome) (stop : WriteStop) → Tells task outcome text → (EndsInPut stop → ⊥)
+  half_told : (task : Task) (outcome : Outcome) → Tells task outcome text → SaysPart said more text → IsHalfTold task files files said more
+  half_told task outcome tells part = record { outcome = outcome; text = text; tells = tells; files = refl; out = part }
+
+  pub told_stops : (task : Task) (outcome : Outcome) (stop : WriteStop) → Tells task outcome text → SaysText text said more (Err stop)
       → Writes lock cert task files files said more (Err stop)
-  told_stops task outcome (Put at) tells no_put = absurd (no_put tt)
-  told_stops (tasks.Solve input) outcome Output tells no_put = absurd tells
-  told_stops (tasks.Report numbers) outcome Output tells no_put = refl
-  told_stops tasks.Accepted outcome Output tells no_put = refl
-  told_stops (tasks.Explain input) outcome Output tells no_put = refl
-  told_stops (tasks.Try input) outcome Output tells no_put = refl
-  told_stops task outcome NoMemory tells no_put = tt
+  told_stops task outcome (Put at) tells says = absurd says
+  told_stops (tasks.Solve input) outcome Output tells says = absurd tells
+  told_stops (tasks.Report numbers) outcome Output tells says = half_told (tasks.Report numbers) outcome tells says
+  told_stops tasks.Accepted outcome Output tells says = half_told tasks.Accepted outcome tells says
+  told_stops (tasks.Explain input) outcome Output tells says = half_told (tasks.Explain input) outcome tells says
+  told_stops (tasks.Try input) outcome Output tells says = half_told (tasks.Try input) outcome tells says
+  told_stops task outcome NoMemory tells says = says
 
 -- ---- trials
 

@@ -1,6 +1,6 @@
 -- What a run leaves of its answer: the certificate, the lock file and what was said.
 use Rattle.std.specs.Prelude.{◌≡◌, ◌⊎◌, ℕ, Bool, true, false, List, [], ◌∷◌, ◌++◌, Option, Result, Ok, Err}
-use Rattle.outside_desk.specs.Files.{Files, with_file, and_said, MayHold}
+use Rattle.outside_desk.specs.Files.{Files, with_file, and_said, MayHold, SaysPart}
 use Rattle.graph_core.specs.Graphs.{Content}
 use Rattle.run_task.specs.Problems.{Problem}
 use Rattle.proof_log.specs.declared.line.Line.{Line}
@@ -15,7 +15,7 @@ use Rattle.run_task.specs.WriteStop.TheVariants as writes
 use Rattle.run_task.specs.declared.task.Task.{Task}
 use Rattle.run_task.specs.declared.task.Task.TheVariants as tasks
 use Rattle.run_output.specs.Texts.{IsFor, graph_text, text_of, outcome_of, unsatisfiable_line, undecided_line}
-use Rattle.run_output.specs.Told.{IsTold}
+use Rattle.run_output.specs.Told.{IsTold, IsHalfTold}
 use Rattle.run_output.specs.declared.answer.Outcome.{Outcome}
 use Rattle.run_output.specs.declared.answer.Outcome.TheVariants as outcomes
 
@@ -83,6 +83,13 @@ PutsAnswer lock cert problem answer before after (Err (writes.Put at)) = IsHalfP
 PutsAnswer lock cert problem answer before after (Err writes.Output) = ⊥
 PutsAnswer lock cert problem answer before after (Err writes.NoMemory) = Unit {0}
 
+-- what a saying of a text leaves: where the sink failed, a front of it
+abbrev pub SaysText : List ℕ → Option (List ℕ) → Option (List ℕ) → Result (Unit {0}) WriteStop → Type 0
+SaysText text before after (Ok done) = after ≡ and_said before text
+SaysText text before after (Err (writes.Put at)) = ⊥
+SaysText text before after (Err writes.Output) = SaysPart before after text
+SaysText text before after (Err writes.NoMemory) = after ≡ before
+
 -- what writing of an answer leaves
 abbrev pub Leaves : List ℕ → List ℕ → Problem → Answer → Option Files → Option Files → Option (List ℕ) → Option (List ℕ)
     → Result Outcome WriteStop → Type 0
@@ -92,8 +99,8 @@ Leaves lock cert problem answer before after out_before out_after (Ok outcome) =
 Leaves lock cert problem answer before after out_before out_after (Err (writes.Put at)) =
     IsHalfPut lock cert problem answer at before after × (out_after ≡ out_before)
 Leaves lock cert problem answer before after out_before out_after (Err writes.Output) =
-    after ≡ files_with lock cert problem answer before
-Leaves lock cert problem answer before after out_before out_after (Err writes.NoMemory) = Unit {0}
+    (after ≡ files_with lock cert problem answer before) × SaysPart out_before out_after (text_of problem answer)
+Leaves lock cert problem answer before after out_before out_after (Err writes.NoMemory) = out_after ≡ out_before
 
 -- ---- answers of `concretize`
 
@@ -129,11 +136,13 @@ pub record HasHalfPut (lock cert : List ℕ) (problem : Problem) (path : List �
   pub found : IsFor problem answer
   pub half : IsHalfPut lock cert problem answer path before after
 
--- all files were put, and the sink failed
-pub record IsUnsaid (lock cert : List ℕ) (problem : Problem) (before after : Option Files) : Type 0 where
+-- all files were put, and the sink failed: a front of the lines was said
+pub record IsUnsaid (lock cert : List ℕ) (problem : Problem) (before after : Option Files)
+    (out_before out_after : Option (List ℕ)) : Type 0 where
   pub answer : Answer
   pub found : IsFor problem answer
   pub files : after ≡ files_with lock cert problem answer before
+  pub out : SaysPart out_before out_after (text_of problem answer)
 
 -- at any end, each file holds a front of its text at the worst
 pub record HasFronts (lock cert : List ℕ) (problem : Problem) (before after : Option Files) : Type 0 where
@@ -165,9 +174,10 @@ IsHalfDone lock cert (tasks.Solve input) path before after = HasHalfPut lock cer
 IsHalfDone lock cert task path before after = ⊥
 
 -- the sink failed
-abbrev pub IsUntold : List ℕ → List ℕ → Task → Option Files → Option Files → Type 0
-IsUntold lock cert (tasks.Solve input) before after = IsUnsaid lock cert input.problem before after
-IsUntold lock cert task before after = after ≡ before
+abbrev pub IsUntold : List ℕ → List ℕ → Task → Option Files → Option Files → Option (List ℕ) → Option (List ℕ) → Type 0
+IsUntold lock cert (tasks.Solve input) before after out_before out_after =
+    IsUnsaid lock cert input.problem before after out_before out_after
+IsUntold lock cert task before after out_before out_after = IsHalfTold task before after out_before out_after
 
 -- what writing leaves
 abbrev pub Writes : List ℕ → List ℕ → Task → Option Files → Option Files → Option (List ℕ) → Option (List ℕ)
@@ -177,8 +187,8 @@ Writes lock cert task before after out_before out_after (Ok outcomes.Unsolved) =
 Writes lock cert task before after out_before out_after (Ok outcomes.Undecided) = HasSpent cert task before after out_before out_after
 Writes lock cert task before after out_before out_after (Err (writes.Put at)) =
     IsHalfDone lock cert task at before after × (out_after ≡ out_before)
-Writes lock cert task before after out_before out_after (Err writes.Output) = IsUntold lock cert task before after
-Writes lock cert task before after out_before out_after (Err writes.NoMemory) = Unit {0}
+Writes lock cert task before after out_before out_after (Err writes.Output) = IsUntold lock cert task before after out_before out_after
+Writes lock cert task before after out_before out_after (Err writes.NoMemory) = out_after ≡ out_before
 
 -- files were put
 abbrev pub KeepsFronts : List ℕ → List ℕ → Task → Option Files → Option Files → Type 0

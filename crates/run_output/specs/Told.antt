@@ -1,6 +1,6 @@
 -- What is said of a task that puts no file.
 use Rattle.std.specs.Prelude.{◌≡◌, ℕ, List, Option}
-use Rattle.outside_desk.specs.Files.{Files, and_said}
+use Rattle.outside_desk.specs.Files.{Files, and_said, SaysPart}
 use Rattle.run_task.specs.Problems.{Problem}
 use Rattle.run_task.specs.declared.task.Task.{Task}
 use Rattle.run_task.specs.declared.task.Task.TheVariants as tasks
@@ -39,3 +39,11 @@ pub record IsTold (task : Task) (outcome : Outcome) (before after : Option Files
   pub tells : Tells task outcome text
   pub files : after ≡ before
   pub out : out_after ≡ and_said out_before text
+
+-- the sink failed: no file changed, and a front of it was said
+pub record IsHalfTold (task : Task) (before after : Option Files) (out_before out_after : Option (List ℕ)) : Type 0 where
+  pub outcome : Outcome
+  pub text : List ℕ
+  pub tells : Tells task outcome text
+  pub files : after ≡ before
+  pub out : SaysPart out_before out_after text

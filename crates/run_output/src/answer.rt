@@ -1,6 +1,6 @@
 //! The answer of a run.
 
-ghost use Rattle.std.specs.Prelude.{◌≡◌, ◌⊎◌, ℕ, List, Option};
+ghost use Rattle.std.specs.Prelude.{◌≡◌, ◌⊎◌, ℕ, List, Option, OnOk};
 ghost use Rattle.outside_desk.specs.Causes.{Counts};
 ghost use Rattle.outside_desk.specs.Files.{Files};
 ghost use Rattle.run_task.specs.Stops.{EndsInPutFault, EndsInOutputFault};
@@ -46,6 +46,8 @@ fn write_best<D: Desk, O: Sink>(
     ensures faults { D.faults desk.new ≡ D.faults desk.old }
     ensures put { Counts (D.put_faults desk.old) (D.put_faults desk.new) (EndsInPutFault result) }
     ensures said { Counts (O.faults out.old) (O.faults out.new) (EndsInOutputFault result) }
+    ensures steady { OnOk result ((D.put_faults desk.new ≡ D.put_faults desk.old)
+        × (O.faults out.new ≡ O.faults out.old)) }
 {
     let answer = find(alloc, input)?;
     let written = write_found(alloc, &input.problem, &answer, lock, cert, desk, out);
@@ -60,6 +62,7 @@ fn tell<O: Sink>(alloc: Global, _task: &Task, said: Said, out: &mut O) -> Result
     ensures left { (lock cert : List ℕ) (files : Option Files)
         → Writes lock cert _task.now files files (O.said out.old) (O.said out.new) result }
     ensures cause { Counts (O.faults out.old) (O.faults out.new) (EndsInOutputFault result) }
+    ensures steady { OnOk result (O.faults out.new ≡ O.faults out.old) }
     ensures no_put { EndsInPutFault result → ⊥ }
 {
     say(alloc, out, said.text.as_slice())?;
@@ -84,6 +87,8 @@ pub fn write_answer<D: Desk, O: Sink>(
     ensures faults { D.faults desk.new ≡ D.faults desk.old }
     ensures put { Counts (D.put_faults desk.old) (D.put_faults desk.new) (EndsInPutFault result) }
     ensures said { Counts (O.faults out.old) (O.faults out.new) (EndsInOutputFault result) }
+    ensures steady { OnOk result ((D.put_faults desk.new ≡ D.put_faults desk.old)
+        × (O.faults out.new ≡ O.faults out.old)) }
 {
     match task {
         Task::Solve(input) => write_best(alloc, input, lock, cert, desk, out),

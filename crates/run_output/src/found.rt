@@ -1,6 +1,6 @@
 //! The writing of an answer of a problem.
 
-ghost use Rattle.std.specs.Prelude.{◌≡◌, ◌⊎◌, All};
+ghost use Rattle.std.specs.Prelude.{◌≡◌, ◌⊎◌, All, OnOk};
 ghost use Rattle.std.specs.Str.{IsUtf8};
 ghost use Rattle.outside_desk.specs.Causes.{Counts};
 ghost use Rattle.spec_grammar.specs.Canonical.{spec_text};
@@ -41,6 +41,7 @@ fn put_best<D: Desk>(
     ensures no_output { EndsInOutputFault result → ⊥ }
     ensures faults { D.faults desk.new ≡ D.faults desk.old }
     ensures cause { Counts (D.put_faults desk.old) (D.put_faults desk.new) (EndsInPutFault result) }
+    ensures steady { OnOk result (D.put_faults desk.new ≡ D.put_faults desk.old) }
 {
     let text = write_valid(alloc, problem, graph)?;
     put_cert(alloc, desk, cert, log)?;
@@ -66,6 +67,7 @@ fn put_answer<D: Desk>(
     ensures no_output { EndsInOutputFault result → ⊥ }
     ensures faults { D.faults desk.new ≡ D.faults desk.old }
     ensures cause { Counts (D.put_faults desk.old) (D.put_faults desk.new) (EndsInPutFault result) }
+    ensures steady { OnOk result (D.put_faults desk.new ≡ D.put_faults desk.old) }
 {
     match answer {
         Answer::Best { graph, log } => put_best(alloc, problem, graph, log, lock, cert, desk),
@@ -94,6 +96,8 @@ pub fn write_found<D: Desk, O: Sink>(
     ensures faults { D.faults desk.new ≡ D.faults desk.old }
     ensures put { Counts (D.put_faults desk.old) (D.put_faults desk.new) (EndsInPutFault result) }
     ensures said { Counts (O.faults out.old) (O.faults out.new) (EndsInOutputFault result) }
+    ensures steady { OnOk result ((D.put_faults desk.new ≡ D.put_faults desk.old)
+        × (O.faults out.new ≡ O.faults out.old)) }
 {
     let text = answer_text(alloc, problem, answer)?;
     put_answer(alloc, problem, answer, lock, cert, desk)?;

@@ -1,6 +1,6 @@
 //! Puts of files.
 
-ghost use Rattle.std.specs.Prelude.{◌≡◌, ◌⊎◌, true};
+ghost use Rattle.std.specs.Prelude.{◌≡◌, ◌⊎◌, true, OnOk};
 ghost use Rattle.outside_desk.specs.Causes.{Counts};
 ghost use Rattle.outside_desk.specs.Files.{MayHold};
 ghost use Rattle.proof_log.specs.Lines.{AllLines};
@@ -26,6 +26,7 @@ pub fn put_file<D: Desk>(
     ensures no_output { EndsInOutputFault result → ⊥ }
     ensures faults { D.faults desk.new ≡ D.faults desk.old }
     ensures cause { Counts (D.put_faults desk.old) (D.put_faults desk.new) (EndsInPutFault result) }
+    ensures steady { OnOk result (D.put_faults desk.new ≡ D.put_faults desk.old) }
 {
     match desk.put(alloc, path, text) {
         Ok(()) => Ok(()),
@@ -48,6 +49,7 @@ pub fn put_cert<D: Desk>(
     ensures no_output { EndsInOutputFault result → ⊥ }
     ensures faults { D.faults desk.new ≡ D.faults desk.old }
     ensures cause { Counts (D.put_faults desk.old) (D.put_faults desk.new) (EndsInPutFault result) }
+    ensures steady { OnOk result (D.put_faults desk.new ≡ D.put_faults desk.old) }
 {
     if is_dash(cert) {
         return Ok(());

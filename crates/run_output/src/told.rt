@@ -2,8 +2,8 @@
 
 ghost use Rattle.std.specs.Prelude.{◌≡◌, IfOk, OnOk};
 ghost use Rattle.outside_desk.specs.Causes.{Counts};
-ghost use Rattle.outside_desk.specs.Files.{and_said};
 ghost use Rattle.run_task.specs.Stops.{EndsInPutFault, EndsInOutputFault};
+ghost use Rattle.run_output.specs.Answers.{SaysText};
 ghost use Rattle.run_output.specs.Texts.{graph_text, text_of, undecided_line, unsatisfiable_line, verdict_text};
 
 use crate::report::{report_text, write_vector};
@@ -15,8 +15,9 @@ use std::alloc::{AllocError, Global};
 
 /// Says a text on the sink of the answer.
 pub fn say<O: Sink>(alloc: Global, out: &mut O, text: &[u8]) -> Result<(), WriteStop>
-    ensures ok { OnOk result (O.said out.new ≡ and_said (O.said out.old) text.now) }
+    ensures left { SaysText text.now (O.said out.old) (O.said out.new) result }
     ensures cause { Counts (O.faults out.old) (O.faults out.new) (EndsInOutputFault result) }
+    ensures steady { OnOk result (O.faults out.new ≡ O.faults out.old) }
     ensures no_put { EndsInPutFault result → ⊥ }
 {
     match out.say(alloc, text) {

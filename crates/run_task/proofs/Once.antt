@@ -5,7 +5,7 @@ use Rattle.run_verdict.specs.Problems.{Problem}
 use Rattle.run_input.specs.Stages.{Is}
 use Rattle.run_input.proofs.StageLaws.{IsOne, one_is, one_then}
 use Rattle.run_input.specs.Words.{Command}
-use Rattle.run_input.specs.Orders.{order_of}
+use Rattle.run_input.specs.Orders.{command_in}
 use Rattle.run_input.specs.Work.{Work}
 use Rattle.run_input.specs.Work.TheVariants as works
 use Rattle.run_input.specs.Inputs.{Reads}
@@ -38,6 +38,6 @@ one_by one_verdict (works.Trial packages seed) files command input = one_is (Ok 
 pub one_posed : ((files : Files) (command : Command) → IsOne (Reads files command)) → OneVerdict → (files : Files) (words : List (List ℕ))
     → IsOne (Poses files words)
 one_posed one_read one_verdict files words =
-    one_then (Is (order_of words)) (Named files) (one_is (order_of words))
+    one_then (Is (command_in words)) (Named files) (one_is (command_in words))
     (λ command. let over = files_for command.work files in
     one_then (Reads over command) (TaskBy command.work over command) (one_read over command) (one_by one_verdict command.work over command))

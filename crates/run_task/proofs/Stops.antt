@@ -1,11 +1,10 @@
 -- What was looked at, as a task, and what holds beside any answer.
-use Rattle.std.proofs.Common.{◌≡◌, ◌∙◌, sym, subst, ℕ, List, Option, Some, None, Result, Ok, Err, inl, inr}
+use Rattle.std.proofs.Common.{◌≡◌, ◌∙◌, sym, subst, ℕ, List, Option, Some, None, Result, Ok, Err}
 use Rattle.std.specs.Prelude.{IfSome, IfOk, OnOk}
 use Rattle.outside_desk.specs.Files.{Files}
 use Rattle.run_input.specs.Stages.{Is, Then}
 use Rattle.run_input.specs.Stops.{Gives}
 use Rattle.run_input.specs.ReadStop.{ReadStop}
-use Rattle.run_input.specs.ReadStop.TheVariants as reads
 use Rattle.run_input.proofs.StageLaws.{then_stop}
 use Rattle.run_input.specs.Words.{Command}
 use Rattle.run_input.specs.Work.{Work}
@@ -19,9 +18,6 @@ use Rattle.run_task.specs.Shown.{IsBestLock, IsShown, IsShownOver}
 use Rattle.run_task.specs.Tasks.{
   AcceptanceOf,
   CheckOf,
-  FailsAtTask,
-  FailsAtEither,
-  IsKeptPath,
   IsOf,
   IsReady,
   IsReportTask,
@@ -78,26 +74,6 @@ module _ (before : Option Files) (command : Command) (input : Input) (result : R
   refuted cert work same read =
       by_work works.Refute work
       (subst (λ (p : List ℕ). IfSome before (λ files. Gives result (AcceptanceOf files p input.problem None))) same read)
-
--- ---- where a device fails
-
-at_kept : (command : Command) (one other : List ℕ) (stop : ReadStop) → FailsAtEither {A = Task} one other (Err stop)
-    → ((path : List ℕ) → path ≡ one → IsKeptPath command.work command path)
-    → ((path : List ℕ) → path ≡ other → IsKeptPath command.work command path) → FailsAtTask {A = Task} command (Err stop)
-at_kept command one other (reads.Refused refusal) there first second = tt
-at_kept command one other (reads.Fault path) (inl same) first second = inr (first path same)
-at_kept command one other (reads.Fault path) (inr same) first second = inr (second path same)
-at_kept command one other reads.NoMemory there first second = tt
-
-pub kept_path : (command : Command) (one other : List ℕ) (result : Result Task ReadStop) → FailsAtEither one other result
-    → ((path : List ℕ) → path ≡ one → IsKeptPath command.work command path)
-    → ((path : List ℕ) → path ≡ other → IsKeptPath command.work command path) → FailsAtTask command result
-kept_path command one other (Ok task) there first second = tt
-kept_path command one other (Err stop) there first second = at_kept command one other stop there first second
-
-pub kept_by : (command : Command) (work : Work) (path : List ℕ) → command.work ≡ work → IsKeptPath work command path
-    → IsKeptPath command.work command path
-kept_by command work path same kept = subst (λ (w : Work). IsKeptPath w command path) (sym same) kept
 
 -- ---- which task it is
 

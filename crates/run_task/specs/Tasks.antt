@@ -10,7 +10,7 @@ use Rattle.run_input.specs.Refusal.{Refusal}
 use Rattle.run_input.specs.ReadStop.{ReadStop}
 use Rattle.run_input.specs.ReadStop.TheVariants as reads
 use Rattle.run_input.specs.Words.{Command}
-use Rattle.run_input.specs.Orders.{order_of}
+use Rattle.run_input.specs.Orders.{command_in}
 use Rattle.run_input.specs.Work.{Work}
 use Rattle.run_input.specs.Work.TheVariants as works
 use Rattle.run_input.specs.Inputs.{Reads, IsInputPath}
@@ -71,7 +71,7 @@ Named files command = Over (files_for command.work files) command
 
 -- the task of the words over the files
 abbrev pub Poses : Files → List (List ℕ) → Result Task Refusal → Type 0
-Poses files words = Then (Is (order_of words)) (Named files)
+Poses files words = Then (Is (command_in words)) (Named files)
 
 -- the task is of this work
 abbrev pub IsOf : Work → Task → Type 0
@@ -116,13 +116,13 @@ IsKeptPath works.Refute command path = path ≡ command.cert
 IsKeptPath other command path = ⊥
 
 -- what is read: the input, and what the command looks at besides
-abbrev pub IsTaskPath : Command → List ℕ → Type 0
-IsTaskPath command path = IsInputPath command path ⊎ IsKeptPath command.work command path
+abbrev pub IsTaskPath : Option Files → Command → List ℕ → Type 0
+IsTaskPath told command path = IsInputPath told command path ⊎ IsKeptPath command.work command path
 
 -- a device fails only while such a path is read
-abbrev pub FailsAtTask : {A : Type 0} → Command → Result A ReadStop → Type 0
-FailsAtTask command (Err (reads.Fault path)) = IsTaskPath command path
-FailsAtTask command other = Unit {0}
+abbrev pub FailsAtTask : {A : Type 0} → Option Files → Command → Result A ReadStop → Type 0
+FailsAtTask told command (Err (reads.Fault path)) = IsTaskPath told command path
+FailsAtTask told command other = Unit {0}
 
 -- a device fails only while one of these files is read
 abbrev pub FailsAtEither : {A : Type 0} → List ℕ → List ℕ → Result A ReadStop → Type 0

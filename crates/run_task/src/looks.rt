@@ -5,7 +5,7 @@ ghost use Rattle.std.specs.Option.{option_map};
 ghost use Rattle.outside_desk.specs.Causes.{Counts};
 ghost use Rattle.run_input.specs.Kept.{has_right_values};
 ghost use Rattle.run_input.specs.Closures.{closure_of};
-ghost use Rattle.run_input.specs.Stops.{Gives, EndsInReadFault, EndsInUsage};
+ghost use Rattle.run_input.specs.Stops.{Gives, EndsByInput, EndsInReadFault, EndsInUsage};
 ghost use Rattle.run_certificate.specs.Certificates.{ShowsOf};
 ghost use Rattle.run_task.specs.Shown.{IsBestLock};
 ghost use Rattle.run_task.specs.Tasks.{AcceptanceOf, CheckOf, ReportOf, IsReportTask, IsYes, FailsAtEither};
@@ -33,6 +33,7 @@ pub(crate) fn read_report<D: Desk>(
     ensures no_usage { EndsInUsage result → ⊥ }
     ensures same { D.files desk.new ≡ D.files desk.old }
     ensures cause { Counts (D.faults desk.old) (D.faults desk.new) (EndsInReadFault result) }
+    ensures steady { EndsByInput result → D.faults desk.new ≡ D.faults desk.old }
     ensures put_faults { D.put_faults desk.new ≡ D.put_faults desk.old }
 {
     match read_verdict(alloc, desk, lock, &input.problem) {
@@ -63,6 +64,7 @@ pub(crate) fn read_acceptance<R: Threads + Sync, D: Desk>(
     ensures no_usage { EndsInUsage result → ⊥ }
     ensures same { D.files desk.new ≡ D.files desk.old }
     ensures cause { Counts (D.faults desk.old) (D.faults desk.new) (EndsInReadFault result) }
+    ensures steady { EndsByInput result → D.faults desk.new ≡ D.faults desk.old }
     ensures put_faults { D.put_faults desk.new ≡ D.put_faults desk.old }
 {
     match read_certificate(
@@ -99,6 +101,7 @@ pub(crate) fn read_check<R: Threads + Sync, D: Desk>(
     ensures no_usage { EndsInUsage result → ⊥ }
     ensures same { D.files desk.new ≡ D.files desk.old }
     ensures cause { Counts (D.faults desk.old) (D.faults desk.new) (EndsInReadFault result) }
+    ensures steady { EndsByInput result → D.faults desk.new ≡ D.faults desk.old }
     ensures put_faults { D.put_faults desk.new ≡ D.put_faults desk.old }
 {
     let numbers = read_verdict(alloc, desk, lock, &input.problem)?;

@@ -7,7 +7,7 @@ ghost use Rattle.run_input.specs.Closures.{closure_of};
 ghost use Rattle.run_input.specs.Kept.{has_right_values};
 ghost use Rattle.spec_grammar.specs.Canonical.{spec_text};
 ghost use Rattle.spec_grammar.specs.declared.part.Spec.{Spec};
-ghost use Rattle.run_input.specs.Stops.{Gives, EndsInReadFault, EndsInUsage};
+ghost use Rattle.run_input.specs.Stops.{Gives, EndsByInput, EndsInReadFault, EndsInUsage};
 ghost use Rattle.run_input.specs.Roots.{RootsOf};
 ghost use Rattle.trial_input.specs.Inputs.{input_files};
 ghost use Rattle.run_task.specs.Shown.{IsShown, IsShownOver, ShownBy};
@@ -53,10 +53,11 @@ fn task_by<R: Threads + Sync, D: Desk>(
         (λ files. ShownBy command.now.work files command.now input.problem)) }
     ensures work { IfOk result (λ task. IsOf command.now.work task) }
     ensures ready { IfOk result (λ task. IsReady task) }
-    ensures path { FailsAtTask command.now result }
+    ensures path { FailsAtTask (D.files desk.old) command.now result }
     ensures no_usage { EndsInUsage result → ⊥ }
     ensures same { D.files desk.new ≡ D.files desk.old }
     ensures cause { Counts (D.faults desk.old) (D.faults desk.new) (EndsInReadFault result) }
+    ensures steady { EndsByInput result → D.faults desk.new ≡ D.faults desk.old }
     ensures put_faults { D.put_faults desk.new ≡ D.put_faults desk.old }
 {
     match command.work {
@@ -96,10 +97,11 @@ fn read_over<R: Threads + Sync, D: Desk>(
     ensures ready { IfOk result (λ task. IsReady task) }
     ensures roots { IfOk result (λ task. (roots : List Spec)
         × RootsOf command.now.spec (Ok roots)) }
-    ensures path { FailsAtTask command.now result }
+    ensures path { FailsAtTask (D.files desk.old) command.now result }
     ensures no_usage { EndsInUsage result → ⊥ }
     ensures same { D.files desk.new ≡ D.files desk.old }
     ensures cause { Counts (D.faults desk.old) (D.faults desk.new) (EndsInReadFault result) }
+    ensures steady { EndsByInput result → D.faults desk.new ≡ D.faults desk.old }
     ensures put_faults { D.put_faults desk.new ≡ D.put_faults desk.old }
 {
     reading_laws();
@@ -160,10 +162,11 @@ pub fn read_task<R: Threads + Sync, D: Desk>(
     ensures ready { IfOk result (λ task. IsReady task) }
     ensures roots { IfOk result (λ task. (roots : List Spec)
         × RootsOf command.now.spec (Ok roots)) }
-    ensures path { FailsAtTask command.now result }
+    ensures path { FailsAtTask (D.files desk.old) command.now result }
     ensures no_usage { EndsInUsage result → ⊥ }
     ensures same { D.files desk.new ≡ D.files desk.old }
     ensures cause { Counts (D.faults desk.old) (D.faults desk.new) (EndsInReadFault result) }
+    ensures steady { EndsByInput result → D.faults desk.new ≡ D.faults desk.old }
     ensures put_faults { D.put_faults desk.new ≡ D.put_faults desk.old }
 {
     match made_for(command.work) {

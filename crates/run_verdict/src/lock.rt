@@ -2,7 +2,7 @@
 
 ghost use Rattle.std.specs.Prelude.{◌≡◌, IfSome};
 ghost use Rattle.outside_desk.specs.Causes.{Counts};
-ghost use Rattle.run_answers.specs.Stops.{Gives, EndsInReadFault, EndsInUsage};
+ghost use Rattle.run_answers.specs.Stops.{Gives, EndsByInput, EndsInReadFault, EndsInUsage};
 ghost use Rattle.run_verdict.specs.Locks.{bytes_at, GivesBytes, LockIn, LockAt, FailsAtLock};
 
 use lockfile::{Lock, LockFault, read_lock};
@@ -23,6 +23,7 @@ fn read_bytes<D: Desk>(alloc: Global, desk: &mut D, path: &str) -> Result<Vec<u8
     ensures no_usage { EndsInUsage result → ⊥ }
     ensures same { D.files desk.new ≡ D.files desk.old }
     ensures cause { Counts (D.faults desk.old) (D.faults desk.new) (EndsInReadFault result) }
+    ensures steady { EndsByInput result → D.faults desk.new ≡ D.faults desk.old }
     ensures put_faults { D.put_faults desk.new ≡ D.put_faults desk.old }
 {
     match read_whole(alloc, desk, path, LOCK_LIMIT) {
@@ -62,6 +63,7 @@ pub fn read_lock_at<D: Desk>(alloc: Global, desk: &mut D, path: &str) -> Result<
     ensures no_usage { EndsInUsage result → ⊥ }
     ensures same { D.files desk.new ≡ D.files desk.old }
     ensures cause { Counts (D.faults desk.old) (D.faults desk.new) (EndsInReadFault result) }
+    ensures steady { EndsByInput result → D.faults desk.new ≡ D.faults desk.old }
     ensures put_faults { D.put_faults desk.new ≡ D.put_faults desk.old }
 {
     let bytes = read_bytes(alloc, desk, path)?;

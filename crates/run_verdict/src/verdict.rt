@@ -4,7 +4,7 @@ ghost use Rattle.std.specs.Prelude.{◌≡◌, IfOk, IfSome};
 ghost use Rattle.outside_desk.specs.Causes.{Counts};
 ghost use Rattle.graph_rules.specs.Verdict.{verdict};
 ghost use Rattle.run_answers.specs.Stages.{Is};
-ghost use Rattle.run_answers.specs.Stops.{Gives, EndsInReadFault, EndsInUsage};
+ghost use Rattle.run_answers.specs.Stops.{Gives, EndsByInput, EndsInReadFault, EndsInUsage};
 ghost use Rattle.run_verdict.specs.Locks.{FailsAtLock};
 ghost use Rattle.run_verdict.specs.Verdicts.{unless_broken, weighed, judged, Judges, IsRight, IsValidLock};
 
@@ -94,6 +94,7 @@ pub fn read_verdict<D: Desk>(
     ensures no_usage { EndsInUsage result → ⊥ }
     ensures same { D.files desk.new ≡ D.files desk.old }
     ensures cause { Counts (D.faults desk.old) (D.faults desk.new) (EndsInReadFault result) }
+    ensures steady { EndsByInput result → D.faults desk.new ≡ D.faults desk.old }
     ensures put_faults { D.put_faults desk.new ≡ D.put_faults desk.old }
 {
     let lock = read_lock_at(alloc, desk, path)?;

@@ -6,5 +6,5 @@ use Rattle.run_answers.specs.declared.refusal.Refusal.TheVariants as refusals
 use Rattle.run_words.specs.Words.{Command, command_of}
 
 -- the command that the words are
-unfoldable pub order_of : List (List ℕ) → Result Command Refusal
-order_of words = or_refuse refusals.Usage (command_of words)
+unfoldable pub command_in : List (List ℕ) → Result Command Refusal
+command_in words = or_refuse refusals.Usage (command_of words)

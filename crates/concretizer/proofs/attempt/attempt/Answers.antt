@@ -1,6 +1,6 @@
 use Rattle.std.proofs.Common.{refl, ap, ◌∙◌}
 use Rattle.run_output.specs.Words.{Command, words_of}
-use Rattle.concretizer.proofs.Left.{stopped, answered, held, follows, has_shown}
+use Rattle.concretizer.proofs.Left.{stopped, answered, held, follows, unsaid, has_shown}
 use Rattle.concretizer.specs.Asked.{IsAsked}
 use Rattle.concretizer.proofs.Stages.{stops_at_once, not_refused}
 use Rattle.concretizer.proofs.attempt.attempt.Goals as goal
@@ -9,6 +9,8 @@ pub returns-in_err-command-clause-at_once : goal.returns-in_err-command-clause-a
 returns-in_err-command-clause-at_once g c = λ refusal refused. (
   stops_at_once (words_of c.args.words.now) c.in_err-command.field-0.0 c.from_residual.result c.from_residual.ensures.1
       c.in_err-command.ensures.read c.in_err-command.ensures.no_fault refusal refused,
+  refl,
+  refl,
   refl,
   refl,
   refl,
@@ -44,7 +46,7 @@ returns-in_err-answer-clause-follows g c =
       asks =
           c.in_ok-task.ensures.roots.1;
     } in
-    follows (words_of c.args.words.now) _ _ c.in_ok-task.task c.in_err-answer.field-0.0 c.from_residual-in_err-answer.result _ _ _ _
+    follows _ (words_of c.args.words.now) _ _ c.in_ok-task.task c.in_err-answer.field-0.0 c.from_residual-in_err-answer.result _ _ _ _
     c.from_residual-in_err-answer.ensures.1 asked c.in_ok-task.ensures.work
     (ap (λ (k : Command). k.lock) c.command.view_is ∙ c.in_ok-command.ensures.lock)
     (ap (λ (k : Command). k.cert) c.command.view_is ∙ c.in_ok-command.ensures.cert) c.in_err-answer.ensures.left
@@ -83,3 +85,8 @@ returns-in_err-answer-clause-held g c =
 pub returns-clause-shown : goal.returns-clause-shown
 returns-clause-shown g c =
     has_shown (words_of c.args.words.now) c.in_ok-command.command _ c.in_ok-command.ensures.read c.in_ok-task.ensures.shown
+
+pub returns-in_err-answer-clause-unsaid : goal.returns-in_err-answer-clause-unsaid
+returns-in_err-answer-clause-unsaid g c =
+    unsaid _ _ c.in_ok-task.task c.in_err-answer.field-0.0 c.from_residual-in_err-answer.result _ _ _ _
+    c.from_residual-in_err-answer.ensures.1 c.in_err-answer.ensures.left

@@ -1,8 +1,9 @@
 use Rattle.run_output.specs.Words.{words_of}
 use Rattle.run_output.specs.Status.TheVariants as statuses
-use Rattle.concretizer.proofs.Ends.{reports_words, refused, settles, due, written}
+use Rattle.concretizer.proofs.Ends.{reports_words, refused, settles, due, written, steady}
 use Rattle.concretizer.proofs.Kept.{others}
-use Rattle.concretizer.proofs.Faults.{read_fault, write_fault, unanswered, usage}
+use Rattle.concretizer.proofs.Faults.{read_fault, write_fault, no_memory}
+use Rattle.concretizer.proofs.Reported.{unanswered, usage}
 use Rattle.concretizer.proofs.top.run.Goals as goal
 
 pub returns-in-Ok-Solved-clause-words : goal.returns-in-Ok-Solved-clause-words
@@ -14,7 +15,7 @@ returns-in-Ok-Unsolved-clause-words g c = λ refusal asks. absurd ((c.in-Ok-Unso
 pub returns-in-Err-clause-words : goal.returns-in-Err-clause-words
 returns-in-Err-clause-words g c = λ refusal asks.
     let at_once = c.in-Err.ensures.at_once refusal asks in
-    (at_once.1, at_once.2, at_once.3, reports_words refusal c.in-Err.stop _ _ _ at_once.0 c.report.ensures.reports)
+    (at_once.1, at_once.2, at_once.3, at_once.4, at_once.5, reports_words refusal c.in-Err.stop _ _ _ at_once.0 c.report.ensures.reports)
 
 pub returns-in-Err-clause-refused : goal.returns-in-Err-clause-refused
 returns-in-Err-clause-refused g c = λ refuses.
@@ -50,7 +51,7 @@ returns-in-Ok-Unsolved-clause-due g c =
 pub returns-in-Err-clause-read_fault : goal.returns-in-Err-clause-read_fault
 returns-in-Err-clause-read_fault g c =
     read_fault (words_of c.args.words.now) c.in-Err.stop (_, _) (_, _) (_, _) (_, _) (_, _) _ c.report.ensures.reports
-    c.in-Err.ensures.follows c.in-Err.ensures.unread c.in-Err.ensures.read
+    c.in-Err.ensures.follows c.in-Err.ensures.unread c.in-Err.ensures.unsaid c.in-Err.ensures.read
 
 pub returns-in-Err-clause-write_fault : goal.returns-in-Err-clause-write_fault
 returns-in-Err-clause-write_fault g c =
@@ -72,7 +73,7 @@ returns-in-Err-clause-unsatisfiable g c = λ is.
 
 pub returns-in-Err-clause-usage : goal.returns-in-Err-clause-usage
 returns-in-Err-clause-usage g c = λ is.
-    usage (words_of c.args.words.now) c.in-Err.stop (_, _) (_, _) _ c.report.ensures.reports c.in-Err.ensures.follows is
+    usage _ (words_of c.args.words.now) c.in-Err.stop (_, _) (_, _) _ c.report.ensures.reports c.in-Err.ensures.follows is
 
 pub returns-in-Ok-Solved-clause-others : goal.returns-in-Ok-Solved-clause-others
 returns-in-Ok-Solved-clause-others g c = others (words_of c.args.words.now) _ _ c.in-Ok-Solved.ensures.held
@@ -89,3 +90,12 @@ returns-in-Err-clause-others g c = others (words_of c.args.words.now) _ _ c.in-E
 pub returns-in-Err-clause-shown : goal.returns-in-Err-clause-shown
 returns-in-Err-clause-shown g c = λ is.
     absurd (unanswered c.in-Err.stop statuses.Done tt (_, _) (_, _) _ c.report.ensures.reports is)
+
+pub returns-in-Err-clause-no_memory : goal.returns-in-Err-clause-no_memory
+returns-in-Err-clause-no_memory g c =
+    no_memory (words_of c.args.words.now) c.in-Err.stop (_, _) (_, _) (_, _) (_, _) (_, _) _ c.report.ensures.reports
+    c.in-Err.ensures.follows c.in-Err.ensures.outcome c.in-Err.ensures.unsaid c.in-Err.ensures.said
+
+pub returns-in-Err-clause-steady : goal.returns-in-Err-clause-steady
+returns-in-Err-clause-steady g c =
+    steady c.in-Err.stop (_, _) (_, _) (_, _) (_, _) (_, _) _ c.in-Err.ensures.steady c.report.ensures.reports

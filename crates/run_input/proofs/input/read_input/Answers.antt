@@ -2,6 +2,7 @@ use Rattle.std.proofs.Common.{ap}
 use Rattle.run_settings.specs.Sites.{SettingsAt}
 use Rattle.run_settings.specs.Words.{Command}
 use Rattle.run_input.specs.Inputs.{OverSettings}
+use Rattle.run_input.proofs.Paths.{later}
 use Rattle.run_input.proofs.Staged.{staged}
 use Rattle.run_input.proofs.input.read_input.Goals as goal
 
@@ -10,3 +11,7 @@ returns-clause-read g c =
     staged _ _ (λ path files. SettingsAt files path) (λ files. OverSettings files c.args.command.now) _ _ _ _
     c.in_ok-settings.settings c.read_over.result (ap (λ (k : Command). k.settings) c.command.view_is)
     c.in_ok-settings.ensures.same c.in_ok-settings.ensures.read c.read_over.ensures.read
+
+pub returns-clause-path : goal.returns-clause-path
+returns-clause-path g c =
+    later _ _ c.args.command.now c.read_over.result c.in_ok-settings.ensures.same c.read_over.ensures.path

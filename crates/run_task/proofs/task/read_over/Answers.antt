@@ -1,6 +1,7 @@
 use Rattle.std.proofs.Common.{List, Ok}
 use Rattle.spec_grammar.specs.declared.part.Spec.{Spec}
 use Rattle.run_input.specs.Roots.{RootsOf}
+use Rattle.run_task.proofs.Paths.{later}
 use Rattle.run_task.proofs.Stops.{any_ok}
 use Rattle.run_task.proofs.Roots.{texts_of}
 use Rattle.run_task.proofs.task.read_over.Goals as goal
@@ -14,3 +15,6 @@ pub returns-clause-roots : goal.returns-clause-roots
 returns-clause-roots g c =
     any_ok ((roots : List Spec) × RootsOf c.args.command.now.spec (Ok roots)) c.task_by.result
     (c.in_ok-input.input.problem.roots, c.in_ok-input.ensures.roots)
+
+pub returns-clause-path : goal.returns-clause-path
+returns-clause-path g c = later _ _ c.args.command.now c.task_by.result c.in_ok-input.ensures.same c.task_by.ensures.path

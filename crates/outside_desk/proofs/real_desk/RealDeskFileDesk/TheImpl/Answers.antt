@@ -12,5 +12,6 @@ put-tells g c =
       memory = λ _. refl;
       never_missing = c.ensures.never_missing;
       cause = c.ensures.put_faults.counts;
+      steady = c.ensures.put_faults.kept;
       faults = c.ensures.faults;
     }

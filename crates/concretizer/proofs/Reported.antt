@@ -1,0 +1,168 @@
+-- What is reported of a run that stops, by its status.
+use Rattle.std.proofs.Common.{◌≡◌, sym, subst, ◌∙◌, ℕ, List, Option, None, Err, inl, inr, ◌⊎◌}
+use Rattle.outside_desk.specs.Causes.{Rose}
+use Rattle.outside_desk.specs.Files.{Files}
+use Rattle.run_output.specs.LockFault.{LockFault}
+use Rattle.run_output.specs.LockFault.TheVariants as faults
+use Rattle.run_output.specs.Refusals.{lock_status, status_of}
+use Rattle.run_output.specs.Stops.{stop_status, stop_line}
+use Rattle.run_output.specs.Words.{command_of}
+use Rattle.run_output.specs.Refusal.{Refusal}
+use Rattle.run_output.specs.Refusal.TheVariants as refusals
+use Rattle.run_output.specs.Status.{Status}
+use Rattle.run_output.specs.Status.TheVariants as statuses
+use Rattle.run_output.specs.ReadStop.TheVariants.{Refused, Fault, NoMemory}
+use Rattle.run_output.specs.WriteStop.TheVariants as writes
+use Rattle.run_output.specs.Stop.{Stop}
+use Rattle.run_output.specs.Stop.TheVariants.{Read, Write}
+use Rattle.concretizer.specs.Attempts.{Follows}
+use Rattle.concretizer.specs.Headline.{IsRefusalStatus, IsSilent, Reports, Says, SaysFront, Spoken}
+
+-- ---- the status of a refusal
+
+lock_refuses : (fault : LockFault) → IsRefusalStatus (lock_status fault)
+lock_refuses faults.NotJson = tt
+lock_refuses (faults.WrongKind at) = tt
+lock_refuses (faults.TwiceNamed name) = tt
+lock_refuses (faults.HashDiffers written computed) = tt
+lock_refuses (faults.Dangling parent child) = tt
+lock_refuses faults.OutOfMemory = tt
+
+refuses : (refusal : Refusal) → IsRefusalStatus (status_of refusal)
+refuses refusals.Usage = tt
+refuses refusals.DatabaseTooLarge = tt
+refuses (refusals.BadDatabase fault) = tt
+refuses (refusals.MissingInput path) = tt
+refuses refusals.SettingsTooLarge = tt
+refuses (refusals.BadSettings fault) = tt
+refuses refusals.TooManyRecipes = tt
+refuses (refusals.RecipeTooLarge name) = tt
+refuses refusals.RecipesTooLarge = tt
+refuses (refusals.BadRecipe name fault) = tt
+refuses (refusals.NameClash name) = tt
+refuses refusals.SpecsTooLarge = tt
+refuses (refusals.BadSpecs fault) = tt
+refuses refusals.TooManyRoots = tt
+refuses (refusals.UnknownRoot name) = tt
+refuses (refusals.VirtualRoot name) = tt
+refuses (refusals.WrongPlatform platform) = tt
+refuses refusals.TooManyPackages = tt
+refuses refusals.LockTooLarge = tt
+refuses (refusals.BadLock fault) = lock_refuses fault
+refuses refusals.OtherRoots = tt
+refuses (refusals.BrokenRule rule node number) = tt
+refuses refusals.CertificateTooLarge = tt
+refuses (refusals.BadCertificate number fault) = tt
+
+-- a status that no refusal has
+pub unlike : (refusal : Refusal) (result status : Status) → result ≡ status_of refusal → result ≡ status → (IsRefusalStatus status → ⊥) → ⊥
+unlike refusal result status is other not = not (subst IsRefusalStatus (sym is ∙ other) (refuses refusal))
+
+-- ---- a report, by its three cases
+
+pub by_report : {A : Type 0} (status : Status) (line : List ℕ) (said : Spoken) (errs : ℕ × ℕ) (result : Status)
+    → Reports status line said errs result
+    → (result ≡ status → Says said line → A) → (result ≡ statuses.WriteFault → SaysFront said line × Rose errs.0 errs.1 → A)
+    → (result ≡ statuses.NoMemory → IsSilent said → A) → A
+by_report status line said errs result (inl (is, (says, still))) right late none = right is says
+by_report status line said errs result (inr (inl (is, rose))) right late none = late is rose
+by_report status line said errs result (inr (inr (is, silent))) right late none = none is silent
+
+-- ---- a run that stopped has no answer
+
+-- the statuses of an answer
+abbrev pub IsAnswer : Status → Type 0
+IsAnswer statuses.Done = Unit {0}
+IsAnswer statuses.Unsatisfiable = Unit {0}
+IsAnswer statuses.Undecided = Unit {0}
+IsAnswer other = ⊥
+
+no_answer : (status : Status) → IsRefusalStatus status → IsAnswer status → ⊥
+no_answer statuses.Done refuses answers = refuses
+no_answer statuses.Unsatisfiable refuses answers = refuses
+no_answer statuses.Undecided refuses answers = refuses
+no_answer statuses.Usage refuses answers = answers
+no_answer statuses.BadInput refuses answers = answers
+no_answer statuses.TooLarge refuses answers = answers
+no_answer statuses.Refused refuses answers = answers
+no_answer statuses.ReadFault refuses answers = answers
+no_answer statuses.WriteFault refuses answers = answers
+no_answer statuses.NoMemory refuses answers = answers
+
+stops : (stop : Stop) → IsAnswer (stop_status stop) → ⊥
+stops (Read (Refused refusal)) answers = no_answer (status_of refusal) (refuses refusal) answers
+stops (Read (Fault path)) answers = answers
+stops (Read NoMemory) answers = answers
+stops (Write (writes.Put path)) answers = answers
+stops (Write writes.Output) answers = answers
+stops (Write writes.NoMemory) answers = answers
+
+pub unanswered : (stop : Stop) (answer : Status) → IsAnswer answer → (err : Spoken) (errs : ℕ × ℕ) (result : Status)
+    → Reports (stop_status stop) (stop_line stop) err errs result → result ≡ answer → ⊥
+unanswered stop answer answers err errs result reports is =
+    by_report _ _ err errs result reports (λ same says. stops stop (subst IsAnswer (sym is ∙ same) answers))
+    (λ late rose. subst IsAnswer (sym is ∙ late) answers) (λ none silent. subst IsAnswer (sym is ∙ none) answers)
+
+-- ---- Usage
+
+-- the statuses of all but wrong words
+abbrev IsOther : Status → Type 0
+IsOther statuses.Usage = ⊥
+IsOther other = Unit {0}
+
+lock_other : (fault : LockFault) → IsOther (lock_status fault)
+lock_other faults.NotJson = tt
+lock_other (faults.WrongKind at) = tt
+lock_other (faults.TwiceNamed name) = tt
+lock_other (faults.HashDiffers written computed) = tt
+lock_other (faults.Dangling parent child) = tt
+lock_other faults.OutOfMemory = tt
+
+by_words : (told : Option Files) (words : List (List ℕ)) (refusal : Refusal) → Follows told words (Err (Read (Refused refusal)))
+    → (command_of words ≡ None) ⊎ IsOther (status_of refusal)
+by_words told words refusals.Usage follows = inl follows
+by_words told words refusals.DatabaseTooLarge follows = inr tt
+by_words told words (refusals.BadDatabase fault) follows = inr tt
+by_words told words (refusals.MissingInput path) follows = inr tt
+by_words told words refusals.SettingsTooLarge follows = inr tt
+by_words told words (refusals.BadSettings fault) follows = inr tt
+by_words told words refusals.TooManyRecipes follows = inr tt
+by_words told words (refusals.RecipeTooLarge name) follows = inr tt
+by_words told words refusals.RecipesTooLarge follows = inr tt
+by_words told words (refusals.BadRecipe name fault) follows = inr tt
+by_words told words (refusals.NameClash name) follows = inr tt
+by_words told words refusals.SpecsTooLarge follows = inr tt
+by_words told words (refusals.BadSpecs fault) follows = inr tt
+by_words told words refusals.TooManyRoots follows = inr tt
+by_words told words (refusals.UnknownRoot name) follows = inr tt
+by_words told words (refusals.VirtualRoot name) follows = inr tt
+by_words told words (refusals.WrongPlatform platform) follows = inr tt
+by_words told words refusals.TooManyPackages follows = inr tt
+by_words told words refusals.LockTooLarge follows = inr tt
+by_words told words (refusals.BadLock fault) follows = inr (lock_other fault)
+by_words told words refusals.OtherRoots follows = inr tt
+by_words told words (refusals.BrokenRule rule node number) follows = inr tt
+by_words told words refusals.CertificateTooLarge follows = inr tt
+by_words told words (refusals.BadCertificate number fault) follows = inr tt
+
+stops_by_words : (told : Option Files) (words : List (List ℕ)) (stop : Stop) → Follows told words (Err stop) → (command_of words ≡ None) ⊎ IsOther (stop_status stop)
+stops_by_words told words (Read (Refused refusal)) follows = by_words told words refusal follows
+stops_by_words told words (Read (Fault path)) follows = inr tt
+stops_by_words told words (Read NoMemory) follows = inr tt
+stops_by_words told words (Write (writes.Put path)) follows = inr tt
+stops_by_words told words (Write writes.Output) follows = inr tt
+stops_by_words told words (Write writes.NoMemory) follows = inr tt
+
+no_usage : (result status : Status) → IsOther status → result ≡ status → result ≡ statuses.Usage → ⊥
+no_usage result status other same is = subst IsOther (sym same ∙ is) other
+
+pub usage : (told : Option Files) (words : List (List ℕ)) (stop : Stop) (err : Spoken) (errs : ℕ × ℕ) (result : Status)
+    → Reports (stop_status stop) (stop_line stop) err errs result → Follows told words (Err stop)
+    → result ≡ statuses.Usage → command_of words ≡ None
+usage told words stop err errs result reports follows is =
+    elim (stops_by_words told words stop follows) [
+      | inl none ↦ none
+      | inr other ↦ by_report _ _ err errs result reports (λ same says. absurd (no_usage result _ other same is))
+          (λ late rose. absurd (no_usage result statuses.WriteFault tt late is))
+          (λ none silent. absurd (no_usage result statuses.NoMemory tt none is))
+    ]
