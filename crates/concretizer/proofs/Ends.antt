@@ -42,8 +42,8 @@ Said status line said result = (result ≡ status) × Says said line
 -- a report that did not fail
 report_said : (status : Status) (line : List ℕ) (said : Spoken) (faults : ℕ × ℕ) (result : Status)
     → Reports status line said faults result → IsRefusalStatus result → Said status line said result
-report_said status line said faults result (inl (is, (line_said, still))) refuses = (is, line_said)
-report_said status line said faults result (inr (inl (is, late))) refuses = absurd (rw is at refuses)
+report_said status line said faults result (inl (is, line_said, still)) refuses = (is, line_said)
+report_said status line said faults result (inr (inl (is, front, rose))) refuses = absurd (rw is at refuses)
 report_said status line said faults result (inr (inr (is, silent))) refuses = absurd (rw is at refuses)
 
 refused_here : (files : Files) (words : List (List ℕ)) (stop : Stop) (after : Option Files) (out err : Spoken) (result : Status)
@@ -71,8 +71,8 @@ refused (Some files) words stop after out err faults result left reports refuses
 -- a report of want of memory, where the sink did not fail
 settles_none : (line : List ℕ) (said : Spoken) (faults : ℕ × ℕ) (result : Status)
     → Reports statuses.NoMemory line said faults result → ¬ Rose faults.0 faults.1 → Settles result
-settles_none line said faults result (inl (is, reported_so)) still = rw is tt
-settles_none line said faults result (inr (inl (is, (front, rose)))) still = absurd (still rose)
+settles_none line said faults result (inl (is, line_said, same)) still = rw is tt
+settles_none line said faults result (inr (inl (is, front, rose))) still = absurd (still rose)
 settles_none line said faults result (inr (inr (is, silent))) still = rw is tt
 
 -- no device failed
@@ -123,15 +123,15 @@ settles laws (Some files) words stop after out err reads puts says errs result l
 -- a report, where the sink did not fail
 reported : (status : Status) (line : List ℕ) (said : Spoken) (faults : ℕ × ℕ) (result : Status)
     → Reports status line said faults result → ¬ Rose faults.0 faults.1 → IsAnsweredBy status result
-reported status line said faults result (inl (is, reported_so)) still = inl is
-reported status line said faults result (inr (inl (is, (front, rose)))) still = absurd (still rose)
+reported status line said faults result (inl (is, line_said, same)) still = inl is
+reported status line said faults result (inr (inl (is, front, rose))) still = absurd (still rose)
 reported status line said faults result (inr (inr (is, silent))) still = inr is
 
 -- a report of want of memory, where the sink did not fail
 none_reported : (status : Status) (line : List ℕ) (said : Spoken) (faults : ℕ × ℕ) (result : Status)
     → Reports statuses.NoMemory line said faults result → ¬ Rose faults.0 faults.1 → IsAnsweredBy status result
-none_reported status line said faults result (inl (is, reported_so)) still = inr is
-none_reported status line said faults result (inr (inl (is, (front, rose)))) still = absurd (still rose)
+none_reported status line said faults result (inl (is, line_said, same)) still = inr is
+none_reported status line said faults result (inr (inl (is, front, rose))) still = absurd (still rose)
 none_reported status line said faults result (inr (inr (is, silent))) still = inr is
 
 not_both : {A : Type 0} → PosesOnce → (files : Files) (words : List (List ℕ)) (task : Task) (refusal : Refusal)
@@ -203,7 +203,7 @@ pub steady : (stop : Stop) (err : Spoken) (reads puts says errs : ℕ × ℕ) (r
     → (Concludes (Err stop) → (reads.1 ≡ reads.0) × (puts.1 ≡ puts.0) × (says.1 ≡ says.0))
     → Reports (stop_status stop) (stop_line stop) err errs result → IsOfInput result
     → (reads.1 ≡ reads.0) × (puts.1 ≡ puts.0) × (says.1 ≡ says.0) × (errs.1 ≡ errs.0)
-steady stop err reads puts says errs result kept (inl (is, (said, still))) of =
-    let all = kept (concluded stop (subst IsOfInput is of)) in (all.0, all.1, all.2, still)
-steady stop err reads puts says errs result kept (inr (inl (is, late))) of = absurd (rw is at of)
+steady stop err reads puts says errs result kept (inl (is, line_said, same)) of =
+    let all = kept (concluded stop (subst IsOfInput is of)) in (all.0, all.1, all.2, same)
+steady stop err reads puts says errs result kept (inr (inl (is, front, rose))) of = absurd (rw is at of)
 steady stop err reads puts says errs result kept (inr (inr (is, silent))) of = absurd (rw is at of)

@@ -86,19 +86,20 @@ half_left path None after words out_before out_after outcome = tt
 half_left path (Some files) after words out_before out_after outcome =
     record { task = outcome.task; read = outcome.read; half = outcome.left.0 }
 
+-- nothing was said of an answer, or its sink failed
+silent_or_rose : (stop : Stop) (says : ℕ × ℕ) (out : Spoken) → (StopsBefore (Err stop) → out.1 ≡ out.0)
+    → Counts says.0 says.1 (FailsToSay (Err stop)) → IsSilent out ⊎ Rose says.0 says.1
+silent_or_rose (Read stop) says out unsaid said = inl (unsaid tt)
+silent_or_rose (Write (writes.Put path)) says out unsaid said = inl (unsaid tt)
+silent_or_rose (Write writes.Output) says out unsaid said = inr (said.cause tt)
+silent_or_rose (Write writes.NoMemory) says out unsaid said = inl (unsaid tt)
+
 -- why a run stopped, and what that leaves
-stopped : (words : List (List ℕ)) (stop : Stop) (says : ℕ × ℕ) (files : Option Files × Option Files) (out : Spoken)
+abbrev stopped : (words : List (List ℕ)) (stop : Stop) (says : ℕ × ℕ) (files : Option Files × Option Files) (out : Spoken)
     → Follows files.0 words (Err stop) → IfSome files.0 (λ before. Attempts before words files.1 out.0 out.1 (Err stop))
     → (StopsBefore (Err stop) → out.1 ≡ out.0) → Counts says.0 says.1 (FailsToSay (Err stop)) → IsStopped words files says out
 stopped words stop says files out follows outcome unsaid said =
-    record { stop = stop; follows = follows; left = outcome; output = silent_or_rose stop unsaid said }
-  where
-    silent_or_rose : (stop : Stop) → (StopsBefore (Err stop) → out.1 ≡ out.0) → Counts says.0 says.1 (FailsToSay (Err stop))
-        → IsSilent out ⊎ Rose says.0 says.1
-    silent_or_rose (Read stop) unsaid said = inl (unsaid tt)
-    silent_or_rose (Write (writes.Put path)) unsaid said = inl (unsaid tt)
-    silent_or_rose (Write writes.Output) unsaid said = inr (said.cause tt)
-    silent_or_rose (Write writes.NoMemory) unsaid said = inl (unsaid tt)
+    record { stop = stop; follows = follows; left = outcome; output = silent_or_rose stop says out unsaid said }
 
 -- what a report leaves that failed, of a stop whose status is not WriteFault
 late : (words : List (List ℕ)) (puts says : ℕ × ℕ) (files : Option Files × Option Files) (out err : Spoken) (errs : ℕ × ℕ) (result : Status)

@@ -64,8 +64,8 @@ pub by_report : {A : Type 0} (status : Status) (line : List ℕ) (said : Spoken)
     → Reports status line said errs result
     → (result ≡ status → Says said line → A) → (result ≡ statuses.WriteFault → SaysFront said line × Rose errs.0 errs.1 → A)
     → (result ≡ statuses.NoMemory → IsSilent said → A) → A
-by_report status line said errs result (inl (is, (says, still))) right late none = right is says
-by_report status line said errs result (inr (inl (is, rose))) right late none = late is rose
+by_report status line said errs result (inl (is, says, still)) right late none = right is says
+by_report status line said errs result (inr (inl (is, front, rose))) right late none = late is (front, rose)
 by_report status line said errs result (inr (inr (is, silent))) right late none = none is silent
 
 -- ---- a run that stopped has no answer

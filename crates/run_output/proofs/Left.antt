@@ -1,33 +1,16 @@
 -- What the writing of an answer leaves, by the answer.
-use Rattle.std.proofs.Common.{◌≡◌, ◌⊎◌, inl, inr, refl, ℕ, List, Option, Result, Ok, Err}
+use Rattle.std.proofs.Common.{◌≡◌, ◌⊎◌, inl, inr, ℕ, List, Option, Result, Ok, Err}
 use Rattle.outside_desk.specs.Files.{Files}
 use Rattle.run_task.specs.Answer.{Answer}
 use Rattle.run_task.specs.Answer.TheVariants as answers
 use Rattle.run_task.specs.Input.{Input}
-use Rattle.run_task.specs.Problems.{Problem}
 use Rattle.run_task.specs.WriteStop.{WriteStop}
 use Rattle.run_task.specs.WriteStop.TheVariants.{Put, Output, NoMemory}
 use Rattle.run_task.specs.declared.task.Task.TheVariants as tasks
-use Rattle.run_output.specs.Answers.{HoldsFronts, KeepsFronts, Leaves, PutsAnswer, SaysText, Writes}
-use Rattle.run_output.specs.Texts.{IsFor, text_of}
+use Rattle.run_output.specs.Answers.{HoldsFronts, KeepsFronts, Leaves, Writes}
+use Rattle.run_output.specs.Texts.{IsFor}
 use Rattle.run_output.specs.declared.answer.Outcome.{Outcome}
 use Rattle.run_output.specs.declared.answer.Outcome.TheVariants.{Solved, Unsolved, Undecided}
-
--- a put that stopped
-pub put_stopped : (lock cert : List ℕ) (problem : Problem) (answer : Answer) (stop : WriteStop) (before after : Option Files)
-    (said : Option (List ℕ)) → PutsAnswer lock cert problem answer before after (Err stop)
-    → Leaves lock cert problem answer before after said said (Err stop)
-put_stopped lock cert problem answer (Put at) before after said left = (left, refl)
-put_stopped lock cert problem answer Output before after said left = absurd left
-put_stopped lock cert problem answer NoMemory before after said left = refl
-
--- the sink stopped
-pub say_stopped : (lock cert : List ℕ) (problem : Problem) (answer : Answer) (stop : WriteStop) (before after : Option Files)
-    (said more : Option (List ℕ)) → PutsAnswer lock cert problem answer before after (Ok tt)
-    → SaysText (text_of problem answer) said more (Err stop) → Leaves lock cert problem answer before after said more (Err stop)
-say_stopped lock cert problem answer (Put at) before after said more left says = absurd says
-say_stopped lock cert problem answer Output before after said more left says = (left, says)
-say_stopped lock cert problem answer NoMemory before after said more left says = says
 
 module _ (lock cert : List ℕ) (input : Input) (before after : Option Files) (said more : Option (List ℕ)) where
   solved : (answer : Answer) → IsFor input.problem answer

@@ -13,7 +13,7 @@ pieces-preserved g c =
     subst (λ (n : Next). Moves c.pieces.from n) c.in-Ok-More.field-0-is e.moves in
     record {
       same = e.same ∙ i.same;
-      later = let a = i.later in let b = e.cause.later in omega (arith, a, b);
+      steady = e.steady tt ∙ i.steady;
       put_faults = e.put_faults ∙ i.put_faults;
       within = moved.1;
       room = let a = i.room in let b = c.take_next.auto.piece in omega (arith, a, b);

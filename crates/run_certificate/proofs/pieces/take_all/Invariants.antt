@@ -6,7 +6,7 @@ use Rattle.run_certificate.proofs.pieces.take_all.Given as goal
 abbrev pub invariant-pieces : goal.invariant-pieces
 invariant-pieces g l = record {
   same : g.D.Desk.files l.desk ≡ g.D.Desk.files l.fn.desk;
-  later : g.D.Desk.faults l.fn.desk ≤ g.D.Desk.faults l.desk;
+  steady : g.D.Desk.faults l.desk ≡ g.D.Desk.faults l.fn.desk;
   put_faults : g.D.Desk.put_faults l.desk ≡ g.D.Desk.put_faults l.fn.desk;
   within : l.from ≤ most;
   room : 0 < length l.piece;
