@@ -45,14 +45,20 @@ fn plan_totals(alloc: Global, plan: &mut Plan, lists: &[Terms]) -> Result<Bits, 
 {
     let mut lits = Vec::new(alloc);
     let mut tops = Vec::new(alloc);
+    let mut added = Vec::new(alloc);
     for terms in lists {
         let terms = terms.as_slice();
         let top = total(terms);
         let bits = plan_number(alloc, plan, terms, top)?;
         lits.extend_from_slice(bits.as_slice())?;
         tops.push(top)?;
+        added.push(Terms::from_slice(alloc, terms)?)?;
     }
-    Ok(Bits { lits, tops })
+    Ok(Bits {
+        lits,
+        tops,
+        terms: added,
+    })
 }
 
 // Plans one sum: in unary up to 64, in binary above.

@@ -52,6 +52,8 @@ pub struct Bits {
     pub(crate) lits: Vec<Lit>,
     // The greatest value of each sum.
     pub(crate) tops: Vec<u64>,
+    // What each sum adds up.
+    pub(crate) terms: Vec<Terms>,
 }
 
 impl Model for Bits {
@@ -75,5 +77,10 @@ impl Bits {
         ensures { result.now ≡ self.now.tops }
     {
         self.tops.as_slice()
+    }
+
+    /// What each sum adds up, for a search that decides these literals early. Nothing is promised of them.
+    pub fn terms(&self) -> &[Terms] {
+        self.terms.as_slice()
     }
 }
