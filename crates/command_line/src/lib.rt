@@ -61,7 +61,5 @@ pub fn run_machine<R: Env + Files + AllocGlobal + Threads + Sync, O: Write + Dro
     let mut out = RealSink::new(out);
     let mut err = RealSink::new(err);
     let mut kept = Log::new(alloc);
-    ended(run(
-        rt, alloc, &words, &mut desk, &mut out, &mut err, &mut kept,
-    ))
+    ended(run(rt, alloc, &words, &mut desk, &mut out, &mut err, &mut kept))
 }

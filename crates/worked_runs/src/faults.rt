@@ -75,9 +75,7 @@ pub fn check_zlib_or_no_memory<R: AllocGlobal + Print + Abort + Threads + Sync>(
     let mut out = MemorySink::new(alloc);
     let mut err = MemorySink::new(alloc);
     let mut kept = Log::new(alloc);
-    let status = run(
-        rt, alloc, &words, &mut desk, &mut out, &mut err, &mut kept,
-    );
+    let status = run(rt, alloc, &words, &mut desk, &mut out, &mut err, &mut kept);
     check_other_files(rt, &desk);
     if status == Status::NoMemory {
         check_no_memory(rt, &desk, out.said(), err.said())

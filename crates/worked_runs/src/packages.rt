@@ -51,9 +51,7 @@ fn check_names<R: AllocGlobal + Abort + Threads + Sync>(
     let mut out = SteadySink::new(alloc);
     let mut err = SteadySink::new(alloc);
     let mut kept = Log::new(alloc);
-    let status = run_steady(
-        rt, alloc, &words, &mut desk, &mut out, &mut err, &mut kept,
-    );
+    let status = run_steady(rt, alloc, &words, &mut desk, &mut out, &mut err, &mut kept);
     assert!(rt; kept.lines().is_empty());
     assert_eq!(rt; status, wanted);
     assert_eq!(rt; err.said(), told);

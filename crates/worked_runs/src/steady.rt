@@ -13,9 +13,7 @@ fn zlib_is_concretized_over_steady_devices(rt: HostRuntime) -> Result<(), Fail> 
     let mut out = SteadySink::new(alloc);
     let mut err = SteadySink::new(alloc);
     let mut kept = Log::new(alloc);
-    let status = run_steady(
-        &rt, alloc, &words, &mut desk, &mut out, &mut err, &mut kept,
-    );
+    let status = run_steady(&rt, alloc, &words, &mut desk, &mut out, &mut err, &mut kept);
     assert!(rt; !kept.lines().is_empty());
     check_done(&rt, status, out.said(), err.said());
     assert!(rt; desk.file("l") == Some(ZLIB_LOCK));
