@@ -11,7 +11,7 @@ ghost use Rattle.std.specs.Prelude.{◌≡◌};
 ghost use Rattle.std.specs.Process.{exit_status};
 ghost use Rattle.concretizer.specs.Exits.{number_of};
 
-use concretizer::{Status, run};
+use concretizer::{Log, Status, run};
 use outside_desk::{RealDesk, RealSink};
 use std::env;
 use std::env::Env;
@@ -60,5 +60,6 @@ pub fn run_machine<R: Env + Files + AllocGlobal + Threads + Sync, O: Write + Dro
     let mut desk = RealDesk::new(rt);
     let mut out = RealSink::new(out);
     let mut err = RealSink::new(err);
-    ended(run(rt, alloc, &words, &mut desk, &mut out, &mut err))
+    let mut kept = Log::new(alloc);
+    ended(run(rt, alloc, &words, &mut desk, &mut out, &mut err, &mut kept))
 }

@@ -25,12 +25,12 @@ use Rattle.concretizer.specs.Attempts.{Attempts, Follows, StopsBefore}
 use Rattle.run_output.specs.Shown.{IsShown}
 use Rattle.concretizer.specs.Headline.{HasShown, Keeps}
 
-write_carried : (stop : WriteStop) (result : Result Outcome Stop) → IsErrAnd result (λ given. given ≡ Write stop) → result ≡ Err (Write stop)
+pub write_carried : (stop : WriteStop) (result : Result Outcome Stop) → IsErrAnd result (λ given. given ≡ Write stop) → result ≡ Err (Write stop)
 write_carried stop (Ok outcome) h = absurd h
 write_carried stop (Err given) h = ap Err h
 
 -- the same, by paths that are those of the words
-by_paths : (A : List ℕ → List ℕ → Type 0) (lock cert lock_of cert_of : List ℕ) → lock ≡ lock_of → cert ≡ cert_of → A lock cert
+pub by_paths : (A : List ℕ → List ℕ → Type 0) (lock cert lock_of cert_of : List ℕ) → lock ≡ lock_of → cert ≡ cert_of → A lock cert
     → A lock_of cert_of
 by_paths A lock cert lock_of cert_of at certified left = subst (λ (q : List ℕ). A q cert_of) at (subst (λ (q : List ℕ). A lock q) certified left)
 

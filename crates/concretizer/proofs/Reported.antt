@@ -28,7 +28,7 @@ lock_refuses (faults.HashDiffers written computed) = tt
 lock_refuses (faults.Dangling parent child) = tt
 lock_refuses faults.OutOfMemory = tt
 
-refuses : (refusal : Refusal) → IsRefusalStatus (status_of refusal)
+pub refuses : (refusal : Refusal) → IsRefusalStatus (status_of refusal)
 refuses refusals.Usage = tt
 refuses refusals.DatabaseTooLarge = tt
 refuses (refusals.BadDatabase fault) = tt

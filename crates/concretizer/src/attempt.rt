@@ -8,20 +8,22 @@ ghost use Rattle.run_output.specs.Stages.{Is};
 ghost use Rattle.run_output.specs.Stops.{stop_status, stop_line};
 ghost use Rattle.run_output.specs.Words.{words_of};
 ghost use Rattle.concretizer.specs.Attempts.{Attempts, Concludes, Follows, StopsAtOnce, StopsBefore, FailsToRead, FailsToPut, FailsToSay};
+ghost use Rattle.concretizer.specs.Logs.{AttemptKeeps};
 ghost use Rattle.concretizer.specs.Headline.{HasShown, Keeps, Reports};
 
 use outside_desk::{Desk, Sink, SinkFault};
-use run_output::{Outcome, Status, Stop, read_order, read_task, write_answer};
+use run_output::{Log, Outcome, Status, Stop, read_order, read_task, write_answer};
 use std::alloc::Global;
 use std::thread::Threads;
 
-/// Reads the task that the words name, and writes its answer.
+/// Reads the task that the words name, and writes its answer. The log of what was searched is kept, in the place of what was there.
 pub fn attempt<R: Threads + Sync, D: Desk, O: Sink>(
     rt: &R,
     alloc: Global,
     words: &[String],
     desk: &mut D,
     out: &mut O,
+    kept: &mut Log,
 ) -> Result<Outcome, Stop>
     ensures outcome { IfSome (D.files desk.old)
         (λ files. Attempts files (words_of words.now) (D.files desk.new) (O.said out.old)
@@ -41,13 +43,16 @@ pub fn attempt<R: Threads + Sync, D: Desk, O: Sink>(
         × (O.faults out.new ≡ O.faults out.old) }
     ensures held { IfSome (D.files desk.old)
         (λ files. Keeps files (words_of words.now) (D.files desk.new)) }
+    ensures kept { IfSome (D.files desk.old)
+        (λ files. AttemptKeeps files (words_of words.now) (D.files desk.new) kept.new result) }
     ensures read { Counts (D.faults desk.old) (D.faults desk.new) (FailsToRead result) }
     ensures put { Counts (D.put_faults desk.old) (D.put_faults desk.new) (FailsToPut result) }
     ensures said { Counts (O.faults out.old) (O.faults out.new) (FailsToSay result) }
 {
+    *kept = Log::new(alloc);
     let command = read_order(alloc, words)?;
     let task = read_task(rt, alloc, desk, &command)?;
-    let answer = write_answer(alloc, &task, command.lock, command.cert, desk, out);
+    let answer = write_answer(alloc, &task, command.lock, command.cert, desk, out, kept);
     drop(task);
     Ok(answer?)
 }

@@ -5,12 +5,13 @@ ghost use Rattle.run_output.specs.Words.{words_of};
 ghost use Rattle.run_output.specs.Task.{Task};
 ghost use Rattle.run_output.specs.Tasks.{Poses};
 ghost use Rattle.concretizer.specs.Headline.{IsDone, HasShown, IsUnsatisfiable, IsUndecided, IsRefused, Settles, IsRefusalStatus, IsAnsweredBy};
+ghost use Rattle.concretizer.specs.Logs.{KeepsFor};
 ghost use Rattle.run_output.specs.Refusals.{status_of};
 ghost use Rattle.run_output.specs.Refusal.{Refusal};
 
 use crate::top::run;
 use outside_desk::{SteadyDesk, SteadySink};
-use run_output::Status;
+use run_output::{Log, Status};
 use std::alloc::Global;
 use std::thread::Threads;
 
@@ -23,6 +24,7 @@ pub fn run_steady<R: Threads + Sync>(
     desk: &mut SteadyDesk,
     out: &mut SteadySink,
     err: &mut SteadySink,
+    kept: &mut Log,
 ) -> Status
     ensures done { result ≡ Status.Done
         → IsDone desk.old (words_of words.now) (Some desk.new) (Some out.old, Some out.new)
@@ -43,6 +45,7 @@ pub fn run_steady<R: Threads + Sync>(
         → Settles result }
     ensures due { (refusal : Refusal) → Poses desk.old (words_of words.now) (Err refusal)
         → IsAnsweredBy (status_of refusal) result }
+    ensures kept { KeepsFor result desk.old (words_of words.now) (Some desk.new) kept.new }
 {
-    run(rt, alloc, words, desk, out, err)
+    run(rt, alloc, words, desk, out, err, kept)
 }

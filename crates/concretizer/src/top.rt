@@ -10,11 +10,12 @@ ghost use Rattle.run_output.specs.Stages.{Is};
 ghost use Rattle.run_output.specs.Task.{Task};
 ghost use Rattle.run_output.specs.Tasks.{Poses};
 ghost use Rattle.run_output.specs.Words.{words_of, command_of, lock_path, cert_path};
+ghost use Rattle.concretizer.specs.Logs.{KeepsFor};
 ghost use Rattle.concretizer.specs.Headline.{IsDone, HasShown, IsUnsatisfiable, IsUndecided, IsRefused, IsReadFault, IsPutFault, IsOutputFault, IsReportFault, IsOutOfMemory, IsOfInput, Keeps, Settles, IsRefusalStatus, ReportsWords, IsAnsweredBy};
 
 use crate::attempt::{attempt, report};
 use outside_desk::{Desk, Sink};
-use run_output::{Outcome, Status, task_laws};
+use run_output::{Log, Outcome, Status, task_laws};
 use std::alloc::Global;
 use std::thread::Threads;
 
@@ -32,6 +33,9 @@ use std::thread::Threads;
 /// - `explain REPO SETTINGS DATABASE SPEC..`: `out` gets `satisfiable`, or a line for each demand that stands against a graph.
 /// - `trial N SEED` finds the best graph of N packages that are made in memory; `out` gets how many nodes it has, its cost vector
 ///   and how many clauses were learnt.
+///
+/// At the return `kept` holds the log of the answer of `concretize` and of `trial`, whatever it held before, and no line where
+/// no answer was found.
 pub fn run<R: Threads + Sync, D: Desk, O: Sink, E: Sink>(
     rt: &R,
     alloc: Global,
@@ -39,6 +43,7 @@ pub fn run<R: Threads + Sync, D: Desk, O: Sink, E: Sink>(
     desk: &mut D,
     out: &mut O,
     err: &mut E,
+    kept: &mut Log,
 ) -> Status
     // Words that are no command are answered so whatever the desk tells, and only words are Usage. No call on the
     // desk or on `out` failed, no file changed and nothing was said but the refusal, or that memory ran out.
@@ -94,6 +99,10 @@ pub fn run<R: Threads + Sync, D: Desk, O: Sink, E: Sink>(
     ensures held { IfSome (D.files desk.old)
         (λ files. Keeps files (words_of words.now) (D.files desk.new)) }
 
+    // The log of the search is kept, and no line where no search answered.
+    ensures kept { IfSome (D.files desk.old) (λ files.
+        KeepsFor result files (words_of words.now) (D.files desk.new) kept.new) }
+
     // Input that nothing refuses is answered, where no device fails.
     ensures complete { IfSome (D.files desk.old) (λ files. (task : Task)
         → Poses files (words_of words.now) (Ok task)
@@ -116,7 +125,7 @@ pub fn run<R: Threads + Sync, D: Desk, O: Sink, E: Sink>(
         × (O.faults out.old ≤ O.faults out.new) × (E.faults err.old ≤ E.faults err.new) }
 {
     task_laws();
-    match attempt(rt, alloc, words, desk, out) {
+    match attempt(rt, alloc, words, desk, out, kept) {
         Ok(Outcome::Solved) => Status::Done,
         Ok(Outcome::Unsolved) => Status::Unsatisfiable,
         Ok(Outcome::Undecided) => Status::Undecided,

@@ -1,5 +1,6 @@
 pub mod Changes
 pub mod Fronts
+pub mod Kept
 pub mod Left
 pub mod Spent
 pub mod Tellings

@@ -4,6 +4,7 @@ pub mod Told
 pub mod Changes
 pub mod Answers
 pub mod Budgets
+pub mod Kept
 -- what crates above name
 pub use Rattle.run_task.specs.Exits
 pub use Rattle.run_task.specs.LockFault
@@ -24,3 +25,4 @@ pub use Rattle.run_task.specs.Tasks
 pub use Rattle.run_task.specs.Shown
 pub use Rattle.run_task.specs.declared.task.Task
 pub use Rattle.run_task.specs.Answer
+pub use Rattle.proof_log.specs.declared.line.Line

@@ -1,19 +1,21 @@
 //! The answer of a run.
 
-ghost use Rattle.std.specs.Prelude.{◌≡◌, ◌⊎◌, ℕ, List, Option, OnOk};
+ghost use Rattle.std.specs.Prelude.{◌≡◌, ◌⊎◌, ℕ, List, [], Option, IfOk, OnOk};
 ghost use Rattle.outside_desk.specs.Causes.{Counts};
 ghost use Rattle.outside_desk.specs.Files.{Files};
 ghost use Rattle.run_task.specs.Stops.{EndsInPutFault, EndsInOutputFault};
 ghost use Rattle.run_task.specs.Tasks.{IsReady};
 ghost use Rattle.run_task.specs.declared.task.Task.TheVariants as tasks;
 ghost use Rattle.run_output.specs.Answers.{KeepsFronts, Writes};
+ghost use Rattle.run_output.specs.Kept.{KeepsAny};
 ghost use Rattle.run_output.specs.Told.{Tells};
 
-use crate::find::find;
+use crate::find::{find, log_of};
 use crate::found::write_found;
 use crate::said::{Said, of_certificate, of_reasons, of_trial, of_verdict};
 use crate::told::say;
 use outside_desk::{Desk, Sink};
+use proof_log::Log;
 use run_task::{Input, Task, WriteStop};
 use std::alloc::Global;
 
@@ -36,8 +38,10 @@ fn write_best<D: Desk, O: Sink>(
     cert: &str,
     desk: &mut D,
     out: &mut O,
+    kept: &mut Log,
 ) -> Result<Outcome, WriteStop>
-    requires { IsReady (tasks.Solve input.now) }
+    requires ready { IsReady (tasks.Solve input.now) }
+    requires empty { kept.old ≡ [] }
     ensures left { Writes lock.now cert.now (tasks.Solve input.now) (D.files desk.old)
         (D.files desk.new) (O.said out.old) (O.said out.new) result }
     ensures held { (D.files desk.new ≡ D.files desk.old)
@@ -48,10 +52,12 @@ fn write_best<D: Desk, O: Sink>(
     ensures said { Counts (O.faults out.old) (O.faults out.new) (EndsInOutputFault result) }
     ensures steady { OnOk result ((D.put_faults desk.new ≡ D.put_faults desk.old)
         × (O.faults out.new ≡ O.faults out.old)) }
+    ensures kept { KeepsAny lock.now cert.now (tasks.Solve input.now) (D.files desk.old)
+        (D.files desk.new) kept.new result }
 {
     let answer = find(alloc, input)?;
     let written = write_found(alloc, &input.problem, &answer, lock, cert, desk, out);
-    drop(answer);
+    *kept = log_of(answer);
     written
 }
 
@@ -64,13 +70,14 @@ fn tell<O: Sink>(alloc: Global, _task: &Task, said: Said, out: &mut O) -> Result
     ensures cause { Counts (O.faults out.old) (O.faults out.new) (EndsInOutputFault result) }
     ensures steady { OnOk result (O.faults out.new ≡ O.faults out.old) }
     ensures no_put { EndsInPutFault result → ⊥ }
+    ensures outcome { IfOk result (λ outcome. outcome ≡ said.outcome) }
 {
     say(alloc, out, said.text.as_slice())?;
     Ok(said.outcome)
 }
 
 /// Writes the answer of a task: of a problem to solve the certificate at `cert`, unless that is `-`, then the lock file at `lock`
-/// where there is a graph, and then what is said; of any other task what is said alone.
+/// where there is a graph, and then what is said; of any other task what is said alone. The log of a search that answered is kept.
 pub fn write_answer<D: Desk, O: Sink>(
     alloc: Global,
     task: &Task,
@@ -78,8 +85,10 @@ pub fn write_answer<D: Desk, O: Sink>(
     cert: &str,
     desk: &mut D,
     out: &mut O,
+    kept: &mut Log,
 ) -> Result<Outcome, WriteStop>
-    requires { IsReady task.now }
+    requires ready { IsReady task.now }
+    requires empty { kept.old ≡ [] }
     ensures left { Writes lock.now cert.now task.now (D.files desk.old) (D.files desk.new)
         (O.said out.old) (O.said out.new) result }
     ensures held { (D.files desk.new ≡ D.files desk.old)
@@ -89,9 +98,11 @@ pub fn write_answer<D: Desk, O: Sink>(
     ensures said { Counts (O.faults out.old) (O.faults out.new) (EndsInOutputFault result) }
     ensures steady { OnOk result ((D.put_faults desk.new ≡ D.put_faults desk.old)
         × (O.faults out.new ≡ O.faults out.old)) }
+    ensures kept { KeepsAny lock.now cert.now task.now (D.files desk.old) (D.files desk.new)
+        kept.new result }
 {
     match task {
-        Task::Solve(input) => write_best(alloc, input, lock, cert, desk, out),
+        Task::Solve(input) => write_best(alloc, input, lock, cert, desk, out, kept),
         Task::Report(numbers) => {
             let said = of_verdict(alloc, numbers)?;
             tell(alloc, task, said, out)
@@ -105,7 +116,7 @@ pub fn write_answer<D: Desk, O: Sink>(
             tell(alloc, task, said, out)
         }
         Task::Try(input) => {
-            let said = of_trial(alloc, input)?;
+            let said = of_trial(alloc, input, kept)?;
             tell(alloc, task, said, out)
         }
     }

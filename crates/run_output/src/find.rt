@@ -1,11 +1,13 @@
 //! The answer of a problem.
 
 ghost use Rattle.std.specs.Prelude.{◌≡◌, IfOk};
+ghost use Rattle.run_task.specs.Answers as answers;
 ghost use Rattle.run_task.specs.Tasks.{IsReadyInput};
 ghost use Rattle.run_output.specs.Texts.{IsFor, outcome_of};
 
 use crate::answer::Outcome;
 use crate::told::budget_of;
+use proof_log::Log;
 use run_task::{Answer, Input, best_graph};
 use std::alloc::{AllocError, Global};
 
@@ -26,5 +28,19 @@ pub fn outcome_of(answer: &Answer) -> Outcome
         Answer::Best { .. } => Outcome::Solved,
         Answer::Nothing { .. } => Outcome::Unsolved,
         Answer::Undecided { .. } => Outcome::Undecided,
+    }
+}
+
+/// The log of an answer.
+pub fn log_of(answer: Answer) -> Log
+    ensures { result ≡ answers.log_of answer }
+{
+    match answer {
+        Answer::Best { graph, log } => {
+            drop(graph);
+            log
+        }
+        Answer::Nothing { log } => log,
+        Answer::Undecided { log } => log,
     }
 }

@@ -18,7 +18,8 @@ mod told;
 pub use answer::{Outcome, write_answer};
 pub use report::worked_texts;
 pub use theorems::budget_laws;
-// What crates above answer with.
+// What crates above answer with, and the log that they keep.
+pub use proof_log::Log;
 pub use run_task::{
     Command, ReadStop, Refusal, Status, Stop, Task, WriteStop, read_order, read_task, task_laws,
 };

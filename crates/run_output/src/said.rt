@@ -1,16 +1,17 @@
 //! What is said of a task that puts no file.
 
-ghost use Rattle.std.specs.Prelude.{◌≡◌, ◌++◌, IfOk, OnOk};
+ghost use Rattle.std.specs.Prelude.{◌≡◌, ◌++◌, [], IfOk, OnErr, OnOk};
 ghost use Rattle.run_task.specs.Closures.{closure_of};
 ghost use Rattle.run_task.specs.Tasks.{IsReadyInput};
 ghost use Rattle.run_task.specs.declared.task.Task.TheVariants as tasks;
 ghost use Rattle.proof_log.specs.Lines.{learnt_in};
 ghost use Rattle.run_task.specs.Answer.TheVariants as best;
+ghost use Rattle.run_output.specs.Kept.{IsLogTo};
 ghost use Rattle.run_output.specs.Texts as texts;
 ghost use Rattle.run_output.specs.Told.{Tells};
 
 use crate::answer::Outcome;
-use crate::find::{find, outcome_of};
+use crate::find::{find, log_of, outcome_of};
 use crate::report::write_vector;
 use crate::told::{budget_of, undecided_text, unsatisfiable_text, verdict_text};
 use graph_core::Graph;
@@ -173,15 +174,17 @@ fn trial_text(alloc: Global, problem: &Problem, answer: &Answer) -> Result<Vec<u
     }
 }
 
-/// Of the best graph of a made input.
-pub fn of_trial(alloc: Global, input: &Input) -> Result<Said, AllocError>
-    requires { IsReadyInput input.now }
-    ensures { IfOk result (λ said. Tells (tasks.Try input.now) said.outcome said.text.items) }
+/// Of the best graph of a made input, of which the log is kept.
+pub fn of_trial(alloc: Global, input: &Input, kept: &mut Log) -> Result<Said, AllocError>
+    requires ready { IsReadyInput input.now }
+    requires empty { kept.old ≡ [] }
+    ensures said { IfOk result (λ said. Tells (tasks.Try input.now) said.outcome said.text.items) }
+    ensures kept { IfOk result (λ said. IsLogTo input.now.problem said.outcome kept.new) }
+    ensures short { OnErr result (kept.new ≡ []) }
 {
     let answer = find(alloc, input)?;
     let text = trial_text(alloc, &input.problem, &answer)?;
-    Ok(Said {
-        text,
-        outcome: outcome_of(&answer),
-    })
+    let outcome = outcome_of(&answer);
+    *kept = log_of(answer);
+    Ok(Said { text, outcome })
 }

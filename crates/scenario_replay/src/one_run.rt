@@ -1,6 +1,6 @@
 //! One run of a scenario, over devices in memory.
 use crate::watched_desk::WatchedDesk;
-use concretizer::{Status, run};
+use concretizer::{Log, Status, run};
 use outside_desk::{MemoryDesk, MemorySink};
 use plain_data::Word;
 use scenario_reader::{Device, Scenario};
@@ -78,6 +78,7 @@ impl OneRun {
             &mut self.desk,
             &mut self.out,
             &mut self.err,
+            &mut Log::new(alloc),
         );
         Ok(())
     }

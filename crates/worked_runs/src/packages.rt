@@ -1,6 +1,6 @@
 // Runs in which specs lead to as many packages as they may, and to one more.
 use crate::checks::words_of;
-use concretizer::{Status, run_steady};
+use concretizer::{Log, Status, run_steady};
 use outside_desk::{SteadyDesk, SteadySink};
 use std::alloc::{AllocError, Global};
 use std::process::Abort;
@@ -50,7 +50,9 @@ fn check_names<R: AllocGlobal + Abort + Threads + Sync>(
     }
     let mut out = SteadySink::new(alloc);
     let mut err = SteadySink::new(alloc);
-    let status = run_steady(rt, alloc, &words, &mut desk, &mut out, &mut err);
+    let mut kept = Log::new(alloc);
+    let status = run_steady(rt, alloc, &words, &mut desk, &mut out, &mut err, &mut kept);
+    assert!(rt; kept.lines().is_empty());
     assert_eq!(rt; status, wanted);
     assert_eq!(rt; err.said(), told);
     assert_eq!(rt; out.said(), b"".as_slice());

@@ -1,5 +1,6 @@
 use Rattle.std.proofs.Common.{refl, ap, ◌∙◌}
 use Rattle.run_output.specs.Words.{Command, words_of}
+use Rattle.concretizer.proofs.Logs.{answered_log, stopped_log}
 use Rattle.concretizer.proofs.Left.{stopped, answered, held, follows, unsaid, has_shown}
 use Rattle.concretizer.specs.Asked.{IsAsked}
 use Rattle.concretizer.proofs.Stages.{stops_at_once, not_refused}
@@ -90,3 +91,16 @@ pub returns-in_err-answer-clause-unsaid : goal.returns-in_err-answer-clause-unsa
 returns-in_err-answer-clause-unsaid g c =
     unsaid _ _ c.in_ok-task.task c.in_err-answer.field-0.0 c.from_residual-in_err-answer.result _ _ _ _
     c.from_residual-in_err-answer.ensures.1 c.in_err-answer.ensures.left
+
+pub returns-clause-kept : goal.returns-clause-kept
+returns-clause-kept g c =
+    answered_log (words_of c.args.words.now) c.in_ok-command.command _ _ c.in_ok-task.task _ _ _ _ _ c.in_ok-command.ensures.read
+    c.in_ok-task.ensures.read c.in_ok-task.ensures.same
+    (ap (λ (k : Command). k.lock) c.command.view_is ∙ c.in_ok-command.ensures.lock)
+    (ap (λ (k : Command). k.cert) c.command.view_is ∙ c.in_ok-command.ensures.cert) c.in_ok-answer.ensures.kept
+
+pub returns-in_err-answer-clause-kept : goal.returns-in_err-answer-clause-kept
+returns-in_err-answer-clause-kept g c =
+    stopped_log (words_of c.args.words.now) c.in_ok-command.command _ _ c.in_ok-task.task _ c.in_err-answer.field-0.0
+    c.from_residual-in_err-answer.result _ _ _ c.from_residual-in_err-answer.ensures.1 c.in_ok-command.ensures.read
+    c.in_ok-task.ensures.read c.in_err-answer.ensures.kept

@@ -3,6 +3,7 @@ use Rattle.run_output.specs.Status.TheVariants as statuses
 use Rattle.concretizer.proofs.Ends.{reports_words, refused, settles, due, written, steady}
 use Rattle.concretizer.proofs.Kept.{others}
 use Rattle.concretizer.proofs.Faults.{read_fault, write_fault, no_memory}
+use Rattle.concretizer.proofs.Logs.{keeps_for}
 use Rattle.concretizer.proofs.Reported.{unanswered, usage}
 use Rattle.concretizer.proofs.top.run.Goals as goal
 
@@ -99,3 +100,7 @@ returns-in-Err-clause-no_memory g c =
 pub returns-in-Err-clause-steady : goal.returns-in-Err-clause-steady
 returns-in-Err-clause-steady g c =
     steady c.in-Err.stop (_, _) (_, _) (_, _) (_, _) (_, _) _ c.in-Err.ensures.steady c.report.ensures.reports
+
+pub returns-in-Err-clause-kept : goal.returns-in-Err-clause-kept
+returns-in-Err-clause-kept g c =
+    keeps_for _ (words_of c.args.words.now) _ _ c.in-Err.stop (_, _) (_, _) _ c.in-Err.ensures.kept c.report.ensures.reports

@@ -1,0 +1,53 @@
+-- What is kept of a search: the log of its answer.
+use Rattle.std.specs.Prelude.{◌≡◌, ◌⊎◌, ℕ, List, [], Option, Result, Ok, Err}
+use Rattle.outside_desk.specs.Files.{Files}
+use Rattle.proof_log.specs.declared.line.Line.{Line}
+use Rattle.run_task.specs.Problems.{Problem}
+use Rattle.run_task.specs.Answers.{log_of}
+use Rattle.run_task.specs.Answer.{Answer}
+use Rattle.run_task.specs.WriteStop.{WriteStop}
+use Rattle.run_task.specs.WriteStop.TheVariants as writes
+use Rattle.run_task.specs.declared.task.Task.{Task}
+use Rattle.run_task.specs.declared.task.Task.TheVariants as tasks
+use Rattle.run_output.specs.Answers.{files_with}
+use Rattle.run_output.specs.Texts.{IsFor, outcome_of}
+use Rattle.run_output.specs.declared.answer.Outcome.{Outcome}
+
+-- these are the lines of the log of an answer of the problem
+pub record IsLogOf (problem : Problem) (kept : List Line) : Type 0 where
+  pub answer : Answer
+  pub found : IsFor problem answer
+  pub lines : kept ≡ log_of answer
+
+-- the log of what was searched for the task; of a task that has no search, and of one that explains, no line
+abbrev pub HoldsLog : Task → List Line → Type 0
+HoldsLog (tasks.Solve input) kept = IsLogOf input.problem kept
+HoldsLog (tasks.Try input) kept = IsLogOf input.problem kept
+HoldsLog task kept = kept ≡ []
+
+-- the log of an answer that came to this
+pub record IsLogTo (problem : Problem) (outcome : Outcome) (kept : List Line) : Type 0 where
+  pub answer : Answer
+  pub found : IsFor problem answer
+  pub is_outcome : outcome ≡ outcome_of answer
+  pub lines : kept ≡ log_of answer
+
+-- the log of the answer whose files were put
+pub record IsPutLog (lock cert : List ℕ) (problem : Problem) (outcome : Outcome) (before after : Option Files) (kept : List Line) : Type 0 where
+  pub answer : Answer
+  pub found : IsFor problem answer
+  pub is_outcome : outcome ≡ outcome_of answer
+  pub files : after ≡ files_with lock cert problem answer before
+  pub lines : kept ≡ log_of answer
+
+-- what is kept of a task that came to this
+abbrev pub KeepsLog : List ℕ → List ℕ → Task → Outcome → Option Files → Option Files → List Line → Type 0
+KeepsLog lock cert (tasks.Solve input) outcome before after kept = IsPutLog lock cert input.problem outcome before after kept
+KeepsLog lock cert (tasks.Try input) outcome before after kept = IsLogTo input.problem outcome kept
+KeepsLog lock cert task outcome before after kept = kept ≡ []
+
+-- what is kept at any end of writing: where memory ran out, there may be no answer
+abbrev pub KeepsAny : List ℕ → List ℕ → Task → Option Files → Option Files → List Line → Result Outcome WriteStop → Type 0
+KeepsAny lock cert task before after kept (Ok outcome) = KeepsLog lock cert task outcome before after kept
+KeepsAny lock cert task before after kept (Err writes.NoMemory) = (kept ≡ []) ⊎ HoldsLog task kept
+KeepsAny lock cert task before after kept (Err other) = HoldsLog task kept
