@@ -34,8 +34,8 @@ use std::thread::Threads;
 /// - `trial N SEED` finds the best graph of N packages that are made in memory; `out` gets how many nodes it has, its cost vector
 ///   and how many clauses were learnt.
 ///
-/// At the return `kept` holds the log of the answer of `concretize` and of `trial`, whatever it held before, and no line where
-/// no answer was found.
+/// At the return `kept` holds the log of the answer that `concretize` or `trial` found, whatever it held before; of the other commands,
+/// and where reading stopped the run, it holds no line. Where memory ran out or a write failed it holds the one or the other.
 pub fn run<R: Threads + Sync, D: Desk, O: Sink, E: Sink>(
     rt: &R,
     alloc: Global,

@@ -1,5 +1,5 @@
 -- What a run leaves of its answer: the certificate, the lock file and what was said.
-use Rattle.std.specs.Prelude.{◌≡◌, ◌⊎◌, ℕ, Bool, true, false, List, [], ◌∷◌, ◌++◌, Option, Result, Ok, Err}
+use Rattle.std.specs.Prelude.{◌≡◌, ◌⊎◌, ℕ, Bool, true, false, List, Option, Result, Ok, Err}
 use Rattle.outside_desk.specs.Files.{Files, with_file, and_said, MayHold, SaysPart}
 use Rattle.graph_core.specs.Graphs.{Content}
 use Rattle.run_task.specs.Problems.{Problem}

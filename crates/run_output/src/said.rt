@@ -1,7 +1,6 @@
 //! What is said of a task that puts no file.
 
 ghost use Rattle.std.specs.Prelude.{◌≡◌, ◌++◌, [], IfOk, OnErr, OnOk};
-ghost use Rattle.run_task.specs.Closures.{closure_of};
 ghost use Rattle.run_task.specs.Tasks.{IsReadyInput};
 ghost use Rattle.run_task.specs.declared.task.Task.TheVariants as tasks;
 ghost use Rattle.proof_log.specs.Lines.{learnt_in};

@@ -1,3 +1,4 @@
+use Rattle.run_output.proofs.Kept.{of_trial}
 use Rattle.run_output.proofs.answer.write_answer.Goals as goal
 
 pub returns-in_ok-said-in-Report-clause-left : goal.returns-in_ok-said-in-Report-clause-left
@@ -11,3 +12,9 @@ returns-in_ok-said-in-Explain-clause-left g c = c.tell-in-Explain.ensures.left c
 
 pub returns-in_ok-said-in-Try-clause-left : goal.returns-in_ok-said-in-Try-clause-left
 returns-in_ok-said-in-Try-clause-left g c = c.tell-in-Try.ensures.left c.args.lock.now c.args.cert.now _
+
+pub returns-in_ok-said-in-Try-clause-kept : goal.returns-in_ok-said-in-Try-clause-kept
+returns-in_ok-said-in-Try-clause-kept g c =
+    let files = g.D.Desk.files c.args.desk.now in
+    rw c.in-Try.is (of_trial c.args.lock.now c.args.cert.now c.in-Try.input files files c.in_ok-said-in-Try.said.outcome _ c.tell-in-Try.result
+    c.in_ok-said-in-Try.ensures.kept c.tell-in-Try.ensures.outcome)
