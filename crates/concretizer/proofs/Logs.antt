@@ -1,5 +1,5 @@
 -- What is kept of a search, where a run answered or stopped.
-use Rattle.std.proofs.Common.{◌≡◌, ◌⊎◌, inl, inr, sym, subst, ◌∙◌, ap, ℕ, List, [], Option, Some, None, Result, Ok, Err}
+use Rattle.std.proofs.Common.{◌≡◌, inl, inr, sym, subst, ℕ, List, [], Option, Some, None, Result, Ok, Err}
 use Rattle.std.specs.Result.{IsErrAnd}
 use Rattle.std.specs.Prelude.{IfSome}
 use Rattle.outside_desk.specs.Files.{Files}
@@ -21,7 +21,7 @@ use Rattle.run_output.specs.Words.{Command, lock_path, cert_path}
 use Rattle.run_output.specs.WriteStop.{WriteStop}
 use Rattle.run_output.specs.WriteStop.TheVariants.{Put, Output, NoMemory}
 use Rattle.concretizer.specs.Headline.{IsRefusalStatus, Reports, Spoken}
-use Rattle.concretizer.specs.Logs.{AttemptKeeps, HasFound, KeepsFor, MayKeep}
+use Rattle.concretizer.specs.Logs.{AttemptKeeps, KeepsFor, MayKeep}
 use Rattle.concretizer.proofs.Left.{by_paths, write_carried}
 use Rattle.concretizer.proofs.Reported.{refuses}
 
@@ -51,10 +51,11 @@ module _ (words : List (List ℕ)) (command : Command) (lock cert : List ℕ) (t
 
   pub stopped_log : (stop : WriteStop) (result : Result Outcome Stop) (before between after : Option Files)
       → IsErrAnd result (λ given. given ≡ Write stop) → Is (command_in words) (Ok command)
-      → IfSome before (λ files. Gives {T = Task} (Ok task) (Named files command)) → KeepsAny lock cert task between after kept (Err stop)
+      → IfSome before (λ files. Gives {T = Task} (Ok task) (Named files command)) → between ≡ before
+      → lock ≡ lock_path words → cert ≡ cert_path words → KeepsAny lock cert task between after kept (Err stop)
       → IfSome before (λ files. AttemptKeeps files words after kept result)
-  stopped_log stop result None between after is ordered read keeps = tt
-  stopped_log stop result (Some files) between after is ordered read keeps =
+  stopped_log stop result None between after is ordered read same at certified keeps = tt
+  stopped_log stop result (Some files) between after is ordered read same at certified keeps =
       rw (write_carried stop result is) (stopped_here stop files between after ordered read keeps)
 
 -- ---- by the answer
@@ -86,8 +87,8 @@ module _ (files : Files) (words : List (List ℕ)) (after : Option Files) (kept 
 
   here : (stop : Stop) (err : Spoken) (errs : ℕ × ℕ) (result : Status) → AttemptKeeps files words after kept (Err stop)
       → Reports (stop_status stop) (stop_line stop) err errs result → KeepsFor result files words after kept
-  here stop err errs result keeps (inl (is, said)) = subst (λ (s : Status). KeepsFor s files words after kept) (sym is) (of_stop stop keeps)
-  here stop err errs result keeps (inr (inl (is, late))) = rw is (may_keep stop keeps)
+  here stop err errs result keeps (inl (is, said, steady)) = subst (λ (s : Status). KeepsFor s files words after kept) (sym is) (of_stop stop keeps)
+  here stop err errs result keeps (inr (inl (is, front, late))) = rw is (may_keep stop keeps)
   here stop err errs result keeps (inr (inr (is, silent))) = rw is (may_keep stop keeps)
 
 -- what is kept of a run that stopped

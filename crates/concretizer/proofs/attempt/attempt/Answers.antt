@@ -103,4 +103,6 @@ pub returns-in_err-answer-clause-kept : goal.returns-in_err-answer-clause-kept
 returns-in_err-answer-clause-kept g c =
     stopped_log (words_of c.args.words.now) c.in_ok-command.command _ _ c.in_ok-task.task _ c.in_err-answer.field-0.0
     c.from_residual-in_err-answer.result _ _ _ c.from_residual-in_err-answer.ensures.1 c.in_ok-command.ensures.read
-    c.in_ok-task.ensures.read c.in_err-answer.ensures.kept
+    c.in_ok-task.ensures.read c.in_ok-task.ensures.same
+    (ap (λ (k : Command). k.lock) c.command.view_is ∙ c.in_ok-command.ensures.lock)
+    (ap (λ (k : Command). k.cert) c.command.view_is ∙ c.in_ok-command.ensures.cert) c.in_err-answer.ensures.kept
