@@ -236,8 +236,22 @@ ready_program() {
   return 70
 }
 
+# Says that the run with this process number is at work, and which memory it holds: after 1, 2, 5, 10, 20, 50 .. seconds. It
+# ends with its standard input, whose other end the run holds open.
+watch_run() {
+  local name=$1 run=$2 wait seconds=0 status pages
+  for wait in 1 1 3 5 10 30 50 100 300 500; do
+    status=0
+    read -r -t "$wait" || status=$?
+    [ "$status" -gt 128 ] || return 0
+    seconds=$((seconds + wait))
+    { read -r _ pages _ <"/proc/$run/statm"; } 2>/dev/null || return 0
+    tell "$name: at work for $seconds s, $((pages / 256)) MiB"
+  done
+}
+
 launch() {
-  local name=$1
+  local name=$1 held
   shift
   case "$*" in
   --help | -h)
@@ -259,5 +273,7 @@ launch() {
     exit 0
   fi
   ready_program "$name" || exit 70
+  # Only a terminal is told: what a run says on a file or a pipe is what it promises.
+  [ ! -t 2 ] || exec {held}> >(watch_run "$name" $$ >/dev/null)
   exec "$program" "$@"
 }
