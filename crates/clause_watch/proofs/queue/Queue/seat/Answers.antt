@@ -10,9 +10,9 @@ returns-in_default-clause-none c =
     let os = c.args.self.now.orders in
     let d = c.entry-entry.result in
     let within : d.place < length os.items = omega (arith, c.if-entry-len.false, c.len.ensures, os.ok.0) in
-    let o = c.lits-order.result.now in
+    let o = c.codes-order.result.now in
     let here : slice_get os.items d.place ≡ Some o = at-read os.items d.place c.index.result.now within c.index.ensures
-    ∙ ap Some (sym c.lits-order.ensures) in record {
+    ∙ ap Some (sym c.codes-order.ensures) in record {
       entry = d;
       listed = c.entry-entry.ensures.here;
       none = λ y e. subst (λ z. HasNoSlot z c.args.lit) (same_Some o y (sym here ∙ e)) c.in_default.ensures.none;
@@ -26,8 +26,8 @@ returns-clause-some c =
       small = c.entry-entry.ensures.small;
       id = let h = c.len.type_inv in omega (arith, c.if-entry-len.false, h);
       listed = c.entry-entry.ensures.here;
-      order = c.lits-order.result.now;
-      seen = at-read os.items d.place c.index.result.now within c.index.ensures ∙ ap Some (sym c.lits-order.ensures);
+      order = c.codes-order.result.now;
+      seen = at-read os.items d.place c.index.result.now within c.index.ensures ∙ ap Some (sym c.codes-order.ensures);
       slot = c.in-Some.ensures.some;
-      other = c.lit_at-other.ensures;
+      other = c.decoded-other.ensures;
     }

@@ -5,7 +5,7 @@ use Rattle.clause_store.specs.Lits.{AllBelow}
 use Rattle.clause_watch.specs.Picks.{AreFalseFrom, IsOpenAt}
 use Rattle.clause_watch.specs.Watching.{IsKept, IsNext}
 use Rattle.clause_watch.proofs.Rows.{at-within, TableGrows-same}
-use Rattle.clause_watch.proofs.Tended.{kept-listed}
+use Rattle.clause_watch.proofs.Tended.{kept-listed, tended-grown}
 use Rattle.clause_watch.proofs.Turns.{neither-free}
 use Rattle.clause_watch.proofs.Seats.{seat-within, order-is, other-below, order-below, found-below, true-kept, true-next, all-false, placed-grown, placed-kept, placed-next, moved-kept, moved-next}
 use Rattle.clause_watch.proofs.queue.Queue.tend.Goals as goal
@@ -22,14 +22,14 @@ returns-then-is_true-clause-tended c =
     let t = c.args.trail.now in
     let q = c.args.self.now in
     true-kept t c.args.clauses.now q.lists q.orders.items q.head c.args.lit c.args.at c.args.seat c.requires.right
-    c.requires.tended c.requires.walking c.requires.seat c.put.new.self c.put.ensures
+    c.requires.tended c.requires.walking c.requires.seat c.put.new.self c.in_ok-put.ensures.ok
 
 pub returns-then-is_true-clause-turn : goal.returns-then-is_true-clause-turn
 returns-then-is_true-clause-turn c =
     let t = c.args.trail.now in
     let q = c.args.self.now in
     true-next t c.args.clauses.now q.lists q.orders.items q.head c.args.lit c.args.at c.args.seat c.requires.right
-    c.requires.tended c.requires.walking c.requires.seat c.put.new.self c.put.ensures
+    c.requires.tended c.requires.walking c.requires.seat c.put.new.self c.in_ok-put.ensures.ok
     (sym c.is_true.ensures ∙ c.if-is_true.true)
 
 pub index-requires : goal.index-requires
@@ -40,31 +40,31 @@ index-requires c =
     c.requires.tended c.requires.walking c.requires.seat in
     omega (arith, n, q.orders.ok.0)
 
-pub open_from-requires : goal.open_from-requires
-open_from-requires c =
+pub open_behind-requires : goal.open_behind-requires
+open_behind-requires c =
     let t = c.args.trail.now in
     let q = c.args.self.now in
     let e = order-is t c.args.clauses.now q.lists q.orders.items q.head c.args.lit c.args.at c.args.seat c.requires.right
-    c.requires.tended c.requires.walking c.requires.seat c.index.result.now c.lits-order.result.now c.index.ensures c.lits-order.ensures in
+    c.requires.tended c.requires.walking c.requires.seat c.index.result.now c.codes-order.result.now c.index.ensures c.codes-order.ensures in
     subst (AllBelow t.vars) (sym e)
     (order-below t c.args.clauses.now q.lists q.orders.items q.head c.args.lit c.args.at c.args.seat c.requires.right
     c.requires.tended c.requires.walking c.requires.seat)
 
-pub lit_at-found-requires : goal.lit_at-found-requires
-lit_at-found-requires c =
+pub decoded-found-requires : goal.decoded-found-requires
+decoded-found-requires c =
     let t = c.args.trail.now in
     let q = c.args.self.now in
-    at-within c.lits-order.result.now c.in-Some.next c.in-Some.ensures.some.lit c.in-Some.ensures.some.here
+    at-within c.codes-order.result.now c.in-Some.next c.in-Some.ensures.some.lit c.in-Some.ensures.some.here
 
 pub add-requires : goal.add-requires
 add-requires c =
     let t = c.args.trail.now in
     let q = c.args.self.now in
     let e = order-is t c.args.clauses.now q.lists q.orders.items q.head c.args.lit c.args.at c.args.seat c.requires.right
-    c.requires.tended c.requires.walking c.requires.seat c.index.result.now c.lits-order.result.now c.index.ensures c.lits-order.ensures in
-    let h = ap (λ o. slice_get o c.in-Some.next) (sym e) ∙ c.lit_at-found.ensures in
+    c.requires.tended c.requires.walking c.requires.seat c.index.result.now c.codes-order.result.now c.index.ensures c.codes-order.ensures in
+    let h = ap (λ o. slice_get o c.in-Some.next) (sym e) ∙ c.decoded-found.ensures in
     found-below t c.args.clauses.now q.lists q.orders.items q.head c.args.lit c.args.at c.args.seat c.requires.right
-    c.requires.tended c.requires.walking c.requires.seat c.in-Some.next c.lit_at-found.result h
+    c.requires.tended c.requires.walking c.requires.seat c.in-Some.next c.decoded-found.result h
 
 pub returns-in_err-add-clause-tended : goal.returns-in_err-add-clause-tended
 returns-in_err-add-clause-tended c =
@@ -101,9 +101,9 @@ swap-requires-clause-second c =
     c.requires.tended c.requires.walking c.requires.seat c.index_mut.result.now c.index_mut.result.now c.index_mut.ensures.value refl in
     let n : length c.index_mut.result.now ≡ length c.requires.seat.order = ap length e in
     let g = order-is t c.args.clauses.now q.lists q.orders.items q.head c.args.lit c.args.at c.args.seat c.requires.right
-    c.requires.tended c.requires.walking c.requires.seat c.index.result.now c.lits-order.result.now c.index.ensures c.lits-order.ensures in
-    let m : length c.lits-order.result.now ≡ length c.requires.seat.order = ap length g in
-    let h = at-within c.lits-order.result.now c.in-Some.next c.in-Some.ensures.some.lit c.in-Some.ensures.some.here in
+    c.requires.tended c.requires.walking c.requires.seat c.index.result.now c.codes-order.result.now c.index.ensures c.codes-order.ensures in
+    let m : length c.codes-order.result.now ≡ length c.requires.seat.order = ap length g in
+    let h = at-within c.codes-order.result.now c.in-Some.next c.in-Some.ensures.some.lit c.in-Some.ensures.some.here in
     omega (arith, n, m, h)
 
 pub returns-in-Some-clause-tended : goal.returns-in-Some-clause-tended
@@ -113,14 +113,14 @@ returns-in-Some-clause-tended c =
     let m = order-is t c.args.clauses.now q.lists q.orders.items q.head c.args.lit c.args.at c.args.seat c.requires.right
     c.requires.tended c.requires.walking c.requires.seat c.index_mut.result.now c.index_mut.result.now c.index_mut.ensures.value refl in
     let e = order-is t c.args.clauses.now q.lists q.orders.items q.head c.args.lit c.args.at c.args.seat c.requires.right
-    c.requires.tended c.requires.walking c.requires.seat c.index.result.now c.lits-order.result.now c.index.ensures c.lits-order.ensures in
-    let h = ap (λ o. slice_get o c.in-Some.next) (sym e) ∙ c.lit_at-found.ensures in
+    c.requires.tended c.requires.walking c.requires.seat c.index.result.now c.codes-order.result.now c.index.ensures c.codes-order.ensures in
+    let h = ap (λ o. slice_get o c.in-Some.next) (sym e) ∙ c.decoded-found.ensures in
     let is = subst (λ o. IsOpenAt t.placed o 2 c.args.seat.other c.in-Some.next) e c.in-Some.ensures.some in
     let n : c.swap.new.self ≡ swap c.requires.seat.order c.args.seat.slot c.in-Some.next = c.swap.ensures
     ∙ ap (λ o. swap o c.args.seat.slot c.in-Some.next) m in
     subst (λ o. IsKept t.vars c.args.clauses.now t.placed c.remove.new.self (set q.orders.items c.args.seat.entry.place o) q.head)
     (sym n) (moved-kept t c.args.clauses.now q.lists q.orders.items q.head c.args.lit c.args.at c.args.seat c.requires.right
-    c.requires.tended c.requires.walking c.requires.seat c.in-Some.next c.lit_at-found.result
+    c.requires.tended c.requires.walking c.requires.seat c.in-Some.next c.decoded-found.result
     c.add.new.self c.remove.new.self h is c.in_ok-add.ensures.ok c.remove.ensures)
 
 pub returns-in-Some-clause-turn : goal.returns-in-Some-clause-turn
@@ -130,15 +130,15 @@ returns-in-Some-clause-turn c =
     let m = order-is t c.args.clauses.now q.lists q.orders.items q.head c.args.lit c.args.at c.args.seat c.requires.right
     c.requires.tended c.requires.walking c.requires.seat c.index_mut.result.now c.index_mut.result.now c.index_mut.ensures.value refl in
     let e = order-is t c.args.clauses.now q.lists q.orders.items q.head c.args.lit c.args.at c.args.seat c.requires.right
-    c.requires.tended c.requires.walking c.requires.seat c.index.result.now c.lits-order.result.now c.index.ensures c.lits-order.ensures in
-    let h = ap (λ o. slice_get o c.in-Some.next) (sym e) ∙ c.lit_at-found.ensures in
+    c.requires.tended c.requires.walking c.requires.seat c.index.result.now c.codes-order.result.now c.index.ensures c.codes-order.ensures in
+    let h = ap (λ o. slice_get o c.in-Some.next) (sym e) ∙ c.decoded-found.ensures in
     let is = subst (λ o. IsOpenAt t.placed o 2 c.args.seat.other c.in-Some.next) e c.in-Some.ensures.some in
     let n : c.swap.new.self ≡ swap c.requires.seat.order c.args.seat.slot c.in-Some.next = c.swap.ensures
     ∙ ap (λ o. swap o c.args.seat.slot c.in-Some.next) m in
     subst (λ o. IsNext c.args.clauses.now t.placed q.lists c.remove.new.self
     (set q.orders.items c.args.seat.entry.place o) q.head c.args.lit c.args.at c.args.at) (sym n)
     (moved-next t c.args.clauses.now q.lists q.orders.items q.head c.args.lit c.args.at c.args.seat c.requires.right
-    c.requires.tended c.requires.walking c.requires.seat c.in-Some.next c.lit_at-found.result
+    c.requires.tended c.requires.walking c.requires.seat c.in-Some.next c.decoded-found.result
     c.add.new.self c.remove.new.self h is c.in_ok-add.ensures.ok c.remove.ensures)
 
 pub overflow_add-id : goal.overflow_add-id
@@ -156,7 +156,7 @@ returns-then-is_false-clause-turn c =
     let t = c.args.trail.now in
     let q = c.args.self.now in
     let e = order-is t c.args.clauses.now q.lists q.orders.items q.head c.args.lit c.args.at c.args.seat c.requires.right
-    c.requires.tended c.requires.walking c.requires.seat c.index.result.now c.lits-order.result.now c.index.ensures c.lits-order.ensures in
+    c.requires.tended c.requires.walking c.requires.seat c.index.result.now c.codes-order.result.now c.index.ensures c.codes-order.ensures in
     let a = subst (λ o. AreFalseFrom t.placed o 2 c.args.seat.other) e c.in_default.ensures.none in
     all-false t c.args.clauses.now q.lists q.orders.items q.head c.args.lit c.args.at c.args.seat c.requires.right
     c.requires.tended c.requires.walking c.requires.seat a (sym c.is_false.ensures ∙ c.if-is_false.true)
@@ -179,7 +179,7 @@ returns-clause-grown c =
     let t = c.args.trail.now in
     let q = c.args.self.now in
     let e = order-is t c.args.clauses.now q.lists q.orders.items q.head c.args.lit c.args.at c.args.seat c.requires.right
-    c.requires.tended c.requires.walking c.requires.seat c.index.result.now c.lits-order.result.now c.index.ensures c.lits-order.ensures in
+    c.requires.tended c.requires.walking c.requires.seat c.index.result.now c.codes-order.result.now c.index.ensures c.codes-order.ensures in
     let a = subst (λ o. AreFalseFrom t.placed o 2 c.args.seat.other) e c.in_default.ensures.none in
     let x = sym c.is_true.ensures ∙ c.if-is_true.false in
     let y = sym c.is_false.ensures ∙ c.if-is_false.false in
@@ -191,23 +191,59 @@ returns-clause-tended c =
     let t = c.args.trail.now in
     let q = c.args.self.now in
     let e = order-is t c.args.clauses.now q.lists q.orders.items q.head c.args.lit c.args.at c.args.seat c.requires.right
-    c.requires.tended c.requires.walking c.requires.seat c.index.result.now c.lits-order.result.now c.index.ensures c.lits-order.ensures in
+    c.requires.tended c.requires.walking c.requires.seat c.index.result.now c.codes-order.result.now c.index.ensures c.codes-order.ensures in
     let a = subst (λ o. AreFalseFrom t.placed o 2 c.args.seat.other) e c.in_default.ensures.none in
     let x = sym c.is_true.ensures ∙ c.if-is_true.false in
     let y = sym c.is_false.ensures ∙ c.if-is_false.false in
     placed-kept t c.args.clauses.now q.lists q.orders.items q.head c.args.lit c.args.at c.args.seat c.requires.right
     c.requires.tended c.requires.walking c.requires.seat c.push.new.self a x y c.in_ok-push.ensures.ok
-    c.put-2.new.self c.put-2.ensures
+    c.put-2.new.self c.in_ok-put-2.ensures.ok
 
 pub returns-clause-turn : goal.returns-clause-turn
 returns-clause-turn c =
     let t = c.args.trail.now in
     let q = c.args.self.now in
     let e = order-is t c.args.clauses.now q.lists q.orders.items q.head c.args.lit c.args.at c.args.seat c.requires.right
-    c.requires.tended c.requires.walking c.requires.seat c.index.result.now c.lits-order.result.now c.index.ensures c.lits-order.ensures in
+    c.requires.tended c.requires.walking c.requires.seat c.index.result.now c.codes-order.result.now c.index.ensures c.codes-order.ensures in
     let a = subst (λ o. AreFalseFrom t.placed o 2 c.args.seat.other) e c.in_default.ensures.none in
     let x = sym c.is_true.ensures ∙ c.if-is_true.false in
     let y = sym c.is_false.ensures ∙ c.if-is_false.false in
     placed-next t c.args.clauses.now q.lists q.orders.items q.head c.args.lit c.args.at c.args.seat c.requires.right
     c.requires.tended c.requires.walking c.requires.seat c.push.new.self a x y c.in_ok-push.ensures.ok
-    c.put-2.new.self c.put-2.ensures
+    c.put-2.new.self c.in_ok-put-2.ensures.ok
+
+pub returns-in_err-put-clause-tended : goal.returns-in_err-put-clause-tended
+returns-in_err-put-clause-tended c =
+    let t = c.args.trail.now in
+    let q = c.args.self.now in
+    kept-listed t.vars c.args.clauses.now t.placed q.lists c.put.new.self q.orders.items q.head
+    (TableGrows-same c.args.clauses.now q.lists c.put.new.self _ c.in_err-put.ensures.err) c.requires.tended
+
+pub returns-in_err-put-2-clause-grown : goal.returns-in_err-put-2-clause-grown
+returns-in_err-put-2-clause-grown c =
+    let t = c.args.trail.now in
+    let q = c.args.self.now in
+    let e = order-is t c.args.clauses.now q.lists q.orders.items q.head c.args.lit c.args.at c.args.seat c.requires.right
+    c.requires.tended c.requires.walking c.requires.seat c.index.result.now c.codes-order.result.now c.index.ensures c.codes-order.ensures in
+    let a = subst (λ o. AreFalseFrom t.placed o 2 c.args.seat.other) e c.in_default.ensures.none in
+    let x = sym c.is_true.ensures ∙ c.if-is_true.false in
+    let y = sym c.is_false.ensures ∙ c.if-is_false.false in
+    placed-grown t c.args.clauses.now q.lists q.orders.items q.head c.args.lit c.args.at c.args.seat c.requires.right
+    c.requires.tended c.requires.walking c.requires.seat c.push.new.self a x y c.in_ok-push.ensures.ok
+
+pub returns-in_err-put-2-clause-tended : goal.returns-in_err-put-2-clause-tended
+returns-in_err-put-2-clause-tended c =
+    let t = c.args.trail.now in
+    let q = c.args.self.now in
+    let u = c.push.new.self in
+    let cs = c.args.clauses.now in
+    let e = order-is t c.args.clauses.now q.lists q.orders.items q.head c.args.lit c.args.at c.args.seat c.requires.right
+    c.requires.tended c.requires.walking c.requires.seat c.index.result.now c.codes-order.result.now c.index.ensures c.codes-order.ensures in
+    let a = subst (λ o. AreFalseFrom t.placed o 2 c.args.seat.other) e c.in_default.ensures.none in
+    let x = sym c.is_true.ensures ∙ c.if-is_true.false in
+    let y = sym c.is_false.ensures ∙ c.if-is_false.false in
+    let g = placed-grown t c.args.clauses.now q.lists q.orders.items q.head c.args.lit c.args.at c.args.seat c.requires.right
+    c.requires.tended c.requires.walking c.requires.seat c.push.new.self a x y c.in_ok-push.ensures.ok in
+    kept-listed u.vars cs u.placed q.lists c.put-2.new.self q.orders.items q.head
+    (TableGrows-same cs q.lists c.put-2.new.self _ c.in_err-put-2.ensures.err)
+    (tended-grown cs t u q.lists q.orders.items q.head g c.requires.tended)
