@@ -236,22 +236,53 @@ ready_program() {
   return 70
 }
 
-# Says that the run with this process number is at work, and which memory it holds: after 1, 2, 5, 10, 20, 50 .. seconds. It
-# ends with its standard input, whose other end the run holds open.
+# The number of seconds after which a run is next said to be at work: 1, 2, 5, 10, 20, and then each half minute.
+next_time() {
+  local time
+  for time in 1 2 5 10 20; do
+    [ "$1" -ge "$time" ] || break
+  done
+  [ "$1" -lt "$time" ] || time=$(($1 / 30 * 30 + 30))
+  printf '%s\n' "$time"
+}
+
+# The text with commas in its long numbers.
+with_commas() {
+  local text=$1
+  while [[ $text =~ ^(.*[0-9])([0-9]{3})(([^0-9].*)?)$ ]]; do
+    text="${BASH_REMATCH[1]},${BASH_REMATCH[2]}${BASH_REMATCH[3]}"
+  done
+  printf '%s\n' "$text"
+}
+
+# Says that the run with this process number is at work, which memory it holds, and the stage that it writes into the file:
+# at those times, and where it is at another part of its work, but at most once a second. It ends with its standard input,
+# whose other end the run holds open.
 watch_run() {
-  local name=$1 run=$2 wait seconds=0 status pages
-  for wait in 1 1 3 5 10 30 50 100 300 500; do
+  local name=$1 run=$2 file=$3 seconds=0 next=1 stage='' part='' status pages line
+  while true; do
     status=0
-    read -r -t "$wait" || status=$?
+    read -r -t 1 || status=$?
     [ "$status" -gt 128 ] || return 0
-    seconds=$((seconds + wait))
+    seconds=$((seconds + 1))
     { read -r _ pages _ <"/proc/$run/statm"; } 2>/dev/null || return 0
-    tell "$name: at work for $seconds s, $((pages / 256)) MiB"
+    { read -r line <"$file" && stage="$(with_commas "$line")"; } 2>/dev/null
+    [ "$seconds" -ge "$next" ] || [ "$part" != "${stage%%[ :]*}" ] || continue
+    next="$(next_time "$seconds")" part="${stage%%[ :]*}"
+    tell "$name: at work for $seconds s, $((pages / 256)) MiB${stage:+, $stage}"
   done
 }
 
+# Opens a file without a name, and sets `stage_file` to where this process and those that it starts find it.
+open_stage_file() {
+  local path opened
+  path="$(mktemp 2>/dev/null)" || return
+  { exec {opened}<>"$path"; } 2>/dev/null && stage_file="/proc/self/fd/$opened"
+  rm -f "$path"
+}
+
 launch() {
-  local name=$1 held
+  local name=$1 held stage_file=''
   shift
   case "$*" in
   --help | -h)
@@ -274,6 +305,10 @@ launch() {
   fi
   ready_program "$name" || exit 70
   # Only a terminal is told: what a run says on a file or a pipe is what it promises.
-  [ ! -t 2 ] || exec {held}> >(watch_run "$name" $$ >/dev/null)
+  unset SPACK_CONCRETIZE_STAGE
+  if [ -t 2 ]; then
+    open_stage_file && export SPACK_CONCRETIZE_STAGE="$stage_file"
+    exec {held}> >(watch_run "$name" $$ "$stage_file" >/dev/null)
+  fi
   exec "$program" "$@"
 }

@@ -16,7 +16,7 @@ use crate::meaning::meaning_laws;
 use clause_store::Lit;
 use criteria_totals::{Bits, Terms};
 use graph_decoding::decode;
-use optimum_search::{Found, Number, found_laws, search_by_numbers};
+use optimum_search::{Found, Number, Progress, Stage, found_laws, search_by_numbers};
 use plain_data::List;
 use possible_closure::Closure;
 use problem::Problem;
@@ -25,18 +25,25 @@ use proof_log::{Log, may_write};
 use std::alloc::{AllocError, Global};
 
 /// The best graph of a problem, where the search may learn so many clauses. Externals and records have values for their variants
-/// (`has_right_values`).
-pub fn best_graph(
+/// (`has_right_values`). `progress` is told how far it is.
+pub fn best_graph<P: Progress>(
     alloc: Global,
     problem: &Problem,
     closure: &Closure,
     budget: u64,
+    progress: &mut P,
 ) -> Result<Answer, AllocError>
     requires closure { closure.now ≡ closure_of problem.now }
     requires values { has_right_values problem.now ≡ true }
     ensures { IfOk result (IsAnswer problem.now budget) }
 {
+    let packages = closure.names().len() as u64;
+    progress.tell(Stage::Encoding { packages });
     let encoded = encode(alloc, problem, closure)?;
+    progress.tell(Stage::Searching {
+        variables: encoded.clauses.vars(),
+        clauses: encoded.clauses.len(),
+    });
     let numbers = numbers_of(alloc, &encoded.bits)?;
     let found = search_by_numbers(
         alloc,
@@ -44,6 +51,7 @@ pub fn best_graph(
         encoded.bits.lits(),
         numbers.as_slice(),
         budget,
+        progress,
     )?;
     answer_of(alloc, problem, &encoded, budget, found)
 }

@@ -7,10 +7,13 @@
 //! It stands apart from `main` so that more than one stored run goes through it.
 #![tactic(auto)]
 
+mod stage_file;
+
 ghost use Rattle.std.specs.Prelude.{◌≡◌};
 ghost use Rattle.std.specs.Process.{exit_status};
 ghost use Rattle.concretizer.specs.Exits.{number_of};
 
+use crate::stage_file::StageFile;
 use concretizer::{Log, Status, run};
 use outside_desk::{RealDesk, RealSink};
 use std::env;
@@ -39,7 +42,7 @@ fn refused(error: &Error) -> ExitCode {
 }
 
 /// Runs the words behind the program's name over the machine's files. What is answered goes to `out`, and
-/// why a run stops to `err`.
+/// why a run stops to `err`. Where the environment names a file in `SPACK_CONCRETIZE_STAGE`, that holds what the run is at.
 ///
 /// It ends with the place of the answer in the list of answers, from 0 for `Done` to 9 for `NoMemory`.
 /// Where the system refuses the words it says nothing, and ends with 9 for want of memory and with 10 for
@@ -61,5 +64,15 @@ pub fn run_machine<R: Env + Files + AllocGlobal + Threads + Sync, O: Write + Dro
     let mut out = RealSink::new(out);
     let mut err = RealSink::new(err);
     let mut kept = Log::new(alloc);
-    ended(run(rt, alloc, &words, &mut desk, &mut out, &mut err, &mut kept))
+    let mut progress = StageFile::new(rt);
+    ended(run(
+        rt,
+        alloc,
+        &words,
+        &mut desk,
+        &mut out,
+        &mut err,
+        &mut kept,
+        &mut progress,
+    ))
 }

@@ -12,18 +12,30 @@ ghost use Rattle.concretizer.specs.Logs.{AttemptKeeps};
 ghost use Rattle.concretizer.specs.Headline.{HasShown, Keeps, Reports};
 
 use outside_desk::{Desk, Sink, SinkFault};
-use run_output::{Log, Outcome, Status, Stop, read_order, read_task, write_answer};
+use run_output::{
+    Log, Outcome, Progress, Stage, Status, Stop, Work, read_order, read_task, write_answer,
+};
 use std::alloc::Global;
 use std::thread::Threads;
 
-/// Reads the task that the words name, and writes its answer. The log of what was searched is kept, in the place of what was there.
-pub fn attempt<R: Threads + Sync, D: Desk, O: Sink>(
+/// What a run with this work is at while it reads.
+fn reading_of(work: Work) -> Stage {
+    match work {
+        Work::Concretize | Work::Explain | Work::Trial { .. } => Stage::Reading,
+        Work::Judge | Work::Check | Work::Refute => Stage::Checking,
+    }
+}
+
+/// Reads the task that the words name, and writes its answer. The log of what was searched is kept, in the place of what was there,
+/// and `progress` is told how far the run is.
+pub fn attempt<R: Threads + Sync, D: Desk, O: Sink, P: Progress>(
     rt: &R,
     alloc: Global,
     words: &[String],
     desk: &mut D,
     out: &mut O,
     kept: &mut Log,
+    progress: &mut P,
 ) -> Result<Outcome, Stop>
     ensures outcome { IfSome (D.files desk.old)
         (λ files. Attempts files (words_of words.now) (D.files desk.new) (O.said out.old)
@@ -51,8 +63,18 @@ pub fn attempt<R: Threads + Sync, D: Desk, O: Sink>(
 {
     *kept = Log::new(alloc);
     let command = read_order(alloc, words)?;
+    progress.tell(reading_of(command.work));
     let task = read_task(rt, alloc, desk, &command)?;
-    let answer = write_answer(alloc, &task, command.lock, command.cert, desk, out, kept);
+    let answer = write_answer(
+        alloc,
+        &task,
+        command.lock,
+        command.cert,
+        desk,
+        out,
+        kept,
+        progress,
+    );
     drop(task);
     Ok(answer?)
 }

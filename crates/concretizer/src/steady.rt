@@ -11,12 +11,12 @@ ghost use Rattle.run_output.specs.Refusal.{Refusal};
 
 use crate::top::run;
 use outside_desk::{SteadyDesk, SteadySink};
-use run_output::{Log, Status};
+use run_output::{Log, Status, Untold};
 use std::alloc::Global;
 use std::thread::Threads;
 
 /// `run` over files and sinks in memory, none of which fails. So no fault is answered, and input that
-/// nothing refuses is Done, Unsatisfiable, Undecided or NoMemory, and input that is refused is answered so.
+/// nothing refuses is Done, Unsatisfiable, Undecided or NoMemory, and input that is refused is answered so. Nobody is told how far it is.
 pub fn run_steady<R: Threads + Sync>(
     rt: &R,
     alloc: Global,
@@ -47,5 +47,5 @@ pub fn run_steady<R: Threads + Sync>(
         → IsAnsweredBy (status_of refusal) result }
     ensures kept { KeepsFor result desk.old (words_of words.now) (Some desk.new) kept.new }
 {
-    run(rt, alloc, words, desk, out, err, kept)
+    run(rt, alloc, words, desk, out, err, kept, &mut Untold)
 }

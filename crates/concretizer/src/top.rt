@@ -15,7 +15,7 @@ ghost use Rattle.concretizer.specs.Headline.{IsDone, HasShown, IsUnsatisfiable, 
 
 use crate::attempt::{attempt, report};
 use outside_desk::{Desk, Sink};
-use run_output::{Log, Outcome, Status, task_laws};
+use run_output::{Log, Outcome, Progress, Status, task_laws};
 use std::alloc::Global;
 use std::thread::Threads;
 
@@ -36,7 +36,9 @@ use std::thread::Threads;
 ///
 /// At the return `kept` holds the log of the answer that `concretize` or `trial` found, whatever it held before; of the other commands,
 /// and where reading stopped the run, it holds no line. Where memory ran out or a write failed it holds the one or the other.
-pub fn run<R: Threads + Sync, D: Desk, O: Sink, E: Sink>(
+///
+/// `progress` is told how far the run is. It is a device apart from the others: what follows holds whatever it does.
+pub fn run<R: Threads + Sync, D: Desk, O: Sink, E: Sink, P: Progress>(
     rt: &R,
     alloc: Global,
     words: &[String],
@@ -44,6 +46,7 @@ pub fn run<R: Threads + Sync, D: Desk, O: Sink, E: Sink>(
     out: &mut O,
     err: &mut E,
     kept: &mut Log,
+    progress: &mut P,
 ) -> Status
     // Words that are no command are answered so whatever the desk tells, and only words are Usage. No call on the
     // desk or on `out` failed, no file changed and nothing was said but the refusal, or that memory ran out.
@@ -125,7 +128,7 @@ pub fn run<R: Threads + Sync, D: Desk, O: Sink, E: Sink>(
         × (O.faults out.old ≤ O.faults out.new) × (E.faults err.old ≤ E.faults err.new) }
 {
     task_laws();
-    match attempt(rt, alloc, words, desk, out, kept) {
+    match attempt(rt, alloc, words, desk, out, kept, progress) {
         Ok(Outcome::Solved) => Status::Done,
         Ok(Outcome::Unsolved) => Status::Unsatisfiable,
         Ok(Outcome::Undecided) => Status::Undecided,

@@ -12,7 +12,7 @@ ghost use Rattle.graph_reasons.specs.Explanations.{Explains};
 
 use crate::explanation::Explanation;
 use explain_failure::{reason_laws, reasons};
-use graph_check::{Encoded, encode};
+use graph_check::{Encoded, Progress, Stage, encode};
 use optimum_search::{Found, found_laws, search};
 use possible_closure::Closure;
 use problem::Problem;
@@ -22,18 +22,25 @@ use std::alloc::{AllocError, Global};
 /// Whether some graph is valid, and else the demands that a refutation rests on, where the search may learn so many clauses.
 ///
 /// The search is without bits of costs, so it ends at the first graph. Externals and records have values for their variants
-/// (`has_right_values`).
-pub fn explain(
+/// (`has_right_values`). `progress` is told how far it is.
+pub fn explain<P: Progress>(
     alloc: Global,
     problem: &Problem,
     closure: &Closure,
     budget: u64,
+    progress: &mut P,
 ) -> Result<Explanation, AllocError>
     requires closure { closure.now ≡ closure_of problem.now }
     requires values { has_right_values problem.now ≡ true }
     ensures { IfOk result (Explains problem.now budget) }
 {
+    let packages = closure.names().len() as u64;
+    progress.tell(Stage::Encoding { packages });
     let encoded = encode(alloc, problem, closure)?;
+    progress.tell(Stage::Searching {
+        variables: encoded.clauses.vars(),
+        clauses: encoded.clauses.len(),
+    });
     let found = search(alloc, &encoded.clauses, &[], budget)?;
     explanation_of(alloc, problem, &encoded, budget, found)
 }

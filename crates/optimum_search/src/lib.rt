@@ -20,3 +20,5 @@ pub use descent::{search, search_by_numbers};
 pub use found::Found;
 pub use number::Number;
 pub use theorems::found_laws;
+// What is told of a search.
+pub use run_progress::{Progress, Stage, Untold};

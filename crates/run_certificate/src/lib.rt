@@ -13,4 +13,4 @@ mod verdict;
 
 pub use certificate::read_certificate;
 // What crates above answer with.
-pub use graph_reasons::{Answer, Explanation, best_graph, explain};
+pub use graph_reasons::{Answer, Explanation, Progress, Stage, Untold, best_graph, explain};

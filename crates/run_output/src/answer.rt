@@ -16,7 +16,7 @@ use crate::said::{Said, of_certificate, of_reasons, of_trial, of_verdict};
 use crate::told::say;
 use outside_desk::{Desk, Sink};
 use proof_log::Log;
-use run_task::{Input, Task, WriteStop};
+use run_task::{Input, Progress, Task, WriteStop};
 use std::alloc::Global;
 
 /// What a task came to.
@@ -31,7 +31,7 @@ pub enum Outcome {
 }
 
 /// Finds and writes the answer of a problem.
-fn write_best<D: Desk, O: Sink>(
+fn write_best<D: Desk, O: Sink, P: Progress>(
     alloc: Global,
     input: &Input,
     lock: &str,
@@ -39,6 +39,7 @@ fn write_best<D: Desk, O: Sink>(
     desk: &mut D,
     out: &mut O,
     kept: &mut Log,
+    progress: &mut P,
 ) -> Result<Outcome, WriteStop>
     requires ready { IsReady (tasks.Solve input.now) }
     requires empty { kept.old ≡ [] }
@@ -55,7 +56,7 @@ fn write_best<D: Desk, O: Sink>(
     ensures kept { KeepsAny lock.now cert.now (tasks.Solve input.now) (D.files desk.old)
         (D.files desk.new) kept.new result }
 {
-    let answer = find(alloc, input)?;
+    let answer = find(alloc, input, progress)?;
     let written = write_found(alloc, &input.problem, &answer, lock, cert, desk, out);
     *kept = log_of(answer);
     written
@@ -77,8 +78,9 @@ fn tell<O: Sink>(alloc: Global, _task: &Task, said: Said, out: &mut O) -> Result
 }
 
 /// Writes the answer of a task: of a problem to solve the certificate at `cert`, unless that is `-`, then the lock file at `lock`
-/// where there is a graph, and then what is said; of any other task what is said alone. The log of a search that answered is kept.
-pub fn write_answer<D: Desk, O: Sink>(
+/// where there is a graph, and then what is said; of any other task what is said alone. The log of a search that answered is kept,
+/// and `progress` is told how far it is.
+pub fn write_answer<D: Desk, O: Sink, P: Progress>(
     alloc: Global,
     task: &Task,
     lock: &str,
@@ -86,6 +88,7 @@ pub fn write_answer<D: Desk, O: Sink>(
     desk: &mut D,
     out: &mut O,
     kept: &mut Log,
+    progress: &mut P,
 ) -> Result<Outcome, WriteStop>
     requires ready { IsReady task.now }
     requires empty { kept.old ≡ [] }
@@ -102,7 +105,7 @@ pub fn write_answer<D: Desk, O: Sink>(
         kept.new result }
 {
     match task {
-        Task::Solve(input) => write_best(alloc, input, lock, cert, desk, out, kept),
+        Task::Solve(input) => write_best(alloc, input, lock, cert, desk, out, kept, progress),
         Task::Report(numbers) => {
             let said = of_verdict(alloc, numbers)?;
             tell(alloc, task, said, out)
@@ -112,11 +115,11 @@ pub fn write_answer<D: Desk, O: Sink>(
             tell(alloc, task, said, out)
         }
         Task::Explain(input) => {
-            let said = of_reasons(alloc, input)?;
+            let said = of_reasons(alloc, input, progress)?;
             tell(alloc, task, said, out)
         }
         Task::Try(input) => {
-            let said = of_trial(alloc, input, kept)?;
+            let said = of_trial(alloc, input, kept, progress)?;
             tell(alloc, task, said, out)
         }
     }

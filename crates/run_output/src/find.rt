@@ -8,16 +8,22 @@ ghost use Rattle.run_output.specs.Texts.{IsFor, outcome_of};
 use crate::answer::Outcome;
 use crate::told::budget_of;
 use proof_log::Log;
-use run_task::{Answer, Input, best_graph};
+use run_task::{Answer, Input, Progress, Stage, best_graph};
 use std::alloc::{AllocError, Global};
 
 /// The answer of a problem within the budget of its settings.
-pub fn find(alloc: Global, input: &Input) -> Result<Answer, AllocError>
+pub fn find<P: Progress>(
+    alloc: Global,
+    input: &Input,
+    progress: &mut P,
+) -> Result<Answer, AllocError>
     requires { IsReadyInput input.now }
     ensures { IfOk result (IsFor input.now.problem) }
 {
     let budget = budget_of(&input.problem);
-    best_graph(alloc, &input.problem, &input.closure, budget)
+    let answer = best_graph(alloc, &input.problem, &input.closure, budget, progress);
+    progress.tell(Stage::Writing);
+    answer
 }
 
 /// What an answer is as an outcome.

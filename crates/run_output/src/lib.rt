@@ -21,5 +21,6 @@ pub use theorems::budget_laws;
 // What crates above answer with, and the log that they keep.
 pub use proof_log::Log;
 pub use run_task::{
-    Command, ReadStop, Refusal, Status, Stop, Task, WriteStop, read_order, read_task, task_laws,
+    Command, Progress, ReadStop, Refusal, Stage, Status, Stop, Task, Untold, Work, WriteStop,
+    read_order, read_task, task_laws,
 };

@@ -17,7 +17,7 @@ use graph_core::Graph;
 use problem::Problem;
 use proof_log::{Line, Log};
 use reason_texts::write_reasons;
-use run_task::{Answer, Explanation, Input, explain, vector};
+use run_task::{Answer, Explanation, Input, Progress, explain, vector};
 use std::alloc::{AllocError, Global};
 
 /// What is said of a task, and what the task came to.
@@ -89,12 +89,17 @@ fn explanation_outcome(explanation: &Explanation) -> Outcome
 }
 
 /// Of whether there is a graph, and why there is none.
-pub fn of_reasons(alloc: Global, input: &Input) -> Result<Said, AllocError>
+pub fn of_reasons<P: Progress>(
+    alloc: Global,
+    input: &Input,
+    progress: &mut P,
+) -> Result<Said, AllocError>
     requires { IsReadyInput input.now }
     ensures { IfOk result (λ said. Tells (tasks.Explain input.now) said.outcome said.text.items) }
 {
     let problem = &input.problem;
-    let explanation = explain(alloc, problem, &input.closure, budget_of(problem))?;
+    let budget = budget_of(problem);
+    let explanation = explain(alloc, problem, &input.closure, budget, progress)?;
     let text = explanation_text(alloc, problem, &explanation)?;
     Ok(Said {
         text,
@@ -174,14 +179,19 @@ fn trial_text(alloc: Global, problem: &Problem, answer: &Answer) -> Result<Vec<u
 }
 
 /// Of the best graph of a made input, of which the log is kept.
-pub fn of_trial(alloc: Global, input: &Input, kept: &mut Log) -> Result<Said, AllocError>
+pub fn of_trial<P: Progress>(
+    alloc: Global,
+    input: &Input,
+    kept: &mut Log,
+    progress: &mut P,
+) -> Result<Said, AllocError>
     requires ready { IsReadyInput input.now }
     requires empty { kept.old ≡ [] }
     ensures said { IfOk result (λ said. Tells (tasks.Try input.now) said.outcome said.text.items) }
     ensures kept { IfOk result (λ said. IsLogTo input.now.problem said.outcome kept.new) }
     ensures short { OnErr result (kept.new ≡ []) }
 {
-    let answer = find(alloc, input)?;
+    let answer = find(alloc, input, progress)?;
     let text = trial_text(alloc, &input.problem, &answer)?;
     let outcome = outcome_of(&answer);
     *kept = log_of(answer);

@@ -1,6 +1,6 @@
 //! One run of a scenario, over devices in memory.
 use crate::watched_desk::WatchedDesk;
-use concretizer::{Log, Status, run};
+use concretizer::{Log, Status, Untold, run};
 use outside_desk::{MemoryDesk, MemorySink};
 use plain_data::Word;
 use scenario_reader::{Device, Scenario};
@@ -79,6 +79,7 @@ impl OneRun {
             &mut self.out,
             &mut self.err,
             &mut Log::new(alloc),
+            &mut Untold,
         );
         Ok(())
     }

@@ -3,7 +3,7 @@
 //! what was found, so that these rows show how much a search has to learn.
 use crate::input::{are_below, clauses_of, lits_of, number_of, places_of};
 use crate::output::{push_line, push_log, push_model, said_no};
-use optimum_search::{Found, Number, search, search_by_numbers};
+use optimum_search::{Found, Number, Untold, search, search_by_numbers};
 use plain_data::List;
 use std::alloc::{AllocError, Global};
 
@@ -74,7 +74,8 @@ fn found_by_numbers(
         let parts = List::from_vec(Vec::from_slice(alloc, &parts)?);
         numbers.push(Number { end, parts })?;
     }
-    let found = search_by_numbers(alloc, &clauses, &bits, &numbers, number_of(budget))?;
+    let budget = number_of(budget);
+    let found = search_by_numbers(alloc, &clauses, &bits, &numbers, budget, &mut Untold)?;
     Ok(Some(found))
 }
 

@@ -1,4 +1,5 @@
 // Desks and sinks, and whole files.
+use crate::same::check_same;
 use outside_desk::{
     Desk, DeskFault, MemoryDesk, MemorySink, ReadFault, RealDesk, RealSink, Sink, SinkFault,
     SteadyDesk, SteadySink, read_whole,
@@ -35,8 +36,8 @@ fn check_piece<D: Desk>(
 ) -> Result<(), Fail> {
     let mut out = vec![in alloc; b'-'; size]?;
     let count = desk.read_at(alloc, path, from, out.as_mut_slice())?;
-    assert_eq!(rt; count, wanted.len(), "{size} bytes from {from}");
-    assert!(rt; out.starts_with(wanted), "{size} bytes from {from}");
+    let got = out.get(..count);
+    check_same(rt, &(from, size, got), &(from, size, Some(wanted)));
     Ok(())
 }
 
@@ -51,7 +52,7 @@ fn check_pieces<D: Desk>(rt: &impl Abort, alloc: Global, desk: &mut D) -> Result
     for row in NO_PATHS {
         let path = *row;
         let got = desk.read_at(alloc, path, 0, &mut out);
-        assert_eq!(rt; got, Err(DeskFault::Missing), "at {path:?}");
+        check_same(rt, &(path, got), &(path, Err(DeskFault::Missing)));
     }
     Ok(())
 }
@@ -64,9 +65,9 @@ fn check_list<D: Desk>(
     wanted: &[&str],
 ) -> Result<(), Fail> {
     let names = desk.list(alloc, folder)?;
-    assert_eq!(rt; names.len(), wanted.len(), "in {folder:?}");
+    check_same(rt, &(folder, names.len()), &(folder, wanted.len()));
     for (name, other) in names.iter().zip(wanted) {
-        assert_eq!(rt; name.as_str(), *other, "in {folder:?}");
+        check_same(rt, &(folder, name.as_str()), &(folder, *other));
     }
     Ok(())
 }
@@ -93,7 +94,8 @@ const NO_FOLDERS: &[&str] = &["none", "r/pack", "r/packages/b.yaml", "r/packages
 fn check_folders<D: Desk>(rt: &impl Abort, alloc: Global, desk: &mut D) -> Result<(), Fail> {
     for row in PUT_PATHS {
         let path = *row;
-        assert!(rt; desk.put(alloc, path, b"1") == Ok(()), "the put of {path}");
+        let put = desk.put(alloc, path, b"1");
+        check_same(rt, &(path, put), &(path, Ok(())));
     }
     for row in FOLDERS {
         let (folder, wanted) = *row;
@@ -102,7 +104,7 @@ fn check_folders<D: Desk>(rt: &impl Abort, alloc: Global, desk: &mut D) -> Resul
     for row in NO_FOLDERS {
         let folder = *row;
         let missing = desk.list(alloc, folder).err();
-        assert_eq!(rt; missing, Some(DeskFault::Missing), "in {folder:?}");
+        check_same(rt, &(folder, missing), &(folder, Some(DeskFault::Missing)));
     }
     Ok(())
 }
@@ -113,12 +115,10 @@ const PUTS: &[&[u8]] = &[b"first", b"", b"a longer text\n\0\xff", b"x"];
 fn check_puts<D: Desk>(rt: &impl Abort, alloc: Global, desk: &mut D) -> Result<(), Fail> {
     for row in PUTS {
         let bytes = *row;
-        assert!(rt;
-            desk.put(alloc, "p", bytes) == Ok(()),
-            "the put of {bytes:?}"
-        );
+        let put = desk.put(alloc, "p", bytes);
+        check_same(rt, &(bytes, put), &(bytes, Ok(())));
         let got = read_whole(alloc, desk, "p", 20)?;
-        assert_eq!(rt; got.as_slice(), bytes);
+        check_same(rt, &got.as_slice(), &bytes);
     }
     Ok(())
 }
@@ -184,14 +184,7 @@ const FAILING_CALLS: &[CallRow] = &[
 /// What a call answers, which fails or not.
 fn check_call(rt: &impl Abort, topic: &str, failing: &[u64], got: Option<DeskFault>, fails: bool) {
     let wanted = fails.then_some(DeskFault::Failed);
-    assert_eq!(rt; got, wanted, "{topic} at {failing:?}");
-}
-
-fn holds(desk: &MemoryDesk, path: &str, bytes: &[u8]) -> bool {
-    match desk.file(path) {
-        Some(got) => got == bytes,
-        None => false,
-    }
+    check_same(rt, &(topic, failing, got), &(topic, failing, wanted));
 }
 
 fn check_left(
@@ -202,9 +195,12 @@ fn check_left(
     left: &[u8],
 ) {
     let got = (desk.faults(), desk.put_faults());
-    assert_eq!(rt; got, counts, "at {failing:?}");
-    assert!(rt; holds(desk, "d/f", left), "what is left at {failing:?}");
-    assert!(rt; holds(desk, "d/g", b"other"), "at {failing:?}");
+    check_same(rt, &(failing, got), &(failing, counts));
+    let other: &[u8] = b"other";
+    for (path, wanted) in [("d/f", left), ("d/g", other)] {
+        let got = desk.file(path);
+        check_same(rt, &(failing, path, got), &(failing, path, Some(wanted)));
+    }
 }
 
 fn check_failing_calls(rt: &impl Abort, alloc: Global, row: &CallRow) -> Result<(), Fail> {
@@ -253,14 +249,11 @@ fn check_failing_says(rt: &impl Abort, alloc: Global, row: &SayRow) -> Result<()
     for (call, piece) in SAID.iter().enumerate() {
         let fails = failing.contains(&(call as u64));
         let got = sink.say(alloc, piece).err();
-        assert_eq!(rt;
-            got,
-            fails.then_some(SinkFault::Failed),
-            "saying {call} at {failing:?}"
-        );
+        let wanted = fails.then_some(SinkFault::Failed);
+        check_same(rt, &(failing, call, got), &(failing, call, wanted));
     }
-    assert_eq!(rt; sink.said(), wanted, "at {failing:?}");
-    assert_eq!(rt; sink.faults(), faults, "at {failing:?}");
+    let got = (failing, sink.said(), sink.faults());
+    check_same(rt, &got, &(failing, wanted, faults));
     Ok(())
 }
 
@@ -301,11 +294,12 @@ fn check_whole<D: Desk>(
     desk: &mut D,
     (path, limit, wanted): (&str, u64, Result<&[u8], ReadFault>),
 ) {
-    match (read_whole(alloc, desk, path, limit), wanted) {
-        (Ok(got), Ok(bytes)) => assert_eq!(rt; got.as_slice(), bytes, "{path} within {limit}"),
-        (Err(got), Err(fault)) => assert_eq!(rt; got, fault, "{path} within {limit}"),
-        (got, _) => panic!(rt; "{path} within {limit} is {got:?}"),
-    }
+    let read = read_whole(alloc, desk, path, limit);
+    let got = match &read {
+        Ok(bytes) => Ok(bytes.as_slice()),
+        Err(fault) => Err(*fault),
+    };
+    check_same(rt, &(path, limit, got), &(path, limit, wanted));
 }
 
 fn memory_files(alloc: Global, big: &[u8]) -> Result<MemoryDesk, AllocError> {
@@ -368,9 +362,9 @@ fn check_mid_stream(rt: &impl Abort, alloc: Global, big: &[u8], call: u64) -> Re
     desk.fail_call(call)?;
     let failed = Err(ReadFault::Failed);
     check_whole(rt, alloc, &mut desk, ("big", 40000, failed));
-    assert_eq!(rt; (desk.faults(), desk.put_faults()), (1, 0), "at {call}");
+    check_same(rt, &(call, desk.faults(), desk.put_faults()), &(call, 1, 0));
     check_whole(rt, alloc, &mut desk, ("big", 40000, Ok(big)));
-    assert_eq!(rt; (desk.faults(), desk.put_faults()), (1, 0), "at {call}");
+    check_same(rt, &(call, desk.faults(), desk.put_faults()), &(call, 1, 0));
     Ok(())
 }
 
@@ -403,14 +397,10 @@ const NO_REAL_PATHS: &[&str] = &["real_desk/none/x", "real_desk/b"];
 fn check_real_puts<D: Desk>(rt: &impl Abort, alloc: Global, desk: &mut D) -> Result<(), Fail> {
     for row in REAL_PATHS {
         let path = *row;
-        assert!(rt;
-            desk.put(alloc, path, b"longer than hello") == Ok(()),
-            "the put of {path}"
-        );
-        assert!(rt;
-            desk.put(alloc, path, b"hello") == Ok(()),
-            "the put of {path}"
-        );
+        for bytes in [b"longer than hello".as_slice(), b"hello".as_slice()] {
+            let put = desk.put(alloc, path, bytes);
+            check_same(rt, &(path, bytes, put), &(path, bytes, Ok(())));
+        }
     }
     check_list(rt, alloc, desk, "real_desk", &["b", "b-c", "b.yaml"])?;
     check_list(rt, alloc, desk, "real_desk/b", &[])
@@ -432,12 +422,12 @@ fn check_real_faults<D: Desk>(rt: &impl Abort, alloc: Global, desk: &mut D) {
     for row in NO_REAL_FOLDERS {
         let folder = *row;
         let missing = desk.list(alloc, folder).err();
-        assert_eq!(rt; missing, Some(DeskFault::Missing), "in {folder}");
+        check_same(rt, &(folder, missing), &(folder, Some(DeskFault::Missing)));
     }
     for row in NO_REAL_PATHS {
         let path = *row;
         let got = desk.put(alloc, path, b"1");
-        assert!(rt; got == Err(DeskFault::Failed), "the put of {path}");
+        check_same(rt, &(path, got), &(path, Err(DeskFault::Failed)));
     }
 }
 
@@ -459,10 +449,8 @@ fn desks_of_the_machine(rt: HostRuntime) -> Result<(), Fail> {
 fn put_many<D: Desk>(rt: &impl Abort, alloc: Global, desk: &mut D) -> Result<(), Fail> {
     for k in 0..500u32 {
         let path = format!(in alloc; "long_folder/a_rather_long_name_of_a_file_{k:03}")?;
-        assert!(rt;
-            desk.put(alloc, path.as_str(), b"x") == Ok(()),
-            "the put of {path}"
-        );
+        let put = desk.put(alloc, path.as_str(), b"x");
+        check_same(rt, &(path.as_str(), put), &(path.as_str(), Ok(())));
     }
     Ok(())
 }
@@ -557,8 +545,9 @@ fn check_slow_says(rt: &impl Abort, alloc: Global, row: &SlowRow) {
         refused,
     });
     let answers = (sink.say(alloc, b"abcd"), sink.say(alloc, b"efgh"));
-    assert_eq!(rt; answers, (first, second), "at {interrupted} and {refused}");
-    assert_eq!(rt; got.as_slice(), wanted, "at {interrupted} and {refused}");
+    let wanted_answers = (first, second);
+    check_same(rt, &(interrupted, refused, answers), &(interrupted, refused, wanted_answers));
+    check_same(rt, &(interrupted, refused, got.as_slice()), &(interrupted, refused, wanted));
 }
 
 #[test]

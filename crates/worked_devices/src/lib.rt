@@ -9,3 +9,5 @@
 mod devices;
 #[cfg(test)]
 mod plain;
+#[cfg(test)]
+mod same;

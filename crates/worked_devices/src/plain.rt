@@ -1,4 +1,5 @@
 // Plain texts, lists and exact copies.
+use crate::same::check_same;
 use plain_data::{Duplicate, List, Same, Word};
 use std::alloc::Global;
 use std::cmp::Ordering;
@@ -13,7 +14,7 @@ fn check_word(rt: &impl Abort, alloc: Global, text: &str) -> Result<(), Fail> {
     assert_eq!(rt; word.as_str(), text);
     let copy = word.clone()?;
     assert_eq!(rt; copy.as_str(), text);
-    assert!(rt; copy == word, "the clone of {text:?}");
+    check_same(rt, &(text, copy == word), &(text, true));
     let printed = word.to_string(alloc)?;
     assert_eq!(rt; printed.as_str(), text);
     Ok(())
@@ -33,9 +34,11 @@ const RISING: &[&str] = &[
 
 /// Words that rise by their bytes.
 fn check_order(rt: &impl Abort, a: &Word, b: &Word, wanted: Ordering) {
-    assert_eq!(rt; a.cmp(b), wanted, "{a} against {b}");
-    assert_eq!(rt; a.partial_cmp(b), Some(wanted), "{a} against {b}");
-    assert_eq!(rt; a == b, wanted == Ordering::Equal, "{a} and {b}");
+    let (left, right) = (a.as_str(), b.as_str());
+    let equal = wanted == Ordering::Equal;
+    check_same(rt, &(left, right, a.cmp(b)), &(left, right, wanted));
+    check_same(rt, &(left, right, a.partial_cmp(b)), &(left, right, Some(wanted)));
+    check_same(rt, &(left, right, a == b), &(left, right, equal));
 }
 
 #[test]
@@ -75,12 +78,12 @@ fn words_are_hashed_by_their_texts(rt: HostRuntime) -> Result<(), Fail> {
     for row in PUT {
         let (text, is_new) = *row;
         let added = set.insert(Word::new(alloc, text)?)?;
-        assert_eq!(rt; added, is_new, "at {text:?}");
+        check_same(&rt, &(text, added), &(text, is_new));
     }
     for row in LOOKED_UP {
         let (text, is_there) = *row;
         let word = Word::new(alloc, text)?;
-        assert_eq!(rt; set.contains(&word), is_there, "at {text:?}");
+        check_same(&rt, &(text, set.contains(&word)), &(text, is_there));
     }
     Ok(())
 }
@@ -129,8 +132,8 @@ fn check_exact<T: Duplicate + Same>(
     for (i, a) in values.iter().enumerate() {
         let copy = a.duplicate(alloc)?;
         for (j, b) in values.iter().enumerate() {
-            assert_eq!(rt; copy.same(b), i == j, "{topic}: the copy of {i} and {j}");
-            assert_eq!(rt; a.same(b), i == j, "{topic}: {i} and {j}");
+            let got = (topic, i, j, copy.same(b), a.same(b));
+            check_same(rt, &got, &(topic, i, j, i == j, i == j));
         }
     }
     Ok(())

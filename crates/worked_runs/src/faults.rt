@@ -2,7 +2,7 @@
 use crate::checks::{
     NO_FILES, RECIPE_PATH, ZLIB, ZLIB_LOCK, ZLIB_WORDS, check_done, holds, words_of,
 };
-use concretizer::{Log, Status, run};
+use concretizer::{Log, Status, Untold, run};
 use outside_desk::{MemoryDesk, MemorySink};
 use std::alloc::{AllocError, Global};
 use std::process::Abort;
@@ -75,7 +75,7 @@ pub fn check_zlib_or_no_memory<R: AllocGlobal + Print + Abort + Threads + Sync>(
     let mut out = MemorySink::new(alloc);
     let mut err = MemorySink::new(alloc);
     let mut kept = Log::new(alloc);
-    let status = run(rt, alloc, &words, &mut desk, &mut out, &mut err, &mut kept);
+    let status = run(rt, alloc, &words, &mut desk, &mut out, &mut err, &mut kept, &mut Untold);
     check_other_files(rt, &desk);
     if status == Status::NoMemory {
         check_no_memory(rt, &desk, out.said(), err.said())

@@ -1,4 +1,5 @@
 // Where a text that is no set goes wrong, by a second definition and by brute force.
+use crate::same::check_same;
 use std::alloc::{AllocError, Global};
 use std::process::Abort;
 use std::test::Fail;
@@ -120,11 +121,11 @@ fn wanted_fault(text: &[u8], longest: usize) -> Option<VersionSetFault> {
 fn check_text(rt: &impl Abort, alloc: Global, text: &[u8]) -> Result<(), AllocError> {
     let longest = longest_front(alloc, text)?;
     let (front, whole) = list_front(text);
-    assert_eq!(rt; front, longest, "the longest front of {text:?}");
+    check_same(rt, &(text, front), &(text, longest));
     let wanted = wanted_fault(text, longest);
-    assert_eq!(rt; fault_of(alloc, text), wanted, "the fault of {text:?}");
+    check_same(rt, &(text, fault_of(alloc, text)), &(text, wanted));
     if longest == text.len() {
-        assert_eq!(rt; whole, is_list(text), "whether {text:?} is a list");
+        check_same(rt, &(text, whole), &(text, is_list(text)));
     }
     Ok(())
 }

@@ -8,7 +8,7 @@ use Rattle.optimum_search.proofs.Settling.{searching-model, certified, first-ref
 use Rattle.optimum_search.proofs.descent.search_by_numbers.Goals as goal
 
 pub returns-in-Refuted-clause-found : goal.returns-in-Refuted-clause-found
-returns-in-Refuted-clause-found c =
+returns-in-Refuted-clause-found g c =
     let s = c.args.clauses.now in
     let t = c.in_ok-solver.solver in
     let u = c.solve.new.self in
@@ -28,7 +28,7 @@ returns-in-Refuted-clause-found c =
     )
 
 pub returns-in-Spent-clause-found : goal.returns-in-Spent-clause-found
-returns-in-Spent-clause-found c =
+returns-in-Spent-clause-found g c =
     let s = c.args.clauses.now in
     let t = c.in_ok-solver.solver in
     let u = c.solve.new.self in
@@ -40,7 +40,7 @@ returns-in-Spent-clause-found c =
     (none-first s _ t e) c.in_ok-solve.ensures.log h.0 h.1 c.in_ok-solve.ensures.in_range)
 
 pub loop-at-init : goal.loop-at-init
-loop-at-init c =
+loop-at-init g c =
     let s = c.args.clauses.now in
     let t = c.in_ok-solver.solver in
     let u = c.solve.new.self in
@@ -52,7 +52,7 @@ loop-at-init c =
     }
 
 pub returns-clause-found : goal.returns-clause-found
-returns-clause-found c =
+returns-clause-found g c =
     let u = c.loop-at.solver in
     let i = c.loop-at.invariant in
     certified c.args.clauses.now c.args.bits.now c.args.budget c.loop-at.at u c.from_vec-model.result c.push.new.self i.searching
