@@ -1,0 +1,7 @@
+pub mod Sums
+pub mod Digits
+pub mod Weights
+pub mod Values
+pub mod Tables
+pub mod Criteria
+pub mod Whole
