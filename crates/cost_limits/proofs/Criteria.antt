@@ -36,9 +36,6 @@ use Rattle.cost_limits.proofs.Weights.{IsWithin, rows-in, deprecated-few, versio
 use Rattle.cost_limits.proofs.Values.{values-few}
 use Rattle.cost_limits.proofs.Tables.{run-length, run-sum, eq-same, virtuals-few, Own, own-block, own-edges}
 
-
-
-
 -- ---- variants: what their definitions add
 
 -- terms that weigh one each
@@ -183,8 +180,14 @@ module _ (problem : Problem) (limits : IsWithin problem) (names : List Text) (ri
         k (map (With name) (variant_names problem name)) (λ m w there. variant-top name m w there) in
         let mapped = sum-map (λ (w : Text × List Text). sum_by (λ (r : Row). f r.0) (of_variant w.0 (rows_at problem held name))) (With name) (variant_names problem name) in
         let apart = shared bytes_eq eq-same (λ (r : Row). f r.0) (λ (r : Row). r.0.name) (variant_names problem name) (names-rise name) (rows_at problem held name) in
-        omega (arith, each, mapped, apart, formulas-sum f (variants_at problem name) (held name),
-        sum-flat (λ (t : Weighted). t.weight) (variant_terms terms (rows_at problem held name)) told)
+        omega (
+          arith,
+          each,
+          mapped,
+          apart,
+          formulas-sum f (variants_at problem name) (held name),
+          sum-flat (λ (t : Weighted). t.weight) (variant_terms terms (rows_at problem held name)) told,
+        )
 
     over-top : (name : Text) (m : ℕ)
         → top_said (over_variants_terms terms problem held (block_from m (possible_at problem name))) ≤ sum_by f (variants_at problem (block_from m (possible_at problem name)).name)
@@ -227,17 +230,28 @@ module _ (problem : Problem) (limits : IsWithin problem) (names : List Text) (ri
       let single : count_by (λ provider. bytes_eq provider name) w.1 ≤ 1 =
       once (λ a b. bytes_eq b a) (λ a b is. sym (eq-same b a is)) name 1 w.1 order in
       let each = sum-le-in (λ (c : Text × Lit). provider_weight problem (w.0, c.0)) (λ c. 2 ^ 24) here (λ c there. provider-few problem limits (w.0, c.0)) in
-      omega (arith, each, single, sum-same (2 ^ 24) here, passing-numbered (λ provider. bytes_eq provider name) m w.1,
-      length-filter (λ (provider : Text). bytes_eq provider name) w.1,
-      sum-map (λ (t : Weighted). t.weight) (λ (c : Text × Lit). record { weight = provider_weight problem (w.0, c.0); formula = atom c.1 }) here)
+      omega (
+        arith,
+        each,
+        single,
+        sum-same (2 ^ 24) here,
+        passing-numbered (λ provider. bytes_eq provider name) m w.1,
+        length-filter (λ (provider : Text). bytes_eq provider name) w.1,
+        sum-map (λ (t : Weighted). t.weight) (λ (c : Text × Lit). record { weight = provider_weight problem (w.0, c.0); formula = atom c.1 }) here,
+      )
 
   virtuals-top : (name : Text) (k : ℕ) → top_said (flat_map (virtual_terms problem name) (providers_from k (map Provided (asked_virtuals problem names)))) ≤ 2 ^ 52
   virtuals-top name k =
       let each = run-sum provider_from (λ (w : Text × List Text). length w.1) (λ q. top_said (virtual_terms problem name q)) (λ w. 2 ^ 24) k
       (map Provided (asked_virtuals problem names)) (λ m w there. virtual-top name m w there) in
-      omega (arith, each, virtuals-few problem limits names rising, sum-same (2 ^ 24) (map Provided (asked_virtuals problem names)),
-      length-map (asked_virtuals problem names) Provided,
-      sum-flat (λ (t : Weighted). t.weight) (virtual_terms problem name) (providers_from k (map Provided (asked_virtuals problem names))))
+      omega (
+        arith,
+        each,
+        virtuals-few problem limits names rising,
+        sum-same (2 ^ 24) (map Provided (asked_virtuals problem names)),
+        length-map (asked_virtuals problem names) Provided,
+        sum-flat (λ (t : Weighted). t.weight) (virtual_terms problem name) (providers_from k (map Provided (asked_virtuals problem names))),
+      )
 
   providers : Bounded (provider_terms problem (Own problem names n))
   unfolding table_from plan_of
@@ -262,11 +276,43 @@ module _ (problem : Problem) (limits : IsWithin problem) (names : List Text) (ri
   pub criteria-bounded : EachBounded (criteria_terms problem (Own problem names n) held)
   unfolding criteria_terms
   criteria-bounded =
-      let table = Own problem names n in
-      (deprecated, (at-root (version_terms problem) versions, (at-root (other_values_terms problem held) others,
-      (at-root (provider_terms problem table) providers, (at-root (unused_defaults_terms problem held) unused,
-      (off-root (other_values_terms problem held) others, (off-root (provider_terms problem table) providers,
-      (edges compilers_differ (λ there a b. differ-top is_some_compiler same_compilers there a.compilers b.compilers),
-      (edges os_differ (λ there a b. differ-top is_text bytes_eq there a.os b.os),
-      (systems, (off-root (version_terms problem) versions, (off-root (unused_defaults_terms problem held) unused, (compilers,
-      (edges targets_differ (λ there a b. differ-top is_text bytes_eq there a.targets b.targets), (targets, tt)))))))))))))))
+      let table = Own problem names n in (
+        deprecated,
+        (
+          at-root (version_terms problem) versions,
+          (
+            at-root (other_values_terms problem held) others,
+            (
+              at-root (provider_terms problem table) providers,
+              (
+                at-root (unused_defaults_terms problem held) unused,
+                (
+                  off-root (other_values_terms problem held) others,
+                  (
+                    off-root (provider_terms problem table) providers,
+                    (
+                      edges compilers_differ (λ there a b. differ-top is_some_compiler same_compilers there a.compilers b.compilers),
+                      (
+                        edges os_differ (λ there a b. differ-top is_text bytes_eq there a.os b.os),
+                        (
+                          systems,
+                          (
+                            off-root (version_terms problem) versions,
+                            (
+                              off-root (unused_defaults_terms problem held) unused,
+                              (
+                                compilers,
+                                (edges targets_differ (λ there a b. differ-top is_text bytes_eq there a.targets b.targets), (targets, tt)),
+                              ),
+                            ),
+                          ),
+                        ),
+                      ),
+                    ),
+                  ),
+                ),
+              ),
+            ),
+          ),
+        ),
+      )

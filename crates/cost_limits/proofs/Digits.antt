@@ -28,8 +28,12 @@ doubled unit k = rw (mul_comm 2 unit) (mul_assoc unit 2 (2 ^ k) ∙ ap (λ p. un
 digits-top : (k unit : ℕ) (choices : Choices ℕ) → top_said (digit_terms k unit choices) + unit ≡ unit * 2 ^ k
 digits-top zero unit choices = omega arith
 digits-top (suc k) unit choices =
-    omega (arith, doubled unit k, digits-top k (2 * unit) (weighed half_of choices),
-    sum_by-cons (λ (t : Weighted). t.weight) (record { weight = unit; formula = any_choice is_odd choices }) (digit_terms k (2 * unit) (weighed half_of choices)))
+    omega (
+      arith,
+      doubled unit k,
+      digits-top k (2 * unit) (weighed half_of choices),
+      sum_by-cons (λ (t : Weighted). t.weight) (record { weight = unit; formula = any_choice is_odd choices }) (digit_terms k (2 * unit) (weighed half_of choices)),
+    )
 
 -- a number has no more digits than it needs
 size-top : (k n : ℕ) → ((n ≡ 0) × (size_below k n ≡ 0)) ⊎ (2 ^ size_below k n ≤ 2 * n)

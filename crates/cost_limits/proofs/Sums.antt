@@ -92,8 +92,12 @@ module _ (same : Text → Text → Bool) (exact : (a b : Text) → same a b ≡ 
     pub found : (ks : List Text) → IsInByteOrder ks → (xs : List X)
         → sum_by (λ k. adds_or_none f (find (λ x. same (key x) k) xs)) ks ≤ sum_by f xs
     found ks rising xs =
-        omega (arith, sum-le-in (λ k. adds_or_none f (find (λ x. same (key x) k) xs)) (λ k. sum_by f (filter (λ x. same (key x) k) xs)) ks
-        (λ k there. first-of k xs), shared ks rising xs)
+        omega (
+          arith,
+          sum-le-in (λ k. adds_or_none f (find (λ x. same (key x) k) xs)) (λ k. sum_by f (filter (λ x. same (key x) k) xs)) ks
+              (λ k there. first-of k xs),
+          shared ks rising xs,
+        )
       where
         first-of : (k : Text) (ys : List X) → adds_or_none f (find (λ x. same (key x) k) ys) ≤ sum_by f (filter (λ x. same (key x) k) ys)
         first-of k [] = omega arith

@@ -97,9 +97,15 @@ module _ (problem : Problem) (limits : IsWithin problem) (names : List Text) (ri
       let each = sum-le-in (λ name. length (filter_map (λ (row : DependRow). row.part.name) (depends_at problem name)))
       (λ name. length (depends_at problem name)) names (λ name there. filter_map-le (λ (row : DependRow). row.part.name) (depends_at problem name)) in
       let all = rows-shared (λ recipe. recipe.depends) (λ recipe. omega arith) in
-      omega (arith, each, all, texts-few [] (filter (is_virtual problem.recipes) asked), length-filter (is_virtual problem.recipes) asked,
-      count_by-le-length (is_virtual problem.recipes) asked,
-      length-flat_map (λ name. filter_map (λ (row : DependRow). row.part.name) (depends_at problem name)) names)
+      omega (
+        arith,
+        each,
+        all,
+        texts-few [] (filter (is_virtual problem.recipes) asked),
+        length-filter (is_virtual problem.recipes) asked,
+        count_by-le-length (is_virtual problem.recipes) asked,
+        length-flat_map (λ name. filter_map (λ (row : DependRow). row.part.name) (depends_at problem name)) names,
+      )
 
 -- ---- the table
 
@@ -133,5 +139,10 @@ module _ (problem : Problem) (names : List Text) (n : ℕ) where
   unfolding table_from plan_of possible_edges
   own-edges few =
       let test = λ (pair : Text × Text). among (next_names problem pair.0) pair.1 in
-      omega (arith, pairs-few names few, length-filter test (pairs_of names), count_by-le-length test (pairs_of names),
-      run-length edge_from (λ pair. 3) (n + widths (map (possible_at problem) names)) (filter test (pairs_of names)))
+      omega (
+        arith,
+        pairs-few names few,
+        length-filter test (pairs_of names),
+        count_by-le-length test (pairs_of names),
+        run-length edge_from (λ pair. 3) (n + widths (map (possible_at problem) names)) (filter test (pairs_of names)),
+      )

@@ -191,16 +191,23 @@ module _ (problem : Problem) (limits : IsWithin problem) where
   declared-few : (name : Text) → length (Declared problem name) + length (Defaults problem name) ≤ 2 ^ 28
   declared-few name =
       let members = rows-in problem limits (λ recipe. recipe.variants) (sum_by set_members) refl (λ recipe. omega arith) name in
-      omega (arith, members, length-flat_map (λ (r : VariantRow). r.values) (variants_at problem name),
-      length-flat_map (λ (r : VariantRow). r.default) (variants_at problem name),
-      sum-add (λ (r : VariantRow). length r.values) (λ (r : VariantRow). length r.default) (variants_at problem name))
+      omega (
+        arith,
+        members,
+        length-flat_map (λ (r : VariantRow). r.values) (variants_at problem name),
+        length-flat_map (λ (r : VariantRow). r.default) (variants_at problem name),
+        sum-add (λ (r : VariantRow). length r.values) (λ (r : VariantRow). length r.default) (variants_at problem name),
+      )
 
   written-of : (name : Text) (o : Option PackageEntry) → find (λ entry. bytes_eq entry.name name) problem.settings.packages ≡ o
       → sum_by external_members (externals_in o) ≤ settings_size problem
   written-of name None is = omega arith
   written-of name (Some entry) is =
-      omega (arith, sum-at size_of_package problem.settings.packages entry
-      (found-there (λ (e : PackageEntry). bytes_eq e.name name) problem.settings.packages entry is).0)
+      omega (
+        arith,
+        sum-at size_of_package problem.settings.packages entry
+            (found-there (λ (e : PackageEntry). bytes_eq e.name name) problem.settings.packages entry is).0,
+      )
 
   written-in : (name : Text) → sum_by external_members (externals_in (entry_of problem name)) ≤ settings_size problem
   unfolding entry_of
@@ -220,6 +227,13 @@ module _ (problem : Problem) (limits : IsWithin problem) where
 
   pub values-few : (name variant : Text) → length (variant_values problem name variant) ≤ 2 ^ 29
   values-few name variant =
-      omega (arith, values-within problem name variant, declared-few name, written-few name, recorded-few,
-      length-append (Declared problem name ++ Defaults problem name) (Written problem name ++ Recorded problem),
-      length-append (Declared problem name) (Defaults problem name), length-append (Written problem name) (Recorded problem))
+      omega (
+        arith,
+        values-within problem name variant,
+        declared-few name,
+        written-few name,
+        recorded-few,
+        length-append (Declared problem name ++ Defaults problem name) (Written problem name ++ Recorded problem),
+        length-append (Declared problem name) (Defaults problem name),
+        length-append (Written problem name) (Recorded problem),
+      )

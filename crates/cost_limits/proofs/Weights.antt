@@ -94,5 +94,9 @@ module _ (problem : Problem) (limits : IsWithin problem) where
       by : (o : Option (Text × List Text)) → find (λ q. bytes_eq q.0 p.0) problem.settings.providers ≡ o
           → position_or_len (bytes_eq p.1) (packages_in o) ≤ 2 ^ 24
       by None is = omega arith
-      by (Some q) is = omega (arith, limits.settings, place-le (bytes_eq p.1) q.1,
-          sum-at provider_names problem.settings.providers q (found-there (λ (r : Text × List Text). bytes_eq r.0 p.0) problem.settings.providers q is).0)
+      by (Some q) is = omega (
+        arith,
+        limits.settings,
+        place-le (bytes_eq p.1) q.1,
+        sum-at provider_names problem.settings.providers q (found-there (λ (r : Text × List Text). bytes_eq r.0 p.0) problem.settings.providers q is).0,
+      )
