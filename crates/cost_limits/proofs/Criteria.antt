@@ -1,14 +1,14 @@
 -- What one block of a problem's own table adds to each criterion, at most.
-use Rattle.std.proofs.Common.{◌≡◌, refl, sym, ap, subst, ◌∙◌, ℕ, ◌+◌, ◌*◌, ◌^◌, ◌≤◌, Bool, true, false, not, cond, List, [], ◌∷◌, map, length, Option, Some, None, Contains, arith, lit<}
-use Rattle.std.specs.List.{filter, flat_map, sum_by, count_by}
+use Rattle.std.proofs.Common.{◌≡◌, refl, sym, ap, subst, ℕ, ◌+◌, ◌*◌, ◌^◌, ◌≤◌, Bool, true, false, cond, List, [], ◌∷◌, map, length, Contains, arith, lit<}
+use Rattle.std.specs.List.{flat_map, sum_by, count_by}
 use Rattle.std.specs.Str.{bytes_eq}
 use Rattle.std.proofs.lemmas.List.{length-map}
 use Rattle.std.proofs.lemmas.List.Kept.{IsStrictlySortedBy-filter}
-use Rattle.std.proofs.lemmas.List.Sums.{sum_by-cons, length-filter, count_by-le-length}
+use Rattle.std.proofs.lemmas.List.Sums.{length-filter}
 use Rattle.reachability.proofs.CountLaws.{image_of}
 use Rattle.variant_values.specs.Texts.{byte_cmp, IsInByteOrder}
 use Rattle.clause_store.specs.declared.Lit.{Lit}
-use Rattle.clause_formulas.specs.Statements.{Statement, atom, no, both, any_of, all_of}
+use Rattle.clause_formulas.specs.Statements.{Statement, atom}
 use Rattle.graph_core.specs.Graphs.{Text}
 use Rattle.conditions.specs.declared.recipe.VariantRow.{VariantRow}
 use Rattle.condition_rules.specs.Words.{among}
@@ -17,103 +17,29 @@ use Rattle.problem.specs.Closure.{possible_providers}
 use Rattle.graph_costs.specs.Weights.{version_weight, is_deprecated, os_weight, target_weight, compiler_weight, provider_weight}
 use Rattle.possible_closure.proofs.Lists.{none_in_order, texts_in_order}
 use Rattle.table_plan.specs.Plans.{variant_names, variant_values, possible_at, asked_virtuals, possible_packages, plan_of}
-use Rattle.literal_table.specs.Choices.{Choices, passing, any_choice}
-use Rattle.literal_table.specs.Tables.{Table, block_of}
+use Rattle.literal_table.specs.Choices.{Choices, passing}
 use Rattle.literal_table.specs.declared.block.Block.{Block}
-use Rattle.literal_table.specs.declared.block.EdgeLits.{EdgeLits}
-use Rattle.literal_table.specs.declared.block.ProviderLits.{ProviderLits}
 use Rattle.table_numbers.specs.Numbers.{lit_of, width_of, widths, numbered, variants_from, block_from, provider_from, providers_from, table_from}
 use Rattle.formula_totals.specs.declared.weighted.Weighted.{Weighted}
 use Rattle.formula_totals.specs.Weighed.{top_said}
-use Rattle.choice_terms.specs.Differ.{differ_said, differ_terms, can_differ, is_text, is_some_compiler, same_compilers}
-use Rattle.cost_terms.specs.Governing.{Row, with_formulas, of_variant, formulas_of, governing_rows, once as once_term, other_terms, unused_terms, variant_terms}
-use Rattle.cost_terms.specs.Terms.{Held, is_root_name, at_root_terms, off_root_terms, presence_terms, deprecated_terms, version_terms, os_terms, target_terms, compiler_terms, rows_at, over_variants_terms, other_values_terms, unused_defaults_terms, virtual_terms, provider_terms, edge_said, child_terms, edge_terms, edges_terms, compilers_differ, os_differ, targets_differ, criteria_terms}
+use Rattle.choice_terms.specs.Differ.{is_text, is_some_compiler, same_compilers}
+use Rattle.cost_terms.specs.Governing.{Row, of_variant, other_terms, unused_terms, variant_terms}
+use Rattle.cost_terms.specs.Terms.{Held, is_root_name, at_root_terms, off_root_terms, presence_terms, deprecated_terms, version_terms, os_terms, target_terms, compiler_terms, rows_at, over_variants_terms, other_values_terms, unused_defaults_terms, virtual_terms, provider_terms, edges_terms, compilers_differ, os_differ, targets_differ, criteria_terms}
 use Rattle.cost_terms.proofs.Lists.{sum-map, sum-flat}
 use Rattle.problem_limits.specs.Limits.{set_members}
-use Rattle.cost_limits.proofs.Sums.{sum-le-in, sum-ones, sum-same, once, shared}
+use Rattle.cost_limits.proofs.Sums.{sum-le-in, sum-same, once, shared}
 use Rattle.cost_limits.proofs.Digits.{weights-top}
 use Rattle.cost_limits.proofs.Weights.{IsWithin, rows-in, deprecated-few, version-few, os-few, target-few, compiler-few, provider-few}
 use Rattle.cost_limits.proofs.Values.{values-few}
 use Rattle.cost_limits.proofs.Tables.{run-length, run-sum, eq-same, virtuals-few, Own, own-block, own-edges}
+use Rattle.cost_limits.proofs.Terms.{other-top, unused-top, governing-top, formulas-sum, differ-top, edges-top, passing-numbered}
 
--- ---- variants: what their definitions add
-
--- terms that weigh one each
-ones-top : {X : Type 0} (said : X → Statement) (xs : List X) → top_said (map (λ x. once_term (said x)) xs) ≡ length xs
-ones-top said xs = sum-map (λ (t : Weighted). t.weight) (λ x. once_term (said x)) xs ∙ sum-ones xs
-
-other-top : (r : Row) (values : Choices Text) → top_said (other_terms r values) ≤ length values
-other-top r values =
-    let test = λ (c : Text × Lit). not (among r.0.default c.0) in
-    omega (arith, ones-top (λ (c : Text × Lit). both (atom c.1) r.1) (filter test values), length-filter test values, count_by-le-length test values)
-
-unused-top : (r : Row) (values : Choices Text) → top_said (unused_terms r values) ≤ length r.0.default
-unused-top r values =
-    omega (arith, ones-top (λ (text : Text). all_of (any_choice (λ value. true) values ∷ r.1 ∷ no (any_choice (bytes_eq text) values) ∷ [])) r.0.default)
-
-module _ (terms : Row → Choices Text → List Weighted) (f : VariantRow → ℕ) where
-  governing-sum : (values : Choices Text) → ((r : Row) → top_said (terms r values) ≤ f r.0) → (rs : List Row)
-      → sum_by (λ r. top_said (terms r values)) (governing_rows rs) ≤ sum_by (λ (r : Row). f r.0) rs
-  governing-sum values le [] = omega arith
-  governing-sum values le (r ∷ rs) =
-      let governs : Row = (r.0, both r.1 (no (any_of (formulas_of rs)))) in
-      let here = le governs in
-      let rest = governing-sum values le rs in
-      omega (arith, here, rest, sum_by-cons (λ (s : Row). top_said (terms s values)) governs (governing_rows rs), sum_by-cons (λ (s : Row). f s.0) r rs)
-
-  governing-top : (values : Choices Text) → ((r : Row) → top_said (terms r values) ≤ f r.0) → (rs : List Row)
-      → top_said (flat_map (λ r. terms r values) (governing_rows rs)) ≤ sum_by (λ (r : Row). f r.0) rs
-  governing-top values le rs =
-      omega (arith, governing-sum values le rs, sum-flat (λ (t : Weighted). t.weight) (λ r. terms r values) (governing_rows rs))
-
-formulas-sum : (f : VariantRow → ℕ) (rows : List VariantRow) (fs : List Statement) → sum_by (λ (r : Row). f r.0) (with_formulas rows fs) ≤ sum_by f rows
-formulas-sum f [] fs = omega arith
-formulas-sum f (row ∷ rows) [] = omega arith
-formulas-sum f (row ∷ rows) (said ∷ fs) =
-    let pair : Row = (row, said) in
-    omega (arith, formulas-sum f rows fs, sum_by-cons (λ (r : Row). f r.0) pair (with_formulas rows fs), sum_by-cons f row rows)
-
--- ---- edges
-
-differ-top : {T : Type 0} (filled : T → Bool) (same : T → T → Bool) (there : Statement) (xs ys : Choices T)
-    → top_said (differ_terms filled same there xs ys) ≤ 1
-differ-top filled same there xs ys = by (can_differ filled same xs ys)
-  where
-    by : (b : Bool) → top_said (cond b (record { weight = 1; formula = differ_said filled same there xs ys } ∷ []) []) ≤ 1
-    by true = omega arith
-    by false = omega arith
-
-edge-top : (terms : Statement → Block → Block → List Weighted) → ((there : Statement) (a b : Block) → top_said (terms there a b) ≤ 1)
-    → (table : Table) (b : Block) (e : EdgeLits) → top_said (edge_terms terms table b e) ≤ 1
-edge-top terms le table b e = by (bytes_eq e.parent b.name) (block_of table e.child)
-  where
-    by : (c : Bool) (o : Option Block) → top_said (cond c (child_terms terms (edge_said e) b o) []) ≤ 1
-    by true None = omega arith
-    by true (Some child) = le (edge_said e) b child
-    by false o = omega arith
-
-edges-top : (terms : Statement → Block → Block → List Weighted) → ((there : Statement) (a b : Block) → top_said (terms there a b) ≤ 1)
-    → (table : Table) (b : Block) → top_said (edges_terms terms table b) ≤ length table.edges
-edges-top terms le table b =
-    let each = sum-le-in (λ e. top_said (edge_terms terms table b e)) (λ e. 1) table.edges (λ e there. edge-top terms le table b e) in
-    omega (arith, each, sum-ones table.edges, sum-flat (λ (t : Weighted). t.weight) (edge_terms terms table b) table.edges)
-
--- ---- providers
-
-passing-numbered : (test : Text → Bool) (m : ℕ) (xs : List Text) → length (passing test (numbered m xs)) ≡ length (filter test xs)
-passing-numbered test m [] = refl
-passing-numbered test m (x ∷ xs) = by (passing-numbered test (m + 1) xs) (test x)
-  where
-    by : length (passing test (numbered (m + 1) xs)) ≡ length (filter test xs) → (b : Bool)
-        → length (cond b ((x, lit_of m) ∷ passing test (numbered (m + 1) xs)) (passing test (numbered (m + 1) xs)))
-        ≡ length (cond b (x ∷ filter test xs) (filter test xs))
-    by rest true = omega arith
-    by rest false = rest
-
-module _ (problem : Problem) (limits : IsWithin problem) (names : List Text) (rising : IsInByteOrder names) (few : length names ≤ 1024) (n : ℕ) (held : Held) where
+module _ (problem : Problem) (limits : IsWithin problem) (names : List Text) (rising : IsInByteOrder names) (few : length names ≤ 1024)
+    (n : ℕ) (held : Held) where
   -- the bound of all criteria: by the definitions of variants, and what is left
   abbrev pub Bounded : (Block → List Weighted) → Type 0
-  Bounded terms = (b : Block) → Contains (Own problem names n).blocks b → top_said (terms b) ≤ length (variants_at problem b.name) * 2 ^ 29 + 2 ^ 52
+  Bounded terms = (b : Block) → Contains (Own problem names n).blocks b
+      → top_said (terms b) ≤ length (variants_at problem b.name) * 2 ^ 29 + 2 ^ 52
 
   -- ---- roots, presence and weights
 
@@ -136,10 +62,15 @@ module _ (problem : Problem) (limits : IsWithin problem) (names : List Text) (ri
 
   deprecated : Bounded (deprecated_terms problem)
   deprecated b there =
-      omega (arith, weights-top (λ version. cond (is_deprecated problem b.name version) 1 0) (2 ^ 28) (deprecated-few problem limits b.name) (lit< tt) b.versions)
+      omega (
+        arith,
+        weights-top (λ version. cond (is_deprecated problem b.name version) 1 0) (2 ^ 28) (deprecated-few problem limits b.name)
+            (lit< tt) b.versions,
+      )
 
   versions : Bounded (version_terms problem)
-  versions b there = omega (arith, weights-top (version_weight problem b.name) (2 ^ 28) (version-few problem limits b.name) (lit< tt) b.versions)
+  versions b there =
+      omega (arith, weights-top (version_weight problem b.name) (2 ^ 28) (version-few problem limits b.name) (lit< tt) b.versions)
 
   systems : Bounded (os_terms problem)
   systems b there = omega (arith, weights-top (os_weight problem) (2 ^ 28) (os-few problem limits) (lit< tt) b.os)
@@ -162,24 +93,36 @@ module _ (problem : Problem) (limits : IsWithin problem) (names : List Text) (ri
   module _ (terms : Row → Choices Text → List Weighted) (f : VariantRow → ℕ)
       (le : (r : Row) (values : Choices Text) → length values ≤ 2 ^ 29 → top_said (terms r values) ≤ f r.0) where
     variant-top : (name : Text) (m : ℕ) (w : Text × List Text) → Contains (map (With name) (variant_names problem name)) w
-        → top_said (variant_terms terms (rows_at problem held name) (w.0, numbered m w.1)) ≤ sum_by (λ (r : Row). f r.0) (of_variant w.0 (rows_at problem held name))
+        → top_said (variant_terms terms (rows_at problem held name) (w.0, numbered m w.1)) ≤ sum_by (λ (r : Row). f r.0)
+        (of_variant w.0 (rows_at problem held name))
     variant-top name m w there =
         let from = image_of (With name) (variant_names problem name) w there in
         let same : length (variant_values problem name from.0) ≡ length w.1 = ap (λ (u : Text × List Text). length u.1) from.2 in
         let short : length (numbered m w.1) ≤ 2 ^ 29 =
-        omega (arith, same, values-few problem limits name from.0, run-length (λ (m : ℕ) (x : Text). let c : Text × Lit = (x, lit_of m) in c) (λ x. 1) m w.1) in
+        omega (
+          arith,
+          same,
+          values-few problem limits name from.0,
+          run-length (λ (m : ℕ) (x : Text). let c : Text × Lit = (x, lit_of m) in
+              c) (λ x. 1) m w.1,
+        ) in
         governing-top terms f (numbered m w.1) (λ r. le r (numbered m w.1) short) (of_variant w.0 (rows_at problem held name))
 
     variants-top : (name : Text) (k : ℕ)
-        → top_said (flat_map (variant_terms terms (rows_at problem held name)) (variants_from k (map (With name) (variant_names problem name))))
+        → top_said (flat_map (variant_terms terms (rows_at problem held name))
+        (variants_from k (map (With name) (variant_names problem name))))
         ≤ sum_by f (variants_at problem name)
     variants-top name k =
         let told = variants_from k (map (With name) (variant_names problem name)) in
-        let each = run-sum (λ (m : ℕ) (w : Text × List Text). let u : Text × Choices Text = (w.0, numbered m w.1) in u) (λ (w : Text × List Text). length w.1)
-        (λ u. top_said (variant_terms terms (rows_at problem held name) u)) (λ (w : Text × List Text). sum_by (λ (r : Row). f r.0) (of_variant w.0 (rows_at problem held name)))
+        let each = run-sum (λ (m : ℕ) (w : Text × List Text). let u : Text × Choices Text = (w.0, numbered m w.1) in
+        u) (λ (w : Text × List Text). length w.1)
+        (λ u. top_said (variant_terms terms (rows_at problem held name) u))
+        (λ (w : Text × List Text). sum_by (λ (r : Row). f r.0) (of_variant w.0 (rows_at problem held name)))
         k (map (With name) (variant_names problem name)) (λ m w there. variant-top name m w there) in
-        let mapped = sum-map (λ (w : Text × List Text). sum_by (λ (r : Row). f r.0) (of_variant w.0 (rows_at problem held name))) (With name) (variant_names problem name) in
-        let apart = shared bytes_eq eq-same (λ (r : Row). f r.0) (λ (r : Row). r.0.name) (variant_names problem name) (names-rise name) (rows_at problem held name) in
+        let mapped = sum-map (λ (w : Text × List Text). sum_by (λ (r : Row). f r.0) (of_variant w.0 (rows_at problem held name)))
+        (With name) (variant_names problem name) in
+        let apart = shared bytes_eq eq-same (λ (r : Row). f r.0) (λ (r : Row). r.0.name) (variant_names problem name) (names-rise name)
+        (rows_at problem held name) in
         omega (
           arith,
           each,
@@ -190,16 +133,19 @@ module _ (problem : Problem) (limits : IsWithin problem) (names : List Text) (ri
         )
 
     over-top : (name : Text) (m : ℕ)
-        → top_said (over_variants_terms terms problem held (block_from m (possible_at problem name))) ≤ sum_by f (variants_at problem (block_from m (possible_at problem name)).name)
+        → top_said (over_variants_terms terms problem held (block_from m (possible_at problem name)))
+        ≤ sum_by f (variants_at problem (block_from m (possible_at problem name)).name)
     unfolding block_from possible_at
     over-top name m =
         let p = possible_at problem name in
         variants-top name (m + 1 + width_of p.origins + width_of p.versions)
 
-    over-block : (b : Block) → Contains (Own problem names n).blocks b → top_said (over_variants_terms terms problem held b) ≤ sum_by f (variants_at problem b.name)
+    over-block : (b : Block) → Contains (Own problem names n).blocks b
+        → top_said (over_variants_terms terms problem held b) ≤ sum_by f (variants_at problem b.name)
     over-block b there =
         let own = own-block problem names n b there in
-        subst (λ (c : Block). top_said (over_variants_terms terms problem held c) ≤ sum_by f (variants_at problem c.name)) own.2 (over-top own.1 own.0)
+        subst (λ (c : Block). top_said (over_variants_terms terms problem held c) ≤ sum_by f (variants_at problem c.name)) own.2
+        (over-top own.1 own.0)
 
   others : Bounded (other_values_terms problem held)
   others b there =
@@ -229,7 +175,8 @@ module _ (problem : Problem) (limits : IsWithin problem) (names : List Text) (ri
       let here = passing (λ provider. bytes_eq provider name) (numbered m w.1) in
       let single : count_by (λ provider. bytes_eq provider name) w.1 ≤ 1 =
       once (λ a b. bytes_eq b a) (λ a b is. sym (eq-same b a is)) name 1 w.1 order in
-      let each = sum-le-in (λ (c : Text × Lit). provider_weight problem (w.0, c.0)) (λ c. 2 ^ 24) here (λ c there. provider-few problem limits (w.0, c.0)) in
+      let each = sum-le-in (λ (c : Text × Lit). provider_weight problem (w.0, c.0)) (λ c. 2 ^ 24) here
+      (λ c there. provider-few problem limits (w.0, c.0)) in
       omega (
         arith,
         each,
@@ -237,10 +184,15 @@ module _ (problem : Problem) (limits : IsWithin problem) (names : List Text) (ri
         sum-same (2 ^ 24) here,
         passing-numbered (λ provider. bytes_eq provider name) m w.1,
         length-filter (λ (provider : Text). bytes_eq provider name) w.1,
-        sum-map (λ (t : Weighted). t.weight) (λ (c : Text × Lit). record { weight = provider_weight problem (w.0, c.0); formula = atom c.1 }) here,
+        sum-map (λ (t : Weighted). t.weight) (λ (c : Text × Lit). record {
+          weight = provider_weight problem (w.0, c.0);
+          formula =
+              atom c.1;
+        }) here,
       )
 
-  virtuals-top : (name : Text) (k : ℕ) → top_said (flat_map (virtual_terms problem name) (providers_from k (map Provided (asked_virtuals problem names)))) ≤ 2 ^ 52
+  virtuals-top : (name : Text) (k : ℕ) → top_said
+      (flat_map (virtual_terms problem name) (providers_from k (map Provided (asked_virtuals problem names)))) ≤ 2 ^ 52
   virtuals-top name k =
       let each = run-sum provider_from (λ (w : Text × List Text). length w.1) (λ q. top_said (virtual_terms problem name q)) (λ w. 2 ^ 24) k
       (map Provided (asked_virtuals problem names)) (λ m w there. virtual-top name m w there) in

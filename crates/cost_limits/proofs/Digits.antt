@@ -1,20 +1,16 @@
 -- What the terms of choices add up to.
 use Prim.Native.Nat.{suc, zero}
-use Rattle.std.proofs.Common.{◌≡◌, refl, sym, ap, ◌∙◌, ℕ, ◌+◌, ◌*◌, ◌/◌, ◌^◌, ◌<◌, ◌≤◌, Bool, true, false, cond, List, [], ◌∷◌, map, Contains, max, eqb, sum_by, ◌⊎◌, inl, inr, ⊎_elim, arith, pow-suc}
+use Rattle.std.proofs.Common.{◌≡◌, refl, sym, ap, ◌∙◌, ℕ, ◌+◌, ◌*◌, ◌/◌, ◌^◌, ◌<◌, ◌≤◌, Bool, true, false, cond, List, [], ◌∷◌, map, eqb, ◌⊎◌, inl, inr, ⊎_elim, arith, pow-suc}
 use Rattle.std.specs.List.{list_all, list_any}
-use Rattle.std.proofs.Math.Dec.{ltb}
 use Rattle.std.proofs.Math.Nat.{mul_comm, mul_assoc}
 use Rattle.std.proofs.lemmas.Bool.{cases_eq, eqb-true, eqb-false, lt-ltb}
 use Rattle.std.proofs.lemmas.List.Sums.{sum_by-cons}
-use Rattle.reachability.proofs.CountLaws.{has_first, has_later}
-use Rattle.clause_store.specs.declared.Lit.{Lit}
 use Rattle.clause_circuits.specs.Binary.{size, size_below}
-use Rattle.clause_formulas.specs.Statements.{Statement}
 use Rattle.graph_core.specs.declared.node.Origin.{Origin}
 use Rattle.literal_table.specs.Choices.{Choices, any_choice}
 use Rattle.formula_totals.specs.declared.weighted.Weighted.{Weighted}
 use Rattle.formula_totals.specs.Weighed.{top_said}
-use Rattle.choice_terms.specs.Spread.{weighed, is_odd, half_of, digit_terms, plain_terms, greatest, spread}
+use Rattle.choice_terms.specs.Spread.{weighed, is_odd, half_of, digit_terms, greatest, spread}
 use Rattle.choice_terms.specs.Parts.{part_said, only_where, is_of, in_part}
 use Rattle.cost_terms.specs.Terms.{weight_terms}
 use Rattle.cost_terms.proofs.Lists.{sum-map}
@@ -32,7 +28,8 @@ digits-top (suc k) unit choices =
       arith,
       doubled unit k,
       digits-top k (2 * unit) (weighed half_of choices),
-      sum_by-cons (λ (t : Weighted). t.weight) (record { weight = unit; formula = any_choice is_odd choices }) (digit_terms k (2 * unit) (weighed half_of choices)),
+      sum_by-cons (λ (t : Weighted). t.weight) (record { weight = unit; formula = any_choice is_odd choices })
+          (digit_terms k (2 * unit) (weighed half_of choices)),
     )
 
 -- a number has no more digits than it needs
@@ -59,11 +56,13 @@ size-is n = size-top 63 n
 spread-top : (choices : Choices ℕ) → greatest choices < 2 ^ 63 → top_said (spread choices) ≤ 2 * greatest choices
 unfolding spread
 spread-top choices small = rw (lt-ltb (greatest choices) (2 ^ 63) small) (⊎_elim
-    (λ none. let one : 2 ^ size (greatest choices) ≡ 1 = ap (λ j. 2 ^ j) none.1 in omega (arith, digits-top (size (greatest choices)) 1 choices))
+    (λ none. let one : 2 ^ size (greatest choices) ≡ 1 = ap (λ j. 2 ^ j) none.1 in
+    omega (arith, digits-top (size (greatest choices)) 1 choices))
     (λ some. omega (arith, digits-top (size (greatest choices)) 1 choices))
     (size-is (greatest choices)))
 
-greatest-top : {T : Type 0} (weight : T → ℕ) (most : ℕ) → ((x : T) → weight x ≤ most) → (choices : Choices T) → greatest (weighed weight choices) ≤ most
+greatest-top : {T : Type 0} (weight : T → ℕ) (most : ℕ) → ((x : T) → weight x ≤ most) → (choices : Choices T)
+    → greatest (weighed weight choices) ≤ most
 greatest-top weight most le [] = omega arith
 greatest-top weight most le (c ∷ cs) = omega (arith, le c.0, greatest-top weight most le cs)
 
@@ -77,7 +76,8 @@ weights-top weight most le small choices =
 
 pub part-top : (built : Bool) (origins : Choices Origin) (ts : List Weighted) → top_said (in_part built origins ts) ≤ top_said ts
 unfolding in_part
-part-top built origins ts = by (list_all (λ c. is_of built c.0) origins) (list_any (λ c. is_of built c.0) origins) (map (only_where (part_said built origins)) ts)
+part-top built origins ts = by (list_all (λ c. is_of built c.0) origins) (list_any (λ c. is_of built c.0) origins)
+    (map (only_where (part_said built origins)) ts)
     (sum-map (λ (t : Weighted). t.weight) (only_where (part_said built origins)) ts)
   where
     by : (a b : Bool) (us : List Weighted) → top_said us ≡ top_said ts → top_said (cond a ts (cond b us [])) ≤ top_said ts

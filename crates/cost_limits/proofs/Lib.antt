@@ -3,5 +3,6 @@ pub mod Digits
 pub mod Weights
 pub mod Values
 pub mod Tables
+pub mod Terms
 pub mod Criteria
 pub mod Whole

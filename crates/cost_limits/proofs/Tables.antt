@@ -1,6 +1,6 @@
 -- How much the table of a problem's own plan has.
-use Rattle.std.proofs.Common.{◌≡◌, refl, sym, ap, subst, ◌∙◌, ℕ, ◌+◌, ◌*◌, ◌^◌, ◌≤◌, Bool, true, false, cond, List, [], ◌∷◌, map, length, Option, Some, None, Contains, ⊎_elim, arith}
-use Rattle.std.specs.List.{filter, filter_map, cons_option, flat_map, sum_by, count_by}
+use Rattle.std.proofs.Common.{◌≡◌, refl, sym, ap, ◌∙◌, ℕ, ◌+◌, ◌^◌, ◌≤◌, true, List, [], ◌∷◌, map, length, Option, Some, None, Contains, ⊎_elim, arith}
+use Rattle.std.specs.List.{filter, filter_map, cons_option, flat_map, sum_by}
 use Rattle.std.specs.Ordering.{eq_by_cmp}
 use Rattle.std.specs.Str.{bytes_eq}
 use Rattle.std.specs.Cmp.Lexicographic.{bytes_decides}
@@ -8,7 +8,7 @@ use Rattle.std.proofs.lemmas.List.{length-map}
 use Rattle.std.proofs.lemmas.List.Concat.{length-flat_map}
 use Rattle.std.proofs.lemmas.List.Sums.{sum_by-cons, length-filter, count_by-le-length}
 use Rattle.reachability.proofs.CountLaws.{has_first, has_later, first_or_later, image_of}
-use Rattle.variant_values.specs.Texts.{byte_cmp, IsInByteOrder, with_texts}
+use Rattle.variant_values.specs.Texts.{byte_cmp, IsInByteOrder}
 use Rattle.keyed_lists.specs.Keyed.{find_key}
 use Rattle.keyed_lists.specs.Given.{adds_or_none}
 use Rattle.graph_core.specs.Graphs.{Text}
@@ -19,15 +19,14 @@ use Rattle.conditions.specs.declared.recipe.Recipe.{Recipe}
 use Rattle.virtuals.specs.Virtuals.{name_of, is_virtual}
 use Rattle.condition_rules.specs.Words.{among}
 use Rattle.condition_rules.specs.Worlds.{recipe_of, rows}
-use Rattle.problem.specs.Problems.{Problem, recipe_at, variants_at, depends_at}
-use Rattle.problem.specs.Closure.{next_names, possible_providers}
-use Rattle.table_plan.specs.Plans.{possible_at, possible_edges, asked_virtuals, possible_packages, plan_of}
-use Rattle.table_plan.specs.declared.plan.Possible.{Possible}
+use Rattle.problem.specs.Problems.{Problem, recipe_at, depends_at}
+use Rattle.problem.specs.Closure.{next_names}
+use Rattle.table_plan.specs.Plans.{possible_at, possible_edges, asked_virtuals, plan_of}
 use Rattle.literal_table.specs.Tables as tables
 use Rattle.literal_table.specs.Tables.{Table}
 use Rattle.literal_table.specs.declared.block.Block.{Block}
-use Rattle.table_numbers.specs.Numbers.{run, width, widths, block_from, blocks_from, edge_from, provider_from, providers_from, table_from}
-use Rattle.problem_limits.specs.Limits.{recipe_size, size_of_recipe}
+use Rattle.table_numbers.specs.Numbers.{run, width, widths, block_from, blocks_from, edge_from, table_from}
+use Rattle.problem_limits.specs.Limits.{size_of_recipe}
 use Rattle.cost_limits.proofs.Sums.{sum-le-in, sum-same, found}
 use Rattle.cost_limits.proofs.Weights.{IsWithin}
 use Rattle.cost_limits.proofs.Values.{texts-few}
@@ -95,7 +94,8 @@ module _ (problem : Problem) (limits : IsWithin problem) (names : List Text) (ri
   virtuals-few =
       let asked = flat_map (λ name. filter_map (λ (row : DependRow). row.part.name) (depends_at problem name)) names in
       let each = sum-le-in (λ name. length (filter_map (λ (row : DependRow). row.part.name) (depends_at problem name)))
-      (λ name. length (depends_at problem name)) names (λ name there. filter_map-le (λ (row : DependRow). row.part.name) (depends_at problem name)) in
+      (λ name. length (depends_at problem name)) names
+      (λ name there. filter_map-le (λ (row : DependRow). row.part.name) (depends_at problem name)) in
       let all = rows-shared (λ recipe. recipe.depends) (λ recipe. omega arith) in
       omega (
         arith,
@@ -111,9 +111,16 @@ module _ (problem : Problem) (limits : IsWithin problem) (names : List Text) (ri
 
 pairs-few : (names : List Text) → length names ≤ 1024 → length (pairs_of names) ≤ 2 ^ 20
 pairs-few names few =
-    let each = sum-le-in (λ (parent : Text). length (map (λ child. let p : Text × Text = (parent, child) in p) names)) (λ parent. 1024) names
+    let each = sum-le-in (λ (parent : Text). length (map (λ child. let p : Text × Text = (parent, child) in p) names))
+    (λ parent. 1024) names
     (λ parent there. omega (arith, length-map names (λ child. let p : Text × Text = (parent, child) in p))) in
-    omega (arith, each, sum-same 1024 names, length-flat_map (λ (parent : Text). map (λ child. let p : Text × Text = (parent, child) in p) names) names)
+    omega (
+      arith,
+      each,
+      sum-same 1024 names,
+      length-flat_map
+          (λ (parent : Text). map (λ child. let p : Text × Text = (parent, child) in p) names) names,
+    )
 
 module _ (problem : Problem) (names : List Text) (n : ℕ) where
   abbrev pub Own : Table

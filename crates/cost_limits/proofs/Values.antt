@@ -1,9 +1,8 @@
 -- How many values a variant may have.
-use Rattle.std.proofs.Common.{◌≡◌, refl, sym, ap, subst, ◌∙◌, ℕ, ◌+◌, ◌^◌, ◌≤◌, Bool, true, false, List, [], ◌∷◌, ◌++◌, map, length, Option, Some, None, Contains, inl, ⊎_elim, arith, length-append}
+use Rattle.std.proofs.Common.{◌≡◌, refl, sym, subst, ℕ, ◌+◌, ◌^◌, ◌≤◌, Bool, true, false, List, [], ◌∷◌, ◌++◌, map, length, Option, Some, None, Contains, inl, ⊎_elim, arith, length-append}
 use Rattle.std.specs.List.{filter, find, flat_map, sum_by}
 use Rattle.std.specs.Str.{bytes_eq}
 use Rattle.std.specs.Ordering.{match_ordering}
-use Rattle.std.specs.BTreeSet.{insert_key}
 use Rattle.std.specs.declared.cmp.Ordering.{Ordering}
 use Rattle.std.specs.declared.cmp.Ordering.TheVariants.{Less, Equal, Greater}
 use Rattle.std.proofs.lemmas.List.Concat.{length-flat_map}
@@ -25,7 +24,7 @@ use Rattle.table_plan.specs.Gathering.{listed}
 use Rattle.table_plan.specs.Kept.{external_nodes, kept_nodes}
 use Rattle.table_plan.specs.Plans.{can_build, variant_values}
 use Rattle.table_plan.proofs.NodeLaws.{find_last-in}
-use Rattle.problem_limits.specs.Limits.{settings_size, database_size, set_members, external_members, size_of_package, variant_members, record_members}
+use Rattle.problem_limits.specs.Limits.{settings_size, set_members, external_members, size_of_package, variant_members, record_members}
 use Rattle.cost_limits.proofs.Sums.{sum-le-in, sum-at, sum-add}
 use Rattle.cost_limits.proofs.Weights.{IsWithin, rows-in}
 
@@ -76,23 +75,28 @@ module _ (problem : Problem) where
 
   declared-there : (name q : Text) → Contains (Declared name) q → Contains (Sources name) q
   declared-there name q there =
-      Contains-append_left (Declared name ++ Defaults name) (Written name ++ Recorded) q (Contains-append_left (Declared name) (Defaults name) q there)
+      Contains-append_left (Declared name ++ Defaults name) (Written name ++ Recorded) q
+      (Contains-append_left (Declared name) (Defaults name) q there)
 
   default-there : (name q : Text) → Contains (Defaults name) q → Contains (Sources name) q
   default-there name q there =
-      Contains-append_left (Declared name ++ Defaults name) (Written name ++ Recorded) q (Contains-append_right (Declared name) (Defaults name) q there)
+      Contains-append_left (Declared name ++ Defaults name) (Written name ++ Recorded) q
+      (Contains-append_right (Declared name) (Defaults name) q there)
 
   written-there : (name q : Text) → Contains (Written name) q → Contains (Sources name) q
   written-there name q there =
-      Contains-append_right (Declared name ++ Defaults name) (Written name ++ Recorded) q (Contains-append_left (Written name) Recorded q there)
+      Contains-append_right (Declared name ++ Defaults name) (Written name ++ Recorded) q
+      (Contains-append_left (Written name) Recorded q there)
 
   recorded-there : (name q : Text) → Contains Recorded q → Contains (Sources name) q
   recorded-there name q there =
-      Contains-append_right (Declared name ++ Defaults name) (Written name ++ Recorded) q (Contains-append_right (Written name) Recorded q there)
+      Contains-append_right (Declared name ++ Defaults name) (Written name ++ Recorded) q
+      (Contains-append_right (Written name) Recorded q there)
 
   -- ---- externals
 
-  from-externals : (name : Text) (from : ℕ) (entries : List ExternalEntry) (node : Node) → Contains (external_nodes problem name from entries) node
+  from-externals : (name : Text) (from : ℕ) (entries : List ExternalEntry) (node : Node)
+      → Contains (external_nodes problem name from entries) node
       → (entry : ExternalEntry) × (place : ℕ) × Contains entries entry × (external_node problem name place entry ≡ node)
   from-externals name from [] node there = absurd (nothing node there)
   from-externals name from (entry ∷ more) node there = ⊎_elim
@@ -109,19 +113,22 @@ module _ (problem : Problem) where
 
   in-completed : (name v q : Text) (entry : ExternalEntry) → Contains (externals_in (entry_of problem name)) entry
       → (o : Option (Text × List Text)) → find (λ u. bytes_eq u.0 v) entry.variants ≡ o
-      → Contains (written_or o (default_in (find_last (λ row. bytes_eq row.name v) (variants_at problem name)))) q → Contains (Sources name) q
+      → Contains (written_or o (default_in (find_last (λ row. bytes_eq row.name v) (variants_at problem name)))) q
+      → Contains (Sources name) q
   in-completed name v q entry of None is there =
       default-there name q (in-defaults name v q (find_last (λ row. bytes_eq row.name v) (variants_at problem name)) refl there)
   in-completed name v q entry of (Some u) is there =
       written-there name q (in_flat_map (λ (e : ExternalEntry). values_of e.variants) (externals_in (entry_of problem name)) entry q of
-      (in_flat_map (λ (w : Text × List Text). w.1) entry.variants u q (found-there (λ (w : Text × List Text). bytes_eq w.0 v) entry.variants u is).0 there))
+      (in_flat_map (λ (w : Text × List Text). w.1) entry.variants u q
+      (found-there (λ (w : Text × List Text). bytes_eq w.0 v) entry.variants u is).0 there))
 
   of-external : (name q : Text) (place : ℕ) (entry : ExternalEntry) → Contains (externals_in (entry_of problem name)) entry
       → (w : Text × List Text) → Contains (external_node problem name place entry).variants w → Contains w.1 q → Contains (Sources name) q
   unfolding external_node
   of-external name q place entry of w there within =
       let from = image_of (λ (v : Text). let p : Text × List Text = (v, completed entry.variants (variants_at problem name) v) in p)
-      (with_texts [] (map (λ (u : Text × List Text). u.0) entry.variants ++ map (λ (row : VariantRow). row.name) (variants_at problem name))) w there in
+      (with_texts [] (map (λ (u : Text × List Text). u.0) entry.variants
+      ++ map (λ (row : VariantRow). row.name) (variants_at problem name))) w there in
       in-completed name from.0 q entry of (find (λ u. bytes_eq u.0 from.0) entry.variants) refl
       (subst (λ (u : Text × List Text). Contains u.1 q) (sym from.2) within)
 
@@ -156,15 +163,18 @@ module _ (problem : Problem) where
 
   of-built : (name variant q : Text) → Contains (Built name variant) q → Contains (Sources name) q
   of-built name variant q there =
-      let row = from_flat_map (λ (r : VariantRow). r.values) (filter (λ (r : VariantRow). bytes_eq r.name variant) (variants_at problem name)) q there in
+      let row = from_flat_map (λ (r : VariantRow). r.values)
+      (filter (λ (r : VariantRow). bytes_eq r.name variant) (variants_at problem name)) q there in
       declared-there name q (in_flat_map (λ (r : VariantRow). r.values) (variants_at problem name) row.0 q
       (from_filter (λ (r : VariantRow). bytes_eq r.name variant) (variants_at problem name) row.0 row.1).0 row.2)
 
   of-nodes : (name variant q : Text) → Contains (Kept name variant) q → Contains (Sources name) q
   of-nodes name variant q there =
-      let node = from_flat_map (λ (n : Node). flat_map (λ (v : Text × List Text). v.1) (filter (λ (v : Text × List Text). bytes_eq v.0 variant) n.variants))
+      let node = from_flat_map (λ (n : Node). flat_map (λ (v : Text × List Text). v.1)
+      (filter (λ (v : Text × List Text). bytes_eq v.0 variant) n.variants))
       (kept_nodes problem name) q there in
-      let v = from_flat_map (λ (v : Text × List Text). v.1) (filter (λ (v : Text × List Text). bytes_eq v.0 variant) node.0.variants) q node.2 in
+      let v = from_flat_map (λ (v : Text × List Text). v.1) (filter (λ (v : Text × List Text). bytes_eq v.0 variant) node.0.variants) q
+      node.2 in
       of-kept name q node.0 node.1 v.0 (from_filter (λ (v : Text × List Text). bytes_eq v.0 variant) node.0.variants v.0 v.1).0 v.2
 
   value-there : (name variant q : Text) → Contains (variant_values problem name variant) q → Contains (Sources name) q
@@ -217,7 +227,14 @@ module _ (problem : Problem) (limits : IsWithin problem) where
   written-few name =
       let each = sum-le-in (λ (e : ExternalEntry). length (values_of e.variants)) external_members (externals_in (entry_of problem name))
       (λ e there. omega (arith, length-values e.variants)) in
-      omega (arith, each, limits.settings, written-in name, length-flat_map (λ (e : ExternalEntry). values_of e.variants) (externals_in (entry_of problem name)))
+      omega (
+        arith,
+        each,
+        limits.settings,
+        written-in name,
+        length-flat_map (λ (e : ExternalEntry). values_of e.variants)
+            (externals_in (entry_of problem name)),
+      )
 
   recorded-few : length (Recorded problem) ≤ 2 ^ 26
   recorded-few =

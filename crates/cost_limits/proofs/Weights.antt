@@ -1,6 +1,6 @@
 -- No weight is more than the limits allow.
-use Rattle.std.proofs.Common.{◌≡◌, refl, sym, ap, ◌∙◌, ℕ, ◌+◌, ◌*◌, ◌^◌, ◌<◌, ◌≤◌, Bool, true, false, ◌&&◌, not, cond, List, [], ◌∷◌, length, Option, Some, None, find, Contains, arith}
-use Rattle.std.specs.List.{position_or_len, count_by, sum_by}
+use Rattle.std.proofs.Common.{◌≡◌, refl, ℕ, ◌^◌, ◌≤◌, Bool, true, false, ◌&&◌, not, cond, List, [], length, Option, Some, None, find, arith}
+use Rattle.std.specs.List.{position_or_len}
 use Rattle.std.specs.Ordering.{is_lt, eq_by_cmp}
 use Rattle.std.specs.Str.{bytes_eq}
 use Rattle.std.proofs.lemmas.Bool.{leb-true, and_parts}
@@ -34,7 +34,8 @@ pub record IsWithin (problem : Problem) : Type 0 where
 pub within : (problem : Problem) → is_within_limits problem ≡ true → IsWithin problem
 unfolding is_within_limits
 within problem is =
-    let last = and_parts (leb (recipe_size problem) (2 ^ 28) && leb (settings_size problem) (2 ^ 24)) (leb (database_size problem) (2 ^ 26)) is in
+    let last = and_parts (leb (recipe_size problem) (2 ^ 28) && leb (settings_size problem) (2 ^ 24))
+    (leb (database_size problem) (2 ^ 26)) is in
     let first = and_parts (leb (recipe_size problem) (2 ^ 28)) (leb (settings_size problem) (2 ^ 24)) last.0 in
     record {
       recipes = leb-true (recipe_size problem) (2 ^ 28) first.0;
@@ -47,13 +48,20 @@ module _ (problem : Problem) (limits : IsWithin problem) where
 
   rows-of : {R : Type 0} (field : Recipe → List R) (measure : List R → ℕ) → measure [] ≡ 0
       → ((recipe : Recipe) → measure (field recipe) ≤ size_of_recipe recipe)
-      → (name : Text) (o : Option Recipe) → find_key byte_cmp name_of problem.recipes name ≡ o → measure (rows field o) ≤ recipe_size problem
+      → (name : Text) (o : Option Recipe) → find_key byte_cmp name_of problem.recipes name ≡ o
+      → measure (rows field o) ≤ recipe_size problem
   rows-of field measure none le name None is = omega arith
   rows-of field measure none le name (Some recipe) is =
-      omega (arith, le recipe, sum-at size_of_recipe problem.recipes recipe (found-there (λ (r : Recipe). eq_by_cmp byte_cmp r.name name) problem.recipes recipe is).0)
+      omega (
+        arith,
+        le recipe,
+        sum-at size_of_recipe problem.recipes recipe
+            (found-there (λ (r : Recipe). eq_by_cmp byte_cmp r.name name) problem.recipes recipe is).0,
+      )
 
   pub rows-in : {R : Type 0} (field : Recipe → List R) (measure : List R → ℕ) → measure [] ≡ 0
-      → ((recipe : Recipe) → measure (field recipe) ≤ size_of_recipe recipe) → (name : Text) → measure (rows field (recipe_at problem name)) ≤ 2 ^ 28
+      → ((recipe : Recipe) → measure (field recipe) ≤ size_of_recipe recipe) → (name : Text)
+      → measure (rows field (recipe_at problem name)) ≤ 2 ^ 28
   unfolding recipe_of
   rows-in field measure none le name =
       omega (arith, limits.recipes, rows-of field measure none le name (find_key byte_cmp name_of problem.recipes name) refl)
@@ -76,7 +84,8 @@ module _ (problem : Problem) (limits : IsWithin problem) where
     where
       by : (lists : List (List Range)) (o : Option VersionRow) → place_or_number lists (versions_at problem name) o ≤ 2 ^ 28
       by lists None = versions-few name
-      by lists (Some row) = omega (arith, versions-few name, count_by-le-length (λ other. is_lt (row_cmp lists other row)) (versions_at problem name))
+      by lists (Some row) =
+          omega (arith, versions-few name, count_by-le-length (λ other. is_lt (row_cmp lists other row)) (versions_at problem name))
 
   pub os-few : (name : Text) → os_weight problem name ≤ 2 ^ 28
   os-few name = omega (arith, limits.settings, place-le (bytes_eq name) problem.settings.os)
@@ -86,7 +95,8 @@ module _ (problem : Problem) (limits : IsWithin problem) where
 
   pub compiler-few : (compiler : Option Compiler) → compiler_weight problem compiler ≤ 2 ^ 28
   compiler-few None = omega arith
-  compiler-few (Some compiler) = omega (arith, limits.settings, place-le (λ entry. same_compiler entry.compiler compiler) problem.settings.compilers)
+  compiler-few (Some compiler) =
+      omega (arith, limits.settings, place-le (λ entry. same_compiler entry.compiler compiler) problem.settings.compilers)
 
   pub provider-few : (p : Text × Text) → provider_weight problem p ≤ 2 ^ 24
   provider-few p = by (find (λ q. bytes_eq q.0 p.0) problem.settings.providers) refl
@@ -98,5 +108,6 @@ module _ (problem : Problem) (limits : IsWithin problem) where
         arith,
         limits.settings,
         place-le (bytes_eq p.1) q.1,
-        sum-at provider_names problem.settings.providers q (found-there (λ (r : Text × List Text). bytes_eq r.0 p.0) problem.settings.providers q is).0,
+        sum-at provider_names problem.settings.providers q
+            (found-there (λ (r : Text × List Text). bytes_eq r.0 p.0) problem.settings.providers q is).0,
       )

@@ -10,4 +10,5 @@
 
 mod theorems;
 
+pub use problem_limits::is_within_limits;
 pub use theorems::limit_laws;

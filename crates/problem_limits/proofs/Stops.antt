@@ -23,7 +23,8 @@ stopped-le n limit small = elim (leb_tells (stopped n) limit) [
 ]
 
 -- the counts that are made, against the limits
-pub within : (problem : Problem) (recipes : List Recipe) (settings : Settings) (database : List Record) (in_recipes in_settings in_database : ℕ)
+pub within : (problem : Problem) (recipes : List Recipe) (settings : Settings) (database : List Record)
+    (in_recipes in_settings in_database : ℕ)
     → recipes ≡ problem.recipes → settings ≡ problem.settings → database ≡ problem.database
     → in_recipes ≡ stopped (sum_by size_of_recipe recipes) → in_settings ≡ stopped (size_of_settings settings)
     → in_database ≡ stopped (length database + sum_by record_members database)
@@ -31,9 +32,11 @@ pub within : (problem : Problem) (recipes : List Recipe) (settings : Settings) (
 unfolding is_within_limits
 within problem recipes settings database in_recipes in_settings in_database of_recipes of_settings of_database a b c =
     let first : leb in_recipes (2 ^ 28) ≡ leb (recipe_size problem) (2 ^ 28) =
-    ap (λ n. leb n (2 ^ 28)) (a ∙ ap (λ rs. stopped (sum_by size_of_recipe rs)) of_recipes) ∙ stopped-le (recipe_size problem) (2 ^ 28) (lit< tt) in
+    ap (λ n. leb n (2 ^ 28)) (a ∙ ap (λ rs. stopped (sum_by size_of_recipe rs)) of_recipes)
+    ∙ stopped-le (recipe_size problem) (2 ^ 28) (lit< tt) in
     let second : leb in_settings (2 ^ 24) ≡ leb (settings_size problem) (2 ^ 24) =
-    ap (λ n. leb n (2 ^ 24)) (b ∙ ap (λ s. stopped (size_of_settings s)) of_settings) ∙ stopped-le (settings_size problem) (2 ^ 24) (lit< tt) in
+    ap (λ n. leb n (2 ^ 24)) (b ∙ ap (λ s. stopped (size_of_settings s)) of_settings)
+    ∙ stopped-le (settings_size problem) (2 ^ 24) (lit< tt) in
     let third : leb in_database (2 ^ 26) ≡ leb (database_size problem) (2 ^ 26) =
     ap (λ n. leb n (2 ^ 26)) (c ∙ ap (λ d. stopped (length d + sum_by record_members d)) of_database)
     ∙ stopped-le (database_size problem) (2 ^ 26) (lit< tt) in
