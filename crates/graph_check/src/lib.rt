@@ -11,4 +11,6 @@ mod theorems;
 
 pub use theorems::verdict_laws;
 // What crates above answer with.
-pub use best_graph::{Answer, Encoded, best_graph, encode, has_right_values, values_of};
+pub use best_graph::{
+    Answer, Encoded, best_graph, encode, has_right_values, is_within_limits, values_of,
+};

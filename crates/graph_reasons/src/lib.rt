@@ -14,5 +14,6 @@ pub use answer::explain;
 pub use explanation::Explanation;
 // What crates above answer with.
 pub use graph_check::{
-    Answer, Encoded, best_graph, encode, has_right_values, values_of, verdict_laws,
+    Answer, Encoded, best_graph, encode, has_right_values, is_within_limits, values_of,
+    verdict_laws,
 };
