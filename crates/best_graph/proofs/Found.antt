@@ -12,14 +12,14 @@ use Rattle.problem.specs.Problems.{Problem}
 use Rattle.graph_costs.specs.Optimal.{IsOptimal}
 use Rattle.graph_decoding.specs.Decoding.{decode}
 use Rattle.problem_encoding.specs.Encodings.{IsEncoded}
-use Rattle.problem_encoding.specs.Built.{is_encodable, encoding_of}
+use Rattle.problem_encoding.specs.Built.{encoding_of}
 use Rattle.problem_encoding.specs.declared.encoded.Encoded.{Encoded}
 use Rattle.best_graph.specs.declared.answer.Answer.TheVariants.{Best, Nothing, Undecided}
 use Rattle.best_graph.specs.declared.answer.Answer.{Answer}
 use Rattle.best_graph.specs.Answers.{IsAnswer, Means, Shows, log_of}
 use Rattle.best_graph.proofs.Least.{optimal, nothing}
 
-module _ (problem : Problem) (e : Encoded) (encoded : IsEncoded problem e) (encodable : is_encodable problem ≡ true)
+module _ (problem : Problem) (e : Encoded) (encoded : IsEncoded problem e)
     (built : e ≡ encoding_of problem) (budget : ℕ) (log : List Line) (writable : AllLines (λ line. may_write line ≡ true) log) where
   abbrev read : (ℕ → Bool) → Content
   read v = decode v e.table
@@ -33,7 +33,6 @@ module _ (problem : Problem) (e : Encoded) (encoded : IsEncoded problem e) (enco
     clauses = e.clauses;
     bits = e.bits.lits;
     decode = read;
-    encodable = encodable;
     encoded = subst (IsEncoded problem) built encoded;
     are_clauses = ap (λ (x : Encoded). x.clauses) built;
     are_bits = ap (λ (x : Encoded). x.bits.lits) built;
@@ -43,7 +42,8 @@ module _ (problem : Problem) (e : Encoded) (encoded : IsEncoded problem e) (enco
   }
 
   pub best-answer : (model : List Bool) (graph : Content) → IsFound e.clauses e.bits.lits budget (Optimal model log)
-      → IsBest e.clauses e.bits.lits budget (Optimal model log) → graph ≡ decode (values_in model) e.table → IsAnswer problem budget (Best graph log)
+      → IsBest e.clauses e.bits.lits budget (Optimal model log) → graph ≡ decode (values_in model) e.table
+      → IsAnswer problem budget (Best graph log)
   best-answer model graph found best same =
       let m = optimal problem e.clauses e.bits.lits read encoded.encodes (values_in model) found.1 best in
       over (Best graph log) refl (subst (λ g. IsWellFormed g × IsOptimal problem g) (sym same) m) (model, found, sym same)
@@ -52,6 +52,7 @@ module _ (problem : Problem) (e : Encoded) (encoded : IsEncoded problem e) (enco
       → IsAnswer problem budget (Nothing log)
   nothing-answer found best = over (Nothing log) refl (nothing problem e.clauses e.bits.lits read encoded.encodes best) found
 
-  pub spent-answer : length log < 2 ^ 64 → IsFound e.clauses e.bits.lits budget (Spent log) → IsBest e.clauses e.bits.lits budget (Spent log)
+  pub spent-answer : length log < 2 ^ 64 → IsFound e.clauses e.bits.lits budget (Spent log)
+      → IsBest e.clauses e.bits.lits budget (Spent log)
       → IsAnswer problem budget (Undecided log)
   spent-answer finite found best = over (Undecided log) refl (best.1, omega (arith, finite, best.1)) (found, best.0)

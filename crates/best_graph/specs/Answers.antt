@@ -14,7 +14,7 @@ use Rattle.problem.specs.Problems.{Problem}
 use Rattle.graph_costs.specs.Optimal.{IsOptimal, HasNoGraph}
 use Rattle.graph_decoding.specs.Decoding.{decode as table_decode}
 use Rattle.problem_encoding.specs.Encodings.{Encodes, IsEncoded}
-use Rattle.problem_encoding.specs.Built.{is_encodable, encoding_of}
+use Rattle.problem_encoding.specs.Built.{encoding_of}
 use Rattle.best_graph.specs.declared.answer.Answer.{Answer}
 use Rattle.best_graph.specs.declared.answer.Answer.TheVariants.{Best, Nothing, Undecided}
 
@@ -47,7 +47,6 @@ pub record IsAnswer (problem : Problem) (budget : ℕ) (answer : Answer) : Type 
   pub clauses : Clauses
   pub bits : List Lit
   pub decode : (ℕ → Bool) → Content
-  pub encodable : is_encodable problem ≡ true
   pub encoded : IsEncoded problem (encoding_of problem)
   pub are_clauses : clauses ≡ (encoding_of problem).clauses
   pub are_bits : bits ≡ (encoding_of problem).bits.lits

@@ -2,4 +2,5 @@
 pub use Rattle.problem_encoding.specs.Encodings
 pub use Rattle.problem_encoding.specs.Built
 pub use Rattle.problem_encoding.specs.OfRankedCosts.Kept
+pub use Rattle.problem_encoding.specs.OfRankedCosts.Limits
 pub use Rattle.problem_encoding.specs.declared.encoded.Encoded

@@ -1,14 +1,15 @@
 //! The search for the best graph.
-ghost use Rattle.std.specs.Prelude.{◌≡◌, ◌<◌, ◌^◌, true, IfOk, length};
+ghost use Rattle.std.specs.Prelude.{◌≡◌, ◌<◌, ◌≤◌, ◌^◌, true, IfOk, length};
 ghost use Rattle.clause_store.specs.Clauses.{clauses_of};
 ghost use Rattle.proof_log.specs.Known.{AllClauses};
 ghost use Rattle.proof_log.specs.Lines.{AllLines};
 ghost use Rattle.proof_log.specs.Texts.{may_write};
 ghost use Rattle.optimum_search.specs.Finding.{IsFound};
 ghost use Rattle.possible_closure.specs.Closures.{closure_of};
-ghost use Rattle.problem_encoding.specs.Built.{is_encodable, encoding_of};
+ghost use Rattle.problem_encoding.specs.Built.{encoding_of};
 ghost use Rattle.problem_encoding.specs.Encodings.{IsEncoded};
 ghost use Rattle.problem_encoding.specs.OfRankedCosts.Kept.{has_right_values};
+ghost use Rattle.problem_encoding.specs.OfRankedCosts.Limits.{is_within_limits};
 ghost use Rattle.best_graph.specs.Answers.{IsAnswer};
 
 use crate::answer::Answer;
@@ -25,7 +26,7 @@ use proof_log::{Log, may_write};
 use std::alloc::{AllocError, Global};
 
 /// The best graph of a problem, where the search may learn so many clauses. Externals and records have values for their variants
-/// (`has_right_values`). `progress` is told how far it is.
+/// (`has_right_values`), and the problem is within the limits (`is_within_limits`). `progress` is told how far it is.
 pub fn best_graph<P: Progress>(
     alloc: Global,
     problem: &Problem,
@@ -34,7 +35,9 @@ pub fn best_graph<P: Progress>(
     progress: &mut P,
 ) -> Result<Answer, AllocError>
     requires closure { closure.now ≡ closure_of problem.now }
+    requires few { length (closure_of problem.now) ≤ 1024 }
     requires values { has_right_values problem.now ≡ true }
+    requires limits { is_within_limits problem.now ≡ true }
     ensures { IfOk result (IsAnswer problem.now budget) }
 {
     let packages = closure.names().len() as u64;
@@ -99,7 +102,6 @@ fn answer_of(
     found: Found,
 ) -> Result<Answer, AllocError>
     requires encoded { IsEncoded _problem.now encoded.now }
-    requires encodable { is_encodable _problem.now ≡ true }
     requires built { encoded.now ≡ encoding_of _problem.now }
     requires found { IsFound encoded.now.clauses encoded.now.bits.lits _budget found }
     requires in_order { AllClauses (clauses_of encoded.now.clauses.entries) }

@@ -2,6 +2,7 @@
 pub use Rattle.best_graph.specs.OfProblemEncoding.Encodings
 pub use Rattle.best_graph.specs.OfProblemEncoding.Built
 pub use Rattle.best_graph.specs.OfProblemEncoding.Kept
+pub use Rattle.best_graph.specs.OfProblemEncoding.Limits
 pub use Rattle.best_graph.specs.OfProblemEncoding.Encoded
 pub use Rattle.best_graph.specs.Answers
 pub use Rattle.best_graph.specs.declared.answer.Answer

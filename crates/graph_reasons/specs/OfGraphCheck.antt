@@ -2,6 +2,7 @@
 pub use Rattle.graph_check.specs.OfBestGraph.Encodings
 pub use Rattle.graph_check.specs.OfBestGraph.Built
 pub use Rattle.graph_check.specs.OfBestGraph.Kept
+pub use Rattle.graph_check.specs.OfBestGraph.Limits
 pub use Rattle.graph_check.specs.OfBestGraph.Encoded
 pub use Rattle.graph_check.specs.OfBestGraph.Answers
 pub use Rattle.graph_check.specs.OfBestGraph.Answer

@@ -1,6 +1,6 @@
 //! The search for a graph, or for what stands against one.
 
-ghost use Rattle.std.specs.Prelude.{◌≡◌, ◌<◌, ◌^◌, true, [], IfOk, length};
+ghost use Rattle.std.specs.Prelude.{◌≡◌, ◌<◌, ◌≤◌, ◌^◌, true, [], IfOk, length};
 ghost use Rattle.clause_store.specs.Clauses.{clauses_of};
 ghost use Rattle.proof_log.specs.Known.{AllClauses};
 ghost use Rattle.optimum_search.specs.Finding.{IsFound};
@@ -8,6 +8,7 @@ ghost use Rattle.possible_closure.specs.Closures.{closure_of};
 ghost use Rattle.graph_check.specs.OfBestGraph.Built.{encoding_of};
 ghost use Rattle.graph_check.specs.OfBestGraph.Encodings.{IsEncoded};
 ghost use Rattle.graph_check.specs.OfBestGraph.Kept.{has_right_values};
+ghost use Rattle.graph_check.specs.OfBestGraph.Limits.{is_within_limits};
 ghost use Rattle.graph_reasons.specs.Explanations.{Explains};
 
 use crate::explanation::Explanation;
@@ -22,7 +23,7 @@ use std::alloc::{AllocError, Global};
 /// Whether some graph is valid, and else the demands that a refutation rests on, where the search may learn so many clauses.
 ///
 /// The search is without bits of costs, so it ends at the first graph. Externals and records have values for their variants
-/// (`has_right_values`). `progress` is told how far it is.
+/// (`has_right_values`), and the problem is within the limits (`is_within_limits`). `progress` is told how far it is.
 pub fn explain<P: Progress>(
     alloc: Global,
     problem: &Problem,
@@ -31,7 +32,9 @@ pub fn explain<P: Progress>(
     progress: &mut P,
 ) -> Result<Explanation, AllocError>
     requires closure { closure.now ≡ closure_of problem.now }
+    requires few { length (closure_of problem.now) ≤ 1024 }
     requires values { has_right_values problem.now ≡ true }
+    requires limits { is_within_limits problem.now ≡ true }
     ensures { IfOk result (Explains problem.now budget) }
 {
     let packages = closure.names().len() as u64;

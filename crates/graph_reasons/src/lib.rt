@@ -14,6 +14,7 @@ pub use answer::explain;
 pub use explanation::Explanation;
 // What crates above answer with.
 pub use graph_check::{
-    Answer, Encoded, Progress, Stage, Untold, best_graph, encode, has_right_values, values_of,
+    Answer, Encoded, Progress, Stage, Untold, best_graph, encode, has_right_values,
+    is_within_limits, values_of,
     verdict_laws,
 };

@@ -1,5 +1,5 @@
 -- The encoding of a problem, as a function.
-use Rattle.std.specs.Prelude.{Bool, List}
+use Rattle.std.specs.Prelude.{List}
 use Rattle.clause_store.specs.Clauses.{Clauses}
 use Rattle.clause_formulas.specs.declared.defined.Defined.{Defined}
 use Rattle.graph_core.specs.Graphs.{Text}
@@ -11,7 +11,7 @@ use Rattle.problem_formulas.specs.Given.{no_place}
 use Rattle.ranked_costs.specs.OfClosureEncoding.Tables.{table_for}
 use Rattle.ranked_costs.specs.OfClosureEncoding.Closures.{closure_clauses}
 use Rattle.ranked_costs.specs.Ranked.{closure_values}
-use Rattle.ranked_costs.specs.Built.{are_small, terms_for, rank_costs_on}
+use Rattle.ranked_costs.specs.Built.{rank_costs_on}
 use Rattle.problem_encoding.specs.declared.encoded.Encoded.{Encoded}
 
 -- the table of the names that nodes may have, the clauses of the rules over it, and what is defined for the conditions
@@ -28,16 +28,9 @@ rule_values problem = closure_values problem (closure_of problem) no_place
 abbrev pub order_in : Problem → Table → List Text
 order_in problem t = post_order t (root_names problem)
 
--- whether the weights of each number of the vector add up to less than 2^63
-abbrev pub has_small_costs : Problem → Table → List Defined → Bool
-has_small_costs problem t values = are_small (terms_for problem t values (order_in problem t))
-
--- whether a problem is encoded where memory suffices: its own sums are small
-unfoldable pub is_encodable : Problem → Bool
-is_encodable problem = has_small_costs problem (table_of problem) (rule_values problem)
-
 -- the clauses of the rules with the bits of the costs behind them, and the table that reads a model
 unfoldable pub encoding_of : Problem → Encoded
 encoding_of problem =
-    let made = rank_costs_on (rule_clauses problem) problem (table_of problem) (rule_values problem) (order_in problem (table_of problem)) in
+    let made = rank_costs_on (rule_clauses problem) problem (table_of problem) (rule_values problem)
+        (order_in problem (table_of problem)) in
     record { clauses = made.list; bits = made.answer; table = table_of problem }

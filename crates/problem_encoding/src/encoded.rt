@@ -1,10 +1,11 @@
 //! The clauses of a problem and their bits.
-ghost use Rattle.std.specs.Prelude.{◌≡◌, true, IfOk};
+ghost use Rattle.std.specs.Prelude.{◌≡◌, ◌≤◌, true, length, IfOk};
 ghost use Rattle.possible_closure.specs.Closures.{closure_of};
 ghost use Rattle.ranked_costs.specs.OfClosureEncoding.Kept.{has_right_values};
 ghost use Rattle.ranked_costs.specs.OfClosureEncoding.Tables.{table_for, size_for};
+ghost use Rattle.ranked_costs.specs.OfCostLimits.Limits.{is_within_limits};
 ghost use Rattle.ranked_costs.specs.Built.{rank_costs_on};
-ghost use Rattle.problem_encoding.specs.Built.{order_in, has_small_costs, is_encodable, encoding_of};
+ghost use Rattle.problem_encoding.specs.Built.{order_in, encoding_of};
 ghost use Rattle.problem_encoding.specs.Encodings.{AreCosted, IsEncoded, IsRuled};
 
 use crate::roots::root_names;
@@ -31,14 +32,17 @@ pub struct Encoded {
 
 /// The clauses of a problem over the names that its nodes may have: one encoding for each problem.
 ///
-/// Externals and records have values for their variants, as all that are read do; `has_right_values` tests it.
+/// Externals and records have values for their variants, as all that are read do; `has_right_values` tests it. The problem is within
+/// the limits, which `is_within_limits` tests, and its closure has at most 1,024 names, as each that is made has: so the weights of
+/// each number add up to less than 2^63.
 ///
-/// An error is want of memory. It comes too where the weights of one number add up to 2^63 or more.
+/// An error is want of memory.
 pub fn encode(alloc: Global, problem: &Problem, closure: &Closure) -> Result<Encoded, AllocError>
     requires closure { closure.now ≡ closure_of problem.now }
+    requires few { length (closure_of problem.now) ≤ 1024 }
     requires values { has_right_values problem.now ≡ true }
+    requires limits { is_within_limits problem.now ≡ true }
     ensures encoded { IfOk result (IsEncoded problem.now) }
-    ensures encodable { IfOk result (λ encoded. is_encodable problem.now ≡ true) }
     ensures built { IfOk result (λ encoded. encoded ≡ encoding_of problem.now) }
 {
     let mut vars = 0;
@@ -78,9 +82,11 @@ fn add_costs(
     table: &LiteralTable,
     values: &[Defined],
 ) -> Result<Bits, AllocError>
-    requires { IsRuled problem.now table.now (record { list = clauses.old; values = values.now }) }
+    requires ruled { IsRuled problem.now table.now
+        (record { list = clauses.old; values = values.now }) }
+    requires few { length (closure_of problem.now) ≤ 1024 }
+    requires limits { is_within_limits problem.now ≡ true }
     ensures costed { IfOk result (AreCosted problem.now table.now clauses.new) }
-    ensures small { IfOk result (λ bits. has_small_costs problem.now table.now values.now ≡ true) }
     ensures built { IfOk result (λ bits. rank_costs_on clauses.old problem.now table.now values.now
         (order_in problem.now table.now) ≡ record { list = clauses.new; answer = bits }) }
 {
@@ -99,9 +105,10 @@ fn with_costs(
     table: LiteralTable,
     made: ProblemClauses,
 ) -> Result<Encoded, AllocError>
-    requires { IsRuled problem.now table made }
+    requires ruled { IsRuled problem.now table made }
+    requires few { length (closure_of problem.now) ≤ 1024 }
+    requires limits { is_within_limits problem.now ≡ true }
     ensures encoded { IfOk result (IsEncoded problem.now) }
-    ensures encodable { IfOk result (λ encoded. is_encodable problem.now ≡ true) }
     ensures built { IfOk result (λ encoded. encoded ≡ encoding_of problem.now) }
 {
     let ProblemClauses { list, values } = made;

@@ -9,7 +9,8 @@ use Rattle.problem.specs.Problems.{Problem}
 use Rattle.literal_table.specs.Tables.{Table}
 use Rattle.closure_encoding.specs.OfGraphEncoding.Formulas.{MetBelow}
 use Rattle.formula_totals.specs.declared.weighted.Weighted.{Weighted}
-use Rattle.formula_totals.specs.Weighed.{AllWeighedBelow, AreTotals}
+use Rattle.criteria_totals.specs.Spellings.{AllSmall}
+use Rattle.formula_totals.specs.Weighed.{AllWeighedBelow, AreTotals, tops_said}
 use Rattle.cost_terms.specs.Ranges.{IsTableBelow}
 use Rattle.cost_terms.specs.Sums.{cost_terms}
 use Rattle.cost_terms.proofs.Ranges.{costs-below}
@@ -18,12 +19,15 @@ use Rattle.graph_terms.specs.Held.{HeldRow, held_in}
 use Rattle.criteria_totals.specs.Totals.{Spelling}
 use Rattle.formula_totals.specs.Built.{define_totals_on}
 use Rattle.ranked_costs.specs.Given.{held_for}
-use Rattle.ranked_costs.specs.Built.{are_small, terms_for, rank_costs_on}
+use Rattle.cost_limits.specs.Small.{are_small}
+use Rattle.ranked_costs.specs.Built.{terms_for, rank_costs_on}
 use Rattle.ranked_costs.proofs.SmallSums.{all-small}
 use Rattle.ranked_costs.proofs.Ranges.{held-below}
 
-module _ (problem : Problem) (t : Table) (values : List Defined) (order : List Text) (rows given : List HeldRow) (lists items : List (List Weighted))
-    (made : rows ≡ held_for problem t values) (seen : given ≡ rows) (built : lists ≡ cost_terms problem t (held_in given) order) (taken : items ≡ lists) where
+module _ (problem : Problem) (t : Table) (values : List Defined) (order : List Text) (rows given : List HeldRow)
+    (lists items : List (List Weighted))
+    (made : rows ≡ held_for problem t values) (seen : given ≡ rows) (built : lists ≡ cost_terms problem t (held_in given) order)
+        (taken : items ≡ lists) where
   items-are : items ≡ cost_terms problem t (held_in (held_for problem t values)) order
   items-are = taken ∙ built ∙ ap (λ held. cost_terms problem t (held_in held) order) (seen ∙ made)
 
@@ -32,14 +36,14 @@ module _ (problem : Problem) (t : Table) (values : List Defined) (order : List T
       subst (AllWeighedBelow n) (sym items-are)
       (costs-below n problem t (held_in (held_for problem t values)) table (held-below n problem t values below) order)
 
-  pub rank-small : (tried : List (List Weighted)) → tried ≡ lists → are_small tried ≡ true → are_small (terms_for problem t values order) ≡ true
-  rank-small tried same small = subst (λ ls. are_small ls ≡ true) (same ∙ sym taken ∙ items-are) small
+  pub items-small : are_small (terms_for problem t values order) ≡ true → AllSmall (tops_said items)
+  items-small small = subst (λ ls. AllSmall (tops_said ls)) (sym items-are) (all-small (terms_for problem t values order) small)
 
-  pub are-cost-bits : (old new : Clauses) (bits : List Lit) (tops : List ℕ) (tried : List (List Weighted)) → tried ≡ lists → are_small tried ≡ true
+  pub are-cost-bits : (old new : Clauses) (bits : List Lit) (tops : List ℕ) → are_small (terms_for problem t values order) ≡ true
       → AreTotals old new bits tops items → AreCostBits old new bits tops problem t (held_in (held_for problem t values)) order
-  are-cost-bits old new bits tops tried same small totals = record {
+  are-cost-bits old new bits tops small totals = record {
     totals = subst (AreTotals old new bits tops) items-are totals;
-    small = all-small (terms_for problem t values order) (rank-small tried same small);
+    small = all-small (terms_for problem t values order) small;
   }
 
   -- the clauses and the bits are those of the definition

@@ -5,7 +5,7 @@ use Rattle.std.proofs.Math.Dec.{ltb}
 use Rattle.criteria_totals.specs.Spellings.{AllSmall}
 use Rattle.formula_totals.specs.declared.weighted.Weighted.{Weighted}
 use Rattle.formula_totals.specs.Weighed.{top_said, tops_said}
-use Rattle.ranked_costs.specs.Built.{are_small}
+use Rattle.cost_limits.specs.Small.{are_small}
 
 pub all-small : (lists : List (List Weighted)) → are_small lists ≡ true → AllSmall (tops_said lists)
 all-small [] h = tt

@@ -1,6 +1,5 @@
 -- The clauses with the bits of costs, as a function of the clauses before; and where the numbers end among their bits.
-use Rattle.std.specs.Prelude.{ℕ, ◌+◌, ◌-◌, ◌^◌, Bool, List, [], ◌∷◌, min, nat_lt, nat_le, if◌then◌else◌}
-use Rattle.std.specs.List.{list_all}
+use Rattle.std.specs.Prelude.{ℕ, ◌+◌, ◌-◌, ◌^◌, List, [], ◌∷◌, min, nat_le, if◌then◌else◌}
 use Rattle.clause_store.specs.Clauses.{Clauses}
 use Rattle.clause_circuits.specs.Binary.{size}
 use Rattle.clause_formulas.specs.declared.defined.Defined.{Defined}
@@ -10,15 +9,10 @@ use Rattle.problem.specs.Problems.{Problem}
 use Rattle.criteria_totals.specs.Totals.{Spelling}
 use Rattle.literal_table.specs.Tables.{Table}
 use Rattle.formula_totals.specs.declared.weighted.Weighted.{Weighted}
-use Rattle.formula_totals.specs.Weighed.{top_said}
 use Rattle.formula_totals.specs.Built.{define_totals_on}
 use Rattle.cost_terms.specs.Sums.{cost_terms}
 use Rattle.graph_terms.specs.Held.{held_in}
 use Rattle.ranked_costs.specs.Given.{held_for}
-
--- the weights of each list add up to less than 2^63
-abbrev pub are_small : List (List Weighted) → Bool
-are_small lists = list_all (λ terms. nat_lt (top_said terms) (2 ^ 63)) lists
 
 -- the terms of the 31 numbers
 abbrev pub terms_for : Problem → Table → List Defined → List Text → List (List Weighted)

@@ -6,3 +6,4 @@ pub mod OfClosureEncoding
 pub mod OfGraphTerms
 pub mod OfCostBits
 pub mod OfCostTerms
+pub mod OfCostLimits

@@ -1,5 +1,5 @@
 -- The clauses of a closure, with the bits of costs behind them.
-use Rattle.std.specs.Prelude.{◌≡◌, ℕ, Bool, true, List, map, Some}
+use Rattle.std.specs.Prelude.{◌≡◌, ℕ, ◌≤◌, Bool, true, List, length, map, Some}
 use Rattle.std.specs.List.Sorted.{IsPermutation}
 use Rattle.clause_store.specs.declared.Lit.{Lit}
 use Rattle.clause_store.specs.Clauses.{Clauses, Meets}
@@ -24,9 +24,12 @@ use Rattle.closure_encoding.specs.OfRightRules.Targets.{conditions_of, targets_o
 use Rattle.closure_encoding.specs.OfRightRules.Joined.{Places, IsPlaced}
 use Rattle.closure_encoding.specs.Closures.{closure_formulas, closure_clauses}
 use Rattle.cost_terms.specs.Ranges.{IsTableBelow}
+use Rattle.cost_limits.specs.OfProblemLimits.Limits.{is_within_limits}
+use Rattle.cost_limits.specs.Small.{are_small}
 use Rattle.cost_bits.specs.Least.{AreCostBits}
 use Rattle.graph_terms.specs.Held.{held_in}
 use Rattle.ranked_costs.specs.Given.{held_for}
+use Rattle.ranked_costs.specs.Built.{terms_for}
 
 -- what is defined for the conditions of all directives
 abbrev pub closure_values : Problem → List Text → Places → List Defined
@@ -41,9 +44,16 @@ ClosureInRange = (problem : Problem) (names : List Text) (place : Places) → Is
     → IsTableBelow (closure_clauses problem names place).vars (table_for problem names)
     × MetBelow (closure_clauses problem names place).vars (value_at (closure_values problem names place))
 
+-- within the limits the weights of each of the 31 lists of terms add up to less than 2^63
+abbrev pub ClosureSmall : Type 0
+ClosureSmall = (problem : Problem) (names : List Text) (values : List Defined) (order : List Text) → is_within_limits problem ≡ true
+    → IsClosure problem names → length names ≤ 1024 → IsPermutation (map name_of (table_for problem names).blocks) order
+    → are_small (terms_for problem (table_for problem names) values order) ≡ true
+
 -- the bits of costs rank the valid graphs by their cost vectors, whatever the order of the names
 abbrev pub ClosureCosts : Type 0
-ClosureCosts = (problem : Problem) (names : List Text) (place : Places) (new : Clauses) (bits : List Lit) (tops : List ℕ) (order : List Text)
+ClosureCosts = (problem : Problem) (names : List Text) (place : Places) (new : Clauses) (bits : List Lit) (tops : List ℕ)
+    (order : List Text)
     → IsClosure problem names → have_values problem names ≡ true → IsPlaced (conditions_of problem (table_for problem names)) place
     → IsPermutation (map name_of (table_for problem names).blocks) order
     → AreCostBits (closure_clauses problem names place) new bits tops problem (table_for problem names)
@@ -52,7 +62,8 @@ ClosureCosts = (problem : Problem) (names : List Text) (place : Places) (new : C
 
 -- in each model of all clauses the bits have the values that spell the cost vector of its graph
 abbrev pub ClosureSpells : Type 0
-ClosureSpells = (problem : Problem) (names : List Text) (place : Places) (new : Clauses) (bits : List Lit) (tops : List ℕ) (order : List Text)
+ClosureSpells = (problem : Problem) (names : List Text) (place : Places) (new : Clauses) (bits : List Lit) (tops : List ℕ)
+    (order : List Text)
     → IsClosure problem names → have_values problem names ≡ true → IsPlaced (conditions_of problem (table_for problem names)) place
     → IsPermutation (map name_of (table_for problem names).blocks) order
     → AreCostBits (closure_clauses problem names place) new bits tops problem (table_for problem names)

@@ -7,10 +7,10 @@ ghost use Rattle.cost_bits.specs.Least.{AreCostBits};
 ghost use Rattle.closure_encoding.specs.OfGraphEncoding.Formulas.{MetBelow};
 ghost use Rattle.graph_terms.specs.Held.{held_in};
 ghost use Rattle.ranked_costs.specs.Given.{held_for};
-ghost use Rattle.ranked_costs.specs.Built.{are_small, terms_for, rank_costs_on};
+ghost use Rattle.cost_limits.specs.Small.{are_small};
+ghost use Rattle.ranked_costs.specs.Built.{terms_for, rank_costs_on};
 
 use crate::held::held_for;
-use crate::small::are_small;
 use clause_formulas::Defined;
 use clause_store::ClauseList;
 use criteria_totals::Bits;
@@ -24,8 +24,8 @@ use std::alloc::{AllocError, Global};
 /// Bits of the 31 numbers of the cost vector, the first to compare first, behind the clauses.
 ///
 /// `values` are those of the conditions of all directives of the table's packages, name by name, and
-/// `order` has the names of the table in any order. An error is want of memory; where the weights of
-/// one number add up to 2^63 or more, it is answered too.
+/// `order` has the names of the table in any order. The weights of each number add up to less than 2^63, as those of
+/// each problem within the limits do (`costs_laws`).
 pub fn rank_costs(
     alloc: Global,
     clauses: &mut ClauseList,
@@ -36,18 +36,15 @@ pub fn rank_costs(
 ) -> Result<Bits, AllocError>
     requires table { IsTableBelow clauses.old.vars table.now }
     requires values { MetBelow clauses.old.vars (value_at values.now) }
-    ensures built { IfOk result (λ bits. rank_costs_on clauses.old problem.now table.now values.now order.now
+    requires small { are_small (terms_for problem.now table.now values.now order.now) ≡ true }
+    ensures built
+        { IfOk result (λ bits. rank_costs_on clauses.old problem.now table.now values.now order.now
         ≡ record { list = clauses.new; answer = bits }) }
-    ensures small { IfOk result (λ bits. are_small (terms_for problem.now table.now values.now order.now)
-        ≡ true) }
     ensures bits { IfOk result (λ bits. AreCostBits clauses.old clauses.new bits.lits bits.tops
         problem.now table.now (held_in (held_for problem.now table.now values.now)) order.now) }
     ensures extends { Extends clauses.old clauses.new }
 {
     let held = held_for(alloc, problem, table, values)?;
     let lists = cost_terms(alloc, problem, table, held.as_slice(), order)?;
-    if !are_small(lists.as_slice()) {
-        return Err(AllocError);
-    }
     define_totals(alloc, clauses, lists.as_slice())
 }

@@ -10,14 +10,15 @@ decode-requires c =
     let e = c.args.encoded.now in
     let found : IsFound e.clauses e.bits.lits c.args._budget (Optimal c.in-Optimal.model c.in-Optimal.log) =
     subst (IsFound e.clauses e.bits.lits c.args._budget) c.in-Optimal.is c.requires.found in
-    subst (λ values. IsStructured (assignment_of values) e.table) (sym c.as_slice.ensures) (c.requires.encoded.structured (assignment_of c.in-Optimal.model) found.1)
+    subst (λ values. IsStructured (assignment_of values) e.table) (sym c.as_slice.ensures)
+        (c.requires.encoded.structured (assignment_of c.in-Optimal.model) found.1)
 
 pub returns-then-is_writable : goal.returns-then-is_writable
 returns-then-is_writable c =
     let e = c.args.encoded.now in
     let found : IsFound e.clauses e.bits.lits c.args._budget (Optimal c.in-Optimal.model c.in-Optimal.log) =
     subst (IsFound e.clauses e.bits.lits c.args._budget) c.in-Optimal.is c.requires.found in
-    best-answer c.args._problem.now e c.requires.encoded c.requires.encodable c.requires.built c.args._budget c.in-Optimal.log
+    best-answer c.args._problem.now e c.requires.encoded c.requires.built c.args._budget c.in-Optimal.log
     (c.is_writable.ensures c.if-is_writable.true)
     c.in-Optimal.model c.in_ok-graph-in-Optimal.graph found
     (c.found_laws.ensures e.clauses e.bits.lits c.args._budget (Optimal c.in-Optimal.model c.in-Optimal.log) c.requires.in_order found)
@@ -28,7 +29,7 @@ returns-then-is_writable-2 c =
     let e = c.args.encoded.now in
     let found : IsFound e.clauses e.bits.lits c.args._budget (Refuted c.in-Refuted.log) =
     subst (IsFound e.clauses e.bits.lits c.args._budget) c.in-Refuted.is c.requires.found in
-    nothing-answer c.args._problem.now e c.requires.encoded c.requires.encodable c.requires.built c.args._budget c.in-Refuted.log
+    nothing-answer c.args._problem.now e c.requires.encoded c.requires.built c.args._budget c.in-Refuted.log
     (c.is_writable-in-Refuted.ensures c.if-is_writable-2.true) found
     (c.found_laws.ensures e.clauses e.bits.lits c.args._budget (Refuted c.in-Refuted.log) c.requires.in_order found)
 
@@ -37,6 +38,6 @@ returns-then-is_writable-3 c =
     let e = c.args.encoded.now in
     let found : IsFound e.clauses e.bits.lits c.args._budget (Spent c.in-Spent.log) =
     subst (IsFound e.clauses e.bits.lits c.args._budget) c.in-Spent.is c.requires.found in
-    spent-answer c.args._problem.now e c.requires.encoded c.requires.encodable c.requires.built c.args._budget c.in-Spent.log
+    spent-answer c.args._problem.now e c.requires.encoded c.requires.built c.args._budget c.in-Spent.log
     (c.is_writable-in-Spent.ensures c.if-is_writable-3.true) (c.is_finite.ensures) found
     (c.found_laws.ensures e.clauses e.bits.lits c.args._budget (Spent c.in-Spent.log) c.requires.in_order found)

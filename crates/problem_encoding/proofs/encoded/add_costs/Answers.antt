@@ -1,13 +1,14 @@
-use Rattle.std.proofs.Common.{◌≡◌, sym, subst, ap, ◌∙◌, true, List}
+use Rattle.std.proofs.Common.{◌≡◌, sym, subst, ap, ◌∙◌, true}
 use Rattle.std.specs.List.Sorted.{IsPermutation}
 use Rattle.std.specs.List.{filter_map}
 use Rattle.std.proofs.lemmas.Result.{IfOk-weaker}
-use Rattle.graph_core.specs.Graphs.{Text}
 use Rattle.possible_closure.specs.Closures.{closure_of}
 use Rattle.name_order.specs.Walks.{all_names, post_order}
 use Rattle.problem_formulas.specs.Given.{no_place}
-use Rattle.ranked_costs.specs.Built.{are_small, terms_for, rank_costs_on}
-use Rattle.problem_encoding.specs.Built.{order_in}
+use Rattle.literal_table.specs.Tables.{Table}
+use Rattle.ranked_costs.specs.OfCostLimits.Small.{are_small}
+use Rattle.ranked_costs.specs.Built.{terms_for, rank_costs_on}
+use Rattle.problem_encoding.specs.Built.{order_in, table_of}
 use Rattle.problem_encoding.proofs.Ruled.{unplaced}
 use Rattle.problem_encoding.proofs.Whole.{whole, in-range}
 use Rattle.problem_encoding.proofs.encoded.add_costs.Goals as goal
@@ -15,38 +16,43 @@ use Rattle.problem_encoding.proofs.encoded.add_costs.Goals as goal
 pub rank_costs-requires-clause-table : goal.rank_costs-requires-clause-table
 rank_costs-requires-clause-table c =
     let p = c.args.problem.now in
-    let r = c.requires in
-    (in-range p (closure_of p) no_place r.closure r.has (unplaced p (closure_of p)) c.costs_laws.ensures.range c.args.table.now c.args.clauses.now
+    let r = c.requires.ruled in
+    (in-range p (closure_of p) no_place r.closure r.has (unplaced p (closure_of p)) c.costs_laws.ensures.range c.args.table.now
+        c.args.clauses.now
     c.args.values.now r.is_table r.clauses r.values).0
 
 pub rank_costs-requires-clause-values : goal.rank_costs-requires-clause-values
 rank_costs-requires-clause-values c =
     let p = c.args.problem.now in
-    let r = c.requires in
-    (in-range p (closure_of p) no_place r.closure r.has (unplaced p (closure_of p)) c.costs_laws.ensures.range c.args.table.now c.args.clauses.now
+    let r = c.requires.ruled in
+    (in-range p (closure_of p) no_place r.closure r.has (unplaced p (closure_of p)) c.costs_laws.ensures.range c.args.table.now
+        c.args.clauses.now
     c.args.values.now r.is_table r.clauses r.values).1
+
+pub rank_costs-requires-clause-small : goal.rank_costs-requires-clause-small
+rank_costs-requires-clause-small c =
+    let p = c.args.problem.now in
+    let r = c.requires.ruled in
+    let each : IsPermutation (all_names c.args.table.now) c.as_slice-2.result.now =
+    subst (IsPermutation (all_names c.args.table.now)) (sym (c.as_slice-2.ensures.value ∙ c.in_ok-order.ensures))
+    (c.order_laws.ensures.each c.args.table.now c.as_slice.result.now) in
+    let own : IsPermutation (all_names (table_of p)) c.as_slice-2.result.now =
+    subst (λ (t : Table). IsPermutation (all_names t) c.as_slice-2.result.now) r.is_table each in
+    subst (λ (t : Table). are_small (terms_for p t c.args.values.now c.as_slice-2.result.now) ≡ true) (sym r.is_table)
+    (c.costs_laws.ensures.small p (closure_of p) c.args.values.now c.as_slice-2.result.now c.requires.limits r.closure c.requires.few own)
 
 pub returns-clause-costed : goal.returns-clause-costed
 returns-clause-costed c =
     let p = c.args.problem.now in
-    let r = c.requires in
+    let r = c.requires.ruled in
     let each : IsPermutation (all_names c.args.table.now) c.as_slice-2.result.now =
     subst (IsPermutation (all_names c.args.table.now)) (sym (c.as_slice-2.ensures.value ∙ c.in_ok-order.ensures))
     (c.order_laws.ensures.each c.args.table.now c.as_slice.result.now) in
     IfOk-weaker c.rank_costs.result _ _ (λ bits are.
     whole p (closure_of p) no_place r.closure r.has (unplaced p (closure_of p)) c.costs_laws.ensures.ranks c.costs_laws.ensures.spells
-    c.closure_laws.ensures.structured c.args.table.now c.args.clauses.now c.args.values.now r.is_table r.clauses r.values c.rank_costs.new.clauses bits
+    c.closure_laws.ensures.structured c.args.table.now c.args.clauses.now c.args.values.now r.is_table r.clauses r.values
+        c.rank_costs.new.clauses bits
     c.as_slice-2.result.now each are) c.rank_costs.ensures.bits
-
-pub returns-clause-small : goal.returns-clause-small
-returns-clause-small c =
-    let p = c.args.problem.now in
-    let roots : c.as_slice.result.now ≡ filter_map (λ spec. spec.top.name) p.roots =
-    c.as_slice.ensures.value ∙ c.in_ok-roots.ensures ∙ ap (filter_map (λ spec. spec.top.name)) c.roots.ensures in
-    let order : c.as_slice-2.result.now ≡ order_in p c.args.table.now =
-    c.as_slice-2.ensures.value ∙ c.in_ok-order.ensures ∙ ap (post_order c.args.table.now) roots in
-    IfOk-weaker c.rank_costs.result _ _ (λ bits small.
-    subst (λ (order : List Text). are_small (terms_for p c.args.table.now c.args.values.now order) ≡ true) order small) c.rank_costs.ensures.small
 
 pub returns-clause-built : goal.returns-clause-built
 returns-clause-built c =

@@ -1,6 +1,8 @@
 use Rattle.graph_costs.specs.Costs.{vector}
 use Rattle.closure_encoding.specs.OfRightTables.Tables.{table_for, size_for}
 use Rattle.closure_encoding.specs.Closures.{closure_clauses}
+use Rattle.graph_terms.specs.Held.{held_in}
+use Rattle.ranked_costs.specs.Given.{held_for}
 use Rattle.ranked_costs.proofs.Ranges.{table-below}
 use Rattle.ranked_costs.proofs.Steps.{sums, orders, same}
 use Rattle.ranked_costs.proofs.Finding.{found}
@@ -12,9 +14,13 @@ returns c = record {
       let range = c.closure_laws.ensures.range problem names place closure has placed in
       let table = c.closure_laws.ensures.table problem names closure in
       (table-below (size_for problem names) (closure_clauses problem names place).vars (table_for problem names) range.0 table.1, range.1);
+  small = λ problem names values order limits closure few ordered.
+      c.limit_laws.ensures.small problem names 0 (held_in (held_for problem (table_for problem names) values)) order limits
+          closure few ordered;
   ranks = λ problem names place new bits tops order closure has placed ordered costs.
       let table = c.closure_laws.ensures.table problem names closure in
-      c.closure_laws.ensures.ranks problem names place new bits (sums problem names place order new bits tops costs) (vector problem) closure has placed
+      c.closure_laws.ensures.ranks problem names place new bits (sums problem names place order new bits tops costs) (vector problem)
+          closure has placed
       (orders problem names place order new bits tops costs) (same problem names place order new bits tops costs table.0 ordered);
   spells = λ problem names place new bits tops order closure has placed ordered costs.
       let table = c.closure_laws.ensures.table problem names closure in

@@ -1,0 +1,65 @@
+-- How large a problem is, and which problems are within the limits.
+use Rattle.std.specs.Prelude.{ℕ, ◌+◌, ◌-◌, ◌^◌, Bool, ◌&&◌, List, length, min, nat_le}
+use Rattle.std.specs.List.{sum_by}
+use Rattle.problem.specs.OfGraphCore.Graphs.{Text}
+use Rattle.problem.specs.OfConditions.Recipe.{Recipe}
+use Rattle.problem.specs.OfConditions.VariantRow.{VariantRow}
+use Rattle.problem.specs.OfSiteSettings.ExternalEntry.{ExternalEntry}
+use Rattle.site_settings.specs.declared.settings.PackageEntry.{PackageEntry}
+use Rattle.site_settings.specs.declared.settings.Settings.{Settings}
+use Rattle.problem.specs.OfReuseDb.Record.{Record}
+use Rattle.problem.specs.Problems.{Problem}
+
+-- ---- recipes: their rows, and the members of the value and default sets of their variants
+
+abbrev pub set_members : VariantRow → ℕ
+set_members row = length row.values + length row.default
+
+abbrev pub rows_of : Recipe → ℕ
+rows_of recipe = length recipe.versions + length recipe.variants + length recipe.depends + length recipe.provides
+    + length recipe.conflicts + length recipe.requirements
+
+abbrev pub size_of_recipe : Recipe → ℕ
+size_of_recipe recipe = rows_of recipe + sum_by set_members recipe.variants
+
+abbrev pub recipe_size : Problem → ℕ
+recipe_size problem = sum_by size_of_recipe problem.recipes
+
+-- ---- settings: OSs, targets, compilers, names in lists of providers, externals and their variant values
+
+abbrev pub variant_members : List (Text × List Text) → ℕ
+variant_members variants = sum_by (λ variant. length variant.1) variants
+
+abbrev pub external_members : ExternalEntry → ℕ
+external_members entry = variant_members entry.variants
+
+abbrev pub size_of_package : PackageEntry → ℕ
+size_of_package entry = length entry.externals + sum_by external_members entry.externals
+
+abbrev pub provider_names : Text × List Text → ℕ
+provider_names list = length list.1
+
+abbrev pub size_of_settings : Settings → ℕ
+size_of_settings settings = length settings.os + length settings.targets + length settings.compilers
+    + sum_by provider_names settings.providers + sum_by size_of_package settings.packages
+
+abbrev pub settings_size : Problem → ℕ
+settings_size problem = size_of_settings problem.settings
+
+-- ---- the database: its records, with their dependencies and variant values
+
+abbrev pub record_members : Record → ℕ
+record_members entry = length entry.dependencies + variant_members entry.variants
+
+abbrev pub database_size : Problem → ℕ
+database_size problem = length problem.database + sum_by record_members problem.database
+
+-- ---- the limits
+
+unfoldable pub is_within_limits : Problem → Bool
+is_within_limits problem =
+    nat_le (recipe_size problem) (2 ^ 28) && nat_le (settings_size problem) (2 ^ 24) && nat_le (database_size problem) (2 ^ 26)
+
+-- a count that stops at the largest number of 64 bits
+abbrev pub stopped : ℕ → ℕ
+stopped n = min n (2 ^ 64 - 1)
