@@ -26,7 +26,7 @@ use proof_log::{Log, may_write};
 use std::alloc::{AllocError, Global};
 
 /// The best graph of a problem, where the search may learn so many clauses. Externals and records have values for their variants
-/// (`has_right_values`), and the problem is within the limits (`is_within_limits`). `progress` is told how far it is.
+/// (`has_right_values`), and the problem is within the limits (`may_encode`). `progress` is told how far it is.
 pub fn best_graph<P: Progress>(
     alloc: Global,
     problem: &Problem,

@@ -13,6 +13,6 @@ mod meaning;
 pub use answer::Answer;
 pub use best::best_graph;
 // What crates above encode with.
-pub use problem_encoding::{Encoded, encode, has_right_values, is_within_limits, values_of};
+pub use problem_encoding::{Encoded, encode, has_right_values, may_encode, values_of};
 // What is told of a run.
 pub use optimum_search::{Progress, Stage, Untold};

@@ -15,7 +15,7 @@ ghost use Rattle.dimacs_run.specs.Attempts.{Attempts, IsReadStop, FailsToRead, F
 
 use dimacs_text::dimacs_text;
 use outside_desk::{Desk, Sink, SinkFault};
-use problem_encoding::encode;
+use problem_encoding::{encode, may_encode};
 use run_input::{Input, ReadStop, Stop, WriteStop, read_input, read_order};
 use std::alloc::{AllocError, Global};
 use std::thread::Threads;
@@ -33,7 +33,7 @@ fn explained(alloc: Global, words: &[String]) -> Result<Vec<String>, AllocError>
     Ok(all)
 }
 
-/// The text of the encoding of what was read.
+/// The text of the encoding of what was read. Of a problem that may not be encoded it is want of memory.
 #[tactic(auto, unfolding(crate::specs::Answers::text_of))]
 fn text_of(alloc: Global, input: &Input) -> Result<Vec<u8>, AllocError>
     requires names { input.now.closure ≡ closure_of input.now.problem }
@@ -41,6 +41,9 @@ fn text_of(alloc: Global, input: &Input) -> Result<Vec<u8>, AllocError>
     ensures { IfOk result (λ text. text.items ≡ text_of input.now.problem) }
 {
     let problem = &input.problem;
+    if !may_encode(problem, &input.closure) {
+        return Err(AllocError);
+    }
     let encoded = encode(alloc, problem, &input.closure)?;
     dimacs_text(
         alloc,

@@ -12,6 +12,6 @@ mod theorems;
 pub use theorems::verdict_laws;
 // What crates above answer with.
 pub use best_graph::{
-    Answer, Encoded, Progress, Stage, Untold, best_graph, encode, has_right_values,
-    is_within_limits, values_of,
+    Answer, Encoded, Progress, Stage, Untold, best_graph, encode, has_right_values, may_encode,
+    values_of,
 };

@@ -23,7 +23,7 @@ use std::alloc::{AllocError, Global};
 /// Whether some graph is valid, and else the demands that a refutation rests on, where the search may learn so many clauses.
 ///
 /// The search is without bits of costs, so it ends at the first graph. Externals and records have values for their variants
-/// (`has_right_values`), and the problem is within the limits (`is_within_limits`). `progress` is told how far it is.
+/// (`has_right_values`), and the problem is within the limits (`may_encode`). `progress` is told how far it is.
 pub fn explain<P: Progress>(
     alloc: Global,
     problem: &Problem,

@@ -33,8 +33,7 @@ pub struct Encoded {
 /// The clauses of a problem over the names that its nodes may have: one encoding for each problem.
 ///
 /// Externals and records have values for their variants, as all that are read do; `has_right_values` tests it. The problem is within
-/// the limits, which `is_within_limits` tests, and its closure has at most 1,024 names, as each that is made has: so the weights of
-/// each number add up to less than 2^63.
+/// the limits, and its closure has at most 1,024 names (`may_encode`): so the weights of each number add up to less than 2^63.
 ///
 /// An error is want of memory.
 pub fn encode(alloc: Global, problem: &Problem, closure: &Closure) -> Result<Encoded, AllocError>

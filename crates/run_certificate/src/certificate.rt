@@ -20,7 +20,7 @@ use crate::pieces::take_all;
 use crate::verdict::verdict;
 use certified::{TextChecker, text_laws};
 use clause_store::{ClauseList, Lit};
-use graph_reasons::{Encoded, encode, values_of, verdict_laws};
+use graph_reasons::{Encoded, encode, may_encode, values_of, verdict_laws};
 use outside_desk::Desk;
 use possible_closure::Closure;
 use problem::Problem;
@@ -134,6 +134,19 @@ fn check_over<R: Threads + Sync, D: Desk>(
     }
 }
 
+/// The encoding of a problem. One that may not be encoded is want of memory.
+fn encoded_of(alloc: Global, problem: &Problem, closure: &Closure) -> Result<Encoded, AllocError>
+    requires closure { closure.now ≡ closure_of problem.now }
+    requires values { has_right_values problem.now ≡ true }
+    ensures encoded { IfOk result (IsEncoded problem.now) }
+    ensures built { IfOk result (λ encoded. encoded ≡ encoding_of problem.now) }
+{
+    if !may_encode(problem, closure) {
+        return Err(AllocError);
+    }
+    encode(alloc, problem, closure)
+}
+
 /// Reads the certificate at a path: whether it shows that a valid graph of the problem with these costs is optimal, or,
 /// without costs, that no graph is valid.
 ///
@@ -166,7 +179,7 @@ pub fn read_certificate<R: Threads + Sync, D: Desk>(
     ensures steady { EndsByInput result → D.faults desk.new ≡ D.faults desk.old }
     ensures put_faults { D.put_faults desk.new ≡ D.put_faults desk.old }
 {
-    let encoded = encode(alloc, problem, closure)?;
+    let encoded = encoded_of(alloc, problem, closure)?;
     let checked = check_over(rt, alloc, desk, path, problem, &encoded, numbers);
     drop(encoded);
     checked

@@ -13,4 +13,6 @@ mod verdict;
 
 pub use certificate::read_certificate;
 // What crates above answer with.
-pub use graph_reasons::{Answer, Explanation, Progress, Stage, Untold, best_graph, explain};
+pub use graph_reasons::{
+    Answer, Explanation, Progress, Stage, Untold, best_graph, explain, may_encode,
+};
