@@ -6,6 +6,7 @@ ends      the same, with random places where numbers end, some of them out of or
 tight     random 3-clauses over 8 to 16 variables near the ratio where few models are left, with bits and the same budgets
 threesat  3-SAT of SIZE variables at ratio 4.26, without bits
 pigeons   pigeon holes: one pigeon more than 2 to SIZE holes
+parities  sums of three variables each, SIZE of them over SIZE variables, as bits that are even or odd
 bits      random clauses over SIZE variables, about SIZE/10 bits
 chains    SIZE packages of VERSIONS (4) versions: each depends on some of the next ones, and the bits are the packages that are
           there and then the versions that are not the newest, of the first packages first, up to 2,000
@@ -62,6 +63,17 @@ def pigeons(rng, size, turn=[1]):
     clauses = [[at(p, h) for h in range(holes)] for p in range(holes + 1)]
     clauses += [[-at(p, h), -at(q, h)] for h in range(holes) for p in range(holes + 1) for q in range(p)]
     return row(10**9, holes * (holes + 1), [], clauses)
+
+
+def parities(rng, size):
+    n = size or 60
+    clauses = []
+    for _ in range(n):
+        chosen, odd = rng.sample(range(1, n + 1), 3), rng.random() < 0.5
+        for signs in range(8):
+            if (bin(signs).count("1") % 2 == 1) != odd:
+                clauses.append([-v if signs >> k & 1 else v for k, v in enumerate(chosen)])
+    return row(10**9, n, [], clauses)
 
 
 def bits(rng, size):

@@ -7,7 +7,7 @@ use std::alloc::AllocError;
 use std::marker::Model;
 
 /// A literal: twice its variable, and one more where it is true with it.
-#[derive(Drop)]
+#[derive(Default, Drop)]
 pub struct Code {
     bits: u32,
 }
