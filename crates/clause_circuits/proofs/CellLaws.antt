@@ -93,16 +93,16 @@ carry_on-is v p (a ∷ b ∷ c ∷ d ∷ ls) h f = absurd (omega arith)
 abbrev pub IsLow : Planned → Option Lit → List Lit → Type 0
 IsLow p o ls = (v : ℕ → Bool) → FollowsPlan v p → bit (bit_true v o) + 2 * bit (two v ls) ≡ count_true v ls
 
-one-zero : 1 ≡ 0 → ⊥
+one-zero : ◌≡◌ {A = ℕ} 1 0 → ⊥
 one-zero h = omega arith
 
-zero-one : 0 ≡ 1 → ⊥
+zero-one : ◌≡◌ {A = ℕ} 0 1 → ⊥
 zero-one h = omega arith
 
-three-two : 3 ≡ 2 → ⊥
+three-two : ◌≡◌ {A = ℕ} 3 2 → ⊥
 three-two h = omega arith
 
-two-three : 2 ≡ 3 → ⊥
+two-three : ◌≡◌ {A = ℕ} 2 3 → ⊥
 two-three h = omega arith
 
 both_with-agrees : (v : ℕ → Bool) (s a b : Lit) → bit (lit_true v s) + 2 * bit (two v (a ∷ b ∷ [])) ≡ count_true v (a ∷ b ∷ [])

@@ -90,26 +90,21 @@ fn most_with(alloc: Global, low: Lit, a: Lit, b: Lit, c: Lit) -> Result<Gate, Al
 {
     let (na, nb, nc) = (a.negated(), b.negated(), c.negated());
     let mut on = Vec::with_capacity(alloc, 6)?;
-    push_pairs(alloc, &mut on, &[[na, nb], [na, nc], [nb, nc]])?;
-    push_pairs(alloc, &mut on, &[[low, na], [low, nb], [low, nc]])?;
-    let low = low.negated();
+    push_lits(alloc, &mut on, &[na, nb])?;
+    push_lits(alloc, &mut on, &[na, nc])?;
+    push_lits(alloc, &mut on, &[nb, nc])?;
+    push_lits(alloc, &mut on, &[low, na])?;
+    push_lits(alloc, &mut on, &[low, nb])?;
+    push_lits(alloc, &mut on, &[low, nc])?;
+    let even = low.negated();
     let mut off = Vec::with_capacity(alloc, 6)?;
-    push_pairs(alloc, &mut off, &[[a, b], [a, c], [b, c]])?;
-    push_pairs(alloc, &mut off, &[[low, a], [low, b], [low, c]])?;
+    push_lits(alloc, &mut off, &[a, b])?;
+    push_lits(alloc, &mut off, &[a, c])?;
+    push_lits(alloc, &mut off, &[b, c])?;
+    push_lits(alloc, &mut off, &[even, a])?;
+    push_lits(alloc, &mut off, &[even, b])?;
+    push_lits(alloc, &mut off, &[even, c])?;
     Ok(Gate::by_clauses(on, off))
-}
-
-fn push_pairs(
-    alloc: Global,
-    clauses: &mut Vec<Lits>,
-    pairs: &[[Lit; 2]; 3],
-) -> Result<(), AllocError>
-    ensures { OnOk result (clauses.new.items ≡ clauses.old.items ++ pairs.now) }
-{
-    for pair in pairs {
-        push_lits(alloc, clauses, pair)?;
-    }
-    Ok(())
 }
 
 fn push_lits(alloc: Global, clauses: &mut Vec<Lits>, lits: &[Lit]) -> Result<(), AllocError>
