@@ -1,10 +1,10 @@
 -- The loops of the adders, step by step.
-use Rattle.std.proofs.Common.{◌≡◌, ℕ, zero, suc, ◌+◌, ◌/◌, ◌%◌, ◌<◌, ◌≤◌, List, [], ◌∷◌, ◌++◌, length, take, drop, get_or, eqb, reverse, Option, append_assoc, refl, sym, ap, ◌∙◌, arith}
+use Rattle.std.proofs.Common.{◌≡◌, ℕ, zero, suc, ◌+◌, ◌/◌, ◌%◌, ◌<◌, ◌≤◌, List, [], ◌∷◌, ◌++◌, length, take, drop, get_or, eqb, reverse, Option, None, append_assoc, refl, sym, ap, ◌∙◌, arith}
 use Rattle.std.proofs.lemmas.Bool.{ne_eqb}
 use Rattle.std.specs.Bool.{then_some}
 use Rattle.clause_store.specs.declared.Lit.{Lit}
 use Rattle.gate_plans.specs.Gates.{Planned, Made}
-use Rattle.clause_circuits.specs.Cells.{odd_on, carry_on}
+use Rattle.clause_circuits.specs.Cells.{odd_on, tied_on}
 use Rattle.clause_circuits.specs.Trees.{halved, total, tree_total}
 use Rattle.clause_circuits.specs.Binary.{size_below, size, weighed, first_bit, rest_bits, present, add_on, sum_on, spell_on, sum_bits_on}
 use Rattle.clause_circuits.proofs.TreeLaws.{halved-none, halved-leaf, halved-split, halved-sum}
@@ -33,16 +33,16 @@ rest-next (suc i) (b ∷ bs) = rest-next i bs
 rest-drop : (i : ℕ) (bs : List (Option Lit)) → rest_bits (drop i bs) ≡ drop (i + 1) bs
 rest-drop i bs = let e : suc i ≡ i + 1 = omega arith in rest-next i bs ∙ ap (λ n. drop n bs) e
 
-pub add-more : (j w : ℕ) (p q r : Planned) (ls here : List Lit) (carry sum x y : Option Lit) (bs cs bits more : List (Option Lit)) (i : ℕ)
+pub add-more : (j w : ℕ) (p q r : Planned) (low : Option Lit) (ls here : List Lit) (carry sum x y : Option Lit) (bs cs bits more : List (Option Lit)) (i : ℕ)
     (all : Made (List (Option Lit))) →
-    j ≡ suc w → with_front bits (add_on j p ls (drop i bs) (drop i cs)) ≡ all →
-    carry_on p ls ≡ record { plan = q; answer = carry } → here ≡ present carry x y → x ≡ first_bit (drop i bs) → y ≡ first_bit (drop i cs)
+    j ≡ suc w → with_front bits (add_on j p low ls (drop i bs) (drop i cs)) ≡ all →
+    tied_on p low ls ≡ record { plan = q; answer = carry } → here ≡ present carry x y → x ≡ first_bit (drop i bs) → y ≡ first_bit (drop i cs)
     → odd_on q here ≡ record { plan = r; answer = sum } → more ≡ bits ++ sum ∷ [] →
-    with_front more (add_on w r here (drop (i + 1) bs) (drop (i + 1) cs)) ≡ all
-add-more j w p q r ls here carry sum x y bs cs bits more i all n inv e h f g o m =
-    sym (ap (λ k. with_front bits (add_on k p ls (drop i bs) (drop i cs))) n
+    with_front more (add_on w r sum here (drop (i + 1) bs) (drop (i + 1) cs)) ≡ all
+add-more j w p q r low ls here carry sum x y bs cs bits more i all n inv e h f g o m =
+    sym (ap (λ k. with_front bits (add_on k p low ls (drop i bs) (drop i cs))) n
     ∙ rw (e, ← f, ← g, ← h, o, rest-drop i bs, rest-drop i cs)
-    (pushed bits sum (add_on w r here (drop (i + 1) bs) (drop (i + 1) cs)) more m)) ∙ inv
+    (pushed bits sum (add_on w r sum here (drop (i + 1) bs) (drop (i + 1) cs)) more m)) ∙ inv
   where
     pushed : (bits : List (Option Lit)) (b : Option Lit) (m : Made (List (Option Lit))) (more : List (Option Lit)) → more ≡ bits ++ b ∷ []
         → with_front bits (record { plan = m.plan; answer = b ∷ m.answer }) ≡ with_front more m
@@ -59,7 +59,7 @@ sum-leaf p ts d xs h k e = rw (halved-leaf ts d h k, e) refl
 pub sum-node : (p q r : Planned) (ts : List (ℕ × Lit)) (xs ys : List (Option Lit)) (w : ℕ) (m : Made (List (Option Lit))) → 2 ≤ length ts →
     sum_on p (halved (take (length ts / 2) ts)) ≡ record { plan = q; answer = xs }
     → sum_on q (halved (drop (length ts / 2) ts)) ≡ record { plan = r; answer = ys } →
-    w ≡ size (total ts) → add_on w r [] xs ys ≡ m → sum_on p (halved ts) ≡ m
+    w ≡ size (total ts) → add_on w r None [] xs ys ≡ m → sum_on p (halved ts) ≡ m
 sum-node p q r ts xs ys w m h e f k o =
     let n = length ts / 2 in
     let t : tree_total (halved (take n ts)) + tree_total (halved (drop n ts)) ≡ total ts = ap tree_total (sym (halved-split ts h))

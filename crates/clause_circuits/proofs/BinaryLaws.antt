@@ -10,11 +10,11 @@ use Rattle.clause_store.proofs.Range.{AllBelow-le}
 use Rattle.gate_plans.specs.Gates.{Planned, Made, next, option_list, with_gate, with_gates, IsSound}
 use Rattle.gate_plans.specs.Steps.{Step, FollowsPlan, plan_at}
 use Rattle.gate_plans.proofs.StepLaws.{Step-refl, Step-trans, Step-gate, sound_from, step-defines, step-follows, step-vars}
-use Rattle.clause_circuits.specs.Cells.{bit, bit_true, count_true, Fits, AllFit, odd_on, carry_on}
+use Rattle.clause_circuits.specs.Cells.{bit, bit_true, count_true, Fits, AllFit, odd_on, tied_on}
 use Rattle.gate_plans.specs.Shapes.{never}
 use Rattle.clause_circuits.specs.Trees.{Tree, none, leaf, node, tree_sum, halved, tree_total, total, weight_of, TreeBelow, TermsBelow}
 use Rattle.clause_circuits.specs.Binary.{value, size_below, size, weighed, first_bit, rest_bits, present, add_on, sum_on, spell_on, number_after, number, sum_bits_on, SumsTo, IsSum}
-use Rattle.clause_circuits.proofs.CellLaws.{odd_on-step, carry_on-step, odd_on-is, carry_on-is, two}
+use Rattle.clause_circuits.proofs.CellLaws.{odd_on-step, odd_on-is, IsLow, tied_on-step, tied_on-is, two}
 use Rattle.clause_circuits.proofs.TreeLaws.{TreeBelow-more, weight-le, halved-sum, halved-below}
 
 value-parts : (v : ℕ → Bool) (bs : List (Option Lit)) → value v bs ≡ bit (bit_true v (first_bit bs)) + 2 * value v (rest_bits bs)
@@ -90,13 +90,13 @@ pub record SpellsFrom (p : Planned) (m : Made (List (Option Lit))) (n : (ℕ →
   pub fit : AllFit (next m.plan) m.answer
   pub spells : (v : ℕ → Bool) → FollowsPlan v m.plan → n v < limit → value v m.answer ≡ n v
 
-pub add_on-is : (w : ℕ) (p : Planned) (ls : List Lit) (bs cs : List (Option Lit)) → AllBelow (next p) ls → AllFit (next p) bs
-    → AllFit (next p) cs → length ls ≤ 3 →
-    SpellsFrom p (add_on w p ls bs cs) (λ v. bit (two v ls) + value v bs + value v cs) (2 ^ w)
-add_on-is zero p ls bs cs a f g k = record { step = Step-refl p; fit = tt; spells = λ v fol h. omega arith }
-add_on-is (suc w) p ls bs cs a f g k =
-    let carry = carry_on p ls in
-    let s = carry_on-step p ls a in
+pub add_on-is : (w : ℕ) (p : Planned) (low : Option Lit) (ls : List Lit) (bs cs : List (Option Lit)) → AllBelow (next p) ls
+    → Fits (next p) low → IsLow p low ls → AllFit (next p) bs → AllFit (next p) cs → length ls ≤ 3 →
+    SpellsFrom p (add_on w p low ls bs cs) (λ v. bit (two v ls) + value v bs + value v cs) (2 ^ w)
+add_on-is zero p low ls bs cs a o q f g k = record { step = Step-refl p; fit = tt; spells = λ v fol h. omega arith }
+add_on-is (suc w) p low ls bs cs a o q f g k =
+    let carry = tied_on p low ls in
+    let s = tied_on-step p low ls a o k q in
     let here = present carry.answer (first_bit bs) (first_bit cs) in
     let n = next carry.plan in
     let below : AllBelow n here = present-below n carry.answer (first_bit bs) (first_bit cs) s.1
@@ -107,15 +107,16 @@ add_on-is (suc w) p ls bs cs a f g k =
     let m = next sum.plan in
     let up : next p ≤ m = omega (arith, s.0.more, t.0.more) in
     let short = present-short carry.answer (first_bit bs) (first_bit cs) in
-    let r = add_on-is w sum.plan here (rest_bits bs) (rest_bits cs) (AllBelow-le n m here t.0.more below)
+    let r = add_on-is w sum.plan sum.answer here (rest_bits bs) (rest_bits cs) (AllBelow-le n m here t.0.more below) t.1
+    (λ v fol. odd_on-is v carry.plan here short fol)
     (AllFit-more (next p) m (rest_bits bs) up (rest-fit (next p) bs f))
     (AllFit-more (next p) m (rest_bits cs) up (rest-fit (next p) cs g)) short in
-    let last = (add_on w sum.plan here (rest_bits bs) (rest_bits cs)).plan in record {
+    let last = (add_on w sum.plan sum.answer here (rest_bits bs) (rest_bits cs)).plan in record {
       step = Step-trans p carry.plan last s.0 (Step-trans carry.plan sum.plan last t.0 r.step);
       fit = (Fits-more m (next last) sum.answer r.step.more t.1, r.fit);
       spells = λ v fol h.
           let f1 : FollowsPlan v sum.plan = r.step.follows v fol in
-          let e1 : bit (bit_true v carry.answer) ≡ bit (two v ls) = ap bit (carry_on-is v p ls k (t.0.follows v f1)) in
+          let e1 : bit (bit_true v carry.answer) ≡ bit (two v ls) = ap bit (tied_on-is v p low ls k q (t.0.follows v f1)) in
           let e2 = odd_on-is v carry.plan here short f1 in
           let e3 = present-counts v carry.answer (first_bit bs) (first_bit cs) in
           let e4 = value-parts v bs in
@@ -125,9 +126,10 @@ add_on-is (suc w) p ls bs cs a f g k =
           omega arith;
     }
 
-add_on-length : (w : ℕ) (p : Planned) (ls : List Lit) (bs cs : List (Option Lit)) → length (add_on w p ls bs cs).answer ≡ w
-add_on-length zero p ls bs cs = refl
-add_on-length (suc w) p ls bs cs = ap suc (add_on-length w _ _ (rest_bits bs) (rest_bits cs))
+add_on-length : (w : ℕ) (p : Planned) (low : Option Lit) (ls : List Lit) (bs cs : List (Option Lit))
+    → length (add_on w p low ls bs cs).answer ≡ w
+add_on-length zero p low ls bs cs = refl
+add_on-length (suc w) p low ls bs cs = ap suc (add_on-length w _ _ _ (rest_bits bs) (rest_bits cs))
 
 -- sizes are large enough
 size_below-is : (k n : ℕ) → n < 2 ^ k → n < 2 ^ size_below k n
@@ -196,8 +198,8 @@ sum_on-is p (node l r) b h =
     let right = sum_on left.plan r in
     let y = sum_on-is left.plan r (TreeBelow-more (next p) (next left.plan) r x.step.more b.1) (omega arith) in
     let w = size (tree_total l + tree_total r) in
-    let sum = add_on w right.plan [] left.answer right.answer in
-    let z = add_on-is w right.plan [] left.answer right.answer tt
+    let sum = add_on w right.plan None [] left.answer right.answer in
+    let z = add_on-is w right.plan None [] left.answer right.answer tt tt (λ v fol. refl)
     (AllFit-more (next left.plan) (next right.plan) left.answer y.step.more x.fit) y.fit (omega arith) in record {
       step = Step-trans p left.plan sum.plan x.step (Step-trans left.plan right.plan sum.plan y.step z.step);
       fit = z.fit;
@@ -215,7 +217,7 @@ sum_on-length : (p : Planned) (t : Tree (ℕ × Lit)) → length (sum_on p t).an
 unfolding size
 sum_on-length p none = refl
 sum_on-length p (leaf t) = weighed-length (size t.0) t.0 t.1
-sum_on-length p (node l r) = add_on-length (size (tree_total l + tree_total r)) _ [] (sum_on p l).answer (sum_on (sum_on p l).plan r).answer
+sum_on-length p (node l r) = add_on-length (size (tree_total l + tree_total r)) _ None [] (sum_on p l).answer (sum_on (sum_on p l).plan r).answer
 
 -- literals for bits
 pub spell_on-is : (p : Planned) (bs : List (Option Lit)) → AllFit (next p) bs → Step p (spell_on p bs).plan

@@ -9,7 +9,7 @@ use Rattle.gate_plans.specs.Growth.{Defines, MeetsSince}
 use Rattle.gate_plans.specs.Steps.{Step, FollowsPlan}
 use Rattle.gate_plans.specs.Gates.{Planned, Made, with_gate, option_list, next}
 use Rattle.gate_plans.specs.Shapes.{never}
-use Rattle.clause_circuits.specs.Cells.{bit, bit_true, odd_on, carry_on}
+use Rattle.clause_circuits.specs.Cells.{bit, bit_true, odd_on, tied_on}
 use Rattle.clause_circuits.specs.Trees.{Tree, none, leaf, node, halved, tree_total, weight}
 
 -- the number that bits spell, the lowest first
@@ -45,14 +45,14 @@ present a b c = option_list a ++ option_list b ++ option_list c
 abbrev pub with_bit : Option Lit → Made (List (Option Lit)) → Made (List (Option Lit))
 with_bit b m = record { plan = m.plan; answer = b ∷ m.answer }
 
--- the lowest bits of a sum, so many, where the literals of the place below may carry
-abbrev pub add_on : ℕ → Planned → List Lit → List (Option Lit) → List (Option Lit) → Made (List (Option Lit))
-add_on zero p below bs cs = record { plan = p; answer = [] }
-add_on (suc w) p below bs cs =
-    let carry = carry_on p below in
+-- the lowest bits of a sum, so many, where the literals of the place below, whose own bit is given, may carry
+abbrev pub add_on : ℕ → Planned → Option Lit → List Lit → List (Option Lit) → List (Option Lit) → Made (List (Option Lit))
+add_on zero p low below bs cs = record { plan = p; answer = [] }
+add_on (suc w) p low below bs cs =
+    let carry = tied_on p low below in
     let here = present carry.answer (first_bit bs) (first_bit cs) in
     let sum = odd_on carry.plan here in
-    with_bit sum.answer (add_on w sum.plan here (rest_bits bs) (rest_bits cs))
+    with_bit sum.answer (add_on w sum.plan sum.answer here (rest_bits bs) (rest_bits cs))
 
 abbrev pub sum_on : Planned → Tree (ℕ × Lit) → Made (List (Option Lit))
 sum_on p none = record { plan = p; answer = [] }
@@ -60,7 +60,7 @@ sum_on p (leaf t) = record { plan = p; answer = weighed (size t.0) t.0 t.1 }
 sum_on p (node l r) =
     let left = sum_on p l in
     let right = sum_on left.plan r in
-    add_on (size (tree_total l + tree_total r)) right.plan [] left.answer right.answer
+    add_on (size (tree_total l + tree_total r)) right.plan None [] left.answer right.answer
 
 -- literals for bits: one that is true nowhere for each bit that is known to be false
 abbrev pub spell_on : Planned → List (Option Lit) → Made (List Lit)

@@ -1,12 +1,12 @@
 //! Binary sums: a balanced tree of adders over the bits of the weights.
-ghost use Rattle.std.specs.Prelude.{◌≡◌, ◌<◌, ◌≤◌, ◌^◌, [], drop, IfOk};
+ghost use Rattle.std.specs.Prelude.{◌≡◌, ◌<◌, ◌≤◌, ◌^◌, [], drop, None, IfOk};
 ghost use Rattle.gate_plans.specs.Growth.{Extends};
 ghost use Rattle.gate_plans.specs.Steps.{plan_at};
 ghost use Rattle.clause_circuits.specs.Trees.{total, halved, TermsBelow};
 ghost use Rattle.clause_circuits.specs.Binary.{size, weighed, first_bit, add_on, sum_on, spell_on, sum_bits_on, IsSum};
 ghost use Rattle.clause_circuits.specs.Built.{IsBuilt};
 
-use crate::cells::{carry_of, known, odd_of, present};
+use crate::cells::{known, odd_of, present, tied_carry};
 use clause_store::{ClauseList, Lit};
 use gate_plans::{Plan, define_plan};
 use smallvec::SmallVec;
@@ -127,18 +127,20 @@ fn add(
     a: &[Option<Lit>],
     b: &[Option<Lit>],
 ) -> Result<Vec<Option<Lit>>, AllocError>
-    ensures { IfOk result (λ bits. add_on width plan.old [] a.now b.now ≡ record {
+    ensures { IfOk result (λ bits. add_on width plan.old None [] a.now b.now ≡ record {
       plan =
           plan.new;
       answer = bits.items;
     }) }
 {
+    let mut low = None;
     let mut below: SmallVec<Lit, 3> = SmallVec::new(alloc);
     let mut bits = Vec::new(alloc);
     for i in 0..width {
-        let carry = carry_of(plan, below.as_slice())?;
+        let carry = tied_carry(alloc, plan, low, below.as_slice())?;
         below = present(alloc, carry, bit_at(a, i), bit_at(b, i))?;
-        bits.push(odd_of(plan, below.as_slice())?)?;
+        low = odd_of(plan, below.as_slice())?;
+        bits.push(low)?;
     }
     Ok(bits)
 }
