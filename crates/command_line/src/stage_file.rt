@@ -2,11 +2,10 @@
 
 use concretizer::{Progress, Stage};
 use std::alloc::{AllocError, Global};
-use std::env;
 use std::env::Env;
-use std::fs;
 use std::io::{Error, Write};
 use std::rt::Files;
+use std::{env, fs};
 
 /// The variable of the environment that names the file.
 const FILE: &str = "SPACK_CONCRETIZE_STAGE";
@@ -60,7 +59,9 @@ fn line_of(alloc: Global, stage: Stage) -> Result<String, AllocError> {
             numbers,
             learnt,
         } => {
-            format!(in alloc; "searching: {settled} of {numbers} numbers, {learnt} clauses learnt\n")
+            format!(in alloc;
+                "searching: {settled} of {numbers} numbers, {learnt} clauses learnt\n"
+            )
         }
         Stage::Writing => String::from_str(alloc, "writing\n"),
     }

@@ -13,14 +13,14 @@ ghost use Rattle.concretizer.specs.Headline.{HasShown, Keeps, Reports};
 
 use outside_desk::{Desk, Sink, SinkFault};
 use run_output::{
-    Log, Outcome, Progress, Stage, Status, Stop, Work, read_order, read_task, write_answer,
+    Command, Log, Outcome, Progress, Stage, Status, Stop, Work, read_order, read_task, write_answer,
 };
 use std::alloc::Global;
 use std::thread::Threads;
 
-/// What a run with this work is at while it reads.
-fn reading_of(work: Work) -> Stage {
-    match work {
+/// What a run of this command is at while it reads.
+fn reading_of(command: &Command<'_>) -> Stage {
+    match command.work {
         Work::Concretize | Work::Explain | Work::Trial { .. } => Stage::Reading,
         Work::Judge | Work::Check | Work::Refute => Stage::Checking,
     }
@@ -63,7 +63,7 @@ pub fn attempt<R: Threads + Sync, D: Desk, O: Sink, P: Progress>(
 {
     *kept = Log::new(alloc);
     let command = read_order(alloc, words)?;
-    progress.tell(reading_of(command.work));
+    progress.tell(reading_of(&command));
     let task = read_task(rt, alloc, desk, &command)?;
     let answer = write_answer(
         alloc,

@@ -14,9 +14,14 @@ pub enum Stage {
     /// The same, and then a lock file or a certificate is checked.
     Checking,
     /// A problem with so many possible packages becomes clauses.
-    Encoding { packages: u64 },
+    Encoding {
+        packages: u64,
+    },
     /// A first model of so many clauses over so many variables is looked for.
-    Searching { variables: u64, clauses: u64 },
+    Searching {
+        variables: u64,
+        clauses: u64,
+    },
     /// So many of the cost vector's numbers are the least that there are; the next one is being settled.
     Settling {
         settled: u64,

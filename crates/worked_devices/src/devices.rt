@@ -546,8 +546,16 @@ fn check_slow_says(rt: &impl Abort, alloc: Global, row: &SlowRow) {
     });
     let answers = (sink.say(alloc, b"abcd"), sink.say(alloc, b"efgh"));
     let wanted_answers = (first, second);
-    check_same(rt, &(interrupted, refused, answers), &(interrupted, refused, wanted_answers));
-    check_same(rt, &(interrupted, refused, got.as_slice()), &(interrupted, refused, wanted));
+    check_same(
+        rt,
+        &(interrupted, refused, answers),
+        &(interrupted, refused, wanted_answers),
+    );
+    check_same(
+        rt,
+        &(interrupted, refused, got.as_slice()),
+        &(interrupted, refused, wanted),
+    );
 }
 
 #[test]

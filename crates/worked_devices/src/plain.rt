@@ -37,7 +37,11 @@ fn check_order(rt: &impl Abort, a: &Word, b: &Word, wanted: Ordering) {
     let (left, right) = (a.as_str(), b.as_str());
     let equal = wanted == Ordering::Equal;
     check_same(rt, &(left, right, a.cmp(b)), &(left, right, wanted));
-    check_same(rt, &(left, right, a.partial_cmp(b)), &(left, right, Some(wanted)));
+    check_same(
+        rt,
+        &(left, right, a.partial_cmp(b)),
+        &(left, right, Some(wanted)),
+    );
     check_same(rt, &(left, right, a == b), &(left, right, equal));
 }
 

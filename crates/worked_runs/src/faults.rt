@@ -75,7 +75,16 @@ pub fn check_zlib_or_no_memory<R: AllocGlobal + Print + Abort + Threads + Sync>(
     let mut out = MemorySink::new(alloc);
     let mut err = MemorySink::new(alloc);
     let mut kept = Log::new(alloc);
-    let status = run(rt, alloc, &words, &mut desk, &mut out, &mut err, &mut kept, &mut Untold);
+    let status = run(
+        rt,
+        alloc,
+        &words,
+        &mut desk,
+        &mut out,
+        &mut err,
+        &mut kept,
+        &mut Untold,
+    );
     check_other_files(rt, &desk);
     if status == Status::NoMemory {
         check_no_memory(rt, &desk, out.said(), err.said())
