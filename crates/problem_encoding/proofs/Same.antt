@@ -17,5 +17,5 @@ module _ (problem : Problem) (t : Table) (made : ProblemClauses) (ruled : IsRule
   unfolding encoding_of
   encoded-is new bits built e is =
       let given = sym built
-          ∙ (λ i. rank_costs_on (ruled.clauses i) problem (ruled.is_table i) (ruled.values i) (order_in problem (ruled.is_table i))) in
+      ∙ (λ i. rank_costs_on (ruled.clauses i) problem (ruled.is_table i) (ruled.values i) (order_in problem (ruled.is_table i))) in
       is ∙ λ i. record { clauses = (given i).list; bits = (given i).answer; table = ruled.is_table i }

@@ -32,5 +32,5 @@ order_in problem t = post_order t (root_names problem)
 unfoldable pub encoding_of : Problem → Encoded
 encoding_of problem =
     let made = rank_costs_on (rule_clauses problem) problem (table_of problem) (rule_values problem)
-        (order_in problem (table_of problem)) in
+    (order_in problem (table_of problem)) in
     record { clauses = made.list; bits = made.answer; table = table_of problem }

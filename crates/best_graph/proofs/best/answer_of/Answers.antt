@@ -11,7 +11,7 @@ decode-requires c =
     let found : IsFound e.clauses e.bits.lits c.args._budget (Optimal c.in-Optimal.model c.in-Optimal.log) =
     subst (IsFound e.clauses e.bits.lits c.args._budget) c.in-Optimal.is c.requires.found in
     subst (λ values. IsStructured (assignment_of values) e.table) (sym c.as_slice.ensures)
-        (c.requires.encoded.structured (assignment_of c.in-Optimal.model) found.1)
+    (c.requires.encoded.structured (assignment_of c.in-Optimal.model) found.1)
 
 pub returns-then-is_writable : goal.returns-then-is_writable
 returns-then-is_writable c =

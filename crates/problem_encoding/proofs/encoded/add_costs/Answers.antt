@@ -18,7 +18,7 @@ rank_costs-requires-clause-table c =
     let p = c.args.problem.now in
     let r = c.requires.ruled in
     (in-range p (closure_of p) no_place r.closure r.has (unplaced p (closure_of p)) c.costs_laws.ensures.range c.args.table.now
-        c.args.clauses.now
+    c.args.clauses.now
     c.args.values.now r.is_table r.clauses r.values).0
 
 pub rank_costs-requires-clause-values : goal.rank_costs-requires-clause-values
@@ -26,7 +26,7 @@ rank_costs-requires-clause-values c =
     let p = c.args.problem.now in
     let r = c.requires.ruled in
     (in-range p (closure_of p) no_place r.closure r.has (unplaced p (closure_of p)) c.costs_laws.ensures.range c.args.table.now
-        c.args.clauses.now
+    c.args.clauses.now
     c.args.values.now r.is_table r.clauses r.values).1
 
 pub rank_costs-requires-clause-small : goal.rank_costs-requires-clause-small
@@ -51,7 +51,7 @@ returns-clause-costed c =
     IfOk-weaker c.rank_costs.result _ _ (λ bits are.
     whole p (closure_of p) no_place r.closure r.has (unplaced p (closure_of p)) c.costs_laws.ensures.ranks c.costs_laws.ensures.spells
     c.closure_laws.ensures.structured c.args.table.now c.args.clauses.now c.args.values.now r.is_table r.clauses r.values
-        c.rank_costs.new.clauses bits
+    c.rank_costs.new.clauses bits
     c.as_slice-2.result.now each are) c.rank_costs.ensures.bits
 
 pub returns-clause-built : goal.returns-clause-built

@@ -11,4 +11,4 @@ returns-clause-built c =
     let t = c.args.table in
     encoded-is p t c.args.made c.requires.ruled c.add_costs.new.clauses c.in_ok-bits.bits
     (ap (λ (values : List Defined). rank_costs_on c.args.made.list p t values (order_in p t)) (sym c.as_slice.ensures)
-        ∙ c.in_ok-bits.ensures.built) _ refl
+    ∙ c.in_ok-bits.ensures.built) _ refl
