@@ -27,7 +27,7 @@ use Rattle.ranked_costs.proofs.Ranges.{held-below}
 module _ (problem : Problem) (t : Table) (values : List Defined) (order : List Text) (rows given : List HeldRow)
     (lists items : List (List Weighted))
     (made : rows ≡ held_for problem t values) (seen : given ≡ rows) (built : lists ≡ cost_terms problem t (held_in given) order)
-        (taken : items ≡ lists) where
+    (taken : items ≡ lists) where
   items-are : items ≡ cost_terms problem t (held_in (held_for problem t values)) order
   items-are = taken ∙ built ∙ ap (λ held. cost_terms problem t (held_in held) order) (seen ∙ made)
 

@@ -37,8 +37,7 @@ pub fn rank_costs(
     requires table { IsTableBelow clauses.old.vars table.now }
     requires values { MetBelow clauses.old.vars (value_at values.now) }
     requires small { are_small (terms_for problem.now table.now values.now order.now) ≡ true }
-    ensures built
-        { IfOk result (λ bits. rank_costs_on clauses.old problem.now table.now values.now order.now
+    ensures built { IfOk result (λ bits. rank_costs_on clauses.old problem.now table.now values.now order.now
         ≡ record { list = clauses.new; answer = bits }) }
     ensures bits { IfOk result (λ bits. AreCostBits clauses.old clauses.new bits.lits bits.tops
         problem.now table.now (held_in (held_for problem.now table.now values.now)) order.now) }

@@ -16,11 +16,11 @@ returns c = record {
       (table-below (size_for problem names) (closure_clauses problem names place).vars (table_for problem names) range.0 table.1, range.1);
   small = λ problem names values order limits closure few ordered.
       c.limit_laws.ensures.small problem names 0 (held_in (held_for problem (table_for problem names) values)) order limits
-          closure few ordered;
+      closure few ordered;
   ranks = λ problem names place new bits tops order closure has placed ordered costs.
       let table = c.closure_laws.ensures.table problem names closure in
       c.closure_laws.ensures.ranks problem names place new bits (sums problem names place order new bits tops costs) (vector problem)
-          closure has placed
+      closure has placed
       (orders problem names place order new bits tops costs) (same problem names place order new bits tops costs table.0 ordered);
   spells = λ problem names place new bits tops order closure has placed ordered costs.
       let table = c.closure_laws.ensures.table problem names closure in

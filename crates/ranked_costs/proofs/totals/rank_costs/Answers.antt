@@ -28,6 +28,6 @@ pub returns-clause-bits : goal.returns-clause-bits
 returns-clause-bits c =
     IfOk-weaker c.define_totals.result _ _ (λ bits totals.
     are-cost-bits c.args.problem.now c.args.table.now c.args.values.now c.args.order.now _ _ _ _ c.in_ok-held.ensures
-        c.as_slice.ensures.value
+    c.as_slice.ensures.value
     c.in_ok-lists.ensures c.as_slice-2.ensures.value c.args.clauses.now _ bits.lits bits.tops c.requires.small totals)
-        c.define_totals.ensures.totals
+    c.define_totals.ensures.totals
