@@ -1,1 +1,3 @@
 pub mod MergeLaws
+pub mod DigitLaws
+pub mod SumLaws

@@ -61,7 +61,7 @@ above-is v ls c i s =
     ]
 
 -- "not at least i" too
-upto-is : (v : ℕ → Bool) (ls : List Lit) (c i : ℕ) → Spells v ls c → i ≤ length ls
+pub upto-is : (v : ℕ → Bool) (ls : List Lit) (c i : ℕ) → Spells v ls c → i ≤ length ls
     → clause_true v (map negation (upto ls i)) ≡ not (leb i c)
 upto-is v ls c zero s h = rw (le-leb 0 c (omega arith)) refl
 upto-is v ls c (suc i) s h = let e : 1 + i ≡ suc i = omega arith in (above-at v 1 c ls i s.0 (omega arith)).1 ∙ ap (λ n. not (leb n c)) e
