@@ -1,3 +1,5 @@
 pub mod MergeLaws
 pub mod DigitLaws
 pub mod SumLaws
+pub mod BitLaws
+pub mod SpelledLaws

@@ -36,7 +36,7 @@ pub record Counts (p : Planned) (m : Made (List (List Lit))) (n : (ℕ → Bool)
   pub sorted : (v : ℕ → Bool) → FollowsPlan v m.plan → AllSorted v m.answer
   pub counts : (v : ℕ → Bool) → FollowsPlan v m.plan → n v < limit → worth v m.answer ≡ n v
 
-AllClausesBelow-le : (m n : ℕ) (ds : List (List Lit)) → m ≤ n → AllClausesBelow m ds → AllClausesBelow n ds
+pub AllClausesBelow-le : (m n : ℕ) (ds : List (List Lit)) → m ≤ n → AllClausesBelow m ds → AllClausesBelow n ds
 AllClausesBelow-le m n [] h b = tt
 AllClausesBelow-le m n (d ∷ ds) h b = (AllBelow-le m n d h b.0, AllClausesBelow-le m n ds h b.1)
 
