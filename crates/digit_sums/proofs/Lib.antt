@@ -3,3 +3,5 @@ pub mod DigitLaws
 pub mod SumLaws
 pub mod BitLaws
 pub mod SpelledLaws
+pub mod MergeLoops
+pub mod DigitLoops
