@@ -1,13 +1,14 @@
 -- The loops over digits, step by step.
-use Rattle.std.proofs.Common.{◌≡◌, ℕ, zero, suc, ◌+◌, ◌/◌, ◌%◌, ◌<◌, ◌≤◌, List, [], ◌∷◌, ◌++◌, length, take, drop, get_or, reverse, replicate, Option, append_assoc, refl, sym, ap, ◌∙◌, arith}
+use Rattle.std.proofs.Common.{◌≡◌, ℕ, zero, suc, ◌+◌, ◌/◌, ◌%◌, ◌<◌, ◌≤◌, List, [], ◌∷◌, ◌++◌, length, take, drop, get_or, map, reverse, replicate, Option, append_assoc, refl, sym, ap, ◌∙◌, arith}
 use Rattle.clause_store.specs.declared.Lit.{Lit}
-use Rattle.gate_plans.specs.Gates.{Planned, Made}
+use Rattle.clause_store.specs.Lits.{negation}
+use Rattle.gate_plans.specs.Gates.{Sides, Planned, Made}
 use Rattle.clause_circuits.specs.Trees.{halved, total, tree_total}
 use Rattle.clause_circuits.specs.Binary.{size, spell_on}
 use Rattle.clause_circuits.proofs.TreeLaws.{halved-none, halved-leaf, halved-split, halved-sum}
 use Rattle.clause_circuits.proofs.AddLoops.{with_front}
 use Rattle.digit_sums.specs.Merges.{above, merged_on}
-use Rattle.digit_sums.specs.Digits.{digit_on, first_digit, rest_digits, add_digits, digit_count, weight_digits, digits_on, low_bit_on, high_bit, bits_on, digit_bits_on}
+use Rattle.digit_sums.specs.Digits.{not_above, left_over, digit_on, first_digit, rest_digits, with_digit, add_digits, digit_count, weight_digits, digits_on, low_bit_on, high_bit, bits_on, digit_bits_on}
 
 pub weight-more : (j k w : ℕ) (l : Lit) (ds all more : List (List Lit)) → j ≡ suc k → ds ++ weight_digits j w l ≡ all
     → more ≡ ds ++ replicate (w % 4) l ∷ [] → more ++ weight_digits k (w / 4) l ≡ all
@@ -34,9 +35,25 @@ pub add-more : (j w : ℕ) (p q r t : Planned) (carry next here all digit x y : 
     next ≡ above all 3 → more ≡ out ++ digit ∷ []
     → with_front more (add_digits w t next (drop (i + 1) ds) (drop (i + 1) es)) ≡ m
 add-more j w p q r t carry next here all digit x y ds es out more i m n inv f g a b d k o =
-    sym (ap (λ k. with_front out (add_digits k p carry (drop i ds) (drop i es))) n
-    ∙ rw (← f, ← g, a, b, d, ← k, rest-drop i ds, rest-drop i es)
-    (pushed out digit (add_digits w t next (drop (i + 1) ds) (drop (i + 1) es)) more o)) ∙ inv
+    let xs = drop i ds in
+    let ys = drop i es in
+    let after = λ (d : Made (List Lit)) (c : List Lit) (xs ys : List (List Lit)). with_front out (with_digit d.answer (add_digits w d.plan c xs ys)) in
+    let with_all = λ (z : Made (List Lit)). after (digit_on z.plan z.answer) (above z.answer 3) (rest_digits xs) (rest_digits ys) in
+    let with_here = λ (z : Made (List Lit)). with_all (merged_on z.plan z.answer carry) in
+    let last : Made (List Lit) = record { plan = t; answer = digit } in
+    sym (ap (λ k. with_front out (add_digits k p carry xs ys)) n
+    ∙ ap (λ z. with_here (merged_on p z (first_digit ys))) (sym f)
+    ∙ ap (λ z. with_here (merged_on p x z)) (sym g)
+    ∙ ap with_here a ∙ ap with_all b ∙ ap (λ z. after z (above all 3) (rest_digits xs) (rest_digits ys)) d
+    ∙ ap (λ z. after last z (rest_digits xs) (rest_digits ys)) (sym k)
+    ∙ ap (λ z. after last next z (rest_digits ys)) (rest-drop i ds) ∙ ap (λ z. after last next (drop (i + 1) ds) z) (rest-drop i es)
+    ∙ pushed out digit (add_digits w t next (drop (i + 1) ds) (drop (i + 1) es)) more o) ∙ inv
+
+pub left_over-built : (s : List Lit) (i : ℕ) (g : Sides) (on off : List (List Lit)) → g ≡ record { on = on; off = off }
+    → on ≡ (map negation (above s i) ++ above s 3) ∷ not_above s (i + 4)
+    → off ≡ above s i ∷ (map negation (above s 3) ++ above s (i + 4)) ∷ [] → g ≡ left_over s i
+unfolding left_over
+left_over-built s i g on off q e f = q ∙ rw (e, f) refl
 
 pub tree-none : (p : Planned) (ts : List (ℕ × Lit)) (xs : List (List Lit)) → length ts < 1 → xs ≡ []
     → digits_on p (halved ts) ≡ record { plan = p; answer = xs }
