@@ -1,26 +1,21 @@
 -- The bits of digits spell what the digits do.
-use Rattle.std.proofs.Common.{◌≡◌, ℕ, zero, suc, ◌+◌, ◌-◌, ◌*◌, ◌/◌, ◌^◌, ◌<◌, ◌≤◌, Bool, true, false, not, ◌&&◌, ◌||◌, List, [], ◌∷◌, ◌++◌, length, map, take, reverse, leb, Option, Some, None, refl, sym, ap, ◌∙◌, arith, pow-suc}
+use Rattle.std.proofs.Common.{◌≡◌, ℕ, zero, suc, ◌+◌, ◌*◌, ◌^◌, ◌<◌, ◌≤◌, Bool, true, false, not, ◌&&◌, ◌||◌, List, [], ◌∷◌, length, map, take, leb, Option, refl, sym, ◌∙◌, arith, pow-suc}
 use Rattle.std.proofs.lemmas.Bool.{le-leb, leb-true, false≢true}
-use Rattle.std.proofs.lemmas.List.{length-reverse, length-take}
 use Rattle.clause_store.specs.declared.Lit.{Lit}
 use Rattle.clause_store.specs.Lits.{negation, lit_true, AllBelow}
-use Rattle.clause_store.specs.Clauses.{Clauses}
 use Rattle.clause_store.proofs.Meaning.{lit_true-negation}
-use Rattle.clause_store.proofs.Range.{AllBelow-le}
-use Rattle.gate_plans.specs.Gates.{Planned, Made, next, Agrees, AllClausesBelow, rules_true, with_gates, IsSound}
-use Rattle.gate_plans.specs.Steps.{Step, FollowsPlan, plan_at}
+use Rattle.gate_plans.specs.Gates.{Planned, next, Agrees, AllClausesBelow}
+use Rattle.gate_plans.specs.Steps.{Step, FollowsPlan}
 use Rattle.gate_plans.specs.Shapes.{both}
 use Rattle.gate_plans.proofs.ShapeLaws.{both-agrees}
-use Rattle.gate_plans.proofs.StepLaws.{Step-refl, Step-trans, Step-gate, sound_from, step-defines, step-follows, step-vars}
+use Rattle.gate_plans.proofs.StepLaws.{Step-refl, Step-trans, Step-gate}
 use Rattle.clause_circuits.specs.Cells.{bit, bit_true, count_true, Fits, AllFit}
-use Rattle.clause_circuits.specs.Trees.{tree_sum, halved, total, weight_of, TermsBelow, tree_total}
-use Rattle.clause_circuits.specs.Binary.{value, size, spell_on, number, SumsTo, IsSum}
-use Rattle.clause_circuits.proofs.TreeLaws.{weight-le, halved-sum, halved-below}
-use Rattle.clause_circuits.proofs.BinaryLaws.{Fits-more, spell_on-is, map-reverse, AllBelow-reverse, SpellsFrom, size-is}
+use Rattle.clause_circuits.specs.Binary.{value}
+use Rattle.clause_circuits.proofs.BinaryLaws.{Fits-more}
 use Rattle.digit_sums.specs.Merges.{thresholds, Spells}
-use Rattle.digit_sums.specs.Digits.{worth, digits_on, one_or_three, low_bit_on, high_bit, bits_on, digit_bits_on, add_digits, digit_count, weight_digits}
+use Rattle.digit_sums.specs.Digits.{worth, one_or_three, low_bit_on, high_bit, bits_on}
 use Rattle.digit_sums.proofs.MergeLaws.{head-same, tail-same}
-use Rattle.digit_sums.proofs.SumLaws.{AllShort, AllSorted, AllClausesBelow-le, digits_on-is}
+use Rattle.digit_sums.proofs.SumLaws.{AllShort, AllSorted, AllClausesBelow-le}
 
 -- sorted literals: none is true where the one before is not
 ordered : (v : ℕ → Bool) (a b : Lit) (ls : List Lit) (k n : ℕ) → map (lit_true v) (a ∷ b ∷ ls) ≡ thresholds k (length (a ∷ b ∷ ls)) n
@@ -104,8 +99,7 @@ bits_on-is p (d ∷ ds) b k s =
     let x = low_bit-step p d b.0 k.0 (λ v f. (s v f).0) in
     let m = bits_on low.plan ds in
     let r = bits_on-is low.plan ds (AllClausesBelow-le (next p) (next low.plan) ds x.0.more b.1) k.1 (λ v f. (s v (x.0.follows v f)).1) in
-    let up : next p ≤ next m.plan = omega (arith, x.0.more, r.0.more) in
-    (
+    let up : next p ≤ next m.plan = omega (arith, x.0.more, r.0.more) in (
       Step-trans p low.plan m.plan x.0 r.0,
       (Fits-more (next low.plan) (next m.plan) low.answer r.0.more x.1, (Fits-more (next p) (next m.plan) (high_bit d) up (high-fits (next p) d b.0), r.1)),
       (λ v f.

@@ -1,7 +1,6 @@
 -- Digits: what is left of a sorted list without four, and its carry.
-use Rattle.std.proofs.Common.{◌≡◌, ℕ, zero, suc, ◌+◌, ◌-◌, ◌*◌, ◌<◌, ◌≤◌, Bool, true, false, not, ◌&&◌, ◌||◌, List, [], ◌∷◌, ◌++◌, length, map, take, drop, leb, cond, if◌then◌else◌, refl, sym, ap, ◌∙◌, inl, inr, arith}
-use Rattle.std.proofs.lemmas.Bool.{cases_Bool, cases_lt, le-leb, lt-leb, false≢true}
-use Rattle.std.proofs.lemmas.List.{map-append}
+use Rattle.std.proofs.Common.{◌≡◌, ℕ, zero, suc, ◌+◌, ◌-◌, ◌*◌, ◌<◌, ◌≤◌, Bool, true, false, not, ◌&&◌, ◌||◌, List, [], ◌∷◌, length, map, take, drop, leb, if◌then◌else◌, refl, sym, ap, ◌∙◌, inl, inr, arith}
+use Rattle.std.proofs.lemmas.Bool.{cases_lt, le-leb, lt-leb}
 use Rattle.std.proofs.Math.Bool.{or-false}
 use Rattle.gate_plans.proofs.ShapeLaws.{negations-below}
 use Rattle.clause_store.specs.declared.Lit.{Lit}
@@ -12,7 +11,7 @@ use Rattle.gate_plans.specs.Steps.{Step, FollowsPlan}
 use Rattle.gate_plans.proofs.StepLaws.{Step-refl, Step-trans, Step-gate}
 use Rattle.clause_circuits.specs.Cells.{bit}
 use Rattle.clause_circuits.proofs.BinaryLaws.{AllBelow-append}
-use Rattle.digit_sums.specs.Merges.{thresholds, Spells, above}
+use Rattle.digit_sums.specs.Merges.{Spells, above}
 use Rattle.digit_sums.specs.Digits.{not_above, left_over, left_from, digit_on}
 use Rattle.digit_sums.proofs.MergeLaws.{clause_true-append, above-is, above-below, choice-below, upto-is, Merges}
 

@@ -49,11 +49,14 @@ add-more j w p q r t carry next here all digit x y ds es out more i m n inv f g 
     ∙ ap (λ z. after last next z (rest_digits ys)) (rest-drop i ds) ∙ ap (λ z. after last next (drop (i + 1) ds) z) (rest-drop i es)
     ∙ pushed out digit (add_digits w t next (drop (i + 1) ds) (drop (i + 1) es)) more o) ∙ inv
 
-pub left_over-built : (s : List Lit) (i : ℕ) (g : Sides) (on off : List (List Lit)) → g ≡ record { on = on; off = off }
-    → on ≡ (map negation (above s i) ++ above s 3) ∷ not_above s (i + 4)
-    → off ≡ above s i ∷ (map negation (above s 3) ++ above s (i + 4)) ∷ [] → g ≡ left_over s i
+pub left_over-built : (s : List Lit) (i : ℕ) (g : Sides) (a b c d e x y z : List Lit) (on on2 on3 off off2 off3 : List (List Lit)) →
+    a ≡ above s i → b ≡ above s 3 → x ≡ map negation a ++ b → on ≡ [] → on2 ≡ on ++ x ∷ [] → on3 ≡ on2 ++ not_above s (i + 4) →
+    c ≡ above s i → y ≡ c → off ≡ [] → off2 ≡ off ++ y ∷ [] →
+    d ≡ above s 3 → e ≡ above s (i + 4) → z ≡ map negation d ++ e → off3 ≡ off2 ++ z ∷ [] →
+    g ≡ record { on = on3; off = off3 } → g ≡ left_over s i
 unfolding left_over
-left_over-built s i g on off q e f = q ∙ rw (e, f) refl
+left_over-built s i g a b c d e x y z on on2 on3 off off2 off3 a1 b1 x1 o1 o2 o3 c1 y1 p1 p2 d1 e1 z1 p3 q =
+    q ∙ rw (o3, o2, o1, x1, a1, b1, p3, p2, p1, y1, c1, z1, d1, e1) refl
 
 pub tree-none : (p : Planned) (ts : List (ℕ × Lit)) (xs : List (List Lit)) → length ts < 1 → xs ≡ []
     → digits_on p (halved ts) ≡ record { plan = p; answer = xs }

@@ -1,4 +1,5 @@
 pub mod MergeLaws
+pub mod JoinLaws
 pub mod DigitLaws
 pub mod SumLaws
 pub mod BitLaws

@@ -1,5 +1,5 @@
 -- The loops of the merges, step by step.
-use Rattle.std.proofs.Common.{◌≡◌, ℕ, suc, ◌+◌, ◌/◌, ◌<◌, ◌≤◌, List, [], ◌∷◌, ◌++◌, length, take, drop, get_or, reverse, replicate, append_assoc, refl, sym, ap, ◌∙◌, arith}
+use Rattle.std.proofs.Common.{◌≡◌, ℕ, suc, ◌+◌, List, [], ◌∷◌, ◌++◌, length, append_assoc, refl, sym, ap, ◌∙◌, arith}
 use Rattle.clause_store.specs.declared.Lit.{Lit}
 use Rattle.gate_plans.specs.Gates.{Sides, Planned, Made, with_gate}
 use Rattle.digit_sums.specs.Merges.{each, on_clause, off_clause, at_least, merge_from, merged_on}

@@ -1,11 +1,11 @@
 -- What a sum by digits promises: as many bits as the sum of all weights has, which spell the sum of those of true literals.
-use Rattle.std.proofs.Common.{◌≡◌, ℕ, zero, suc, ◌+◌, ◌*◌, ◌/◌, ◌^◌, ◌<◌, ◌≤◌, Bool, List, [], ◌∷◌, ◌++◌, length, map, take, reverse, Option, Some, None, refl, sym, ap, ◌∙◌, arith}
+use Rattle.std.proofs.Common.{◌≡◌, ℕ, zero, suc, ◌+◌, ◌*◌, ◌/◌, ◌^◌, ◌<◌, ◌≤◌, Bool, List, [], ◌∷◌, ◌++◌, length, map, take, reverse, Option, Some, None, refl, ap, ◌∙◌, arith}
 use Rattle.std.proofs.lemmas.List.{length-reverse, length-take-le}
 use Rattle.clause_store.specs.declared.Lit.{Lit}
 use Rattle.clause_store.specs.Lits.{lit_true}
 use Rattle.clause_store.specs.Clauses.{Clauses}
 use Rattle.gate_plans.specs.Gates.{Planned, next, with_gate, with_gates, IsSound}
-use Rattle.gate_plans.specs.Steps.{Step, FollowsPlan, plan_at}
+use Rattle.gate_plans.specs.Steps.{FollowsPlan, plan_at}
 use Rattle.gate_plans.specs.Shapes.{never}
 use Rattle.gate_plans.proofs.StepLaws.{Step-trans, sound_from, step-defines, step-follows, step-vars}
 use Rattle.clause_circuits.specs.Cells.{bit, bit_true}
@@ -13,7 +13,7 @@ use Rattle.clause_circuits.specs.Trees.{Tree, none, leaf, node, tree_sum, halved
 use Rattle.clause_circuits.specs.Binary.{value, size, spell_on, number_after, number, SumsTo, IsSum}
 use Rattle.clause_circuits.proofs.TreeLaws.{weight-le, halved-sum, halved-below}
 use Rattle.clause_circuits.proofs.BinaryLaws.{spell_on-is, map-reverse, reverse-cons, AllBelow-reverse, size-is}
-use Rattle.digit_sums.specs.Digits.{digits_on, bits_on, low_bit_on, digit_bits_on, add_digits, digit_count, weight_digits, first_digit, rest_digits}
+use Rattle.digit_sums.specs.Digits.{digits_on, bits_on, low_bit_on, digit_bits_on, add_digits, digit_count, weight_digits, rest_digits}
 use Rattle.digit_sums.proofs.SumLaws.{digits_on-is}
 use Rattle.digit_sums.proofs.BitLaws.{bits_on-is, take-value, take-fit}
 

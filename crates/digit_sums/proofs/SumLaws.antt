@@ -1,5 +1,5 @@
 -- Trees of digits spell sums.
-use Rattle.std.proofs.Common.{◌≡◌, ℕ, zero, suc, ◌+◌, ◌-◌, ◌*◌, ◌/◌, ◌%◌, ◌^◌, ◌<◌, ◌≤◌, Bool, true, false, List, [], ◌∷◌, ◌++◌, length, map, leb, replicate, refl, sym, ap, ◌∙◌, inl, inr, arith, pow-suc}
+use Rattle.std.proofs.Common.{◌≡◌, ℕ, zero, suc, ◌+◌, ◌*◌, ◌/◌, ◌%◌, ◌^◌, ◌<◌, ◌≤◌, Bool, true, false, List, [], ◌∷◌, length, leb, replicate, refl, ◌∙◌, inl, inr, arith, pow-suc}
 use Rattle.std.proofs.lemmas.Bool.{cases_Bool}
 use Rattle.std.proofs.lemmas.List.{length-replicate}
 use Rattle.clause_store.specs.declared.Lit.{Lit}
@@ -15,7 +15,8 @@ use Rattle.clause_circuits.proofs.TreeLaws.{TreeBelow-more, weight-le}
 use Rattle.clause_circuits.proofs.BinaryLaws.{size-is}
 use Rattle.digit_sums.specs.Merges.{Spells, above, merged_on}
 use Rattle.digit_sums.specs.Digits.{worth, digit_on, first_digit, rest_digits, add_digits, digit_count, weight_digits, digits_on}
-use Rattle.digit_sums.proofs.MergeLaws.{above-below, spells-count, spells-own, replicate-below, replicate-is, merged_on-is}
+use Rattle.digit_sums.proofs.MergeLaws.{above-below, replicate-below, replicate-is}
+use Rattle.digit_sums.proofs.JoinLaws.{spells-count, spells-own, merged_on-is}
 use Rattle.digit_sums.proofs.DigitLaws.{left_of, left_of-parts, above-short, carry-spells, digit_on-is}
 
 -- each digit has at most three literals

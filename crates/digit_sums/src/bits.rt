@@ -59,11 +59,7 @@ pub fn plan_digits(
 }
 
 // The bits of digits, the lowest first.
-fn bits_of(
-    alloc: Global,
-    plan: &mut Plan,
-    digits: &[Lits],
-) -> Result<Vec<Option<Lit>>, AllocError>
+fn bits_of(alloc: Global, plan: &mut Plan, digits: &[Lits]) -> Result<Vec<Option<Lit>>, AllocError>
     ensures { IfOk result (λ bits. bits_on plan.old digits.now ≡ record {
       plan = plan.new;
       answer =
