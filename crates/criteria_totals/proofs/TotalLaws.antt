@@ -10,10 +10,12 @@ use Rattle.gate_plans.specs.Gates.{Planned, Made, next, with_gates, IsSound}
 use Rattle.gate_plans.specs.Steps.{Step, FollowsPlan, plan_at}
 use Rattle.gate_plans.proofs.StepLaws.{Step-refl, Step-trans, sound_from, step-defines, step-follows, step-vars}
 use Rattle.clause_circuits.specs.Trees.{halved, weight_of, total, weight, TermsBelow}
-use Rattle.clause_circuits.specs.Binary.{size, sum_bits_on}
+use Rattle.clause_circuits.specs.Binary.{size}
+use Rattle.digit_sums.specs.Digits.{digit_bits_on}
 use Rattle.criteria_totals.specs.Unary.{thresholds, unary_on, unary_bits_on}
 use Rattle.clause_circuits.proofs.TreeLaws.{halved-sum, halved-below, weight-le}
-use Rattle.clause_circuits.proofs.BinaryLaws.{sum_bits_on-is, sum_bits_on-length, AllBelow-append, AllBelow-reverse, map-reverse}
+use Rattle.digit_sums.proofs.SpelledLaws.{digit_bits_on-is, digit_bits_on-length}
+use Rattle.clause_circuits.proofs.BinaryLaws.{AllBelow-append, AllBelow-reverse, map-reverse}
 use Rattle.criteria_totals.proofs.UnaryLaws.{unary_on-is}
 use Rattle.criteria_totals.specs.Spellings.{unary, binary, spell, spell_all, within, bits_for, AllSmall}
 use Rattle.criteria_totals.specs.Totals.{number_on, totals_on, tops, sums, AllTermsBelow, values_at, IsTotals}
@@ -40,14 +42,14 @@ unary-spelled p ts b =
     }
 
 binary-spelled : (p : Planned) (ts : List (ℕ × Lit)) → TermsBelow (next p) ts → total ts < 2 ^ 63
-    → Spelled p (sum_bits_on p ts) (λ v. binary (size (total ts)) (weight v ts))
+    → Spelled p (digit_bits_on p ts) (λ v. binary (size (total ts)) (weight v ts))
 binary-spelled p ts b h =
-    let x = sum_bits_on-is p ts b h in
-    let m = sum_bits_on p ts in record {
+    let x = digit_bits_on-is p ts b h in
+    let m = digit_bits_on p ts in record {
       step = x.step;
       below = x.below;
       spells = λ v f. binary-is (size (total ts)) (weight v ts) (values_at v m.answer) (length-map m.answer (lit_true v)
-          ∙ sum_bits_on-length p ts) (x.sums v f);
+          ∙ digit_bits_on-length p ts) (x.sums v f);
     }
 
 number-spelled : (p : Planned) (ts : List (ℕ × Lit)) → TermsBelow (next p) ts → total ts < 2 ^ 63
@@ -123,7 +125,7 @@ pub number-low : (p : Planned) (ts : List (ℕ × Lit)) (top : ℕ) → top ≡ 
 unfolding number_on
 number-low p ts top e h = rw (← e, le-leb top 64 h) refl
 
-pub number-high : (p : Planned) (ts : List (ℕ × Lit)) (top : ℕ) → top ≡ total ts → 64 < top → number_on p ts ≡ sum_bits_on p ts
+pub number-high : (p : Planned) (ts : List (ℕ × Lit)) (top : ℕ) → top ≡ total ts → 64 < top → number_on p ts ≡ digit_bits_on p ts
 unfolding number_on
 number-high p ts top e h = rw (← e, lt-leb top 64 h) refl
 

@@ -6,13 +6,13 @@ use Rattle.clause_store.specs.Clauses.{Clauses}
 use Rattle.gate_plans.specs.Growth.{Defines, MeetsSince}
 use Rattle.gate_plans.specs.Gates.{Planned, Made}
 use Rattle.clause_circuits.specs.Trees.{total, weight, TermsBelow}
-use Rattle.clause_circuits.specs.Binary.{sum_bits_on}
+use Rattle.digit_sums.specs.Digits.{digit_bits_on}
 use Rattle.criteria_totals.specs.Unary.{unary_bits_on}
 use Rattle.criteria_totals.specs.Spellings.{compare_bits, compare_numbers, spell_all, within, bits_for}
 
 -- one sum: in unary up to 64, in binary above
 unfoldable pub number_on : Planned → List (ℕ × Lit) → Made (List Lit)
-number_on p ts = if nat_le (total ts) 64 then unary_bits_on p ts else sum_bits_on p ts
+number_on p ts = if nat_le (total ts) 64 then unary_bits_on p ts else digit_bits_on p ts
 
 abbrev pub totals_on : Planned → List (List (ℕ × Lit)) → Made (List Lit)
 totals_on p [] = record { plan = p; answer = [] }

@@ -9,8 +9,9 @@ ghost use Rattle.criteria_totals.specs.Totals.{number_on, totals_on, tops, AllTe
 
 use crate::terms::{Bits, Terms};
 use crate::unary::plan_unary;
-use clause_circuits::{plan_bits, total};
+use clause_circuits::total;
 use clause_store::{ClauseList, Lit};
+use digit_sums::plan_digits;
 use gate_plans::{Plan, define_plan};
 use std::alloc::{AllocError, Global};
 
@@ -79,6 +80,6 @@ fn plan_number(
     if top <= 64 {
         plan_unary(alloc, plan, terms)
     } else {
-        plan_bits(alloc, plan, terms)
+        plan_digits(alloc, plan, terms)
     }
 }

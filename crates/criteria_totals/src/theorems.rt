@@ -6,7 +6,7 @@ ghost use Rattle.criteria_totals.specs.Totals.{totals_on};
 ghost use Rattle.criteria_totals.specs.Rows.{start, two_terms};
 
 /// Weights 3 and 2 give five bits over five new variables; sums 64, 65 and 0 give 64, 7 and none.
-#[tactic(auto, unfolding(crate::specs::Totals::number_on, crate::specs::Unary::unary_bits_on, clause_circuits::specs::Binary::sum_bits_on, clause_circuits::specs::Trees::halved, clause_circuits::specs::Binary::size))]
+#[tactic(auto, unfolding(crate::specs::Totals::number_on, crate::specs::Unary::unary_bits_on, digit_sums::specs::Digits::digit_bits_on, digit_sums::specs::Digits::left_over, clause_circuits::specs::Trees::halved, clause_circuits::specs::Binary::size))]
 pub fn worked_totals()
     ensures five_bits { length (totals_on start (two_terms 3 2 ∷ [])).answer ≡ 5 }
     ensures five_variables { next (totals_on start (two_terms 3 2 ∷ [])).plan ≡ 7 }

@@ -6,4 +6,4 @@ returns-then-top-le64 c = rw (number-low c.args.plan.now c.args.terms.now c.args
 
 pub returns-else-top-le64 : goal.returns-else-top-le64
 returns-else-top-le64 c = rw (number-high c.args.plan.now c.args.terms.now c.args.top c.requires.top c.if-top-le64.false)
-    c.plan_bits.ensures
+    c.plan_digits.ensures
