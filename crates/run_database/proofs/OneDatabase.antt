@@ -10,7 +10,7 @@ use Rattle.run_words.specs.Stages.{Is}
 use Rattle.run_words.specs.Refusal.TheVariants.{BadDatabase}
 use Rattle.run_words.proofs.StageLaws.{IsOne, one_is, one_then}
 use Rattle.run_words.specs.Words.{is_dash}
-use Rattle.run_database.specs.Installed.{bytes_at, DatabaseIn, DatabaseBy, DatabaseAt}
+use Rattle.run_database.specs.Installed.{database_bytes, DatabaseIn, DatabaseBy, DatabaseAt}
 
 -- what holds of reading databases
 pub record ReadsOnce : Type 0 where
@@ -27,7 +27,7 @@ one_in laws bytes (Err a) (Err b) (f, is, other, same) (g, as_well, not, too) =
 
 one_by : ReadsOnce → (dash : Bool) (files : Files) (path : List ℕ) → IsOne (DatabaseBy dash files path)
 one_by laws true files path = one_is (Ok [])
-one_by laws false files path = one_then (Is (bytes_at files path)) DatabaseIn (one_is (bytes_at files path)) (one_in laws)
+one_by laws false files path = one_then (Is (database_bytes files path)) DatabaseIn (one_is (database_bytes files path)) (one_in laws)
 
 pub one_database : ReadsOnce → (files : Files) (path : List ℕ) → IsOne (DatabaseAt files path)
 one_database laws files path = one_by laws (is_dash path) files path

@@ -1,26 +1,23 @@
 -- The records that DATABASE names, or the refusal that is due first.
-use Rattle.std.specs.Prelude.{◌≡◌, ◌≢◌, ℕ, ◌^◌, nat_le, List, [], length, Bool, true, false, Result, Ok, Err, Vec}
-use Rattle.std.specs.FinMap.{get}
-use Rattle.std.specs.declared.alloc.Global.{Global}
+use Rattle.std.specs.Prelude.{◌≡◌, ◌≢◌, ℕ, List, [], Bool, true, false, Result, Ok, Err}
 use Rattle.outside_desk.specs.Files.{Files}
 use Rattle.reuse_db.specs.declared.record.Record.{Record}
 use Rattle.database_reader.specs.Files.{IsDatabase}
 use Rattle.database_reader.specs.Faults.{IsTextFault}
 use Rattle.reuse_db.specs.declared.fault.DbFault.{DbFault}
 use Rattle.reuse_db.specs.declared.fault.DbFault.TheVariants.{OutOfMemory}
-use Rattle.run_words.specs.Stages.{Is, Then, ◌>>=◌, or_refuse, check}
+use Rattle.run_words.specs.Stages.{Is, Then}
 use Rattle.run_words.specs.Refusal.{Refusal}
 use Rattle.run_words.specs.Refusal.TheVariants as refusals
 use Rattle.run_words.specs.ReadStop.{ReadStop}
 use Rattle.run_words.specs.ReadStop.TheVariants as reads
+use Rattle.run_bytes.specs.Bytes.{bytes_at}
+use Rattle.run_bytes.specs.declared.file.WholeFile.TheVariants as kinds
 use Rattle.run_words.specs.Words.{is_dash}
 
--- a database has at most 64 MiB
-unfoldable pub bytes_at : Files → List ℕ → Result (List ℕ) Refusal
-bytes_at files path = do
-  bytes ← or_refuse (refusals.MissingInput path) (get files path)
-  short ← check refusals.DatabaseTooLarge (nat_le (length bytes) (2 ^ 26))
-  Ok bytes
+-- the bytes of the file at the path
+abbrev pub database_bytes : Files → List ℕ → Result (List ℕ) Refusal
+database_bytes files path = bytes_at files path kinds.Database
 
 -- the records that a file says, or its fault
 abbrev pub DatabaseIn : List ℕ → Result (List Record) Refusal → Type 0
@@ -30,7 +27,7 @@ DatabaseIn bytes (Err refusal) = (f : DbFault) × IsTextFault bytes f × (f ≢ 
 -- `-` is no record, and no file
 abbrev pub DatabaseBy : Bool → Files → List ℕ → Result (List Record) Refusal → Type 0
 DatabaseBy true files path = Is (Ok [])
-DatabaseBy false files path = Then (Is (bytes_at files path)) DatabaseIn
+DatabaseBy false files path = Then (Is (database_bytes files path)) DatabaseIn
 
 -- the records that a path names
 abbrev pub DatabaseAt : Files → List ℕ → Result (List Record) Refusal → Type 0
@@ -43,10 +40,3 @@ IsDatabasePath database path = (path ≡ database) × (is_dash database ≡ fals
 abbrev pub FailsThere : {A : Type 0} → List ℕ → Result A ReadStop → Type 0
 FailsThere database (Err (reads.Fault path)) = IsDatabasePath database path
 FailsThere database other = Unit {0}
-
--- what a call that reads bytes answers; a device's fault or want of memory may come instead
-abbrev pub GivesBytes : Result (List ℕ) Refusal → Result (Vec ℕ Global) ReadStop → Type 0
-GivesBytes given (Ok v) = given ≡ Ok v.items
-GivesBytes given (Err (reads.Refused refusal)) = given ≡ Err refusal
-GivesBytes given (Err (reads.Fault path)) = Unit {0}
-GivesBytes given (Err reads.NoMemory) = Unit {0}

@@ -6,43 +6,15 @@ ghost use Rattle.recorded_values.specs.Values.{has_values};
 ghost use Rattle.outside_desk.specs.Causes.{Counts};
 ghost use Rattle.run_words.specs.Stops.{Gives, EndsByInput, EndsInReadFault, EndsInUsage};
 ghost use Rattle.run_words.specs.Words.{is_dash};
-ghost use Rattle.run_database.specs.Installed.{bytes_at, GivesBytes, DatabaseIn, DatabaseAt, FailsThere};
+ghost use Rattle.run_database.specs.Installed.{DatabaseIn, DatabaseAt, FailsThere};
 
 use database_reader::read_database;
-use outside_desk::{Desk, ReadFault, read_whole};
-use plain_data::Word;
+use outside_desk::Desk;
 use recorded_values::value_laws;
 use reuse_db::{Database, DbFault};
+use run_bytes::{WholeFile, read_bytes};
 use run_words::{ReadStop, Refusal, is_dash};
 use std::alloc::Global;
-
-/// The most bytes of a database: 64 MiB.
-const DATABASE_LIMIT: u64 = 1 << 26;
-
-/// The bytes of the file at a path.
-#[tactic(auto, unfolding(crate::specs::Installed::bytes_at))]
-fn read_bytes<D: Desk>(alloc: Global, desk: &mut D, path: &str) -> Result<Vec<u8>, ReadStop>
-    requires { is_dash path.now ≡ false }
-    ensures read { IfSome (D.files desk.old)
-        (λ files. GivesBytes (bytes_at files path.now) result) }
-    ensures path { FailsThere path.now result }
-    ensures no_usage { EndsInUsage result → ⊥ }
-    ensures same { D.files desk.new ≡ D.files desk.old }
-    ensures cause { Counts (D.faults desk.old) (D.faults desk.new) (EndsInReadFault result) }
-    ensures steady { EndsByInput result → D.faults desk.new ≡ D.faults desk.old }
-    ensures put_faults { D.put_faults desk.new ≡ D.put_faults desk.old }
-{
-    match read_whole(alloc, desk, path, DATABASE_LIMIT) {
-        Ok(bytes) => Ok(bytes),
-        Err(ReadFault::TooLong) => Err(ReadStop::Refused(Refusal::DatabaseTooLarge)),
-        Err(ReadFault::Missing) => {
-            let path = Word::new(alloc, path)?;
-            Err(ReadStop::Refused(Refusal::MissingInput(path)))
-        }
-        Err(ReadFault::Failed) => Err(ReadStop::Fault(Word::new(alloc, path)?)),
-        Err(ReadFault::OutOfMemory) => Err(ReadStop::NoMemory),
-    }
-}
 
 /// The database that the bytes of a file are.
 fn database_in(alloc: Global, bytes: &[u8]) -> Result<Database, ReadStop>
@@ -82,6 +54,6 @@ pub fn read_installed<D: Desk>(
     if is_dash(path) {
         return Ok(Database::empty(alloc));
     }
-    let bytes = read_bytes(alloc, desk, path)?;
+    let bytes = read_bytes(alloc, desk, path, WholeFile::Database)?;
     database_in(alloc, bytes.as_slice())
 }

@@ -10,7 +10,7 @@ use Rattle.run_words.specs.Stages.{Is}
 use Rattle.run_words.specs.Refusal.TheVariants.{BadSettings}
 use Rattle.run_words.proofs.StageLaws.{IsOne, one_is, one_then}
 use Rattle.run_words.specs.Words.{is_dash}
-use Rattle.run_settings.specs.Sites.{bytes_at, SettingsIn, SettingsBy, SettingsAt}
+use Rattle.run_settings.specs.Sites.{settings_bytes, SettingsIn, SettingsBy, SettingsAt}
 
 -- what holds of reading settings
 pub record ReadsOnce : Type 0 where
@@ -27,7 +27,7 @@ one_in laws bytes (Err a) (Err b) (f, is, other, same) (g, as_well, not, too) =
 
 one_by : ReadsOnce → (dash : Bool) (files : Files) (path : List ℕ) → IsOne (SettingsBy dash files path)
 one_by laws true files path = one_is (Ok standard)
-one_by laws false files path = one_then (Is (bytes_at files path)) SettingsIn (one_is (bytes_at files path)) (one_in laws)
+one_by laws false files path = one_then (Is (settings_bytes files path)) SettingsIn (one_is (settings_bytes files path)) (one_in laws)
 
 pub one_site : ReadsOnce → (files : Files) (path : List ℕ) → IsOne (SettingsAt files path)
 one_site laws files path = one_by laws (is_dash path) files path

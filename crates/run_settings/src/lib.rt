@@ -3,7 +3,7 @@
 //! What it is: `read_site`, the settings that SETTINGS names; `-` names the standard.
 //! What it promises: exactly the settings, or the refusal that is due first: no file, a file that is too long, a
 //! fault of its text.
-//! What it stands on: `settings_reader` for the text, `outside_desk` for the file, `run_answers` for refusals.
+//! What it stands on: `settings_reader` for the text, `run_bytes` for the file, `run_words` for refusals.
 //! What it must not know: which settings a run can follow.
 #![tactic(auto)]
 

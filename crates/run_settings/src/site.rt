@@ -5,42 +5,14 @@ ghost use Rattle.settings_reader.specs.Values.{are_valued};
 ghost use Rattle.outside_desk.specs.Causes.{Counts};
 ghost use Rattle.run_words.specs.Stops.{Gives, EndsByInput, EndsInReadFault, EndsInUsage};
 ghost use Rattle.run_words.specs.Words.{is_dash};
-ghost use Rattle.run_settings.specs.Sites.{bytes_at, GivesBytes, SettingsIn, SettingsAt, FailsThere};
+ghost use Rattle.run_settings.specs.Sites.{SettingsIn, SettingsAt, FailsThere};
 
-use outside_desk::{Desk, ReadFault, read_whole};
-use plain_data::Word;
+use outside_desk::Desk;
+use run_bytes::{WholeFile, read_bytes};
 use run_words::{ReadStop, Refusal, is_dash};
 use settings_reader::{SettingsFault, read_settings, settings_laws};
 use site_settings::Settings;
 use std::alloc::Global;
-
-/// The most bytes of a file of settings: 16 MiB.
-const SETTINGS_LIMIT: u64 = 1 << 24;
-
-/// The bytes of the file at a path.
-#[tactic(auto, unfolding(crate::specs::Sites::bytes_at))]
-fn read_bytes<D: Desk>(alloc: Global, desk: &mut D, path: &str) -> Result<Vec<u8>, ReadStop>
-    requires { is_dash path.now ≡ false }
-    ensures read { IfSome (D.files desk.old)
-        (λ files. GivesBytes (bytes_at files path.now) result) }
-    ensures path { FailsThere path.now result }
-    ensures no_usage { EndsInUsage result → ⊥ }
-    ensures same { D.files desk.new ≡ D.files desk.old }
-    ensures cause { Counts (D.faults desk.old) (D.faults desk.new) (EndsInReadFault result) }
-    ensures steady { EndsByInput result → D.faults desk.new ≡ D.faults desk.old }
-    ensures put_faults { D.put_faults desk.new ≡ D.put_faults desk.old }
-{
-    match read_whole(alloc, desk, path, SETTINGS_LIMIT) {
-        Ok(bytes) => Ok(bytes),
-        Err(ReadFault::TooLong) => Err(ReadStop::Refused(Refusal::SettingsTooLarge)),
-        Err(ReadFault::Missing) => {
-            let path = Word::new(alloc, path)?;
-            Err(ReadStop::Refused(Refusal::MissingInput(path)))
-        }
-        Err(ReadFault::Failed) => Err(ReadStop::Fault(Word::new(alloc, path)?)),
-        Err(ReadFault::OutOfMemory) => Err(ReadStop::NoMemory),
-    }
-}
 
 /// The settings that the bytes of a file say.
 fn settings_in(alloc: Global, bytes: &[u8]) -> Result<Settings, ReadStop>
@@ -76,6 +48,6 @@ pub fn read_site<D: Desk>(alloc: Global, desk: &mut D, path: &str) -> Result<Set
     if is_dash(path) {
         return Ok(Settings::standard(alloc)?);
     }
-    let bytes = read_bytes(alloc, desk, path)?;
+    let bytes = read_bytes(alloc, desk, path, WholeFile::Settings)?;
     settings_in(alloc, bytes.as_slice())
 }

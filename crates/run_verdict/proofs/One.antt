@@ -7,10 +7,10 @@ use Rattle.lockfile.specs.declared.fault.LockFault.{LockFault}
 use Rattle.lockfile.specs.declared.fault.LockFault.TheVariants.{OutOfMemory}
 use Rattle.lockfile.specs.declared.lock.Lock.{Lock}
 use Rattle.problem.specs.Problems.{Problem}
-use Rattle.run_answers.specs.Stages.{Is}
-use Rattle.run_answers.specs.declared.refusal.Refusal.TheVariants.{BadLock}
-use Rattle.run_answers.proofs.StageLaws.{IsOne, one_is, one_then}
-use Rattle.run_verdict.specs.Locks.{bytes_at, LockIn, LockAt}
+use Rattle.run_bytes.specs.Stages.{Is}
+use Rattle.run_bytes.specs.Refusal.TheVariants.{BadLock}
+use Rattle.run_bytes.proofs.StageLaws.{IsOne, one_is, one_then}
+use Rattle.run_verdict.specs.Locks.{lock_bytes, LockIn, LockAt}
 use Rattle.run_verdict.specs.Verdicts.{judged, Judges}
 
 -- what holds of reading lock files
@@ -27,7 +27,7 @@ one_in laws bytes (Err a) (Err b) (f, is, other, same) (g, as_well, not, too) =
     ap Err (same ∙ ap BadLock (laws.fault bytes f g is as_well other not) ∙ sym too)
 
 one_lock : ReadsOnce → (files : Files) (path : List ℕ) → IsOne (LockAt files path)
-one_lock laws files path = one_then (Is (bytes_at files path)) LockIn (one_is (bytes_at files path)) (one_in laws)
+one_lock laws files path = one_then (Is (lock_bytes files path)) LockIn (one_is (lock_bytes files path)) (one_in laws)
 
 pub one_verdict : ReadsOnce → (files : Files) (path : List ℕ) (problem : Problem) → IsOne (Judges files path problem)
 one_verdict laws files path problem =

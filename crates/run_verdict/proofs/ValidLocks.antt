@@ -11,11 +11,11 @@ use Rattle.graph_rules.specs.Verdict.{verdict}
 use Rattle.graph_rules.specs.declared.rule.Verdict.{Verdict}
 use Rattle.graph_rules.specs.declared.rule.Verdict.TheVariants as verdicts
 use Rattle.graph_costs.specs.Costs.{vector}
-use Rattle.run_answers.specs.Stages.{Is, ◌>>=◌, check}
-use Rattle.run_answers.specs.Stops.{Gives}
-use Rattle.run_answers.specs.declared.refusal.Refusal.{Refusal}
-use Rattle.run_answers.specs.declared.refusal.Refusal.TheVariants as refusals
-use Rattle.run_answers.specs.declared.stop.ReadStop.{ReadStop}
+use Rattle.run_bytes.specs.Stages.{Is, ◌>>=◌, check}
+use Rattle.run_bytes.specs.Stops.{Gives}
+use Rattle.run_bytes.specs.Refusal.{Refusal}
+use Rattle.run_bytes.specs.Refusal.TheVariants as refusals
+use Rattle.run_bytes.specs.ReadStop.{ReadStop}
 use Rattle.run_verdict.specs.Locks.{LockAt}
 use Rattle.run_verdict.specs.Roots.{are_roots_of}
 use Rattle.run_verdict.specs.Verdicts.{unless_broken, weighed, judged, IsRight, IsValidLock}

@@ -10,9 +10,9 @@ use Rattle.graph_costs.specs.Costs.{vector}
 use Rattle.problem.specs.Nodes.{IsWellFormed}
 use Rattle.graph_rules.specs.Valid.{valid}
 use Rattle.lockfile.specs.declared.lock.Lock.{Lock}
-use Rattle.run_answers.specs.Stages.{Is, Then, ◌>>=◌, check}
-use Rattle.run_answers.specs.declared.refusal.Refusal.{Refusal}
-use Rattle.run_answers.specs.declared.refusal.Refusal.TheVariants as refusals
+use Rattle.run_bytes.specs.Stages.{Is, Then, ◌>>=◌, check}
+use Rattle.run_bytes.specs.Refusal.{Refusal}
+use Rattle.run_bytes.specs.Refusal.TheVariants as refusals
 use Rattle.run_verdict.specs.Locks.{LockAt}
 use Rattle.run_verdict.specs.Roots.{are_roots_of}
 

@@ -3,7 +3,7 @@
 ghost use Rattle.std.specs.Prelude.{◌≡◌, ℕ, List, Result};
 ghost use Rattle.outside_desk.specs.Files.{Files};
 ghost use Rattle.problem.specs.Problems.{Problem};
-ghost use Rattle.run_answers.specs.declared.refusal.Refusal.{Refusal};
+ghost use Rattle.run_bytes.specs.Refusal.{Refusal};
 ghost use Rattle.run_verdict.specs.Verdicts.{Judges};
 
 use lockfile::lock_laws;

@@ -3,9 +3,9 @@
 ghost use Rattle.std.specs.Prelude.{◌≡◌, IfOk, IfSome};
 ghost use Rattle.outside_desk.specs.Causes.{Counts};
 ghost use Rattle.graph_rules.specs.Verdict.{verdict};
-ghost use Rattle.run_answers.specs.Stages.{Is};
-ghost use Rattle.run_answers.specs.Stops.{Gives, EndsByInput, EndsInReadFault, EndsInUsage};
-ghost use Rattle.run_verdict.specs.Locks.{FailsAtLock};
+ghost use Rattle.run_bytes.specs.Stages.{Is};
+ghost use Rattle.run_bytes.specs.Stops.{Gives, EndsByInput, EndsInReadFault, EndsInUsage};
+ghost use Rattle.run_bytes.specs.Bytes.{FailsAt};
 ghost use Rattle.run_verdict.specs.Verdicts.{unless_broken, weighed, judged, Judges, IsRight, IsValidLock};
 
 use crate::lock::read_lock_at;
@@ -18,7 +18,7 @@ use graph_rules::{Verdict, rule_laws};
 use lockfile::Lock;
 use outside_desk::Desk;
 use problem::Problem;
-use run_answers::{ReadStop, Refusal};
+use run_bytes::{ReadStop, Refusal};
 use std::alloc::Global;
 
 /// Refuses a graph that breaks a rule.
@@ -90,7 +90,7 @@ pub fn read_verdict<D: Desk>(
         (λ files. Gives result (Judges files path.now problem.now)) }
     ensures lock { IfOk result (λ numbers. IfSome (D.files desk.old)
         (λ files. IsValidLock files path.now problem.now numbers)) }
-    ensures path { FailsAtLock path.now result }
+    ensures path { FailsAt path.now result }
     ensures no_usage { EndsInUsage result → ⊥ }
     ensures same { D.files desk.new ≡ D.files desk.old }
     ensures cause { Counts (D.faults desk.old) (D.faults desk.new) (EndsInReadFault result) }
