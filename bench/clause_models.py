@@ -239,7 +239,7 @@ def read(text):
 
 def main():
     lines, checks = [], []
-    for kind in ("clause", "and", "or", "one", "adder", "less", "equal", "sum"):
+    for kind in ("clause", "and", "or", "one", "adder", "less", "equal", "sum", "digits"):
         for _ in range(COUNT):
             words, variables, test = row(kind)
             lines.append(" ".join([kind, str(variables)] + [str(word) for word in words]))

@@ -6,10 +6,11 @@ use crate::answer::Answer;
 use crate::input::{lits_of, terms_of};
 use clause_circuits::{and, equal_number, exactly_one, full_adder, less_number, or, sum_bits};
 use clause_store::{Clause, ClauseList, Label, Lit};
+use digit_sums::sum_by_digits;
 use std::alloc::{AllocError, Global};
 
 /// The commands `clause`, `and`, `or`, `one`, `adder` of literals, `less` and `equal` of an even
-/// number of literals, whose halves are the numbers, and `sum` of terms such as `3*-1`.
+/// number of literals, whose halves are the numbers, and `sum` and `digits` of terms such as `3*-1`.
 pub fn ask(
     alloc: Global,
     clauses: &mut ClauseList,
@@ -20,6 +21,15 @@ pub fn ask(
         return match terms_of(alloc, words, clauses.vars())? {
             Some(terms) => {
                 let bits = sum_bits(alloc, clauses, terms.as_slice())?;
+                Ok(Some(Answer::Lits(bits)))
+            }
+            None => Ok(None),
+        };
+    }
+    if command == "digits" {
+        return match terms_of(alloc, words, clauses.vars())? {
+            Some(terms) => {
+                let bits = sum_by_digits(alloc, clauses, terms.as_slice())?;
                 Ok(Some(Answer::Lits(bits)))
             }
             None => Ok(None),
