@@ -1,6 +1,6 @@
 -- Every node of a graph that keeps the rules which are always asked has a name of each closed list.
 use Rattle.std.proofs.Common.{◌≡◌, refl, sym, ap, subst, ◌∙◌, Bool, true, false, ◌||◌, ℕ, List, [], ◌∷◌, ◌++◌, cond, Option, Some, None, inl, inr, slice_get}
-use Rattle.std.specs.List.{list_all, list_any, filter, filter_map, cons_option, flat_map}
+use Rattle.std.specs.List.{list_all, list_any, filter, flat_map}
 use Rattle.std.specs.Option.{option_map, option_and_then, is_some}
 use Rattle.std.specs.Str.{bytes_eq}
 use Rattle.std.proofs.lemmas.Bool.{and_parts, or_cases, or_left, or_right}
@@ -21,7 +21,7 @@ use Rattle.problem.specs.OfGraphCore.Edge.{Edge}
 use Rattle.problem.specs.OfGraphCore.Kinds.{Kinds}
 use Rattle.problem.specs.OfGraphCore.Origin.{Origin}
 use Rattle.problem.specs.OfGraphCore.OriginVariants.{Built, External, Installed}
-use Rattle.graph_rules.proofs.Lists.{In, In-among, In-contains, contains-In, list_all-each, find-in, In-left, In-right, In-map, In-flat_map, from_filter, bytes_eq-same, bytes_eq-itself}
+use Rattle.graph_rules.proofs.Lists.{In, In-among, In-contains, contains-In, list_all-each, find-in, In-left, In-right, In-map, In-flat_map, from_filter, any-in, in-any, to_filter, to_filter_map, some-and, and_then, bytes_eq-same, bytes_eq-itself}
 use Rattle.problem.proofs.OfKeyedLists.TextLaws.{texts_decide}
 use Rattle.problem.specs.OfConditionRules.Worlds.{recipe_of, rows}
 use Rattle.problem.specs.OfVirtuals.Virtuals.{is_virtual}
@@ -41,58 +41,15 @@ use Rattle.graph_rules.specs.declared.rule.Rule.{Rule}
 use Rattle.graph_rules.specs.declared.rule.Rule.TheVariants as rules
 use Rattle.graph_rules.proofs.ValidLaws.{at_built, implied, slice_get-in, row-of}
 
--- ---- elements that a test finds
-
-any-in : {X : Type 0} (p : X → Bool) (xs : List X) → list_any p xs ≡ true → (x : X) × In x xs × (p x ≡ true)
-any-in p [] h = absurd cc
-any-in p (y ∷ ys) h =
-    let rest = any-in p ys in
-    elim (or_cases (p y) (list_any p ys) h) as (λ _. (x : _) × In x (y ∷ ys) × (p x ≡ true)) [
-      | inl here ↦ (y, inl refl, here)
-      | inr later ↦
-          let r = rest later in (r.0, inr r.1, r.2)
-    ]
-
-in-any : {X : Type 0} (p : X → Bool) (xs : List X) (x : X) → In x xs → p x ≡ true → list_any p xs ≡ true
-in-any p [] x none h = absurd none
-in-any p (y ∷ ys) x (inl same) h = or_left (p y) (list_any p ys) (ap p (sym same) ∙ h)
-in-any p (y ∷ ys) x (inr later) h = or_right (p y) (list_any p ys) (in-any p ys x later h)
-
-to_filter : {X : Type 0} (p : X → Bool) (xs : List X) (x : X) → In x xs → p x ≡ true → In x (filter p xs)
-to_filter p [] x none h = absurd none
-to_filter p (y ∷ ys) x there h =
-    let rest = to_filter p ys x in
-    elim (p y) as (λ b. p y ≡ b → In x (cond b (y ∷ filter p ys) (filter p ys))) [
-      | true ↦ λ e. elim there as (λ _. In x (y ∷ filter p ys)) [ inl same ↦ inl same | inr later ↦ inr (rest later h) ]
-      | false ↦ λ e. elim there as (λ _. In x (filter p ys)) [
-        | inl same ↦
-            absurd (let wrong : false ≡ true = sym e ∙ ap p (sym same) ∙ h in cc)
-        | inr later ↦ rest later h
-      ]
-    ] refl
-
-to_filter_map : {X Y : Type 0} (f : X → Option Y) (xs : List X) (x : X) (y : Y) → In x xs → f x ≡ Some y → In y (filter_map f xs)
-to_filter_map f [] x y none e = absurd none
-to_filter_map f (z ∷ zs) x y (inl same) e = rw (let is : f z ≡ Some y = ap f (sym same) ∙ e in is) (inl refl)
-to_filter_map f (z ∷ zs) x y (inr later) e = let rest = to_filter_map f zs x y later e in
-    elim (f z) as (λ o. In y (cons_option o (filter_map f zs))) [ None ↦ rest | Some w ↦ inr rest ]
-
--- there is one that passes
-pub some-and : {T : Type 0} (o : Option T) (p : T → Bool) → is_some_and o p ≡ true → (x : T) × (o ≡ Some x) × (p x ≡ true)
-some-and None p h = absurd cc
-some-and (Some x) p h = (x, refl, h)
-
-and_then : {S T : Type 0} (f : S → Option T) (o : Option S) (y : T) → option_and_then f o ≡ Some y → (x : S) × (o ≡ Some x) × (f x ≡ Some y)
-and_then f None y e = absurd (let wrong : None ≡ Some y = e in cc)
-and_then f (Some x) y e = (x, refl, e)
-
 -- ---- a graph that keeps the rules which are always asked
 
 module _ (problem : Problem) (graph : Content) (g : IsGraph graph) (k : keeps_all structure_rules problem graph ≡ true) where
-  rule : (r : Rule) → In r structure_rules → keeps r problem graph ≡ true
+  -- each of them is kept
+  pub rule : (r : Rule) → In r structure_rules → keeps r problem graph ≡ true
   rule r there = list_all-each (λ q. keeps q problem graph) structure_rules r k there
 
-  kept : (node : Node) → In node graph.nodes → keeps_origin problem graph node node.origin ≡ true
+  -- its nodes keep their origin's rule
+  pub kept : (node : Node) → In node graph.nodes → keeps_origin problem graph node node.origin ≡ true
   unfolding keeps keeps_kept
   kept node there = list_all-each (keeps_kept problem graph) graph.nodes node
       (rule rules.Kept (slice_get-in structure_rules 6 rules.Kept refl)) there
@@ -123,13 +80,14 @@ module _ (problem : Problem) (graph : Content) (g : IsGraph graph) (k : keeps_al
       or_right _ _ (in-any (λ entry. bytes_eq entry.name node.name) problem.database found.0 (find-in _ problem.database found.0 found.1).0
       (ap (λ n. bytes_eq n node.name) (sym (bytes_eq-same node.name found.0.name same)) ∙ bytes_eq-itself node.name))
 
+  -- its nodes can be built, are external or installed
   pub known-node : (node : Node) → In node graph.nodes → is_known problem node.name ≡ true
   known-node node there = known-by node there node.origin refl (kept node there)
 
   -- ---- what an edge leads to
 
   -- the node that a name asks for is one of its possible children
-  asked-possible : (name : Text) (asked : Node) → asked_node (world_of problem) graph name ≡ Some asked
+  pub asked-possible : (name : Text) (asked : Node) → asked_node (world_of problem) graph name ≡ Some asked
       → In asked.name (possible_children problem (Some name))
   unfolding keeps keeps_provider asked_node provides recipe_of
   asked-possible name asked e =
@@ -178,7 +136,8 @@ module _ (problem : Problem) (graph : Content) (g : IsGraph graph) (k : keeps_al
         ]
       ]
 
-  brings : (node : Node) (e : Edge) → In node graph.nodes → In e (edges_from graph node.name) → (o : Origin) → node.origin ≡ o
+  -- the child of an edge is one of the names that its parent brings
+  pub brings : (node : Node) (e : Edge) → In node graph.nodes → In e (edges_from graph node.name) → (o : Origin) → node.origin ≡ o
       → keeps_origin problem graph node o ≡ true → In e.child (next_names problem node.name)
   unfolding keeps keeps_extra_edge next_names same_attributes installed_node record_at
   brings node e there from Built is h =

@@ -8,12 +8,11 @@ use Rattle.problem.specs.OfGraphCore.Graphs.{Text, Content}
 use Rattle.problem.specs.OfGraphCore.Node.{Node}
 use Rattle.problem.specs.OfGraphCore.Compiler.{Compiler}
 use Rattle.problem.specs.OfGraphCore.OriginVariants.{External, Installed}
-use Rattle.graph_rules.proofs.Lists.{bytes_eq-same}
+use Rattle.graph_rules.proofs.Lists.{some-and, bytes_eq-same}
 use Rattle.problem.specs.Problems.{same_compiler, entry_of, externals_in, record_at, Problem}
 use Rattle.graph_rules.specs.Kept.{Variants, same_variants, same_attributes, installed_node, external_node, keeps_origin, keeps_kept}
 use Rattle.problem.specs.OfSiteSettings.ExternalEntry.{ExternalEntry}
 use Rattle.problem.specs.OfReuseDb.Record.{Record}
-use Rattle.graph_rules.proofs.ClosureLaws.{some-and}
 
 -- lists whose elements are equal by a test are equal
 lists-same : {X : Type 0} (e : X → X → Bool) → ((x y : X) → e x y ≡ true → x ≡ y) → (xs ys : List X) → pointwise e xs ys ≡ true → xs ≡ ys

@@ -1,16 +1,17 @@
--- Elements of lists: of a test of all, a search, a map; and look-ups by a name.
-use Rattle.std.proofs.Common.{◌≡◌, refl, sym, ap, subst, ◌∙◌, Bool, true, false, List, [], ◌∷◌, ◌++◌, map, Some, None, find, cond, ◌⊎◌, inl, inr, ⊎_elim, Contains, ℕ, arith}
-use Rattle.std.specs.List.{list_all, filter, flat_map}
+-- Elements of lists: of a test of all or of some, a search, a map, a filter; and look-ups by a name.
+use Rattle.std.proofs.Common.{◌≡◌, refl, sym, ap, subst, ◌∙◌, Bool, true, false, List, [], ◌∷◌, ◌++◌, map, Option, Some, None, find, cond, ◌⊎◌, inl, inr, ⊎_elim, Contains, ℕ, arith}
+use Rattle.std.specs.List.{list_all, list_any, filter, filter_map, cons_option, flat_map}
+use Rattle.std.specs.Option.{option_and_then}
 use Rattle.std.specs.Str.{bytes_eq}
 use Rattle.std.specs.Cmp.{tied_itself}
 use Rattle.std.specs.Cmp.Lexicographic.{nat_list_cmp_total, bytes_decides}
-use Rattle.std.proofs.lemmas.Bool.{and_parts, and_from, or_cases}
+use Rattle.std.proofs.lemmas.Bool.{and_parts, and_from, or_cases, or_left, or_right}
 use Rattle.problem.proofs.OfVariantValues.Texts2.{ties_are_equal}
 use Rattle.reachability.proofs.CountLaws.{has_first, has_later, first_or_later}
 use Rattle.problem.proofs.OfKeyedLists.KeyedLaws.{find_some}
 use Rattle.problem.specs.OfGraphCore.Graphs.{Text, Content, IsGraph, name_of, node_of}
 use Rattle.problem.specs.OfGraphCore.Node.{Node}
-use Rattle.problem.specs.OfConditionRules.Words.{among}
+use Rattle.problem.specs.OfConditionRules.Words.{among, is_some_and}
 
 abbrev pub In : {X : Type 0} → X → List X → Type 0
 In x [] = ⊥
@@ -64,6 +65,25 @@ from_map f [] y none = absurd none
 from_map f (x ∷ xs) y (inl same) = (x, inl refl, same)
 from_map f (x ∷ xs) y (inr later) = let r = from_map f xs y later in (r.0, inr r.1, r.2)
 
+-- ---- a test of some
+
+-- the one that passes
+pub any-in : {X : Type 0} (p : X → Bool) (xs : List X) → list_any p xs ≡ true → (x : X) × In x xs × (p x ≡ true)
+any-in p [] h = absurd cc
+any-in p (y ∷ ys) h =
+    let rest = any-in p ys in
+    elim (or_cases (p y) (list_any p ys) h) as (λ _. (x : _) × In x (y ∷ ys) × (p x ≡ true)) [
+      | inl here ↦ (y, inl refl, here)
+      | inr later ↦
+          let r = rest later in (r.0, inr r.1, r.2)
+    ]
+
+-- one that passes is enough
+pub in-any : {X : Type 0} (p : X → Bool) (xs : List X) (x : X) → In x xs → p x ≡ true → list_any p xs ≡ true
+in-any p [] x none h = absurd none
+in-any p (y ∷ ys) x (inl same) h = or_left (p y) (list_any p ys) (ap p (sym same) ∙ h)
+in-any p (y ∷ ys) x (inr later) h = or_right (p y) (list_any p ys) (in-any p ys x later h)
+
 -- ---- a filter
 
 pub from_filter : {X : Type 0} (p : X → Bool) (xs : List X) (x : X) → In x (filter p xs) → In x xs × (p x ≡ true)
@@ -78,6 +98,39 @@ from_filter p (y ∷ ys) x there =
       ]
       | false ↦ λ e h. let r = rest h in (inr r.0, r.1)
     ] refl there
+
+-- what passes stays
+pub to_filter : {X : Type 0} (p : X → Bool) (xs : List X) (x : X) → In x xs → p x ≡ true → In x (filter p xs)
+to_filter p [] x none h = absurd none
+to_filter p (y ∷ ys) x there h =
+    let rest = to_filter p ys x in
+    elim (p y) as (λ b. p y ≡ b → In x (cond b (y ∷ filter p ys) (filter p ys))) [
+      | true ↦ λ e. elim there as (λ _. In x (y ∷ filter p ys)) [ inl same ↦ inl same | inr later ↦ inr (rest later h) ]
+      | false ↦ λ e. elim there as (λ _. In x (filter p ys)) [
+        | inl same ↦
+            absurd (let wrong : false ≡ true = sym e ∙ ap p (sym same) ∙ h in cc)
+        | inr later ↦ rest later h
+      ]
+    ] refl
+
+-- what the map gives is in its list
+pub to_filter_map : {X Y : Type 0} (f : X → Option Y) (xs : List X) (x : X) (y : Y) → In x xs → f x ≡ Some y → In y (filter_map f xs)
+to_filter_map f [] x y none e = absurd none
+to_filter_map f (z ∷ zs) x y (inl same) e = rw (let is : f z ≡ Some y = ap f (sym same) ∙ e in is) (inl refl)
+to_filter_map f (z ∷ zs) x y (inr later) e = let rest = to_filter_map f zs x y later e in
+    elim (f z) as (λ o. In y (cons_option o (filter_map f zs))) [ None ↦ rest | Some w ↦ inr rest ]
+
+-- ---- an option
+
+-- the value of an option that passes
+pub some-and : {T : Type 0} (o : Option T) (p : T → Bool) → is_some_and o p ≡ true → (x : T) × (o ≡ Some x) × (p x ≡ true)
+some-and None p h = absurd cc
+some-and (Some x) p h = (x, refl, h)
+
+-- the value that the second step began with
+pub and_then : {S T : Type 0} (f : S → Option T) (o : Option S) (y : T) → option_and_then f o ≡ Some y → (x : S) × (o ≡ Some x) × (f x ≡ Some y)
+and_then f None y e = absurd (let wrong : None ≡ Some y = e in cc)
+and_then f (Some x) y e = (x, refl, e)
 
 -- ---- texts
 

@@ -20,8 +20,7 @@ use Rattle.graph_rules.specs.Kept.{keeps_kept, keeps_origin}
 use Rattle.graph_rules.specs.Whole.{keeps_no_cycle}
 use Rattle.graph_rules.specs.Valid.{keeps, valid}
 use Rattle.graph_rules.specs.declared.rule.Rule.TheVariants as rules
-use Rattle.graph_rules.proofs.Lists.{list_all-each, list_all-from}
-use Rattle.graph_rules.proofs.ClosureLaws.{some-and}
+use Rattle.graph_rules.proofs.Lists.{list_all-each, list_all-from, some-and}
 use Rattle.graph_rules.proofs.ValidLaws.{rule-of}
 use Rattle.lock_writer.specs.Tests.{has_text, is_of_node, is_off_cycles, is_recorded}
 use Rattle.lock_writer.specs.Texts.{CanBeWritten}
