@@ -55,7 +55,7 @@ impl Code {
 }
 
 /// An entry: twice its place, and one more where its clause surely has two literals; and the code of its other literal.
-#[derive(Drop)]
+#[derive(Default, Drop)]
 pub struct Packed {
     head: u32,
     other: Code,

@@ -1,4 +1,4 @@
-use Rattle.std.proofs.Common.{false, ◌≡◌, ◌≢◌, ◌≤◌, true, inl, inr, arith}
+use Rattle.std.proofs.Common.{◌≡◌, ◌≢◌, ◌≤◌, true, inl, inr, arith}
 use Rattle.clause_store.specs.Lits.{var_of, negation, has}
 use Rattle.clause_watch.specs.Trails.{lits_of}
 use Rattle.clause_watch.proofs.Rows.{at-within}
