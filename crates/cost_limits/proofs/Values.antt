@@ -24,7 +24,7 @@ use Rattle.table_plan.specs.Gathering.{listed}
 use Rattle.table_plan.specs.Kept.{external_nodes, kept_nodes}
 use Rattle.table_plan.specs.Plans.{can_build, variant_values}
 use Rattle.table_plan.proofs.NodeLaws.{find_last-in}
-use Rattle.problem_limits.specs.Limits.{settings_size, set_members, external_members, size_of_package, variant_members, record_members}
+use Rattle.problem_limits.specs.Limits.{size_of_settings, set_members, external_members, size_of_package, variant_members, record_members}
 use Rattle.cost_limits.proofs.Sums.{sum-le-in, sum-at, sum-add}
 use Rattle.cost_limits.proofs.Weights.{IsWithin, rows-in}
 
@@ -210,7 +210,7 @@ module _ (problem : Problem) (limits : IsWithin problem) where
       )
 
   written-of : (name : Text) (o : Option PackageEntry) → find (λ entry. bytes_eq entry.name name) problem.settings.packages ≡ o
-      → sum_by external_members (externals_in o) ≤ settings_size problem
+      → sum_by external_members (externals_in o) ≤ size_of_settings problem.settings
   written-of name None is = omega arith
   written-of name (Some entry) is =
       omega (
@@ -219,7 +219,7 @@ module _ (problem : Problem) (limits : IsWithin problem) where
             (found-there (λ (e : PackageEntry). bytes_eq e.name name) problem.settings.packages entry is).0,
       )
 
-  written-in : (name : Text) → sum_by external_members (externals_in (entry_of problem name)) ≤ settings_size problem
+  written-in : (name : Text) → sum_by external_members (externals_in (entry_of problem name)) ≤ size_of_settings problem.settings
   unfolding entry_of
   written-in name = written-of name (find (λ entry. bytes_eq entry.name name) problem.settings.packages) refl
 

@@ -18,7 +18,7 @@ use Rattle.condition_rules.specs.Worlds.{recipe_of, rows}
 use Rattle.problem.specs.Problems.{Problem, recipe_at, versions_at, entry_of, same_compiler}
 use Rattle.graph_costs.specs.Weights.{row_cmp, place_or_number, listed_in, version_weight, is_deprecated, os_weight, target_weight, compiler_weight, packages_in, provider_weight}
 use Rattle.possible_closure.proofs.Lists.{found-there}
-use Rattle.problem_limits.specs.Limits.{is_within_limits, recipe_size, settings_size, database_size, size_of_recipe, provider_names}
+use Rattle.problem_limits.specs.Limits.{is_within_limits, size_of_recipes, size_of_settings, size_of_database, size_of_recipe, provider_names}
 use Rattle.cost_limits.proofs.Sums.{sum-at}
 
 place-le : {X : Type 0} (p : X → Bool) (xs : List X) → position_or_len p xs ≤ length xs
@@ -27,20 +27,20 @@ place-le p xs = prefix_len-le-length (λ x. not (p x)) xs
 -- ---- the limits
 
 pub record IsWithin (problem : Problem) : Type 0 where
-  pub recipes : recipe_size problem ≤ 2 ^ 28
-  pub settings : settings_size problem ≤ 2 ^ 24
-  pub database : database_size problem ≤ 2 ^ 26
+  pub recipes : size_of_recipes problem.recipes ≤ 2 ^ 28
+  pub settings : size_of_settings problem.settings ≤ 2 ^ 24
+  pub database : size_of_database problem.database ≤ 2 ^ 26
 
 pub within : (problem : Problem) → is_within_limits problem ≡ true → IsWithin problem
 unfolding is_within_limits
 within problem is =
-    let last = and_parts (leb (recipe_size problem) (2 ^ 28) && leb (settings_size problem) (2 ^ 24))
-    (leb (database_size problem) (2 ^ 26)) is in
-    let first = and_parts (leb (recipe_size problem) (2 ^ 28)) (leb (settings_size problem) (2 ^ 24)) last.0 in
+    let last = and_parts (leb (size_of_recipes problem.recipes) (2 ^ 28) && leb (size_of_settings problem.settings) (2 ^ 24))
+    (leb (size_of_database problem.database) (2 ^ 26)) is in
+    let first = and_parts (leb (size_of_recipes problem.recipes) (2 ^ 28)) (leb (size_of_settings problem.settings) (2 ^ 24)) last.0 in
     record {
-      recipes = leb-true (recipe_size problem) (2 ^ 28) first.0;
-      settings = leb-true (settings_size problem) (2 ^ 24) first.1;
-      database = leb-true (database_size problem) (2 ^ 26) last.1;
+      recipes = leb-true (size_of_recipes problem.recipes) (2 ^ 28) first.0;
+      settings = leb-true (size_of_settings problem.settings) (2 ^ 24) first.1;
+      database = leb-true (size_of_database problem.database) (2 ^ 26) last.1;
     }
 
 module _ (problem : Problem) (limits : IsWithin problem) where
@@ -49,7 +49,7 @@ module _ (problem : Problem) (limits : IsWithin problem) where
   rows-of : {R : Type 0} (field : Recipe → List R) (measure : List R → ℕ) → measure [] ≡ 0
       → ((recipe : Recipe) → measure (field recipe) ≤ size_of_recipe recipe)
       → (name : Text) (o : Option Recipe) → find_key byte_cmp name_of problem.recipes name ≡ o
-      → measure (rows field o) ≤ recipe_size problem
+      → measure (rows field o) ≤ size_of_recipes problem.recipes
   rows-of field measure none le name None is = omega arith
   rows-of field measure none le name (Some recipe) is =
       omega (

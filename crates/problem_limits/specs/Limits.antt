@@ -22,8 +22,8 @@ rows_of recipe = length recipe.versions + length recipe.variants + length recipe
 abbrev pub size_of_recipe : Recipe → ℕ
 size_of_recipe recipe = rows_of recipe + sum_by set_members recipe.variants
 
-abbrev pub recipe_size : Problem → ℕ
-recipe_size problem = sum_by size_of_recipe problem.recipes
+abbrev pub size_of_recipes : List Recipe → ℕ
+size_of_recipes recipes = sum_by size_of_recipe recipes
 
 -- ---- settings: OSs, targets, compilers, names in lists of providers, externals and their variant values
 
@@ -43,22 +43,27 @@ abbrev pub size_of_settings : Settings → ℕ
 size_of_settings settings = length settings.os + length settings.targets + length settings.compilers
     + sum_by provider_names settings.providers + sum_by size_of_package settings.packages
 
-abbrev pub settings_size : Problem → ℕ
-settings_size problem = size_of_settings problem.settings
-
 -- ---- the database: its records, with their dependencies and variant values
 
 abbrev pub record_members : Record → ℕ
 record_members entry = length entry.dependencies + variant_members entry.variants
 
-abbrev pub database_size : Problem → ℕ
-database_size problem = length problem.database + sum_by record_members problem.database
+abbrev pub size_of_database : List Record → ℕ
+size_of_database records = length records + sum_by record_members records
 
 -- ---- the limits
 
+abbrev pub are_few_rows : List Recipe → Bool
+are_few_rows recipes = nat_le (size_of_recipes recipes) (2 ^ 28)
+
+abbrev pub are_small : Settings → Bool
+are_small settings = nat_le (size_of_settings settings) (2 ^ 24)
+
+abbrev pub are_few_records : List Record → Bool
+are_few_records records = nat_le (size_of_database records) (2 ^ 26)
+
 unfoldable pub is_within_limits : Problem → Bool
-is_within_limits problem =
-    nat_le (recipe_size problem) (2 ^ 28) && nat_le (settings_size problem) (2 ^ 24) && nat_le (database_size problem) (2 ^ 26)
+is_within_limits problem = are_few_rows problem.recipes && are_small problem.settings && are_few_records problem.database
 
 -- a count that stops at the largest number of 64 bits
 abbrev pub stopped : ℕ → ℕ

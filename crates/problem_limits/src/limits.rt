@@ -2,9 +2,9 @@
 ghost use Rattle.std.specs.Prelude.{◌≡◌, ◌^◌, ◌&&◌, nat_le};
 ghost use Rattle.problem_limits.specs.Limits.{is_within_limits};
 
-use crate::recipes::recipe_size;
-use crate::records::database_size;
-use crate::settings::settings_size;
+use crate::recipes::size_of_recipes;
+use crate::records::size_of_database;
+use crate::settings::size_of_settings;
 use problem::Problem;
 
 const MOST_IN_RECIPES: u64 = 1 << 28;
@@ -26,8 +26,8 @@ fn are_within(recipes: u64, settings: u64, database: u64) -> bool
 pub fn is_within_limits(problem: &Problem) -> bool
     ensures { result ≡ is_within_limits problem.now }
 {
-    let recipes = recipe_size(problem.recipes());
-    let settings = settings_size(problem.settings());
-    let database = database_size(problem.database());
+    let recipes = size_of_recipes(problem.recipes());
+    let settings = size_of_settings(problem.settings());
+    let database = size_of_database(problem.database());
     are_within(recipes, settings, database)
 }

@@ -1,7 +1,7 @@
 // How much recipes have.
 ghost use Rattle.std.specs.Prelude.{◌≡◌};
 ghost use Rattle.std.specs.List.{sum_by};
-ghost use Rattle.problem_limits.specs.Limits.{set_members, rows_of, size_of_recipe, stopped};
+ghost use Rattle.problem_limits.specs.Limits.{set_members, rows_of, size_of_recipes, stopped};
 
 use conditions::{Recipe, VariantRow};
 
@@ -29,8 +29,8 @@ fn rows_of(recipe: &Recipe) -> u64
 }
 
 /// The rows of all recipes, and the members of the value and default sets of their variants.
-pub(crate) fn recipe_size(recipes: &[Recipe]) -> u64
-    ensures { result ≡ stopped (sum_by size_of_recipe recipes.now) }
+pub(crate) fn size_of_recipes(recipes: &[Recipe]) -> u64
+    ensures { result ≡ stopped (size_of_recipes recipes.now) }
 {
     let mut count: u64 = 0;
     for recipe in recipes {

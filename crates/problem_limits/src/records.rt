@@ -1,7 +1,7 @@
 // How much a database has.
-ghost use Rattle.std.specs.Prelude.{◌≡◌, ◌+◌, length};
+ghost use Rattle.std.specs.Prelude.{◌≡◌};
 ghost use Rattle.std.specs.List.{sum_by};
-ghost use Rattle.problem_limits.specs.Limits.{record_members, stopped};
+ghost use Rattle.problem_limits.specs.Limits.{record_members, size_of_database, stopped};
 
 use crate::settings::variant_members;
 use reuse_db::{Database, Record};
@@ -23,8 +23,8 @@ fn all_members(records: &[Record]) -> u64
 }
 
 /// The records, with their dependencies and variant values.
-pub(crate) fn database_size(database: &Database) -> u64
-    ensures { result ≡ stopped (length database.now + sum_by record_members database.now) }
+pub(crate) fn size_of_database(database: &Database) -> u64
+    ensures { result ≡ stopped (size_of_database database.now) }
 {
     (database.records().len() as u64).saturating_add(all_members(database.records()))
 }

@@ -51,7 +51,7 @@ fn provider_names(lists: &[(Word, List<Word>)]) -> u64
 }
 
 /// The OSs, targets, compilers, names in lists of providers, externals and variant values of externals.
-pub(crate) fn settings_size(settings: &Settings) -> u64
+pub(crate) fn size_of_settings(settings: &Settings) -> u64
     ensures { result ≡ stopped (size_of_settings settings.now) }
 {
     (settings.os.len() as u64)

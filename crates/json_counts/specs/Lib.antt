@@ -1,0 +1,3 @@
+-- what public contracts say
+pub mod Weights
+pub mod Laws

@@ -1,0 +1,11 @@
+pub mod Sizes
+pub mod TokenSizes
+pub mod Steps
+pub mod StringSizes
+pub mod ValueSizes
+pub mod BracketSizes
+pub mod ArgumentSizes
+pub mod ShapeSizes
+pub mod RowSizes
+pub mod ItemSizes
+pub mod FileSizes

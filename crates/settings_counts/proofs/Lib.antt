@@ -1,0 +1,5 @@
+pub mod Outcomes
+pub mod Sums
+pub mod Externals
+pub mod Lists
+pub mod Whole
