@@ -1,5 +1,6 @@
 -- The recipe files of a repository, or the refusal that is due first.
 use Rattle.std.specs.Prelude.{◌≡◌, ℕ, ◌+◌, ◌^◌, nat_lt, nat_le, List, [], ◌∷◌, ◌++◌, map, length, Option, Some, None, Result, Ok, Err, if◌then◌else◌}
+use Rattle.std.specs.List.{sum_by}
 use Rattle.std.specs.FinMap.{get}
 use Rattle.outside_desk.specs.Files.{Files}
 use Rattle.outside_desk.specs.Listing.{names_in}
@@ -18,6 +19,10 @@ Source = List ℕ × List ℕ
 
 abbrev pub source_of : RecipeFile → Source
 source_of file = (file.name, file.bytes.items)
+
+-- how many bytes recipe files have together
+abbrev pub bytes_in : List Source → ℕ
+bytes_in sources = sum_by (λ (source : Source). length source.1) sources
 
 -- recipe files, and how many bytes they have together
 pub record Pile : Type 0 where

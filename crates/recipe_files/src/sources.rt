@@ -1,8 +1,8 @@
 //! Recipe files.
 
-ghost use Rattle.std.specs.Prelude.{◌≡◌, ◌≤◌, ◌<◌, ◌^◌, ◌∷◌, ◌++◌, [], ℕ, List, map, length, OnOk};
+ghost use Rattle.std.specs.Prelude.{◌≡◌, ◌≤◌, ◌<◌, ◌^◌, ◌∷◌, ◌++◌, [], ℕ, List, map, length, OnErr, OnOk};
 ghost use Rattle.run_answers.specs.Stops.{EndsInReadFault, EndsInUsage};
-ghost use Rattle.recipe_files.specs.Sources.{Leaves, no_files, source_of, with_file};
+ghost use Rattle.recipe_files.specs.Sources.{Leaves, bytes_in, no_files, source_of, with_file};
 
 use plain_data::{List, Word};
 use recipe_reader::RecipeFile;
@@ -25,6 +25,7 @@ pub struct Sources {
     files: List<RecipeFile>,
     total: u64,
     ghost within: { total ≤ 2 ^ 28 },
+    ghost counted: { total ≡ bytes_in (map source_of files) },
 }
 
 impl Model for Sources {
@@ -36,15 +37,16 @@ impl Model for Sources {
     ghost view = { λ s. record { files = map source_of s.files; total = s.total } };
 }
 
-/// Appends a file.
+/// Appends a file. After an error nothing has changed.
 fn push_file(
     alloc: Global,
     files: &mut List<RecipeFile>,
     name: &str,
     bytes: Vec<u8>,
 ) -> Result<(), AllocError>
-    ensures { OnOk result (map source_of files.new ≡ map source_of files.old
+    ensures ok { OnOk result (map source_of files.new ≡ map source_of files.old
         ++ (name.now, bytes.items) ∷ []) }
+    ensures err { OnErr result (files.new ≡ files.old) }
 {
     let name = Word::new(alloc, name)?;
     files.push(RecipeFile { name, bytes })?;
@@ -62,7 +64,7 @@ impl Sources {
     }
 
     /// One file more.
-    #[tactic(auto, unfolding(crate::specs::Sources::with_file))]
+    #[tactic(auto, unfolding(crate::specs::Sources::with_file), using(crate::proofs::Counted::counted))]
     pub(crate) fn add(&mut self, alloc: Global, name: &str, bytes: Vec<u8>) -> Result<(), ReadStop>
         ensures left { Leaves (with_file self.old name.now bytes.items) self.new result }
         ensures no_fault { EndsInReadFault result → ⊥ }
@@ -100,7 +102,8 @@ impl Sources {
 
     /// The files, each as a name with bytes.
     pub fn as_slice(&self) -> &[RecipeFile]
-        ensures { map source_of result.now ≡ self.now.files }
+        ensures files { map source_of result.now ≡ self.now.files }
+        ensures short { bytes_in (map source_of result.now) ≤ 2 ^ 28 }
     {
         self.files.as_slice()
     }

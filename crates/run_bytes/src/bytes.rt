@@ -1,9 +1,9 @@
 //! The reading of one file.
 
-ghost use Rattle.std.specs.Prelude.{◌≡◌, IfSome};
+ghost use Rattle.std.specs.Prelude.{◌≡◌, ◌≤◌, length, IfOk, IfSome};
 ghost use Rattle.outside_desk.specs.Causes.{Counts};
 ghost use Rattle.run_answers.specs.Stops.{EndsByInput, EndsInReadFault, EndsInUsage};
-ghost use Rattle.run_bytes.specs.Bytes.{bytes_at, GivesBytes, FailsAt};
+ghost use Rattle.run_bytes.specs.Bytes.{bytes_at, limit_of, GivesBytes, FailsAt};
 
 use crate::WholeFile;
 use outside_desk::{Desk, ReadFault, read_whole};
@@ -26,6 +26,7 @@ pub fn read_bytes<D: Desk>(
 ) -> Result<Vec<u8>, ReadStop>
     ensures read { IfSome (D.files desk.old)
         (λ files. GivesBytes (bytes_at files path.now file) result) }
+    ensures short { IfOk result (λ bytes. length bytes.items ≤ limit_of file) }
     ensures path { FailsAt path.now result }
     ensures no_usage { EndsInUsage result → ⊥ }
     ensures same { D.files desk.new ≡ D.files desk.old }

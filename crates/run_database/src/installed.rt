@@ -1,13 +1,15 @@
 //! The reading of a database.
 
-ghost use Rattle.std.specs.Prelude.{◌≡◌, true, false, IfOk, IfSome};
+ghost use Rattle.std.specs.Prelude.{◌≡◌, ◌≤◌, ◌^◌, true, false, length, IfOk, IfSome};
 ghost use Rattle.std.specs.List.{list_all};
 ghost use Rattle.recorded_values.specs.Values.{has_values};
+ghost use Rattle.problem_limits.specs.Limits.{are_few_records};
 ghost use Rattle.outside_desk.specs.Causes.{Counts};
 ghost use Rattle.run_words.specs.Stops.{Gives, EndsByInput, EndsInReadFault, EndsInUsage};
 ghost use Rattle.run_words.specs.Words.{is_dash};
 ghost use Rattle.run_database.specs.Installed.{DatabaseIn, DatabaseAt, FailsThere};
 
+use database_counts::database_count_laws;
 use database_reader::read_database;
 use outside_desk::Desk;
 use recorded_values::value_laws;
@@ -18,12 +20,15 @@ use std::alloc::Global;
 
 /// The database that the bytes of a file are.
 fn database_in(alloc: Global, bytes: &[u8]) -> Result<Database, ReadStop>
+    requires { length bytes.now ≤ 2 ^ 26 }
     ensures read { Gives result (DatabaseIn bytes.now) }
     ensures values { IfOk result (λ database. list_all has_values database ≡ true) }
+    ensures few { IfOk result (λ database. are_few_records database ≡ true) }
     ensures no_usage { EndsInUsage result → ⊥ }
     ensures no_fault { EndsInReadFault result → ⊥ }
 {
     value_laws();
+    database_count_laws();
     match read_database(alloc, bytes) {
         Ok(database) => Ok(database),
         Err(DbFault::OutOfMemory) => Err(ReadStop::NoMemory),
@@ -44,6 +49,7 @@ pub fn read_installed<D: Desk>(
 ) -> Result<Database, ReadStop>
     ensures read { IfSome (D.files desk.old) (λ files. Gives result (DatabaseAt files path.now)) }
     ensures values { IfOk result (λ database. list_all has_values database ≡ true) }
+    ensures few { IfOk result (λ database. are_few_records database ≡ true) }
     ensures path { FailsThere path.now result }
     ensures no_usage { EndsInUsage result → ⊥ }
     ensures same { D.files desk.new ≡ D.files desk.old }

@@ -1,14 +1,16 @@
 -- The recipes of files, by what reading them answered.
-use Rattle.std.proofs.Common.{◌≡◌, refl, ap, ◌∙◌, ℕ, zero, suc, List, [], ◌∷◌, map, take, Option, Some, Result, Ok, Err}
+use Rattle.std.proofs.Common.{◌≡◌, refl, ap, ◌∙◌, ℕ, ◌≤◌, ◌^◌, true, zero, suc, List, [], ◌∷◌, map, take, Option, Some, Result, Ok, Err}
 use Rattle.std.specs.List.{slice_get}
 use Rattle.std.specs.Prelude.{get_or}
 use Rattle.std.proofs.lemmas.Option.{get_or_from_slice_get}
 use Rattle.conditions.specs.declared.recipe.Recipe.{Recipe}
+use Rattle.problem_limits.specs.Limits.{are_few_rows}
 use Rattle.recipe_reader.specs.Files.{recipe_in_file, IsFirstFault}
+use Rattle.recipe_reader.specs.Recipes.{recipe_of}
 use Rattle.recipe_reader.specs.declared.fault.RecipeFault.{RecipeFault}
 use Rattle.recipe_reader.specs.declared.files.RecipeFile.{RecipeFile}
 use Rattle.run_settings.specs.Refusal.TheVariants as refusals
-use Rattle.recipe_files.specs.Sources.{Source, source_of}
+use Rattle.recipe_files.specs.Sources.{Source, bytes_in, source_of}
 use Rattle.run_input.specs.Recipes.{recipes_of}
 
 abbrev Read : Type 0
@@ -59,6 +61,17 @@ pub first_bad : (place : ℕ) (e : RecipeFault) (files : List RecipeFile) (file 
 first_bad place e files file first is =
     let same : file ≡ first.file = is ∙ get_or_from_slice_get files place first.file file first.is in
     rw same (bad_at place files first.recipes first.file e first.before first.is first.faulty)
+
+-- the recipes of files within the limit are within theirs
+pub few_read : ((sources : List Source) (recipes : List Recipe) → map (λ (s : Source). recipe_of s.0 s.1) sources ≡ map Ok recipes
+    → bytes_in sources ≤ 2 ^ 28 → are_few_rows recipes ≡ true)
+    → (files : List RecipeFile) (recipes : List Recipe) → bytes_in (map source_of files) ≤ 2 ^ 28
+    → map recipe_in_file files ≡ map Ok recipes → are_few_rows recipes ≡ true
+few_read law files recipes short read = law (map source_of files) recipes (read_as files ∙ read) short
+  where
+    read_as : (files : List RecipeFile) → map (λ (s : Source). recipe_of s.0 s.1) (map source_of files) ≡ map recipe_in_file files
+    read_as [] = refl
+    read_as (f ∷ files) = ap (λ (rs : List Read). recipe_in_file f ∷ rs) (read_as files)
 
 sources_named : (files : List RecipeFile) → map (λ (file : RecipeFile). file.name) files ≡ map (λ (source : Source). source.0)
     (map source_of files)

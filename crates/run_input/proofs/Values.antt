@@ -1,10 +1,11 @@
--- Settings and records that were read have the values that a problem is to have.
-use Rattle.std.proofs.Common.{◌≡◌, refl, ◌∙◌, Bool, true, List, [], ◌∷◌}
+-- Settings and records that were read have the values that a problem is to have, and the problem is within its limits.
+use Rattle.std.proofs.Common.{◌≡◌, refl, ◌∙◌, Bool, true, ◌&&◌, List, [], ◌∷◌}
 use Rattle.std.specs.List.{list_all}
 use Rattle.std.proofs.lemmas.Bool.{and_parts, and_from}
 use Rattle.std.proofs.lemmas.List.Elements.{All-weaker}
 use Rattle.std.proofs.lemmas.List.Sums.{AllPass-from_list_all, list_all-from_AllPass}
 use Rattle.table_plan.specs.Kept.{has_recorded_values, has_right_values, has_written_values}
+use Rattle.problem_limits.specs.Limits.{are_few_records, are_few_rows, are_small, is_within_limits}
 use Rattle.problem.specs.Closure.{is_some_list}
 use Rattle.problem.specs.Problems.{problem_of}
 use Rattle.conditions.specs.declared.recipe.Recipe.{Recipe}
@@ -43,3 +44,12 @@ unfolding has_right_values
 right_values recipes settings records roots externals installed =
     and_from _ _ (all_weaker settings_values.has_values has_written_values written settings.packages externals)
     (all_weaker record_values.has_values has_recorded_values recorded records installed)
+
+-- what is within the limits makes a problem within them
+pub within_limits : (recipes : List Recipe) (settings : Settings) (records : List Record) (roots : List Spec)
+    → are_few_rows recipes ≡ true → are_small settings ≡ true → are_few_records records ≡ true
+    → is_within_limits (problem_of recipes settings records roots) ≡ true
+unfolding is_within_limits
+within_limits recipes settings records roots rows small few =
+    and_from (are_few_rows recipes && are_small settings) (are_few_records records)
+    (and_from (are_few_rows recipes) (are_small settings) rows small) few

@@ -1,5 +1,5 @@
 -- What a run reads before the command's own work, or the first refusal.
-use Rattle.std.specs.Prelude.{◌⊎◌, ℕ, nat_le, List, length, Option, Some, None, Result, Ok, Err}
+use Rattle.std.specs.Prelude.{◌≡◌, ◌⊎◌, ℕ, ◌≤◌, true, nat_le, List, length, Option, Some, None, Result, Ok, Err}
 use Rattle.outside_desk.specs.Files.{Files}
 use Rattle.spec_grammar.specs.declared.part.Spec.{Spec}
 use Rattle.site_settings.specs.declared.settings.Settings.{Settings}
@@ -7,7 +7,9 @@ use Rattle.conditions.specs.declared.recipe.Recipe.{Recipe}
 use Rattle.virtuals.specs.Virtuals.{clash}
 use Rattle.problem.specs.Problems.{Problem, problem_of}
 use Rattle.problem.specs.Roots.{roots_fault}
+use Rattle.problem_limits.specs.Limits.{is_within_limits}
 use Rattle.possible_closure.specs.Closures.{closure_of}
+use Rattle.table_plan.specs.Kept.{has_right_values}
 use Rattle.problem.specs.declared.fault.ProblemFault.{ProblemFault}
 use Rattle.problem.specs.declared.fault.ProblemFault.TheVariants as faults
 use Rattle.run_settings.specs.Stages.{Is, Then, ◌>>=◌, check, refuse_some}
@@ -56,6 +58,12 @@ posed_by recipes settings records roots =
 -- the problem with the names that its nodes may have
 abbrev pub input_of : Problem → Input
 input_of problem = record { problem = problem; closure = closure_of problem }
+
+-- what each input that is read has: the names of its problem, 1,024 at most, values for the variants of externals and records, and
+-- counts within the limits
+abbrev pub IsPosed : Input → Type 0
+IsPosed input = (input.closure ≡ closure_of input.problem) × (length (closure_of input.problem) ≤ 1024)
+    × (has_right_values input.problem ≡ true) × (is_within_limits input.problem ≡ true)
 
 -- there are at most 1,024 such names
 unfoldable pub closed_of : Problem → Result Input Refusal

@@ -5,14 +5,14 @@ ghost use Rattle.std.specs.List.{list_all};
 ghost use Rattle.outside_desk.specs.Causes.{Counts};
 ghost use Rattle.conditions.specs.Right.{is_right_recipe};
 ghost use Rattle.virtuals.specs.Virtuals.{AreInOrder};
-ghost use Rattle.possible_closure.specs.Closures.{closure_of};
+ghost use Rattle.problem_limits.specs.Limits.{are_few_records, are_few_rows, are_small, is_within_limits};
 ghost use Rattle.table_plan.specs.Kept.{has_right_values};
 ghost use Rattle.run_settings.specs.Values.{are_valued};
 ghost use Rattle.run_database.specs.Values.{has_values};
 ghost use Rattle.run_settings.specs.Stages.{Is};
 ghost use Rattle.run_settings.specs.Stops.{Gives, EndsByInput, EndsInReadFault, EndsInUsage};
 ghost use Rattle.run_input.specs.Roots.{RootsOf, are_named};
-ghost use Rattle.run_input.specs.Inputs.{posed_by, closed_of, InputBy, Asked, Behind, OverSettings, Reads, FailsAtInput};
+ghost use Rattle.run_input.specs.Inputs.{posed_by, closed_of, InputBy, Asked, Behind, IsPosed, OverSettings, Reads, FailsAtInput};
 
 use crate::repository::read_repository;
 use crate::roots::read_roots;
@@ -49,12 +49,16 @@ fn posed(
 ) -> Result<Problem, ReadStop>
     requires order { AreInOrder recipes }
     requires right { list_all is_right_recipe recipes ≡ true }
+    requires few_rows { are_few_rows recipes ≡ true }
     requires named { are_named roots ≡ true }
     requires externals { are_valued settings ≡ true }
+    requires small { are_small settings ≡ true }
     requires records { list_all has_values database ≡ true }
+    requires few_records { are_few_records database ≡ true }
     ensures read { Gives result (Is (posed_by recipes settings database roots)) }
     ensures roots { IfOk result (λ problem. problem.roots ≡ roots) }
     ensures values { IfOk result (λ problem. has_right_values problem ≡ true) }
+    ensures limits { IfOk result (λ problem. is_within_limits problem ≡ true) }
     ensures no_usage { EndsInUsage result → ⊥ }
     ensures no_fault { EndsInReadFault result → ⊥ }
 {
@@ -72,11 +76,11 @@ fn posed(
 /// What a run reads: the problem, with the names that its nodes may have.
 #[tactic(auto, unfolding(crate::specs::Inputs::closed_of))]
 fn closed(alloc: Global, problem: Problem) -> Result<Input, ReadStop>
-    requires { has_right_values problem ≡ true }
+    requires values { has_right_values problem ≡ true }
+    requires limits { is_within_limits problem ≡ true }
     ensures read { Gives result (Is (closed_of problem)) }
     ensures roots { IfOk result (λ input. input.problem.roots ≡ problem.roots) }
-    ensures values { IfOk result (λ input. has_right_values input.problem ≡ true) }
-    ensures names { IfOk result (λ input. input.closure ≡ closure_of input.problem) }
+    ensures posed { IfOk result IsPosed }
     ensures no_usage { EndsInUsage result → ⊥ }
     ensures no_fault { EndsInReadFault result → ⊥ }
 {
@@ -97,13 +101,15 @@ fn put_together(
 ) -> Result<Input, ReadStop>
     requires order { AreInOrder recipes }
     requires right { list_all is_right_recipe recipes ≡ true }
+    requires few_rows { are_few_rows recipes ≡ true }
     requires named { are_named roots ≡ true }
     requires externals { are_valued settings ≡ true }
+    requires small { are_small settings ≡ true }
     requires records { list_all has_values database ≡ true }
+    requires few_records { are_few_records database ≡ true }
     ensures read { Gives result (InputBy recipes settings database roots) }
     ensures roots { IfOk result (λ input. input.problem.roots ≡ roots) }
-    ensures values { IfOk result (λ input. has_right_values input.problem ≡ true) }
-    ensures names { IfOk result (λ input. input.closure ≡ closure_of input.problem) }
+    ensures posed { IfOk result IsPosed }
     ensures no_usage { EndsInUsage result → ⊥ }
     ensures no_fault { EndsInReadFault result → ⊥ }
 {
@@ -121,12 +127,14 @@ fn read_asked(
 ) -> Result<Input, ReadStop>
     requires order { AreInOrder recipes }
     requires right { list_all is_right_recipe recipes ≡ true }
+    requires few_rows { are_few_rows recipes ≡ true }
     requires externals { are_valued settings ≡ true }
+    requires small { are_small settings ≡ true }
     requires records { list_all has_values database ≡ true }
+    requires few_records { are_few_records database ≡ true }
     ensures read { Gives result (Asked recipes settings spec.now database) }
     ensures roots { IfOk result (λ input. RootsOf spec.now (Ok input.problem.roots)) }
-    ensures values { IfOk result (λ input. has_right_values input.problem ≡ true) }
-    ensures names { IfOk result (λ input. input.closure ≡ closure_of input.problem) }
+    ensures posed { IfOk result IsPosed }
     ensures no_usage { EndsInUsage result → ⊥ }
     ensures no_fault { EndsInReadFault result → ⊥ }
 {
@@ -147,12 +155,13 @@ fn read_behind<D: Desk>(
 ) -> Result<Input, ReadStop>
     requires order { AreInOrder recipes }
     requires right { list_all is_right_recipe recipes ≡ true }
+    requires few_rows { are_few_rows recipes ≡ true }
     requires externals { are_valued settings ≡ true }
+    requires small { are_small settings ≡ true }
     ensures read { IfSome (D.files desk.old)
         (λ files. Gives result (Behind files command.now settings recipes)) }
     ensures roots { IfOk result (λ input. RootsOf command.now.spec (Ok input.problem.roots)) }
-    ensures values { IfOk result (λ input. has_right_values input.problem ≡ true) }
-    ensures names { IfOk result (λ input. input.closure ≡ closure_of input.problem) }
+    ensures posed { IfOk result IsPosed }
     ensures path { FailsAtInput (D.files desk.old) command.now result }
     ensures no_usage { EndsInUsage result → ⊥ }
     ensures same { D.files desk.new ≡ D.files desk.old }
@@ -175,12 +184,12 @@ fn read_over<R: Threads + Sync, D: Desk>(
     command: &Command<'_>,
     settings: Settings,
 ) -> Result<Input, ReadStop>
-    requires { are_valued settings ≡ true }
+    requires externals { are_valued settings ≡ true }
+    requires small { are_small settings ≡ true }
     ensures read { IfSome (D.files desk.old)
         (λ files. Gives result (OverSettings files command.now settings)) }
     ensures roots { IfOk result (λ input. RootsOf command.now.spec (Ok input.problem.roots)) }
-    ensures values { IfOk result (λ input. has_right_values input.problem ≡ true) }
-    ensures names { IfOk result (λ input. input.closure ≡ closure_of input.problem) }
+    ensures posed { IfOk result IsPosed }
     ensures path { FailsAtInput (D.files desk.old) command.now result }
     ensures no_usage { EndsInUsage result → ⊥ }
     ensures same { D.files desk.new ≡ D.files desk.old }
@@ -209,8 +218,7 @@ pub fn read_input<R: Threads + Sync, D: Desk>(
 ) -> Result<Input, ReadStop>
     ensures read { IfSome (D.files desk.old) (λ files. Gives result (Reads files command.now)) }
     ensures roots { IfOk result (λ input. RootsOf command.now.spec (Ok input.problem.roots)) }
-    ensures values { IfOk result (λ input. has_right_values input.problem ≡ true) }
-    ensures names { IfOk result (λ input. input.closure ≡ closure_of input.problem) }
+    ensures posed { IfOk result IsPosed }
     ensures path { FailsAtInput (D.files desk.old) command.now result }
     ensures no_usage { EndsInUsage result → ⊥ }
     ensures same { D.files desk.new ≡ D.files desk.old }

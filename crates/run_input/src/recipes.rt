@@ -1,19 +1,21 @@
 //! The recipes of files, and that their names are not provided.
 
-ghost use Rattle.std.specs.Prelude.{◌≡◌, ◌≢◌, true, map, Err, IfOk};
+ghost use Rattle.std.specs.Prelude.{◌≡◌, ◌≢◌, ◌≤◌, ◌^◌, true, map, Err, IfOk};
 ghost use Rattle.std.specs.List.{list_all};
 ghost use Rattle.conditions.specs.Right.{is_right_recipe};
+ghost use Rattle.problem_limits.specs.Limits.{are_few_rows};
 ghost use Rattle.virtuals.specs.Virtuals.{name_of};
 ghost use Rattle.recipe_reader.specs.Files.{FailsAt, IsFirstFault};
 ghost use Rattle.run_settings.specs.Refusal.{Refusal};
 ghost use Rattle.run_settings.specs.Stages.{Is};
 ghost use Rattle.run_settings.specs.Stops.{Gives, EndsInReadFault, EndsInUsage};
-ghost use Rattle.recipe_files.specs.Sources.{source_of};
+ghost use Rattle.recipe_files.specs.Sources.{bytes_in, source_of};
 ghost use Rattle.run_input.specs.Recipes.{recipes_of};
 ghost use Rattle.run_input.specs.Inputs.{apart_of};
 
 use conditions::Recipe;
 use plain_data::{Duplicate, List};
+use recipe_counts::size_laws;
 use recipe_reader::{RecipeFault, RecipeFile, read_recipes};
 use run_settings::{ReadStop, Refusal};
 use std::alloc::{AllocError, Global};
@@ -64,13 +66,16 @@ pub fn recipes_of<R: Threads + Sync>(
     alloc: Global,
     files: &[RecipeFile],
 ) -> Result<List<Recipe>, ReadStop>
+    requires { bytes_in (map source_of files.now) ≤ 2 ^ 28 }
     ensures read { Gives result (Is (recipes_of (map source_of files.now))) }
     ensures right { IfOk result (λ recipes. list_all is_right_recipe recipes ≡ true) }
+    ensures few_rows { IfOk result (λ recipes. are_few_rows recipes ≡ true) }
     ensures names { IfOk result (λ recipes. map name_of recipes ≡ map (λ source. source.0)
         (map source_of files.now)) }
     ensures no_usage { EndsInUsage result → ⊥ }
     ensures no_fault { EndsInReadFault result → ⊥ }
 {
+    size_laws();
     match read_recipes(rt, alloc, files) {
         Ok(recipes) => Ok(recipes),
         Err((place, fault)) => stop_at(alloc, files, place, fault),

@@ -1,15 +1,16 @@
 //! The recipes of a repository.
 
-ghost use Rattle.std.specs.Prelude.{◌≡◌, true, map, IfOk, IfSome};
+ghost use Rattle.std.specs.Prelude.{◌≡◌, ◌≤◌, ◌^◌, true, map, IfOk, IfSome};
 ghost use Rattle.std.specs.List.{list_all};
 ghost use Rattle.outside_desk.specs.Causes.{Counts};
 ghost use Rattle.conditions.specs.Right.{is_right_recipe};
+ghost use Rattle.problem_limits.specs.Limits.{are_few_rows};
 ghost use Rattle.virtuals.specs.Virtuals as virtuals;
 ghost use Rattle.virtuals.specs.Virtuals.{AreInOrder};
 ghost use Rattle.run_settings.specs.Stops.{Gives, EndsByInput, EndsInReadFault, EndsInUsage};
 ghost use Rattle.recipe_files.specs.Paths.{FailsInside};
 ghost use Rattle.variant_values.specs.Texts.{IsInByteOrder};
-ghost use Rattle.recipe_files.specs.Sources.{names_of, source_of};
+ghost use Rattle.recipe_files.specs.Sources.{bytes_in, names_of, source_of};
 ghost use Rattle.run_input.specs.Inputs.{Over, InRepository};
 
 use crate::recipes::{check_apart, recipes_of};
@@ -28,8 +29,10 @@ fn read_over<R: Threads + Sync>(
     alloc: Global,
     files: &[RecipeFile],
 ) -> Result<List<Recipe>, ReadStop>
+    requires { bytes_in (map source_of files.now) ≤ 2 ^ 28 }
     ensures read { Gives result (Over (map source_of files.now)) }
     ensures right { IfOk result (λ recipes. list_all is_right_recipe recipes ≡ true) }
+    ensures few_rows { IfOk result (λ recipes. are_few_rows recipes ≡ true) }
     ensures names { IfOk result (λ recipes. map virtuals.name_of recipes ≡ map (λ source. source.0)
         (map source_of files.now)) }
     ensures no_usage { EndsInUsage result → ⊥ }
@@ -52,6 +55,7 @@ fn read_pile<R: Threads + Sync>(
     ensures read { Gives result (Over sources.now.files) }
     ensures order { IfOk result (λ recipes. AreInOrder recipes) }
     ensures right { IfOk result (λ recipes. list_all is_right_recipe recipes ≡ true) }
+    ensures few_rows { IfOk result (λ recipes. are_few_rows recipes ≡ true) }
     ensures no_usage { EndsInUsage result → ⊥ }
     ensures no_fault { EndsInReadFault result → ⊥ }
 {
@@ -71,6 +75,7 @@ pub fn read_repository<R: Threads + Sync, D: Desk>(
     ensures read { IfSome (D.files desk.old) (λ files. Gives result (InRepository files repo.now)) }
     ensures order { IfOk result (λ recipes. AreInOrder recipes) }
     ensures right { IfOk result (λ recipes. list_all is_right_recipe recipes ≡ true) }
+    ensures few_rows { IfOk result (λ recipes. are_few_rows recipes ≡ true) }
     ensures path { FailsInside (D.files desk.old) repo.now result }
     ensures no_usage { EndsInUsage result → ⊥ }
     ensures same { D.files desk.new ≡ D.files desk.old }

@@ -8,10 +8,10 @@ ghost use Rattle.run_output.specs.Texts.{IsFor, outcome_of};
 use crate::answer::Outcome;
 use crate::told::budget_of;
 use proof_log::Log;
-use run_task::{Answer, Input, Progress, Stage, best_graph, may_encode};
+use run_task::{Answer, Input, Progress, Stage, best_graph};
 use std::alloc::{AllocError, Global};
 
-/// The answer of a problem within the budget of its settings. One that may not be encoded is want of memory.
+/// The answer of a problem within the budget of its settings.
 pub fn find<P: Progress>(
     alloc: Global,
     input: &Input,
@@ -20,9 +20,6 @@ pub fn find<P: Progress>(
     requires { IsReadyInput input.now }
     ensures { IfOk result (IsFor input.now.problem) }
 {
-    if !may_encode(&input.problem, &input.closure) {
-        return Err(AllocError);
-    }
     let budget = budget_of(&input.problem);
     let answer = best_graph(alloc, &input.problem, &input.closure, budget, progress);
     progress.tell(Stage::Writing);

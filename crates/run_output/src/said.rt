@@ -17,7 +17,7 @@ use graph_core::Graph;
 use problem::Problem;
 use proof_log::{Line, Log};
 use reason_texts::write_reasons;
-use run_task::{Answer, Explanation, Input, Progress, explain, may_encode, vector};
+use run_task::{Answer, Explanation, Input, Progress, explain, vector};
 use std::alloc::{AllocError, Global};
 
 /// What is said of a task, and what the task came to.
@@ -98,9 +98,6 @@ pub fn of_reasons<P: Progress>(
     ensures { IfOk result (λ said. Tells (tasks.Explain input.now) said.outcome said.text.items) }
 {
     let problem = &input.problem;
-    if !may_encode(problem, &input.closure) {
-        return Err(AllocError);
-    }
     let budget = budget_of(problem);
     let explanation = explain(alloc, problem, &input.closure, budget, progress)?;
     let text = explanation_text(alloc, problem, &explanation)?;

@@ -1,9 +1,7 @@
 -- What a run is to answer, or the refusal that is due first.
-use Rattle.std.specs.Prelude.{◌≡◌, ◌⊎◌, ℕ, true, List, All, Option, Some, None, Result, Ok, Err}
+use Rattle.std.specs.Prelude.{◌≡◌, ◌⊎◌, ℕ, List, All, Option, Some, None, Result, Ok, Err}
 use Rattle.std.specs.Str.{IsUtf8}
 use Rattle.outside_desk.specs.Files.{Files}
-use Rattle.run_input.specs.Closures.{closure_of}
-use Rattle.run_input.specs.Kept.{has_right_values}
 use Rattle.spec_grammar.specs.Canonical.{spec_text}
 use Rattle.run_input.specs.Stages.{Is, Then}
 use Rattle.run_input.specs.Refusal.{Refusal}
@@ -13,7 +11,7 @@ use Rattle.run_input.specs.Words.{Command}
 use Rattle.run_input.specs.Orders.{command_in}
 use Rattle.run_input.specs.Work.{Work}
 use Rattle.run_input.specs.Work.TheVariants as works
-use Rattle.run_input.specs.Inputs.{Reads, IsInputPath}
+use Rattle.run_input.specs.Inputs.{Reads, IsInputPath, IsPosed}
 use Rattle.run_input.specs.declared.input.Input.{Input}
 use Rattle.run_verdict.specs.Problems.{Problem}
 use Rattle.run_verdict.specs.Verdicts.{Judges}
@@ -83,11 +81,10 @@ IsOf works.Explain (tasks.Explain input) = Unit {0}
 IsOf (works.Trial packages seed) (tasks.Try input) = Unit {0}
 IsOf other task = ⊥
 
--- the canonical texts of the roots that are to be written are UTF-8, as those of all specs which were read, the names are those of
--- the problem, and its externals and records have values for their variants
+-- the canonical texts of the roots that are to be written are UTF-8, as those of all specs which were read, and the problem is what
+-- each one is that is read
 abbrev pub IsReadyInput : Input → Type 0
-IsReadyInput input = All (λ spec. IsUtf8 (spec_text spec)) input.problem.roots × (input.closure ≡ closure_of input.problem)
-    × (has_right_values input.problem ≡ true)
+IsReadyInput input = All (λ spec. IsUtf8 (spec_text spec)) input.problem.roots × IsPosed input
 
 abbrev pub IsReady : Task → Type 0
 IsReady (tasks.Solve input) = IsReadyInput input

@@ -14,9 +14,7 @@ mod task;
 mod theorems;
 
 // What crates above answer with.
-pub use run_certificate::{
-    Answer, Explanation, Progress, Stage, Untold, best_graph, explain, may_encode,
-};
+pub use run_certificate::{Answer, Explanation, Progress, Stage, Untold, best_graph, explain};
 pub use run_input::{
     Command, Input, ReadStop, Refusal, Status, Stop, Work, WriteStop, is_dash, read_order,
 };

@@ -3,8 +3,7 @@
 ghost use Rattle.std.specs.Prelude.{◌≡◌, true, Some, None, IfOk, IfSome, OnOk};
 ghost use Rattle.std.specs.Option.{option_map};
 ghost use Rattle.outside_desk.specs.Causes.{Counts};
-ghost use Rattle.run_input.specs.Kept.{has_right_values};
-ghost use Rattle.run_input.specs.Closures.{closure_of};
+ghost use Rattle.run_input.specs.Inputs.{IsPosed};
 ghost use Rattle.run_input.specs.Stops.{Gives, EndsByInput, EndsInReadFault, EndsInUsage};
 ghost use Rattle.run_certificate.specs.Certificates.{ShowsOf};
 ghost use Rattle.run_task.specs.Shown.{IsBestLock};
@@ -52,8 +51,7 @@ pub(crate) fn read_acceptance<R: Threads + Sync, D: Desk>(
     input: &Input,
     numbers: Option<&[u64]>,
 ) -> Result<Task, ReadStop>
-    requires names { input.now.closure ≡ closure_of input.now.problem }
-    requires values { has_right_values input.now.problem ≡ true }
+    requires { IsPosed input.now }
     ensures read { IfSome (D.files desk.old)
         (λ files. Gives result (AcceptanceOf files cert.now input.now.problem
         (option_map (λ n. n.now) numbers.entry))) }
@@ -90,8 +88,7 @@ pub(crate) fn read_check<R: Threads + Sync, D: Desk>(
     cert: &str,
     input: &Input,
 ) -> Result<Task, ReadStop>
-    requires names { input.now.closure ≡ closure_of input.now.problem }
-    requires values { has_right_values input.now.problem ≡ true }
+    requires { IsPosed input.now }
     ensures read { IfSome (D.files desk.old)
         (λ files. Gives result (CheckOf files lock.now cert.now input.now.problem)) }
     ensures shown { OnOk result (IfSome (D.files desk.old)

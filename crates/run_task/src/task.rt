@@ -3,8 +3,7 @@
 ghost use Rattle.std.specs.Prelude.{◌≡◌, true, All, Some, None, Ok, IfOk, IfSome, OnOk, List};
 ghost use Rattle.std.specs.Str.{IsUtf8};
 ghost use Rattle.outside_desk.specs.Causes.{Counts};
-ghost use Rattle.run_input.specs.Closures.{closure_of};
-ghost use Rattle.run_input.specs.Kept.{has_right_values};
+ghost use Rattle.run_input.specs.Inputs.{IsPosed};
 ghost use Rattle.spec_grammar.specs.Canonical.{spec_text};
 ghost use Rattle.spec_grammar.specs.declared.part.Spec.{Spec};
 ghost use Rattle.run_input.specs.Stops.{Gives, EndsByInput, EndsInReadFault, EndsInUsage};
@@ -45,8 +44,7 @@ fn task_by<R: Threads + Sync, D: Desk>(
     input: Input,
 ) -> Result<Task, ReadStop>
     requires texts { All (λ spec. IsUtf8 (spec_text spec)) input.problem.roots }
-    requires names { input.closure ≡ closure_of input.problem }
-    requires values { has_right_values input.problem ≡ true }
+    requires posed { IsPosed input }
     ensures read { IfSome (D.files desk.old)
         (λ files. Gives result (TaskBy command.now.work files command.now input)) }
     ensures shown { OnOk result (IfSome (D.files desk.old)
