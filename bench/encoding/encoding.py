@@ -36,6 +36,7 @@ class Encoding:
         self.numbers = []  # (spelling, greatest value, literals)
         self.clauses = []
         self.variables = None
+        self.rules = None  # how many variables and clauses are those of the rules
         for line in text.splitlines():
             if line.startswith("c "):
                 self.comment(line[2:])
@@ -48,11 +49,15 @@ class Encoding:
                 self.clauses.append(lits)
         if self.variables is None or len(self.clauses) != self.size:
             raise Wrong("not as many clauses as are said")
+        if self.rules is None or any(abs(lit) > self.rules[0] for clause in self.clauses[: self.rules[1]] for lit in clause):
+            raise Wrong("a clause of the rules has another variable")
         self.table = sorted({abs(lit) for lit, _ in self.literals()})
 
     def comment(self, line):
         first, kind, rest = (line.split(" ", 2) + ["", ""])[:3]
-        if first == "clause":
+        if first == "rules":
+            self.rules = (int(kind), int(rest))
+        elif first == "clause":
             self.demands[int(kind)] = rest.split(" ", 2)[2]
         elif first == "number":
             spelling, top, *lits = rest.split()

@@ -1,5 +1,6 @@
 -- What was found, as an answer.
-use Rattle.std.proofs.Common.{◌≡◌, refl, sym, ap, subst, ℕ, ◌<◌, ◌^◌, Bool, true, List, length, arith}
+use Rattle.std.proofs.Common.{◌≡◌, sym, subst, ℕ, ◌<◌, ◌^◌, Bool, true, List, [], length, inl, inr, arith}
+use Rattle.clause_store.specs.Clauses.{Clauses}
 use Rattle.proof_log.specs.declared.line.Line.{Line}
 use Rattle.proof_log.specs.Lines.{AllLines}
 use Rattle.proof_log.specs.Texts.{may_write}
@@ -11,48 +12,60 @@ use Rattle.problem.specs.Nodes.{IsWellFormed}
 use Rattle.problem.specs.Problems.{Problem}
 use Rattle.graph_costs.specs.Optimal.{IsOptimal}
 use Rattle.graph_decoding.specs.Decoding.{decode}
-use Rattle.problem_encoding.specs.Encodings.{IsEncoded}
-use Rattle.problem_encoding.specs.Built.{encoding_of}
+use Rattle.problem_encoding.specs.Encodings.{AreRules, IsEncoded, RulesDecode}
+use Rattle.problem_encoding.specs.Built.{encoding_of, rule_clauses, table_of}
 use Rattle.problem_encoding.specs.declared.encoded.Encoded.{Encoded}
+use Rattle.problem_encoding.specs.declared.encoded.Rules.{Rules}
 use Rattle.best_graph.specs.declared.answer.Answer.TheVariants.{Best, Nothing, Undecided}
-use Rattle.best_graph.specs.declared.answer.Answer.{Answer}
-use Rattle.best_graph.specs.Answers.{IsAnswer, Means, Shows, log_of}
-use Rattle.best_graph.proofs.Least.{optimal, nothing}
+use Rattle.best_graph.specs.Answers.{CertifiedOver, HasModel, IsAnswer, SpentOver}
+use Rattle.best_graph.proofs.Least.{all, optimal, nothing}
 
-module _ (problem : Problem) (e : Encoded) (encoded : IsEncoded problem e)
-    (built : e ≡ encoding_of problem) (budget : ℕ) (log : List Line) (writable : AllLines (λ line. may_write line ≡ true) log) where
-  abbrev read : (ℕ → Bool) → Content
-  read v = decode v e.table
-
-  -- an answer over the clauses of the encoding
-  over : (answer : Answer) → log_of answer ≡ log → Means problem budget answer → Shows e.clauses e.bits.lits read budget answer
-      → IsAnswer problem budget answer
-  over answer same means shows = record {
-    means = means;
-    writable = subst (AllLines (λ line. may_write line ≡ true)) (sym same) writable;
-    clauses = e.clauses;
-    bits = e.bits.lits;
-    decode = read;
-    encoded = subst (IsEncoded problem) built encoded;
-    are_clauses = ap (λ (x : Encoded). x.clauses) built;
-    are_bits = ap (λ (x : Encoded). x.bits.lits) built;
-    decodes = λ i v. decode v (built i).table;
-    encodes = encoded.encodes;
-    shows = shows;
+-- the rules alone: that no graph is valid, or that the budget was spent
+module _ (problem : Problem) (rules : Rules) (ruled : AreRules problem rules) (budget : ℕ) (log : List Line)
+    (writable : AllLines (λ line. may_write line ≡ true) log) where
+  pub nothing-answer : RulesDecode problem → IsFound rules.clauses [] budget (Refuted log) → IsBest rules.clauses [] budget (Refuted log)
+      → IsAnswer problem budget (Nothing log)
+  nothing-answer decodes found best = record {
+    means = nothing problem (rule_clauses problem) (λ v. decode v (table_of problem)) decodes
+        (subst (λ (s : Clauses). IsBest s [] budget (Refuted log)) ruled.clauses best);
+    writable = writable;
+    shows = (decodes, subst (λ (s : Clauses). IsFound s [] budget (Refuted log)) ruled.clauses found);
   }
 
-  pub best-answer : (model : List Bool) (graph : Content) → IsFound e.clauses e.bits.lits budget (Optimal model log)
-      → IsBest e.clauses e.bits.lits budget (Optimal model log) → graph ≡ decode (values_in model) e.table
-      → IsAnswer problem budget (Best graph log)
-  best-answer model graph found best same =
-      let m = optimal problem e.clauses e.bits.lits read encoded.encodes (values_in model) found.1 best in
-      over (Best graph log) refl (subst (λ g. IsWellFormed g × IsOptimal problem g) (sym same) m) (model, found, sym same)
-
-  pub nothing-answer : IsFound e.clauses e.bits.lits budget (Refuted log) → IsBest e.clauses e.bits.lits budget (Refuted log)
-      → IsAnswer problem budget (Nothing log)
-  nothing-answer found best = over (Nothing log) refl (nothing problem e.clauses e.bits.lits read encoded.encodes best) found
-
-  pub spent-answer : length log < 2 ^ 64 → IsFound e.clauses e.bits.lits budget (Spent log)
-      → IsBest e.clauses e.bits.lits budget (Spent log)
+  pub stopped-answer : length log < 2 ^ 64 → IsFound rules.clauses [] budget (Spent log) → IsBest rules.clauses [] budget (Spent log)
       → IsAnswer problem budget (Undecided log)
-  spent-answer finite found best = over (Undecided log) refl (best.1, omega (arith, finite, best.1)) (found, best.0)
+  stopped-answer finite found best = record {
+    means = (best.1, omega (arith, finite, best.1));
+    writable = writable;
+    shows = inl (subst (λ (s : Clauses). SpentOver s [] budget log) ruled.clauses (found, best.0));
+  }
+
+-- the encoding: a best graph, or that the budget was spent
+module _ (problem : Problem) (e : Encoded) (encoded : IsEncoded problem e) (built : e ≡ encoding_of problem) (budget : ℕ) (log : List Line) where
+  module _ (writable : AllLines (λ line. may_write line ≡ true) log) where
+    pub best-answer : (model : List Bool) (graph : Content) → IsFound e.clauses e.bits.lits budget (Optimal model log)
+        → IsBest e.clauses e.bits.lits budget (Optimal model log) → graph ≡ decode (values_in model) e.table
+        → IsAnswer problem budget (Best graph log)
+    best-answer model graph found best same =
+        let m = optimal problem e.clauses e.bits.lits (λ v. decode v e.table) encoded.encodes (values_in model) found.1 best in record {
+          means = subst (λ g. IsWellFormed g × IsOptimal problem g) (sym same) m;
+          writable = writable;
+          shows = (
+            subst (IsEncoded problem) built encoded,
+            subst (λ (x : Encoded). CertifiedOver x budget graph log) built (model, found, sym same),
+          );
+        }
+
+    pub spent-answer : length log < 2 ^ 64 → IsFound e.clauses e.bits.lits budget (Spent log)
+        → IsBest e.clauses e.bits.lits budget (Spent log) → IsAnswer problem budget (Undecided log)
+    spent-answer finite found best = record {
+      means = (best.1, omega (arith, finite, best.1));
+      writable = writable;
+      shows = inr (subst (λ (x : Encoded). SpentOver x.clauses x.bits.lits budget log) built (found, best.0));
+    }
+
+  -- where the rules have a model, nothing refutes the encoding
+  pub unrefuted : RulesDecode problem → HasModel (rule_clauses problem) → IsBest e.clauses e.bits.lits budget (Refuted log) → ⊥
+  unrefuted decodes (v, meets) best =
+      let w = encoded.encodes.decodes.complete all (decode v (table_of problem)) (decodes.sound all v meets) in
+      best w.0 w.2

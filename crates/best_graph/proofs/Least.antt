@@ -18,6 +18,7 @@ use Rattle.graph_costs.specs.Costs.{vector}
 use Rattle.graph_costs.specs.Optimal.{IsOptimal, HasNoGraph}
 use Rattle.optimum_search.specs.Finding.{MeetsAll}
 use Rattle.encoding_stages.specs.Rules.{asked_among}
+use Rattle.encoding_stages.specs.Stages.{Decodes}
 use Rattle.graph_encoding.specs.Encodings.{asked_demands, IsValid}
 use Rattle.problem_encoding.specs.Encodings.{Encodes}
 
@@ -81,10 +82,11 @@ module _ (problem : Problem) (s : Clauses) (bits : List Lit) (decode : (ℕ → 
         },
       )
 
-  -- where no assignment meets the clauses, no graph is valid
-  pub nothing : ((v : ℕ → Bool) → MeetsAll v s → ⊥) → HasNoGraph problem
-  nothing none g formed = go (valid problem g) refl
-    where
-      go : (b : Bool) → valid problem g ≡ b → b ≡ false
-      go true ok = let w = e.decodes.complete all g (is-valid problem g formed ok) in absurd (none w.0 w.2)
-      go false ok = refl
+-- where no assignment meets the clauses, no graph is valid
+pub nothing : (problem : Problem) (s : Clauses) (decode : (ℕ → Bool) → Content) → Decodes s decode (IsValid problem)
+    → ((v : ℕ → Bool) → MeetsAll v s → ⊥) → HasNoGraph problem
+nothing problem s decode decodes none g formed = go (valid problem g) refl
+  where
+    go : (b : Bool) → valid problem g ≡ b → b ≡ false
+    go true ok = let w = decodes.complete all g (is-valid problem g formed ok) in absurd (none w.0 w.2)
+    go false ok = refl

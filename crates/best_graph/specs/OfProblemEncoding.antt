@@ -4,3 +4,4 @@ pub use Rattle.problem_encoding.specs.Built
 pub use Rattle.problem_encoding.specs.OfRankedCosts.Kept
 pub use Rattle.problem_encoding.specs.OfRankedCosts.Limits
 pub use Rattle.problem_encoding.specs.declared.encoded.Encoded
+pub use Rattle.problem_encoding.specs.declared.encoded.Rules

@@ -1,27 +1,27 @@
 //! The search for the best graph.
-ghost use Rattle.std.specs.Prelude.{◌≡◌, ◌<◌, ◌≤◌, ◌^◌, true, IfOk, length};
+ghost use Rattle.std.specs.Prelude.{◌≡◌, ◌<◌, ◌≤◌, ◌^◌, true, [], IfNone, IfOk, IfSome, length};
 ghost use Rattle.clause_store.specs.Clauses.{clauses_of};
 ghost use Rattle.proof_log.specs.Known.{AllClauses};
 ghost use Rattle.proof_log.specs.Lines.{AllLines};
 ghost use Rattle.proof_log.specs.Texts.{may_write};
 ghost use Rattle.optimum_search.specs.Finding.{IsFound};
 ghost use Rattle.possible_closure.specs.Closures.{closure_of};
-ghost use Rattle.problem_encoding.specs.Built.{encoding_of};
-ghost use Rattle.problem_encoding.specs.Encodings.{IsEncoded};
+ghost use Rattle.problem_encoding.specs.Built.{encoding_of, rule_clauses};
+ghost use Rattle.problem_encoding.specs.Encodings.{AreRules, IsEncoded, RulesDecode};
 ghost use Rattle.problem_encoding.specs.OfRankedCosts.Kept.{has_right_values};
 ghost use Rattle.problem_encoding.specs.OfRankedCosts.Limits.{is_within_limits};
-ghost use Rattle.best_graph.specs.Answers.{IsAnswer};
+ghost use Rattle.best_graph.specs.Answers.{HasModel, IsAnswer};
 
 use crate::answer::Answer;
 use crate::meaning::meaning_laws;
 use clause_store::Lit;
 use criteria_totals::{Bits, Terms};
 use graph_decoding::decode;
-use optimum_search::{Found, Number, Progress, Stage, found_laws, search_by_numbers};
+use optimum_search::{Found, Number, Progress, Stage, found_laws, search, search_by_numbers};
 use plain_data::List;
 use possible_closure::Closure;
 use problem::Problem;
-use problem_encoding::{Encoded, encode, number_ends};
+use problem_encoding::{Encoded, Rules, encode_rules, number_ends, with_costs};
 use proof_log::{Log, may_write};
 use std::alloc::{AllocError, Global};
 
@@ -42,7 +42,70 @@ pub fn best_graph<P: Progress>(
 {
     let packages = closure.names().len() as u64;
     progress.tell(Stage::Encoding { packages });
-    let encoded = encode(alloc, problem, closure)?;
+    let rules = encode_rules(alloc, problem, closure)?;
+    progress.tell(Stage::Searching {
+        variables: rules.clauses.vars(),
+        clauses: rules.clauses.len(),
+    });
+    let found = search(alloc, &rules.clauses, &[], budget)?;
+    match settled(problem, &rules, budget, found)? {
+        Some(answer) => Ok(answer),
+        None => least(alloc, problem, rules, budget, progress),
+    }
+}
+
+/// The answer where the rules alone decide it: no graph is valid, or the budget was spent. None where there is a graph.
+fn settled(
+    _problem: &Problem,
+    _rules: &Rules,
+    _budget: u64,
+    found: Found,
+) -> Result<Option<Answer>, AllocError>
+    requires ruled { AreRules _problem.now _rules.now }
+    requires decodes { RulesDecode _problem.now }
+    requires found { IsFound _rules.now.clauses [] _budget found }
+    requires in_order { AllClauses (clauses_of _rules.now.clauses.entries) }
+    ensures answer { IfOk result (λ o. IfSome o (IsAnswer _problem.now _budget)) }
+    ensures model { IfOk result (λ o. IfNone o (HasModel (rule_clauses _problem.now))) }
+{
+    meaning_laws();
+    found_laws();
+    match found {
+        Found::Optimal { .. } => Ok(None),
+        Found::Refuted { log } => {
+            if is_writable(&log) {
+                Ok(Some(Answer::Nothing { log }))
+            } else {
+                Err(AllocError)
+            }
+        }
+        Found::Spent { log } => {
+            is_finite(&log);
+            if is_writable(&log) {
+                Ok(Some(Answer::Undecided { log }))
+            } else {
+                Err(AllocError)
+            }
+        }
+    }
+}
+
+/// The best graph, where there is one.
+fn least<P: Progress>(
+    alloc: Global,
+    problem: &Problem,
+    rules: Rules,
+    budget: u64,
+    progress: &mut P,
+) -> Result<Answer, AllocError>
+    requires ruled { AreRules problem.now rules }
+    requires decodes { RulesDecode problem.now }
+    requires model { HasModel (rule_clauses problem.now) }
+    requires few { length (closure_of problem.now) ≤ 1024 }
+    requires limits { is_within_limits problem.now ≡ true }
+    ensures { IfOk result (IsAnswer problem.now budget) }
+{
+    let encoded = with_costs(alloc, problem, rules)?;
     progress.tell(Stage::Searching {
         variables: encoded.clauses.vars(),
         clauses: encoded.clauses.len(),
@@ -93,7 +156,7 @@ fn is_finite(log: &Log)
     let _count = log.lines().len();
 }
 
-/// What was found, as an answer. A log that may not be written is want of memory.
+/// What was found over the encoding, as an answer. A log that may not be written is want of memory.
 fn answer_of(
     alloc: Global,
     _problem: &Problem,
@@ -105,6 +168,8 @@ fn answer_of(
     requires built { encoded.now ≡ encoding_of _problem.now }
     requires found { IsFound encoded.now.clauses encoded.now.bits.lits _budget found }
     requires in_order { AllClauses (clauses_of encoded.now.clauses.entries) }
+    requires decodes { RulesDecode _problem.now }
+    requires model { HasModel (rule_clauses _problem.now) }
     ensures { IfOk result (IsAnswer _problem.now _budget) }
 {
     meaning_laws();
@@ -118,13 +183,7 @@ fn answer_of(
                 Err(AllocError)
             }
         }
-        Found::Refuted { log } => {
-            if is_writable(&log) {
-                Ok(Answer::Nothing { log })
-            } else {
-                Err(AllocError)
-            }
-        }
+        Found::Refuted { log: _ } => unreachable!(),
         Found::Spent { log } => {
             is_finite(&log);
             if is_writable(&log) {

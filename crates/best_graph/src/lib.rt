@@ -13,6 +13,8 @@ mod meaning;
 pub use answer::Answer;
 pub use best::best_graph;
 // What crates above encode with.
-pub use problem_encoding::{Encoded, encode, has_right_values, may_encode, values_of};
+pub use problem_encoding::{
+    Encoded, Rules, encode, encode_rules, has_right_values, may_encode, values_of, with_costs,
+};
 // What is told of a run.
 pub use optimum_search::{Progress, Stage, Untold};

@@ -7,17 +7,19 @@ ghost use Rattle.graph_core.specs.Graphs.{Content};
 ghost use Rattle.problem.specs.Nodes.{IsWellFormed};
 ghost use Rattle.problem.specs.Problems.{Problem};
 ghost use Rattle.graph_costs.specs.Optimal.{IsOptimal, HasNoGraph};
+ghost use Rattle.encoding_stages.specs.Stages.{Decodes};
+ghost use Rattle.graph_encoding.specs.Encodings.{IsValid};
 ghost use Rattle.optimum_search.specs.Finding.{MeetsAll};
 ghost use Rattle.problem_encoding.specs.Encodings.{Encodes};
 
-/// A model with the least bits decodes to an optimal graph, and where the clauses have no model no graph is valid.
+/// A model with the least bits decodes to an optimal graph, and where clauses whose models are the valid graphs have none, no graph is valid.
 pub fn meaning_laws()
     ensures optimal { (problem : Problem) (s : Clauses) (bits : List Lit)
         (decode : (ℕ → Bool) → Content)
         → Encodes problem s bits decode → (v : ℕ → Bool) → MeetsAll v s
         → ((w : ℕ → Bool) → MeetsAll w s → IsBelow (bits_at w bits) (bits_at v bits) → ⊥)
         → IsWellFormed (decode v) × IsOptimal problem (decode v) }
-    ensures nothing { (problem : Problem) (s : Clauses) (bits : List Lit)
-        (decode : (ℕ → Bool) → Content)
-        → Encodes problem s bits decode → ((v : ℕ → Bool) → MeetsAll v s → ⊥) → HasNoGraph problem }
+    ensures nothing { (problem : Problem) (s : Clauses) (decode : (ℕ → Bool) → Content)
+        → Decodes s decode (IsValid problem) → ((v : ℕ → Bool) → MeetsAll v s → ⊥)
+        → HasNoGraph problem }
 {}

@@ -5,7 +5,7 @@ use Rattle.std.specs.Option.{option_map}
 use Rattle.std.specs.FinMap.{get}
 use Rattle.outside_desk.specs.Files.{Files}
 use Rattle.clause_store.specs.declared.Lit.{Lit}
-use Rattle.clause_store.specs.Clauses.{clauses_of}
+use Rattle.clause_store.specs.Clauses.{Clauses, clauses_of}
 use Rattle.clause_store.specs.Lits.{IsClause}
 use Rattle.proof_log.specs.declared.line.Line.{Line}
 use Rattle.proof_log.specs.declared.line.Line.TheVariants.{Header, Learnt, Zero, One, Unsat, Spent, End}
@@ -25,10 +25,9 @@ use Rattle.run_answers.specs.Stages.{◌>>=◌, or_refuse}
 use Rattle.run_answers.specs.declared.refusal.Refusal.TheVariants as refusals
 use Rattle.run_answers.specs.declared.line_fault.LineFault.TheVariants as faults
 use Rattle.graph_reasons.specs.OfGraphCheck.Answers.{IsAnswer}
-use Rattle.graph_reasons.specs.OfGraphCheck.Built.{encoding_of}
-use Rattle.graph_reasons.specs.OfGraphCheck.Encoded.{Encoded}
+use Rattle.graph_reasons.specs.OfGraphCheck.Built.{encoding_of, rule_clauses}
 use Rattle.graph_reasons.specs.OfGraphCheck.Verdicts.{BestIsCertified, NothingIsRefuted}
-use Rattle.run_certificate.specs.Certificates.{begun_by, said_at, said_of, certified_at, verdict_of, most}
+use Rattle.run_certificate.specs.Certificates.{begun_for, said_at, said_of, certified_at, verdict_of, most}
 use Rattle.run_certificate.proofs.Reading.{said_short}
 use Rattle.certificate_again.specs.Again.{AreKept, HoldsLog, BestIsAccepted, NothingIsAccepted}
 
@@ -58,38 +57,38 @@ writable : (lines : List Line) → AllLines IsLine lines → AllLines (λ l. may
 writable [] are may = tt
 writable (l ∷ ls) are may = ((are.0, may.0), writable ls are.1 may.1)
 
-module _ (accepts : AcceptsLines) (written : AnswersWritten) (e : Encoded) (ordered : AllClauses (clauses_of e.clauses.entries))
-    (log : List Line) (lines : AllLines IsLine log) (may : AllLines (λ l. may_write l ≡ true) log) (values : Option (List Bool))
-    (is : IsLogOf e.clauses.vars (clauses_of e.clauses.entries) e.bits.lits values log) where
-  said_text : length (log_text log) ≤ most → said_of (begun e.clauses e.bits.lits values) (log_text log) ≡ Ok tt
+module _ (accepts : AcceptsLines) (written : AnswersWritten) (s : Clauses) (bits : List Lit) (log : List Line)
+    (kept : AreKept s log) (may : AllLines (λ l. may_write l ≡ true) log) (values : Option (List Bool))
+    (is : IsLogOf s.vars (clauses_of s.entries) bits values log) where
+  said_text : length (log_text log) ≤ most → said_of (begun s bits values) (log_text log) ≡ Ok tt
   said_text short =
-      said_short (begun e.clauses e.bits.lits values) (log_text log) short
-      ∙ ap verdict_of (written (begun e.clauses e.bits.lits values) log (writable log lines may)
-      ∙ ap Checked ((accepts e.clauses.vars (clauses_of e.clauses.entries) e.bits.lits values log ordered (all_learnt log lines)).1 is))
+      said_short (begun s bits values) (log_text log) short
+      ∙ ap verdict_of (written (begun s bits values) log (writable log kept.lines may)
+      ∙ ap Checked ((accepts s.vars (clauses_of s.entries) bits values log kept.ordered (all_learnt log kept.lines)).1 is))
 
-  said_file : (files : Files) (path : List ℕ) → HoldsLog files path log → said_at files path (begun e.clauses e.bits.lits values) ≡ Ok tt
+  said_file : (files : Files) (path : List ℕ) → HoldsLog files path log → said_at files path (begun s bits values) ≡ Ok tt
   unfolding said_at
   said_file files path holds =
-      ap (λ (o : Option (List ℕ)). or_refuse (refusals.MissingInput path) o >>= λ text. said_of (begun e.clauses e.bits.lits values) text) holds.there
+      ap (λ (o : Option (List ℕ)). or_refuse (refusals.MissingInput path) o >>= λ text. said_of (begun s bits values) text) holds.there
       ∙ said_text holds.short
 
   -- the file is a right certificate of the costs that begin such a checker
-  pub accepted_by : (problem : Problem) → e ≡ encoding_of problem → (files : Files) (path : List ℕ) → HoldsLog files path log
-      → (numbers : Option (List ℕ)) → begun_by e numbers ≡ Some (begun e.clauses e.bits.lits values)
+  pub accepted_by : (problem : Problem) (files : Files) (path : List ℕ) → HoldsLog files path log
+      → (numbers : Option (List ℕ)) → begun_for problem numbers ≡ Some (begun s bits values)
       → certified_at files path problem numbers ≡ Ok tt
   unfolding certified_at
-  accepted_by problem same files path holds numbers begin =
-      ap (λ (o : Option State). or_refuse (refusals.BadCertificate 1 faults.WrongBit) o >>= λ s. said_at files path s)
-      (ap (λ (x : Encoded). begun_by x numbers) (sym same) ∙ begin) ∙ said_file files path holds
+  accepted_by problem files path holds numbers begin =
+      ap (λ (o : Option State). or_refuse (refusals.BadCertificate 1 faults.WrongBit) o >>= λ s. said_at files path s) begin
+      ∙ said_file files path holds
 
 pub best_accepted : AcceptsLines → AnswersWritten → BestIsCertified → BestIsAccepted
 best_accepted accepts written certified problem budget graph log answer kept files path holds =
+    let e = encoding_of problem in
     let (values, spelled, certifies) = certified problem budget graph log answer in
-    accepted_by accepts written (encoding_of problem) kept.ordered log kept.lines answer.writable (Some values) certifies problem refl files path holds
-    (Some (vector problem graph))
-    (ap (option_map (λ v. begun (encoding_of problem).clauses (encoding_of problem).bits.lits (Some v))) spelled)
+    accepted_by accepts written e.clauses e.bits.lits log kept answer.writable (Some values) certifies problem files path holds
+    (Some (vector problem graph)) (ap (option_map (λ v. begun e.clauses e.bits.lits (Some v))) spelled)
 
 pub nothing_accepted : AcceptsLines → AnswersWritten → NothingIsRefuted → NothingIsAccepted
 nothing_accepted accepts written refuted problem budget log answer kept files path holds =
-    accepted_by accepts written (encoding_of problem) kept.ordered log kept.lines answer.writable None (refuted problem budget log answer) problem refl
-    files path holds None refl
+    accepted_by accepts written (rule_clauses problem) [] log kept answer.writable None (refuted problem budget log answer) problem files path
+    holds None refl

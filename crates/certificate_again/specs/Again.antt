@@ -2,7 +2,7 @@
 use Rattle.std.specs.Prelude.{◌≡◌, ◌≤◌, ℕ, List, length, Some, None, Ok}
 use Rattle.std.specs.FinMap.{get}
 use Rattle.outside_desk.specs.Files.{Files}
-use Rattle.clause_store.specs.Clauses.{clauses_of}
+use Rattle.clause_store.specs.Clauses.{Clauses, clauses_of}
 use Rattle.proof_log.specs.declared.line.Line.{Line}
 use Rattle.proof_log.specs.Known.{AllClauses}
 use Rattle.proof_log.specs.Lines.{AllLines}
@@ -13,12 +13,12 @@ use Rattle.problem.specs.Problems.{Problem}
 use Rattle.graph_costs.specs.Costs.{vector}
 use Rattle.graph_reasons.specs.OfGraphCheck.Answers.{IsAnswer}
 use Rattle.graph_reasons.specs.OfGraphCheck.Answer.TheVariants.{Best, Nothing}
-use Rattle.graph_reasons.specs.OfGraphCheck.Built.{encoding_of}
+use Rattle.graph_reasons.specs.OfGraphCheck.Built.{encoding_of, rule_clauses}
 use Rattle.run_certificate.specs.Certificates.{certified_at, most}
 
--- the clauses of a problem and the lines of a log are as each list of clauses and each log in memory is
-pub record AreKept (problem : Problem) (log : List Line) : Type 0 where
-  pub ordered : AllClauses (clauses_of (encoding_of problem).clauses.entries)
+-- clauses and the lines of a log are as each list of clauses and each log in memory is
+pub record AreKept (clauses : Clauses) (log : List Line) : Type 0 where
+  pub ordered : AllClauses (clauses_of clauses.entries)
   pub lines : AllLines IsLine log
 
 -- the file at the path holds the log, in fewer than 2^63 bytes
@@ -29,10 +29,10 @@ pub record HoldsLog (files : Files) (path : List ℕ) (log : List Line) : Type 0
 -- the certificate of a best graph is right for its costs
 abbrev pub BestIsAccepted : Type 0
 BestIsAccepted = (problem : Problem) (budget : ℕ) (graph : Content) (log : List Line) → IsAnswer problem budget (Best graph log)
-    → AreKept problem log → (files : Files) (path : List ℕ) → HoldsLog files path log
+    → AreKept (encoding_of problem).clauses log → (files : Files) (path : List ℕ) → HoldsLog files path log
     → certified_at files path problem (Some (vector problem graph)) ≡ Ok tt
 
 -- and the refutation of a problem without a graph
 abbrev pub NothingIsAccepted : Type 0
-NothingIsAccepted = (problem : Problem) (budget : ℕ) (log : List Line) → IsAnswer problem budget (Nothing log) → AreKept problem log
-    → (files : Files) (path : List ℕ) → HoldsLog files path log → certified_at files path problem None ≡ Ok tt
+NothingIsAccepted = (problem : Problem) (budget : ℕ) (log : List Line) → IsAnswer problem budget (Nothing log)
+    → AreKept (rule_clauses problem) log → (files : Files) (path : List ℕ) → HoldsLog files path log → certified_at files path problem None ≡ Ok tt

@@ -2,10 +2,11 @@
 --
 -- `files` are the files at entry of a desk that tells them, `words` the words behind the program's name, and `out` and `err` what the two
 -- sinks tell before and after.
-use Rattle.std.specs.Prelude.{◌≡◌, ◌⊎◌, ℕ, List, [], ◌∷◌, Option, Result, Ok, Err, codes}
+use Rattle.std.specs.Prelude.{◌≡◌, ◌⊎◌, ℕ, List, [], ◌∷◌, ◌++◌, Option, Result, Ok, Err, codes}
 use Rattle.outside_desk.specs.Files.{Files, and_said}
 use Rattle.problem.specs.Problems.{Problem}
-use Rattle.problem_encoding.specs.Built.{encoding_of}
+use Rattle.problem_encoding.specs.Built.{encoding_of, rule_clauses}
+use Rattle.dimacs_text.specs.Clauses.{rules_line}
 use Rattle.dimacs_text.specs.Texts.{dimacs_text}
 use Rattle.run_input.specs.Inputs.{Reads}
 use Rattle.run_input.specs.Orders.{command_in}
@@ -17,9 +18,9 @@ use Rattle.run_input.specs.Status.{Status}
 use Rattle.run_input.specs.Status.TheVariants as statuses
 use Rattle.run_input.specs.declared.input.Input.{Input}
 
--- the text of the one encoding of a problem
+-- the text of the one encoding of a problem, in front of which a comment says how many of the clauses are those of the rules
 unfoldable pub text_of : Problem → List ℕ
-text_of problem = let e = encoding_of problem in dimacs_text problem e.clauses e.bits e.table
+text_of problem = let e = encoding_of problem in rules_line (rule_clauses problem) ++ dimacs_text problem e.clauses e.bits e.table
 
 -- what is read is what `explain` reads that has these words behind it
 unfoldable pub explained : List (List ℕ) → List (List ℕ)

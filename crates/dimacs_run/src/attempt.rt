@@ -3,9 +3,7 @@
 ghost use Rattle.std.specs.Prelude.{◌≡◌, true, IfOk, IfSome, OnOk};
 ghost use Rattle.outside_desk.specs.Causes.{Counts};
 ghost use Rattle.outside_desk.specs.Files.{and_said};
-ghost use Rattle.run_input.specs.Closures.{closure_of};
-ghost use Rattle.run_input.specs.Kept.{has_right_values};
-ghost use Rattle.run_input.specs.Inputs.{Reads};
+ghost use Rattle.run_input.specs.Inputs.{IsPosed, Reads};
 ghost use Rattle.run_input.specs.Orders.{command_in};
 ghost use Rattle.run_input.specs.Stages.{Is, Then};
 ghost use Rattle.run_input.specs.Stops.{Gives, EndsInReadFault, EndsInOutputFault, EndsInPutFault};
@@ -13,9 +11,9 @@ ghost use Rattle.run_input.specs.Words.{words_of};
 ghost use Rattle.dimacs_run.specs.Answers.{Asks, explained, text_of};
 ghost use Rattle.dimacs_run.specs.Attempts.{Attempts, IsReadStop, FailsToRead, FailsToPut, FailsToSay};
 
-use dimacs_text::dimacs_text;
+use dimacs_text::{dimacs_text, rules_line};
 use outside_desk::{Desk, Sink, SinkFault};
-use problem_encoding::{encode, may_encode};
+use problem_encoding::{encode_rules, with_costs};
 use run_input::{Input, ReadStop, Stop, WriteStop, read_input, read_order};
 use std::alloc::{AllocError, Global};
 use std::thread::Threads;
@@ -33,25 +31,25 @@ fn explained(alloc: Global, words: &[String]) -> Result<Vec<String>, AllocError>
     Ok(all)
 }
 
-/// The text of the encoding of what was read. Of a problem that may not be encoded it is want of memory.
+/// The text of the encoding of what was read.
 #[tactic(auto, unfolding(crate::specs::Answers::text_of))]
 fn text_of(alloc: Global, input: &Input) -> Result<Vec<u8>, AllocError>
-    requires names { input.now.closure ≡ closure_of input.now.problem }
-    requires values { has_right_values input.now.problem ≡ true }
+    requires { IsPosed input.now }
     ensures { IfOk result (λ text. text.items ≡ text_of input.now.problem) }
 {
     let problem = &input.problem;
-    if !may_encode(problem, &input.closure) {
-        return Err(AllocError);
-    }
-    let encoded = encode(alloc, problem, &input.closure)?;
-    dimacs_text(
+    let rules = encode_rules(alloc, problem, &input.closure)?;
+    let mut text = rules_line(alloc, &rules.clauses)?;
+    let encoded = with_costs(alloc, problem, rules)?;
+    let rest = dimacs_text(
         alloc,
         problem,
         &encoded.clauses,
         &encoded.bits,
         &encoded.table,
-    )
+    )?;
+    text.extend_from_slice(rest.as_slice())?;
+    Ok(text)
 }
 
 /// Says a text on the sink of the answer.
@@ -69,8 +67,7 @@ fn say<O: Sink>(alloc: Global, out: &mut O, text: &[u8]) -> Result<(), WriteStop
 
 /// Says the encoding of what was read.
 fn say_encoded<O: Sink>(alloc: Global, out: &mut O, input: &Input) -> Result<(), WriteStop>
-    requires names { input.now.closure ≡ closure_of input.now.problem }
-    requires values { has_right_values input.now.problem ≡ true }
+    requires { IsPosed input.now }
     ensures ok { OnOk result (O.said out.new
         ≡ and_said (O.said out.old) (text_of input.now.problem)) }
     ensures cause { Counts (O.faults out.old) (O.faults out.new) (EndsInOutputFault result) }
@@ -82,8 +79,7 @@ fn say_encoded<O: Sink>(alloc: Global, out: &mut O, input: &Input) -> Result<(),
 
 /// The same, as a run ends.
 fn say_input<O: Sink>(alloc: Global, out: &mut O, input: &Input) -> Result<(), Stop>
-    requires names { input.now.closure ≡ closure_of input.now.problem }
-    requires values { has_right_values input.now.problem ≡ true }
+    requires { IsPosed input.now }
     ensures ok { OnOk result (O.said out.new
         ≡ and_said (O.said out.old) (text_of input.now.problem)) }
     ensures cause { Counts (O.faults out.old) (O.faults out.new) (FailsToSay result) }
@@ -105,8 +101,7 @@ fn read_ordered<R: Threads + Sync, D: Desk>(
 ) -> Result<Input, ReadStop>
     ensures read { IfSome (D.files desk.old) (λ files. Gives result
         (Then (Is (command_in (words_of words.now))) (Reads files))) }
-    ensures names { IfOk result (λ input. input.closure ≡ closure_of input.problem) }
-    ensures values { IfOk result (λ input. has_right_values input.problem ≡ true) }
+    ensures posed { IfOk result IsPosed }
     ensures cause { Counts (D.faults desk.old) (D.faults desk.new) (EndsInReadFault result) }
     ensures same { D.files desk.new ≡ D.files desk.old }
     ensures put_faults { D.put_faults desk.new ≡ D.put_faults desk.old }
@@ -126,8 +121,7 @@ fn read_asked<R: Threads + Sync, D: Desk>(
 ) -> Result<Input, ReadStop>
     ensures read { IfSome (D.files desk.old)
         (λ files. Gives result (Asks files (words_of words.now))) }
-    ensures names { IfOk result (λ input. input.closure ≡ closure_of input.problem) }
-    ensures values { IfOk result (λ input. has_right_values input.problem ≡ true) }
+    ensures posed { IfOk result IsPosed }
     ensures cause { Counts (D.faults desk.old) (D.faults desk.new) (EndsInReadFault result) }
     ensures same { D.files desk.new ≡ D.files desk.old }
     ensures put_faults { D.put_faults desk.new ≡ D.put_faults desk.old }

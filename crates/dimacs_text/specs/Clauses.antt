@@ -9,6 +9,10 @@ use Rattle.dimacs_text.specs.Signs.{lits_line}
 unfoldable pub size_line : Clauses → List ℕ
 size_line s = codes "p cnf " ++ (decimal s.vars ++ (codes " " ++ (decimal (length s.entries) ++ codes "\n")))
 
+-- how many of the variables and clauses are those of the rules, which come before the others
+unfoldable pub rules_line : Clauses → List ℕ
+rules_line rules = codes "c rules " ++ (decimal rules.vars ++ (codes " " ++ (decimal (length rules.entries) ++ codes "\n")))
+
 abbrev pub entry_line : Entry → List ℕ
 entry_line e = lits_line e.clause
 

@@ -1,6 +1,6 @@
 //! The clauses.
 
-ghost use Rattle.std.specs.Prelude.{◌≡◌, ◌++◌, OnOk};
+ghost use Rattle.std.specs.Prelude.{◌≡◌, ◌++◌, IfOk, OnOk};
 ghost use Rattle.clause_store.specs.Clauses.{at_id};
 ghost use Rattle.dimacs_text.specs.Clauses as lines;
 
@@ -24,6 +24,20 @@ pub(crate) fn write_size(
     out.extend_from_slice(b" ")?;
     write_number(alloc, clauses.len(), out)?;
     out.extend_from_slice(b"\n")
+}
+
+/// The comment that says how many variables and clauses the rules have: those in front of all others, which a refutation is over.
+#[tactic(auto, unfolding(crate::specs::Clauses::rules_line))]
+pub fn rules_line(alloc: Global, rules: &ClauseList) -> Result<Vec<u8>, AllocError>
+    ensures { IfOk result (λ line. line.items ≡ lines.rules_line rules.now) }
+{
+    let mut line = Vec::new(alloc);
+    line.extend_from_slice(b"c rules ")?;
+    write_number(alloc, rules.vars(), &mut line)?;
+    line.extend_from_slice(b" ")?;
+    write_number(alloc, rules.len(), &mut line)?;
+    line.extend_from_slice(b"\n")?;
+    Ok(line)
 }
 
 /// The clause with this id.

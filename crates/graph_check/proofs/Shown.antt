@@ -1,13 +1,12 @@
 -- What certificates and refutations show.
-use Rattle.std.proofs.Common.{◌≡◌, sym, ap, subst, ◌∙◌, ℕ, Bool, true, List, Some}
-use Rattle.clause_store.specs.declared.Lit.{Lit}
-use Rattle.clause_store.specs.Clauses.{Clauses, clauses_of}
+use Rattle.std.proofs.Common.{◌≡◌, sym, ap, subst, ◌∙◌, ℕ, Bool, true, List, [], Some}
+use Rattle.clause_store.specs.Clauses.{clauses_of}
 use Rattle.clause_store.proofs.Entries.{Meets-all}
 use Rattle.criteria_totals.specs.Spellings.{bits_for}
 use Rattle.criteria_totals.specs.Totals.{values_at}
 use Rattle.proof_log.specs.declared.line.Line.{Line}
 use Rattle.proof_log.specs.Known.{AllClauses}
-use Rattle.proof_log.specs.Certificates.{bits_at, IsBelow, IsCertificate, IsRefutation}
+use Rattle.proof_log.specs.Certificates.{bits_at, IsBelow}
 use Rattle.proof_log.proofs.Optimal.{certificate_least, refutation_none}
 use Rattle.clause_solver.specs.Models.{values_in}
 use Rattle.optimum_search.specs.Finding.{MeetsAll}
@@ -19,8 +18,8 @@ use Rattle.graph_costs.specs.Costs.{vector}
 use Rattle.graph_costs.specs.Optimal.{IsOptimal, HasNoGraph}
 use Rattle.graph_decoding.specs.Decoding.{decode}
 use Rattle.best_graph.specs.OfProblemEncoding.Encoded.{Encoded}
-use Rattle.best_graph.specs.OfProblemEncoding.Encodings.{IsEncoded}
-use Rattle.best_graph.specs.OfProblemEncoding.Built.{encoding_of}
+use Rattle.best_graph.specs.OfProblemEncoding.Encodings.{IsEncoded, RulesDecode}
+use Rattle.best_graph.specs.OfProblemEncoding.Built.{encoding_of, rule_clauses, table_of}
 use Rattle.best_graph.specs.declared.answer.Answer.TheVariants.{Best, Nothing}
 use Rattle.best_graph.specs.Answers.{IsAnswer}
 use Rattle.best_graph.proofs.Least.{all, is-valid, optimal, nothing}
@@ -45,9 +44,6 @@ module _ (problem : Problem) (e : Encoded) (encoded : IsEncoded problem e) where
       (λ u meets below. least u meets (subst (IsBelow (bits_at u e.bits.lits)) same below)) in
       subst (IsOptimal problem) w.1 best.1
 
-  pub no-graph : ((v : ℕ → Bool) → MeetsAll v e.clauses → ⊥) → HasNoGraph problem
-  no-graph none = nothing problem e.clauses e.bits.lits (λ v. decode v e.table) encoded.encodes none
-
   module _ (ordered : AllClauses (clauses_of e.clauses.entries)) (log : List Line) where
     pub certified : (graph : Content) (values : List Bool) → IsWellFormed graph → valid problem graph ≡ true → SpellsCost problem e graph values
         → Certifies e values log → IsOptimal problem graph
@@ -56,30 +52,27 @@ module _ (problem : Problem) (e : Encoded) (encoded : IsEncoded problem e) where
         certificate_least e.clauses.vars (clauses_of e.clauses.entries) e.bits.lits values log v ordered certificate
         ((Meets-all v e.clauses.entries).0 meets) below)
 
-    pub refuted : Refutes e log → HasNoGraph problem
-    refuted refutation =
-        no-graph (λ v meets.
-        refutation_none e.clauses.vars (clauses_of e.clauses.entries) e.bits.lits log v ordered refutation ((Meets-all v e.clauses.entries).0 meets))
+module _ (problem : Problem) (decodes : RulesDecode problem) where
+  pub no-graph : ((v : ℕ → Bool) → MeetsAll v (rule_clauses problem) → ⊥) → HasNoGraph problem
+  no-graph none = nothing problem (rule_clauses problem) (λ v. decode v (table_of problem)) decodes none
+
+  pub refuted : AllClauses (clauses_of (rule_clauses problem).entries) → (log : List Line) → Refutes problem log → HasNoGraph problem
+  refuted ordered log refutation =
+      let rules = rule_clauses problem in
+      no-graph (λ v meets.
+      refutation_none rules.vars (clauses_of rules.entries) [] log v ordered refutation ((Meets-all v rules.entries).0 meets))
 
 -- the log of an answer that has a graph
 pub best-certified : (problem : Problem) (budget : ℕ) (graph : Content) (log : List Line) → IsAnswer problem budget (Best graph log)
     → (values : List Bool) × SpellsCost problem (encoding_of problem) graph values × Certifies (encoding_of problem) values log
 best-certified problem budget graph log answer =
     let e = encoding_of problem in
-    let shown = answer.shows in
-    let v : ℕ → Bool = values_in shown.0 in
-    let meets : MeetsAll v e.clauses = subst (MeetsAll v) answer.are_clauses shown.1.1 in
-    let reads : decode v e.table ≡ graph = sym (ap (λ (read : (ℕ → Bool) → Content). read v) answer.decodes) ∙ shown.2 in
+    let (encoded, (model, found, same)) = answer.shows in
+    let v : ℕ → Bool = values_in model in
     let spelled : SpellsCost problem e graph (values_at v e.bits.lits) =
-    ap (λ g. bits_for e.bits.tops (vector problem g)) (sym reads) ∙ answer.encoded.spells v meets in
-    let certificate : Certifies e (bits_at v e.bits.lits) log =
-    subst (λ (s : Clauses). IsCertificate s.vars (clauses_of s.entries) e.bits.lits (bits_at v e.bits.lits) log) answer.are_clauses
-    (subst (λ (bits : List Lit). IsCertificate answer.clauses.vars (clauses_of answer.clauses.entries) bits (bits_at v bits) log) answer.are_bits
-    shown.1.2) in
-    (bits_at v e.bits.lits, spelled, certificate)
+    ap (λ g. bits_for e.bits.tops (vector problem g)) (sym same) ∙ encoded.spells v found.1 in
+    (bits_at v e.bits.lits, spelled, found.2)
 
 -- the log of an answer that has none
-pub nothing-refuted : (problem : Problem) (budget : ℕ) (log : List Line) → IsAnswer problem budget (Nothing log) → Refutes (encoding_of problem) log
-nothing-refuted problem budget log answer =
-    subst (λ (s : Clauses). IsRefutation s.vars (clauses_of s.entries) (encoding_of problem).bits.lits log) answer.are_clauses
-    (subst (λ (bits : List Lit). IsRefutation answer.clauses.vars (clauses_of answer.clauses.entries) bits log) answer.are_bits answer.shows.0)
+pub nothing-refuted : (problem : Problem) (budget : ℕ) (log : List Line) → IsAnswer problem budget (Nothing log) → Refutes problem log
+nothing-refuted problem budget log answer = answer.shows.1.0

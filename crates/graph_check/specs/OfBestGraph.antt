@@ -4,5 +4,6 @@ pub use Rattle.best_graph.specs.OfProblemEncoding.Built
 pub use Rattle.best_graph.specs.OfProblemEncoding.Kept
 pub use Rattle.best_graph.specs.OfProblemEncoding.Limits
 pub use Rattle.best_graph.specs.OfProblemEncoding.Encoded
+pub use Rattle.best_graph.specs.OfProblemEncoding.Rules
 pub use Rattle.best_graph.specs.Answers
 pub use Rattle.best_graph.specs.declared.answer.Answer

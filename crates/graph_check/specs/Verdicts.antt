@@ -1,5 +1,5 @@
 -- What logs over the encoding of a problem show.
-use Rattle.std.specs.Prelude.{◌≡◌, ℕ, Bool, true, List, Some}
+use Rattle.std.specs.Prelude.{◌≡◌, ℕ, Bool, true, List, [], Some}
 use Rattle.clause_store.specs.Clauses.{clauses_of}
 use Rattle.criteria_totals.specs.Spellings.{bits_for}
 use Rattle.proof_log.specs.declared.line.Line.{Line}
@@ -14,8 +14,8 @@ use Rattle.graph_costs.specs.Costs.{vector}
 use Rattle.graph_costs.specs.Optimal.{IsOptimal, HasNoGraph}
 use Rattle.graph_decoding.specs.Decoding.{decode}
 use Rattle.best_graph.specs.OfProblemEncoding.Encoded.{Encoded}
-use Rattle.best_graph.specs.OfProblemEncoding.Encodings.{IsEncoded}
-use Rattle.best_graph.specs.OfProblemEncoding.Built.{encoding_of}
+use Rattle.best_graph.specs.OfProblemEncoding.Encodings.{IsEncoded, RulesDecode}
+use Rattle.best_graph.specs.OfProblemEncoding.Built.{encoding_of, rule_clauses}
 use Rattle.best_graph.specs.declared.answer.Answer.TheVariants.{Best, Nothing}
 use Rattle.best_graph.specs.Answers.{IsAnswer}
 
@@ -23,12 +23,13 @@ use Rattle.best_graph.specs.Answers.{IsAnswer}
 abbrev pub SpellsCost : Problem → Encoded → Content → List Bool → Type 0
 SpellsCost problem e graph values = bits_for e.bits.tops (vector problem graph) ≡ Some values
 
--- a log is a certificate of some values of the bits, or a refutation, over the clauses of an encoding
+-- a log is a certificate of some values of the bits, over the clauses of an encoding
 abbrev pub Certifies : Encoded → List Bool → List Line → Type 0
 Certifies e values log = IsCertificate e.clauses.vars (clauses_of e.clauses.entries) e.bits.lits values log
 
-abbrev pub Refutes : Encoded → List Line → Type 0
-Refutes e log = IsRefutation e.clauses.vars (clauses_of e.clauses.entries) e.bits.lits log
+-- a log is a refutation of the rules of a problem
+abbrev pub Refutes : Problem → List Line → Type 0
+Refutes problem log = let rules = rule_clauses problem in IsRefutation rules.vars (clauses_of rules.entries) [] log
 
 -- where values spell the costs of a graph, each model that decodes to it has them at the bits
 abbrev pub ValuesAreAModels : Type 0
@@ -41,9 +42,9 @@ LeastIsOptimal = (problem : Problem) (e : Encoded) (graph : Content) (values : L
     → valid problem graph ≡ true → SpellsCost problem e graph values
     → ((v : ℕ → Bool) → MeetsAll v e.clauses → IsBelow (bits_at v e.bits.lits) values → ⊥) → IsOptimal problem graph
 
--- where the clauses have no model, no graph is valid
+-- where the clauses of the rules have no model, no graph is valid
 abbrev pub NoModelNoGraph : Type 0
-NoModelNoGraph = (problem : Problem) (e : Encoded) → IsEncoded problem e → ((v : ℕ → Bool) → MeetsAll v e.clauses → ⊥) → HasNoGraph problem
+NoModelNoGraph = (problem : Problem) → RulesDecode problem → ((v : ℕ → Bool) → MeetsAll v (rule_clauses problem) → ⊥) → HasNoGraph problem
 
 -- so a valid graph whose costs a certificate certifies is optimal
 abbrev pub CertifiedIsOptimal : Type 0
@@ -51,16 +52,16 @@ CertifiedIsOptimal = (problem : Problem) (e : Encoded) (graph : Content) (values
     → AllClauses (clauses_of e.clauses.entries) → IsWellFormed graph → valid problem graph ≡ true → SpellsCost problem e graph values
     → Certifies e values log → IsOptimal problem graph
 
--- and where a log refutes the clauses, no graph is valid
+-- and where a log refutes the rules, no graph is valid
 abbrev pub RefutedHasNoGraph : Type 0
-RefutedHasNoGraph = (problem : Problem) (e : Encoded) (log : List Line) → IsEncoded problem e → AllClauses (clauses_of e.clauses.entries)
-    → Refutes e log → HasNoGraph problem
+RefutedHasNoGraph = (problem : Problem) (log : List Line) → RulesDecode problem → AllClauses (clauses_of (rule_clauses problem).entries)
+    → Refutes problem log → HasNoGraph problem
 
 -- the log of an answer certifies the cost of its graph, over the encoding of the problem
 abbrev pub BestIsCertified : Type 0
 BestIsCertified = (problem : Problem) (budget : ℕ) (graph : Content) (log : List Line) → IsAnswer problem budget (Best graph log)
     → (values : List Bool) × SpellsCost problem (encoding_of problem) graph values × Certifies (encoding_of problem) values log
 
--- and where it says that there is none, refutes the clauses
+-- and where it says that there is none, refutes the rules
 abbrev pub NothingIsRefuted : Type 0
-NothingIsRefuted = (problem : Problem) (budget : ℕ) (log : List Line) → IsAnswer problem budget (Nothing log) → Refutes (encoding_of problem) log
+NothingIsRefuted = (problem : Problem) (budget : ℕ) (log : List Line) → IsAnswer problem budget (Nothing log) → Refutes problem log

@@ -2,7 +2,7 @@
 use Rattle.std.specs.Prelude.{◌≡◌, ℕ, ◌<◌, ◌-◌, ◌^◌, true, List, []}
 use Rattle.clause_store.specs.Clauses.{clauses_of}
 use Rattle.proof_log.specs.declared.line.Line.{Line}
-use Rattle.proof_log.specs.Certificates.{IsRefutation, IsSpentLog}
+use Rattle.proof_log.specs.Certificates.{IsSpentLog}
 use Rattle.explain_failure.specs.Uses.{stands, AreReasons}
 use Rattle.graph_core.specs.Graphs.{Content}
 use Rattle.problem.specs.Nodes.{IsWellFormed}
@@ -10,7 +10,8 @@ use Rattle.problem.specs.Problems.{Problem}
 use Rattle.graph_rules.specs.Valid.{valid}
 use Rattle.graph_costs.specs.Optimal.{HasNoGraph}
 use Rattle.graph_encoding.specs.Encodings.{IsValid}
-use Rattle.graph_check.specs.OfBestGraph.Built.{encoding_of}
+use Rattle.graph_check.specs.OfBestGraph.Built.{rule_clauses}
+use Rattle.graph_check.specs.Verdicts.{Refutes}
 use Rattle.graph_reasons.specs.declared.explanation.Explanation.{Explanation}
 use Rattle.graph_reasons.specs.declared.explanation.Explanation.TheVariants.{Satisfiable, Unmet, Undecided}
 
@@ -20,19 +21,19 @@ pub record HasGraph (problem : Problem) : Type 0 where
   pub well_formed : IsWellFormed graph
   pub is_valid : valid problem graph ≡ true
 
--- a refutation of the problem's clauses rests on exactly these demands: no graph is valid, not even for them alone
+-- a refutation of the problem's rules rests on exactly these demands: no graph is valid, not even for them alone
 pub record IsUnmet (problem : Problem) (demands : List ℕ) : Type 0 where
   pub log : List Line
-  pub refutation : let e = encoding_of problem in IsRefutation e.clauses.vars (clauses_of e.clauses.entries) [] log
-  pub reasons : AreReasons (encoding_of problem).clauses.entries log demands
+  pub refutation : Refutes problem log
+  pub reasons : AreReasons (rule_clauses problem).entries log demands
   pub alone : (graph : Content) → IsValid problem (stands demands) graph → ⊥
   pub none : HasNoGraph problem
 
 -- one clause more was learnt than the budget, which is below 3 to the number of variables, and below 2^64 - 1
 pub record IsSpent (problem : Problem) (budget : ℕ) : Type 0 where
   pub log : List Line
-  pub spent : let e = encoding_of problem in IsSpentLog e.clauses.vars (clauses_of e.clauses.entries) [] budget log
-  pub small : budget < 3 ^ (encoding_of problem).clauses.vars
+  pub spent : let rules = rule_clauses problem in IsSpentLog rules.vars (clauses_of rules.entries) [] budget log
+  pub small : budget < 3 ^ (rule_clauses problem).vars
   pub finite : budget < 2 ^ 64 - 1
 
 abbrev pub Explains : Problem → ℕ → Explanation → Type 0

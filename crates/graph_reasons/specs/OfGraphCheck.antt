@@ -4,6 +4,7 @@ pub use Rattle.graph_check.specs.OfBestGraph.Built
 pub use Rattle.graph_check.specs.OfBestGraph.Kept
 pub use Rattle.graph_check.specs.OfBestGraph.Limits
 pub use Rattle.graph_check.specs.OfBestGraph.Encoded
+pub use Rattle.graph_check.specs.OfBestGraph.Rules
 pub use Rattle.graph_check.specs.OfBestGraph.Answers
 pub use Rattle.graph_check.specs.OfBestGraph.Answer
 pub use Rattle.graph_check.specs.Verdicts

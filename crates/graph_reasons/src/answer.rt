@@ -1,19 +1,17 @@
 //! The search for a graph, or for what stands against one.
 
-ghost use Rattle.std.specs.Prelude.{◌≡◌, ◌<◌, ◌≤◌, ◌^◌, true, [], IfOk, length};
+ghost use Rattle.std.specs.Prelude.{◌≡◌, ◌<◌, ◌^◌, true, [], IfOk, length};
 ghost use Rattle.clause_store.specs.Clauses.{clauses_of};
 ghost use Rattle.proof_log.specs.Known.{AllClauses};
 ghost use Rattle.optimum_search.specs.Finding.{IsFound};
 ghost use Rattle.possible_closure.specs.Closures.{closure_of};
-ghost use Rattle.graph_check.specs.OfBestGraph.Built.{encoding_of};
-ghost use Rattle.graph_check.specs.OfBestGraph.Encodings.{IsEncoded};
+ghost use Rattle.graph_check.specs.OfBestGraph.Encodings.{AreRules, RulesDecode};
 ghost use Rattle.graph_check.specs.OfBestGraph.Kept.{has_right_values};
-ghost use Rattle.graph_check.specs.OfBestGraph.Limits.{is_within_limits};
 ghost use Rattle.graph_reasons.specs.Explanations.{Explains};
 
 use crate::explanation::Explanation;
 use explain_failure::{reason_laws, reasons};
-use graph_check::{Encoded, Progress, Stage, encode};
+use graph_check::{Progress, Rules, Stage, encode_rules};
 use optimum_search::{Found, found_laws, search};
 use possible_closure::Closure;
 use problem::Problem;
@@ -22,8 +20,8 @@ use std::alloc::{AllocError, Global};
 
 /// Whether some graph is valid, and else the demands that a refutation rests on, where the search may learn so many clauses.
 ///
-/// The search is without bits of costs, so it ends at the first graph. Externals and records have values for their variants
-/// (`has_right_values`), and the problem is within the limits (`may_encode`). `progress` is told how far it is.
+/// The search is over the rules alone, so it ends at the first graph. Externals and records have values for their variants
+/// (`has_right_values`). `progress` is told how far it is.
 pub fn explain<P: Progress>(
     alloc: Global,
     problem: &Problem,
@@ -32,20 +30,18 @@ pub fn explain<P: Progress>(
     progress: &mut P,
 ) -> Result<Explanation, AllocError>
     requires closure { closure.now ≡ closure_of problem.now }
-    requires few { length (closure_of problem.now) ≤ 1024 }
     requires values { has_right_values problem.now ≡ true }
-    requires limits { is_within_limits problem.now ≡ true }
     ensures { IfOk result (Explains problem.now budget) }
 {
     let packages = closure.names().len() as u64;
     progress.tell(Stage::Encoding { packages });
-    let encoded = encode(alloc, problem, closure)?;
+    let rules = encode_rules(alloc, problem, closure)?;
     progress.tell(Stage::Searching {
-        variables: encoded.clauses.vars(),
-        clauses: encoded.clauses.len(),
+        variables: rules.clauses.vars(),
+        clauses: rules.clauses.len(),
     });
-    let found = search(alloc, &encoded.clauses, &[], budget)?;
-    explanation_of(alloc, problem, &encoded, budget, found)
+    let found = search(alloc, &rules.clauses, &[], budget)?;
+    explanation_of(alloc, problem, &rules, budget, found)
 }
 
 /// A log in memory has fewer lines than 2^64.
@@ -59,14 +55,14 @@ fn is_finite(log: &Log)
 fn explanation_of(
     alloc: Global,
     _problem: &Problem,
-    encoded: &Encoded,
+    rules: &Rules,
     _budget: u64,
     found: Found,
 ) -> Result<Explanation, AllocError>
-    requires encoded { IsEncoded _problem.now encoded.now }
-    requires built { encoded.now ≡ encoding_of _problem.now }
-    requires found { IsFound encoded.now.clauses [] _budget found }
-    requires in_order { AllClauses (clauses_of encoded.now.clauses.entries) }
+    requires ruled { AreRules _problem.now rules.now }
+    requires decodes { RulesDecode _problem.now }
+    requires found { IsFound rules.now.clauses [] _budget found }
+    requires in_order { AllClauses (clauses_of rules.now.clauses.entries) }
     ensures { IfOk result (Explains _problem.now _budget) }
 {
     found_laws();
@@ -74,7 +70,7 @@ fn explanation_of(
     match found {
         Found::Optimal { .. } => Ok(Explanation::Satisfiable),
         Found::Refuted { log } => {
-            let demands = reasons(alloc, &encoded.clauses, &log)?;
+            let demands = reasons(alloc, &rules.clauses, &log)?;
             Ok(Explanation::Unmet(demands))
         }
         Found::Spent { log } => {

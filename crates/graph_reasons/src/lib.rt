@@ -14,6 +14,6 @@ pub use answer::explain;
 pub use explanation::Explanation;
 // What crates above answer with.
 pub use graph_check::{
-    Answer, Encoded, Progress, Stage, Untold, best_graph, encode, has_right_values, may_encode,
-    values_of, verdict_laws,
+    Answer, Encoded, Progress, Rules, Stage, Untold, best_graph, encode, encode_rules,
+    has_right_values, may_encode, values_of, verdict_laws, with_costs,
 };

@@ -1,5 +1,6 @@
 -- The clauses of the rules are those of the closure.
-use Rattle.std.proofs.Common.{◌≡◌, sym, ap, subst, ◌∙◌, ℕ, true, List}
+use Rattle.std.proofs.Common.{◌≡◌, sym, ap, subst, ◌∙◌, ℕ, true, List, Result, Ok, Err}
+use Rattle.std.specs.Prelude.{IfOk}
 use Rattle.std.proofs.lemmas.Option.{none-some}
 use Rattle.graph_core.specs.Graphs.{Text}
 use Rattle.problem.specs.Problems.{Problem}
@@ -21,6 +22,11 @@ use Rattle.ranked_costs.specs.OfClosureEncoding.Closures.{closure_clauses}
 use Rattle.ranked_costs.specs.Ranked.{closure_values}
 use Rattle.possible_closure.specs.Closures.{closure_of}
 use Rattle.problem_encoding.specs.Encodings.{IsRuled}
+
+-- what holds whatever was answered
+pub either_way : {A E : Type 0} (r : Result A E) (P : Type 0) → P → IfOk r (λ x. P)
+either_way (Ok x) P holds = holds
+either_way (Err e) P holds = tt
 
 -- no condition has a place
 pub unplaced : (problem : Problem) (names : List Text) → IsPlaced (conditions_of problem (table_for problem names)) no_place

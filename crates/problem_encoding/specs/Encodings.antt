@@ -9,6 +9,7 @@ use Rattle.graph_core.specs.Graphs.{Content}
 use Rattle.problem.specs.Problems.{Problem}
 use Rattle.graph_costs.specs.Costs.{vector}
 use Rattle.optimum_search.specs.Finding.{MeetsAll}
+use Rattle.encoding_stages.specs.Stages.{Decodes}
 use Rattle.problem_formulas.specs.OfGraphDecoding.Decoding.{decode, IsStructured}
 use Rattle.problem_formulas.specs.OfGraphEncoding.Encodings.{IsValid}
 use Rattle.problem_formulas.specs.OfGraphEncoding.Best.{RanksGraphs}
@@ -19,6 +20,7 @@ use Rattle.possible_closure.specs.Closures.{closure_of}
 use Rattle.ranked_costs.specs.OfClosureEncoding.Kept.{have_values}
 use Rattle.problem_encoding.specs.Built.{table_of, rule_clauses, rule_values}
 use Rattle.problem_encoding.specs.declared.encoded.Encoded.{Encoded}
+use Rattle.problem_encoding.specs.declared.encoded.Rules.{Rules}
 
 -- models of the clauses decode to just the valid graphs, and their bits compare as the graphs' cost vectors
 abbrev pub Encodes : Problem → Clauses → List Lit → ((ℕ → Bool) → Content) → Type 0
@@ -43,3 +45,10 @@ pub record IsRuled (problem : Problem) (table : Table) (made : ProblemClauses) :
   pub is_table : table ≡ table_of problem
   pub clauses : made.list ≡ rule_clauses problem
   pub values : made.values ≡ rule_values problem
+
+abbrev pub AreRules : Problem → Rules → Type 0
+AreRules problem rules = IsRuled problem rules.table (record { list = rules.clauses; values = rules.values })
+
+-- their models decode to just the valid graphs, for each set of demands
+abbrev pub RulesDecode : Problem → Type 0
+RulesDecode problem = Decodes (rule_clauses problem) (λ v. decode v (table_of problem)) (IsValid problem)

@@ -6,7 +6,7 @@ ghost use Rattle.ranked_costs.specs.OfClosureEncoding.Tables.{table_for, size_fo
 ghost use Rattle.ranked_costs.specs.OfCostLimits.Limits.{is_within_limits};
 ghost use Rattle.ranked_costs.specs.Built.{rank_costs_on};
 ghost use Rattle.problem_encoding.specs.Built.{order_in, encoding_of};
-ghost use Rattle.problem_encoding.specs.Encodings.{AreCosted, IsEncoded, IsRuled};
+ghost use Rattle.problem_encoding.specs.Encodings.{AreCosted, AreRules, IsEncoded, IsRuled, RulesDecode};
 
 use crate::roots::root_names;
 use clause_formulas::Defined;
@@ -14,6 +14,7 @@ use clause_store::ClauseList;
 use criteria_totals::Bits;
 use literal_table::LiteralTable;
 use name_order::{order_laws, post_order};
+use plain_data::List;
 use possible_closure::{Closure, possible_laws};
 use problem::Problem;
 use problem_formulas::{ProblemClauses, ProblemFormulas, targets_of};
@@ -30,7 +31,41 @@ pub struct Encoded {
     pub table: LiteralTable,
 }
 
-/// The clauses of a problem over the names that its nodes may have: one encoding for each problem.
+/// The clauses of the rules over a table of literals.
+#[derive(Drop)]
+pub struct Rules {
+    pub clauses: ClauseList,
+    pub table: LiteralTable,
+    /// What is defined for each condition, by its place.
+    pub values: List<Defined>,
+}
+
+/// The clauses of the rules over the names that nodes may have: they alone say whether there is a graph.
+///
+/// Externals and records have values for their variants, as all that are read do; `has_right_values` tests it.
+///
+/// An error is want of memory.
+pub fn encode_rules(
+    alloc: Global,
+    problem: &Problem,
+    closure: &Closure,
+) -> Result<Rules, AllocError>
+    requires closure { closure.now ≡ closure_of problem.now }
+    requires values { has_right_values problem.now ≡ true }
+    ensures ruled { IfOk result (AreRules problem.now) }
+    ensures decodes { IfOk result (λ rules. RulesDecode problem.now) }
+{
+    let mut vars = 0;
+    let table = table_of(alloc, problem, closure, &mut vars)?;
+    let ProblemClauses { list, values } = ruled(alloc, problem, closure, &table, vars)?;
+    Ok(Rules {
+        clauses: list,
+        table,
+        values,
+    })
+}
+
+/// The clauses of a problem over the names that its nodes may have: one encoding for each problem, that of the rules in front.
 ///
 /// Externals and records have values for their variants, as all that are read do; `has_right_values` tests it. The problem is within
 /// the limits, and its closure has at most 1,024 names (`may_encode`): so the weights of each number add up to less than 2^63.
@@ -44,10 +79,8 @@ pub fn encode(alloc: Global, problem: &Problem, closure: &Closure) -> Result<Enc
     ensures encoded { IfOk result (IsEncoded problem.now) }
     ensures built { IfOk result (λ encoded. encoded ≡ encoding_of problem.now) }
 {
-    let mut vars = 0;
-    let table = table_of(alloc, problem, closure, &mut vars)?;
-    let made = ruled(alloc, problem, closure, &table, vars)?;
-    with_costs(alloc, problem, table, made)
+    let rules = encode_rules(alloc, problem, closure)?;
+    with_costs(alloc, problem, rules)
 }
 
 /// The clauses of the rules over a table.
@@ -62,7 +95,8 @@ fn ruled(
     requires values { has_right_values problem.now ≡ true }
     requires table { table.now ≡ table_for problem.now _closure.now }
     requires size { vars ≡ size_for problem.now _closure.now }
-    ensures { IfOk result (IsRuled problem.now table.now) }
+    ensures ruled { IfOk result (IsRuled problem.now table.now) }
+    ensures decodes { IfOk result (λ made. RulesDecode problem.now) }
 {
     possible_laws();
     plan_laws();
@@ -97,21 +131,20 @@ fn add_costs(
     rank_costs(alloc, clauses, problem, table, values, order.as_slice())
 }
 
-/// The clauses with the bits of the costs behind them.
-fn with_costs(
-    alloc: Global,
-    problem: &Problem,
-    table: LiteralTable,
-    made: ProblemClauses,
-) -> Result<Encoded, AllocError>
-    requires ruled { IsRuled problem.now table made }
+/// The clauses of the rules with the bits of the costs behind them. What is asked of the problem is what `encode` asks.
+pub fn with_costs(alloc: Global, problem: &Problem, rules: Rules) -> Result<Encoded, AllocError>
+    requires ruled { AreRules problem.now rules }
     requires few { length (closure_of problem.now) ≤ 1024 }
     requires limits { is_within_limits problem.now ≡ true }
     ensures encoded { IfOk result (IsEncoded problem.now) }
     ensures built { IfOk result (λ encoded. encoded ≡ encoding_of problem.now) }
 {
-    let ProblemClauses { list, values } = made;
-    let mut clauses = list;
+    let Rules {
+        clauses,
+        table,
+        values,
+    } = rules;
+    let mut clauses = clauses;
     let bits = add_costs(alloc, &mut clauses, problem, &table, values.as_slice())?;
     Ok(Encoded {
         clauses,

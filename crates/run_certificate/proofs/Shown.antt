@@ -1,5 +1,5 @@
 -- What an accepted certificate shows of a problem's graphs.
-use Rattle.std.proofs.Common.{◌≡◌, refl, sym, ap, subst, ◌∙◌, ℕ, Bool, true, false, List, cond, Option, Some, None, Result, Ok, Err}
+use Rattle.std.proofs.Common.{◌≡◌, refl, sym, ap, subst, ◌∙◌, ℕ, Bool, true, false, List, [], cond, Option, Some, None, Result, Ok, Err}
 use Rattle.std.specs.Prelude.{nat_le, length, take, ◌||◌, ◌↔◌, IfSome, OnOk}
 use Rattle.std.specs.Option.{option_map}
 use Rattle.std.specs.FinMap.{get}
@@ -25,11 +25,11 @@ use Rattle.run_answers.specs.declared.refusal.Refusal.{Refusal}
 use Rattle.run_answers.specs.declared.refusal.Refusal.TheVariants as refusals
 use Rattle.criteria_totals.specs.Spellings.{bits_for}
 use Rattle.problem.specs.Problems.{Problem}
-use Rattle.graph_reasons.specs.OfGraphCheck.Built.{encoding_of}
-use Rattle.graph_reasons.specs.OfGraphCheck.Encodings.{IsEncoded}
+use Rattle.graph_reasons.specs.OfGraphCheck.Built.{encoding_of, rule_clauses}
+use Rattle.graph_reasons.specs.OfGraphCheck.Encodings.{IsEncoded, RulesDecode}
 use Rattle.graph_reasons.specs.OfGraphCheck.Encoded.{Encoded}
 use Rattle.graph_reasons.specs.OfGraphCheck.Verdicts.{CertifiedIsOptimal, RefutedHasNoGraph}
-use Rattle.run_certificate.specs.Certificates.{said_of, said_at, certified_at, begun_by, verdict_of, most, ShowsOf}
+use Rattle.run_certificate.specs.Certificates.{said_of, said_at, certified_at, begun_for, verdict_of, most, ShowsOf}
 
 -- what an accepted text says
 abbrev pub TellsLog : Type 0
@@ -67,9 +67,9 @@ logged_at tells files path s bits values ordered e =
 
 -- ---- what a log shows
 
-pub shown_none : (problem : Problem) (e : Encoded) → RefutedHasNoGraph → IsEncoded problem e → AllClauses (clauses_of e.clauses.entries)
-    → (lines : List Line) × IsLogOf e.clauses.vars (clauses_of e.clauses.entries) e.bits.lits None lines → ShowsOf problem None
-shown_none problem e law encoded ordered (lines, log) = law problem e lines encoded ordered log
+pub shown_none : (problem : Problem) → RefutedHasNoGraph → RulesDecode problem → AllClauses (clauses_of (rule_clauses problem).entries)
+    → (lines : List Line) × IsLogOf (rule_clauses problem).vars (clauses_of (rule_clauses problem).entries) [] None lines → ShowsOf problem None
+shown_none problem law decodes ordered (lines, log) = law problem lines decodes ordered log
 
 pub shown_some : (problem : Problem) (e : Encoded) (numbers : List ℕ) (values : List Bool) → CertifiedIsOptimal → IsEncoded problem e
     → bits_for e.bits.tops numbers ≡ Some values → AllClauses (clauses_of e.clauses.entries)
@@ -78,127 +78,89 @@ pub shown_some : (problem : Problem) (e : Encoded) (numbers : List ℕ) (values 
 shown_some problem e numbers values law encoded spelled ordered (lines, log) = λ graph formed ok same.
     law problem e graph values lines encoded ordered formed ok (ap (bits_for e.bits.tops) same ∙ spelled) log
 
--- ---- the answer of a check, by the costs
+-- ---- the answer of a check, by what it began with
 
-module _ (path : List ℕ) (problem : Problem) (e : Encoded) (built : e ≡ encoding_of problem) where
-  certified_as : (files : Files) (numbers : Option (List ℕ)) (s : State) → begun_by e numbers ≡ Some s → said_at files path s
-      ≡ certified_at files path problem numbers
+module _ (path : List ℕ) (problem : Problem) (numbers : Option (List ℕ)) (before : Option Files) where
+  begun_as : (files : Files) (o : Option State) → begun_for problem numbers ≡ o
+      → (or_refuse (refusals.BadCertificate 1 faults.WrongBit) o >>= λ s. said_at files path s) ≡ certified_at files path problem numbers
   unfolding certified_at
-  certified_as files numbers s is =
-      ap (λ (o : Option State). or_refuse (refusals.BadCertificate 1 faults.WrongBit) o >>= λ s. said_at files path s)
-      (sym is ∙ ap (λ (x : Encoded). begun_by x numbers) built)
-
-  unspelled_as : (files : Files) (numbers : Option (List ℕ)) → begun_by e numbers ≡ None
-      → Err (refusals.BadCertificate 1 faults.WrongBit) ≡ certified_at files path problem numbers
-  unfolding certified_at
-  unspelled_as files numbers is =
-      ap (λ (o : Option State). or_refuse (refusals.BadCertificate 1 faults.WrongBit) o >>= λ s. said_at files path s)
-      (sym is ∙ ap (λ (x : Encoded). begun_by x numbers) built)
+  begun_as files o is = ap (λ (o : Option State). or_refuse (refusals.BadCertificate 1 faults.WrongBit) o >>= λ s. said_at files path s) (sym is)
 
   -- what is said of the log is what is said of the certificate
-  pub certificate_read : (before : Option Files) (numbers : Option (List ℕ)) (s : State) (result : Result (Unit {0}) ReadStop)
-      → begun_by e numbers ≡ Some s → IfSome before (λ files. Gives result (Is (said_at files path s)))
+  pub certificate_read : (s : State) (result : Result (Unit {0}) ReadStop) → begun_for problem numbers ≡ Some s
+      → IfSome before (λ files. Gives result (Is (said_at files path s)))
       → IfSome before (λ files. Gives result (Is (certified_at files path problem numbers)))
-  certificate_read None numbers s result is read = tt
-  certificate_read (Some files) numbers s result is read =
-      subst (λ (r : Result (Unit {0}) Refusal). Gives result (Is r)) (certified_as files numbers s is) read
+  certificate_read s result is read = go before read
+    where
+      go : (o : Option Files) → IfSome o (λ files. Gives result (Is (said_at files path s)))
+          → IfSome o (λ files. Gives result (Is (certified_at files path problem numbers)))
+      go None read = tt
+      go (Some files) read = subst (λ (r : Result (Unit {0}) Refusal). Gives result (Is r)) (begun_as files (Some s) is) read
 
-  pub certificate_unspelled : (before : Option Files) (numbers : Option (List ℕ)) → begun_by e numbers ≡ None
-      → IfSome before (λ files. Gives {T = Unit {0}} (Err (Refused (refusals.BadCertificate 1 faults.WrongBit)))
-      (Is (certified_at files path problem numbers)))
-  certificate_unspelled None numbers is = tt
-  certificate_unspelled (Some files) numbers is = unspelled_as files numbers is
+  pub certificate_unspelled : begun_for problem numbers ≡ None → IfSome before (λ files. Gives {T = Unit {0}}
+      (Err (Refused (refusals.BadCertificate 1 faults.WrongBit))) (Is (certified_at files path problem numbers)))
+  certificate_unspelled is = go before
+    where
+      go : (o : Option Files) → IfSome o (λ files. Gives {T = Unit {0}} (Err (Refused (refusals.BadCertificate 1 faults.WrongBit)))
+          (Is (certified_at files path problem numbers)))
+      go None = tt
+      go (Some files) = begun_as files None is
 
-  module _ (tells : TellsLog) (encoded : IsEncoded problem e) where
-    yes_here : (files : Files) (values : Option (List Bool)) (P : Type 0)
-        → ((lines : List Line) × IsLogOf e.clauses.vars (clauses_of e.clauses.entries) e.bits.lits values lines → P)
-        → (result : Result (Unit {0}) ReadStop) → OnOk result (AllClauses (clauses_of e.clauses.entries))
-        → Gives result (Is (said_at files path (begun e.clauses e.bits.lits values))) → OnOk result P
-    yes_here files values P shows (Ok done) ordered read =
-        shows (logged_at tells files path e.clauses e.bits.lits values ordered (sym read))
-    yes_here files values P shows (Err stop) ordered read = tt
+-- what is accepted is shown
+pub yes : TellsLog → (path : List ℕ) (s : Clauses) (bits : List Lit) (values : Option (List Bool)) (P : Type 0)
+    → (AllClauses (clauses_of s.entries) → (lines : List Line) × IsLogOf s.vars (clauses_of s.entries) bits values lines → P)
+    → (before : Option Files) (result : Result (Unit {0}) ReadStop) → OnOk result (AllClauses (clauses_of s.entries))
+    → IfSome before (λ files. Gives result (Is (said_at files path (begun s bits values))))
+    → OnOk result (IfSome before (λ files. P))
+yes tells path s bits values P shows None (Ok done) ordered read = tt
+yes tells path s bits values P shows (Some files) (Ok done) ordered read =
+    shows ordered (logged_at tells files path s bits values ordered (sym read))
+yes tells path s bits values P shows before (Err stop) ordered read = tt
 
-    yes : (before : Option Files) (values : Option (List Bool)) (P : Type 0)
-        → ((lines : List Line) × IsLogOf e.clauses.vars (clauses_of e.clauses.entries) e.bits.lits values lines → P)
-        → (result : Result (Unit {0}) ReadStop) → OnOk result (AllClauses (clauses_of e.clauses.entries))
-        → IfSome before (λ files. Gives result (Is (said_at files path (begun e.clauses e.bits.lits values))))
-        → OnOk result (IfSome before (λ files. P))
-    yes None values P shows (Ok done) ordered read = tt
-    yes None values P shows (Err stop) ordered read = tt
-    yes (Some files) values P shows (Ok done) ordered read = yes_here files values P shows (Ok done) ordered read
-    yes (Some files) values P shows (Err stop) ordered read = tt
+pub begun_some : (problem : Problem) (e : Encoded) → e ≡ encoding_of problem → (numbers : List ℕ) (values : List Bool)
+    → bits_for e.bits.tops numbers ≡ Some values → begun_for problem (Some numbers) ≡ Some (begun e.clauses e.bits.lits (Some values))
+begun_some problem e built numbers values is =
+    ap (λ (x : Encoded). option_map (λ (vs : List Bool). begun x.clauses x.bits.lits (Some vs)) (bits_for x.bits.tops numbers)) (sym built)
+    ∙ ap (option_map (λ (vs : List Bool). begun e.clauses e.bits.lits (Some vs))) is
 
-    pub yes_none : RefutedHasNoGraph → (before : Option Files) (result : Result (Unit {0}) ReadStop)
-        → OnOk result (AllClauses (clauses_of e.clauses.entries))
-        → IfSome before (λ files. Gives result (Is (said_at files path (begun e.clauses e.bits.lits None))))
-        → OnOk result (IfSome before (λ files. ShowsOf problem None))
-    yes_none law before (Ok done) ordered read =
-        yes before None (ShowsOf problem None) (shown_none problem e law encoded ordered) (Ok done) ordered read
-    yes_none law before (Err stop) ordered read = tt
-
-    pub yes_some : CertifiedIsOptimal → (before : Option Files) (numbers : List ℕ) (values : List Bool)
-        → bits_for e.bits.tops numbers ≡ Some values → (result : Result (Unit {0}) ReadStop)
-        → OnOk result (AllClauses (clauses_of e.clauses.entries))
-        → IfSome before (λ files. Gives result (Is (said_at files path (begun e.clauses e.bits.lits (Some values)))))
-        → OnOk result (IfSome before (λ files. ShowsOf problem (Some numbers)))
-    yes_some law before numbers values spelled (Ok done) ordered read =
-        yes before (Some values) (ShowsOf problem (Some numbers)) (shown_some problem e numbers values law encoded spelled ordered) (Ok done)
-        ordered read
-    yes_some law before numbers values spelled (Err stop) ordered read = tt
-
-pub begun_some : (e : Encoded) (numbers : List ℕ) (values : List Bool) → bits_for e.bits.tops numbers ≡ Some values
-    → begun_by e (Some numbers) ≡ Some (begun e.clauses e.bits.lits (Some values))
-begun_some e numbers values is = ap (option_map (λ (vs : List Bool). begun e.clauses e.bits.lits (Some vs))) is
-
-pub begun_not : (e : Encoded) (numbers : List ℕ) → bits_for e.bits.tops numbers ≡ None → begun_by e (Some numbers) ≡ None
-begun_not e numbers is = ap (option_map (λ (vs : List Bool). begun e.clauses e.bits.lits (Some vs))) is
+pub begun_not : (problem : Problem) (e : Encoded) → e ≡ encoding_of problem → (numbers : List ℕ) → bits_for e.bits.tops numbers ≡ None
+    → begun_for problem (Some numbers) ≡ None
+begun_not problem e built numbers is =
+    ap (λ (x : Encoded). option_map (λ (vs : List Bool). begun x.clauses x.bits.lits (Some vs)) (bits_for x.bits.tops numbers)) (sym built)
+    ∙ ap (option_map (λ (vs : List Bool). begun e.clauses e.bits.lits (Some vs))) is
 
 -- ---- by the arguments of the call
 
-module _ (path : List ℕ) (problem : Problem) (e : Encoded) (built : e ≡ encoding_of problem) (before : Option Files) (bits : List Lit)
-    (given : Option (List ℕ)) (result : Result (Unit {0}) ReadStop) (is_bits : bits ≡ e.bits.lits) where
-  -- what is said of a log is given
-  abbrev SaidOf : List Lit → Option (List Bool) → Type 0
-  SaidOf lits values = IfSome before (λ files. Gives result (Is (said_at files path (begun e.clauses lits values))))
+module _ (path : List ℕ) (problem : Problem) (before : Option Files) (result : Result (Unit {0}) ReadStop) where
+  -- what is said of a log
+  abbrev Said : Clauses → List Lit → Option (List Bool) → Type 0
+  Said s bits values = IfSome before (λ files. Gives result (Is (said_at files path (begun s bits values))))
 
-  abbrev SaidFor : Option (List ℕ) → Type 0
-  SaidFor numbers = IfSome before (λ files. Gives result (Is (certified_at files path problem numbers)))
+  module _ (s : Clauses) (rules : s ≡ rule_clauses problem) (read : Said s [] None) where
+    over_rules : Said (rule_clauses problem) [] None
+    over_rules = subst (λ (t : Clauses). Said t [] None) rules read
 
-  abbrev ShownFor : Option (List ℕ) → Type 0
-  ShownFor numbers = OnOk result (IfSome before (λ files. ShowsOf problem numbers))
+    pub none_read : IfSome before (λ files. Gives result (Is (certified_at files path problem None)))
+    none_read = certificate_read path problem None before (begun (rule_clauses problem) [] None) result refl over_rules
 
-  pub none_read : given ≡ None → SaidOf bits None → SaidFor given
-  none_read is read =
-      subst SaidFor (sym is)
-      (certificate_read path problem e built before None (begun e.clauses e.bits.lits None) result refl (subst (λ l. SaidOf l None) is_bits read))
+    pub none_shown : TellsLog → RefutedHasNoGraph → RulesDecode problem → OnOk result (AllClauses (clauses_of s.entries))
+        → OnOk result (IfSome before (λ files. ShowsOf problem None))
+    none_shown tells law decodes ordered =
+        yes tells path (rule_clauses problem) [] None (ShowsOf problem None) (shown_none problem law decodes) before result
+        (subst (λ (t : Clauses). OnOk result (AllClauses (clauses_of t.entries))) rules ordered) over_rules
 
-  pub none_shown : TellsLog → IsEncoded problem e → RefutedHasNoGraph → given ≡ None → OnOk result (AllClauses (clauses_of e.clauses.entries))
-      → SaidOf bits None → ShownFor given
-  none_shown tells encoded law is ordered read =
-      subst ShownFor (sym is)
-      (yes_none path problem e built tells encoded law before result ordered (subst (λ l. SaidOf l None) is_bits read))
+  module _ (e : Encoded) (built : e ≡ encoding_of problem) (numbers : List ℕ) (values slice : List Bool) (bits : List Lit)
+      (is_bits : bits ≡ e.bits.lits) (spelled : bits_for e.bits.tops numbers ≡ Some values) (same : slice ≡ values)
+      (read : Said e.clauses bits (Some slice)) where
+    over_encoding : Said e.clauses e.bits.lits (Some values)
+    over_encoding = subst (λ vs. Said e.clauses e.bits.lits (Some vs)) same (subst (λ l. Said e.clauses l (Some slice)) is_bits read)
 
-  module _ (numbers : List ℕ) (values slice : List Bool) (is : given ≡ Some numbers) (spelled : bits_for e.bits.tops numbers ≡ Some values)
-      (same : slice ≡ values) (read : SaidOf bits (Some slice)) where
-    read_over : SaidOf e.bits.lits (Some values)
-    read_over = subst (λ vs. SaidOf e.bits.lits (Some vs)) same (subst (λ l. SaidOf l (Some slice)) is_bits read)
+    pub some_read : IfSome before (λ files. Gives result (Is (certified_at files path problem (Some numbers))))
+    some_read = certificate_read path problem (Some numbers) before (begun e.clauses e.bits.lits (Some values)) result
+        (begun_some problem e built numbers values spelled) over_encoding
 
-    pub some_read : SaidFor given
-    some_read =
-        subst SaidFor (sym is)
-        (certificate_read path problem e built before (Some numbers) (begun e.clauses e.bits.lits (Some values)) result
-        (begun_some e numbers values spelled) read_over)
-
-    pub some_shown : TellsLog → IsEncoded problem e → CertifiedIsOptimal → OnOk result (AllClauses (clauses_of e.clauses.entries))
-        → ShownFor given
-    some_shown tells encoded law ordered =
-        subst ShownFor (sym is) (yes_some path problem e built tells encoded law before numbers values spelled result ordered read_over)
-
-pub not_read : (path : List ℕ) (problem : Problem) (e : Encoded) → e ≡ encoding_of problem → (before : Option Files) (given : Option (List ℕ))
-    (numbers : List ℕ) → given ≡ Some numbers → bits_for e.bits.tops numbers ≡ None
-    → IfSome before (λ files. Gives {T = Unit {0}} (Err (Refused (refusals.BadCertificate 1 faults.WrongBit)))
-    (Is (certified_at files path problem given)))
-not_read path problem e built before given numbers is none =
-    subst (λ (o : Option (List ℕ)). IfSome before (λ files. Gives {T = Unit {0}} (Err (Refused (refusals.BadCertificate 1 faults.WrongBit)))
-    (Is (certified_at files path problem o)))) (sym is)
-    (certificate_unspelled path problem e built before (Some numbers) (begun_not e numbers none))
+    pub some_shown : TellsLog → CertifiedIsOptimal → IsEncoded problem e → OnOk result (AllClauses (clauses_of e.clauses.entries))
+        → OnOk result (IfSome before (λ files. ShowsOf problem (Some numbers)))
+    some_shown tells law encoded ordered =
+        yes tells path e.clauses e.bits.lits (Some values) (ShowsOf problem (Some numbers))
+        (shown_some problem e numbers values law encoded spelled) before result ordered over_encoding

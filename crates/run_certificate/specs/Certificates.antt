@@ -1,5 +1,5 @@
 -- What is said of a certificate: that it is right, or the refusal that is due first.
-use Rattle.std.specs.Prelude.{◌≡◌, ℕ, ◌-◌, ◌^◌, nat_le, Bool, true, ◌||◌, List, take, length, Option, Some, None, Result, Ok, Err, if◌then◌else◌}
+use Rattle.std.specs.Prelude.{◌≡◌, ℕ, ◌-◌, ◌^◌, nat_le, Bool, true, ◌||◌, List, [], take, length, Option, Some, None, Result, Ok, Err, if◌then◌else◌}
 use Rattle.std.specs.Option.{option_map}
 use Rattle.std.specs.FinMap.{get}
 use Rattle.outside_desk.specs.Files.{Files}
@@ -17,8 +17,7 @@ use Rattle.problem.specs.Problems.{Problem}
 use Rattle.graph_rules.specs.Valid.{valid}
 use Rattle.graph_costs.specs.Costs.{vector}
 use Rattle.graph_costs.specs.Optimal.{IsOptimal, HasNoGraph}
-use Rattle.graph_reasons.specs.OfGraphCheck.Built.{encoding_of}
-use Rattle.graph_reasons.specs.OfGraphCheck.Encoded.{Encoded}
+use Rattle.graph_reasons.specs.OfGraphCheck.Built.{encoding_of, rule_clauses}
 use Rattle.run_answers.specs.Stages.{◌>>=◌, or_refuse}
 use Rattle.run_answers.specs.declared.refusal.Refusal.{Refusal}
 use Rattle.run_answers.specs.declared.refusal.Refusal.TheVariants as refusals
@@ -59,16 +58,17 @@ said_at files path s = do
   text ← or_refuse (refusals.MissingInput path) (get files path)
   said_of s text
 
--- a checker of logs that are to show that these costs of a graph are the least, or, without costs, that no graph is valid; of
--- costs that no bits of the encoding spell, which no valid graph has, there is none
-abbrev pub begun_by : Encoded → Option (List ℕ) → Option State
-begun_by e None = Some (begun e.clauses e.bits.lits None)
-begun_by e (Some numbers) = option_map (λ values. begun e.clauses e.bits.lits (Some values)) (bits_for e.bits.tops numbers)
+-- a checker of logs that are to show that these costs of a graph are the least, over the encoding of the problem; of costs that no
+-- bits spell, which no valid graph has, there is none. Without costs it is one of refutations of the rules
+abbrev pub begun_for : Problem → Option (List ℕ) → Option State
+begun_for problem None = Some (begun (rule_clauses problem) [] None)
+begun_for problem (Some numbers) =
+    let e = encoding_of problem in option_map (λ values. begun e.clauses e.bits.lits (Some values)) (bits_for e.bits.tops numbers)
 
 -- what is said of the certificate at the path; costs that no bits spell are refused at its first line
 unfoldable pub certified_at : Files → List ℕ → Problem → Option (List ℕ) → Result (Unit {0}) Refusal
 certified_at files path problem numbers = do
-  s ← or_refuse (refusals.BadCertificate 1 faults.WrongBit) (begun_by (encoding_of problem) numbers)
+  s ← or_refuse (refusals.BadCertificate 1 faults.WrongBit) (begun_for problem numbers)
   said_at files path s
 
 -- what a right certificate shows: that a valid graph with these costs is optimal, or, without costs, that no graph is valid

@@ -1,6 +1,6 @@
 //! The check of a certificate.
 
-ghost use Rattle.std.specs.Prelude.{◌≡◌, ◌<◌, true, [], length, IfOk, OnOk, IfSome};
+ghost use Rattle.std.specs.Prelude.{◌≡◌, ◌<◌, ◌≤◌, true, [], length, Some, None, IfOk, OnOk, IfSome};
 ghost use Rattle.std.specs.Option.{option_map};
 ghost use Rattle.outside_desk.specs.Causes.{Counts};
 ghost use Rattle.clause_store.specs.Clauses.{clauses_of};
@@ -9,8 +9,9 @@ ghost use Rattle.log_checker.specs.Steps.{State, begun};
 ghost use Rattle.certified.specs.Texts.{IsAfter};
 ghost use Rattle.possible_closure.specs.Closures.{closure_of};
 ghost use Rattle.graph_reasons.specs.OfGraphCheck.Built.{encoding_of};
-ghost use Rattle.graph_reasons.specs.OfGraphCheck.Encodings.{IsEncoded};
+ghost use Rattle.graph_reasons.specs.OfGraphCheck.Encodings.{AreRules, IsEncoded, RulesDecode};
 ghost use Rattle.graph_reasons.specs.OfGraphCheck.Kept.{has_right_values};
+ghost use Rattle.graph_reasons.specs.OfGraphCheck.Limits.{is_within_limits};
 ghost use Rattle.run_answers.specs.Stages.{Is};
 ghost use Rattle.run_answers.specs.Stops.{Gives, EndsByInput, EndsInReadFault, EndsInUsage};
 ghost use Rattle.run_certificate.specs.Certificates.{said_at, certified_at, ShowsOf};
@@ -20,7 +21,7 @@ use crate::pieces::take_all;
 use crate::verdict::verdict;
 use certified::{TextChecker, text_laws};
 use clause_store::{ClauseList, Lit};
-use graph_reasons::{Encoded, encode, may_encode, values_of, verdict_laws};
+use graph_reasons::{Encoded, Rules, encode, encode_rules, values_of, verdict_laws};
 use outside_desk::Desk;
 use possible_closure::Closure;
 use problem::Problem;
@@ -88,23 +89,20 @@ fn check_log<R: Threads + Sync, D: Desk>(
     check_text(rt, alloc, desk, path, &mut checker)
 }
 
-/// Reads the certificate at a path, and has it checked over the clauses of a problem.
-fn check_over<R: Threads + Sync, D: Desk>(
+/// Reads the certificate at a path, and has it checked as a refutation of the rules of a problem.
+fn check_refutation<R: Threads + Sync, D: Desk>(
     rt: &R,
     alloc: Global,
     desk: &mut D,
     path: &str,
     _problem: &Problem,
-    encoded: &Encoded,
-    numbers: Option<&[u64]>,
+    rules: &Rules,
 ) -> Result<(), ReadStop>
-    requires encoded { IsEncoded _problem.now encoded.now }
-    requires built { encoded.now ≡ encoding_of _problem.now }
+    requires ruled { AreRules _problem.now rules.now }
+    requires decodes { RulesDecode _problem.now }
     ensures read { IfSome (D.files desk.old) (λ files. Gives result (Is (certified_at files path.now
-        _problem.now (option_map (λ n. n.now) numbers.entry)))) }
-    ensures shown { OnOk result (IfSome (D.files desk.old)
-        (λ files. ShowsOf _problem.now
-        (option_map (λ n. n.now) numbers.entry))) }
+        _problem.now None))) }
+    ensures shown { OnOk result (IfSome (D.files desk.old) (λ files. ShowsOf _problem.now None)) }
     ensures path { FailsThere path.now result }
     ensures no_usage { EndsInUsage result → ⊥ }
     ensures same { D.files desk.new ≡ D.files desk.old }
@@ -114,12 +112,37 @@ fn check_over<R: Threads + Sync, D: Desk>(
 {
     text_laws();
     verdict_laws();
-    let (clauses, bits) = (&encoded.clauses, encoded.bits.lits());
-    let Some(numbers) = numbers else {
-        return check_log(rt, alloc, desk, path, clauses, bits, None);
-    };
+    check_log(rt, alloc, desk, path, &rules.clauses, &[], None)
+}
+
+/// Reads the certificate at a path, and has it checked as one of the costs of a graph, over the encoding of a problem.
+fn check_costs<R: Threads + Sync, D: Desk>(
+    rt: &R,
+    alloc: Global,
+    desk: &mut D,
+    path: &str,
+    _problem: &Problem,
+    encoded: &Encoded,
+    numbers: &[u64],
+) -> Result<(), ReadStop>
+    requires encoded { IsEncoded _problem.now encoded.now }
+    requires built { encoded.now ≡ encoding_of _problem.now }
+    ensures read { IfSome (D.files desk.old) (λ files. Gives result (Is (certified_at files path.now
+        _problem.now (Some numbers.now)))) }
+    ensures shown { OnOk result (IfSome (D.files desk.old)
+        (λ files. ShowsOf _problem.now (Some numbers.now))) }
+    ensures path { FailsThere path.now result }
+    ensures no_usage { EndsInUsage result → ⊥ }
+    ensures same { D.files desk.new ≡ D.files desk.old }
+    ensures cause { Counts (D.faults desk.old) (D.faults desk.new) (EndsInReadFault result) }
+    ensures steady { EndsByInput result → D.faults desk.new ≡ D.faults desk.old }
+    ensures put_faults { D.put_faults desk.new ≡ D.put_faults desk.old }
+{
+    text_laws();
+    verdict_laws();
     match values_of(alloc, encoded, numbers)? {
         Some(values) => {
+            let (clauses, bits) = (&encoded.clauses, encoded.bits.lits());
             check_log(
                 rt,
                 alloc,
@@ -132,19 +155,6 @@ fn check_over<R: Threads + Sync, D: Desk>(
         }
         None => Err(ReadStop::Refused(Refusal::BadCertificate(1, LineFault::WrongBit))),
     }
-}
-
-/// The encoding of a problem. One that may not be encoded is want of memory.
-fn encoded_of(alloc: Global, problem: &Problem, closure: &Closure) -> Result<Encoded, AllocError>
-    requires closure { closure.now ≡ closure_of problem.now }
-    requires values { has_right_values problem.now ≡ true }
-    ensures encoded { IfOk result (IsEncoded problem.now) }
-    ensures built { IfOk result (λ encoded. encoded ≡ encoding_of problem.now) }
-{
-    if !may_encode(problem, closure) {
-        return Err(AllocError);
-    }
-    encode(alloc, problem, closure)
 }
 
 /// Reads the certificate at a path: whether it shows that a valid graph of the problem with these costs is optimal, or,
@@ -166,7 +176,9 @@ pub fn read_certificate<R: Threads + Sync, D: Desk>(
     numbers: Option<&[u64]>,
 ) -> Result<(), ReadStop>
     requires closure { closure.now ≡ closure_of problem.now }
+    requires few { length (closure_of problem.now) ≤ 1024 }
     requires values { has_right_values problem.now ≡ true }
+    requires limits { is_within_limits problem.now ≡ true }
     ensures read { IfSome (D.files desk.old) (λ files. Gives result (Is (certified_at files path.now
         problem.now (option_map (λ n. n.now) numbers.entry)))) }
     ensures shown { OnOk result (IfSome (D.files desk.old)
@@ -179,8 +191,18 @@ pub fn read_certificate<R: Threads + Sync, D: Desk>(
     ensures steady { EndsByInput result → D.faults desk.new ≡ D.faults desk.old }
     ensures put_faults { D.put_faults desk.new ≡ D.put_faults desk.old }
 {
-    let encoded = encoded_of(alloc, problem, closure)?;
-    let checked = check_over(rt, alloc, desk, path, problem, &encoded, numbers);
-    drop(encoded);
-    checked
+    match numbers {
+        Some(numbers) => {
+            let encoded = encode(alloc, problem, closure)?;
+            let checked = check_costs(rt, alloc, desk, path, problem, &encoded, numbers);
+            drop(encoded);
+            checked
+        }
+        None => {
+            let rules = encode_rules(alloc, problem, closure)?;
+            let checked = check_refutation(rt, alloc, desk, path, problem, &rules);
+            drop(rules);
+            checked
+        }
+    }
 }

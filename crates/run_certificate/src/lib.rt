@@ -13,6 +13,4 @@ mod verdict;
 
 pub use certificate::read_certificate;
 // What crates above answer with.
-pub use graph_reasons::{
-    Answer, Explanation, Progress, Stage, Untold, best_graph, explain, may_encode,
-};
+pub use graph_reasons::{Answer, Explanation, Progress, Stage, Untold, best_graph, explain};

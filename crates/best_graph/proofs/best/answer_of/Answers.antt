@@ -2,7 +2,7 @@ use Rattle.std.proofs.Common.{sym, ap, subst, ◌∙◌}
 use Rattle.optimum_search.specs.Finding.{IsFound}
 use Rattle.optimum_search.specs.declared.found.Found.TheVariants.{Optimal, Refuted, Spent}
 use Rattle.graph_decoding.specs.Decoding.{assignment_of, decode, IsStructured}
-use Rattle.best_graph.proofs.Found.{best-answer, nothing-answer, spent-answer}
+use Rattle.best_graph.proofs.Found.{best-answer, spent-answer, unrefuted}
 use Rattle.best_graph.proofs.best.answer_of.Goals as goal
 
 pub decode-requires : goal.decode-requires
@@ -24,20 +24,19 @@ returns-then-is_writable c =
     (c.found_laws.ensures e.clauses e.bits.lits c.args._budget (Optimal c.in-Optimal.model c.in-Optimal.log) c.requires.in_order found)
     (c.in_ok-graph-in-Optimal.ensures ∙ ap (λ values. decode (assignment_of values) e.table) c.as_slice.ensures)
 
-pub returns-then-is_writable-2 : goal.returns-then-is_writable-2
-returns-then-is_writable-2 c =
+pub unreachable-requires : goal.unreachable-requires
+unreachable-requires c =
     let e = c.args.encoded.now in
     let found : IsFound e.clauses e.bits.lits c.args._budget (Refuted c.in-Refuted.log) =
     subst (IsFound e.clauses e.bits.lits c.args._budget) c.in-Refuted.is c.requires.found in
-    nothing-answer c.args._problem.now e c.requires.encoded c.requires.built c.args._budget c.in-Refuted.log
-    (c.is_writable-in-Refuted.ensures c.if-is_writable-2.true) found
+    unrefuted c.args._problem.now e c.requires.encoded c.requires.built c.args._budget c.in-Refuted.log c.requires.decodes c.requires.model
     (c.found_laws.ensures e.clauses e.bits.lits c.args._budget (Refuted c.in-Refuted.log) c.requires.in_order found)
 
-pub returns-then-is_writable-3 : goal.returns-then-is_writable-3
-returns-then-is_writable-3 c =
+pub returns-then-is_writable-2 : goal.returns-then-is_writable-2
+returns-then-is_writable-2 c =
     let e = c.args.encoded.now in
     let found : IsFound e.clauses e.bits.lits c.args._budget (Spent c.in-Spent.log) =
     subst (IsFound e.clauses e.bits.lits c.args._budget) c.in-Spent.is c.requires.found in
     spent-answer c.args._problem.now e c.requires.encoded c.requires.built c.args._budget c.in-Spent.log
-    (c.is_writable-in-Spent.ensures c.if-is_writable-3.true) (c.is_finite.ensures) found
+    (c.is_writable-in-Spent.ensures c.if-is_writable-2.true) (c.is_finite.ensures) found
     (c.found_laws.ensures e.clauses e.bits.lits c.args._budget (Spent c.in-Spent.log) c.requires.in_order found)

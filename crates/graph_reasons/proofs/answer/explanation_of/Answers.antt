@@ -6,30 +6,30 @@ use Rattle.graph_reasons.proofs.answer.explanation_of.Goals as goal
 
 pub returns-in-Optimal : goal.returns-in-Optimal
 returns-in-Optimal c =
-    let e = c.args.encoded.now in
-    satisfiable c.args._problem.now e c.requires.encoded c.requires.built c.args._budget c.in-Optimal.model c.in-Optimal.log
-    (subst (IsFound e.clauses [] c.args._budget) c.in-Optimal.is c.requires.found)
+    let s = c.args.rules.now.clauses in
+    satisfiable c.args._problem.now c.args.rules.now c.requires.ruled c.requires.decodes c.args._budget c.in-Optimal.model c.in-Optimal.log
+    (subst (IsFound s [] c.args._budget) c.in-Optimal.is c.requires.found)
 
 pub returns-in-Refuted : goal.returns-in-Refuted
 returns-in-Refuted c =
-    let e = c.args.encoded.now in
-    let found : IsFound e.clauses [] c.args._budget (Refuted c.in-Refuted.log) =
-    subst (IsFound e.clauses [] c.args._budget) c.in-Refuted.is c.requires.found in
-    unmet c.args._problem.now e c.requires.encoded c.requires.built c.args._budget c.reason_laws.ensures.no_model c.in-Refuted.log
+    let s = c.args.rules.now.clauses in
+    let found : IsFound s [] c.args._budget (Refuted c.in-Refuted.log) =
+    subst (IsFound s [] c.args._budget) c.in-Refuted.is c.requires.found in
+    unmet c.args._problem.now c.args.rules.now c.requires.ruled c.requires.decodes c.args._budget c.reason_laws.ensures.no_model c.in-Refuted.log
     c.in_ok-demands-in-Refuted.demands c.requires.in_order found
-    (c.found_laws.ensures e.clauses [] c.args._budget (Refuted c.in-Refuted.log) c.requires.in_order found) c.in_ok-demands-in-Refuted.ensures
+    (c.found_laws.ensures s [] c.args._budget (Refuted c.in-Refuted.log) c.requires.in_order found) c.in_ok-demands-in-Refuted.ensures
 
 pub reasons-requires : goal.reasons-requires
 reasons-requires c =
-    let e = c.args.encoded.now in
-    let found : IsFound e.clauses [] c.args._budget (Refuted c.in-Refuted.log) =
-    subst (IsFound e.clauses [] c.args._budget) c.in-Refuted.is c.requires.found in
+    let s = c.args.rules.now.clauses in
+    let found : IsFound s [] c.args._budget (Refuted c.in-Refuted.log) =
+    subst (IsFound s [] c.args._budget) c.in-Refuted.is c.requires.found in
     ([], found.0)
 
 pub returns : goal.returns
 returns c =
-    let e = c.args.encoded.now in
-    let found : IsFound e.clauses [] c.args._budget (Spent c.in-Spent.log) =
-    subst (IsFound e.clauses [] c.args._budget) c.in-Spent.is c.requires.found in
-    spent c.args._problem.now e c.requires.encoded c.requires.built c.args._budget c.in-Spent.log c.is_finite.ensures found
-    (c.found_laws.ensures e.clauses [] c.args._budget (Spent c.in-Spent.log) c.requires.in_order found)
+    let s = c.args.rules.now.clauses in
+    let found : IsFound s [] c.args._budget (Spent c.in-Spent.log) =
+    subst (IsFound s [] c.args._budget) c.in-Spent.is c.requires.found in
+    spent c.args._problem.now c.args.rules.now c.requires.ruled c.requires.decodes c.args._budget c.in-Spent.log c.is_finite.ensures found
+    (c.found_laws.ensures s [] c.args._budget (Spent c.in-Spent.log) c.requires.in_order found)
