@@ -3,6 +3,7 @@
 use crate::DeskFault;
 use crate::real_files::fault_of;
 use std::alloc::Global;
+use std::fs::Metadata;
 use std::io::{Error, ErrorKind};
 use std::os::unix::fs::MetadataExt;
 use std::rt::Files;
@@ -88,6 +89,18 @@ pub struct FileId {
     node: u64,
     /// The name of a file that is yet to be made.
     name: Option<String>,
+}
+
+impl FileId {
+    /// Whether this is the file that was found so. One that is yet to be made is none.
+    pub fn is_of(&self, found: &Metadata) -> bool {
+        self.stands() && self.device == found.dev() && self.node == found.ino()
+    }
+
+    /// Whether the file stood when it was looked for.
+    pub fn stands(&self) -> bool {
+        self.name.is_none()
+    }
 }
 
 /// Which file a put to the path replaces or makes. `Missing` where there is no such folder, and `Failed` also where what stands

@@ -1,7 +1,6 @@
 -- What puts leave of the files.
-use Rattle.std.proofs.Common.{◌≡◌, ◌⊎◌, inl, inr, sym, ap, subst, ◌∙◌, ℕ, true, false, List, Option, Result, Ok, Err, length}
+use Rattle.std.proofs.Common.{◌≡◌, ◌⊎◌, inl, inr, sym, ap, subst, ◌∙◌, ℕ, true, false, List, Option, Result, Ok, Err}
 use Rattle.std.specs.Result.{IsErrAnd}
-use Rattle.std.proofs.Math.Seq.{take-length}
 use Rattle.outside_desk.specs.Files.{Files, with_file, MayHold}
 use Rattle.graph_core.specs.Graphs.{Content}
 use Rattle.proof_log.specs.declared.line.Line.{Line}
@@ -14,16 +13,12 @@ use Rattle.run_task.specs.Words.{is_dash}
 use Rattle.run_task.specs.Problems.{Problem}
 use Rattle.run_task.specs.WriteStop.{WriteStop}
 use Rattle.run_task.specs.WriteStop.TheVariants.{Put, Output, NoMemory}
-use Rattle.run_output.specs.Answers.{HoldsFronts, MayCert, Puts, PutsAnswer, PutsCert, with_cert, with_cert_by}
+use Rattle.run_output.specs.Answers.{HoldsWhole, MayCert, Puts, PutsAnswer, PutsCert, with_cert, with_cert_by}
 
 -- a stop that was handed on
 pub carried : {A : Type 0} (stop : WriteStop) (result : Result A WriteStop) → IsErrAnd result (λ given. given ≡ stop) → result ≡ Err stop
 carried stop (Ok x) h = absurd h
 carried stop (Err given) h = ap Err h
-
--- a put that succeeded holds all of the bytes, which are a front of themselves
-pub held_whole : (before after : Option Files) (path bytes : List ℕ) → after ≡ with_file before path bytes → MayHold before after path bytes
-held_whole before after path bytes e = inr (length bytes, e ∙ ap (with_file before path) (sym (take-length bytes)))
 
 -- ---- the certificate
 
@@ -57,7 +52,7 @@ first_stopped lock cert problem answer NoMemory before after left = tt
 
 pub first_held : (lock cert : List ℕ) (problem : Problem) (answer : Answer) (before after : Option Files)
     → (after ≡ before) ⊎ MayCert cert (log_of answer) before after
-    → (after ≡ before) ⊎ HoldsFronts lock cert problem answer before after
+    → (after ≡ before) ⊎ HoldsWhole lock cert problem answer before after
 first_held lock cert problem answer before after (inl same) = inl same
 first_held lock cert problem answer before after (inr held) = inr (inl held)
 
@@ -80,7 +75,7 @@ second_put lock cert problem graph log text before between after (Err NoMemory) 
 pub second_held : (lock cert : List ℕ) (problem : Problem) (graph : Content) (log : List Line) (text : List ℕ)
     (before between after : Option Files) → between ≡ with_cert cert log before → text ≡ lock_of problem graph
     → MayHold between after lock text
-    → (after ≡ before) ⊎ HoldsFronts lock cert problem (answers.Best graph log) before after
+    → (after ≡ before) ⊎ HoldsWhole lock cert problem (answers.Best graph log) before after
 second_held lock cert problem graph log text before between after first is held =
     inr (inr (subst (λ (m : Option Files). MayHold m after lock (lock_of problem graph)) first
     (subst (λ (t : List ℕ). MayHold between after lock t) is held)))
