@@ -20,16 +20,21 @@ fn are_valued(variants: &[(Word, ValueSet)]) -> bool
         .all(|variant| matches!(variant.1.values(), [_, ..]))
 }
 
+fn is_below(one: &(Word, ValueSet), other: &(Word, ValueSet)) -> bool
+    ensures { result ≡ is_lt (byte_cmp one.now.0 other.now.0) }
+{
+    one.0.as_str().cmp(other.0.as_str()).is_lt()
+}
+
 fn are_in_order(variants: &[(Word, ValueSet)]) -> bool
     ensures { result ≡ rises byte_cmp (map (λ v. v.0) variants.now) }
 {
-    match variants {
-        [first, rest @ ..] => match rest {
-            [next, ..] => first.0.as_str().cmp(next.0.as_str()).is_lt() && are_in_order(rest),
-            [] => true,
-        },
-        [] => true,
+    for i in 1..variants.len() {
+        if !is_below(&variants[i - 1], &variants[i]) {
+            return false;
+        }
     }
+    true
 }
 
 fn has_written_values(entry: &PackageEntry) -> bool
