@@ -27,7 +27,7 @@ use Rattle.literal_table.specs.Tables.{Table, IsTable, block_of}
 use Rattle.literal_table.specs.Spells.{Spells}
 use Rattle.literal_table.specs.declared.block.Block.{Block}
 use Rattle.graph_words.specs.Facts.{Word, word_said, fact_said, said_in, has_origin}
-use Rattle.graph_words.specs.Lists.{written}
+use Rattle.graph_words.specs.Lists.{given, written}
 use Rattle.graph_words.specs.Words.{SpellsPaths, names_for, rule_said}
 use Rattle.graph_words.specs.Parts.{condition_rule, holds_rule}
 use Rattle.graph_words.proofs.Parts.{condition-said}
