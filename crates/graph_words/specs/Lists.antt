@@ -11,6 +11,15 @@ abbrev pub given : {W : Type 0} → Bool → Rule W
 given true = isnt nowhere
 given false = nowhere
 
+-- asked only where nothing else says it
+abbrev pub unless : {W : Type 0} → Bool → Rule W → Rule W
+unless true rule = isnt nowhere
+unless false rule = rule
+
+abbrev pub is_filled : {T : Type 0} → List T → Bool
+is_filled [] = false
+is_filled (x ∷ xs) = true
+
 -- what is not written asks nothing
 abbrev pub written : {W T : Type 0} → Option T → (T → Rule W) → Rule W
 written None rule = isnt nowhere

@@ -5,7 +5,7 @@ use Rattle.std.proofs.lemmas.Bool.{and_parts}
 use Rattle.clause_formulas.specs.Statements.{Statement, eval}
 use Rattle.clause_formulas.specs.Rules.{Rule, fact, nowhere, isnt, both_of, either_of, if_so, keeps_rule, in_words, any_rule}
 use Rattle.clause_formulas.proofs.RuleLaws.{rule-said}
-use Rattle.graph_words.specs.Lists.{given, written, named, each, some, last_one, just_one}
+use Rattle.graph_words.specs.Lists.{given, unless, written, named, each, some, last_one, just_one}
 
 abbrev pub AllWords : {W : Type 0} → (W → Type 0) → Rule W → Type 0
 AllWords P (fact w) = P w
@@ -35,6 +35,10 @@ module _ {W : Type 0} (P : W → Type 0) where
   pub given-all : (b : Bool) → AllWords P (given b)
   given-all true = tt
   given-all false = tt
+
+  pub unless-all : (b : Bool) (rule : Rule W) → AllWords P rule → AllWords P (unless b rule)
+  unless-all true rule h = tt
+  unless-all false rule h = h
 
   module _ {T : Type 0} (rule : T → Rule W) where
     -- ---- of all things
