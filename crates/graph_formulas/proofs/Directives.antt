@@ -25,39 +25,15 @@ use Rattle.graph_words.specs.Facts.{Word, has_edge, is_in}
 use Rattle.graph_words.specs.Lists.{◌and◌, some, just_one}
 use Rattle.graph_words.specs.Parts.{suits_rule, asked_rule, holds_rule}
 use Rattle.literal_table.proofs.Spelling.{named-so}
-use Rattle.graph_words.proofs.Rules.{or-false, some-kept, named-kept}
+use Rattle.graph_words.proofs.Rules.{some-kept, named-kept}
 use Rattle.graph_words.proofs.Kept.{by_node, asked-kept, holds-kept, suits-kept}
+use Rattle.graph_formulas.proofs.Few.{one-kept}
 use Rattle.graph_formulas.specs.Terms.{Term, is_true, known_rule, where_built}
 use Rattle.graph_formulas.specs.Directives.{root_rule, edge_to, edge_rule, suits_asked, constraint_rule, conflict_rule, choice_rule, requirement_rule}
 
 pub not-or : (a b : Bool) → (not a || b) ≡ implies a b
 not-or true b = refl
 not-or false b = refl
-
--- exactly one
-none-count : {T : Type 0} (test : T → Bool) (xs : List T) → (count_by test xs == 0) ≡ not (list_any test xs)
-none-count test xs = sum_by-zero (λ x. if test x then 1 else 0) xs ∙ each xs
-  where
-    each : (xs : List _) → list_all (λ x. (if test x then 1 else 0) == 0) xs ≡ not (list_any test xs)
-    each [] = refl
-    each (x ∷ xs) = elim (cases_Bool (test x)) [ inl t ↦ rw t refl | inr f ↦ rw f (each xs) ]
-
-plus-zero : (n : ℕ) → n ≡ 0 + n
-plus-zero n = omega arith
-
-one-more : (n : ℕ) → (1 + n == 1) ≡ (n == 0)
-one-more n = elim (cases_Bool (n == 0)) [
-  | inl t ↦ let e : n ≡ 0 = eqb-true n 0 t in rw t (eq-eqb (1 + n) 1 (omega (arith, e)))
-  | inr f ↦ rw f (ne_eqb (1 + n) 1 (λ h. let e : n ≡ 0 = omega (arith, h) in let t : (n == 0) ≡ true = eq-eqb n 0 e in cc))
-]
-
-module _ {W T : Type 0} (p : W → Bool) (rule : T → Rule W) (test : T → Bool) (same : (x : T) → keeps_rule p (rule x) ≡ test x) where
-  pub one-kept : (xs : List T) → keeps_rule p (just_one rule xs) ≡ (count_by test xs == 1)
-  one-kept [] = refl
-  one-kept (x ∷ xs) = rw (same x, some-kept p rule test same xs, one-kept xs, sum_by-cons (λ x. if test x then 1 else 0) x xs) (elim (cases_Bool (test x)) [
-    | inl t ↦ rw (t, one-more (count_by test xs), none-count test xs) (or-false (not (list_any test xs)))
-    | inr f ↦ rw f (or-false (count_by test xs == 1) ∙ ap (λ n. n == 1) (plus-zero (count_by test xs)))
-  ])
 
 -- edges lead to nodes alone
 abbrev pub LeadsToNodes : Content → Type 0
