@@ -1,6 +1,6 @@
 -- Rules of lists, options and tests hold where these do.
 use Rattle.std.proofs.Common.{◌≡◌, refl, Bool, true, false, not, ◌||◌, ◌&&◌, List, [], ◌∷◌, map, Option, Some, None}
-use Rattle.std.specs.Prelude.{if◌then◌else◌, ◌==◌, count_by}
+use Rattle.std.specs.Prelude.{if◌then◌else◌}
 use Rattle.std.specs.List.{list_any, list_all}
 use Rattle.std.specs.Option.{is_some, option_or}
 use Rattle.clause_formulas.specs.Rules.{Rule, keeps_rule, isnt, any_rule}
