@@ -1,7 +1,10 @@
 pub mod DraftLaws
+pub mod GateLaws
+pub mod KeyLaws
 pub mod ValueLaws
 pub mod SpreadLaws
 pub mod AskLaws
+pub mod SaysLaws
 pub mod Laws
 pub mod SpreadSteps
 pub mod CallSteps

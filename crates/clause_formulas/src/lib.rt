@@ -11,14 +11,16 @@ mod asked;
 mod claims;
 mod defined;
 mod formula;
+mod gates;
 mod range;
 mod spread;
 mod theorems;
 mod values;
 
-pub use claims::{assert, demand, demand_all};
+pub use claims::{assert, assert_in, demand_all_in, demand_in};
 pub use defined::Defined;
 pub use formula::Formula;
+pub use gates::Gates;
 pub use range::{are_below, is_below};
 pub use theorems::{rule_laws, word_laws, worked_claims, worked_values};
-pub use values::{define, define_all, literal};
+pub use values::{define, define_all_in, define_in, literal};

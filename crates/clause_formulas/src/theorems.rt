@@ -7,7 +7,8 @@ ghost use Rattle.gate_plans.specs.Gates.{lit_of, labelled};
 ghost use Rattle.clause_formulas.specs.declared.defined.Defined.TheVariants.{Known, By};
 ghost use Rattle.clause_formulas.specs.Statements.{Statement, atom, never, eval, opposite, any_of, all_of, both, implies, one_of, all_eval, one_true, truths, SaidBelow};
 ghost use Rattle.clause_formulas.specs.Rules.{Rule, keeps_rule, in_words};
-ghost use Rattle.clause_formulas.specs.Built.{define_on, assert_on, demand_on};
+ghost use Rattle.clause_formulas.specs.Gated.{bare};
+ghost use Rattle.clause_formulas.specs.Built.{define_on, assert_on, demand_in};
 ghost use Rattle.clause_formulas.specs.Rows.{a, b, c, start, made, with_entries, structures};
 
 /// The words of formulas say what their names say.
@@ -33,7 +34,7 @@ pub fn rule_laws<W>()
 {}
 
 /// Two literals take one variable; one that is said twice beside a constant, and constants, none.
-#[tactic(auto, unfolding(crate::specs::Built::define_on, crate::specs::Built::named_on, crate::specs::Built::or_on, gate_plans::specs::Gates::kept_clauses))]
+#[tactic(auto, unfolding(crate::specs::Built::define_on, crate::specs::Built::define_in, crate::specs::Built::named_in, crate::specs::Built::or_in, crate::specs::Built::or_on, gate_plans::specs::Gates::kept_clauses))]
 pub fn worked_values()
     ensures two { define_on start (any_of (atom a ∷ atom b ∷ []))
         ≡ made ((negation a ∷ lit_of 3 ∷ []) ∷ (negation b ∷ lit_of 3 ∷ [])
@@ -46,7 +47,7 @@ pub fn worked_values()
 {}
 
 /// An implication is one clause, exactly one of three four, and a demand that of one literal.
-#[tactic(auto, unfolding(crate::specs::Built::define_on, crate::specs::Built::demand_on, crate::specs::Built::with_draft, crate::specs::Built::named_on, crate::specs::Built::or_on, gate_plans::specs::Gates::kept_clauses))]
+#[tactic(auto, unfolding(crate::specs::Built::define_in, crate::specs::Built::demand_in, crate::specs::Built::with_draft, crate::specs::Built::named_in, crate::specs::Built::or_in, crate::specs::Built::or_on, gate_plans::specs::Gates::kept_clauses))]
 pub fn worked_claims()
     ensures implication { assert_on Structure start true
         (implies (both (atom a) (atom b)) (any_of (atom c ∷ never ∷ [])))
@@ -54,6 +55,6 @@ pub fn worked_claims()
     ensures one_of_three { assert_on Structure start true (one_of (a ∷ b ∷ c ∷ []))
         ≡ with_entries (structures ((a ∷ b ∷ c ∷ []) ∷ (negation a ∷ negation b ∷ [])
         ∷ (negation a ∷ negation c ∷ []) ∷ (negation b ∷ negation c ∷ []) ∷ [])) 3 }
-    ensures single { demand_on start (atom a) 7
-        ≡ with_entries (labelled (Demand 7) (a ∷ []) ∷ []) 3 }
+    ensures single { demand_in (bare start) (atom a) 7
+        ≡ bare (with_entries (labelled (Demand 7) (a ∷ []) ∷ []) 3) }
 {}
