@@ -1,5 +1,5 @@
 -- Values of a list of clauses that grows.
-use Rattle.std.proofs.Common.{◌≡◌, ℕ, ◌≤◌, Bool, List, [], ◌∷◌, ◌++◌, Option, Some, None, refl, sym, ap, ◌∙◌, arith}
+use Rattle.std.proofs.Common.{◌≡◌, ℕ, ◌≤◌, Bool, List, [], ◌∷◌, ◌++◌, Option, Some, None, refl, sym, ap, subst, ◌∙◌, arith}
 use Rattle.clause_store.specs.declared.Lit.{Lit}
 use Rattle.clause_store.specs.Lits.{clause_true, AllBelow}
 use Rattle.clause_store.specs.Clauses.{Clauses}
@@ -95,3 +95,7 @@ or-new s t gs ls l e f g =
     ap (found_or s ls) (sym e)
     ∙ ap (λ (m : Grown Lit). let made : Shared Lit = record { state = gated m.list (s.gates ++ (ls, m.answer) ∷ []); answer = m.answer } in made) f
     ∙ ap (λ hs. let made : Shared Lit = record { state = gated t hs; answer = l } in made) (sym g)
+
+pub or_in-keeps : (s t : Gated) (ls : List Lit) (l : Lit) → AllBelow s.list.vars ls → GatesBelow s.list.vars s.gates
+    → or_in s ls ≡ record { state = t; answer = l } → Keeps s t
+or_in-keeps s t ls l b k e = let P : Shared Lit → Type 0 = λ m. Keeps s m.state in subst P e (or_in_is s ls b k).keeps

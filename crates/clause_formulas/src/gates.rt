@@ -1,5 +1,5 @@
 //! Gates that were made, by their literals.
-ghost use Rattle.std.specs.Prelude.{◌≡◌, ◌∷◌, ◌++◌, ◌^◌, [], None, IfOk, OnOk, OnErr};
+ghost use Rattle.std.specs.Prelude.{◌≡◌, ◌<◌, ◌∷◌, ◌++◌, ◌^◌, [], None, IfOk, OnOk, OnErr};
 ghost use Rattle.clause_store.specs.Lits.{AllBelow, var_of};
 ghost use Rattle.clause_store.specs.Kept.{code_of, lits_of_codes};
 ghost use Rattle.gate_plans.specs.Growth.{Extends};

@@ -11,13 +11,13 @@ pub ask-ask_any-requires : goal.ask-ask_any-requires
 ask-ask_any-requires t c =
     let e = sym c.formula.view_is ∙ ap said c.in-Any.is ∙ ap any_of (sym c.as_slice.ensures.value) in (
       omega (arith, ap weight e),
-      (subst (SaidBelow c.args.clauses.now.vars) e c.requires.formula_below, c.requires.gates_below, c.requires.draft_below),
+      (subst (SaidBelow c.args.clauses.now.vars) e c.requires.formula_below, (c.requires.gates_below, c.requires.draft_below)),
     )
 
 pub ask-ask_none-requires : goal.ask-ask_none-requires
 ask-ask_none-requires t c =
     let e = sym c.formula.view_is ∙ ap said c.in-NoneOf.is ∙ ap (λ fs. no (any_of fs)) (sym c.as_slice-in-NoneOf.ensures.value) in
-    (subst (SaidBelow c.args.clauses.now.vars) e c.requires.formula_below, c.requires.gates_below)
+    record { parts_below = subst (SaidBelow c.args.clauses.now.vars) e c.requires.formula_below; gates_below = c.requires.gates_below }
 
 pub ask_any-ask-requires : goal.ask_any-ask-requires
 ask_any-ask-requires t c =
@@ -26,8 +26,7 @@ ask_any-ask-requires t c =
       (
         SaidBelow-at c.args.clauses.now.vars c.loop-part.clauses.vars c.args.parts.now c.loop-part.part-index c.part-item.result
             c.loop-part.invariant.keeps.extends.grows.more h c.part-item.is c.requires.parts_below,
-        c.loop-part.invariant.keeps.below,
-        c.loop-part.invariant.below,
+        (c.loop-part.invariant.keeps.below, c.loop-part.invariant.below),
       ),
     )
 

@@ -3,7 +3,7 @@ use Rattle.clause_formulas.proofs.CallSteps.{none-below, assert-alone, assert_at
 use Rattle.clause_formulas.proofs.claims.assert.Goals as goal
 
 pub assert_in-requires : goal.assert_in-requires
-assert_in-requires c = (c.requires, none-below _ _ c.new-gates.ensures)
+assert_in-requires c = record { formula_below = c.requires; gates_below = none-below _ _ c.new-gates.ensures }
 
 pub returns-clause-built : goal.returns-clause-built
 returns-clause-built c = on_ok_weaker c.assert_in.result (assert-alone c.args.clauses.now _ c.new-gates.result _ c.args.label

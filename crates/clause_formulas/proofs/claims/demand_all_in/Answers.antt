@@ -7,11 +7,11 @@ use Rattle.clause_formulas.proofs.AllowLaws.{Allows-refl, Allows-then, demanded}
 use Rattle.clause_formulas.proofs.claims.demand_all_in.Goals as goal
 
 pub demand_in-requires : goal.demand_in-requires
-demand_in-requires c = (
-  SaidBelow-at c.args.clauses.now.vars c.loop-i.clauses.vars c.args.formulas.now c.loop-i.i c.index-formulas-i.result
-      c.loop-i.invariant.allows.grows.more (omega arith) c.index-formulas-i.is c.requires.formulas_below,
-  c.loop-i.invariant.allows.below,
-)
+demand_in-requires c = record {
+  formula_below = SaidBelow-at c.args.clauses.now.vars c.loop-i.clauses.vars c.args.formulas.now c.loop-i.i c.index-formulas-i.result
+      c.loop-i.invariant.allows.grows.more (omega arith) c.index-formulas-i.is c.requires.formulas_below;
+  gates_below = c.loop-i.invariant.allows.below;
+}
 
 pub returns-clause-says : goal.returns-clause-says
 returns-clause-says c =

@@ -12,7 +12,7 @@ pub spread-spread_any-requires : goal.spread-spread_any-requires
 spread-spread_any-requires t c =
     let e = sym c.formula.view_is ∙ ap said c.in-Any.is ∙ ap any_of (sym c.as_slice.ensures.value) in (
       omega (arith, ap weight e),
-      (subst (SaidBelow c.args.clauses.now.vars) e c.requires.formula_below, c.requires.gates_below, c.requires.draft_below),
+      (subst (SaidBelow c.args.clauses.now.vars) e c.requires.formula_below, (c.requires.gates_below, c.requires.draft_below)),
     )
 
 pub spread-spread_any-requires-in-NoneOf : goal.spread-spread_any-requires-in-NoneOf
@@ -21,20 +21,18 @@ spread-spread_any-requires-in-NoneOf t c =
       omega (arith, ap weight e),
       (
         subst (SaidBelow c.args.clauses.now.vars) e c.requires.formula_below,
-        c.requires.gates_below,
-        subst
-            (λ d. AllBelow c.args.clauses.now.vars d.lits) (sym c.new-inner.ensures) tt,
+        (c.requires.gates_below, subst (λ d. AllBelow c.args.clauses.now.vars d.lits) (sym c.new-inner.ensures) tt),
       ),
     )
 
 pub spread-named-requires : goal.spread-named-requires
 spread-named-requires t c =
-    let e = sym c.formula.view_is ∙ ap said c.in-NoneOf.is ∙ ap (λ fs. no (any_of fs)) (sym c.as_slice-in-NoneOf.ensures.value) in (
-      spread-below (gated c.args.clauses.now c.args.gates.now) _ c.new-inner.result _ (any_of c.as_slice-in-NoneOf.result.now)
+    let e = sym c.formula.view_is ∙ ap said c.in-NoneOf.is ∙ ap (λ fs. no (any_of fs)) (sym c.as_slice-in-NoneOf.ensures.value) in record {
+      draft_below = spread-below (gated c.args.clauses.now c.args.gates.now) _ c.new-inner.result _ (any_of c.as_slice-in-NoneOf.result.now)
           c.new-inner.ensures c.requires.gates_below (subst (SaidBelow c.args.clauses.now.vars) e c.requires.formula_below)
-          c.in_ok-spread_any-in-NoneOf.ensures.built,
-      c.spread_any-in-NoneOf.ensures.keeps.below,
-    )
+          c.in_ok-spread_any-in-NoneOf.ensures.built;
+      gates_below = c.spread_any-in-NoneOf.ensures.keeps.below;
+    }
 
 pub spread-returns-in_err-value-in-NoneOf-clause-keeps : goal.spread-returns-in_err-value-in-NoneOf-clause-keeps
 spread-returns-in_err-value-in-NoneOf-clause-keeps t c =
@@ -53,8 +51,7 @@ spread_any-spread-requires t c =
       (
         SaidBelow-at c.args.clauses.now.vars c.loop-part.clauses.vars c.args.parts.now c.loop-part.part-index c.part-item.result
             c.loop-part.invariant.keeps.extends.grows.more h c.part-item.is c.requires.parts_below,
-        c.loop-part.invariant.keeps.below,
-        c.loop-part.invariant.below,
+        (c.loop-part.invariant.keeps.below, c.loop-part.invariant.below),
       ),
     )
 

@@ -3,7 +3,7 @@ use Rattle.clause_formulas.proofs.CallSteps.{none-below, define-alone, define_at
 use Rattle.clause_formulas.proofs.values.define.Goals as goal
 
 pub define_in-requires : goal.define_in-requires
-define_in-requires c = (c.requires, none-below _ _ c.new-gates.ensures)
+define_in-requires c = record { formula_below = c.requires; gates_below = none-below _ _ c.new-gates.ensures }
 
 pub returns-clause-built : goal.returns-clause-built
 returns-clause-built c =

@@ -14,11 +14,11 @@ loop-formula-init c = record {
 }
 
 pub define_in-requires : goal.define_in-requires
-define_in-requires c = (
-  SaidBelow-at c.args.clauses.now.vars c.loop-formula.clauses.vars c.args.formulas.now c.loop-formula.formula-index
-      c.formula-item.result c.loop-formula.invariant.keeps.extends.grows.more (omega arith) c.formula-item.is c.requires.formulas_below,
-  c.loop-formula.invariant.keeps.below,
-)
+define_in-requires c = record {
+  formula_below = SaidBelow-at c.args.clauses.now.vars c.loop-formula.clauses.vars c.args.formulas.now c.loop-formula.formula-index
+      c.formula-item.result c.loop-formula.invariant.keeps.extends.grows.more (omega arith) c.formula-item.is c.requires.formulas_below;
+  gates_below = c.loop-formula.invariant.keeps.below;
+}
 
 pub returns-in_err-define_in-clause-keeps : goal.returns-in_err-define_in-clause-keeps
 returns-in_err-define_in-clause-keeps c = Keeps-trans _ _ _ c.loop-formula.invariant.keeps c.define_in.ensures.keeps

@@ -7,11 +7,11 @@ use Rattle.clause_formulas.proofs.CallSteps.{define-step, define_at}
 use Rattle.clause_formulas.proofs.values.define_in.Goals as goal
 
 pub named-requires : goal.named-requires
-named-requires c = (
-  spread-below (gated c.args.clauses.now c.args.gates.now) _ c.new-draft.result _ c.args.formula.now c.new-draft.ensures
-      c.requires.gates_below c.requires.formula_below c.in_ok-spread.ensures.built,
-  c.spread.ensures.keeps.below,
-)
+named-requires c = record {
+  draft_below = spread-below (gated c.args.clauses.now c.args.gates.now) _ c.new-draft.result _ c.args.formula.now c.new-draft.ensures
+      c.requires.gates_below c.requires.formula_below c.in_ok-spread.ensures.built;
+  gates_below = c.spread.ensures.keeps.below;
+}
 
 pub returns-clause-built : goal.returns-clause-built
 returns-clause-built c =
