@@ -7,7 +7,7 @@ use Rattle.clause_store.specs.Clauses.{Clauses, counts}
 use Rattle.gate_plans.specs.Growth.{Agree, where_asked}
 use Rattle.gate_plans.proofs.Composed.{Grows-trans, Agree-trans, MeetsSince-parts, MeetsSince-join, Meets-agree, since}
 use Rattle.clause_formulas.specs.Statements.{Statement, eval, any_of, SaidBelow}
-use Rattle.clause_formulas.specs.Gated.{Gate, Gated, gated, GatesBelow, Keeps}
+use Rattle.clause_formulas.specs.Gated.{Gated, gated, GatesBelow, Keeps}
 use Rattle.clause_formulas.specs.Built.{assert_in, demand_in, claimed, demands_true}
 use Rattle.clause_formulas.specs.Allowed.{AllowsIn}
 use Rattle.clause_formulas.proofs.DraftLaws.{eval-agree}

@@ -1,5 +1,5 @@
 -- The code of definitions and demands, step by step.
-use Rattle.std.proofs.Common.{◌≡◌, ℕ, ◌≤◌, Bool, true, false, List, [], ◌∷◌, ◌++◌, map, Option, Some, None, sym, ap, subst, refl, ◌∙◌}
+use Rattle.std.proofs.Common.{◌≡◌, ℕ, Bool, true, false, List, [], ◌∷◌, ◌++◌, map, Option, Some, None, sym, ap, subst, refl, ◌∙◌}
 use Rattle.clause_formulas.specs.declared.defined.Defined.TheVariants.{Known, By}
 use Rattle.std.proofs.lemmas.List.{append-nil}
 use Rattle.clause_store.specs.declared.Lit.{Lit}
@@ -50,9 +50,6 @@ define_at s t f x i b q = let P : Shared Defined → Type 0 = λ m. DefinesIn s 
     subst P q (define_in_is s f i b)
 
 -- over no gates
-pub none-below : (n : ℕ) (gs : List Gate) → gs ≡ [] → GatesBelow n gs
-none-below n gs e = subst (GatesBelow n) (sym e) tt
-
 pub define-alone : (s t : Clauses) (gs hs : List Gate) (f : Statement) (x : Defined) → gs ≡ []
     → define_in (gated s gs) f ≡ record { state = gated t hs; answer = x } → define_on s f ≡ record { list = t; answer = x }
 unfolding define_on

@@ -1,5 +1,5 @@
 -- Gates that were made.
-use Rattle.std.proofs.Common.{◌≡◌, ℕ, ◌<◌, ◌≤◌, Bool, true, false, cond, List, [], ◌∷◌, ◌++◌, Option, Some, None, refl, sym, ap, subst, ◌∙◌, arith}
+use Rattle.std.proofs.Common.{◌≡◌, ℕ, ◌<◌, ◌≤◌, Bool, true, false, cond, List, [], ◌∷◌, ◌++◌, Some, refl, sym, ap, subst, ◌∙◌, arith}
 use Rattle.std.specs.Cmp.Lexicographic.{pointwise, pointwise_decides}
 use Rattle.std.proofs.lemmas.Option.{same_Some, none-some}
 use Rattle.clause_store.specs.declared.Lit.{Lit}
@@ -7,7 +7,7 @@ use Rattle.clause_store.specs.Lits.{var_of, lit_eq, lit_true, clause_true, AllBe
 use Rattle.clause_store.specs.Clauses.{Clauses}
 use Rattle.clause_store.proofs.Range.{AllBelow-le}
 use Rattle.clause_store.proofs.Sets.{same_lit, lit_eq-refl}
-use Rattle.gate_plans.specs.Growth.{Agree, Grows, Extends, MeetsSince}
+use Rattle.gate_plans.specs.Growth.{Agree, Extends}
 use Rattle.gate_plans.proofs.Composed.{lit_true-agree, clause_true-agree, Extends-refl, Extends-trans, MeetsSince-parts}
 use Rattle.clause_formulas.specs.Gated.{Gate, Gated, gated, gate_of, Fits, GatesBelow, Keeps}
 
@@ -37,7 +37,7 @@ Fits-last v (g ∷ gs) ls l f e = (f.0, Fits-last v gs ls l f.1 e)
 
 -- ---- what is found
 
-lit-decides : (x y : Lit) → (lit_eq x y ≡ true → x ≡ y) × (x ≡ y → lit_eq x y ≡ true)
+pub lit-decides : (x y : Lit) → (lit_eq x y ≡ true → x ≡ y) × (x ≡ y → lit_eq x y ≡ true)
 lit-decides x y = (same_lit x y, λ e. subst (λ z. lit_eq x z ≡ true) e (lit_eq-refl x))
 
 pub found-below : (n : ℕ) (gs : List Gate) (ls : List Lit) (l : Lit) → GatesBelow n gs → gate_of gs ls ≡ Some l → var_of l < n

@@ -1,5 +1,5 @@
 -- Gates are found by their literals as numbers.
-use Rattle.std.proofs.Common.{◌≡◌, ℕ, ◌+◌, ◌*◌, ◌/◌, ◌%◌, Bool, true, false, cond, eqb, ◌&&◌, List, [], ◌∷◌, ◌++◌, map, Option, Some, None, Vec, refl, sym, ap, ◌∙◌, arith, if◌then◌else◌}
+use Rattle.std.proofs.Common.{◌≡◌, ℕ, ◌+◌, ◌*◌, ◌/◌, ◌%◌, Bool, true, false, cond, eqb, ◌&&◌, List, [], ◌∷◌, ◌++◌, Some, Vec, refl, sym, ap, ◌∙◌, arith, if◌then◌else◌}
 use Rattle.std.specs.declared.alloc.Global.{Global}
 use Rattle.std.specs.Map.{lookup}
 use Rattle.std.specs.Cmp.Lexicographic.{pointwise}
@@ -9,7 +9,7 @@ use Rattle.clause_store.specs.declared.Lit.{Lit}
 use Rattle.clause_store.specs.Lits.{var_of, lit_eq}
 use Rattle.clause_store.specs.Kept.{code_of, codes_of, lit_of_code, lits_of_codes}
 use Rattle.clause_store.proofs.Sets.{same_lit, lit_eq-refl}
-use Rattle.clause_formulas.specs.Gated.{Gate, gate_of}
+use Rattle.clause_formulas.specs.Gated.{gate_of}
 use Rattle.clause_formulas.specs.Kept.{gate_at, gates_of}
 
 -- a code gives its literal back

@@ -9,5 +9,6 @@ pub mod Laws
 pub mod SpreadSteps
 pub mod CallSteps
 pub mod AllowLaws
+pub mod AgainLaws
 pub mod Words
 pub mod RuleLaws

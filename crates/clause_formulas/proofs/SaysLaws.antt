@@ -5,7 +5,7 @@ use Rattle.clause_store.specs.Clauses.{Clauses}
 use Rattle.gate_plans.specs.Growth.{Agree, MeetsSince, Says}
 use Rattle.gate_plans.proofs.Composed.{Grows-trans, Extends-refl, Agree-trans, MeetsSince-parts, MeetsSince-join, Meets-agree, since}
 use Rattle.clause_formulas.specs.Gated.{Gated, gated, bare, Fits, GatesBelow, Keeps}
-use Rattle.clause_formulas.specs.Allowed.{AllowsIn, SaysIn}
+use Rattle.clause_formulas.specs.Allowed.{SaysIn}
 use Rattle.clause_formulas.proofs.GateLaws.{Fits-agree, GatesBelow-le}
 
 -- a rule that the gates have no part in

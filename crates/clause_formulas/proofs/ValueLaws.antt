@@ -12,8 +12,8 @@ use Rattle.gate_plans.proofs.OneGate.{any-gate}
 use Rattle.clause_formulas.specs.declared.defined.Defined.{Defined}
 use Rattle.clause_formulas.specs.declared.defined.Defined.TheVariants.{Known, By}
 use Rattle.clause_formulas.specs.Drafts.{DefinedBelow}
-use Rattle.clause_formulas.specs.Gated.{Gate, Gated, gated, gate_of, Fits, GatesBelow, Keeps}
-use Rattle.clause_formulas.specs.Values.{Means, DefinesValue, MeansIn, DefinesIn}
+use Rattle.clause_formulas.specs.Gated.{Gate, Gated, gated, gate_of, GatesBelow, Keeps}
+use Rattle.clause_formulas.specs.Values.{DefinesValue, MeansIn, DefinesIn}
 use Rattle.clause_formulas.specs.Built.{Grown, Shared, or_on, or_in, found_or}
 use Rattle.clause_formulas.proofs.GateLaws.{Keeps-refl, GatesBelow-le, GatesBelow-last, Fits-last, found-below, found-true}
 

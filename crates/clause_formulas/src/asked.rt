@@ -27,11 +27,12 @@ pub(crate) fn ask(
     requires formula_below { SaidBelow clauses.old.vars formula.now }
     requires gates_below { GatesBelow clauses.old.vars gates.old }
     requires draft_below { AllBelow clauses.old.vars draft.old.lits }
-    ensures built { OnOk result (ask_in (gated clauses.old gates.old) draft.old formula.now ≡ record {
-      state =
-          gated clauses.new gates.new;
-      answer = draft.new;
-    }) }
+    ensures built { OnOk result (ask_in (gated clauses.old gates.old) draft.old formula.now
+        ≡ record {
+          state =
+              gated clauses.new gates.new;
+          answer = draft.new;
+        }) }
     ensures keeps { Keeps (gated clauses.old gates.old) (gated clauses.new gates.new) }
 {
     match &formula.node {
@@ -53,11 +54,12 @@ pub(crate) fn ask_any(
     requires parts_below { SaidBelow clauses.old.vars (any_of parts.now) }
     requires gates_below { GatesBelow clauses.old.vars gates.old }
     requires draft_below { AllBelow clauses.old.vars draft.old.lits }
-    ensures built { OnOk result (ask_in (gated clauses.old gates.old) draft.old (any_of parts.now) ≡ record {
-      state =
-          gated clauses.new gates.new;
-      answer = draft.new;
-    }) }
+    ensures built { OnOk result (ask_in (gated clauses.old gates.old) draft.old
+        (any_of parts.now) ≡ record {
+          state =
+              gated clauses.new gates.new;
+          answer = draft.new;
+        }) }
     ensures keeps { Keeps (gated clauses.old gates.old) (gated clauses.new gates.new) }
 {
     for part in parts {
@@ -76,11 +78,12 @@ fn ask_none(
 ) -> Result<(), AllocError>
     requires parts_below { SaidBelow clauses.old.vars (any_of parts.now) }
     requires gates_below { GatesBelow clauses.old.vars gates.old }
-    ensures built { OnOk result (ask_in (gated clauses.old gates.old) draft.old (no (any_of parts.now)) ≡ record {
-      state =
-          gated clauses.new gates.new;
-      answer = draft.new;
-    }) }
+    ensures built { OnOk result (ask_in (gated clauses.old gates.old) draft.old
+        (no (any_of parts.now)) ≡ record {
+          state =
+              gated clauses.new gates.new;
+          answer = draft.new;
+        }) }
     ensures keeps { Keeps (gated clauses.old gates.old) (gated clauses.new gates.new) }
 {
     let mut inner = Draft::new(alloc);

@@ -18,8 +18,8 @@ use std::alloc::{AllocError, Global};
 
 /// Adds clauses with a label that hold exactly where the formula is true.
 ///
-/// An all-of is asserted part by part, and an any-of as one clause. Gates that were made serve again,
-/// and new ones are kept. After want of memory the list may have grown by some of the clauses.
+/// An all-of is asserted part by part, and an any-of as one clause. Gates that were made serve
+/// again, and new ones are kept. After want of memory the list may have grown by some of the clauses.
 pub fn assert_in(
     alloc: Global,
     clauses: &mut ClauseList,
@@ -29,7 +29,8 @@ pub fn assert_in(
 ) -> Result<(), AllocError>
     requires formula_below { SaidBelow clauses.old.vars formula.now }
     requires gates_below { GatesBelow clauses.old.vars gates.old }
-    ensures built { OnOk result (assert_in label (gated clauses.old gates.old) true formula.now ≡ gated clauses.new gates.new) }
+    ensures built { OnOk result (assert_in label (gated clauses.old gates.old) true formula.now
+        ≡ gated clauses.new gates.new) }
     ensures says { OnOk result (SaysIn (gated clauses.old gates.old) (gated clauses.new gates.new)
         (where_asked label (λ v. eval v formula.now))) }
     ensures allows { AllowsIn (gated clauses.old gates.old) (gated clauses.new gates.new)
@@ -68,7 +69,8 @@ pub fn demand_in(
 ) -> Result<(), AllocError>
     requires formula_below { SaidBelow clauses.old.vars formula.now }
     requires gates_below { GatesBelow clauses.old.vars gates.old }
-    ensures built { OnOk result (demand_in (gated clauses.old gates.old) formula.now id ≡ gated clauses.new gates.new) }
+    ensures built { OnOk result (demand_in (gated clauses.old gates.old) formula.now id
+        ≡ gated clauses.new gates.new) }
     ensures says { OnOk result (SaysIn (gated clauses.old gates.old) (gated clauses.new gates.new)
         (where_asked (DemandOf id) (λ v. eval v formula.now))) }
     ensures allows { AllowsIn (gated clauses.old gates.old) (gated clauses.new gates.new)
@@ -90,7 +92,8 @@ pub fn demand_all_in(
 ) -> Result<(), AllocError>
     requires formulas_below { SaidBelow clauses.old.vars (any_of formulas.now) }
     requires gates_below { GatesBelow clauses.old.vars gates.old }
-    ensures built { OnOk result (demand_all_in (gated clauses.old gates.old) 0 formulas.now ≡ gated clauses.new gates.new) }
+    ensures built { OnOk result (demand_all_in (gated clauses.old gates.old) 0 formulas.now
+        ≡ gated clauses.new gates.new) }
     ensures says { OnOk result (SaysIn (gated clauses.old gates.old) (gated clauses.new gates.new)
         (λ asked v. demands_true asked v 0 formulas.now)) }
     ensures allows { AllowsIn (gated clauses.old gates.old) (gated clauses.new gates.new)
@@ -114,7 +117,8 @@ fn claim(
 ) -> Result<(), AllocError>
     requires formula_below { SaidBelow clauses.old.vars formula.now }
     requires gates_below { GatesBelow clauses.old.vars gates.old }
-    ensures built { OnOk result (assert_in label (gated clauses.old gates.old) sign formula.now ≡ gated clauses.new gates.new) }
+    ensures built { OnOk result (assert_in label (gated clauses.old gates.old) sign formula.now
+        ≡ gated clauses.new gates.new) }
     ensures allows { AllowsIn (gated clauses.old gates.old) (gated clauses.new gates.new)
         (λ asked v. where_asked label (λ w. claimed sign (eval w formula.now)) asked v ≡ true) }
 {
@@ -141,7 +145,8 @@ fn claim_any(
 ) -> Result<(), AllocError>
     requires parts_below { SaidBelow clauses.old.vars (any_of parts.now) }
     requires gates_below { GatesBelow clauses.old.vars gates.old }
-    ensures built { OnOk result (assert_in label (gated clauses.old gates.old) sign (any_of parts.now) ≡ gated clauses.new gates.new) }
+    ensures built { OnOk result (assert_in label (gated clauses.old gates.old) sign
+        (any_of parts.now) ≡ gated clauses.new gates.new) }
     ensures allows { AllowsIn (gated clauses.old gates.old) (gated clauses.new gates.new)
         (λ asked v. where_asked label (λ w. claimed sign (eval w (any_of parts.now))) asked v
         ≡ true) }

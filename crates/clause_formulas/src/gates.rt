@@ -1,5 +1,5 @@
 //! Gates that were made, by their literals.
-ghost use Rattle.std.specs.Prelude.{◌≡◌, ◌<◌, ◌∷◌, ◌++◌, ◌^◌, [], None, IfOk, OnOk, OnErr};
+ghost use Rattle.std.specs.Prelude.{◌≡◌, ℕ, ◌<◌, ◌∷◌, ◌++◌, ◌^◌, [], None, IfOk, OnOk, OnErr};
 ghost use Rattle.clause_store.specs.Lits.{AllBelow, var_of};
 ghost use Rattle.clause_store.specs.Kept.{code_of, lits_of_codes};
 ghost use Rattle.gate_plans.specs.Growth.{Extends};
@@ -12,12 +12,11 @@ use indexmap::IndexMap;
 use std::alloc::{AllocError, Global};
 use std::marker::Model;
 
-/// The gates that calls made in a list of clauses, so that they make none twice: each is found by its
-/// literals, in constant time on average. Seen as the list of them, in the order in which they were
-/// made.
+/// The gates that were made in a list of clauses, so that none is made twice: each is found by its
+/// literals, in constant time on average. Seen as the list of them, each with its literals, in the
+/// order in which they were made.
 ///
-/// It is of use with that list alone, and while no other call adds clauses that fix a gate's variable
-/// otherwise: none does, since lists only grow. A gate takes 100 bytes, and eight for each literal.
+/// It goes with that list alone. A gate takes some 100 bytes, and eight for each literal.
 #[derive(Drop)]
 pub struct Gates {
     // The literals as numbers, and the literal that is true where some of them is.
@@ -37,7 +36,8 @@ impl Model for Gates {
 impl Gates {
     /// No gate yet.
     pub fn new(alloc: Global) -> Gates
-        ensures { result ≡ [] }
+        ensures value { result ≡ [] }
+        ensures below { (n : ℕ) → GatesBelow n result }
     {
         Gates {
             table: IndexMap::new(alloc),

@@ -22,5 +22,5 @@ pub use defined::Defined;
 pub use formula::Formula;
 pub use gates::Gates;
 pub use range::{are_below, is_below};
-pub use theorems::{rule_laws, word_laws, worked_claims, worked_values};
+pub use theorems::{gate_laws, rule_laws, word_laws, worked_claims, worked_gates, worked_values};
 pub use values::{define, define_all_in, define_in, literal};

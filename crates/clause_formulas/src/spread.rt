@@ -23,11 +23,12 @@ pub(crate) fn spread(
     requires formula_below { SaidBelow clauses.old.vars formula.now }
     requires gates_below { GatesBelow clauses.old.vars gates.old }
     requires draft_below { AllBelow clauses.old.vars draft.old.lits }
-    ensures built { OnOk result (spread_in (gated clauses.old gates.old) draft.old formula.now ≡ record {
-      state =
-          gated clauses.new gates.new;
-      answer = draft.new;
-    }) }
+    ensures built { OnOk result (spread_in (gated clauses.old gates.old) draft.old formula.now
+        ≡ record {
+          state =
+              gated clauses.new gates.new;
+          answer = draft.new;
+        }) }
     ensures keeps { Keeps (gated clauses.old gates.old) (gated clauses.new gates.new) }
 {
     match &formula.node {
@@ -54,11 +55,12 @@ pub(crate) fn spread_any(
     requires parts_below { SaidBelow clauses.old.vars (any_of parts.now) }
     requires gates_below { GatesBelow clauses.old.vars gates.old }
     requires draft_below { AllBelow clauses.old.vars draft.old.lits }
-    ensures built { OnOk result (spread_in (gated clauses.old gates.old) draft.old (any_of parts.now) ≡ record {
-      state =
-          gated clauses.new gates.new;
-      answer = draft.new;
-    }) }
+    ensures built { OnOk result (spread_in (gated clauses.old gates.old) draft.old
+        (any_of parts.now) ≡ record {
+          state =
+              gated clauses.new gates.new;
+          answer = draft.new;
+        }) }
     ensures keeps { Keeps (gated clauses.old gates.old) (gated clauses.new gates.new) }
 {
     for part in parts {
@@ -76,11 +78,12 @@ pub(crate) fn named(
 ) -> Result<Defined, AllocError>
     requires draft_below { AllBelow clauses.old.vars draft.now.lits }
     requires gates_below { GatesBelow clauses.old.vars gates.old }
-    ensures built { IfOk result (λ value. named_in (gated clauses.old gates.old) draft.now ≡ record {
-      state =
-          gated clauses.new gates.new;
-      answer = value;
-    }) }
+    ensures built { IfOk result (λ value. named_in (gated clauses.old gates.old) draft.now
+        ≡ record {
+          state =
+              gated clauses.new gates.new;
+          answer = value;
+        }) }
     ensures keeps { Keeps (gated clauses.old gates.old) (gated clauses.new gates.new) }
 {
     if draft.always() {
@@ -101,11 +104,12 @@ fn by_clause(
 ) -> Result<Defined, AllocError>
     requires lits_below { AllBelow clauses.old.vars lits.now }
     requires gates_below { GatesBelow clauses.old.vars gates.old }
-    ensures built { IfOk result (λ value. by_clause (gated clauses.old gates.old) (Some lits.now) ≡ record {
-      state =
-          gated clauses.new gates.new;
-      answer = value;
-    }) }
+    ensures built { IfOk result (λ value. by_clause (gated clauses.old gates.old)
+        (Some lits.now) ≡ record {
+          state =
+              gated clauses.new gates.new;
+          answer = value;
+        }) }
     ensures keeps { Keeps (gated clauses.old gates.old) (gated clauses.new gates.new) }
 {
     match lits {

@@ -24,11 +24,12 @@ pub fn define_in(
 ) -> Result<Defined, AllocError>
     requires formula_below { SaidBelow clauses.old.vars formula.now }
     requires gates_below { GatesBelow clauses.old.vars gates.old }
-    ensures built { IfOk result (λ value. define_in (gated clauses.old gates.old) formula.now ≡ record {
-      state =
-          gated clauses.new gates.new;
-      answer = value;
-    }) }
+    ensures built { IfOk result (λ value. define_in (gated clauses.old gates.old) formula.now
+        ≡ record {
+          state =
+              gated clauses.new gates.new;
+          answer = value;
+        }) }
     ensures value { IfOk result (λ value. DefinesIn (gated clauses.old gates.old)
         (gated clauses.new gates.new) value (λ v. eval v formula.now)) }
     ensures keeps { Keeps (gated clauses.old gates.old) (gated clauses.new gates.new) }
@@ -50,10 +51,10 @@ pub fn define_all_in(
     requires gates_below { GatesBelow clauses.old.vars gates.old }
     ensures built { IfOk result (λ values. define_all_in (gated clauses.old gates.old) formulas.now
         ≡ record {
-      state =
-          gated clauses.new gates.new;
-      answer = values.items;
-    }) }
+          state =
+              gated clauses.new gates.new;
+          answer = values.items;
+        }) }
     ensures values { IfOk result (λ values. DefinesValues (gated clauses.old gates.old)
         (gated clauses.new gates.new) values.items formulas.now) }
     ensures keeps { Keeps (gated clauses.old gates.old) (gated clauses.new gates.new) }

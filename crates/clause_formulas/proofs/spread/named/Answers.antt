@@ -37,8 +37,8 @@ returns-in-None-clause-keeps c = Keeps-refl _ c.requires.gates_below
 pub by_clause-requires : goal.by_clause-requires
 by_clause-requires c = record {
   lits_below = subst (AllBelow c.args.clauses.now.vars) (sym c.lits-in-Some.ensures.value)
-    (AllBelow-clause_of c.args.clauses.now.vars c.lits.result.now _
-    (subst (AllBelow c.args.clauses.now.vars) (sym c.lits.ensures) c.requires.draft_below) (sym c.in_ok-new.ensures ∙ c.in-Some.is));
+      (AllBelow-clause_of c.args.clauses.now.vars c.lits.result.now _
+      (subst (AllBelow c.args.clauses.now.vars) (sym c.lits.ensures) c.requires.draft_below) (sym c.in_ok-new.ensures ∙ c.in-Some.is));
   gates_below = c.requires.gates_below;
 }
 
