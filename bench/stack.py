@@ -3,8 +3,8 @@
 
     bench/stack.py PROGRAM [--kib 256] [--only WORD] [--at N ..]
 
-For each kind of list, 2,000 and 4,000 long, one line each for `concretize` and for what can be asked of its answer (`judge` and `check` of a lock
-file with its certificate, `refute` and `explain` where there is none): status, seconds of the processor, the greatest memory. A run
+For each kind of list, 2,000 and 4,000 long, one line each for `concretize` and `explain` and for what can be asked of the answer (`judge` and `check` of a
+lock file with its certificate, `refute` of a refutation): status, seconds of the processor, what is said first. A run
 that a signal ends is marked and ends the script with 1. A run is cut off after 15 s (`cut`), and has 4 GB of addresses: that counts for nothing here, since
 the search and the encoding are not what is tried.
 """
@@ -19,13 +19,11 @@ import signal
 import subprocess
 import sys
 import tempfile
-import time
 
 LONGEST = 15
 ADDRESSES = 4 << 30
 SIZES = (2000, 4000)
 MACHINE = {"compiler": {"name": "gcc", "version": "12.3.0"}, "external": None, "os": "ubuntu22.04", "target": "x86_64", "variants": {}}
-SPECS = {}
 
 
 def compact(data):
@@ -81,7 +79,8 @@ def kind(name, root="p"):
 
 
 P = 'version("1")'
-Q = {"q": ['version("1")']}
+# How many packages a spec may lead to.
+MOST_NAMES = 1000
 
 
 # ---- recipes
@@ -97,19 +96,22 @@ kind("values of a variant with one")(lambda n: one([P, 'variant("a", default="v0
 kind("values of a variant with several")(lambda n: one([P, 'variant("a", default="v0", values=(%s), multi=True)' % joined(n, '"v%d"')]))
 kind("values that are all the default")(
     lambda n: one([P, 'variant("a", default="%s", values=(%s), multi=True)' % (joined(n, "v%d", ","), joined(n, '"v%d"'))]))
-kind("dependencies")(lambda n: rows(n, 'depends_on("q%d")') | {"r/packages/q%d/package.py" % i: recipe([P]) for i in range(n)})
+kind("dependencies, 1,000 at most")(
+    lambda n: rows(min(n, MOST_NAMES), 'depends_on("q%d")') | {"r/packages/q%d/package.py" % i: recipe([P]) for i in range(n)})
 kind("dependencies on one package")(lambda n: with_node("q", [P] + ['depends_on("q@:%d", when="@1:")' % (i + 1) for i in range(n)], [P]))
 kind("dependencies on nothing")(lambda n: rows(n, 'depends_on("q%d")'))
 kind("dependencies with a condition")(
     lambda n: with_node("q", [P] + ['depends_on("q", when="@2.%d")' % i for i in range(n)], [P]))
 kind("a dependency with a spec of many variants")(
     lambda n: with_node("q", [P, 'depends_on("q%s")' % joined(n, "+a%d", "")], [P]))
-kind("a chain of dependencies", "p0")(
-    lambda n: {"r/packages/p%d/package.py" % i: recipe([P] + (['depends_on("p%d")' % (i + 1)] if i + 1 < n else [])) for i in range(n)})
+kind("a chain of dependencies, 1,000 at most", "p0")(
+    lambda n: {"r/packages/p%d/package.py" % i: recipe([P] + (['depends_on("p%d")' % (i + 1)] if i + 1 < MOST_NAMES else [])) for i in range(n)})
 kind("a chain of dependencies, upwards", "p9999")(
-    lambda n: {"r/packages/p%d/package.py" % (9999 - i): recipe([P] + (['depends_on("p%d")' % (9998 - i)] if i + 1 < n else [])) for i in range(n)})
+    lambda n: {"r/packages/p%d/package.py" % (9999 - i): recipe([P] + (['depends_on("p%d")' % (9998 - i)] if i + 1 < MOST_NAMES else [])) for i in range(n)})
 kind("a ring of dependencies", "p0")(
-    lambda n: {"r/packages/p%d/package.py" % i: recipe([P, 'depends_on("p%d", type="run")' % ((i + 1) % n)]) for i in range(n)})
+    lambda n: {"r/packages/p%d/package.py" % i: recipe([P, 'depends_on("p%d", type="run")' % ((i + 1) % MOST_NAMES)]) for i in range(MOST_NAMES)})
+kind("a chain that is too long", "p0")(
+    lambda n: {"r/packages/p%d/package.py" % i: recipe([P] + (['depends_on("p%d")' % (i + 1)] if i + 1 < n else [])) for i in range(n)})
 kind("conflicts")(lambda n: rows(n, 'conflicts("@2.%d")'))
 kind("conflicts with conditions")(lambda n: rows(n, 'conflicts("@2.%d", when="@3.%d")'))
 kind("conflicts below")(lambda n: with_node("q", [P, 'depends_on("q")'] + ['conflicts("^q@2.%d")' % i for i in range(n)], [P]))
@@ -122,9 +124,9 @@ kind("a requirement of one version")(lambda n: one([P, 'requires(%s, policy="one
 kind("a requirement of one that refuses")(lambda n: one([P, 'requires(%s, policy="one_of")' % joined(n, '"@1"')]))
 kind("provided names")(lambda n: rows(n, 'provides("v%d")'))
 kind("provided names in one line")(lambda n: one([P, "provides(%s)" % joined(n, '"v%d"')]))
-kind("provisions of one name", "v")(lambda n: rows(n, 'provides("v@%d")'))
+kind("provisions of one name")(lambda n: one([P, 'depends_on("v")']) | {"r/packages/q/package.py": recipe([P] + ['provides("v@%d")' % i for i in range(n)])})
 kind("providers of one name", "p")(
-    lambda n: one([P, 'depends_on("v")']) | {"r/packages/q%d/package.py" % i: recipe([P, 'provides("v")']) for i in range(n)})
+    lambda n: one([P, 'depends_on("v")']) | {"r/packages/q%d/package.py" % i: recipe([P, 'provides("v")']) for i in range(min(n, MOST_NAMES))})
 kind("packages")(lambda n: one([P]) | {"r/packages/q%d/package.py" % i: recipe([P]) for i in range(n)})
 kind("patches that are passed over")(lambda n: rows(n, 'patch("p%d.patch")'))
 kind("resources that are passed over")(lambda n: rows(n, 'resource(name="x%d")'))
@@ -138,7 +140,7 @@ kind("imports")(lambda n: one([P], "".join("import m%d\n" % i for i in range(n))
 kind("builders")(lambda n: one([P], "".join("class A%dBuilder(B):\n    pass\n" % i for i in range(n))))
 kind("blocks beside each other")(lambda n: one([P] + ['with when("@1"):\n        conflicts("@2.%d")' % i for i in range(n)]))
 kind("blocks inside each other")(
-    lambda n: one([P] + ["    " * 0 + " " * i + 'with when("@1"):' for i in range(min(n, 1300))] + [" " * min(n, 1300) + "pass"]))
+    lambda n: one([P] + [" " * i + 'with when("@1"):' for i in range(min(n, 1300))] + [" " * min(n, 1300) + "pass"]))
 kind("brackets inside each other")(lambda n: one([P, "x = " + "(" * n + "1" + ")" * n]))
 kind("brackets inside each other in a call")(lambda n: one([P, 'conflicts("@2", msg=%s"a"%s)' % ("(" * n, ")" * n)]))
 kind("tuples inside each other")(lambda n: one([P, 'variant("a", default="1", values=%s"1"%s)' % ("(" * n, ",)" * n)]))
@@ -198,6 +200,7 @@ def database(records):
 
 
 def chained(count):
+    count = min(count, MOST_NAMES)
     nodes = [node("q%d" % (count - 1), "1")]
     for i in range(count - 2, -1, -1):
         nodes.append(node("q%d" % i, "1", [nodes[-1]["hash"]]))
@@ -205,15 +208,17 @@ def chained(count):
 
 
 def starred(count):
-    leaves = [node("q%d" % i, "1") for i in range(count)]
+    leaves = [node("q%d" % i, "1") for i in range(min(count, MOST_NAMES))]
     return leaves + [node("p", "1", [leaf["hash"] for leaf in leaves])]
 
 
 def chain_recipes(count):
+    count = min(count, MOST_NAMES)
     return {"r/packages/q%d/package.py" % i: recipe([P] + (['depends_on("q%d")' % (i + 1)] if i + 1 < count else [])) for i in range(count)}
 
 
 def star_recipes(count):
+    count = min(count, MOST_NAMES)
     return rows(count, 'depends_on("q%d")') | {"r/packages/q%d/package.py" % i: recipe([P]) for i in range(count)}
 
 
@@ -240,18 +245,21 @@ kind("lock: roots")(lambda n: S | {"l": locked([node("p", "1")], node("p", "1"),
 kind("lock: providers")(lambda n: S | {"l": locked([node("p", "1")], node("p", "1"), [("v%d" % i, "p") for i in range(n)])})
 kind("lock: JSON inside each other")(lambda n: S | {"l": '{"a":' * n})
 
-# ---- certificates that are written by hand: of p alone, which is right (`check`), and of a p that is not to be (`refute`)
+# ---- certificates that are written by hand: what comes behind the right first line, of V variables and C clauses
 
 CERTIFICATES = [
-    ("certificate: many lines", lambda n: "".join("l %d %d 0 1 0\n" % (i + 2, i + 1) for i in range(n))),
-    ("certificate: a long clause", lambda n: "l 2 %s 0 1 0\n" % joined(n, "%d", " ")),
-    ("certificate: a long chain", lambda n: "l 2 1 0 %s 0\n" % joined(n, "1", " ")),
-    ("certificate: a long number", lambda n: "l %s 0 1 0\n" % ("9" * n)),
-    ("certificate: a long line", lambda n: "p 1 " + "x" * n * 10),
-    ("certificate: many bits", lambda n: "".join("z %d %d\n" % (i + 2, i) for i in range(n))),
+    ("certificate: many learnt clauses", lambda n, v, c: "".join("l %d 1 %d 0 1 0\n" % (c + i + 1, i + 2) for i in range(n))),
+    ("certificate: a long clause", lambda n, v, c: "l %d %s 0 1 0\n" % (c + 1, " ".join(str(i + 1) for i in range(n)))),
+    ("certificate: a clause of one variable", lambda n, v, c: "l %d %s 0 1 0\n" % (c + 1, " ".join(["1", "-1"] * n))),
+    ("certificate: a long chain", lambda n, v, c: "l %d 1 0 %s 0\n" % (c + 1, joined(n, "1", " "))),
+    ("certificate: a long number", lambda n, v, c: "l %s 0 1 0\n" % ("9" * n)),
+    ("certificate: leading zeros", lambda n, v, c: "l %s1 0 1 0\n" % ("0" * n)),
+    ("certificate: a long line", lambda n, v, c: "x" * n * 10),
+    ("certificate: many bits", lambda n, v, c: "".join("z %d %d\n" % (c + i + 1, i) for i in range(n))),
+    ("certificate: empty lines", lambda n, v, c: "\n" * n),
 ]
 for name, text in CERTIFICATES:
-    kind(name)(lambda n, text=text: S | {"l": locked([node("p", "1")], node("p", "1")), "c": text(n)})
+    kind(name)(lambda n, text=text: S | {"l": locked([node("p", "1")], node("p", "1")), "c": lambda v, c: text(n, v, c)})
 
 
 def limits(kib):
@@ -297,12 +305,25 @@ def commands(files, spec, status):
     return []
 
 
+def shown(status):
+    return "cut" if status is None else signal.Signals(-status).name if status < 0 else str(status)
+
+
+def certificate(program, room, spec, text):
+    """The first line of the certificate that `concretize` writes, and what comes behind it."""
+    subprocess.run([program, "concretize", "r", "-", "-", "x", "y", spec], cwd=room, capture_output=True)
+    first = open(os.path.join(room, "y")).readline()
+    return first + text(int(first.split()[2]), int(first.split()[3]))
+
+
 def tried(program, kib, name, files, spec, count):
     """One line for each run; how many a signal ended."""
     room = tempfile.mkdtemp(prefix="stack-")
     ended = 0
     try:
         for path, text in files.items():
+            if callable(text):
+                text = certificate(program, room, spec, text)
             path = os.path.join(room, path)
             os.makedirs(os.path.dirname(path), exist_ok=True)
             with open(path, "w") as file:
@@ -313,8 +334,7 @@ def tried(program, kib, name, files, spec, count):
             status, said, seconds = run(program, kib, room, words)
             killed = status is not None and status < 0
             ended += killed
-            shown = "cut" if status is None else signal.Signals(-status).name if killed else str(status)
-            print("%-8s %-10s %6d %7.2f s  %s: %s" % (shown, verb, count, seconds, name, said), flush=True)
+            print("%-8s %-10s %6d %7.2f s  %s: %s" % (shown(status), verb, count, seconds, name, said), flush=True)
             if verb == "concretize" and status in (0, 1):
                 todo = commands(files, spec, status) + todo
     finally:
@@ -337,15 +357,12 @@ def main():
         for count in given.at or (SIZES + ((10000,) if name in ("variants", "lock: variants") else ())):
             ended += tried(program, given.kib, name, make(count), root(count) if callable(root) else root, count)
     if not given.only:
-        for packages in ("100", "1000"):
+        for packages, name in (("100", "100 packages"), ("1000", "1,000 packages"), ("0" * 100000 + "1", "a number of 100,001 digits")):
             room = tempfile.mkdtemp(prefix="stack-")
             status, said, seconds = run(program, given.kib, room, ["trial", packages, "7"])
             shutil.rmtree(room)
             ended += status is not None and status < 0
-            print("%-8s %-10s %6s %7.2f s  %s" % (status, "trial", packages, seconds, said), flush=True)
-            status, said, seconds = run(program, given.kib, "/tmp", ["trial", "9" * 100000, "7"])
-            ended += status is not None and status < 0
-            print("%-8s %-10s %6s %7.2f s  a number of 100,000 digits: %s" % (status, "trial", "", seconds, said), flush=True)
+            print("%-8s %-10s %6s %7.2f s  %s: %s" % (shown(status), "trial", "", seconds, name, said), flush=True)
     print("ended by a signal: %d; kinds of list: %d" % (ended, len(KINDS)))
     return min(ended, 1)
 
