@@ -1,16 +1,12 @@
 -- The rule of each demand holds where it is kept, and rules of all nodes by names.
-use Rattle.std.proofs.Common.{◌≡◌, refl, sym, ap, ◌∙◌, Bool, true, false, not, ◌||◌, ◌&&◌, ℕ, List, [], ◌∷◌, filter, Option, Some, None, inl, inr}
+use Rattle.std.proofs.Common.{◌≡◌, refl, sym, ap, ◌∙◌, Bool, true, false, ◌&&◌, ℕ, List, [], ◌∷◌, filter, Some, None, inl, inr}
 use Rattle.std.specs.Prelude.{◌==◌, slice_get}
 use Rattle.std.specs.List.{list_all}
 use Rattle.std.proofs.lemmas.Bool.{cases_Bool}
-use Rattle.spec_grammar.specs.declared.part.Spec.{Spec}
 use Rattle.clause_formulas.specs.Rules.{Rule, keeps_rule}
-use Rattle.variant_values.specs.Texts.{byte_cmp}
 use Rattle.graph_core.specs.Graphs.{Text}
-use Rattle.keyed_lists.specs.Keyed.{rises}
-use Rattle.condition_rules.specs.Words.{among, implies, if_written}
-use Rattle.graph_core.specs.Graphs.{Content, is_graph, node_of, provider_of}
-use Rattle.problem.specs.Nodes.{is_built}
+use Rattle.condition_rules.specs.Words.{among, implies}
+use Rattle.graph_core.specs.Graphs.{Content, node_of, provider_of}
 use Rattle.graph_core.specs.declared.node.Node.{Node}
 use Rattle.problem.specs.Problems.{Problem, world_of, depends_at, conflicts_at, requirements_at}
 use Rattle.graph_rules.specs.Directives.{keeps_root, keeps_edge, keeps_constraint, keeps_conflict, keeps_requirement}

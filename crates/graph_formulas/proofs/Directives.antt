@@ -1,5 +1,5 @@
 -- The rules of roots and directives hold where these are kept.
-use Rattle.std.proofs.Common.{◌≡◌, refl, sym, ap, ◌∙◌, Bool, true, false, not, ◌||◌, ◌&&◌, ℕ, ◌+◌, List, [], ◌∷◌, Option, Some, None, inl, inr, arith}
+use Rattle.std.proofs.Common.{◌≡◌, refl, sym, ap, ◌∙◌, Bool, true, false, not, ◌||◌, ℕ, ◌+◌, List, [], ◌∷◌, Option, Some, None, inl, inr, arith}
 use Rattle.std.specs.Prelude.{◌==◌, if◌then◌else◌, count_by}
 use Rattle.std.specs.List.{list_any, list_all}
 use Rattle.std.specs.Option.{option_and_then}
@@ -14,7 +14,6 @@ use Rattle.graph_core.specs.Graphs.{Content, node_of, provider_of, edge_of}
 use Rattle.problem.specs.Nodes.{covers, is_built}
 use Rattle.graph_core.specs.declared.node.Node.{Node}
 use Rattle.graph_core.specs.declared.node.Kinds.{Kinds}
-use Rattle.condition_rules.specs.Worlds.{World}
 use Rattle.condition_rules.specs.Holds.{asked_node, suits, holds, all_hold}
 use Rattle.conditions.specs.declared.recipe.DependRow.{DependRow}
 use Rattle.conditions.specs.declared.recipe.ConflictRow.{ConflictRow}
@@ -22,8 +21,8 @@ use Rattle.conditions.specs.declared.recipe.RequireRow.{RequireRow}
 use Rattle.problem.specs.Problems.{Problem, world_of}
 use Rattle.graph_rules.specs.Directives.{keeps_root, keeps_edge, keeps_constraint, keeps_conflict, keeps_requirement, has_choice}
 use Rattle.graph_words.specs.Facts.{Word, has_edge, is_in}
-use Rattle.graph_words.specs.Lists.{◌and◌, some, just_one}
-use Rattle.graph_words.specs.Parts.{suits_rule, asked_rule, holds_rule}
+use Rattle.graph_words.specs.Lists.{just_one}
+use Rattle.graph_words.specs.Parts.{suits_rule, holds_rule}
 use Rattle.literal_table.proofs.Spelling.{named-so}
 use Rattle.graph_words.proofs.Rules.{some-kept, named-kept}
 use Rattle.graph_words.proofs.Kept.{by_node, asked-kept, holds-kept, suits-kept}

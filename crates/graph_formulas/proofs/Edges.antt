@@ -20,7 +20,7 @@ use Rattle.conditions.specs.declared.recipe.DependRow.{DependRow}
 use Rattle.problem.specs.Problems.{Problem, world_of, depends_at}
 use Rattle.graph_rules.specs.Built.{asks, asking, asked_kinds}
 use Rattle.graph_rules.specs.Whole.{uses}
-use Rattle.graph_words.specs.Facts.{Word, has_edge, is_in, has_origin}
+use Rattle.graph_words.specs.Facts.{is_in, has_origin}
 use Rattle.graph_words.specs.Lists.{given, some}
 use Rattle.literal_table.proofs.Spelling.{named-so}
 use Rattle.graph_words.proofs.Rules.{given-kept, each-kept, some-kept, named-kept}

@@ -1,13 +1,12 @@
 -- What the formulas of rules say of the graph that literals spell.
-use Rattle.std.proofs.Common.{filter, ◌≡◌, refl, sym, ap, subst, ◌∙◌, Bool, true, false, not, ◌&&◌, ◌||◌, ℕ, List, [], ◌∷◌, map, Option, Some, None, inl, inr}
+use Rattle.std.proofs.Common.{filter, ◌≡◌, refl, sym, ap, subst, ◌∙◌, Bool, true, false, not, ◌||◌, ℕ, List, [], ◌∷◌, map, Option, Some, None, inl, inr}
 use Rattle.std.specs.Prelude.{if◌then◌else◌}
-use Rattle.std.specs.List.{list_all, list_any}
-use Rattle.std.specs.Option.{option_map, is_some}
-use Rattle.std.specs.Str.{bytes_eq}
+use Rattle.std.specs.List.{list_all}
+use Rattle.std.specs.Option.{is_some}
 use Rattle.std.proofs.lemmas.Bool.{cases_Bool}
 use Rattle.clause_store.specs.Lits.{lit_true}
 use Rattle.clause_formulas.specs.Statements.{Statement, eval}
-use Rattle.clause_formulas.specs.Rules.{Rule, keeps_rule, fact}
+use Rattle.clause_formulas.specs.Rules.{Rule, keeps_rule}
 use Rattle.clause_formulas.proofs.RuleLaws.{rule-said}
 use Rattle.spec_grammar.specs.declared.part.Spec.{Spec}
 use Rattle.graph_core.specs.Graphs.{Text, Content, node_of, provider_of, edge_of, edges_from, ends_of, HasNode}
@@ -39,9 +38,8 @@ use Rattle.literal_table.specs.Spells.{SpellsNode, SpellsAt, SpellsEdge, chosen_
 use Rattle.literal_table.specs.declared.block.Block.{Block}
 use Rattle.literal_table.specs.declared.block.EdgeLits.{EdgeLits}
 use Rattle.literal_table.proofs.Spelling.{named-so}
-use Rattle.graph_words.specs.Facts.{Word, word_said, is_in}
-use Rattle.graph_words.specs.Lists.{each}
-use Rattle.graph_words.specs.Words.{SpellsPaths, names_for}
+use Rattle.graph_words.specs.Facts.{word_said, is_in}
+use Rattle.graph_words.specs.Words.{names_for}
 use Rattle.graph_words.proofs.Said.{word-said}
 use Rattle.graph_words.proofs.Rules.{given-kept, each-kept, some-kept}
 use Rattle.graph_words.proofs.Kept.{by_node}
