@@ -85,6 +85,6 @@ run_on_terminal() {
   (echo ended >&"$held") 2>/dev/null || true
   [ "$opened" = 2 ] || tell_said "$status" "$@"
   [ "$status:${1:-}" != 1:concretize ] ||
-    tell "why: ./spack_concretize explain ${*:2:3} SPEC.., or in words site_tools/show_reasons ${*:2:3} SPEC.."
+    tell "why: spack_concretize explain ${*:2:3} SPEC.., or in words site_tools/show_reasons ${*:2:3} SPEC.."
   exit "$status"
 }

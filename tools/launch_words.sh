@@ -163,9 +163,9 @@ tell_wrong_words() {
   [ -n "$wrong" ] || return 0
   tell "spack_concretize: $wrong"
   if command_takes "${1:-}"; then
-    tell "  ./spack_concretize $1 ${takes[*]}$([ "${takes[-1]}" != SPEC ] || echo ..)    (more by \`./spack_concretize $1 --help\`)"
+    tell "  spack_concretize $1 ${takes[*]}$([ "${takes[-1]}" != SPEC ] || echo ..)    (more by \`spack_concretize $1 --help\`)"
   else
-    tell '  `./spack_concretize --help` has each with its words'
+    tell '  `spack_concretize --help` has each with its words'
   fi
 }
 

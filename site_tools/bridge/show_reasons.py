@@ -1,0 +1,108 @@
+"""`show_reasons`: why a request is unsatisfiable, in words.
+
+Asks the program's `explain`, and shows of each root and directive that it names the text, the file and line, the message,
+and the class of reason where one shows: no such version, variant, value, compiler, system, target or package, with what there
+is; a cycle. Where a root stands alone and all that it asks for is there, it asks the program again with less, and shows
+what cannot be together.
+"""
+import argparse
+import sys
+from pathlib import Path
+from typing import Callable, Optional
+
+from . import program, reasons, spec_parts
+from .catalog import Catalog
+from .fault_files import words_of
+from .fault_lines import read as read_fault
+from .fault_words import told
+from .reasons import Reason
+from .shown import shown
+
+MOST_RUNS = 24
+Asks = Callable[[str], int]  # the exit status of `explain` for a spec
+
+
+def less_of(text: str) -> list[str]:
+    """A spec with one constraint or one `^` less each."""
+    spec = spec_parts.parts(text)[0]
+    found = []
+    for place in range(len(spec)):
+        if place > 0 and not list(spec[place].constraints()):
+            found.append(spec_parts.text_of(spec[:place] + spec[place + 1 :]))
+        for kind, constraint in spec[place].constraints():
+            smaller = spec_parts.parts(text)[0]
+            part = smaller[place]
+            if kind == "variant":
+                del part.variants[constraint.strip().lstrip("+~").split("=")[0]]
+            else:
+                names = {"version": "versions", "target": "targets"}
+                setattr(part, names.get(kind, kind), {"compiler": None, "target": ()}.get(kind, ""))
+            found.append(spec_parts.text_of(smaller))
+    return found
+
+
+def together(text: str, asks: Asks) -> tuple[str, bool]:
+    """A part of a root spec that no graph meets, with nothing left that can go; and whether all was tried."""
+    runs = 0
+    again = True
+    while again:
+        again = False
+        for smaller in less_of(text):
+            runs += 1
+            if runs > MOST_RUNS:
+                return text, False
+            if asks(smaller) == 1:
+                text, again = smaller, True
+                break
+    return text, True
+
+
+def closing_lines(found: list[Reason], asks: Optional[Asks]) -> list[str]:
+    """What is said of all reasons together: a cycle, or what of a lone root cannot be together."""
+    if any(each.causes for each in found):
+        return []
+    round_trip = reasons.cycle(found)
+    if round_trip:
+        return [f"a cycle: {' needs '.join(round_trip)}; no graph has one"]
+    if len(found) == 1 and found[0].kind == "root" and asks:
+        text, whole = together(found[0].text, asks)
+        more = "" if whole else " (there may be less)"
+        return [f"each part is there; what no graph meets together is: {shown(text)}{more}"]
+    return []
+
+
+def lines_of(found: list[Reason], asks: Optional[Asks]) -> list[str]:
+    """All reasons for a person."""
+    head = "unsatisfiable: no graph is valid for " + ("this" if len(found) == 1 else f"these {len(found)} together")
+    return [head, *(line for each in found for line in each.lines()), *(f"  {line}" for line in closing_lines(found, asks))]
+
+
+def arguments(words: Optional[list[str]]) -> argparse.Namespace:
+    """The words of the command line."""
+    parser = argparse.ArgumentParser(prog="show_reasons", description=__doc__)
+    parser.add_argument("--said", type=Path, metavar="FILE", help="what `explain` said before, in place of asking it")
+    parser.add_argument("repo", metavar="REPO")
+    parser.add_argument("settings", metavar="SETTINGS")
+    parser.add_argument("database", metavar="DATABASE")
+    parser.add_argument("spec", metavar="SPEC", nargs="+")
+    return parser.parse_args(words)
+
+
+def main(words: Optional[list[str]] = None) -> int:
+    """Shows the reasons, and ends with the status of `explain`: 0 satisfiable, 1 unsatisfiable, else its refusal's."""
+    given = arguments(words)
+    inputs = [given.repo, given.settings, given.database]
+    if given.said:
+        said = program.Said(1, given.said.read_text("utf-8"), "")
+        asks = None
+    else:
+        file = program.path()
+        said = program.run(["explain", *inputs, *given.spec], file)
+        asks = lambda text: program.run(["explain", *inputs, text], file).status  # noqa: E731
+    if said.status != 1:
+        fault = read_fault(said.err)
+        print(said.out or shown(said.err.removesuffix("\n")), end="" if said.out else "\n")
+        print("".join(f"{line}\n" for line in told(fault, words_of(["explain", *inputs, *given.spec])).lines()) if fault else "", end="")
+        return said.status
+    print("\n".join(lines_of(reasons.read(said.out, Catalog(*inputs)), asks)))
+    return 1
