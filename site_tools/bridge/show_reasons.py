@@ -10,7 +10,7 @@ import sys
 from pathlib import Path
 from typing import Callable, Optional
 
-from . import program, reasons, spec_parts
+from . import program, reach, reasons, spec_parts
 from .catalog import Catalog
 from .fault_files import words_of
 from .fault_lines import read as read_fault
@@ -57,7 +57,7 @@ def together(text: str, asks: Asks) -> tuple[str, bool]:
     return text, True
 
 
-def closing_lines(found: list[Reason], asks: Optional[Asks]) -> list[str]:
+def closing_lines(found: list[Reason], asks: Optional[Asks], catalog: Catalog) -> list[str]:
     """What is said of all reasons together: a cycle, or what of a lone root cannot be together."""
     if any(each.causes for each in found):
         return []
@@ -67,14 +67,15 @@ def closing_lines(found: list[Reason], asks: Optional[Asks]) -> list[str]:
     if len(found) == 1 and found[0].kind == "root" and asks:
         text, whole = together(found[0].text, asks)
         more = "" if whole else " (there may be less)"
-        return [f"each part is there; what no graph meets together is: {shown(text)}{more}"]
+        below = [f"    {line}" for spec in spec_parts.parts(text)[:1] for line in reach.lines(spec, catalog)]
+        return [f"each part is there; what no graph meets together is: {shown(text)}{more}", *below]
     return []
 
 
-def lines_of(found: list[Reason], asks: Optional[Asks]) -> list[str]:
+def lines_of(found: list[Reason], asks: Optional[Asks], catalog: Catalog) -> list[str]:
     """All reasons for a person."""
     head = "unsatisfiable: no graph is valid for " + ("this" if len(found) == 1 else f"these {len(found)} together")
-    return [head, *(line for each in found for line in each.lines()), *(f"  {line}" for line in closing_lines(found, asks))]
+    return [head, *(line for each in found for line in each.lines()), *(f"  {line}" for line in closing_lines(found, asks, catalog))]
 
 
 def arguments(words: Optional[list[str]]) -> argparse.Namespace:
@@ -104,5 +105,6 @@ def main(words: Optional[list[str]] = None) -> int:
         print(said.out or shown(said.err.removesuffix("\n")), end="" if said.out else "\n")
         print("".join(f"{line}\n" for line in told(fault, words_of(["explain", *inputs, *given.spec])).lines()) if fault else "", end="")
         return said.status
-    print("\n".join(lines_of(reasons.read(said.out, Catalog(*inputs)), asks)))
+    catalog = Catalog(*inputs)
+    print("\n".join(lines_of(reasons.read(said.out, catalog), asks, catalog)))
     return 1
