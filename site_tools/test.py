@@ -26,6 +26,7 @@ sys.dont_write_bytecode = True
 
 from bridge import export_spec, import_repo, import_settings, installed, lock_view, manual, spec_text  # noqa: E402
 from bridge.literals import Evaluator, NotLiteral  # noqa: E402
+from answer_checks import check_json, check_mistakes  # noqa: E402
 
 WRITE = "--write" in sys.argv[1:]
 Check = Iterator[tuple[str, str]]  # the name of what is wrong, and how
@@ -173,6 +174,10 @@ def check_views() -> Check:
         "mpi_reasons.txt": (*mpi_costs, "--settings", mpi / "settings.json"),
         "site_costs.txt": (*site_costs, "--settings", SITE / "settings.json"),
         "mpi_all.txt": (*mpi_costs, "--all"),
+        "mpi_why.txt": (*mpi_costs, "--why", "mpi", "--repo", mpi, "--settings", mpi / "settings.json"),
+        "site_why.txt": (*site_costs, "--why", "zlib-api", "--repo", SITE, "--settings", SITE / "settings.json"),
+        "no_why.txt": (lock_view.main, mpi / "hdf5.lock", "--why", "zli"),
+        "same_diff.txt": (lock_view.main, site, "--diff", site),
         "mpi_diff.txt": (lock_view.main, mpi / "hdf5.lock", "--diff", mpi / "broken.lock"),
         "site_diff.txt": (lock_view.main, mpi / "hdf5.lock", "--diff", site),
         "changed.txt": (lock_view.main, broken),
@@ -268,8 +273,9 @@ def main() -> int:
     """Runs all checks: 0 where nothing differs."""
     begun, wrong = time.monotonic(), 0
     # The program's lock file is one that the views show, so it comes first.
-    checks = (check_style, check_texts, check_literals, check_recipes, check_site, check_cases, check_program, check_views)
-    for check in (*checks, check_completion, check_manual):
+    checks = [check_style, check_texts, check_literals, check_recipes, check_site, check_cases, check_program, check_views]
+    checks += [check_completion, check_manual] + ([check_mistakes, check_json] if released() else [])
+    for check in checks:
         faults = list(check())
         wrong += len(faults)
         print(f"{check.__name__.removeprefix('check_')}: {'right' if not faults else f'{len(faults)} wrong'}")

@@ -1,9 +1,8 @@
 """What each choice of a node costs, by criterion: computed from lock file, recipes and settings as docs/RULES.md has it.
 
-A condition with `^` is not looked at, and then the costs of that variant are unknown. What is computed is shown as right
-only where the sums over all nodes are the program's numbers.
+Where the program's numbers are known, what is computed is shown only where the sums over all nodes are these.
 """
-from dataclasses import dataclass
+from dataclasses import dataclass, replace
 from typing import Any, Optional
 
 from . import node_texts, spec_parts, versions
@@ -11,16 +10,17 @@ from .catalog import Catalog, allowed, defaults, few
 from .cost_reasons import part as part_of
 from .cost_reasons import place
 from .lock import Lock, Node
+from .reason_causes import overlap
 from .recipe_rows import Directive
 from .spec_text import variant_text
 
 
 @dataclass(frozen=True)
 class Choice:
-    """A choice of a node: the number of its criterion in the vector, its cost, and in words; no cost where it is unknown."""
+    """A choice of a node: the number of its criterion in the vector, its cost, and in words."""
 
     number: int
-    cost: Optional[int]
+    cost: int
     text: str
 
 
@@ -41,21 +41,48 @@ def meets(part: spec_parts.Part, node: Node, catalog: Catalog) -> bool:
     )
 
 
-def holds(conditions: tuple[str, ...], node: Node, catalog: Catalog) -> Optional[bool]:
-    """Whether conditions hold at a node; None where one has `^`."""
-    specs = [spec for text in conditions for spec in spec_parts.parts(text)]
-    if not all(meets(spec[0], node, catalog) for spec in specs):
+def below(lock: Lock, node: Node) -> set[str]:
+    """The names of all nodes that edges lead to from a node."""
+    found: set[str] = set()
+    todo = [node]
+    while todo:
+        for child, _ in lock.children(todo.pop()):
+            if child["name"] not in found:
+                found.add(child["name"])
+                todo.append(child)
+    return found
+
+
+def provides(package: Node, virtual: str, wanted: str, lock: Lock, catalog: Catalog) -> bool:
+    """Whether a node provides a virtual for a set of versions."""
+    for giver, row in catalog.virtuals.get(virtual, []):
+        if giver == package["name"] and holds(row.conditions, package, lock, catalog):
+            lists = [spec[0].versions for text in row.values for spec in spec_parts.parts(str(text)) if spec[0].name == virtual]
+            if any(not each or not wanted or overlap(each, wanted) for each in lists):
+                return True
+    return False
+
+
+def suits(part: spec_parts.Part, node: Node, lock: Lock, catalog: Catalog) -> bool:
+    """Whether what a part behind `^` asks for is below a node."""
+    name = lock.providers.get(part.name, part.name)
+    asked = lock.by_name().get(name)
+    if asked is None or name not in below(lock, node):
         return False
-    return None if any(len(spec) > 1 for spec in specs) else True
+    if part.name not in lock.providers:
+        return meets(part, asked, catalog)
+    return provides(asked, part.name, part.versions, lock, catalog) and meets(replace(part, name="", versions=""), asked, catalog)
 
 
-def governing(rows: list[Directive], node: Node, catalog: Catalog) -> tuple[Optional[Directive], bool]:
-    """The last definition that holds at a node, and whether that is known."""
-    for row in reversed(rows):
-        answer = holds(row.conditions, node, catalog)
-        if answer is not False:
-            return row, answer is True
-    return None, True
+def holds(conditions: tuple[str, ...], node: Node, lock: Lock, catalog: Catalog) -> bool:
+    """Whether conditions hold at a node."""
+    specs = [spec for text in conditions for spec in spec_parts.parts(text)]
+    return all(meets(spec[0], node, catalog) and all(suits(part, node, lock, catalog) for part in spec[1:]) for spec in specs)
+
+
+def governing(rows: list[Directive], node: Node, lock: Lock, catalog: Catalog) -> Optional[Directive]:
+    """The last definition of a variant that holds at a node."""
+    return next((row for row in reversed(rows) if holds(row.conditions, node, lock, catalog)), None)
 
 
 def version_order(name: str, catalog: Catalog) -> list[str]:
@@ -85,18 +112,15 @@ def version_choices(node: Node, is_root: bool, catalog: Catalog) -> list[Choice]
     return found
 
 
-def variant_choices(node: Node, is_root: bool, catalog: Catalog) -> list[Choice]:
+def variant_choices(lock: Lock, node: Node, is_root: bool, catalog: Catalog) -> list[Choice]:
     """The values of variants: those that are no default, and defaults that are not used."""
     found: list[Choice] = []
     definitions = catalog.variants(node["name"])
     for name, values in sorted(node["variants"].items()):
-        row, known = governing(definitions.get(name, []), node, catalog)
+        row = governing(definitions.get(name, []), node, lock, catalog)
         if row is None:
             continue
         text = variant_text(name, tuple(values))
-        if not known:
-            found.append(Choice(3 if is_root else 6, None, f"{text}: its definition asks for `^`, and was not looked at"))
-            continue
         usual, own = defaults(row), set(values)
         there = f"(default {few(sorted(usual))}; there is {few(allowed(row) or ['any'])})"
         for number, count in ((3 if is_root else 6, len(own - usual)), (5 if is_root else 12, len(usual - own))):
@@ -129,23 +153,21 @@ def choices(lock: Lock, name: str, catalog: Catalog) -> list[Choice]:
     """All choices of a node, by their numbers in the vector; those that cost nothing too."""
     node = lock.by_name()[name]
     is_root = name in {lock.nodes[hash]["name"] for _, hash in lock.roots}
-    found = version_choices(node, is_root, catalog) + variant_choices(node, is_root, catalog) + machine_choices(lock, node, catalog)
+    found = version_choices(node, is_root, catalog) + variant_choices(lock, node, is_root, catalog) + machine_choices(lock, node, catalog)
     for virtual in lock.provided_by(name):
         order = [str(each) for each in catalog.settings["providers"].get(virtual, [])]
         found.append(Choice(4 if is_root else 7, place(name, order), f"provider of {virtual}" + (f", of {few(order)}" if order else "")))
-    found.append(Choice(16, 1, "is to be built")) if node["origin"] == "built" else None
+    if node["origin"] == "built":
+        found.append(Choice(16, 1, "is to be built"))
     shift = part_of(node)
     moved = [Choice(each.number + (shift if each.number != 16 else 0), each.cost, each.text) for each in found]
     return sorted(moved, key=lambda each: each.number)
 
 
-def sums(lock: Lock, catalog: Catalog) -> dict[int, Optional[int]]:
-    """What all nodes' choices add up to, by number; None where one is unknown."""
-    found: dict[int, Optional[int]] = {number: 0 for number in range(1, 32)}
+def sums(lock: Lock, catalog: Catalog) -> dict[int, int]:
+    """What all nodes' choices add up to, by number."""
+    found = {number: 0 for number in range(1, 32)}
     for name in lock.by_name():
         for each in choices(lock, name, catalog):
-            before = found[each.number]
-            found[each.number] = None if before is None or each.cost is None else before + each.cost
-            if each.cost is None:  # neither the values that are no default nor the defaults that are not used are known
-                found[{3: 5, 6: 12, 19: 21, 22: 28}[each.number]] = None
+            found[each.number] += each.cost
     return found

@@ -2,6 +2,7 @@
 
 Looks at the files as they stand now; where one was changed since, a place may lead elsewhere.
 """
+import re
 from dataclasses import dataclass, field
 from pathlib import Path
 from typing import Optional
@@ -73,10 +74,19 @@ STATEMENTS = {
 }
 
 
+# What a second value of a directive means in Spack.
+SECOND = {"variant": "default", "depends_on": "when", "conflicts": "when", "provides": "when", "requires": "when"}
+
+
 def unsupported(place: Place) -> str:
     """What stands at a place of a recipe that is not in the profile, in words."""
     rest = place.text[place.column - 1 :]
     word = rest.replace("(", " ").replace(":", " ").split(" ")[0]
+    directive = re.match(r"\s*(\w+)\(.*,\s*$", place.text[: place.column - 1])
+    if directive and directive[1] in SECOND:
+        value = re.match(r"[^,)]*", rest)
+        text = f"{SECOND[directive[1]]}={value.group().strip() if value else ''}"
+        return f"a value behind the first is written with its keyword: `{shown(text, 60)}`"
     return STATEMENTS.get(word, f"`{shown(rest.strip(), 60)}` is not in the profile: docs/formats/recipes.md")
 
 
@@ -101,15 +111,15 @@ def recipe(fault: Fault, words: Words) -> Told:
 
 
 def spec_sentences(path: str, place: Place, inner: list[str]) -> list[str]:
-    """What is wrong in the text of a spec inside a recipe."""
-    for row in read(Path(path).parent.parent.parent, Path(path).parent.name):
-        texts = [text for text in (*row.values, *row.keywords.values(), *row.conditions) if isinstance(text, str)]
-        if row.line <= place.line <= row.line + row.text.count("(") + 3:
-            for text in [each for each in texts if each and each in place.text[place.column - 1 :]]:
-                if inner[1:2] and inner[1].isdigit():
-                    found = spec_faults.words_of(text, int(inner[1]), inner)
-                    return [f"in `{shown(text)}`: {found}"] if found else []
-    return []
+    """What is wrong in the text of a spec inside a recipe, whose first string begins at the place."""
+    rows = [row for row in read(Path(path).parent.parent.parent, Path(path).parent.name) if row.line <= place.line][-1:]
+    begun = place.text[place.column - 1 :].lstrip("rR").lstrip("'\"")
+    texts = [text for row in rows for text in (*row.values, *row.keywords.values(), *row.conditions) if isinstance(text, str)]
+    texts = sorted((text for text in texts if text and begun.startswith(text[:20])), key=len)
+    if not texts or not inner[1:2] or not inner[1].isdigit():
+        return []
+    found = spec_faults.words_of(texts[-1], int(inner[1]), inner)
+    return [f"in `{shown(texts[-1])}`: {found}"] if found else []
 
 
 def json_file(fault: Fault, path: str) -> Told:
@@ -128,6 +138,8 @@ def json_file(fault: Fault, path: str) -> Told:
     found = json_places.find(text, pointer, is_key=name == "UnknownKey")
     if found is None:
         return Told()
+    if name == "UnknownKey" and not found.is_there:
+        return Told()  # the line of the key goes on elsewhere
     told = Told(place_at(path, data, len(text[: found.offset].encode())))
     if not found.is_there:
         told.sentences.append(f"the key `{shown(found.key)}` is missing here")

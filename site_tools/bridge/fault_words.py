@@ -27,11 +27,11 @@ def missing(fault: Fault, words: Words) -> Told:
     if path == f"{words.repo}/packages":
         inner = [each.parent for each in sorted(Path(words.repo).glob("var/spack/repos/*/repo.yaml"))]
         inner += [each.parent for each in sorted(Path(words.repo).glob("repos/spack_repo/*/repo.yaml"))]
-        inner += [each.parent for each in sorted(Path(words.repo).parent.glob("repo.yaml"))] if Path(words.repo).name == "packages" else []
         for each in inner[:2]:
             told.sentences.append(f"{shown(str(each))} is a Spack repository: `site_tools/import_repo {shown(str(each))} OUT`, then OUT")
         if Path(words.repo).is_dir() and not inner:
-            told.sentences.append(f"REPO is the folder that holds `packages`; in {shown(words.repo)} there are {few(sorted(os.listdir(words.repo)))}")
+            there = few(sorted(os.listdir(words.repo)))
+            told.sentences.append(f"REPO is the folder that holds `packages`; in {shown(words.repo)} there are {there}")
     folder = Path(path).parent
     while folder != folder.parent and not folder.exists():
         folder = folder.parent
@@ -49,7 +49,8 @@ def specs(fault: Fault, words: Words) -> Told:
         return Told(None, [f"the nearest names: {few(near)}" if near else f"no name is near to `{shown(fault.rest(1))}`"])
     if name == "VirtualRoot":
         givers = sorted({package for package, _ in catalog.virtuals.get(fault.rest(1), [])})
-        return Told(None, [f"`{fault.rest(1)}` is provided by {few(givers)}: ask for one of them, or write `^{fault.rest(1)}`"] if givers else [])
+        text = f"`{fault.rest(1)}` is provided by {few(givers)}: ask for one of them, or write `^{fault.rest(1)}` behind what needs it"
+        return Told(None, [text] if givers else [])
     if name == "WrongPlatform":
         return Told(None, [f"the platform of the settings is `{shown(str(catalog.settings['platform']))}`"])
     offset = fault.number(1)

@@ -1,8 +1,9 @@
 """`lock_view`: a lock file as a tree like `spack spec` prints, as a table, for graphviz, or as JSON by names.
 
-With `--diff` the status says whether anything differs, as that of `diff`. With `--why` it says of one package who asks for it
-and what its choices cost. With `--vector` it says what the 31 numbers are, in words: from a file with the program's output, from `-`, or, with
-`--judge REPO SETTINGS DATABASE`, by asking the program. It computes no cost itself.
+With `--diff` the status says whether anything differs, as that of `diff`. With `--why` it says of one package who asks
+for it and what its choices cost. With `--vector` it says what the 31 numbers are, in words: from a file with the program's
+output, from `-`, or, with `--judge REPO SETTINGS DATABASE`, by asking the program. It computes no cost itself but for
+`--why`, where what it computes is compared with the program's numbers as far as they are known.
 """
 import argparse
 import json
@@ -86,7 +87,7 @@ def shown_lines(found: lock.Lock, given: argparse.Namespace) -> list[str]:
 
 
 def main(words: Optional[list[str]] = None) -> int:
-    """Shows a lock file: 0 where it was shown, 1 where with --diff anything differs, 2 where it is none or the program refuses it."""
+    """Shows a lock file: 0 where it was shown, 1 where --diff finds a difference, 2 where it is none or the program refuses it."""
     given = arguments(words)
     try:
         lines = shown_lines(lock.read(given.lock), given)

@@ -8,6 +8,7 @@ from .recipe_rows import Directive
 from .shown import shown
 
 MOST = 2000
+LANGUAGES = ("c", "cxx", "fortran")  # a dependency on these and nothing more is passed over
 
 
 def ways_to(root: str, name: str, catalog: Catalog) -> list[tuple[str, Directive]]:
@@ -17,7 +18,7 @@ def ways_to(root: str, name: str, catalog: Catalog) -> list[tuple[str, Directive
     seen, todo = {root}, [root]
     while todo and len(seen) < MOST:
         here = todo.pop(0)
-        for row in [each for each in catalog.rows(here) if each.word == "depends_on"]:
+        for row in [each for each in catalog.rows(here) if each.word == "depends_on" and each.first().strip() not in LANGUAGES]:
             for spec in spec_parts.parts(row.first()):
                 target = spec[0].name
                 if target in wanted:

@@ -107,7 +107,8 @@ def machine_causes(part: Part, catalog: Catalog) -> Iterator[Cause]:
         if not own:
             yield Cause("no such compiler", f"there is no compiler `{shown(name)}`", there)
         elif wanted and not any(versions.contains(wanted, version) for version in own):
-            yield Cause("no such compiler", f"no version of the compiler {name} is in @{wanted}", sorted(own, key=versions.key, reverse=True))
+            newest = sorted(own, key=versions.key, reverse=True)
+            yield Cause("no such compiler", f"no version of the compiler {name} is in @{wanted}", newest)
     if part.platform and part.platform != catalog.settings["platform"]:
         yield Cause("another platform", f"the platform is not `{shown(part.platform)}`", [str(catalog.settings["platform"])])
     if part.os and part.os not in catalog.systems():

@@ -80,6 +80,10 @@ def expected(text: str, offset: int) -> str:
     if offset >= len(text):
         return "something is missing at the end"
     before, sign = text[:offset], text[offset]
+    start = max(before.rfind(" "), before.rfind("^")) + 1
+    version = re.compile(VERSION_LIKE + r"(?=\s|$)").match(text, start)
+    if version and "." in version.group() and start > 0:
+        return f"a version stands behind `@`: `{name_before(text, start)}@{version.group()}` in place of `{version.group()}`"
     if re.search(r"%\s*$", before):
         return f"a compiler's name is needed behind `%`, and `{shown(sign)}` stands there"
     if re.search(r"@\s*$", before):

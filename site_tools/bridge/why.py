@@ -16,17 +16,15 @@ class NoNode(ValueError):
 
 
 def directives_for(parent: Node, child: Node, lock: Lock, catalog: Optional[Catalog]) -> list[str]:
-    """The dependencies of the parent's recipe that ask for the child, or for what it provides; of those with `^` it is not known."""
+    """The dependencies of the parent's recipe that ask for the child, or for what it provides."""
     if catalog is None or parent["origin"] != "built":
         return []
     names = {child["name"], *lock.provided_by(child["name"])}
     found = []
     for row in [each for each in catalog.rows(parent["name"]) if each.word == "depends_on"]:
         asks = any(spec[0].name in names for spec in spec_parts.parts(row.first()))
-        answer = holds(row.conditions, parent, catalog) if asks else False
-        if answer is not False:
-            doubt = "" if answer else " (where its condition holds)"
-            found.append(f"{shown(row.text)}, {catalog.repo}/packages/{parent['name']}/package.py:{row.line}{doubt}")
+        if asks and holds(row.conditions, parent, lock, catalog):
+            found.append(f"{shown(row.text)}, {catalog.repo}/packages/{parent['name']}/package.py:{row.line}")
     return found
 
 
@@ -70,7 +68,7 @@ def cost_lines(name: str, lock: Lock, catalog: Catalog, vector: Optional[list[in
         if vector and totals[each.number] != vector[each.number - 1]:
             wrong.add(each.number)
         else:
-            lines.append(f"  {each.number:3}. {'?' if each.cost is None else each.cost:>4}  {each.text}")
+            lines.append(f"  {each.number:3}. {each.cost:4}  {each.text}")
     if wrong:
         lines.append(f"  not told, since the recipes here do not add up to the program's numbers: {', '.join(map(str, sorted(wrong)))}")
     return lines
