@@ -1,7 +1,7 @@
 """Checks of what a person or a machine is told behind the program's own line: used by test.py, run by no one else.
 
-The rows of tests/mistakes are replayed with the program, and with the launcher where words are wrong; what is said, and what show_fault and show_reasons say of it, has
-to name the word or the place. The objects of `--json` have to fit docs/formats/json.schema.json.
+The rows of tests/mistakes are replayed with the program, and with the launcher where words are wrong; what is said, and what
+show_fault and show_reasons say of it, has to name the word or the place. The objects of `--json` have to fit docs/formats/json.schema.json.
 """
 import contextlib
 import io

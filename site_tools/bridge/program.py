@@ -1,4 +1,5 @@
 """Runs of the program: what it says to some words, in the caller's folder."""
+import functools
 import subprocess
 from dataclasses import dataclass
 from pathlib import Path
@@ -23,6 +24,7 @@ def run(words: list[str], program: Optional[str] = None) -> Said:
     return Said(done.returncode, done.stdout.decode("utf-8", "replace"), done.stderr.decode("utf-8", "replace"))
 
 
+@functools.lru_cache(maxsize=None)
 def path() -> str:
     """The file that the launcher would run; the launcher itself where it names none."""
     found = run(["--where"])
