@@ -235,7 +235,10 @@ launch() {
     ! help_with_a_word "$@" || exit 0
     if [ "${1:-}" = --json ]; then
       shift
-      ready_program "$name" || exit 70
+      ready_program "$name" || {
+        printf '{"answer": "NoProgram", "program": "", "status": 70, "version": 1, "words": []}\n'
+        exit 70
+      }
       run_for_json "$@"
     fi
   fi

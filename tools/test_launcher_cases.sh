@@ -155,7 +155,7 @@ cases_of_the_terminal() {
   call a b
   call_on_terminal say "'bad input: settings: UnknownKey /\\033]0;x\\007\\nforged'" 4
   check "control bytes of what is said are escaped on a terminal" grep -qF 'UnknownKey /\u001b]0;x\u0007\u000aforged' <<<"$out"
-  check "and no such byte is left" sh -c '! tr -d "\r\n" | grep -q "[[:cntrl:]]"' <<<"$out"
+  check "and no such byte is left of it" sh -c '! grep -a "^bad input" | tr -d "\r\n" | grep -q "[[:cntrl:]]"' <<<"$out"
   check "with the run's status" test "$status" = 4
   mkdir -p "$work/r/packages/x" && printf 'class X(Package):\n    if 1:\n        pass\n' >"$work/r/packages/x/package.py"
   call_on_terminal explain r - - 'bad\ input:\ recipe\ x:\ Unsupported\ 22' 4
