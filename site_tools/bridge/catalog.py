@@ -9,7 +9,7 @@ from functools import cached_property, lru_cache
 from pathlib import Path
 from typing import Any, Iterable, Optional
 
-from . import recipe_rows, spec_parts, versions
+from . import recipe_rows, signs, spec_parts, versions
 from .cost_reasons import STANDARD
 from .recipe_rows import Directive
 
@@ -41,6 +41,7 @@ class Catalog:
     def __init__(self, repo: str, settings: str = "-", database: str = "-") -> None:
         self.repo = Path(repo)
         self.settings = {**STANDARD, "platform": "linux", "packages": {}, **data_of(settings)}
+        self.settings["os"] = [signs.as_value(each) for each in self.settings["os"]]
         self.records = [each for each in data_of(database).get("records", []) if isinstance(each, dict) and "name" in each]
         self.rows = lru_cache(maxsize=None)(lambda name: recipe_rows.read(self.repo, name))
 

@@ -34,10 +34,10 @@ class Part:
         if self.versions:
             yield "version", f"@{self.versions}"
         for name, values in sorted(self.variants.items()):
-            flags = {("true",): f"+{name}", ("false",): f"~{name}"}
+            flags = {("true",): f" +{name}", ("false",): f" ~{name}"}
             yield "variant", flags.get(values, f" {name}={','.join(values)}")
         if self.compiler:
-            yield "compiler", "%" + self.compiler[0] + (f"@{self.compiler[1]}" if self.compiler[1] else "")
+            yield "compiler", " %" + self.compiler[0] + (f"@{self.compiler[1]}" if self.compiler[1] else "")
         if self.platform:
             yield "platform", f" platform={self.platform}"
         if self.os:
