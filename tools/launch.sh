@@ -20,9 +20,10 @@
 # release runs. Nobody can set these times. A stamp never leads to any other file than the release.
 
 # The caller's environment has no say in how the commands below work; that it cannot bring functions of its own is by the
-# launchers' `bash -p`. Commands are those of the machine before those of the caller's path, but for `rt`.
+# launchers' `bash -p`. Texts are bytes. A launcher takes the machine's commands before those of `callers_path`, but for `rt`.
 unset -v POSIXLY_CORRECT BASH_COMPAT EXECIGNORE TMOUT FIND_BLOCK_SIZE BLOCK_SIZE BLOCKSIZE LS_BLOCK_SIZE GREP_OPTIONS
-callers_path=${PATH:-} PATH="/usr/bin:/bin${PATH:+:$PATH}"
+export LC_ALL=C
+: "${callers_path:=$PATH}"
 
 # The program crates that are released.
 programs=(encode_dimacs replay_scenarios spack_concretize)
@@ -63,7 +64,7 @@ crate_lines() {
     read -r -a words <<<"${lines[$name]#*:}"
     todo+=("${words[@]}")
     unset "lines[$name]"
-  done | LC_ALL=C sort
+  done | sort
 }
 
 # The folders of those crates that a build reads, one a line, by their paths below the top.
@@ -81,7 +82,7 @@ source_folders() {
 file_sums() (
   set -o pipefail
   cd "$top" && find "$@" -regex 'crates/[^/]*/out' -prune -o \( -type f -o -type l \) -print0 |
-    LC_ALL=C sort -z | xargs -0 sha256sum
+    sort -z | xargs -0 sha256sum
 )
 
 # One hash over those lines, and over the path and content of each file in those folders.
@@ -150,7 +151,7 @@ keep_stamp() {
   made="$(mkdir -p "$top/out" && mktemp "$top/out/stamp.XXXXXX")" || return 0
   if touch -d "@$(($(stat -c %Z "$made") - 2))" "$made" &&
     [ -z "$(cd "$top" && find crates.txt crates release \( -newercm "$made" -o -type l \) -not -path '*/out/*' -print -quit || echo fault)" ] &&
-    [ "$2" = "$(files_stamp "$1")" ] && printf '%s\n' "$2" >"$made" && mv -f "$made" "$top/out/$1.stamp"; then
+    [ "$2" = "$(files_stamp "$1")" ] && printf '%s\n' "$2" >"$made" && chmod 644 "$made" && mv -f "$made" "$top/out/$1.stamp"; then
     return 0
   fi
   rm -f "$made"

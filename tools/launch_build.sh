@@ -6,7 +6,7 @@ build_program() (
   name=$1
   folder="$top/crates/$name"
   built="$folder/out/$name"
-  rt="$(command -v rt || echo /opt/rattle/bin/rt)"
+  rt="$(PATH="$callers_path" command -v rt || echo /opt/rattle/bin/rt)"
   fail() {
     tell "$name: $*"
     exit 70
@@ -31,7 +31,7 @@ build_program() (
   tell "$name: proving and building the program; from nothing this takes some minutes"
   read -r -a trial <<<"$(trial_of "$name")"
   # `rt run` proves each crate in turn, links the program, and runs it.
-  (cd "$folder" && exec "$rt" run -- "${trial[@]:1}") {lock}<&- </dev/null 2>&1 |
+  (cd "$folder" && PATH="$callers_path" exec "$rt" run -- "${trial[@]:1}") {lock}<&- </dev/null 2>&1 |
     tee "$folder/out/build.log" {lock}<&- |
     sed -un -e "s/^rt: chose .* for \(.*\)$/$name: proving the crate \1/p" \
       -e 's/^so far: \([0-9]* of [0-9]* functions\) checked.*/  \1/p' \

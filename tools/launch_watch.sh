@@ -72,7 +72,7 @@ tell_said() {
 
 # Runs the program for a person: a terminal is told that a long run is at work, and of a refusal its place.
 run_on_terminal() {
-  local name=$1 status=0 run held signal opened='' stage=''
+  local name=$1 status=0 run held signal said opened='' stage=''
   shift
   ! open_nameless || export SPACK_CONCRETIZE_STAGE="${stage:=/proc/self/fd/$opened}"
   opened=2
@@ -84,7 +84,11 @@ run_on_terminal() {
   wait "$run" || status=$?
   (echo ended >&"$held") 2>/dev/null || true
   [ "$opened" = 2 ] || tell_said "$status" "$@"
-  [ "$status:${1:-}" != 1:concretize ] ||
-    tell "why: spack_concretize explain ${*:2:3} SPEC.., or in words site_tools/show_reasons ${*:2:3} SPEC.."
+  case "$name:$status:${1:-}" in
+  spack_concretize:1:concretize | spack_concretize:1:explain)
+    printf -v said ' %q' "${@:2:3}" "${@:$([ "$1" = concretize ] && echo 7 || echo 5)}"
+    tell "why, in words: $top/site_tools/show_reasons$said"
+    ;;
+  esac
   exit "$status"
 }

@@ -25,7 +25,7 @@ command_takes() {
 
 # Sets `shown` to a word as it can be shown: its control bytes as \u001b, and cut where it is longer than $2 (60) bytes.
 show() {
-  local LC_ALL=C text=$1 at sign
+  local text=$1 at sign
   local -i limit=${2:-60}
   shown=''
   [ "${#text}" -le "$limit" ] || text="${text:0:limit}..."
@@ -117,7 +117,7 @@ wrong_trial() {
 
 # Sets `wrong` to which word is wrong and why, in the order in which they stand; empty where none is.
 wrong_word() {
-  local LC_ALL=C takes=() command=${1:-} at text lock='' shown
+  local takes=() command=${1:-} at text lock='' shown
   wrong=''
   command_takes "$command" || { wrong_command "$@" && return; }
   shift

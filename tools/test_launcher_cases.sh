@@ -97,10 +97,10 @@ cases_of_the_environment() {
     TMPDIR=/none HOME=/none; do
     with_env "$name"
     check "$name changes nothing" after_builds 0
-    check "and nothing is said of it" test ! -s "$work/err"
+    check "and nothing is said of it" sh -c '! grep -v "^bash: warning: setlocale" "$1"' - "$work/err"
   done
   mkdir "$work/planted"
-  for name in find sha256sum sort cut; do
+  for name in find sha256sum sort cut readlink dirname stat env; do
     printf '#!/bin/sh\necho planted\n' >"$work/planted/$name"
   done
   chmod +x "$work"/planted/*
@@ -193,7 +193,7 @@ cases_of_installing() {
   mv "$copy" "$work/moved"
   begin
   out="$(cd "$work" && "$prefix/bin/spack_concretize" a b 2>"$work/err")" || status=$?
-  check "what is installed answers without the checkout" after_builds 0
+  check "what is installed answers without the checkout" test "$status:${out%% from*}:$(wc -c <"$work/err")" = 0:built:0
   check "with its help" sh -c '"$1/bin/spack_concretize" judge --help | grep -q "^spack_concretize judge"' - "$prefix"
   check "and its version" sh -c '"$1/bin/spack_concretize" --version | grep -q "installed, of the sources [0-9a-f]\{64\}"' - "$prefix"
   check "its man page" test -s "$prefix/share/man/man1/spack_concretize.1"
@@ -202,9 +202,9 @@ cases_of_installing() {
     check "and ${view##*/}" sh -c '"$1" --help | grep -q "^usage"' - "$view"
   done
   mv "$work/moved" "$copy"
-  mkdir -p "$work/other/lib/tarosickle"
-  install "$work/other"
-  check "a folder of that name that is no installation stays" test "$status:$(ls -A "$work/other/lib/tarosickle")" = 6:
+  mkdir -p "$work/another/lib/tarosickle"
+  install "$work/another"
+  check "a folder of that name that is no installation stays" test "$status:$(ls -A "$work/another/lib/tarosickle")" = 6:
   install --remove "$prefix"
   check "--remove leaves no file" test "$status:$(find "$prefix" ! -type d | wc -l)" = 0:0
 }
