@@ -173,9 +173,6 @@ def compare(repository: Repository) -> tuple[int, list[str]]:
 
 def main() -> int:
     """Compares the recipes of the tests, and random ones: 0 where nothing differs."""
-    if not all(word.isdigit() for word in sys.argv[1:]):
-        print(f"usage: {Path(__file__).name} [SEED [RUNS]]\n\n{__doc__}")
-        return 0 if sys.argv[1] in ("--help", "-h") else 2
     seed, runs = [int(word) for word in (sys.argv[1:] + ["1", "5"][len(sys.argv) - 1 :])]
     stand_ins = [TOOLS / "build_systems"]
     count, wrong = compare(Repository(TOOLS / "tests" / "recipes", stand_ins, "linux"))

@@ -129,9 +129,6 @@ def compare_recipes(maker: Maker, program: str, room: Path) -> str:
 
 def main() -> int:
     """Runs the comparisons: 0 where the program read all."""
-    if not all(word.isdigit() for word in sys.argv[1:]):
-        print(f"usage: {Path(__file__).name} [SEED [RUNS]]\n\n{__doc__}")
-        return 0 if sys.argv[1] in ("--help", "-h") else 2
     seed, runs = [int(word) for word in (sys.argv[1:] + ["1", "5"][len(sys.argv) - 1 :])]
     program = subprocess.run([str(TOOLS.parent / "spack_concretize"), "--where"], capture_output=True, text=True, check=True).stdout.strip()
     wrong = False

@@ -271,9 +271,6 @@ def check_style() -> Check:
 
 def main() -> int:
     """Runs all checks: 0 where nothing differs."""
-    if set(sys.argv[1:]) - {"--write"}:
-        print(f"usage: test.py [--write]\n\n{__doc__}")
-        return 0 if sys.argv[1] in ("--help", "-h") else 2
     begun, wrong = time.monotonic(), 0
     # The program's lock file is one that the views show, so it comes first.
     checks = [check_style, check_texts, check_literals, check_recipes, check_site, check_cases, check_program, check_views]

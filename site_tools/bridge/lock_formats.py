@@ -5,7 +5,6 @@ from typing import Any
 from . import node_texts
 from .lock import Lock, Node
 
-SAME = "no difference"
 COLOURS = {"built": "#dbe9f6", "external": "#eeeeee", "installed": "#dcf2dc"}
 
 
@@ -99,7 +98,8 @@ def diff_lines(old: Lock, new: Lock) -> list[str]:
     providers = sorted(old.providers.keys() | new.providers.keys())
     changed = [name for name in providers if old.providers.get(name) != new.providers.get(name)]
     lines += [f"  provider of {name}: {old.providers.get(name, 'none')} -> {new.providers.get(name, 'none')}" for name in changed]
-    return lines or [SAME]
+    return lines or SAME
 
 
+SAME = ["no difference"]
 FORMATS = {"tree": tree_lines, "table": table_lines, "dot": dot_lines, "json": json_lines}

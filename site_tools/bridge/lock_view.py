@@ -95,4 +95,4 @@ def main(words: Optional[list[str]] = None) -> int:
         print(f"lock_view: {fault}", file=sys.stderr)
         return 2
     print("\n".join(lines))
-    return 1 if given.diff and lines[0] != lock_formats.SAME else 0
+    return 1 if given.diff and lines[:1] != lock_formats.SAME else 0

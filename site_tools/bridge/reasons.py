@@ -6,7 +6,7 @@ import re
 from dataclasses import asdict, dataclass, field
 from typing import Any
 
-from . import line_table, spec_parts
+from . import origins, spec_parts
 from .catalog import Catalog, few
 from .reason_causes import Cause, causes
 from .recipe_rows import Directive
@@ -74,7 +74,7 @@ def own(part: spec_parts.Part, package: str) -> spec_parts.Part:
     return part
 
 
-def of_directive(package: str, word: str, number: int, catalog: Catalog, table: dict[str, Any]) -> Reason:
+def of_directive(package: str, word: str, number: int, catalog: Catalog) -> Reason:
     """A directive by its number."""
     found = Reason(word, number, f"{word} {number}", package)
     rows = catalog.rows(package)
@@ -86,7 +86,7 @@ def of_directive(package: str, word: str, number: int, catalog: Catalog, table: 
         found.msg = str(row.keywords.get("msg") or "")
         found.causes = directive_causes(row, package, catalog)
         found.needs = needed(row, catalog) if word == "depends_on" else []
-    entry = line_table.entry(table, package, number)
+    entry = origins.entry(catalog.repo, package, number)
     if entry:
         found.origin = f"{entry.get('file', '')}:{entry.get('line', '')}".strip(":")
         found.msg = str(entry.get("msg") or found.msg)
@@ -95,7 +95,6 @@ def of_directive(package: str, word: str, number: int, catalog: Catalog, table: 
 
 def read(said: str, catalog: Catalog) -> list[Reason]:
     """The reasons that `explain` said, in its order."""
-    table = line_table.read(catalog.repo)
     found: list[Reason] = []
     for line in said.splitlines():
         each = LINE.fullmatch(line)
@@ -105,7 +104,7 @@ def read(said: str, catalog: Catalog) -> list[Reason]:
             reason.causes = [cause for spec in specs for part in spec for cause in causes(part, catalog)]
             found.append(reason)
         elif each:
-            found.append(of_directive(each[3], each[4], int(each[5]), catalog, table))
+            found.append(of_directive(each[3], each[4], int(each[5]), catalog))
     return found
 
 
