@@ -102,15 +102,16 @@ def refuse_constant(name: str) -> Any:
 
 def odd_json(text: str) -> tuple[int, str]:
     """What Python takes as JSON and the program does not: depth, large numbers, lone halves of signs."""
-    depth, place = 0, 0
+    depth, why = 0, ""
     for found in re.finditer(r'"(?:[^"\\]|\\.)*"|[\[\]{}]|-?[0-9][0-9.eE+-]*', text):
         sign = found.group()
         depth += (sign in "[{") - (sign in "]}") if len(sign) == 1 else 0
-        place = len(text[: found.start()].encode("utf-8", "replace"))
         if depth > DEEPEST:
-            return place, f"lists and objects nest deeper than {DEEPEST}"
-        if sign[0] not in '"[]{}' and float(sign) in (float("inf"), float("-inf")):
-            return place, "the number is too large"
-        if sign[0] == '"' and re.search(r"[\ud800-\udfff]", json.loads(sign)):
-            return place, "half of a pair of surrogates stands alone"
+            why = f"lists and objects nest deeper than {DEEPEST}"
+        elif sign[0] not in '"[]{}' and float(sign) in (float("inf"), float("-inf")):
+            why = "the number is too large"
+        elif sign[0] == '"' and re.search(r"\\u[dD][89a-fA-F]", sign) and re.search(r"[\ud800-\udfff]", json.loads(sign)):
+            why = "half of a pair of surrogates stands alone"
+        if why:
+            return len(text[: found.start()].encode("utf-8", "replace")), why
     return 0, "it is no JSON text"

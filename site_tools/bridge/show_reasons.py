@@ -7,6 +7,7 @@ what cannot be together.
 """
 import argparse
 import sys
+import time
 from pathlib import Path
 from typing import Callable, Optional
 
@@ -19,6 +20,7 @@ from .reasons import Reason
 from .shown import shown
 
 MOST_RUNS = 24
+MOST_SECONDS = 20.0
 Asks = Callable[[str], int]  # the exit status of `explain` for a spec
 
 
@@ -43,13 +45,13 @@ def less_of(text: str) -> list[str]:
 
 def together(text: str, asks: Asks) -> tuple[str, bool]:
     """A part of a root spec that no graph meets, with nothing left that can go; and whether all was tried."""
-    runs = 0
+    runs, begun = 0, time.monotonic()
     again = True
     while again:
         again = False
         for smaller in less_of(text):
             runs += 1
-            if runs > MOST_RUNS:
+            if runs > MOST_RUNS or time.monotonic() - begun > MOST_SECONDS:
                 return text, False
             if asks(smaller) == 1:
                 text, again = smaller, True
