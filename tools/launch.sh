@@ -173,7 +173,7 @@ find_program() {
     program="$file" why='the release of these sources'
     return
   fi
-  stamp="$(files_stamp "$name" 2>/dev/null)" || stamp=''
+  [ -e "$file" ] && stamp="$(files_stamp "$name" 2>/dev/null)" || stamp=''
   sources="$(sources_hash "$name")" || {
     why="the sources of $name cannot be read"
     return 1
