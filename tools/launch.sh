@@ -143,22 +143,27 @@ is_stamped() {
   [ -n "$kept" ] && [ "$kept" = "$(files_stamp "$1" 2>/dev/null)" ]
 }
 
-# Keeps the stamp, which was taken before the sources were hashed, where it still is the stamp, no file was touched in the two
-# seconds before (a second touch could have the same time), and none is a link, whose own times say nothing of its text.
-# Where nothing can be kept, the next call hashes again.
+# Makes a file for a new stamp, before the sources are looked at, and sets `begun` to its name; empty where none can be made.
+begin_stamp() {
+  begun=''
+  [ ! -e "$1" ] || begun="$(mkdir -p "$top/out" && mktemp "$top/out/stamp.XXXXXX")" || begun=''
+  # Those of calls that were killed.
+  [ -z "$begun" ] || find "$top/out" -maxdepth 1 -name 'stamp.??????' -mmin +60 -delete || true
+} 2>/dev/null
+
+# Keeps the stamp $2, which was taken behind `begin_stamp` and before the sources were hashed, in the place of that of NAME,
+# where it still is the stamp, no file was touched in the two seconds before that or later (an edit during the hashing could
+# else have the time that was seen), and none is a link, whose own times say nothing of its text. Else the next call hashes.
 keep_stamp() {
-  local made
-  made="$(mkdir -p "$top/out" && mktemp "$top/out/stamp.XXXXXX")" || return 0
-  if touch -d "@$(($(stat -c %Z "$made") - 2))" "$made" &&
-    [ -z "$(cd "$top" && find crates.txt crates release \( -newercm "$made" -o -type l \) -not -path '*/out/*' -print -quit || echo fault)" ] &&
-    [ "$2" = "$(files_stamp "$1")" ] && printf '%s\n' "$2" >"$made" && chmod 644 "$made" && mv -f "$made" "$top/out/$1.stamp"; then
-    return 0
+  if [ -n "$2" ] && touch -c -d "@$(($(stat -c %Z "$begun") - 2))" "$begun" &&
+    [ -z "$(cd "$top" && find crates.txt crates release \( -newercm "$begun" -o -type l \) -not -path '*/out/*' -print -quit || echo fault)" ] &&
+    [ "$2" = "$(files_stamp "$1")" ] && printf '%s\n' "$2" >"$begun" && chmod 644 "$begun"; then
+    mv -f "$begun" "$top/out/$1.stamp" || rm -f "$begun"
   fi
-  rm -f "$made"
 } 2>/dev/null
 
 find_program() {
-  local name=$1 sources='' of='' sum='' fault stamp
+  local name=$1 sources='' of='' sum='' fault stamp begun
   local built="$top/crates/$name/out/$name" file="$top/release/$name-x86_64-linux"
   program='' why=''
   if [ -e "$top/INSTALLED" ]; then
@@ -173,13 +178,16 @@ find_program() {
     program="$file" why='the release of these sources'
     return
   fi
-  [ -e "$file" ] && stamp="$(files_stamp "$name" 2>/dev/null)" || stamp=''
-  sources="$(sources_hash "$name")" || {
+  begin_stamp "$file"
+  [ -n "$begun" ] && stamp="$(files_stamp "$name" 2>/dev/null)" || stamp=''
+  sources="$(sources_hash "$name")" || sources=''
+  [ -z "$sources" ] || fault="$(release_fault "$name" "$sources" 2>/dev/null)" || fault='its release cannot be judged'
+  [ -z "$sources" ] || [ -n "$fault" ] || [ -z "$stamp" ] || keep_stamp "$name" "$stamp"
+  [ -z "$begun" ] || rm -f "$begun"
+  if [ -z "$sources" ]; then
     why="the sources of $name cannot be read"
     return 1
-  }
-  if fault="$(release_fault "$name" "$sources" 2>/dev/null)" && [ -z "$fault" ]; then
-    [ -z "$stamp" ] || keep_stamp "$name" "$stamp"
+  elif [ -z "$fault" ]; then
     program="$file" why='the release of these sources'
     return
   fi
@@ -188,7 +196,7 @@ find_program() {
     program="$built" why='proved and built here, from these sources'
     return
   fi
-  why="no build of these sources is here, and ${fault:-its release cannot be judged}"
+  why="no build of these sources is here, and $fault"
   return 1
 }
 

@@ -15,6 +15,7 @@ cases_of_stamps() {
   local kept
   call a b
   release_it
+  touch "$source_file"
   call a b
   check "no stamp is kept of files that were just touched" test "$(stamp_is)" = none
   settle

@@ -109,27 +109,40 @@ class Catalog:
                 found.setdefault(each, set()).update(texts)
         return found
 
-    def compilers(self) -> set[tuple[str, str]]:
-        """All compilers: those of the settings, of externals and of records."""
+    def packages_of(self, name: str) -> list[str]:
+        """A package, or those that provide a virtual."""
+        return [name, *sorted({package for package, _ in self.virtuals.get(name, [])})]
+
+    def compilers(self, name: str) -> set[tuple[str, str]]:
+        """The compilers that a package can have: those of the settings, of its externals and of its records."""
         found = {(str(each.get("name")), str(each.get("version"))) for each in self.settings["compilers"]}
-        found |= {(each["compiler"]["name"], each["compiler"]["version"]) for each in self.records if each.get("compiler")}
-        for name in self.settings["packages"]:
-            for part in self.externals(name):
-                if part.compiler:
-                    found.add((part.compiler[0], versions.single(part.compiler[1]) or part.compiler[1]))
+        for each in self.packages_of(name):
+            kept = [record["compiler"] for record in self.installed(each)]
+            found |= {(one["name"], one["version"]) for one in kept if one}
+            written = [part.compiler for part in self.externals(each)]
+            found |= {(one[0], versions.single(one[1]) or one[1]) for one in written if one}
         return found
 
-    def systems(self) -> set[str]:
-        """All operating systems."""
-        found = {*map(str, self.settings["os"]), *(str(each.get("os")) for each in self.records)}
-        return found | {part.os for name in self.settings["packages"] for part in self.externals(name) if part.os}
+    def systems(self, name: str) -> set[str]:
+        """The operating systems that a package can have."""
+        found = set(map(str, self.settings["os"]))
+        for each in self.packages_of(name):
+            found |= {str(record.get("os")) for record in self.installed(each)}
+            found |= {part.os for part in self.externals(each) if part.os}
+        return found
+
+    def targets_of(self, name: str) -> set[str]:
+        """The targets that a package can have."""
+        found = {str(each["name"]) for each in self.settings["targets"]}
+        for each in self.packages_of(name):
+            found |= {str(record.get("target")) for record in self.installed(each)}
+            found |= {part.targets[0] for part in self.externals(each) if part.targets}
+        return found
 
     @cached_property
     def targets(self) -> dict[str, list[str]]:
-        """The targets of the settings, each with its parents; others that records have, without any."""
-        found: dict[str, list[str]] = {str(each.get("target")): [] for each in self.records}
-        found.update({str(each["name"]): list(each.get("parents", [])) for each in self.settings["targets"]})
-        return found
+        """The targets of the settings, each with its parents."""
+        return {str(each["name"]): list(each.get("parents", [])) for each in self.settings["targets"]}
 
     def ancestors(self, target: str) -> set[str]:
         """A target and all that it builds on."""

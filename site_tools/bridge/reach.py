@@ -35,6 +35,9 @@ def lines(spec: list[spec_parts.Part], catalog: Catalog) -> list[str]:
     found: list[str] = []
     for part in spec[1:]:
         ways = ways_to(spec[0].name, part.name, catalog)
+        if part.name == spec[0].name:
+            found.append(f"{part.name} is not below itself: no graph has a cycle")
+            continue
         if not ways:
             found.append(f"no dependency of {spec[0].name} leads to {part.name}, by whatever conditions")
         else:

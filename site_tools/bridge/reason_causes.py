@@ -102,8 +102,9 @@ def machine_causes(part: Part, catalog: Catalog) -> Iterator[Cause]:
     """Compiler, platform, operating system and target."""
     if part.compiler:
         name, wanted = part.compiler
-        there = sorted(f"{each}@{version}" for each, version in catalog.compilers())
-        own = [version for each, version in catalog.compilers() if each == name]
+        compilers = catalog.compilers(part.name)
+        there = sorted(f"{each}@{version}" for each, version in compilers)
+        own = [version for each, version in compilers if each == name]
         if not own:
             yield Cause("no such compiler", f"there is no compiler `{shown(name)}`", there)
         elif wanted and not any(versions.contains(wanted, version) for version in own):
@@ -111,11 +112,12 @@ def machine_causes(part: Part, catalog: Catalog) -> Iterator[Cause]:
             yield Cause("no such compiler", f"no version of the compiler {name} is in @{wanted}", newest)
     if part.platform and part.platform != catalog.settings["platform"]:
         yield Cause("another platform", f"the platform is not `{shown(part.platform)}`", [str(catalog.settings["platform"])])
-    if part.os and part.os not in catalog.systems():
-        near = nearest(part.os, catalog.systems()) or sorted(catalog.systems())
+    systems, targets = catalog.systems(part.name), catalog.targets_of(part.name)
+    if part.os and part.os not in systems:
+        near = nearest(part.os, systems) or sorted(systems)
         yield Cause("no such operating system", f"there is no operating system `{shown(part.os)}`", near)
-    if part.targets and not any(catalog.in_target(item, each) for item in part.targets for each in catalog.targets):
-        near = nearest(part.targets[0], catalog.targets) or list(catalog.targets)
+    if part.targets and not any(catalog.in_target(item, each) for item in part.targets for each in targets):
+        near = nearest(part.targets[0], targets) or sorted(targets)
         yield Cause("no such target", f"there is no target in `{shown(','.join(part.targets))}`", near)
 
 

@@ -21,7 +21,7 @@ from .shown import shown
 
 MOST_RUNS = 24
 MOST_SECONDS = 20.0
-Asks = Callable[[str], int]  # the exit status of `explain` for a spec
+Asks = Callable[[str], program.Said]  # what `explain` says of a spec
 
 
 def less_of(text: str) -> list[str]:
@@ -53,7 +53,7 @@ def together(text: str, asks: Asks) -> tuple[str, bool]:
             runs += 1
             if runs > MOST_RUNS or time.monotonic() - begun > MOST_SECONDS:
                 return text, False
-            if asks(smaller) == 1:
+            if asks(smaller).status == 1:
                 text, again = smaller, True
                 break
     return text, True
@@ -69,9 +69,25 @@ def closing_lines(found: list[Reason], asks: Optional[Asks], catalog: Catalog) -
     if len(found) == 1 and found[0].kind == "root" and asks:
         text, whole = together(found[0].text, asks)
         more = "" if whole else " (there may be less)"
-        below = [f"    {line}" for spec in spec_parts.parts(text)[:1] for line in reach.lines(spec, catalog)]
+        again = reasons.read(asks(text).out, catalog) if text != found[0].text else []
+        if len(again) > 1:
+            head = f"what no graph meets of it is: {shown(text)}{more}, with these {len(again) - 1}"
+            return [head, *(line for each in again[1:] for line in each.lines()), *closing_lines(again, None, catalog)]
+        spec = spec_parts.parts(text)[0]
+        below = [f"    {line}" for line in [*variant_lines(spec[0], catalog), *reach.lines(spec, catalog)]]
         return [f"each part is there; what no graph meets together is: {shown(text)}{more}", *below]
     return []
+
+
+def variant_lines(part: spec_parts.Part, catalog: Catalog) -> list[str]:
+    """The definitions of the variants that a part asks for."""
+    found = []
+    for name in part.variants:
+        for row in catalog.variants(part.name).get(name, []):
+            around = [text for text in row.conditions if text != row.keywords.get("when")]
+            block = f" with when {shown(' '.join(around))}" if around else ""
+            found.append(f"{part.name}: {shown(row.text)}{block}, {catalog.repo}/packages/{part.name}/package.py:{row.line}")
+    return found
 
 
 def lines_of(found: list[Reason], asks: Optional[Asks], catalog: Catalog) -> list[str]:
@@ -87,8 +103,11 @@ def arguments(words: Optional[list[str]]) -> argparse.Namespace:
     parser.add_argument("repo", metavar="REPO")
     parser.add_argument("settings", metavar="SETTINGS")
     parser.add_argument("database", metavar="DATABASE")
-    parser.add_argument("spec", metavar="SPEC", nargs="+")
-    return parser.parse_args(words)
+    parser.add_argument("spec", metavar="SPEC..", nargs=argparse.REMAINDER, help="as behind `explain`; also words that begin with `-`")
+    given = parser.parse_args(words)
+    if not given.spec:
+        parser.error("SPEC is missing")
+    return given
 
 
 def main(words: Optional[list[str]] = None) -> int:
@@ -101,7 +120,7 @@ def main(words: Optional[list[str]] = None) -> int:
     else:
         file = program.path()
         said = program.run(["explain", *inputs, *given.spec], file)
-        asks = lambda text: program.run(["explain", *inputs, text], file).status  # noqa: E731
+        asks = lambda text: program.run(["explain", *inputs, text], file)  # noqa: E731
     if said.status != 1:
         fault = read_fault(said.err)
         print(said.out or shown(said.err.removesuffix("\n")), end="" if said.out else "\n")
