@@ -24,9 +24,9 @@ SITE = TOP / "examples" / "site"
 sys.path.insert(0, str(TOOLS))
 sys.dont_write_bytecode = True
 
+import answer_checks  # noqa: E402
 from bridge import export_spec, import_repo, import_settings, installed, lock_view, manual, spec_text  # noqa: E402
 from bridge.literals import Evaluator, NotLiteral  # noqa: E402
-from answer_checks import check_json, check_mistakes  # noqa: E402
 
 WRITE = "--write" in sys.argv[1:]
 Check = Iterator[tuple[str, str]]  # the name of what is wrong, and how
@@ -248,6 +248,8 @@ def check_program() -> Check:
         lock = (Path(room) / "site_hdf5.lock").read_text("utf-8")
         yield from compared("examples/site/hdf5.lock", lock, SITE / "hdf5.lock")
     yield from check_read(program)
+    for check in (answer_checks.check_mistakes, answer_checks.check_json):
+        yield from check()
 
 
 def check_style() -> Check:
@@ -273,9 +275,8 @@ def main() -> int:
     """Runs all checks: 0 where nothing differs."""
     begun, wrong = time.monotonic(), 0
     # The program's lock file is one that the views show, so it comes first.
-    checks = [check_style, check_texts, check_literals, check_recipes, check_site, check_cases, check_program, check_views]
-    checks += [check_completion, check_manual] + ([check_mistakes, check_json] if released() else [])
-    for check in checks:
+    checks = (check_style, check_texts, check_literals, check_recipes, check_site, check_cases, check_program, check_views)
+    for check in (*checks, check_completion, check_manual):
         faults = list(check())
         wrong += len(faults)
         print(f"{check.__name__.removeprefix('check_')}: {'right' if not faults else f'{len(faults)} wrong'}")
