@@ -253,6 +253,8 @@ launch() {
   fi
   ready_program "$name" || exit 70
   unset SPACK_CONCRETIZE_STAGE
+  # A limit of file sizes is then a fault of writing, which the program says, and no signal that kills it.
+  trap '' XFSZ
   # Only a terminal is told more, but of wrong words: what a run says on a file or a pipe is what it promises.
   if [ -t 2 ]; then
     source "$top/tools/launch_watch.sh"
