@@ -60,7 +60,8 @@ def read(line: str) -> Optional[Fault]:
 
 def read_log(text: str) -> Iterator[Fault]:
     """The refusals in a log, in order; what other programs put before a line on it is passed over."""
-    pattern = re.compile(r"(usage: spack_concretize .*|usage: .+ and .+ are one file|(?:bad input|read fault|write fault|too large|refused): .*|no memory)$", re.M)
+    usage = "usage: spack_concretize .*|usage: .+ and .+ are one file"
+    pattern = re.compile(rf"({usage}|(?:bad input|read fault|write fault|too large|refused): .*|no memory)$", re.M)
     for found in pattern.finditer(text):
         fault = read(found.group())
         if fault:
