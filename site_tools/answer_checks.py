@@ -9,12 +9,13 @@ import json
 import os
 import shlex
 import subprocess
+import sys
 import tempfile
 from concurrent import futures
 from pathlib import Path
 from typing import Any, Callable, Iterator
 
-from bridge import show_fault, show_reasons
+from bridge import lock_view, show_fault, show_reasons
 
 TOOLS = Path(__file__).resolve().parent
 TOP = TOOLS.parent
@@ -52,11 +53,11 @@ def said(words: list[str], room: str) -> "subprocess.CompletedProcess[str]":
 
 
 def view(main: Callable[[list[str]], int], words: list[str]) -> str:
-    """What a view says."""
+    """What a view says, and its status where that is not 0."""
     out = io.StringIO()
     with contextlib.redirect_stdout(out), contextlib.redirect_stderr(out):
-        main(words)
-    return out.getvalue()
+        status = main(words)
+    return out.getvalue() + (f"status {status}\n" if status else "")
 
 
 def told(words: list[str], done: "subprocess.CompletedProcess[str]", room: str) -> str:
@@ -161,3 +162,31 @@ def check_json() -> Check:
             missing = {key: found.get(key) for key, value in wanted.items() if found.get(key) != value}
             if missing or done.returncode != found["status"]:
                 yield name, f"wanted {wanted}, got {missing} and the exit status {done.returncode}"
+
+
+def check_why() -> Check:
+    """What `lock_view --why` and `--diff` say of the examples; `--write` keeps what is said now as what is wanted."""
+    mpi, site = TOP / "examples" / "mpi", TOP / "examples" / "site"
+    views = TOOLS / "tests" / "views"
+    rows: dict[str, list[object]] = {
+        "mpi_why.txt": [
+            mpi / "hdf5.lock", "--vector", views / "mpi.out", "--why", "mpi", "--repo", mpi, "--settings", mpi / "settings.json",
+        ],
+        "site_why.txt": [
+            site / "hdf5.lock", "--why", "zlib-api", "--judge", site, site / "settings.json", site / "database.json",
+        ],
+        "no_why.txt": [mpi / "hdf5.lock", "--why", "zli"],
+        "same_diff.txt": [site / "hdf5.lock", "--diff", site / "hdf5.lock"],
+    }
+    for name, words in rows.items():
+        text = view(lock_view.main, list(map(str, words))).replace(f"{TOP}/", "")
+        if "--write" in sys.argv[1:]:
+            (views / name).write_text(text, "utf-8")
+        elif (views / name).read_text("utf-8") != text:
+            yield f"views/{name}", f"got {text!r}"
+
+
+def check_all() -> Check:
+    """All checks of this file."""
+    for check in (check_mistakes, check_json, check_why):
+        yield from check()

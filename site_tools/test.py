@@ -174,10 +174,6 @@ def check_views() -> Check:
         "mpi_reasons.txt": (*mpi_costs, "--settings", mpi / "settings.json"),
         "site_costs.txt": (*site_costs, "--settings", SITE / "settings.json"),
         "mpi_all.txt": (*mpi_costs, "--all"),
-        "mpi_why.txt": (*mpi_costs, "--why", "mpi", "--repo", mpi, "--settings", mpi / "settings.json"),
-        "site_why.txt": (*site_costs, "--why", "zlib-api", "--repo", SITE, "--settings", SITE / "settings.json"),
-        "no_why.txt": (lock_view.main, mpi / "hdf5.lock", "--why", "zli"),
-        "same_diff.txt": (lock_view.main, site, "--diff", site),
         "mpi_diff.txt": (lock_view.main, mpi / "hdf5.lock", "--diff", mpi / "broken.lock"),
         "site_diff.txt": (lock_view.main, mpi / "hdf5.lock", "--diff", site),
         "changed.txt": (lock_view.main, broken),
@@ -248,8 +244,7 @@ def check_program() -> Check:
         lock = (Path(room) / "site_hdf5.lock").read_text("utf-8")
         yield from compared("examples/site/hdf5.lock", lock, SITE / "hdf5.lock")
     yield from check_read(program)
-    for check in (answer_checks.check_mistakes, answer_checks.check_json):
-        yield from check()
+    yield from answer_checks.check_all()
 
 
 def check_style() -> Check:
