@@ -120,19 +120,19 @@ release_fault() {
   [ "$status" = "${trial[0]}" ] || echo "release/$file does not run on this machine"
 }
 
-# One hash over the place, kind, device, inode, size and time of status change of each file by which the release of NAME is
-# found right: crates.txt, all that any crate is built from, the release, and this machine's loader; and over the start of the
-# machine. It is false where one cannot be seen.
+# One hash over the kind, inode, size and time of status change of each file and folder by which the release of NAME is found
+# right, in the order in which they are found: crates.txt, all that any crate is built from, the release, and this machine's
+# loader; and over the start of the machine. (A new name in a folder is a change of the folder.) Three look at a time.
 files_stamp() (
-  set -o pipefail
   shopt -s nullglob
-  boot='' loader=/lib64/ld-linux-x86-64.so.2
+  boot='' loader=/lib64/ld-linux-x86-64.so.2 form='%y %i %s %C@\n'
   { read -r boot </proc/sys/kernel/random/boot_id; } 2>/dev/null || true
   cd "$top" || exit
   [ -e "$loader" ] || loader=.
   {
-    printf 'stamp 1 %s %s\n' "$1" "$boot"
-    find -H crates.txt crates/*/{src,specs,proofs,c} release "$loader" -printf '%p %y %D %i %s %C@\n'
+    printf 'stamp 2 %s %s\n' "$1" "$boot"
+    cat <(find -H crates.txt crates/[!a-m]*/proofs -printf "$form") <(find -H crates.txt crates/[a-m]*/proofs -printf "$form") \
+      <(find -H crates.txt crates/*/{src,specs,c} release "$loader" -printf "$form")
   } | sha256sum
 )
 
