@@ -36,8 +36,8 @@ show() {
   for ((at = 0; at < ${#text}; at++)); do
     sign="${text:at:1}"
     if [[ $sign == $'\xc2' && ${text:at+1:1} == [$'\x80'-$'\x9f'] ]]; then
-      at+=1 sign="${text:at:1}"
-      printf -v sign '\\u%04x' "$(($(printf '%d' "'$sign") & 255))"
+      at+=1
+      sign="\\u00$(printf %s "${text:at:1}" | od -An -tx1 | tr -d ' \n')"
     elif [[ $sign == [[:cntrl:]] ]]; then
       printf -v sign '\\u%04x' "'$sign"
     fi
@@ -80,7 +80,7 @@ wrong_command() {
   names="${names%, }"
   if [ "$#" = 0 ]; then
     wrong="no word was given; the first is a command: $names"
-  elif [[ ${own_words[*]} == *"$1"* && $1 == --* ]]; then
+  elif [[ " ${own_words[*]} " == *" $1 "* ]]; then
     wrong="\`$1\` stands alone (but --json, which stands before a command)"
   else
     show "$1" && nearest_to "$1"

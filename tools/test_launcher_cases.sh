@@ -127,6 +127,8 @@ cases_of_words() {
   call end 2
   check "where the program says Usage, the wrong word is named behind it" says '^spack_concretize: word 1, `end`, is no command'
   check "and the status stays" test "$status" = 2
+  call end 2 $'\e[31m'
+  check "and no other word of the caller's" sh -c '! grep -q "31m" "$1"' - "$work/err"
   call concretize r - - - - x
   check "where the program takes the words, nothing is said" test "$status:$(wc -c <"$work/err")" = 0:0
   call --json end 7
