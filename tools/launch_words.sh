@@ -36,7 +36,7 @@ show() {
   for ((at = 0; at < ${#text}; at++)); do
     sign="${text:at:1}"
     if [[ $sign == $'\xc2' && ${text:at+1:1} == [$'\x80'-$'\x9f'] ]]; then
-      at+=1
+      at=$((at + 1))
       sign="\\u00$(printf %s "${text:at:1}" | od -An -tx1 | tr -d ' \n')"
     elif [[ $sign == [[:cntrl:]] ]]; then
       printf -v sign '\\u%04x' "'$sign"
