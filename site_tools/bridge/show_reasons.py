@@ -80,10 +80,10 @@ def closing_lines(found: list[Reason], asks: Optional[Asks], catalog: Catalog) -
 
 
 def variant_lines(part: spec_parts.Part, catalog: Catalog) -> list[str]:
-    """The definitions of the variants that a part asks for."""
+    """The definitions under conditions of the variants that a part asks for."""
     found = []
     for name in part.variants:
-        for row in catalog.variants(part.name).get(name, []):
+        for row in [each for each in catalog.variants(part.name).get(name, []) if each.conditions]:
             around = [text for text in row.conditions if text != row.keywords.get("when")]
             block = f" with when {shown(' '.join(around))}" if around else ""
             found.append(f"{part.name}: {shown(row.text)}{block}, {catalog.repo}/packages/{part.name}/package.py:{row.line}")
@@ -93,7 +93,11 @@ def variant_lines(part: spec_parts.Part, catalog: Catalog) -> list[str]:
 def lines_of(found: list[Reason], asks: Optional[Asks], catalog: Catalog) -> list[str]:
     """All reasons for a person."""
     head = "unsatisfiable: no graph is valid for " + ("this" if len(found) == 1 else f"these {len(found)} together")
-    return [head, *(line for each in found for line in each.lines()), *(f"  {line}" for line in closing_lines(found, asks, catalog))]
+    roots = [spec[0] for each in found if each.kind == "root" for spec in spec_parts.parts(each.text)]
+    defined = [] if len(found) == 1 else [line for part in roots for line in variant_lines(part, catalog)]
+    closing = [*(["variants that are asked for, and defined by"] if defined else []), *(f"    {line}" for line in defined)]
+    closing += closing_lines(found, asks, catalog)
+    return [head, *(line for each in found for line in each.lines()), *(f"  {line}" for line in closing)]
 
 
 def arguments(words: Optional[list[str]]) -> argparse.Namespace:
