@@ -54,12 +54,12 @@ def conditional_star(n):
 
 
 def wide(n):
-    """Rows of eight, each package with two conditional dependencies on the next row."""
+    """Rows of eight, each package with three conditional dependencies on the next row."""
     made = {"p": ['version("1")'] + ['depends_on("q-%d")' % i for i in range(8)]}
     for i in range(n):
-        below = [i - i % 8 + 8 + (i * 3 + j) % 8 for j in (1, 2)] if i + 16 <= n else []
+        below = [i - i % 8 + 8 + (i * 3 + j) % 8 for j in (1, 2, 3)] if i + 16 <= n else []
         made["q_%d" % i] = versions(4) + ['variant("a", default=True)'] + [
-            'depends_on("q-%d@:1.%d", when="%s")' % (child, 3 - j, ("+a", "@1.2:")[j]) for j, child in enumerate(below)]
+            'depends_on("q-%d", when="%s")' % (child, ("+a", "@1.2:", "~a")[j]) for j, child in enumerate(below)]
     return recipes(**made), [*SOLVE, "p"]
 
 

@@ -30,7 +30,7 @@ sys.path.insert(0, os.path.join(os.path.dirname(HERE), "concretize"))
 from compare import CLASP, DONE, UNSATISFIABLE, TooSlow, run_other, shown  # noqa: E402
 from facts import Facts  # noqa: E402
 from names import Problem  # noqa: E402
-from reading import read_database, read_repository, read_settings, read_specs  # noqa: E402
+from reading import read_database, read_recipe, read_settings, read_specs  # noqa: E402
 
 SMALL = {"recipes": 600, "records": 400, "roots": "6"}
 HEAD = "%-12s %3s %5s %-8s %7s %7s %7s %7s %7s %6s %5s %9s %9s %9s %9s %7s  %s" % (
@@ -59,13 +59,38 @@ class Run:
         return None if self.status == UNSATISFIABLE else self.said or "status %d" % self.status
 
 
+class Recipes:
+    """The recipes of a repository for the other side, each parsed where it is asked for, since most are not."""
+
+    def __init__(self, folder):
+        self.texts, self.parsed = {}, {}
+        for name in sorted(os.listdir(folder + "/packages")):
+            with open("%s/packages/%s/package.py" % (folder, name)) as file:
+                self.texts[name] = file.read()
+
+    def __contains__(self, name):
+        return name in self.texts
+
+    def __getitem__(self, name):
+        if name not in self.parsed:
+            self.parsed[name] = read_recipe(self.texts[name])
+        return self.parsed[name]
+
+    def get(self, name):
+        return self[name] if name in self else None
+
+    def items(self):
+        """Those that may provide something, which is what all recipes are looked through for."""
+        return [(name, self[name]) for name, text in self.texts.items() if "provides(" in text]
+
+
 class Site:
-    """A made repository, read for the other side once."""
+    """A made repository, as the other side reads it."""
 
     def __init__(self, folder, options):
         self.made = generate.make(folder, options.recipes, options.records, options.seed)
         self.repository, self.settings, self.database = folder, folder + "/settings.json", folder + "/database.json"
-        self.read = read_repository(folder), read_settings(self.settings)
+        self.read = Recipes(folder), read_settings(self.settings)
         self.records = read_database(self.database)
 
     def facts(self, with_database, root):

@@ -1,0 +1,120 @@
+"""Kills, full disks, little memory, several runs at once."""
+import os
+import random
+import statistics
+import subprocess
+import tempfile
+import time
+
+from problem import KILLED, OLD, Count, Problem, read, run, write
+
+
+def after_kill(problem, count, what):
+    """LOCK and CERT are whole, each the old or the new one, and what stays beside hinders no later run."""
+    held = problem.held()
+    count.saw("lock %s, cert %s" % held)
+    if problem.beside():
+        count.saw("with a file beside")
+    later = run(problem.words, problem.folder)
+    count.add("lost" if "lost" in held else "the next run fails" if later.fault() or later.status else None, what)
+
+
+def kills(program, options):
+    """SIGKILL at random moments of a run."""
+    count, drawn = Count("killed at random"), random.Random(options.seed)
+    with tempfile.TemporaryDirectory() as folder:
+        problem = Problem(program, folder, 104)
+        times = []
+        for _ in range(5):
+            begun = time.perf_counter()
+            run(problem.words, folder)
+            times.append(time.perf_counter() - begun)
+        for number in range(options.kills):
+            problem.reset()
+            with subprocess.Popen(problem.words, cwd=folder, stdout=subprocess.DEVNULL, stderr=subprocess.DEVNULL) as process:
+                time.sleep(drawn.uniform(0, 1.1 * statistics.median(times)))
+                process.kill()
+            after_kill(problem, count, "kill %d" % number)
+    return count
+
+
+def kills_at_calls(program, options):
+    """SIGKILL at each call of the system that opens, writes, syncs, closes or renames."""
+    count = Count("killed at a call of the system")
+    calls = "openat,write,fsync,fdatasync,close,rename,renameat,renameat2,unlink,unlinkat,ftruncate,statx"
+    with tempfile.TemporaryDirectory() as folder:
+        problem, number, status = Problem(program, folder), 0, KILLED
+        while status == KILLED or number == 0:
+            number += 1
+            problem.reset()
+            tracing = ["strace", "-f", "-qq", "-o", "/dev/null", "-e", "trace=" + calls, "-e",
+                       "inject=%s:signal=KILL:when=%d" % (calls, number)]
+            status = run([*tracing, *problem.words], folder).status
+            if status == KILLED:
+                after_kill(problem, count, "call %d" % number)
+    return count
+
+
+def full_disk(program, options):
+    """LOCK and CERT on a disk of some KiB; a put that fails leaves what was there."""
+    count = Count("full disk")
+    with tempfile.TemporaryDirectory() as folder:
+        problem = Problem(program, folder, 104)
+        for kibibytes in (8, 12, 16, 20, 24, 32, 40, 48, 64, 96, 128, 192, 256, 512):
+            disk = os.path.join(folder, "out")
+            if subprocess.run(["mount", "-t", "tmpfs", "-o", "size=%dk" % kibibytes, "none", disk], capture_output=True).returncode:
+                count.saw("not run: no disk can be mounted")
+                return count
+            try:
+                for name in ("l", "c"):
+                    write(os.path.join(disk, name), OLD)
+                done, held = run(problem.words, folder), problem.held()
+                count.saw("status %d, lock %s, cert %s" % (done.status, *held))
+                is_wrong = "lost" in held or done.status == 0 and held != ("new", "new")
+                count.add(done.fault() or ("lost" if is_wrong else None), "%d KiB" % kibibytes)
+            finally:
+                subprocess.run(["umount", disk], check=True)
+    return count
+
+
+def little_memory(program, options):
+    """`ulimit -v` at twenty sizes: memory runs out by name, or the answer is right."""
+    count = Count("little memory")
+    with tempfile.TemporaryDirectory() as folder:
+        problem = Problem(program, folder, 104)
+        for place in range(20):
+            megabytes = 2 + 2 * place
+            problem.reset()
+            done, held = run(problem.words, folder, megabytes << 20), problem.held()
+            is_loader = done.status == 127 or done.status < 0 and megabytes < 6  # the program never began
+            count.saw("the loader" if is_loader else "status %d" % done.status)
+            right = done.status == 9 or done.status == 0 and done.out == problem.said and held == ("new", "new")
+            fault = None if is_loader else done.fault() or ("lost" if "lost" in held else None if right else "another answer")
+            count.add(fault, "%d MiB" % megabytes)
+    return count
+
+
+def at_once(program, options, runs, rounds):
+    """Runs of different problems to one LOCK and CERT: each file is one run's whole text."""
+    count = Count("%d runs at once" % runs)
+    with tempfile.TemporaryDirectory() as folder:
+        problems = []
+        for number in range(runs):
+            problems.append(Problem(program, os.path.join(folder, "p%d" % number), 64 + 16 * number))
+        texts = {name: [problem.new[name] for problem in problems] for name in ("l", "c")}
+        out = os.path.join(folder, "out")
+        os.makedirs(out)
+        for number in range(rounds):
+            started = []
+            for problem in problems:
+                words = [*problem.words[:5], out + "/l", out + "/c", problem.root]
+                started.append(subprocess.Popen(words, cwd=problem.folder, stdout=subprocess.DEVNULL, stderr=subprocess.DEVNULL))
+            statuses = [process.wait() for process in started]
+            places = [texts[name].index(found) if (found := read(os.path.join(out, name))) in texts[name] else None for name in ("l", "c")]
+            if None not in places and places[0] != places[1]:
+                count.saw("whole, of two runs")
+            mixed = ["LOCK", "CERT"][places.index(None)] + " mixed" if None in places else None
+            count.add("status %s" % statuses if any(statuses) else mixed, "round %d" % number)
+        if len(os.listdir(out)) > 2:
+            count.add("files stay beside", "the end")
+    return count
