@@ -21,6 +21,7 @@ import gzip
 import json
 import os
 import resource
+import signal
 import statistics
 import subprocess
 import sys
@@ -42,10 +43,10 @@ class TooSlow(Exception):
 def spent(words, folder, options, source=None):
     """Seconds of the processor, the status and the output of a run."""
     before = resource.getrusage(resource.RUSAGE_CHILDREN)
-    try:
-        done = subprocess.run(words, cwd=folder, stdin=source, capture_output=True, timeout=options.seconds)
-    except subprocess.TimeoutExpired as fault:
-        raise TooSlow(words[0]) from fault
+    words = ["prlimit", "--cpu=%d" % options.seconds, *words]
+    done = subprocess.run(words, cwd=folder, stdin=source, capture_output=True)
+    if done.returncode in (-signal.SIGXCPU, -signal.SIGKILL):
+        raise TooSlow(words[2])
     after = resource.getrusage(resource.RUSAGE_CHILDREN)
     seconds = after.ru_utime - before.ru_utime
     if not options.user:
@@ -226,7 +227,7 @@ def main():
     parser.add_argument("--most", type=int, default=None, help="no more than so many cases")
     parser.add_argument("--runs", type=int, default=3, help="of so many runs the least time counts")
     parser.add_argument("--no-times", action="store_true", help="only the answers are compared, in one run each")
-    parser.add_argument("--seconds", type=int, default=300, help="a run that takes longer on the clock is cut")
+    parser.add_argument("--seconds", type=int, default=300, help="a run that takes more of a processor is cut")
     parser.add_argument("--total", type=float, default=float("inf"), help="no more cases after so many seconds")
     parser.add_argument("--rows", action="store_true", help="print a line for each case")
     parser.add_argument("--no-certificate", action="store_true", help="the program writes no log of its search")
