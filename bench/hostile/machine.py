@@ -8,6 +8,8 @@ import time
 
 from problem import KILLED, OLD, Count, Problem, read, run, write
 
+FILE_CALLS = "openat open write fsync fdatasync close rename renameat renameat2 unlink unlinkat ftruncate".split()
+
 
 def after_kill(problem, count, what):
     """LOCK and CERT are whole, each the old or the new one, and what stays beside hinders no later run."""
@@ -39,19 +41,17 @@ def kills(program, options):
 
 
 def kills_at_calls(program, options):
-    """SIGKILL at each call of the system that opens, writes, syncs, closes or renames."""
+    """SIGKILL at each use of each call of the system by which files are opened, written, synced, closed and renamed."""
     count = Count("killed at a call of the system")
-    calls = "openat,write,fsync,fdatasync,close,rename,renameat,renameat2,unlink,unlinkat,ftruncate,statx"
     with tempfile.TemporaryDirectory() as folder:
-        problem, number, status = Problem(program, folder), 0, KILLED
-        while status == KILLED or number == 0:
-            number += 1
-            problem.reset()
-            tracing = ["strace", "-f", "-qq", "-o", "/dev/null", "-e", "trace=" + calls, "-e",
-                       "inject=%s:signal=KILL:when=%d" % (calls, number)]
-            status = run([*tracing, *problem.words], folder).status
-            if status == KILLED:
-                after_kill(problem, count, "call %d" % number)
+        problem = Problem(program, folder)
+        for call in FILE_CALLS:
+            for number in range(1, 1000):
+                problem.reset()
+                inject = ["-e", "trace=" + call, "-e", "inject=%s:signal=KILL:when=%d" % (call, number)]
+                if run(["strace", "-f", "-qq", "-o", "/dev/null", *inject, *problem.words], folder).status != KILLED:
+                    break
+                after_kill(problem, count, "%s %d" % (call, number))
     return count
 
 

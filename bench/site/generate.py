@@ -13,7 +13,8 @@ import random
 import shutil
 
 import shape
-from packages import APPLICATION, Repository
+from draws import APPLICATION
+from packages import Repository
 from records import compact, database
 from recipes import write
 

@@ -4,7 +4,7 @@ import os
 import random
 
 import shape
-from packages import version_text
+from draws import version_text
 
 HEAD = '''# Copyright Spack Project Developers. See COPYRIGHT file for details.
 #

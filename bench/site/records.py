@@ -9,7 +9,7 @@ import json
 import random
 
 import shape
-from packages import version_text
+from draws import version_text
 
 # Of each generation: how many versions behind the planted one, the version of gcc, the target.
 GENERATIONS = [(0, "13.2.0", "zen3"), (1, "13.2.0", "zen3"), (0, "11.4.0", "zen3"), (3, "11.4.0", "x86_64_v3")]
