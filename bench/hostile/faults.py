@@ -27,6 +27,9 @@ FAULTS = {
     "getdents64": ("EIO",),
 }
 
+# Calls on files in `out`, by a path or by a descriptor, and syncs of the folder; to clean up may fail.
+AT_PUT = re.compile(r"""^\d+\s+(?!unlink).*(["/]out/|sync\(.*/out>)""")
+
 
 def traced(problem, words, rest):
     """A run under `strace`, and the lines of what was traced."""
@@ -60,7 +63,7 @@ def fault_of(problem, done, lines, is_writer):
         return None
     if done.status == 0 and held != ("new", "new"):
         return "done, and LOCK or CERT is not there"
-    at_put = next((line for line in lines if "(INJECTED)" in line and "/out" in line and " unlink" not in line), None)
+    at_put = next((line for line in lines if "(INJECTED)" in line and AT_PUT.search(line)), None)
     if done.status == 0 and at_put and not re.search("EINTR|EAGAIN", at_put):
         call = re.match(r"\d+ +(\w+)", at_put).group(1)
         return "%s of a put failed unnoticed" % call
