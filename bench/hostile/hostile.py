@@ -17,6 +17,8 @@ import machine
 PARTS = {
     "kills": machine.kills,
     "kills-at-calls": machine.kills_at_calls,
+    "stopped": machine.by_hand,
+    "file-sizes": machine.file_sizes,
     "full-disk": machine.full_disk,
     "memory": machine.little_memory,
     "two-at-once": lambda program, options: machine.at_once(program, options, 2, options.rounds),
@@ -28,7 +30,7 @@ PARTS = {
 
 def main():
     parser = argparse.ArgumentParser(description=__doc__.split("\n")[0])
-    parser.add_argument("words", nargs="*", help="only parts whose name has one of these: %s" % ", ".join(PARTS))
+    parser.add_argument("words", nargs="*", help="only parts whose name has one of these, of " + ", ".join(PARTS))
     parser.add_argument("--program", required=True)
     parser.add_argument("--seed", type=int, default=1)
     parser.add_argument("--kills", type=int, default=200)

@@ -1,6 +1,7 @@
 """Kills, full disks, little memory, several runs at once."""
 import os
 import random
+import signal
 import statistics
 import subprocess
 import tempfile
@@ -21,22 +22,49 @@ def after_kill(problem, count, what):
     count.add("lost" if "lost" in held else "the next run fails" if later.fault() or later.status else None, what)
 
 
-def kills(program, options):
-    """SIGKILL at random moments of a run."""
-    count, drawn = Count("killed at random"), random.Random(options.seed)
+def stopped(program, options, name, sent, times):
+    """Runs that a signal ends at a random moment."""
+    count, drawn = Count(name), random.Random("%s %s" % (options.seed, name))
     with tempfile.TemporaryDirectory() as folder:
         problem = Problem(program, folder, 104)
-        times = []
+        took = []
         for _ in range(5):
             begun = time.perf_counter()
             run(problem.words, folder)
-            times.append(time.perf_counter() - begun)
-        for number in range(options.kills):
+            took.append(time.perf_counter() - begun)
+        for number in range(times):
             problem.reset()
             with subprocess.Popen(problem.words, cwd=folder, stdout=subprocess.DEVNULL, stderr=subprocess.DEVNULL) as process:
-                time.sleep(drawn.uniform(0, 1.1 * statistics.median(times)))
-                process.kill()
-            after_kill(problem, count, "kill %d" % number)
+                time.sleep(drawn.uniform(0, 1.1 * statistics.median(took)))
+                process.send_signal(sent)
+            if sent != signal.SIGKILL and problem.beside():
+                count.add("a file stays beside", "signal %d" % number)
+            else:
+                after_kill(problem, count, "signal %d" % number)
+    return count
+
+
+def kills(program, options):
+    """SIGKILL, after which a file may stay beside."""
+    return stopped(program, options, "killed at random", signal.SIGKILL, options.kills)
+
+
+def by_hand(program, options):
+    """SIGTERM, after which nothing stays beside."""
+    return stopped(program, options, "stopped by SIGTERM at random", signal.SIGTERM, options.kills // 4)
+
+
+def file_sizes(program, options):
+    """`ulimit -f` at some sizes: a put fails by name, and no signal ends the run."""
+    count = Count("files of some size at most")
+    with tempfile.TemporaryDirectory() as folder:
+        problem = Problem(program, folder, 104)
+        for size in (0, 1, 512, 1024, 4096, 8192, 16384, 32768, 65536, 131072, 262144):
+            problem.reset()
+            done, held = run(["prlimit", "--fsize=%d" % size, *problem.words], folder), problem.held()
+            count.saw("status %d, lock %s, cert %s" % (done.status, *held))
+            is_lost = "lost" in held or done.status == 0 and held != ("new", "new")
+            count.add(done.fault() or ("lost" if is_lost else None), "%d bytes" % size)
     return count
 
 
