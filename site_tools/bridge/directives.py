@@ -7,9 +7,9 @@ from dataclasses import dataclass, replace
 from typing import Any, Callable, Optional, Union
 
 from . import signs, spec_text
-from .rows import Cannot, Conditions, Row, VariantRow
+from .rows import Cannot, Conditions, Row, VariantRow, listed, quoted
 from .spec_text import Dialect
-from .variants import VariantReader, listed, quoted
+from .variants import VariantReader
 from .versions import Version
 
 LANGUAGES = ("c", "cxx", "fortran")

@@ -6,18 +6,8 @@ that exclude each other become `conflicts`. A variant whose values a function te
 from typing import Any, Optional
 
 from . import signs
-from .rows import Cannot, Conditions, Row, VariantRow
+from .rows import Cannot, Choice, Conditions, Row, VariantRow, quoted
 from .variant_values import Conditional, DisjointSets
-
-
-def quoted(text: str) -> str:
-    """A text as a string of a recipe."""
-    return '"' + text.replace("\\", "\\\\").replace('"', '\\"') + '"'
-
-
-def listed(texts: list[str]) -> str:
-    """Texts as a tuple of a recipe."""
-    return "(" + ", ".join(map(quoted, texts)) + ("," if len(texts) == 1 else "") + ")"
 
 
 def flat(values: Any) -> list[Any]:
@@ -51,23 +41,27 @@ class VariantReader:
             raise Cannot("a name that is no variant of the profile", f"`{self.name}`")
         values = self.given.get("values")
         if values is None or isinstance(values, (tuple, list)) and set(map(str, values)) == {"True", "False"}:
-            arguments = self.read_bool()
+            choice = self.read_bool()
         elif isinstance(values, DisjointSets):
-            arguments = self.read_sets(values)
+            choice = self.read_sets(values)
         elif isinstance(values, (tuple, list, str, int)):
-            arguments = self.read_list(flat(values))
+            choice = self.read_list(flat(values))
         else:
             raise Cannot("values that are no list", "")
-        return VariantRow(self.name, Row("variant", (quoted(self.name),) + arguments, self.conditions), tuple(self.rules))
+        return VariantRow(self.name, Row("variant", choice.arguments(), self.conditions, choice=choice), tuple(self.rules))
 
-    def read_bool(self) -> tuple[str, ...]:
+    def read_bool(self) -> Choice:
         """A truth value; without `values`, another default means any value at all."""
         default = str(self.given.get("default")).lower()
         if default not in ("true", "false"):
             raise Cannot("values that are any text", f"default `{self.given.get('default')}`")
-        return (f"default={default.title()}",)
+        return Choice(self.name, (default,), sticky=self.is_sticky())
 
-    def read_list(self, values: list[Any]) -> tuple[str, ...]:
+    def is_sticky(self) -> bool:
+        """Whether Spack keeps the default where nobody names the variant."""
+        return bool(self.given.get("sticky"))
+
+    def read_list(self, values: list[Any]) -> Choice:
         """A list of values, some with a condition."""
         allowed: list[str] = []
         for value in values:
@@ -80,7 +74,7 @@ class VariantReader:
                 self.rules.append(self.rule("requires", self.condition_of(when), f"{self.name}={text}"))
         return self.shape(allowed, self.given.get("default"), self.given.get("multi") is True)
 
-    def read_sets(self, values: DisjointSets) -> tuple[str, ...]:
+    def read_sets(self, values: DisjointSets) -> Choice:
         """Sets of which a node takes one: values of two of them conflict."""
         sets = [[checked(value) for value in each] for each in values.sets]
         for place, each in enumerate(sets):
@@ -97,8 +91,8 @@ class VariantReader:
         blocks = self.conditions.with_own_as_block() if own_text else self.conditions.blocks
         return Row(directive, (quoted(text),), Conditions(blocks, own_text or self.conditions.own))
 
-    def shape(self, allowed: list[str], default: Any, multi: bool) -> tuple[str, ...]:
-        """The keywords of a definition with these values."""
+    def shape(self, allowed: list[str], default: Any, multi: bool) -> Choice:
+        """A definition with these values."""
         wanted = list(default) if isinstance(default, (tuple, list)) else [default]
         if multi and isinstance(default, str):
             wanted = default.split(",")
@@ -106,5 +100,4 @@ class VariantReader:
         allowed = list(dict.fromkeys(allowed))
         if default is None or not chosen or not set(chosen) <= set(allowed) or len(chosen) != 1 and not multi:
             raise Cannot("a default that is none of the values", f"`{default}`")
-        text = quoted(chosen[0]) if len(chosen) == 1 else listed(chosen)
-        return (f"default={text}", f"values={listed(allowed)}") + (("multi=True",) if multi else ())
+        return Choice(self.name, tuple(chosen), tuple(allowed), multi, self.is_sticky())
