@@ -14,7 +14,8 @@ from typing import Any, Iterator, Optional
 
 from .class_reader import ClassReader
 from .directives import DIRECTIVES
-from .literals import ClassValue
+from .definitions import copied
+from .values import ClassValue
 from .rows import Cannot, LeftOut, Row, VariantRow
 from .spec_text import Dialect
 
@@ -122,7 +123,8 @@ class Repository:
         found = ClassRows([], [], set(), ClassValue({}), [])
         for base in reversed(node.bases):
             self.add_base(found, module, ast.unparse(base), node, open_classes + (own,))
-        names = ChainMap({}, self.class_values(module, node), copy.deepcopy(module.names_at[name]))
+        given = module.names_at[name]
+        names = ChainMap({}, self.class_values(module, node), copied(given, copy.deepcopy(given)))
         reader = ClassReader(self.shown(module.path), self.dialect, "python-venv" in self.folders, module.text)
         reader.run(node.body, names)
         found.rows += reader.rows
