@@ -26,6 +26,7 @@ sys.dont_write_bytecode = True
 
 from bridge import export_spec, import_repo, import_settings, installed, lock_view, manual, spec_text  # noqa: E402
 from bridge.literals import Evaluator, NotLiteral  # noqa: E402
+import idioms  # noqa: E402
 
 WRITE = "--write" in sys.argv[1:]
 Check = Iterator[tuple[str, str]]  # the name of what is wrong, and how
@@ -119,6 +120,12 @@ def check_recipes() -> Check:
                 umber = (out / "packages" / "umber" / "package.py")
                 text = umber.read_text("utf-8") if umber.exists() else "none"
                 yield from compared(f"import_repo {words[0]} umber", text, TESTS / "reports" / f"{name}_umber.txt")
+
+
+def check_idioms() -> Check:
+    """Small recipes of one idiom each."""
+    for path in sorted((TESTS / "idioms").glob("*.txt")):
+        yield from idioms.check(path, run)
 
 
 def check_site() -> Check:
@@ -268,7 +275,7 @@ def main() -> int:
     """Runs all checks: 0 where nothing differs."""
     begun, wrong = time.monotonic(), 0
     # The program's lock file is one that the views show, so it comes first.
-    checks = (check_style, check_texts, check_literals, check_recipes, check_site, check_cases, check_program, check_views)
+    checks = (check_style, check_texts, check_literals, check_idioms, check_recipes, check_site, check_cases, check_program, check_views)
     for check in (*checks, check_completion, check_manual):
         faults = list(check())
         wrong += len(faults)

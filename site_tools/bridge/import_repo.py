@@ -10,9 +10,9 @@ from dataclasses import asdict
 from pathlib import Path
 from typing import Optional
 
-from . import report, signs
+from . import own_name, report, signs, sticky
 from .recipe_files import Repository, class_name
-from .recipe_writer import recipe_text, settled
+from .recipe_writer import governed, recipe_text, settled
 from .rows import Cannot, LeftOut, Recipe, Row
 
 TOOLS = Path(__file__).resolve().parent.parent
@@ -28,9 +28,10 @@ def read_package(repository: Repository, name: str) -> Recipe:
     if wanted not in module.classes:
         raise Cannot("a file without the package's class", f"`class {wanted}`")
     found = repository.class_rows(module, wanted)
-    recipe = Recipe(name, repository.shown(path), wanted, settled(found.rows), found.left_out, found.bases)
-    kept = {row.arguments[0].strip('"') for row in recipe.rows if row.directive == "variant"}
-    recipe.lost_variants = found.lost_variants - kept
+    recipe = Recipe(name, repository.shown(path), wanted, [], list(found.left_out), found.bases)
+    recipe.rows = settled(own_name.settle(recipe, governed(found.rows), repository.packages))
+    recipe.lost_variants |= found.lost_variants
+    recipe.lost_variants -= {row.choice.name for row in recipe.rows if row.choice}
     return recipe
 
 
@@ -47,7 +48,7 @@ def drop_clashes(recipes: list[Recipe]) -> None:
             )
 
 
-def read_all(repository: Repository, strict: bool) -> report.Import:
+def read_all(repository: Repository, strict: bool, asked: Optional[list[str]] = None) -> report.Import:
     """All packages of a repository."""
     recipes: list[Recipe] = []
     refused: dict[str, Cannot] = {}
@@ -57,6 +58,8 @@ def read_all(repository: Repository, strict: bool) -> report.Import:
         except (Cannot, RecursionError) as fault:
             refused[name] = fault if isinstance(fault, Cannot) else Cannot("a file that is too deep", name)
     drop_clashes(recipes)
+    if asked is not None:
+        sticky.settle(recipes, asked)
     if strict:
         for recipe in [each for each in recipes if not each.is_whole()]:
             refused[recipe.name] = Cannot("parts that cannot be said, under --strict", recipe.left_out[0].kind)
@@ -84,6 +87,10 @@ def arguments(words: Optional[list[str]]) -> argparse.Namespace:
         "--build-systems", type=Path, action="append", metavar="FOLDER",
         help="the folder with your Spack's own base classes, in place of the stand-ins of site_tools",
     )
+    parser.add_argument(
+        "--sticky", action="append", metavar="SPEC",
+        help="what requests may ask of sticky variants, as `cuda_arch=80` or `kokkos cuda_arch=80,90`; '' for nothing",
+    )
     parser.add_argument("--report", type=Path, metavar="FILE", help="where the report goes; OUT/report.txt if not said")
     parser.add_argument("--json", type=Path, metavar="FILE", help="the report for programs")
     return parser.parse_args(words)
@@ -101,7 +108,11 @@ def main(words: Optional[list[str]] = None) -> int:
     own = given.repo / "build_systems"
     named = ([own] if own.is_dir() else []) + (given.build_systems or [])
     repository = Repository(given.repo, named or [TOOLS / "build_systems"], given.platform)
-    found = read_all(repository, given.strict)
+    try:
+        found = read_all(repository, given.strict, given.sticky)
+    except ValueError as fault:
+        print(f"import_repo: {fault}", file=sys.stderr)
+        return 2
     write_all(found, given.out)
     stand_ins = [] if named else repository.base_files
     text = report.text_of(found, report.stand_ins_of(stand_ins, found))

@@ -69,6 +69,7 @@ class Repository:
         is_v2 = re.search(r"^\s*api:\s*['\"]?v2", text, re.M) is not None
         self.dialect = Dialect((found.group(1) if found else "builtin").rpartition(".")[2], is_v2)
         self.folders = {self.package_of(each.parent.name): each for each in sorted(root.glob("packages/*/package.py"))}
+        self.packages = frozenset(self.folders)
         self.base_files = [path for folder in build_systems for path in sorted(folder.glob("*.py"))]
         self.modules: dict[Path, Module] = {}
         self.read: dict[str, ClassRows] = {}

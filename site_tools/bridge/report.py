@@ -24,6 +24,8 @@ MEANING = {
     "generator": "the variant `generator` has the values of the base class",
     "class": "directives of the base class are missing",
     "call": "directives that such a call would make are missing",
+    "sticky": "a value of these variants may be chosen that nobody asked for, where Spack keeps the default: see `--sticky`",
+    "validator": "values of these variants may be chosen together that Spack refuses",
     "import": "names of that module may mean something else than Spack's",
 }
 HOW_TO_READ = (
