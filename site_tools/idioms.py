@@ -61,9 +61,10 @@ def outcome(room: Path, package: str) -> tuple[list[str], list[str]]:
     lines = [line[4:] for line in path.read_text("utf-8").splitlines()[2:]] if path.exists() else ["no recipe"]
     hidden = re.compile(r'variant\("build_system"|pass$')
     report = (room / "out" / "report.txt").read_text("utf-8")
-    listed = re.findall(rf"^{re.escape(package)}\n((?:    .*\n)*)", report.partition("Taken with parts left out")[2], re.M)
+    listed = re.findall(rf"^{re.escape(package)}\n((?:    .*\n)*)", report.rpartition("Taken with parts left out")[2], re.M)
     blocks = re.findall(r"    \S.*\n        (\S+?)[( ].*\n        (.*)\n|    \S.*\n        (\S+)\n        (.*)\n", "".join(listed))
     found = [f"{name or other}: {why or reason}" for name, why, other, reason in blocks]
+    found += [f"{what}: {why}" for what, why in re.findall(rf"    packages.yaml:\d+: (packages.{package}\..*)\n        (.*)\n", report)]
     return [line for line in lines if not hidden.match(line)], found
 
 
@@ -80,7 +81,8 @@ def check(path: Path, run: object) -> Iterator[tuple[str, str]]:
             for package, text in files.items():
                 (room / "repo" / "packages" / package).mkdir(parents=True)
                 (room / "repo" / "packages" / package / "package.py").write_text(text, "utf-8")
-            said = run(import_repo.main, room / "repo", room / "out", *words)  # type: ignore[operator]
+            given = [word.replace("@/", f"{path.parent}/") for word in words]
+            said = run(import_repo.main, room / "repo", room / "out", *given)  # type: ignore[operator]
             for case in group:
                 wanted = (case.wanted, case.listed)
                 found = outcome(room, case.package) if (room / "out").exists() else ([said], [])

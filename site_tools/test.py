@@ -1,5 +1,5 @@
 #!/usr/bin/env python3
-"""The tests of site_tools: `python3 site_tools/test.py` runs all of them in some seconds, and needs no kit.
+"""The tests of site_tools: `site_tools/test.py` runs all of them in some seconds, `test.py idioms cases` some; no kit is needed.
 
 Rows and files are the data, in tests/ and examples/site. `--write` writes what the tools give now as what is wanted:
 look at `git diff` before it is kept. Where the released program is of other sources, the checks that ask it are passed
@@ -132,11 +132,11 @@ def check_site() -> Check:
     """examples/site is what the importers make of examples/site/spack."""
     with tempfile.TemporaryDirectory() as name:
         room = Path(name)
-        run(import_repo.main, SITE / "spack", room / "repo")
+        run(import_repo.main, SITE / "spack", room / "repo", "--packages", SITE / "spack" / "packages.yaml")
         yield from compared_folders("examples/site", room / "repo" / "packages", SITE / "packages")
         yield from compared("examples/site", (room / "repo" / "report.txt").read_text("utf-8"), SITE / "reports" / "packages.txt")
         files = [SITE / "spack" / f"{each}.yaml" for each in ("packages", "compilers", "concretizer")]
-        report = run(import_settings.main, "--target", "zen2", room / "settings.json", *files)
+        report = run(import_settings.main, "--target", "zen2", "--repo", room / "repo", room / "settings.json", *files)
         if "python3-yaml is not installed" in report:
             print("passed over: import_settings (python3-yaml is not installed)")
         else:
@@ -276,7 +276,8 @@ def main() -> int:
     begun, wrong = time.monotonic(), 0
     # The program's lock file is one that the views show, so it comes first.
     checks = (check_style, check_texts, check_literals, check_idioms, check_recipes, check_site, check_cases, check_program, check_views)
-    for check in (*checks, check_completion, check_manual):
+    asked = [word for word in sys.argv[1:] if not word.startswith("-")]
+    for check in [each for each in (*checks, check_completion, check_manual) if not asked or each.__name__[6:] in asked]:
         faults = list(check())
         wrong += len(faults)
         print(f"{check.__name__.removeprefix('check_')}: {'right' if not faults else f'{len(faults)} wrong'}")

@@ -4,16 +4,18 @@ Reads each `package.py` by Python's `ast`, never runs one, and never guesses: wh
 left out and listed with its line and reason.
 """
 import argparse
+import hashlib
 import json
 import sys
 from dataclasses import asdict
 from pathlib import Path
 from typing import Optional
 
-from . import own_name, report, signs, sticky
+from . import own_name, report, signs, sticky, wishes, yaml_texts
 from .recipe_files import Repository, class_name
 from .recipe_writer import governed, recipe_text, settled
 from .rows import Cannot, LeftOut, Recipe, Row
+from .settings_notes import Notes
 
 TOOLS = Path(__file__).resolve().parent.parent
 
@@ -48,7 +50,7 @@ def drop_clashes(recipes: list[Recipe]) -> None:
             )
 
 
-def read_all(repository: Repository, strict: bool, asked: Optional[list[str]] = None) -> report.Import:
+def read_all(repository: Repository, given: argparse.Namespace) -> report.Import:
     """All packages of a repository."""
     recipes: list[Recipe] = []
     refused: dict[str, Cannot] = {}
@@ -58,13 +60,33 @@ def read_all(repository: Repository, strict: bool, asked: Optional[list[str]] = 
         except (Cannot, RecursionError) as fault:
             refused[name] = fault if isinstance(fault, Cannot) else Cannot("a file that is too deep", name)
     drop_clashes(recipes)
-    if asked is not None:
-        sticky.settle(recipes, asked)
-    if strict:
+    notes = Notes(wishes.FILE)
+    site = wishes.apply(recipes, packages_of(given.packages), notes, repository.dialect)
+    if given.sticky is not None:
+        sticky.settle(recipes, given.sticky)
+    if given.strict:
         for recipe in [each for each in recipes if not each.is_whole()]:
             refused[recipe.name] = Cannot("parts that cannot be said, under --strict", recipe.left_out[0].kind)
         recipes = [each for each in recipes if each.is_whole()]
-    return report.Import(recipes, refused)
+    return report.Import(recipes, refused, site, notes)
+
+
+def packages_of(path: Optional[Path]) -> yaml_texts.Map:
+    """What packages.yaml says, where it is named; `ValueError` where it is of another form."""
+    if path is None:
+        return yaml_texts.Map()
+    value = yaml_texts.read(path.read_text("utf-8"))
+    inner = value.get("packages", yaml_texts.Map()) if isinstance(value, dict) else None
+    if not isinstance(inner, dict):
+        raise ValueError(f"{path} is no packages.yaml")
+    return yaml_texts.Map({name: each for name, each in inner.items() if isinstance(each, dict)})
+
+
+def write_site(found: report.Import, given: argparse.Namespace) -> None:
+    """Writes OUT/site.json, from which import_settings knows the recipes."""
+    digest = hashlib.sha256(given.packages.read_bytes()).hexdigest() if given.packages else None
+    known = {"packages": digest, "providers": found.site.providers, "declared": found.site.declared}
+    (given.out / "site.json").write_text(json.dumps(known, indent=1) + "\n", "utf-8")
 
 
 def write_all(found: report.Import, out: Path) -> None:
@@ -88,6 +110,10 @@ def arguments(words: Optional[list[str]]) -> argparse.Namespace:
         help="the folder with your Spack's own base classes, in place of the stand-ins of site_tools",
     )
     parser.add_argument(
+        "--packages", type=Path, metavar="YAML",
+        help="packages.yaml, of which `require`, `conflict`, `prefer`, `variants` and versions of externals go into the recipes",
+    )
+    parser.add_argument(
         "--sticky", action="append", metavar="SPEC",
         help="what requests may ask of sticky variants, as `cuda_arch=80` or `kokkos cuda_arch=80,90`; '' for nothing",
     )
@@ -109,11 +135,12 @@ def main(words: Optional[list[str]] = None) -> int:
     named = ([own] if own.is_dir() else []) + (given.build_systems or [])
     repository = Repository(given.repo, named or [TOOLS / "build_systems"], given.platform)
     try:
-        found = read_all(repository, given.strict, given.sticky)
-    except ValueError as fault:
+        found = read_all(repository, given)
+    except (ValueError, OSError, yaml_texts.NoYaml) as fault:
         print(f"import_repo: {fault}", file=sys.stderr)
         return 2
     write_all(found, given.out)
+    write_site(found, given)
     stand_ins = [] if named else repository.base_files
     text = report.text_of(found, report.stand_ins_of(stand_ins, found))
     (given.report or given.out / "report.txt").write_text(text, "utf-8")

@@ -5,11 +5,13 @@ Says what was done, and what it means for the answers; decides nothing.
 import ast
 import textwrap
 from collections import Counter, defaultdict
-from dataclasses import dataclass
+from dataclasses import dataclass, field
 from pathlib import Path
 
 from . import spec_text
 from .rows import Cannot, LeftOut, Recipe
+from .settings_notes import Notes
+from .wishes import Site
 
 # What it means for the answers that a directive is not there.
 MEANING = {
@@ -41,6 +43,8 @@ class Import:
 
     recipes: list[Recipe]
     refused: dict[str, Cannot]
+    site: Site = field(default_factory=Site)
+    notes: Notes = field(default_factory=Notes)
 
     def whole(self) -> list[Recipe]:
         """Recipes that say all that Spack's say."""
@@ -172,6 +176,7 @@ def text_of(found: Import, stand_ins: list[str]) -> str:
     lines += section("Variants that are missing", lost_lines(found))
     lines += section("Variants that are asked for and that no recipe has: these dependencies cannot be met", asked_lines(found))
     lines += section("Names that no recipe has and none provides: nothing that asks for them can be met", unknown_lines(found))
+    lines += section("Of packages.yaml: not written into the recipes, or weaker there", found.notes.lines(found.notes.rows))
     lines += section("Base classes that stand-ins were taken for (--build-systems names your Spack's own)", stand_ins)
     lines += section("Taken with parts left out", part_lines(found.partly()))
     whole = "Taken whole" + (", but for what the stand-ins lack" if stand_ins else "")
