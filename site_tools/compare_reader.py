@@ -5,6 +5,7 @@ Makes random spec texts and random recipes in Spack's style, right and wrong one
 program read what was written. The program must read all of it: what it refuses is a fault of the importer. It says
 nothing of whether what was written means the same.
 """
+import argparse
 import random
 import subprocess
 import sys
@@ -16,7 +17,7 @@ sys.path.insert(0, str(TOOLS))
 sys.dont_write_bytecode = True
 
 from bridge import import_repo, spec_text  # noqa: E402
-from bridge.variants import quoted  # noqa: E402
+from bridge.rows import quoted  # noqa: E402
 
 PIECES = (
     "a|b-c|_x|@|1.2|1.2:|::|:|2:1|,|=|+|~|-|%|gcc|clang| |  |^|^zlib| v=a|v=a,b|os=x| target=x:y| platform=l| arch=a-b-c|'a'"
@@ -129,7 +130,11 @@ def compare_recipes(maker: Maker, program: str, room: Path) -> str:
 
 def main() -> int:
     """Runs the comparisons: 0 where the program read all."""
-    seed, runs = [int(word) for word in (sys.argv[1:] + ["1", "5"][len(sys.argv) - 1 :])]
+    parser = argparse.ArgumentParser(description=__doc__)
+    parser.add_argument("seed", type=int, nargs="?", default=1, metavar="SEED")
+    parser.add_argument("runs", type=int, nargs="?", default=5, metavar="RUNS")
+    given = parser.parse_args()
+    seed, runs = given.seed, given.runs
     program = subprocess.run([str(TOOLS.parent / "spack_concretize"), "--where"], capture_output=True, text=True, check=True).stdout.strip()
     wrong = False
     for turn in range(runs):

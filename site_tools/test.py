@@ -5,6 +5,7 @@ Rows and files are the data, in tests/ and examples/site. `--write` writes what 
 look at `git diff` before it is kept. Where the released program is of other sources, the checks that ask it are passed
 over by name.
 """
+import argparse
 import ast
 import contextlib
 import io
@@ -276,7 +277,10 @@ def main() -> int:
     begun, wrong = time.monotonic(), 0
     # The program's lock file is one that the views show, so it comes first.
     checks = (check_style, check_texts, check_literals, check_idioms, check_recipes, check_site, check_cases, check_program, check_views)
-    asked = [word for word in sys.argv[1:] if not word.startswith("-")]
+    parser = argparse.ArgumentParser(description=__doc__)
+    parser.add_argument("--write", action="store_true", help="keep what the tools give now as what is wanted")
+    parser.add_argument("checks", nargs="*", help="names of checks, as the lines below show them; all without a name")
+    asked = parser.parse_args().checks
     for check in [each for each in (*checks, check_completion, check_manual) if not asked or each.__name__[6:] in asked]:
         faults = list(check())
         wrong += len(faults)

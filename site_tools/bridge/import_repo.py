@@ -75,7 +75,7 @@ def packages_of(path: Optional[Path]) -> yaml_texts.Map:
     """What packages.yaml says, where it is named; `ValueError` where it is of another form."""
     if path is None:
         return yaml_texts.Map()
-    value = yaml_texts.read(path.read_text("utf-8"))
+    value = yaml_texts.read_file(path)
     inner = value.get("packages", yaml_texts.Map()) if isinstance(value, dict) else None
     if not isinstance(inner, dict):
         raise ValueError(f"{path} is no packages.yaml")

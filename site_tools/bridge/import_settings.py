@@ -10,7 +10,7 @@ import sys
 from pathlib import Path
 from typing import Any, Optional
 
-from . import settings_packages, targets, yaml_texts
+from . import json_files, settings_packages, targets, yaml_texts
 from .rows import Cannot
 from .settings_compilers import compilers_of, ordered
 from .settings_notes import Notes
@@ -30,7 +30,7 @@ def read_files(paths: list[Path]) -> dict[str, tuple[str, Any]]:
     found: dict[str, tuple[str, Any]] = {}
     for path in paths:
         try:
-            value = yaml_texts.read(path.read_text("utf-8"))
+            value = yaml_texts.read_file(path)
         except ValueError as fault:
             raise Cannot("a file that cannot be read", f"{path}: {fault}") from fault
         if not isinstance(value, dict) or not value:
@@ -75,7 +75,7 @@ def target_table(given: argparse.Namespace, packages: Any, generic: bool, notes:
     """The table of targets, those first that are preferred for all packages."""
     targets.use(given.archspec)
     if given.targets:
-        table = json.loads(given.targets.read_text("utf-8"))
+        table = json_files.read(given.targets)
     elif given.target in targets.PARENTS:
         table = targets.table_of(given.target, generic)
     else:
@@ -117,7 +117,7 @@ def site_of(given: argparse.Namespace, names: list[str]) -> settings_packages.Si
         return settings_packages.Site(given.platform, names)
     path = given.repo / "site.json"
     try:
-        known = json.loads(path.read_text("utf-8"))
+        known = json_files.read(path)
         providers, declared, digest = known["providers"], known["declared"], known["packages"]
     except (OSError, ValueError, KeyError, TypeError) as fault:
         raise Cannot("no folder that import_repo wrote", f"{path}: {fault}") from fault

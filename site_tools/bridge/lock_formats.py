@@ -98,7 +98,8 @@ def diff_lines(old: Lock, new: Lock) -> list[str]:
     providers = sorted(old.providers.keys() | new.providers.keys())
     changed = [name for name in providers if old.providers.get(name) != new.providers.get(name)]
     lines += [f"  provider of {name}: {old.providers.get(name, 'none')} -> {new.providers.get(name, 'none')}" for name in changed]
-    return lines or ["no difference"]
+    return lines or SAME
 
 
+SAME = ["no difference"]
 FORMATS = {"tree": tree_lines, "table": table_lines, "dot": dot_lines, "json": json_lines}

@@ -4,13 +4,12 @@ With `--vector` it says what the 31 numbers are, in words: from a file with the 
 `--judge REPO SETTINGS DATABASE`, by asking the program. It computes no cost itself.
 """
 import argparse
-import json
 import subprocess
 import sys
 from pathlib import Path
 from typing import Optional
 
-from . import cost_reasons, criteria, lock, lock_formats
+from . import cost_reasons, criteria, json_files, lock, lock_formats
 
 TOP = Path(__file__).resolve().parent.parent.parent
 
@@ -41,7 +40,7 @@ def vector_text(found: lock.Lock, given: argparse.Namespace) -> Optional[str]:
 def settings_of(given: argparse.Namespace) -> Optional[dict]:
     """The settings that the costs are by, where they are known; `-` are the standard ones."""
     path = given.judge[1] if given.judge else given.settings
-    return None if path is None else {} if path == "-" else json.loads(Path(path).read_text("utf-8"))
+    return None if path is None else {} if path == "-" else json_files.read(Path(path))
 
 
 def arguments(words: Optional[list[str]]) -> argparse.Namespace:
@@ -49,7 +48,7 @@ def arguments(words: Optional[list[str]]) -> argparse.Namespace:
     parser = argparse.ArgumentParser(prog="lock_view", description=__doc__)
     parser.add_argument("lock", type=Path, metavar="LOCK", help="a lock file")
     parser.add_argument("--format", choices=sorted(lock_formats.FORMATS), default="tree", help="tree is the standard")
-    parser.add_argument("--diff", type=Path, metavar="OTHER", help="what is other in the lock file OTHER")
+    parser.add_argument("--diff", type=Path, metavar="OTHER", help="what is other in the lock file OTHER; status 1 where anything is")
     parser.add_argument("--vector", metavar="FILE", help="what concretize or judge said, for the costs in words; - is standard input")
     parser.add_argument("--judge", nargs=3, metavar=("REPO", "SETTINGS", "DATABASE"), help="asks the program for the costs")
     parser.add_argument("--settings", metavar="SETTINGS", help="with --vector: the settings, for more of the reasons")
@@ -58,12 +57,13 @@ def arguments(words: Optional[list[str]]) -> argparse.Namespace:
 
 
 def main(words: Optional[list[str]] = None) -> int:
-    """Shows a lock file: 0 where it was shown, 2 where it is none or the program refuses it."""
-    given = arguments(words)
+    """Shows a lock file: 0 where it was shown, 1 where --diff shows a difference, 2 where it is none or the program refuses it."""
+    given, differs = arguments(words), False
     try:
         found = lock.read(given.lock)
         if given.diff:
             lines = lock_formats.diff_lines(found, lock.read(given.diff))
+            differs = lines != lock_formats.SAME
         else:
             lines = lock_formats.FORMATS[given.format](found)
         text = vector_text(found, given)
@@ -75,4 +75,4 @@ def main(words: Optional[list[str]] = None) -> int:
         print(f"lock_view: {fault}", file=sys.stderr)
         return 2
     print("\n".join(lines))
-    return 0
+    return 1 if differs else 0
