@@ -63,6 +63,9 @@ def compared_folders(name: str, found: Path, wanted: Path) -> Check:
     if WRITE:
         shutil.rmtree(wanted, ignore_errors=True)
         shutil.copytree(found, wanted)
+    hidden = ("import.json", "import_rows.jsonl", "origins.json")  # of these, what matters is looked at elsewhere
+    for path in [path for path in found.rglob("*") if path.name in hidden]:
+        path.unlink()
     paths = {path.relative_to(root) for root in (found, wanted) for path in root.rglob("*") if path.is_file()}
     for path in sorted(paths):
         if not (found / path).exists():

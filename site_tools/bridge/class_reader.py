@@ -213,9 +213,8 @@ class ClassReader:
     def with_origin(self, row: Union[Row, VariantRow], origin: Origin) -> Union[Row, VariantRow]:
         """The row with where it comes from."""
         if isinstance(row, VariantRow):
-            rules = tuple(replace(rule, origin=origin) for rule in row.rules)
-            return replace(row, row=replace(row.row, origin=origin), rules=rules)
-        return replace(row, origin=origin)
+            return VariantRow(row.name, row.row.of(origin), tuple(rule.of(origin) for rule in row.rules))
+        return row.of(origin)
 
     def refuse(self, node: ast.Call, name: str, names: Names, kind: str, detail: str) -> None:
         """Lists a directive that is left out, and remembers the variant that is lost with it."""

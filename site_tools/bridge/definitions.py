@@ -15,21 +15,23 @@ if TYPE_CHECKING:
 KNOWN_MODULES = ("spack", "spack_repo", "itertools", "llnl", "typing")
 
 
-def take_function(_reader: "ClassReader", statement: ast.FunctionDef, names: Names, _around: "Around") -> None:
+def take_function(reader: "ClassReader", statement: ast.FunctionDef, names: Names, _around: "Around") -> None:
     """A function: it may be called by its name; it sees the names of the file."""
     of_file = names.maps[-1] if isinstance(names, ChainMap) else names
     names[statement.name] = Function(statement, of_file)
-    take_globals(statement, names)
+    take_globals(reader, statement, names)
 
 
-def take_definition(_reader: "ClassReader", statement: Any, names: Names, _around: "Around") -> None:
+def take_definition(reader: "ClassReader", statement: Any, names: Names, _around: "Around") -> None:
     """A nested class or an asynchronous function: not looked into, its name is unknown."""
     names[statement.name] = Unknown("is a class")
-    take_globals(statement, names)
+    take_globals(reader, statement, names)
 
 
-def take_globals(statement: ast.AST, names: Names) -> None:
+def take_globals(reader: "ClassReader", statement: ast.AST, names: Names) -> None:
     """Names that a function may change by `global`."""
+    if reader.text and "global" not in reader.text:
+        return
     for node in ast.walk(statement):
         if isinstance(node, ast.Global):
             for name in node.names:

@@ -6,7 +6,7 @@ A function gets the computed arguments and gives the rows that say exactly the s
 from dataclasses import dataclass, replace
 from typing import Any, Callable, Optional, Union
 
-from . import signs, spec_text
+from . import signs, spec_memory, spec_text
 from .rows import Cannot, Conditions, Row, VariantRow, listed, quoted
 from .spec_text import Dialect
 from .variants import VariantReader
@@ -66,7 +66,7 @@ class Call:
         """A condition in the profile's words."""
         if not isinstance(value, str):
             raise Cannot("a condition that is no text", f"`{value}`")
-        return spec_text.read_condition(value, self.dialect).text()
+        return spec_memory.condition_text(value, self.dialect)
 
     def conditions(self) -> Optional[Conditions]:
         """All conditions of this call; None where one of them never holds."""
@@ -111,15 +111,15 @@ def depends_on(call: Call, standard: Any = None) -> Rows:
     """`depends_on`, with its kinds where they are not build and link."""
     conditions = call.conditions()
     kinds = kinds_of(call.keywords.get("type", standard))
-    spec = spec_text.read_dependency(call.text(), call.dialect)
+    spec, text = spec_memory.dependency_text(call.text(), call.dialect)
     if conditions is None:
         return []
     words: tuple[str, ...] = ()
     if kinds != ("build", "link"):
         words = (f"type={quoted(kinds[0]) if len(kinds) == 1 else listed(list(kinds))}",)
-    is_language = spec.top == spec_text.Part(spec.top.name) and spec.top.name in LANGUAGES
+    is_language = spec.top.name in LANGUAGES and spec.top == spec_text.Part(spec.top.name)
     names = () if is_language or kinds == ("test",) else (str(spec.top.name),)
-    return [Row("depends_on", (quoted(spec.text()), *words), conditions, names)]
+    return [Row("depends_on", (quoted(text), *words), conditions, names)]
 
 
 def extends(call: Call) -> Rows:

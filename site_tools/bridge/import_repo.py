@@ -11,30 +11,14 @@ from dataclasses import asdict
 from pathlib import Path
 from typing import Optional
 
-from . import own_name, report, signs, sticky, wishes, yaml_texts
-from .recipe_files import Repository, class_name
-from .recipe_writer import governed, recipe_text, settled
-from .rows import Cannot, LeftOut, Recipe, Row
+from . import packed, read_packages, report, sticky, targets, wishes, yaml_texts
+from .import_table import TABLE, ImportTable
+from .read_packages import Found
+from .recipe_files import Repository
+from .rows import Cannot, LeftOut, Recipe
 from .settings_notes import Notes
 
 TOOLS = Path(__file__).resolve().parent.parent
-
-
-def read_package(repository: Repository, name: str) -> Recipe:
-    """The recipe of a package; `Cannot` where none can be written."""
-    path = repository.folders[name]
-    if not signs.is_name(name):
-        raise Cannot("a package's name beyond the profile", name)
-    module = repository.module(path)
-    wanted = class_name(name)
-    if wanted not in module.classes:
-        raise Cannot("a file without the package's class", f"`class {wanted}`")
-    found = repository.class_rows(module, wanted)
-    recipe = Recipe(name, repository.shown(path), wanted, [], list(found.left_out), found.bases)
-    recipe.rows = settled(own_name.settle(recipe, governed(found.rows), repository.packages))
-    recipe.lost_variants |= found.lost_variants
-    recipe.lost_variants -= {row.choice.name for row in recipe.rows if row.choice}
-    return recipe
 
 
 def drop_clashes(recipes: list[Recipe]) -> None:
@@ -50,15 +34,10 @@ def drop_clashes(recipes: list[Recipe]) -> None:
             )
 
 
-def read_all(repository: Repository, given: argparse.Namespace) -> report.Import:
-    """All packages of a repository."""
-    recipes: list[Recipe] = []
-    refused: dict[str, Cannot] = {}
-    for name in sorted(repository.folders):
-        try:
-            recipes.append(read_package(repository, name))
-        except (Cannot, RecursionError) as fault:
-            refused[name] = fault if isinstance(fault, Cannot) else Cannot("a file that is too deep", name)
+def joined(read: dict[str, Found], repository: Repository, given: argparse.Namespace) -> report.Import:
+    """All packages of a repository, with what is said of them together."""
+    recipes = [packed.recipe_of(read[name]["recipe"]) for name in sorted(read) if "recipe" in read[name]]
+    refused = {name: Cannot(*found["refused"]) for name, found in read.items() if "refused" in found}
     drop_clashes(recipes)
     notes = Notes(wishes.FILE)
     site = wishes.apply(recipes, packages_of(given.packages), notes, repository.dialect)
@@ -89,22 +68,15 @@ def write_site(found: report.Import, given: argparse.Namespace) -> None:
     (given.out / "site.json").write_text(json.dumps(known, indent=1) + "\n", "utf-8")
 
 
-def write_all(found: report.Import, out: Path) -> None:
-    """Writes the recipes below OUT, which may hold no other recipes."""
-    for recipe in found.recipes:
-        folder = out / "packages" / recipe.name
-        folder.mkdir(parents=True, exist_ok=True)
-        (folder / "package.py").write_text(recipe_text(recipe), "utf-8")
-    (out / "packages").mkdir(parents=True, exist_ok=True)
-
-
 def arguments(words: Optional[list[str]]) -> argparse.Namespace:
     """The words of the command line."""
     parser = argparse.ArgumentParser(prog="import_repo", description=__doc__)
     parser.add_argument("repo", metavar="SPACK_REPO", type=Path, help="a folder with packages/NAME/package.py")
-    parser.add_argument("out", metavar="OUT", type=Path, help="where the recipes go; a new or empty folder")
+    parser.add_argument("out", metavar="OUT", type=Path, help="where the recipes go: a new or empty folder, or one that import_repo wrote")
     parser.add_argument("--strict", action="store_true", help="leave out each package of which a part cannot be said")
     parser.add_argument("--platform", default="linux", choices=["linux", "darwin", "windows"], help="what sys.platform is")
+    parser.add_argument("--target", help="a target of the machine, as `spack arch -t` names it: what platform.machine() is")
+    parser.add_argument("--jobs", type=int, metavar="N", help="how many processes read; as many as processors if not said")
     parser.add_argument(
         "--build-systems", type=Path, action="append", metavar="FOLDER",
         help="the folder with your Spack's own base classes, in place of the stand-ins of site_tools",
@@ -117,9 +89,41 @@ def arguments(words: Optional[list[str]]) -> argparse.Namespace:
         "--sticky", action="append", metavar="SPEC",
         help="what requests may ask of sticky variants, as `cuda_arch=80` or `kokkos cuda_arch=80,90`; '' for nothing",
     )
+    parser.add_argument(
+        "--values-from", type=Path, action="append", metavar="FILE",
+        help="specs, packages.yaml or index.json: values that they name are allowed where a variant takes any text",
+    )
     parser.add_argument("--report", type=Path, metavar="FILE", help="where the report goes; OUT/report.txt if not said")
     parser.add_argument("--json", type=Path, metavar="FILE", help="the report for programs")
     return parser.parse_args(words)
+
+
+def families() -> dict[str, str]:
+    """The family of each target that is known here, as `platform.machine()` says it."""
+    targets.use(None)
+    return {name: targets.ancestors(name)[-1] for name in targets.PARENTS}
+
+
+def imported(repository: Repository, given: argparse.Namespace, stand_ins: list[Path]) -> int:
+    """Imports a repository, or says that nothing changed since the last time."""
+    table = ImportTable(given.out, repository, given)
+    if table.is_same():
+        print(f"nothing changed: {table.summary}")
+        return table.status
+    read = table.kept()
+    read.update(read_packages.read_all(repository, [name for name in repository.folders if name not in read], given.jobs))
+    found = joined(read, repository, given)
+    by_hand = table.write(read, found)
+    write_site(found, given)
+    text = report.text_of(found, report.stand_ins_of(stand_ins, found), by_hand)
+    report_file = given.report or given.out / "report.txt"
+    report_file.write_text(text, "utf-8")
+    if given.json:
+        given.json.write_text(json.dumps([asdict(each) for each in found.recipes], indent=1, default=sorted), "utf-8")
+    print(report.summary(found))
+    print(f"report: {report_file}")
+    table.end(report.summary(found), 0 if found.recipes else 1)
+    return table.status
 
 
 def main(words: Optional[list[str]] = None) -> int:
@@ -128,24 +132,18 @@ def main(words: Optional[list[str]] = None) -> int:
     if not (given.repo / "packages").is_dir():
         print(f"import_repo: there is no folder {given.repo}/packages", file=sys.stderr)
         return 2
-    if (given.out / "packages").exists() and any((given.out / "packages").iterdir()):
+    if (given.out / "packages").exists() and any((given.out / "packages").iterdir()) and not (given.out / TABLE).is_file():
         print(f"import_repo: {given.out}/packages is not empty: name a new folder", file=sys.stderr)
+        return 2
+    if given.target is not None and given.target not in families():
+        print(f"import_repo: a target that is not known here: {given.target}", file=sys.stderr)
         return 2
     own = given.repo / "build_systems"
     named = ([own] if own.is_dir() else []) + (given.build_systems or [])
-    repository = Repository(given.repo, named or [TOOLS / "build_systems"], given.platform)
     try:
-        found = read_all(repository, given)
+        family = families()[given.target] if given.target else None
+        repository = Repository(given.repo, named or [TOOLS / "build_systems"], given.platform, family)
+        return imported(repository, given, [] if named else repository.base_files)
     except (ValueError, OSError, yaml_texts.NoYaml) as fault:
         print(f"import_repo: {fault}", file=sys.stderr)
         return 2
-    write_all(found, given.out)
-    write_site(found, given)
-    stand_ins = [] if named else repository.base_files
-    text = report.text_of(found, report.stand_ins_of(stand_ins, found))
-    (given.report or given.out / "report.txt").write_text(text, "utf-8")
-    if given.json:
-        given.json.write_text(json.dumps([asdict(each) for each in found.recipes], indent=1, default=sorted), "utf-8")
-    print(report.summary(found))
-    print(f"report: {given.report or given.out / 'report.txt'}")
-    return 0 if found.recipes else 1

@@ -8,9 +8,10 @@ from collections import Counter, defaultdict
 from dataclasses import dataclass, field
 from pathlib import Path
 
-from . import spec_text
-from .rows import Cannot, LeftOut, Recipe
+from . import spec_memory
+from .rows import Cannot, LeftOut, Recipe, unquoted
 from .settings_notes import Notes
+from .spec_text import Dialect
 from .wishes import Site
 
 # What it means for the answers that a directive is not there.
@@ -142,7 +143,7 @@ def asked_lines(found: Import) -> list[str]:
     asked: dict[tuple[str, str], set[str]] = defaultdict(set)
     for recipe in found.recipes:
         for row in [row for row in recipe.rows if row.directive == "depends_on" and row.names and row.names[0] in has]:
-            part = spec_text.read_dependency(row.arguments[0].strip('"'), spec_text.Dialect()).top
+            part = spec_memory.dependency_text(unquoted(row.arguments[0]), Dialect())[0].top
             for name in part.variants:
                 if f'"{name}"' not in has[str(part.name)]:
                     asked[str(part.name), name].add(recipe.name)
@@ -166,7 +167,7 @@ def wrapped(text: str) -> list[str]:
     return textwrap.wrap(text, LONGEST, subsequent_indent="    ", break_on_hyphens=False)
 
 
-def text_of(found: Import, stand_ins: list[str]) -> str:
+def text_of(found: Import, stand_ins: list[str], by_hand: list[str]) -> str:
     """The whole report."""
     refused = [f"{name}: {fault.kind}: {fault.detail}" for name, fault in sorted(found.refused.items())]
     lines = [f"import_repo: {summary(found)}", counts(found), "", *HOW_TO_READ]
@@ -178,6 +179,7 @@ def text_of(found: Import, stand_ins: list[str]) -> str:
     lines += section("Names that no recipe has and none provides: nothing that asks for them can be met", unknown_lines(found))
     lines += section("Of packages.yaml: not written into the recipes, or weaker there", found.notes.lines(found.notes.rows))
     lines += section("Base classes that stand-ins were taken for (--build-systems names your Spack's own)", stand_ins)
+    lines += section("Changed by hand since the last import, and left as they are", wrapped(" ".join(by_hand)) if by_hand else [])
     lines += section("Taken with parts left out", part_lines(found.partly()))
     whole = "Taken whole" + (", but for what the stand-ins lack" if stand_ins else "")
     lines += section(whole, wrapped(" ".join(each.name for each in found.whole())))

@@ -89,6 +89,10 @@ class Row:
     origin: Optional[Origin] = field(default=None, compare=False)
     choice: Optional[Choice] = field(default=None, compare=False)  # of a variant
 
+    def of(self, origin: Optional[Origin]) -> "Row":
+        """The same with where it comes from."""
+        return Row(self.directive, self.arguments, self.conditions, self.names, origin, self.choice)
+
 
 @dataclass(frozen=True)
 class VariantRow:

@@ -118,7 +118,7 @@ def keep_default(recipe: Recipe, found: Sticky) -> None:
         row = recipe.rows[place]
         forbidden = [] if key in found.mixed else [value for value in found.values[key] if value not in found.allowed[key]]
         rules = [Row("conflicts", (quoted(variant_text(name, (signs.as_value(value),))),), origin=row.origin) for value in forbidden]
-        while place + 1 < len(recipe.rows) and recipe.rows[place + 1].origin is row.origin and not recipe.rows[place + 1].choice:
+        while place + 1 < len(recipe.rows) and recipe.rows[place + 1].origin == row.origin and not recipe.rows[place + 1].choice:
             place += 1
         recipe.rows[place + 1 : place + 1] = rules
         free = [value for value in found.values[key] if value in found.allowed[key]]
