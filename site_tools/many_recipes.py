@@ -67,7 +67,8 @@ def recipe(number: int, count: int) -> str:
         when = rolls.choice(["", ', when="+mpi"', ', when="@2:"', ', when="@:3.1"', ', type=("build", "run")', ', type="build"'])
         text += f'    depends_on("p{other}{rolls.choice(["", "@2:", "+shared", "@1.2:3 kind=b"])}"{when})\n'
     if "Cuda" in base:
-        text += '    for arch in CudaPackage.cuda_arch_values:\n        depends_on(f"p1 cuda_arch={arch}", when=f"+cuda cuda_arch={arch}")\n'
+        text += '    for arch in CudaPackage.cuda_arch_values:\n'
+        text += '        depends_on(f"p1 cuda_arch={arch}", when=f"+cuda cuda_arch={arch}")\n'
     text += '    with when("+mpi"):\n        depends_on("mpi@3:")\n        conflicts("%gcc@:4", msg="too old")\n'
     return text + '    conflicts("kind=c", when="~shared")\n' + TAIL
 
