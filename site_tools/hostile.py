@@ -38,7 +38,8 @@ RECIPES = {
     "itself": CLASS + "    a = []\n    a.append(a)\n    b = {}\n    b.update(x=b)\n    conflicts(str(a))\n",
     "grow": CLASS + "    a = ['x' * 9000]\n    for x in range(9000):\n        a.append('y' * 9000)\n        a += a\n",
     "replace": CLASS + "    a = 'x' * 9000\n    b = a.replace('x', a)\n    c = b.replace('x', b)\n    d = a.join([b, b, b])\n",
-    "width": CLASS + "    a = f'{1:999999999}'\n    b = '{:999999999}'.format(1)\n    c = '%999999999d' % 1\n    d = '%*d' % (999999999, 1)\n",
+    "width": CLASS + "    a = f'{1:999999999}'\n    b = '{:999999999}'.format(1)\n    c = '%999999999d' % 1\n",
+    "width-given": CLASS + "    d = '%*d' % (999999999, 1)\n",
     "zeros": CLASS + "    a = '1'.zfill(999999999)\n    b = '{0:{1}}'.format(1, 999999999)\n",
     "power": CLASS + "    a = 9 ** 9 ** 9\n    b = 1 << 999999999\n    c = int('9' * 9999) * int('9' * 9999)\n",
     "range": CLASS + "    for x in range(10 ** 12):\n        conflicts('+a')\n",
@@ -53,9 +54,11 @@ RECIPES = {
     "nul": CLASS + "    a = '\0'\n",
     "latin": "# \udce9\n" + CLASS,
     "escape": CLASS + "    conflicts('+a', msg='\\x1b]0;x\\x07\\nimport_repo: done')\n    depends_on('\\x1b[31m')\n",
-    "eval": CLASS + "    conflicts(eval('1'))\n    conflicts(__import__('os').system('touch /tmp/ran'))\n    conflicts(open('/tmp/ran', 'w'))\n",
+    "eval": CLASS + "    conflicts(eval('1'))\n    conflicts(__import__('os').system('touch /tmp/ran'))\n",
+    "open": CLASS + "    conflicts(open('/tmp/ran', 'w'))\n",
     "blocks": CLASS + "".join("    " * (n + 1) + f"with when('@{n}'):\n" for n in range(90)) + "    " * 91 + "depends_on('zlib')\n",
-    "spec": CLASS + "    conflicts('+a' * 9000)\n    conflicts('^a' * 9000)\n    conflicts('@' + '1.' * 5000)\n    conflicts('@' + '1,' * 9000)\n",
+    "spec": CLASS + "    conflicts('+a' * 9000)\n    conflicts('^a' * 9000)\n    conflicts('@' + '1.' * 5000)\n",
+    "versions": CLASS + "    conflicts('@' + '1,' * 9000)\n",
     "large": CLASS + "    a = [" + "1," * 600_000 + "]\n",
     "walrus": CLASS + "    conflicts((a := '+x'))\n    conflicts(a)\n    [conflicts(b := x) for x in '+a+b']\n",
     "bases": "class A(B):\n    pass\n\n\nclass B(A):\n    pass\n\n\n" + "class Bomb(A):\n    version('1')\n",
@@ -74,8 +77,8 @@ TEXTS: dict[str, tuple[str, str]] = {
     "json nan": ("json", '{"database":{"installs":{"a":NaN}}}'),
     "json numbers": ("json", '{"database":{"installs":{"a":' + "9" * 100_000 + "}}}"),
     "json entry": ("json", '{"database":{"installs":{"a":3,"b":null,"c":[],"d":{"spec":[]},"e":{"spec":{"dependencies":[3]}}}}}'),
-    "json surrogate": ("json", '{"database":{"installs":{"a":{"spec":{"name":"\\ud800","version":"1","arch":{"platform":"linux","platform_os":"o",'
-                       '"target":"t"},"external":{"path":"\\ud800"}}}}}}'),
+    "json surrogate": ("json", '{"database":{"installs":{"a":{"spec":{"name":"\\ud800","version":"1","external":{"path":"\\ud800"},'
+                       '"arch":{"platform":"linux","platform_os":"o","target":"t"}}}}}}'),
     "json chain": ("json", '{"database":{"installs":{' + ",".join(
         f'"h{n}":{{"spec":{{"name":"a{n}","version":"1","arch":{{"platform":"linux","platform_os":"o","target":"t"}},"dependencies":'
         f'[{{"name":"a","hash":"h{n + 1}","parameters":{{"deptypes":["link"]}}}}]}}}}' for n in range(20_000)) + "}}}"),
@@ -146,7 +149,8 @@ def main() -> int:
         right = right and not any(ord(sign) < 32 and sign != "\n" for sign in said) and not Path("/tmp/ran").exists()
         count, wrong = count + 1, wrong + (not right)
         last = said.strip().splitlines()[-1:] or [""]
-        print(f"{'right' if right else 'WRONG'} {name}: {seconds:.1f} s, {peak // 2**20} MB, status {status}{'' if right else ': ' + last[0][:200]}")
+        why = "" if right else f": {last[0][:200]}"
+        print(f"{'right' if right else 'WRONG'} {name}: {seconds:.1f} s, {peak // 2**20} MB, status {status}{why}", flush=True)
     print(f"{count} files, {wrong} wrong, {time.monotonic() - begun:.0f} s of the clock")
     return 1 if wrong else 0
 

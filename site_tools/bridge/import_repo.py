@@ -4,6 +4,7 @@ Reads each `package.py` by Python's `ast`, never runs one, and never guesses: wh
 left out and listed with its line and reason.
 """
 import argparse
+import gc
 import hashlib
 import json
 import sys
@@ -36,8 +37,9 @@ def drop_clashes(recipes: list[Recipe]) -> None:
 
 def joined(read: dict[str, Found], repository: Repository, given: argparse.Namespace) -> report.Import:
     """All packages of a repository, with what is said of them together."""
-    recipes = [packed.recipe_of(read[name]["recipe"]) for name in sorted(read) if "recipe" in read[name]]
-    refused = {name: Cannot(*found["refused"]) for name, found in read.items() if "refused" in found}
+    known = dict(json.loads(read[name]) for name in sorted(read))
+    recipes = [packed.recipe_of(found["recipe"]) for found in known.values() if "recipe" in found]
+    refused = {name: Cannot(*found["refused"]) for name, found in known.items() if "refused" in found}
     drop_clashes(recipes)
     notes = Notes(wishes.FILE)
     site = wishes.apply(recipes, packages_of(given.packages), notes, repository.dialect)
@@ -129,6 +131,7 @@ def imported(repository: Repository, given: argparse.Namespace, stand_ins: list[
 def main(words: Optional[list[str]] = None) -> int:
     """Imports a repository: 0 where recipes were written, 1 where none could be, 2 for wrong words."""
     given = arguments(words)
+    gc.set_threshold(100_000, 50, 50)  # many rows are kept, and few go round
     if not (given.repo / "packages").is_dir():
         print(f"import_repo: there is no folder {given.repo}/packages", file=sys.stderr)
         return 2

@@ -80,7 +80,7 @@ class ImportTable:
             for line in (self.out / ROWS).read_text("utf-8").splitlines():
                 name, each = json.loads(line)
                 if name in same and same.issuperset(each["others"]):
-                    found[name] = each
+                    found[name] = line
         except (OSError, ValueError, KeyError, TypeError):
             return {}
         return found
@@ -94,8 +94,7 @@ class ImportTable:
         self.put({name: [*old.get(name, []), *self.written.get(name, [])] for name in [*old, *texts]}, False)
         by_hand = [name for name in old if name not in texts and not self.drop(name)]
         by_hand += [recipe.name for recipe in found.recipes if not self.write_recipe(recipe, texts[recipe.name])]
-        lines = (json.dumps([name, read[name]], separators=(",", ":")) for name in sorted(read))
-        (self.out / ROWS).write_text("\n".join(lines) + "\n", "utf-8")
+        (self.out / ROWS).write_text("".join(read[name] + "\n" for name in sorted(read)), "utf-8")
         return sorted(by_hand)
 
     def is_own(self, name: str, data: bytes) -> bool:

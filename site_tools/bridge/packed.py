@@ -44,12 +44,12 @@ def recipe_of(given: list[Any]) -> Recipe:
 
 
 def origins(recipe: Recipe) -> str:
-    """Where each directive comes from, as JSON with a line for each, in the order in which the program numbers them."""
-    lines = []
-    for number, row in enumerate(recipe.rows):
+    """Where each directive comes from, as JSON, in the order in which the program numbers them."""
+    listed = []
+    for row in recipe.rows:
         from_spack: Optional[Origin] = row.origin
-        known = {"number": number, "directive": row.directive}
+        known: dict[str, Any] = {"directive": row.directive}
         if from_spack is not None:
             known.update({"file": from_spack.file, "line": from_spack.line, "text": from_spack.text, "msg": from_spack.message})
-        lines.append(json.dumps(known, separators=(",", ":"), ensure_ascii=False))
-    return '{"version":1,"directives":[\n' + ",\n".join(lines) + "\n]}\n"
+        listed.append(known)
+    return json.dumps({"version": 1, "directives": listed}) + "\n"

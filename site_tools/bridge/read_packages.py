@@ -2,6 +2,7 @@
 
 Says nothing of packages together: that is `import_repo`'s part.
 """
+import json
 import multiprocessing
 import os
 from typing import Any, Iterator, Optional
@@ -16,7 +17,7 @@ from .rows import Cannot, Recipe
 
 FEW = 200  # packages for which no other processes are started
 PIECE = 50
-Found = dict[str, Any]  # `recipe`, packed, or `refused`; and `others`, the files of other packages that it is made of
+Found = str  # JSON: `recipe`, packed, or `refused`; and `others`, the other packages that it is made of
 
 
 def read_package(repository: Repository, name: str) -> Recipe:
@@ -37,7 +38,12 @@ def read_package(repository: Repository, name: str) -> Recipe:
     return recipe
 
 
-def read_one(repository: Repository, name: str) -> Found:
+def read_text(repository: Repository, name: str) -> Found:
+    """What a package gives, as JSON."""
+    return json.dumps([name, read_one(repository, name)], separators=(",", ":"))
+
+
+def read_one(repository: Repository, name: str) -> dict[str, Any]:
     """What a package gives: its recipe, or the reason that there is none."""
     repository.begin(name)
     try:
@@ -62,14 +68,14 @@ WORKER: list[Repository] = []
 
 def read_piece(names: list[str]) -> list[tuple[str, Found]]:
     """The packages of one piece, in a process of its own."""
-    return [(name, read_one(WORKER[0], name)) for name in names]
+    return [(name, read_text(WORKER[0], name)) for name in names]
 
 
 def read_all(repository: Repository, names: list[str], jobs: Optional[int]) -> Iterator[tuple[str, Found]]:
     """All these packages, in any order."""
     count = jobs or len(os.sched_getaffinity(0)) if hasattr(os, "sched_getaffinity") else jobs or os.cpu_count() or 1
     if count < 2 or len(names) < FEW or "fork" not in multiprocessing.get_all_start_methods():
-        yield from ((name, read_one(repository, name)) for name in names)
+        yield from ((name, read_text(repository, name)) for name in names)
         return
     WORKER[:] = [repository]
     pieces = [names[place : place + PIECE] for place in range(0, len(names), PIECE)]

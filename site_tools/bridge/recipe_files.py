@@ -61,13 +61,6 @@ def imported(statement: ast.stmt) -> Iterator[tuple[str, str]]:
             yield each.asname or each.name, f"{'.' * statement.level}{statement.module or ''}.{each.name}"
 
 
-def outside_functions(node: ast.ClassDef) -> Iterator[ast.AST]:
-    """The nodes of a class but for those in its functions and classes."""
-    for statement in node.body:
-        if not isinstance(statement, (ast.FunctionDef, ast.AsyncFunctionDef, ast.ClassDef)):
-            yield from ast.walk(statement)
-
-
 def machine_of(platform: str, family: Optional[str]) -> dict[str, Any]:
     """What a recipe may ask of the machine: its platform, and where the family of its target is known, `platform.machine()`."""
     found = {"sys.platform": PLATFORMS.get(platform, platform), "platform.system()": platform.title()}
@@ -220,9 +213,9 @@ class Repository:
 
     def class_values(self, module: Module, node: ast.ClassDef) -> dict[str, ClassValue]:
         """The classes that a class body may ask for attributes by name."""
-        asked = {each.value.id for each in outside_functions(node) if isinstance(each, ast.Attribute) and isinstance(each.value, ast.Name)}
+        asked = set(re.findall(r"\b(\w+)\.\w", module.text))
         found = {}
-        for name in asked:
+        for name in sorted(asked & (self.bases.keys() | module.classes.keys() | module.imports.keys())):
             place = self.find_class(module, name)
             if place and place[0].classes[place[1]] is not node:
                 found[name] = self.class_rows(*place).value

@@ -28,6 +28,9 @@ def checked(value: Any) -> str:
     return text
 
 
+MOST_PAIRS = 20_000  # of values that exclude each other: a conflict for each
+
+
 class VariantReader:
     """Reads one call of `variant`, its arguments computed."""
 
@@ -77,6 +80,9 @@ class VariantReader:
     def read_sets(self, values: DisjointSets) -> Choice:
         """Sets of which a node takes one: values of two of them conflict."""
         sets = [[checked(value) for value in each] for each in values.sets]
+        pairs = (sum(map(len, sets)) ** 2 - sum(len(each) ** 2 for each in sets)) // 2
+        if pairs > MOST_PAIRS:
+            raise Cannot("a variant with too many values that exclude each other", f"more than {MOST_PAIRS} pairs")
         for place, each in enumerate(sets):
             for value in each:
                 for other in [other for later in sets[place + 1 :] for other in later]:
