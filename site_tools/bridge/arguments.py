@@ -3,6 +3,7 @@
 Computes those that have a meaning; the others are not looked at.
 """
 import ast
+from dataclasses import dataclass
 from typing import Any
 
 from . import directives
@@ -11,10 +12,20 @@ from .directives import Call
 from .literals import Evaluator
 from .rows import Cannot
 from .spec_text import Dialect
+from .variant_values import FreeValues
 from .values import Function, Names, NotLiteral, source
 
 
-def computed(node: ast.Call, name: str, names: Names, around: Around, dialect: Dialect, has_python_venv: bool) -> Call:
+@dataclass(frozen=True)
+class Given:
+    """What is known of the repository and the site where a class is read."""
+
+    dialect: Dialect
+    has_python_venv: bool
+    site_values: dict[str, tuple[str, ...]]
+
+
+def computed(node: ast.Call, name: str, names: Names, around: Around, given: Given) -> Call:
     """The arguments of a call, those that have a meaning computed."""
     evaluator = Evaluator(names)
     positional = evaluator.items(node.args[: directives.POSITIONAL.get(name, len(node.args))])
@@ -31,7 +42,7 @@ def computed(node: ast.Call, name: str, names: Names, around: Around, dialect: D
     for place, word in enumerate(directives.NAMED_PLACES.get(name, ()), start=1):
         if place < len(positional):
             keywords.setdefault(word, positional[place])
-    return Call(name, positional, keywords, around.blocks, dialect, has_python_venv)
+    return Call(name, positional, keywords, around.blocks, given.dialect, given.has_python_venv, given.site_values)
 
 
 def keyword(each: ast.keyword, evaluator: Evaluator) -> Any:
@@ -43,7 +54,7 @@ def keyword(each: ast.keyword, evaluator: Evaluator) -> Any:
         return found
     except NotLiteral as fault:
         if each.arg == "values":
-            raise Cannot("values that a function tests", str(fault)) from fault
+            return FreeValues(str(fault))
         raise
 
 

@@ -1,4 +1,4 @@
-"""What stands around a directive: the conditions and default arguments of the `with` blocks that it is in.
+"""What stands around a directive: the conditions and default arguments of the `with` blocks that it is in; and loops in short form.
 
 Reads the items of a `with`; walks no body.
 """
@@ -49,3 +49,13 @@ def with_when(values: list[Any], around: Around, dialect: Dialect) -> Around:
         return replace(around, never=around.never or not values[0])
     text = Call("when", [], {}, (), dialect).condition(values[0])
     return replace(around, blocks=around.blocks + ((text,) if text else ()))
+
+
+def loops_of(node: ast.ListComp | ast.SetComp) -> list[ast.stmt]:
+    """The loops that a comprehension stands for."""
+    body: list[ast.stmt] = [ast.copy_location(ast.Expr(node.elt), node.elt)]
+    for each in reversed(node.generators):
+        for test in reversed(each.ifs):
+            body = [ast.copy_location(ast.If(test, body, []), node)]
+        body = [ast.copy_location(ast.For(each.target, each.iter, body, []), node)]
+    return body

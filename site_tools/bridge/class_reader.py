@@ -10,7 +10,7 @@ from dataclasses import dataclass, field, replace
 from typing import Any, Callable, Optional, Union
 
 from . import arguments, directives
-from .blocks import Around, with_item
+from .blocks import Around, loops_of, with_item
 from .effects import called_name, forget, forget_as, forget_base, forget_changeable, forget_set, is_set_allowed, makes_directives
 from .known_calls import LONGEST, TooMuch
 from .literals import STEPS, Evaluator, bind
@@ -41,6 +41,7 @@ class ClassReader:
     rows: list[Union[Row, VariantRow]] = field(default_factory=list)
     left_out: list[LeftOut] = field(default_factory=list)
     lost_variants: set[str] = field(default_factory=set)
+    site_values: dict[str, tuple[str, ...]] = field(default_factory=dict)
     depth: int = 0
     loops: int = 0
     lines: Optional[SourceText] = None
@@ -132,13 +133,8 @@ class ClassReader:
 
     def comprehension(self, node: Union[ast.ListComp, ast.SetComp], names: Names, around: Around) -> None:
         """`[directive(a) for a in b]` as a statement: the loops that it stands for, with names of their own."""
-        body: list[ast.stmt] = [ast.copy_location(ast.Expr(node.elt), node.elt)]
-        for each in reversed(node.generators):
-            for test in reversed(each.ifs):
-                body = [ast.copy_location(ast.If(test, body, []), node)]
-            body = [ast.copy_location(ast.For(each.target, each.iter, body, []), node)]
         inner: ChainMap = ChainMap({}, names)  # type: ignore[arg-type]
-        self.run(body, inner, around)
+        self.run(loops_of(node), inner, around)
         forget_as(inner, names)
 
     def own_function(self, node: ast.Call, function: Function, names: Names, around: Around) -> None:
@@ -195,7 +191,8 @@ class ClassReader:
         try:
             if around.refused:
                 raise Cannot(*around.refused)
-            call = arguments.computed(node, name, names, around, self.dialect, self.has_python_venv)
+            given = arguments.Given(self.dialect, self.has_python_venv, self.site_values)
+            call = arguments.computed(node, name, names, around, given)
             rows = directives.DIRECTIVES[name](call)
         except NotLiteral as fault:
             return self.refuse(node, name, names, "an argument that is computed", str(fault))
@@ -207,7 +204,9 @@ class ClassReader:
         self.rows += [self.with_origin(row, origin) for row in rows]
         for lost in ("sticky", "validator"):
             if rows and call.keywords.get(lost):
-                self.list_left_out(node, lost, f"`{lost}` of a variant", "the variant is taken without it")
+                call.notes.append((lost, f"`{lost}` of a variant", "the variant is taken without it"))
+        for note in call.notes:
+            self.list_left_out(node, *note)
         return None
 
     def with_origin(self, row: Union[Row, VariantRow], origin: Origin) -> Union[Row, VariantRow]:

@@ -3,7 +3,7 @@
 A function gets the computed arguments and gives the rows that say exactly the same, or raises `Cannot` (or
 `NotInProfile`) with the reason. It never writes a weaker or a stronger directive in place of one.
 """
-from dataclasses import dataclass, replace
+from dataclasses import dataclass, field, replace
 from typing import Any, Callable, Optional, Union
 
 from . import signs, spec_memory, spec_text
@@ -54,6 +54,8 @@ class Call:
     blocks: tuple[str, ...]
     dialect: Dialect
     has_python_venv: bool = False
+    site_values: dict[str, tuple[str, ...]] = field(default_factory=dict)
+    notes: list[tuple[str, str, str]] = field(default_factory=list)  # what is said in part: directive, kind, detail
 
     def text(self, place: int = 0) -> str:
         """A positional value that has to be a text."""
@@ -103,8 +105,13 @@ def variant(call: Call) -> Rows:
     conditions = call.conditions()
     if conditions is None:
         return []
-    reader = VariantReader(call.positional[0] if call.positional else None, call.keywords, conditions, call.condition)
-    return [reader.read()]
+    name = call.positional[0] if call.positional else None
+    reader = VariantReader(name, call.keywords, conditions, call.condition, call.site_values)
+    rows: Rows = [reader.read()]
+    if reader.allowed_of_any:
+        what = f"these are allowed, which the site names: {', '.join(reader.allowed_of_any)}"
+        call.notes.append(("values", "values that are any text", what))
+    return rows
 
 
 def depends_on(call: Call, standard: Any = None) -> Rows:

@@ -12,7 +12,7 @@ from dataclasses import asdict
 from pathlib import Path
 from typing import Optional
 
-from . import packed, read_packages, report, sticky, targets, wishes, yaml_texts
+from . import packed, read_packages, report, site_values, sticky, targets, wishes, yaml_texts
 from .import_table import TABLE, ImportTable
 from .read_packages import Found
 from .recipe_files import Repository
@@ -146,6 +146,7 @@ def main(words: Optional[list[str]] = None) -> int:
     try:
         family = families()[given.target] if given.target else None
         repository = Repository(given.repo, named or [TOOLS / "build_systems"], given.platform, family)
+        repository.site_values = site_values.read(given.values_from or [])
         return imported(repository, given, [] if named else repository.base_files)
     except (ValueError, OSError, yaml_texts.NoYaml) as fault:
         print(f"import_repo: {fault}", file=sys.stderr)

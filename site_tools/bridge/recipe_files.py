@@ -18,6 +18,7 @@ from .directives import DIRECTIVES
 from .definitions import copied
 from .values import ClassValue
 from .rows import Cannot, LeftOut, Row, VariantRow
+from .site_values import SiteValues, values_for
 from .spec_text import Dialect
 
 MOST_BYTES = 1024 * 1024
@@ -92,6 +93,7 @@ class Repository:
 
     def __init__(self, root: Path, build_systems: list[Path], platform: str, family: Optional[str] = None) -> None:
         self.root = root
+        self.site_values: SiteValues = {}
         self.machine = machine_of(platform, family)
         text = (root / "repo.yaml").read_text("utf-8", "replace") if (root / "repo.yaml").is_file() else ""
         found = re.search(r"^\s*namespace:\s*['\"]?([\w.-]+)", text, re.M)
@@ -172,6 +174,8 @@ class Repository:
         given = module.names_at[name]
         names = ChainMap({}, self.class_values(module, node), copied(given, copy.deepcopy(given)))
         reader = ClassReader(self.shown(module.path), self.dialect, "python-venv" in self.folders, module.text)
+        package = None if module.path in self.base_paths else self.package_of(module.path.parent.name)
+        reader.site_values = values_for(self.site_values, package)
         reader.run(node.body, names)
         found.rows += reader.rows
         found.left_out += [each for each in module.left_out if each not in found.left_out] + reader.left_out

@@ -28,6 +28,7 @@ MEANING = {
     "class": "directives of the base class are missing",
     "call": "directives that such a call would make are missing",
     "sticky": "a value of these variants may be chosen that nobody asked for, where Spack keeps the default: see `--sticky`",
+    "values": "specs that ask for other values than these cannot be met",
     "validator": "values of these variants may be chosen together that Spack refuses",
     "import": "names of that module may mean something else than Spack's",
 }

@@ -7,7 +7,7 @@ from typing import Any, Optional
 
 from . import signs
 from .rows import Cannot, Choice, Conditions, Row, VariantRow, quoted
-from .variant_values import Conditional, DisjointSets
+from .variant_values import Conditional, DisjointSets, FreeValues
 
 
 def flat(values: Any) -> list[Any]:
@@ -34,9 +34,11 @@ MOST_PAIRS = 20_000  # of values that exclude each other: a conflict for each
 class VariantReader:
     """Reads one call of `variant`, its arguments computed."""
 
-    def __init__(self, name: Any, given: dict[str, Any], conditions: Conditions, condition_of: Any) -> None:
+    def __init__(self, name: Any, given: dict[str, Any], conditions: Conditions, condition_of: Any, site_values: dict) -> None:
         self.name, self.given, self.conditions, self.condition_of = name, given, conditions, condition_of
         self.rules: list[Row] = []
+        self.site_values: tuple[str, ...] = site_values.get(name, ()) if isinstance(name, str) else ()
+        self.allowed_of_any: tuple[str, ...] = ()  # where the variant takes any text: the values that the site names
 
     def read(self) -> VariantRow:
         """The definition, and its rules."""
@@ -47,18 +49,30 @@ class VariantReader:
             choice = self.read_bool()
         elif isinstance(values, DisjointSets):
             choice = self.read_sets(values)
+        elif isinstance(values, FreeValues):
+            choice = self.read_any("values that a function tests", values.why)
         elif isinstance(values, (tuple, list, str, int)):
             choice = self.read_list(flat(values))
         else:
-            raise Cannot("values that are no list", "")
+            choice = self.read_any("values that are no list", "")
         return VariantRow(self.name, Row("variant", choice.arguments(), self.conditions, choice=choice), tuple(self.rules))
 
     def read_bool(self) -> Choice:
         """A truth value; without `values`, another default means any value at all."""
         default = str(self.given.get("default")).lower()
         if default not in ("true", "false"):
-            raise Cannot("values that are any text", f"default `{self.given.get('default')}`")
+            return self.read_any("values that are any text", f"default `{self.given.get('default')}`")
         return Choice(self.name, (default,), sticky=self.is_sticky())
+
+    def read_any(self, kind: str, why: str) -> Choice:
+        """Any text: its default, and the values that the site names; `Cannot` where it names none."""
+        default = self.given.get("default")
+        wanted = [signs.as_value(each) for each in (default if isinstance(default, (tuple, list)) else [default])]
+        if not self.site_values or default is None:
+            raise Cannot(kind, why)
+        allowed = list(dict.fromkeys(map(checked, [*wanted, *self.site_values])))
+        self.allowed_of_any = tuple(allowed)
+        return self.shape(allowed, default, self.given.get("multi") is True)
 
     def is_sticky(self) -> bool:
         """Whether Spack keeps the default where nobody names the variant."""
