@@ -8,6 +8,7 @@ what was called, in that order, but for the lines that it lists as left out; and
 import argparse
 import ast
 import copy
+import itertools
 import sys
 import tempfile
 import types
@@ -69,6 +70,7 @@ class Notes:
         found.update({name: lambda *_, **__: None for name in directives.PASSED_OVER | {"run_before", "run_after"}})
         constructors = ("conditional", "any_combination_of", "auto_or_any_combination_of", "disjoint_sets", "Version", "ver")
         found.update({name: literals.FUNCTIONS[name] for name in constructors})
+        found["itertools"] = itertools
         found["unknown"] = "u"  # what Python knows, and the importer does not
         found["when"] = lambda condition: Block(self, condition, {})
         found["default_args"] = lambda **words: Block(self, None, words)
@@ -164,7 +166,7 @@ def compare(repository: Repository) -> tuple[int, list[str]]:
         try:
             module = repository.module(path)
             notes = run(module.text, repository)
-        except (Cannot, OSError, NameError, TypeError, ValueError, AttributeError):
+        except (Cannot, OSError, NameError, TypeError, ValueError, AttributeError, LookupError, MemoryError):
             continue
         if class_name(package) in module.classes:
             count += 1
