@@ -39,7 +39,8 @@ WHOLE = (
 # Statements over the names `v`, `w` and `names`, which each class gives first.
 GIVEN = (
     '    v, w, names = "z", "y", ["m", "n"]', "    def f(x, y=None):", '        if x == "a":', "            return",
-    '        conflicts("+" + x, when=y)', "        for z in x[:3]:", '            if z > "f":', "                break", '            conflicts("~" + z)',
+    '        conflicts("+" + x, when=y)', "        for z in x[:3]:", '            if z > "f":', "                break",
+    '            conflicts("~" + z)',
     "    def g(xs, front):", "        found = []", "        for x in xs:", '            if x == "n":', "                continue",
     "            found.append(front + x)", "        return found", "    def h(xs):", '        xs.append("h")',
     "        return len(xs)", "    def k(x):", "        depends_on(x)", "        if unknown:", "            return 1", "        return 2",
@@ -47,13 +48,17 @@ GIVEN = (
 STATEMENTS = (
     'w = v + "y"', 'names = ["m", v]', "names += [w]", "names.append(v)", "w = names[0]", "w = len(names) * v", "other = names",
     'v = "%s-%s" % (v, len(w))', "names[0] = w", "w = unknown", 'conflicts(f"+{v}")', 'conflicts("+" + w)', 'depends_on(f"z-{len(names)}")',
-    'f(v)', 'f(w, y="@1")', 'names = g(names[:5], "g")', "w = h(names)", "h(names)", "w = k(v)", "k(v)", "names.extend(g(names[:2], v))",
+    'f(v)', 'f(w, y="@1")', 'names = g(names[:5], "g")', "w = h(names)", "h(names)", "w = k(v)", "k(v)",
+    "names.extend(g(names[:2], v))",
     'conflicts("+" + g([v], front="q")[0])', "[f(x) for x in names[:4] if x != v]", '[depends_on(x + y) for x in "ab" for y in names[:2]]',
-    'names.insert(0, "i")', "names.sort()", 'conflicts("+" + names[-1], when="+{0}".format(v))', '[conflicts("+" + x) for x in names]', 'version(f"{len(names)}.{len(v)}")',
+    'names.insert(0, "i")', "names.sort()",
+    'conflicts("+" + names[-1], when="+{0}".format(v))', '[conflicts("+" + x) for x in names]', 'version(f"{len(names)}.{len(v)}")',
 )
 HEADS = (
     'with default_args(type="build"):', 'for v in "ab":', 'for v in [x + "c" for x in ("a", "b")]:', "for x in names[:3]:", 'if v < "b":',
-    "if len(names) > 2 and w:", "for v in itertools.chain(names[:2], 'xy'):", "for x, y in itertools.permutations(names[:3], 2):", 'for x, v in {"p": "q", "r": "s"}.items():', 'for v in sorted(names)[:2]:', "if unknown:",
+    "if len(names) > 2 and w:",
+    "for v in itertools.chain(names[:2], 'xy'):", "for x, y in itertools.permutations(names[:3], 2):",
+    'for x, v in {"p": "q", "r": "s"}.items():', 'for v in sorted(names)[:2]:', "if unknown:",
 )
 
 

@@ -8,7 +8,6 @@ import gc
 import hashlib
 import json
 import sys
-from dataclasses import asdict
 from pathlib import Path
 from typing import Optional
 
@@ -37,9 +36,9 @@ def drop_clashes(recipes: list[Recipe]) -> None:
 
 def joined(read: dict[str, Found], repository: Repository, given: argparse.Namespace) -> report.Import:
     """All packages of a repository, with what is said of them together."""
-    known = dict(json.loads(read[name]) for name in sorted(read))
-    recipes = [packed.recipe_of(found["recipe"]) for found in known.values() if "recipe" in found]
-    refused = {name: Cannot(*found["refused"]) for name, found in known.items() if "refused" in found}
+    known = {name: read_packages.value_of(read[name]) for name in sorted(read)}
+    recipes = [packed.recipe_of(found) for found in known.values() if len(found) > 2]
+    refused = {name: Cannot(*found) for name, found in known.items() if len(found) == 2}
     drop_clashes(recipes)
     notes = Notes(wishes.FILE)
     site = wishes.apply(recipes, packages_of(given.packages), notes, repository.dialect)
@@ -115,13 +114,13 @@ def imported(repository: Repository, given: argparse.Namespace, stand_ins: list[
     read = table.kept()
     read.update(read_packages.read_all(repository, [name for name in repository.folders if name not in read], given.jobs))
     found = joined(read, repository, given)
-    by_hand = table.write(read, found)
+    by_hand = table.write(read, found, given.jobs)
     write_site(found, given)
     text = report.text_of(found, report.stand_ins_of(stand_ins, found), by_hand)
     report_file = given.report or given.out / "report.txt"
     report_file.write_text(text, "utf-8")
     if given.json:
-        given.json.write_text(json.dumps([asdict(each) for each in found.recipes], indent=1, default=sorted), "utf-8")
+        given.json.write_text(json.dumps([packed.shown(each) for each in found.recipes], indent=1), "utf-8")
     print(report.summary(found))
     print(f"report: {report_file}")
     table.end(report.summary(found), 0 if found.recipes else 1)

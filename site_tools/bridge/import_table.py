@@ -4,13 +4,15 @@
 hand since is seen by its hash, and left as it is.
 """
 import argparse
+import gc
 import hashlib
 import json
+import multiprocessing
 from pathlib import Path
-from typing import Any, Iterable
+from typing import Any, Iterable, Iterator, Optional
 
 from . import json_files, packed, report
-from .read_packages import Found
+from .read_packages import PIECE, Found, processes
 from .recipe_files import Repository
 from .recipe_writer import recipe_text
 from .rows import Recipe
@@ -53,6 +55,7 @@ class ImportTable:
         self.whole = digest([self.reading.encode(), json.dumps(options).encode(), bytes_of(given.packages) if given.packages else b"-"])
         self.old = self.read_old()
         self.written: dict[str, list[str]] = {}
+        self.recipes: list[Recipe] = []
         self.summary, self.status = str(self.old.get("summary", "")), int(self.old.get("status", 0))
 
     def read_old(self) -> dict[str, Any]:
@@ -77,29 +80,44 @@ class ImportTable:
         same = {name for name, text in self.files.items() if self.old["files"].get(name) == text}
         found: dict[str, Found] = {}
         try:
-            for line in (self.out / ROWS).read_text("utf-8").splitlines():
-                name, each = json.loads(line)
-                if name in same and same.issuperset(each["others"]):
-                    found[name] = line
+            for line in (self.out / ROWS).read_text("utf-8").split("\n")[:-1]:
+                name, others, each = line.split("\t", 2)
+                if name in same and same.issuperset(others.split()):
+                    found[name] = f"{others}\t{each}"
         except (OSError, ValueError, KeyError, TypeError):
             return {}
         return found
 
-    def write(self, read: dict[str, Found], found: report.Import) -> list[str]:
+    def write(self, read: dict[str, Found], found: report.Import, jobs: Optional[int]) -> list[str]:
         """Writes the recipes that are new or other; gives those that were changed by hand, which stay."""
         (self.out / "packages").mkdir(parents=True, exist_ok=True)
-        texts = {recipe.name: recipe_text(recipe).encode() for recipe in found.recipes}
         old = self.old.get("written", {})
-        self.written = {name: [hash_of(text)] for name, text in texts.items()}
-        self.put({name: [*old.get(name, []), *self.written.get(name, [])] for name in [*old, *texts]}, False)
-        by_hand = [name for name in old if name not in texts and not self.drop(name)]
-        by_hand += [recipe.name for recipe in found.recipes if not self.write_recipe(recipe, texts[recipe.name])]
-        (self.out / ROWS).write_text("".join(read[name] + "\n" for name in sorted(read)), "utf-8")
+        if old:
+            self.put(old, False)
+        self.recipes = found.recipes
+        by_hand = [name for name in set(old).difference(recipe.name for recipe in found.recipes) if not self.drop(name)]
+        for name, text, is_written in self.write_recipes(jobs):
+            self.written[name] = [text]
+            by_hand += [] if is_written else [name]
+        (self.out / ROWS).write_text("".join(f"{name}\t{read[name]}\n" for name in sorted(read)), "utf-8")
         return sorted(by_hand)
 
     def is_own(self, name: str, data: bytes) -> bool:
         """Whether a recipe is as an import wrote it."""
         return hash_of(data) in self.old.get("written", {}).get(name, [])
+
+    def write_recipes(self, jobs: Optional[int]) -> Iterator[tuple[str, str, bool]]:
+        """Writes all recipes, on all processors where they are many: each name, the text's hash, and whether it was written."""
+        places = range(0, len(self.recipes), PIECE)
+        count = processes(jobs, len(self.recipes))
+        WRITER[:] = [self]
+        if count < 2:
+            yield from (each for place in places for each in write_piece(place))
+            return
+        gc.freeze()
+        with multiprocessing.get_context("fork").Pool(count) as pool:
+            for found in pool.imap_unordered(write_piece, places):
+                yield from found
 
     def write_recipe(self, recipe: Recipe, text: bytes) -> bool:
         """Writes one recipe and its origins; false where one that was changed by hand stands there."""
@@ -141,3 +159,15 @@ class ImportTable:
         """Writes the table of a whole import."""
         self.summary, self.status = summary, status
         self.put(self.written, True)
+
+
+WRITER: list[ImportTable] = []
+
+
+def write_piece(place: int) -> list[tuple[str, str, bool]]:
+    """Writes some of the recipes, in a process that has them all."""
+    table, found = WRITER[0], []
+    for recipe in table.recipes[place : place + PIECE]:
+        text = recipe_text(recipe).encode()
+        found.append((recipe.name, hash_of(text), table.write_recipe(recipe, text)))
+    return found

@@ -1,5 +1,6 @@
 """Recipes as lists of JSON and back: what workers hand over, and what is kept between two imports."""
 import json
+from dataclasses import fields, is_dataclass
 from typing import Any, Optional
 
 from .rows import Choice, Conditions, LeftOut, Origin, Recipe, Row
@@ -41,6 +42,17 @@ def recipe_of(given: list[Any]) -> Recipe:
     """The recipe of such a list."""
     name, file, class_name, rows, left_out, bases, lost = given
     return Recipe(name, file, class_name, [row_of(row) for row in rows], [LeftOut(*each) for each in left_out], bases, set(lost))
+
+
+def shown(value: Any) -> Any:
+    """A recipe, or a part of one, as objects with names, for programs."""
+    if hasattr(value, "_asdict"):
+        return {name: shown(each) for name, each in value._asdict().items()}
+    if is_dataclass(value):
+        return {each.name: shown(getattr(value, each.name)) for each in fields(value)}
+    if isinstance(value, (list, tuple)):
+        return [shown(each) for each in value]
+    return sorted(value) if isinstance(value, (set, frozenset)) else value
 
 
 def origins(recipe: Recipe) -> str:

@@ -2,6 +2,7 @@
 
 Says nothing of packages together: that is `import_repo`'s part.
 """
+import gc
 import json
 import multiprocessing
 import os
@@ -17,7 +18,7 @@ from .rows import Cannot, Recipe
 
 FEW = 200  # packages for which no other processes are started
 PIECE = 50
-Found = str  # JSON: `recipe`, packed, or `refused`; and `others`, the other packages that it is made of
+Found = str  # the other packages that it is made of, and behind a tab its recipe, packed, or the reason that there is none, as JSON
 
 
 def read_package(repository: Repository, name: str) -> Recipe:
@@ -39,28 +40,40 @@ def read_package(repository: Repository, name: str) -> Recipe:
 
 
 def read_text(repository: Repository, name: str) -> Found:
-    """What a package gives, as JSON."""
-    return json.dumps([name, read_one(repository, name)], separators=(",", ":"))
+    """What a package gives, as text."""
+    found = json.dumps(read_one(repository, name), separators=(",", ":"))
+    return " ".join(repository.others()) + "\t" + found
 
 
-def read_one(repository: Repository, name: str) -> dict[str, Any]:
-    """What a package gives: its recipe, or the reason that there is none."""
+def value_of(found: Found) -> list[Any]:
+    """What such a text says: a packed recipe, or the two texts of a reason."""
+    return json.loads(found.partition("\t")[2])
+
+
+def read_one(repository: Repository, name: str) -> list[Any]:
+    """What a package gives: its recipe, packed, or the two texts of the reason that there is none."""
     repository.begin(name)
     try:
         recipe = read_package(repository, name)
-        return {"recipe": packed.packed(recipe), "others": repository.others()}
+        return packed.packed(recipe)
     except (RecursionError, MemoryError) as fault:
         kind = "a file that is too deep" if isinstance(fault, RecursionError) else "a file that is more than the memory holds"
-        refused = [kind, name]
+        return [kind, name]
     except (Broken, Continued, Returned):
-        refused = ["a statement that Python would refuse", "`break`, `continue` or `return` outside"]
+        return ["a statement that Python would refuse", "`break`, `continue` or `return` outside"]
     except (Cannot, TooMuch) as fault:
-        refused = [fault.kind, fault.detail]
+        return [fault.kind, fault.detail]
     except OSError as fault:
-        refused = ["a file that cannot be read", str(fault.strerror)]
+        return ["a file that cannot be read", str(fault.strerror)]
     finally:
         repository.end()
-    return {"refused": refused, "others": repository.others()}
+
+
+def processes(jobs: Optional[int], count: int) -> int:
+    """How many processes work on so many packages."""
+    if count < FEW or "fork" not in multiprocessing.get_all_start_methods():
+        return 1
+    return jobs or (len(os.sched_getaffinity(0)) if hasattr(os, "sched_getaffinity") else os.cpu_count() or 1)
 
 
 WORKER: list[Repository] = []
@@ -73,11 +86,12 @@ def read_piece(names: list[str]) -> list[tuple[str, Found]]:
 
 def read_all(repository: Repository, names: list[str], jobs: Optional[int]) -> Iterator[tuple[str, Found]]:
     """All these packages, in any order."""
-    count = jobs or len(os.sched_getaffinity(0)) if hasattr(os, "sched_getaffinity") else jobs or os.cpu_count() or 1
-    if count < 2 or len(names) < FEW or "fork" not in multiprocessing.get_all_start_methods():
+    count = processes(jobs, len(names))
+    if count < 2:
         yield from ((name, read_text(repository, name)) for name in names)
         return
     WORKER[:] = [repository]
+    gc.freeze()
     pieces = [names[place : place + PIECE] for place in range(0, len(names), PIECE)]
     with multiprocessing.get_context("fork").Pool(count) as pool:
         for found in pool.imap_unordered(read_piece, pieces):

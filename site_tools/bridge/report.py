@@ -8,10 +8,9 @@ from collections import Counter, defaultdict
 from dataclasses import dataclass, field
 from pathlib import Path
 
-from . import spec_memory
+from . import signs
 from .rows import Cannot, LeftOut, Recipe, unquoted
 from .settings_notes import Notes
-from .spec_text import Dialect
 from .wishes import Site
 
 # What it means for the answers that a directive is not there.
@@ -138,16 +137,22 @@ def lost_lines(found: Import) -> list[str]:
     return [f"{recipe.name}: {', '.join(sorted(recipe.lost_variants))}" for recipe in found.recipes if recipe.lost_variants]
 
 
+def variants_in(text: str) -> list[str]:
+    """The names of the variants in the canonical text of a dependency."""
+    words = text.split(" ")[1:]
+    pairs = [word.partition("=")[0] for word in words if "=" in word and word[0] not in "%+~@"]
+    return [word[1:] for word in words if word[0] in "+~"] + [name for name in pairs if name not in signs.KEYS]
+
+
 def asked_lines(found: Import) -> list[str]:
     """Variants that a dependency asks for, of a package whose recipe has none of that name."""
     has = {each.name: {row.arguments[0] for row in each.rows if row.directive == "variant"} for each in found.recipes}
     asked: dict[tuple[str, str], set[str]] = defaultdict(set)
     for recipe in found.recipes:
         for row in [row for row in recipe.rows if row.directive == "depends_on" and row.names and row.names[0] in has]:
-            part = spec_memory.dependency_text(unquoted(row.arguments[0]), Dialect())[0].top
-            for name in part.variants:
-                if f'"{name}"' not in has[str(part.name)]:
-                    asked[str(part.name), name].add(recipe.name)
+            for name in variants_in(unquoted(row.arguments[0])):
+                if f'"{name}"' not in has[row.names[0]]:
+                    asked[row.names[0], name].add(recipe.name)
     return [line for key in sorted(asked) for line in wrapped(f"{key[0]} {key[1]}: asked for by {', '.join(sorted(asked[key]))}")]
 
 

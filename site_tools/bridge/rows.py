@@ -3,7 +3,7 @@
 Data, and how it is quoted.
 """
 from dataclasses import dataclass, field
-from typing import Optional
+from typing import NamedTuple, Optional
 
 
 def quoted(text: str) -> str:
@@ -29,8 +29,7 @@ class Cannot(ValueError):
         self.kind, self.detail = kind, detail
 
 
-@dataclass(frozen=True)
-class Conditions:
+class Conditions(NamedTuple):
     """The conditions of the blocks around a directive, the outermost first, and its own."""
 
     blocks: tuple[str, ...] = ()
@@ -45,8 +44,7 @@ class Conditions:
         return self.blocks + ((self.own,) if self.own else ())
 
 
-@dataclass(frozen=True)
-class Origin:
+class Origin(NamedTuple):
     """Where a row comes from: file and line of Spack's, the text there, and the message that Spack would show."""
 
     file: str
@@ -55,8 +53,7 @@ class Origin:
     message: Optional[str] = None
 
 
-@dataclass(frozen=True)
-class Choice:
+class Choice(NamedTuple):
     """What a definition of a variant says: default and values; without values it is true or false."""
 
     name: str
@@ -103,8 +100,7 @@ class VariantRow:
     rules: tuple[Row, ...] = ()
 
 
-@dataclass(frozen=True)
-class LeftOut:
+class LeftOut(NamedTuple):
     """Something that was not taken: where it stands, its text, and why."""
 
     file: str

@@ -103,7 +103,7 @@ def set_default(recipe: Recipe, name: str, values: tuple[str, ...]) -> bool:
     for place, row in enumerate(recipe.rows):
         choice = row.choice
         if choice and choice.name == name and set(values) <= set(choice.all_values()) and (choice.multi or len(values) == 1):
-            changed = replace(choice, default=values)
+            changed = choice._replace(default=values)
             recipe.rows[place] = replace(row, arguments=changed.arguments(), choice=changed)
             found = True
     return found
