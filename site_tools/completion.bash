@@ -6,10 +6,7 @@ _spack_concretize() {
   COMPREPLY=()
   case $COMP_CWORD:$command in
   1:*)
-    mapfile -t COMPREPLY < <(compgen -W 'concretize judge check refute explain trial --help --version --where' -- "$word")
-    return
-    ;;
-  *:trial | *:--*)
+    mapfile -t COMPREPLY < <(compgen -W 'concretize judge --where' -- "$word")
     return
     ;;
   2:*)
@@ -17,8 +14,7 @@ _spack_concretize() {
     mapfile -t COMPREPLY < <(compgen -d -- "$word")
     return
     ;;
-  *:judge | *:refute) specs_from=6 ;;
-  *:explain) specs_from=5 ;;
+  *:judge) specs_from=6 ;;
   esac
   if [ "$COMP_CWORD" -lt "$specs_from" ]; then
     compopt -o filenames 2>/dev/null
