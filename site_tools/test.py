@@ -28,6 +28,7 @@ sys.dont_write_bytecode = True
 from bridge import export_spec, import_repo, import_settings, installed, lock_view, manual, spec_text  # noqa: E402
 from bridge.literals import Evaluator, NotLiteral  # noqa: E402
 import idioms  # noqa: E402
+import lock_cases  # noqa: E402
 
 WRITE = "--write" in sys.argv[1:]
 Check = Iterator[tuple[str, str]]  # the name of what is wrong, and how
@@ -63,9 +64,8 @@ def compared_folders(name: str, found: Path, wanted: Path) -> Check:
     if WRITE:
         shutil.rmtree(wanted, ignore_errors=True)
         shutil.copytree(found, wanted)
-    hidden = ("import.json", "import_rows.jsonl", "origins.json")  # of these, what matters is looked at elsewhere
-    for path in [path for path in found.rglob("*") if path.name in hidden]:
-        path.unlink()
+    for path in [path for path in found.rglob("*") if path.name in ("import.json", "import_rows.jsonl", "origins.json")]:
+        path.unlink()  # looked at elsewhere
     paths = {path.relative_to(root) for root in (found, wanted) for path in root.rglob("*") if path.is_file()}
     for path in sorted(paths):
         if not (found / path).exists():
@@ -83,8 +83,7 @@ def rows(path: Path) -> Iterator[list[str]]:
 
 def check_texts() -> Check:
     """Spec texts of Spack, and what is written for them."""
-    names = ("condition", "dependency", "provision")
-    readers = {name: getattr(spec_text, f"read_{name}") for name in names}
+    readers = {name: getattr(spec_text, f"read_{name}") for name in ("condition", "dependency", "provision")}
     for kind, text, wanted in rows(TESTS / "texts.rows"):
         dialect = spec_text.Dialect(is_v2=kind.startswith("v2 "))
         try:
@@ -118,12 +117,11 @@ def check_recipes() -> Check:
             run(import_repo.main, TESTS / "recipes", out, *words)
             if not words:
                 yield from compared_folders("import_repo", out, TESTS / name)
-            else:
-                report = (out / "report.txt").read_text("utf-8")
-                yield from compared(f"import_repo {words[0]}", report, TESTS / "reports" / f"{name}.txt")
-                umber = (out / "packages" / "umber" / "package.py")
-                text = umber.read_text("utf-8") if umber.exists() else "none"
-                yield from compared(f"import_repo {words[0]} umber", text, TESTS / "reports" / f"{name}_umber.txt")
+                continue
+            yield from compared(f"import_repo {words[0]}", (out / "report.txt").read_text("utf-8"), TESTS / "reports" / f"{name}.txt")
+            umber = out / "packages" / "umber" / "package.py"
+            text = umber.read_text("utf-8") if umber.exists() else "none"
+            yield from compared(f"import_repo {words[0]} umber", text, TESTS / "reports" / f"{name}_umber.txt")
 
 
 def check_idioms() -> Check:
@@ -158,18 +156,23 @@ def check_cases() -> Check:
         words = (folder / "words").read_text("utf-8").replace("@", str(folder)).split()
         with tempfile.TemporaryDirectory() as room:
             out = Path(room) / "settings.json"
-            report = run(import_settings.main, out, *sorted(folder.glob("*.yaml")), *words)
-            report = report.replace(f"{folder}/", "")
+            report = run(import_settings.main, out, *sorted(folder.glob("*.yaml")), *words).replace(f"{folder}/", "")
             if "python3-yaml is not installed" not in report:
                 text = report + (out.read_text("utf-8") if out.exists() else "")
                 yield from compared(f"settings/{folder.name}", text, folder / "wanted.txt")
     for folder in sorted((TESTS / "installed").iterdir()):
         with tempfile.TemporaryDirectory() as room:
             files = [Path(room) / name for name in ("database.json", "hashes.tsv")]
-            words = (folder / "words").read_text("utf-8").split()
+            words = (folder / "words").read_text("utf-8").replace("@", str(folder)).split()
             report = run(installed.main, folder / "index.json", *files, *words).replace(f"{folder}/", "")
             text = report + "".join(file.read_text("utf-8") for file in files if file.exists())
             yield from compared(f"installed/{folder.name}", text, folder / "wanted.txt")
+
+
+def check_locks() -> Check:
+    """The folders of tests/locks: files of Spack's, and the lock files that come of them."""
+    for name, text, wanted in lock_cases.outcomes(TESTS / "locks", run):
+        yield from compared(name, text, wanted)
 
 
 def check_views() -> Check:
@@ -275,15 +278,20 @@ def check_style() -> Check:
                 yield f"{path.name}:{node.lineno} {node.name}", "has no docstring"
 
 
+def chosen() -> list[str]:
+    """The names of the checks that are asked for."""
+    parser = argparse.ArgumentParser(description=__doc__)
+    parser.add_argument("--write", action="store_true", help="keep what the tools give now as what is wanted")
+    parser.add_argument("checks", nargs="*", help="names of checks, as the lines show them; all without a name")
+    return parser.parse_args().checks
+
+
 def main() -> int:
     """Runs all checks: 0 where nothing differs."""
     begun, wrong = time.monotonic(), 0
     # The program's lock file is one that the views show, so it comes first.
-    checks = (check_style, check_texts, check_literals, check_idioms, check_recipes, check_site, check_cases, check_program, check_views)
-    parser = argparse.ArgumentParser(description=__doc__)
-    parser.add_argument("--write", action="store_true", help="keep what the tools give now as what is wanted")
-    parser.add_argument("checks", nargs="*", help="names of checks, as the lines below show them; all without a name")
-    asked = parser.parse_args().checks
+    checks = (check_style, check_texts, check_literals, check_idioms, check_recipes, check_site, check_cases, check_locks, check_program, check_views)
+    asked = chosen()
     for check in [each for each in (*checks, check_completion, check_manual) if not asked or each.__name__[6:] in asked]:
         faults = list(check())
         wrong += len(faults)

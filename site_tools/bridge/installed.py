@@ -113,7 +113,7 @@ def record_of(old: str, found: Import) -> Record:
     """The record of one installed package; `Cannot` where there is none."""
     install = found.installs[old]
     spec, arch = install["spec"], install["spec"].get("arch", {})
-    if not install.get("installed", True):
+    if not install.get("installed", True) and not install.get("in_buildcache"):
         raise Cannot("not installed", "")
     if install.get("deprecated_for"):
         raise Cannot("deprecated for another one", "")
@@ -197,6 +197,14 @@ def import_all(index: dict, platform: str, strict: bool = False) -> Import:
     return found
 
 
+def add_cache(index: dict, cache: dict) -> None:
+    """Adds what a build cache has and the index has not: it can be fetched in place of being built."""
+    installs = index["database"]["installs"]
+    for old, entry in cache["database"]["installs"].items():
+        if old not in installs or not installs[old].get("installed", True):
+            installs[old] = {**entry, "in_buildcache": True}
+
+
 def database_text(found: Import) -> str:
     """The database as a file: records by name, then by hash."""
     rows = sorted(found.found.values(), key=lambda record: (record["name"], record["hash"]))
@@ -239,10 +247,16 @@ def main(words: Optional[list[str]] = None) -> int:
     parser.add_argument("database", type=Path, metavar="DATABASE", help="the file that is written")
     parser.add_argument("table", type=Path, metavar="HASHES", help="the table of old to new hashes that is written")
     parser.add_argument("--platform", default="linux", help="records of other platforms are left out")
+    parser.add_argument(
+        "--cache", type=Path, action="append", default=[], metavar="INDEX_JSON",
+        help="index.json of a build cache: what is there counts as installed",
+    )
     parser.add_argument("--strict", action="store_true", help="leave out each record of which a part cannot be said")
     given = parser.parse_args(words)
     try:
         index = json_files.read(given.index)
+        for path in given.cache:
+            add_cache(index, json_files.read(path))
         found = import_all(index, given.platform, given.strict)
     except (OSError, ValueError, KeyError, TypeError, AttributeError) as fault:
         print(f"import_installed: {given.index} is no index of Spack's: {fault}", file=sys.stderr)
