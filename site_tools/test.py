@@ -29,6 +29,7 @@ from bridge import export_spec, import_repo, import_settings, installed, lock_vi
 from bridge.literals import Evaluator, NotLiteral  # noqa: E402
 import idioms  # noqa: E402
 import lock_cases  # noqa: E402
+import style  # noqa: E402
 
 WRITE = "--write" in sys.argv[1:]
 Check = Iterator[tuple[str, str]]  # the name of what is wrong, and how
@@ -262,20 +263,7 @@ def check_program() -> Check:
 def check_style() -> Check:
     """Each module and function says what it does, has types, and is short."""
     for path in [*sorted((TOOLS / "bridge").glob("*.py")), *sorted(TOOLS.glob("*.py"))]:
-        text = path.read_text("utf-8")
-        tree = ast.parse(text)
-        if not ast.get_docstring(tree):
-            yield path.name, "has no docstring"
-        if text.count("\n") > 300 or max(map(len, text.splitlines())) > 140:
-            yield path.name, "is longer than 300 lines, or wider than 140 signs"
-        for node in ast.walk(tree):
-            if not isinstance(node, ast.FunctionDef):
-                continue
-            untyped = [each.arg for each in node.args.args if each.annotation is None and each.arg != "self"]
-            if node.returns is None or untyped or (node.end_lineno or 0) - node.lineno >= 40:
-                yield f"{path.name}:{node.lineno} {node.name}", "has no types, or is longer than 40 lines"
-            if not ast.get_docstring(node) and not (node.name.startswith("__") and node.name.endswith("__")):
-                yield f"{path.name}:{node.lineno} {node.name}", "has no docstring"
+        yield from style.faults(path)
 
 
 def chosen() -> list[str]:
