@@ -279,8 +279,8 @@ def main() -> int:
     begun, wrong = time.monotonic(), 0
     # The program's lock file is one that the views show, so it comes first.
     checks = (check_style, check_texts, check_literals, check_idioms, check_recipes, check_site, check_cases, check_locks)
-    asked = chosen()
-    for check in [each for each in (*checks, check_program, check_views, check_completion, check_manual) if not asked or each.__name__[6:] in asked]:
+    asked, checks = chosen(), (*checks, check_program, check_views, check_completion, check_manual)
+    for check in [each for each in checks if not asked or each.__name__[6:] in asked]:
         faults = list(check())
         wrong += len(faults)
         print(f"{check.__name__.removeprefix('check_')}: {'right' if not faults else f'{len(faults)} wrong'}")
