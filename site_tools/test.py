@@ -27,6 +27,7 @@ sys.dont_write_bytecode = True
 
 from bridge import export_spec, import_repo, import_settings, installed, lock_view, manual, spec_text  # noqa: E402
 from bridge.literals import Evaluator, NotLiteral  # noqa: E402
+import again_cases  # noqa: E402
 import idioms  # noqa: E402
 import lock_cases  # noqa: E402
 import style  # noqa: E402
@@ -129,6 +130,11 @@ def check_idioms() -> Check:
     """Small recipes of one idiom each."""
     for path in sorted((TESTS / "idioms").glob("*.txt")):
         yield from idioms.check(path, run)
+
+
+def check_again() -> Check:
+    """An import over the last one."""
+    yield from again_cases.faults(TESTS / "recipes", run)
 
 
 def check_site() -> Check:
@@ -278,7 +284,7 @@ def main() -> int:
     """Runs all checks: 0 where nothing differs."""
     begun, wrong = time.monotonic(), 0
     # The program's lock file is one that the views show, so it comes first.
-    checks = (check_style, check_texts, check_literals, check_idioms, check_recipes, check_site, check_cases, check_locks)
+    checks = (check_style, check_texts, check_literals, check_idioms, check_recipes, check_again, check_site, check_cases, check_locks)
     asked, checks = chosen(), (*checks, check_program, check_views, check_completion, check_manual)
     for check in [each for each in checks if not asked or each.__name__[6:] in asked]:
         faults = list(check())
