@@ -25,12 +25,13 @@ SITE = TOP / "examples" / "site"
 sys.path.insert(0, str(TOOLS))
 sys.dont_write_bytecode = True
 
-from bridge import export_spec, import_repo, import_settings, installed, lock_view, manual, spec_text  # noqa: E402
+from bridge import import_repo, import_settings, installed, manual, spec_text  # noqa: E402
 from bridge.literals import Evaluator, NotLiteral  # noqa: E402
 import again_cases  # noqa: E402
 import idioms  # noqa: E402
 import lock_cases  # noqa: E402
 import style  # noqa: E402
+import view_cases  # noqa: E402
 
 WRITE = "--write" in sys.argv[1:]
 Check = Iterator[tuple[str, str]]  # the name of what is wrong, and how
@@ -184,24 +185,7 @@ def check_locks() -> Check:
 
 def check_views() -> Check:
     """What lock_view and export_spec show of the lock files of the examples."""
-    mpi, site = TOP / "examples" / "mpi", SITE / "hdf5.lock"
-    broken = TESTS / "views" / "changed.lock"
-    mpi_costs = (lock_view.main, mpi / "hdf5.lock", "--vector", TESTS / "views" / "mpi.out")
-    site_costs = (lock_view.main, site, "--vector", TESTS / "answers" / "site_hdf5.wanted")
-    views: dict[str, tuple] = {
-        "mpi_dot.txt": (lock_view.main, mpi / "hdf5.lock", "--format", "dot"),
-        "mpi_costs.txt": (lock_view.main, mpi / "hdf5.lock", "--vector", TESTS / "views" / "mpi.out"),
-        "mpi_reasons.txt": (*mpi_costs, "--settings", mpi / "settings.json"),
-        "site_costs.txt": (*site_costs, "--settings", SITE / "settings.json"),
-        "mpi_all.txt": (*mpi_costs, "--all"),
-        "mpi_diff.txt": (lock_view.main, mpi / "hdf5.lock", "--diff", mpi / "broken.lock"),
-        "site_diff.txt": (lock_view.main, mpi / "hdf5.lock", "--diff", site),
-        "changed.txt": (lock_view.main, broken),
-        "site_pinned.txt": (export_spec.main, site, "--hashes", SITE / "hashes.tsv"),
-        "mpi_environment.txt": (export_spec.main, mpi / "hdf5.lock", "--environment"),
-    }
-    views.update({f"site_{each}.txt": (lock_view.main, site, "--format", each) for each in ("tree", "table", "json")})
-    for name, words in views.items():
+    for name, words in view_cases.views(TESTS).items():
         yield from compared(f"views/{name}", run(*words).replace(f"{TOP}/", ""), TESTS / "views" / name)
 
 
