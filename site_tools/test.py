@@ -25,7 +25,7 @@ SITE = TOP / "examples" / "site"
 sys.path.insert(0, str(TOOLS))
 sys.dont_write_bytecode = True
 
-from bridge import import_repo, import_settings, installed, manual, spec_text  # noqa: E402
+from bridge import export_spec, import_repo, import_settings, installed, lock_view, manual, spec_text  # noqa: E402
 from bridge.literals import Evaluator, NotLiteral  # noqa: E402
 import again_cases  # noqa: E402
 import idioms  # noqa: E402
@@ -185,7 +185,7 @@ def check_locks() -> Check:
 
 def check_views() -> Check:
     """What lock_view and export_spec show of the lock files of the examples."""
-    for name, words in view_cases.views(TESTS).items():
+    for name, words in view_cases.views(TESTS, lock_view.main, export_spec.main).items():
         yield from compared(f"views/{name}", run(*words).replace(f"{TOP}/", ""), TESTS / "views" / name)
 
 
