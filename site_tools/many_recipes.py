@@ -1,7 +1,7 @@
 #!/usr/bin/env python3
 """Makes a repository of many recipes in Spack's style, to measure import_repo with: `site_tools/many_recipes.py COUNT OUT`.
 
-The recipes are of the length that Spack's have (4 KB each), and name each other; they are made up.
+The recipes are of the length that Spack's have (3 KB each), and name each other; they are made up.
 """
 import argparse
 import hashlib
