@@ -189,4 +189,9 @@ def text_of(found: Import, stand_ins: list[str], by_hand: list[str]) -> str:
     lines += section("Taken with parts left out", part_lines(found.partly()))
     whole = "Taken whole" + (", but for what the stand-ins lack" if stand_ins else "")
     lines += section(whole, wrapped(" ".join(each.name for each in found.whole())))
-    return "\n".join(lines) + "\n"
+    return "".join(map(plain, "\n".join(lines))) + "\n"
+
+
+def plain(sign: str) -> str:
+    """A sign as a terminal may show it: control signs by their number."""
+    return sign if sign.isprintable() or sign == "\n" else f"\\x{ord(sign):02x}"

@@ -8,7 +8,9 @@ from dataclasses import dataclass, field, replace
 from typing import Any
 
 from . import versions, wish_texts
+from .own_name import name_in
 from .rows import Conditions, Origin, Recipe, Row, quoted, unquoted
+from .settings_externals import external_part
 from .settings_notes import Notes
 from .spec_text import Dialect, Spec
 from .wish_texts import Wish
@@ -86,8 +88,6 @@ def write(wish: Wish, recipe: Recipe, is_of_all: bool, notes: Notes) -> None:
 
 def named(text: str, own: str) -> bool:
     """Whether a condition begins with another package's name."""
-    from .own_name import name_in
-
     return name_in(text) not in (None, own)
 
 
@@ -136,8 +136,6 @@ def without(row: Row, virtual: str) -> list[Row]:
 
 def external_versions(name: str, packages: Map, site: Site) -> list[str]:
     """The versions of a package's externals, also of those that stand under a virtual."""
-    from .settings_externals import external_part
-
     found: list[str] = []
     virtuals = [virtual for virtual, providers in site.providers.items() if name in providers]
     for inner in [packages.get(each) for each in [name, *virtuals]]:
