@@ -106,7 +106,7 @@ module _ {W : Type 0} (P : W → Type 0) where
             | true ↦ (
               (some-if (take (half_of xs) xs) q.0, (some-if (drop (half_of xs) xs) q.1, tt)),
               each-append P (few_rules times rule (take (half_of xs) xs)) (few_rules times rule (drop (half_of xs) xs))
-                (few-if times (take (half_of xs) xs) q.0) (few-if times (drop (half_of xs) xs) q.1),
+                  (few-if times (take (half_of xs) xs) q.0) (few-if times (drop (half_of xs) xs) q.1),
             )
             | false ↦ apart-if xs e
           ]

@@ -165,8 +165,26 @@ fn push_few(
         &specs[..half],
         &specs[half..],
     )?)?;
-    push_few(alloc, parts, table, world, paths, name, &specs[..half], times - 1)?;
-    push_few(alloc, parts, table, world, paths, name, &specs[half..], times - 1)?;
+    push_few(
+        alloc,
+        parts,
+        table,
+        world,
+        paths,
+        name,
+        &specs[..half],
+        times - 1,
+    )?;
+    push_few(
+        alloc,
+        parts,
+        table,
+        world,
+        paths,
+        name,
+        &specs[half..],
+        times - 1,
+    )?;
     Ok(())
 }
 

@@ -66,8 +66,8 @@ pub needs_step : (before after whole : List ℕ) (packages own i n state next la
     → (after ++ needs_left packages own (i + 1) n next ≡ whole) × (state_left packages own (i + 1) n next ≡ last)
 needs_step before after whole packages own i n state next last lt text is done ends = (
   ap (λ o. o ++ needs_left packages own (i + 1) n next) text
-    ∙ ap (λ s. (before ++ (dependency packages own state).text) ++ needs_left packages own (i + 1) n s) is
-    ∙ more_needs before packages own i n state lt ∙ done,
+      ∙ ap (λ s. (before ++ (dependency packages own state).text) ++ needs_left packages own (i + 1) n s) is
+      ∙ more_needs before packages own i n state lt ∙ done,
   ap (λ s. state_left packages own (i + 1) n s) is ∙ needs_state packages own i n state lt ∙ ends,
 )
 
