@@ -6,15 +6,17 @@ _spack_concretize() {
   COMPREPLY=()
   case $COMP_CWORD:$command in
   1:*)
-    mapfile -t COMPREPLY < <(compgen -W 'concretize judge --where' -- "$word")
+    mapfile -t COMPREPLY < <(compgen -W 'concretize judge check refute explain trial --where' -- "$word")
     return
     ;;
+  *:trial) return ;;
   2:*)
     compopt -o filenames 2>/dev/null
     mapfile -t COMPREPLY < <(compgen -d -- "$word")
     return
     ;;
-  *:judge) specs_from=6 ;;
+  *:judge | *:refute) specs_from=6 ;;
+  *:explain) specs_from=5 ;;
   esac
   if [ "$COMP_CWORD" -lt "$specs_from" ]; then
     compopt -o filenames 2>/dev/null
