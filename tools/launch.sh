@@ -310,5 +310,7 @@ launch() {
     open_stage_file && export SPACK_CONCRETIZE_STAGE="$stage_file"
     exec {held}> >(watch_run "$name" $$ "$stage_file" >/dev/null)
   fi
+  # A limit of file sizes is then a fault of writing, which the program says, and no signal that kills it.
+  trap '' XFSZ
   exec "$program" "$@"
 }

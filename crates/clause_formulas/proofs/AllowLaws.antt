@@ -4,65 +4,73 @@ use Rattle.std.proofs.lemmas.Bool.{and_parts}
 use Rattle.clause_store.specs.declared.Label.{Label}
 use Rattle.clause_store.specs.declared.Label.TheVariants.{Demand}
 use Rattle.clause_store.specs.Clauses.{Clauses, counts}
-use Rattle.gate_plans.specs.Growth.{Agree, Says, Extends, where_asked}
-use Rattle.gate_plans.proofs.Composed.{Grows-trans, Extends-refl, Agree-trans, MeetsSince-join, Meets-agree, since}
+use Rattle.gate_plans.specs.Growth.{Agree, where_asked}
+use Rattle.gate_plans.proofs.Composed.{Grows-trans, Agree-trans, MeetsSince-parts, MeetsSince-join, Meets-agree, since}
 use Rattle.clause_formulas.specs.Statements.{Statement, eval, any_of, SaidBelow}
-use Rattle.clause_formulas.specs.Built.{assert_on, demand_on, claimed, demands_true}
-use Rattle.clause_formulas.specs.Allowed.{Allows}
+use Rattle.clause_formulas.specs.Gated.{Gated, gated, GatesBelow, Keeps}
+use Rattle.clause_formulas.specs.Built.{assert_in, demand_in, claimed, demands_true}
+use Rattle.clause_formulas.specs.Allowed.{AllowsIn}
 use Rattle.clause_formulas.proofs.DraftLaws.{eval-agree}
-use Rattle.clause_formulas.proofs.Laws.{assert_is, demand_is}
+use Rattle.clause_formulas.proofs.GateLaws.{Fits-agree, Keeps-refl}
+use Rattle.clause_formulas.proofs.Laws.{assert_in_is, demand_is}
 
 -- which assignments keep a rule, where some clauses are asked for
 abbrev pub Rule : Type 1
 Rule = (ℕ → Bool) → (ℕ → Bool) → Type 0
 
-pub Allows-from : (s t : Clauses) (r : (ℕ → Bool) → (ℕ → Bool) → Bool) → Says s t r → Allows s t (λ asked v. r asked v ≡ true)
-Allows-from s t r d = record { grows = d.grows; each = d.each }
+pub Allows-keeps : (s t : Gated) (p : Rule) → Keeps s t → AllowsIn s t p
+Allows-keeps s t p d = record {
+  grows = d.extends.grows;
+  below = d.below;
+  fits = d.fits;
+  each = λ asked v k h. d.extends.each asked v refl;
+}
 
-pub Allows-extends : (s t : Clauses) (p : Rule) → Extends s t → Allows s t p
-Allows-extends s t p d = record { grows = d.grows; each = λ asked v h. d.each asked v refl }
-
-pub Allows-refl : (s : Clauses) (p : Rule) → Allows s s p
-Allows-refl s p = Allows-extends s s p (Extends-refl s)
-
--- what keeps more leaves less open
-pub Allows-as : (s t : Clauses) (p q : Rule) → Allows s t p → ((asked v : ℕ → Bool) → q asked v → p asked v) → Allows s t q
-Allows-as s t p q d h = record { grows = d.grows; each = λ asked v k. d.each asked v (h asked v k) }
+pub Allows-refl : (s : Gated) (p : Rule) → GatesBelow s.list.vars s.gates → AllowsIn s s p
+Allows-refl s p i = Allows-keeps s s p (Keeps-refl s i)
 
 -- two steps one after the other
-pub Allows-then : (a b c : Clauses) (p q : Rule) → Allows a b p → Allows b c q
-    → ((asked v w : ℕ → Bool) → Agree a.vars v w → p asked v → q asked w) → Allows a c p
-Allows-then a b c p q d e link = record {
-  grows = Grows-trans a b c d.grows e.grows;
-  each = λ asked v h.
-      let x = d.each asked v h in
-      let y = e.each asked x.0 (link asked v x.0 x.1 h) in (
+pub Allows-then : (a b c : Gated) (p q : Rule) → GatesBelow a.list.vars a.gates → AllowsIn a b p → AllowsIn b c q
+    → ((asked v w : ℕ → Bool) → Agree a.list.vars v w → p asked v → q asked w) → AllowsIn a c p
+Allows-then a b c p q i d e link = record {
+  grows = Grows-trans a.list b.list c.list d.grows e.grows;
+  below = e.below;
+  fits = λ asked v k m.
+      let t = MeetsSince-parts asked v a.list b.list c.list d.grows e.grows m in
+      e.fits asked v (d.fits asked v k t.0) t.1;
+  each = λ asked v k h.
+      let x = d.each asked v k h in
+      let f = d.fits asked x.0 (Fits-agree a.list.vars v x.0 x.1 a.gates i k) x.2 in
+      let y = e.each asked x.0 f (link asked v x.0 x.1 h) in (
         y.0,
-        Agree-trans a.vars b.vars v x.0 y.0 d.grows.more x.1 y.1,
-        MeetsSince-join asked y.0 a b c d.grows e.grows (Meets-agree asked b.vars x.0 y.0 y.1 (since a b) d.grows.in_range x.2) y.2,
+        Agree-trans a.list.vars b.list.vars v x.0 y.0 d.grows.more x.1 y.1,
+        MeetsSince-join asked y.0 a.list b.list c.list d.grows e.grows
+            (Meets-agree asked b.list.vars x.0 y.0 y.1 (since a.list b.list) d.grows.in_range x.2) y.2,
       );
 }
 
 -- a call that came to its end, or left the list as it found it
-pub Allows-called : {T E : Type 0} (r : Result T E) (s t u v : Clauses) (p : Rule) → Allows s v p → Extends s t
-    → OnOk r (v ≡ u) → OnErr r (u ≡ t) → Allows s u p
-Allows-called (Ok x) s t u v p d e f g = subst (λ l. Allows s l p) f d
-Allows-called (Err x) s t u v p d e f g = subst (λ l. Allows s l p) (sym g) (Allows-extends s t p e)
+pub Allows-called : {T E : Type 0} (r : Result T E) (s t v : Gated) (u : Clauses) (p : Rule) → AllowsIn s v p → Keeps s t
+    → OnOk r (v ≡ gated u t.gates) → OnErr r (u ≡ t.list) → AllowsIn s (gated u t.gates) p
+Allows-called (Ok x) s t v u p d e f g = subst (λ l. AllowsIn s l p) f d
+Allows-called (Err x) s t v u p d e f g = subst (λ l. AllowsIn s (gated l t.gates) p) (sym g) (Allows-keeps s t p e)
 
 -- what is claimed of a formula, where the label is asked for
 abbrev pub claims : Label → Bool → Statement → Rule
 claims label sign f = λ asked v. where_asked label (λ w. claimed sign (eval w f)) asked v ≡ true
 
-pub claim-called : {T E : Type 0} (r : Result T E) (s t u : Clauses) (label : Label) (sign : Bool) (f : Statement) → SaidBelow s.vars f
-    → Extends s t → OnOk r (assert_on label s sign f ≡ u) → OnErr r (u ≡ t) → Allows s u (claims label sign f)
-claim-called r s t u label sign f b e p q = Allows-called r s t u (assert_on label s sign f) (claims label sign f)
-    (Allows-from s (assert_on label s sign f) _ (assert_is label f sign s b)) e p q
+pub claim-called : {T E : Type 0} (r : Result T E) (s t : Gated) (u : Clauses) (label : Label) (sign : Bool) (f : Statement)
+    → GatesBelow s.list.vars s.gates → SaidBelow s.list.vars f → Keeps s t → OnOk r (assert_in label s sign f ≡ gated u t.gates)
+    → OnErr r (u ≡ t.list) → AllowsIn s (gated u t.gates) (claims label sign f)
+claim-called r s t u label sign f i b e p q = Allows-called r s t (assert_in label s sign f) u (claims label sign f)
+    (assert_in_is label f sign s i b).allows e p q
 
-pub demand-called : {T E : Type 0} (r : Result T E) (s t u : Clauses) (f : Statement) (id : ℕ) → SaidBelow s.vars f → Extends s t
-    → OnOk r (demand_on s f id ≡ u) → OnErr r (u ≡ t)
-    → Allows s u (λ asked v. where_asked (Demand id) (λ w. eval w f) asked v ≡ true)
-demand-called r s t u f id b e p q = Allows-called r s t u (demand_on s f id) (λ asked v. where_asked (Demand id) (λ w. eval w f) asked v ≡ true)
-    (Allows-from s (demand_on s f id) _ (demand_is s f id b)) e p q
+pub demand-called : {T E : Type 0} (r : Result T E) (s t : Gated) (u : Clauses) (f : Statement) (id : ℕ)
+    → GatesBelow s.list.vars s.gates → SaidBelow s.list.vars f → Keeps s t → OnOk r (demand_in s f id ≡ gated u t.gates)
+    → OnErr r (u ≡ t.list) → AllowsIn s (gated u t.gates) (λ asked v. where_asked (Demand id) (λ w. eval w f) asked v ≡ true)
+demand-called r s t u f id i b e p q =
+    Allows-called r s t (demand_in s f id) u (λ asked v. where_asked (Demand id) (λ w. eval w f) asked v ≡ true)
+    (demand_is s f id i b).allows e p q
 
 -- where none of a list is true, no part is
 none-part : (c a b : Bool) → (c || not (a || b)) ≡ true → ((c || not a) ≡ true) × ((c || not b) ≡ true)

@@ -6,7 +6,7 @@ use Rattle.clause_store.specs.Lits.{lit_true, clause_true, clause_of, AllBelow}
 use Rattle.clause_store.specs.Clauses.{Clauses, counts}
 use Rattle.clause_store.proofs.Range.{AllBelow-le}
 use Rattle.clause_store.proofs.Meaning.{clause_of-Some, clause_of-None, AllBelow-clause_of}
-use Rattle.gate_plans.specs.Growth.{Agree, MeetsSince, Grows, Says, where_asked}
+use Rattle.gate_plans.specs.Growth.{Agree, MeetsSince, Extends, where_asked}
 use Rattle.gate_plans.specs.Gates.{clauses_from, lit_of}
 use Rattle.gate_plans.specs.Shapes.{cover_rules, with_cover}
 use Rattle.gate_plans.proofs.Composed.{Grows-refl, Grows-trans, Extends-refl, MeetsSince-parts, MeetsSince-join, Meets-agree, clause_true-agree, since, Agree-trans}
@@ -15,9 +15,12 @@ use Rattle.clause_formulas.specs.declared.defined.Defined.{Defined}
 use Rattle.clause_formulas.specs.declared.defined.Defined.TheVariants.{Known, By}
 use Rattle.clause_formulas.specs.Statements.{Statement, atom, never, or, no, eval, SaidBelow}
 use Rattle.clause_formulas.specs.Drafts.{Draft, empty, draft_true, with_defined, defined_true, DefinedBelow, reverse_of}
+use Rattle.clause_formulas.specs.Gated.{Gated, gated, Fits, GatesBelow, Keeps}
 use Rattle.clause_formulas.specs.Values.{CoversValue}
-use Rattle.clause_formulas.specs.Built.{cover_on, by_cover, covered_on, ask_on, spread_on, with_draft}
+use Rattle.clause_formulas.specs.Allowed.{SaysIn}
+use Rattle.clause_formulas.specs.Built.{cover_on, by_cover, covered_on, ask_in, spread_in, with_draft, drafted}
 use Rattle.clause_formulas.proofs.DraftLaws.{eval-agree, SaidBelow-le, or-false, or-assoc, with_defined-true, with_defined-below, reverse-true, reverse-below}
+use Rattle.clause_formulas.proofs.GateLaws.{Fits-agree, GatesBelow-le, Keeps-refl, Keeps-trans, Keeps-extends}
 use Rattle.clause_formulas.proofs.SpreadLaws.{Spreads, spread_is, draft_says}
 
 -- a value that is one already
@@ -76,21 +79,30 @@ covered_is s d b = covered_parts s d.lits d.always b
 draft_true-agree : (n : ℕ) (v w : ℕ → Bool) → Agree n v w → (d : Draft) → AllBelow n d.lits → draft_true v d ≡ draft_true w d
 draft_true-agree n v w a d b = ap (λ x. d.always || x) (clause_true-agree n v w a d.lits b)
 
+-- a cover leaves each old assignment open
+CoversValue-extends : (s t : Clauses) (x : Defined) (f : (ℕ → Bool) → Bool) → CoversValue s t x f → Extends s t
+CoversValue-extends s t x f d = record {
+  grows = d.grows;
+  only = λ asked v m. refl;
+  each = λ asked v h. let w = d.each asked v in (w.0, w.1, w.2);
+}
+
 -- a draft got literals of which none is true unless the formula is
-pub record Asks (s : Clauses) (d : Draft) (t : Clauses) (e : Draft) (f : Statement) : Type 0 where
-  pub grows : Grows s t
-  pub below : AllBelow t.vars e.lits
-  pub only : (asked v : ℕ → Bool) → MeetsSince asked v s t → draft_true v e ≡ true → (draft_true v d || eval v f) ≡ true
-  pub each : (asked v : ℕ → Bool) → (w : ℕ → Bool) × Agree s.vars v w × MeetsSince asked w s t
+pub record Asks (s : Gated) (d : Draft) (t : Gated) (e : Draft) (f : Statement) : Type 0 where
+  pub keeps : Keeps s t
+  pub below : AllBelow t.list.vars e.lits
+  pub only : (asked v : ℕ → Bool) → Fits v s.gates → MeetsSince asked v s.list t.list → draft_true v e ≡ true
+      → (draft_true v d || eval v f) ≡ true
+  pub each : (asked v : ℕ → Bool) → Fits v s.gates → (w : ℕ → Bool) × Agree s.list.vars v w × MeetsSince asked w s.list t.list
       × (draft_true w e ≡ (draft_true w d || eval w f))
 
-Asks-same : (s : Clauses) (d e : Draft) (f : Statement) → AllBelow s.vars e.lits
+Asks-same : (s : Gated) (d e : Draft) (f : Statement) → GatesBelow s.list.vars s.gates → AllBelow s.list.vars e.lits
     → ((v : ℕ → Bool) → draft_true v e ≡ (draft_true v d || eval v f)) → Asks s d s e f
-Asks-same s d e f b h = record {
-  grows = Grows-refl s;
+Asks-same s d e f k b h = record {
+  keeps = Keeps-refl s k;
   below = b;
-  only = λ asked v m t. sym (h v) ∙ t;
-  each = λ asked v. let w = (Extends-refl s).each asked v refl in (w.0, w.1, w.2, h w.0);
+  only = λ asked v q m t. sym (h v) ∙ t;
+  each = λ asked v q. let w = (Extends-refl s.list).each asked v refl in (w.0, w.1, w.2, h w.0);
 }
 
 or-then : (a b c : Bool) → ((a || c) ≡ true) → (a ≡ true → b ≡ true) → (b || c) ≡ true
@@ -98,28 +110,33 @@ or-then true b c t h = ap (λ x. x || c) (h refl)
 or-then false true c t h = refl
 or-then false false c t h = t
 
-Asks-or : (s t u : Clauses) (d e k : Draft) (f g : Statement) → AllBelow s.vars d.lits → SaidBelow s.vars f → Asks s d t e f
-    → Asks t e u k g → Asks s d u k (or f g)
-Asks-or s t u d e k f g h l a b = record {
-  grows = Grows-trans s t u a.grows b.grows;
-  below = b.below;
-  only = λ asked v m y.
-      let p = MeetsSince-parts asked v s t u a.grows b.grows m in
-      sym (or-assoc (draft_true v d) (eval v f) (eval v g))
-      ∙ or-then (draft_true v e) (draft_true v d || eval v f) (eval v g) (b.only asked v p.1 y) (a.only asked v p.0);
-  each = λ asked v.
-      let x = a.each asked v in
-      let y = b.each asked x.0 in
-      let near : Agree s.vars x.0 y.0 = λ j lt. y.1 j (omega (arith, lt, a.grows.more)) in
-      let same : (draft_true x.0 d || eval x.0 f) ≡ (draft_true y.0 d || eval y.0 f) =
-      rw (draft_true-agree s.vars x.0 y.0 near d h, eval-agree s.vars x.0 y.0 near f l) refl in (
-        y.0,
-        Agree-trans s.vars t.vars v x.0 y.0 a.grows.more x.1 y.1,
-        MeetsSince-join asked y.0 s t u a.grows b.grows (Meets-agree asked t.vars x.0 y.0 y.1 (since s t) a.grows.in_range x.2) y.2,
-        y.3 ∙ ap (λ z. z || eval y.0 g) (sym (draft_true-agree t.vars x.0 y.0 y.1 e a.below) ∙ x.3 ∙ same)
-            ∙ or-assoc (draft_true y.0 d) (eval y.0 f) (eval y.0 g),
-      );
-}
+Asks-or : (s t u : Gated) (d e k : Draft) (f g : Statement) → GatesBelow s.list.vars s.gates → AllBelow s.list.vars d.lits
+    → SaidBelow s.list.vars f → Asks s d t e f → Asks t e u k g → Asks s d u k (or f g)
+Asks-or s t u d e k f g i h l a b =
+    let first = a.keeps.extends.grows in
+    let second = b.keeps.extends.grows in
+    record {
+      keeps = Keeps-trans s t u a.keeps b.keeps;
+      below = b.below;
+      only = λ asked v q m y.
+          let p = MeetsSince-parts asked v s.list t.list u.list first second m in
+          sym (or-assoc (draft_true v d) (eval v f) (eval v g))
+          ∙ or-then (draft_true v e) (draft_true v d || eval v f) (eval v g) (b.only asked v (a.keeps.fits asked v q p.0) p.1 y)
+          (a.only asked v q p.0);
+      each = λ asked v q.
+          let x = a.each asked v q in
+          let y = b.each asked x.0 (a.keeps.fits asked x.0 (Fits-agree s.list.vars v x.0 x.1 s.gates i q) x.2) in
+          let near : Agree s.list.vars x.0 y.0 = λ j lt. y.1 j (omega (arith, lt, first.more)) in
+          let same : (draft_true x.0 d || eval x.0 f) ≡ (draft_true y.0 d || eval y.0 f) =
+          rw (draft_true-agree s.list.vars x.0 y.0 near d h, eval-agree s.list.vars x.0 y.0 near f l) refl in (
+            y.0,
+            Agree-trans s.list.vars t.list.vars v x.0 y.0 first.more x.1 y.1,
+            MeetsSince-join asked y.0 s.list t.list u.list first second
+                (Meets-agree asked t.list.vars x.0 y.0 y.1 (since s.list t.list) first.in_range x.2) y.2,
+            y.3 ∙ ap (λ z. z || eval y.0 g) (sym (draft_true-agree t.list.vars x.0 y.0 y.1 e a.below) ∙ x.3 ∙ same)
+                ∙ or-assoc (draft_true y.0 d) (eval y.0 f) (eval y.0 g),
+          );
+    }
 
 -- what is not covered is false
 or-uncovered : (d x e : Bool) → (d || not x) ≡ true → (e ≡ true → x ≡ true) → (d || not e) ≡ true
@@ -128,68 +145,78 @@ or-uncovered false true e t h = absurd (cc)
 or-uncovered false false true t h = h refl
 or-uncovered false false false t h = refl
 
-Asks-no : (s t u : Clauses) (d e : Draft) (x : Defined) (f : Statement) → AllBelow s.vars d.lits → Spreads s empty t e f
-    → CoversValue t u x (λ v. draft_true v e) → Asks s d u (with_defined d (reverse_of x)) (no f)
-Asks-no s t u d e x f h a b =
+Asks-no : (s t : Gated) (u : Clauses) (d e : Draft) (x : Defined) (f : Statement) → GatesBelow s.list.vars s.gates
+    → AllBelow s.list.vars d.lits → Spreads s empty t e f → CoversValue t.list u x (λ v. draft_true v e)
+    → Asks s d (gated u t.gates) (with_defined d (reverse_of x)) (no f)
+Asks-no s t u d e x f i h a b =
     let first = a.defines.says in
     record {
-      grows = Grows-trans s t u first.grows b.grows;
+      keeps = Keeps-trans s t (gated u t.gates) a.keeps
+          (Keeps-extends t.list u t.gates a.keeps.below (CoversValue-extends t.list u x (λ v. draft_true v e) b));
       below = with_defined-below u.vars d (reverse_of x)
-          (AllBelow-le s.vars u.vars d.lits (omega (arith, first.grows.more, b.grows.more)) h) (reverse-below u.vars x b.below);
-      only = λ asked v m y.
-          let p = MeetsSince-parts asked v s t u first.grows b.grows m in
+          (AllBelow-le s.list.vars u.vars d.lits (omega (arith, first.grows.more, b.grows.more)) h) (reverse-below u.vars x b.below);
+      only = λ asked v q m y.
+          let p = MeetsSince-parts asked v s.list t.list u first.grows b.grows m in
           or-uncovered (draft_true v d) (defined_true v x) (eval v f) (ap (λ z. draft_true v d || z) (sym (reverse-true v x))
-          ∙ sym (with_defined-true v d (reverse_of x)) ∙ y) (λ q. b.covers asked v p.1 (a.says asked v p.0 ∙ q));
-      each = λ asked v.
+          ∙ sym (with_defined-true v d (reverse_of x)) ∙ y) (λ r. b.covers asked v p.1 (a.says asked v q p.0 ∙ r));
+      each = λ asked v q.
           let w = first.each asked v refl in
           let y = b.each asked w.0 in
-          let m = Meets-agree asked t.vars w.0 y.0 y.1 (since s t) first.grows.in_range w.2 in (
+          let m = Meets-agree asked t.list.vars w.0 y.0 y.1 (since s.list t.list) first.grows.in_range w.2 in
+          let near = Agree-trans s.list.vars t.list.vars v w.0 y.0 first.grows.more w.1 y.1 in (
             y.0,
-            Agree-trans s.vars t.vars v w.0 y.0 first.grows.more w.1 y.1,
-            MeetsSince-join asked y.0 s t u first.grows b.grows m y.2,
+            near,
+            MeetsSince-join asked y.0 s.list t.list u first.grows b.grows m y.2,
             with_defined-true y.0 d (reverse_of x) ∙ ap (λ z. draft_true y.0 d || z) (reverse-true y.0 x
-                ∙ ap not (y.3 ∙ a.says asked y.0 m)),
+                ∙ ap not (y.3 ∙ a.says asked y.0 (Fits-agree s.list.vars v y.0 near s.gates i q) m)),
           );
     }
 
-pub ask_is : (f : Statement) (s : Clauses) (d : Draft) → AllBelow s.vars d.lits → SaidBelow s.vars f
-    → Asks s d (ask_on s d f).list (ask_on s d f).answer f
-ask_is (atom l) s d h b = Asks-same s d (with_defined d (By l)) (atom l) (with_defined-below s.vars d (By l) h b)
+pub ask_is : (f : Statement) (s : Gated) (d : Draft) → AllBelow s.list.vars d.lits → GatesBelow s.list.vars s.gates
+    → SaidBelow s.list.vars f → Asks s d (ask_in s d f).state (ask_in s d f).answer f
+ask_is (atom l) s d h i b = Asks-same s d (with_defined d (By l)) (atom l) i (with_defined-below s.list.vars d (By l) h b)
     (λ v. with_defined-true v d (By l))
-ask_is never s d h b = Asks-same s d d never h (λ v. sym (or-false (draft_true v d)))
-ask_is (or f g) s d h b =
-    let m = ask_on s d f in
-    let x = ask_is f s d h b.0 in
-    Asks-or s m.list _ d m.answer _ f g h b.0 x (ask_is g m.list m.answer x.below (SaidBelow-le s.vars m.list.vars g x.grows.more b.1))
-ask_is (no f) s d h b =
-    let m = spread_on s empty f in
-    let x = spread_is f s empty tt b in
-    Asks-no s m.list _ d m.answer _ f h x (covered_is m.list m.answer x.below)
+ask_is never s d h i b = Asks-same s d d never i h (λ v. sym (or-false (draft_true v d)))
+ask_is (or f g) s d h i b =
+    let m = ask_in s d f in
+    let x = ask_is f s d h i b.0 in
+    Asks-or s m.state _ d m.answer _ f g i h b.0 x (ask_is g m.state m.answer x.below x.keeps.below
+    (SaidBelow-le s.list.vars m.state.list.vars g x.keeps.extends.grows.more b.1))
+ask_is (no f) s d h i b =
+    let m = spread_in s empty f in
+    let x = spread_is f s empty tt i b in
+    Asks-no s m.state _ d m.answer _ f i h x (covered_is m.state.list m.answer x.below)
 
 -- the clause of what was asked
 asked-only : (c e f : Bool) → (not c || e) ≡ true → (e ≡ true → f ≡ true) → (not c || f) ≡ true
 asked-only true e f t h = h t
 asked-only false e f t h = refl
 
-pub asked_says : (s : Clauses) (label : Label) (f : Statement) → SaidBelow s.vars f
-    → Says s (with_draft (ask_on s empty f).list label (ask_on s empty f).answer) (where_asked label (λ v. eval v f))
-asked_says s label f b =
-    let m = ask_on s empty f in
-    let x = ask_is f s empty tt b in
-    let y = draft_says m.list label m.answer x.below in
-    let u = with_draft m.list label m.answer in
+pub asked_says : (s : Gated) (label : Label) (f : Statement) → GatesBelow s.list.vars s.gates → SaidBelow s.list.vars f
+    → SaysIn s (drafted (ask_in s empty f).state label (ask_in s empty f).answer) (where_asked label (λ v. eval v f))
+asked_says s label f i b =
+    let m = ask_in s empty f in
+    let t = m.state.list in
+    let x = ask_is f s empty tt i b in
+    let y = draft_says t label m.answer x.below in
+    let u = with_draft t label m.answer in
+    let first = x.keeps.extends.grows in
     record {
-      grows = Grows-trans s m.list u x.grows y.grows;
-      only = λ asked v h.
-          let p = MeetsSince-parts asked v s m.list u x.grows y.grows h in
-          asked-only (counts asked label) (draft_true v m.answer) (eval v f) (y.only asked v p.1) (x.only asked v p.0);
-      each = λ asked v h.
-          let w = x.each asked v in
-          let same : eval v f ≡ draft_true w.0 m.answer = eval-agree s.vars v w.0 w.1 f b ∙ sym w.3 in
-          let z = y.each asked w.0 (ap (λ e. not (counts asked label) || e) (sym same) ∙ h) in (
-            z.0,
-            Agree-trans s.vars m.list.vars v w.0 z.0 x.grows.more w.1 z.1,
-            MeetsSince-join asked z.0 s m.list u x.grows y.grows
-                (Meets-agree asked m.list.vars w.0 z.0 z.1 (since s m.list) x.grows.in_range w.2) z.2,
-          );
+      allows = record {
+        grows = Grows-trans s.list t u first y.grows;
+        below = GatesBelow-le t.vars u.vars m.state.gates y.grows.more x.keeps.below;
+        fits = λ asked v q h. x.keeps.fits asked v q (MeetsSince-parts asked v s.list t u first y.grows h).0;
+        each = λ asked v q h.
+            let w = x.each asked v q in
+            let same : eval v f ≡ draft_true w.0 m.answer = eval-agree s.list.vars v w.0 w.1 f b ∙ sym w.3 in
+            let z = y.each asked w.0 (ap (λ e. not (counts asked label) || e) (sym same) ∙ h) in (
+              z.0,
+              Agree-trans s.list.vars t.vars v w.0 z.0 first.more w.1 z.1,
+              MeetsSince-join asked z.0 s.list t u first y.grows
+                  (Meets-agree asked t.vars w.0 z.0 z.1 (since s.list t) first.in_range w.2) z.2,
+            );
+      };
+      only = λ asked v q h.
+          let p = MeetsSince-parts asked v s.list t u first y.grows h in
+          asked-only (counts asked label) (draft_true v m.answer) (eval v f) (y.only asked v p.1) (x.only asked v q p.0);
     }

@@ -1,10 +1,14 @@
 pub mod DraftLaws
+pub mod GateLaws
+pub mod KeyLaws
 pub mod ValueLaws
 pub mod SpreadLaws
 pub mod AskLaws
+pub mod SaysLaws
 pub mod Laws
 pub mod SpreadSteps
 pub mod CallSteps
 pub mod AllowLaws
+pub mod AgainLaws
 pub mod Words
 pub mod RuleLaws

@@ -1,31 +1,31 @@
 -- The code of a formula, step by step.
 use Rattle.std.proofs.Common.{◌≡◌, ℕ, zero, suc, ◌<◌, ◌≤◌, List, [], ◌∷◌, length, get_or, sym, ap, subst, ◌∙◌, arith}
 use Rattle.clause_store.specs.Lits.{AllBelow}
-use Rattle.clause_store.specs.Clauses.{Clauses}
 use Rattle.clause_formulas.specs.Statements.{Statement, any_of, weight, SaidBelow}
 use Rattle.clause_formulas.specs.Drafts.{Draft, empty}
-use Rattle.clause_formulas.specs.Built.{Grown}
-use Rattle.clause_formulas.specs.Built.{spread_on, ask_on}
+use Rattle.clause_formulas.specs.Gated.{Gated, GatesBelow}
+use Rattle.clause_formulas.specs.Built.{Shared}
+use Rattle.clause_formulas.specs.Built.{spread_in, ask_in}
 use Rattle.clause_formulas.proofs.DraftLaws.{SaidBelow-le}
 use Rattle.clause_formulas.proofs.SpreadLaws.{Spreads, spread_is}
 use Rattle.clause_formulas.proofs.AskLaws.{Asks, ask_is}
 
-pub spread_at : (s t : Clauses) (d e : Draft) (f : Statement) → AllBelow s.vars d.lits → SaidBelow s.vars f
-    → spread_on s d f ≡ record { list = t; answer = e } → Spreads s d t e f
-spread_at s t d e f h b q = let P : Grown Draft → Type 0 = λ m. Spreads s d m.list m.answer f in subst P q (spread_is f s d h b)
+pub spread_at : (s t : Gated) (d e : Draft) (f : Statement) → AllBelow s.list.vars d.lits → GatesBelow s.list.vars s.gates
+    → SaidBelow s.list.vars f → spread_in s d f ≡ record { state = t; answer = e } → Spreads s d t e f
+spread_at s t d e f h i b q = let P : Shared Draft → Type 0 = λ m. Spreads s d m.state m.answer f in subst P q (spread_is f s d h i b)
 
 -- from a new draft
-pub spread-below : (s t : Clauses) (d e : Draft) (f : Statement) → d ≡ empty → SaidBelow s.vars f
-    → spread_on s d f ≡ record { list = t; answer = e } → AllBelow t.vars e.lits
-spread-below s t d e f n b q = (spread_at s t empty e f tt b (ap (λ k. spread_on s k f) (sym n) ∙ q)).below
+pub spread-below : (s t : Gated) (d e : Draft) (f : Statement) → d ≡ empty → GatesBelow s.list.vars s.gates → SaidBelow s.list.vars f
+    → spread_in s d f ≡ record { state = t; answer = e } → AllBelow t.list.vars e.lits
+spread-below s t d e f n i b q = (spread_at s t empty e f tt i b (ap (λ k. spread_in s k f) (sym n) ∙ q)).below
 
-pub ask_at : (s t : Clauses) (d e : Draft) (f : Statement) → AllBelow s.vars d.lits → SaidBelow s.vars f
-    → ask_on s d f ≡ record { list = t; answer = e } → Asks s d t e f
-ask_at s t d e f h b q = let P : Grown Draft → Type 0 = λ m. Asks s d m.list m.answer f in subst P q (ask_is f s d h b)
+pub ask_at : (s t : Gated) (d e : Draft) (f : Statement) → AllBelow s.list.vars d.lits → GatesBelow s.list.vars s.gates
+    → SaidBelow s.list.vars f → ask_in s d f ≡ record { state = t; answer = e } → Asks s d t e f
+ask_at s t d e f h i b q = let P : Shared Draft → Type 0 = λ m. Asks s d m.state m.answer f in subst P q (ask_is f s d h i b)
 
-pub ask-below : (s t : Clauses) (d e : Draft) (f : Statement) → d ≡ empty → SaidBelow s.vars f
-    → ask_on s d f ≡ record { list = t; answer = e } → AllBelow t.vars e.lits
-ask-below s t d e f n b q = (ask_at s t empty e f tt b (ap (λ k. ask_on s k f) (sym n) ∙ q)).below
+pub ask-below : (s t : Gated) (d e : Draft) (f : Statement) → d ≡ empty → GatesBelow s.list.vars s.gates → SaidBelow s.list.vars f
+    → ask_in s d f ≡ record { state = t; answer = e } → AllBelow t.list.vars e.lits
+ask-below s t d e f n i b q = (ask_at s t empty e f tt i b (ap (λ k. ask_in s k f) (sym n) ∙ q)).below
 
 -- a part of a list
 part-below : (m n : ℕ) (fs : List Statement) (i : ℕ) (d : Statement) → m ≤ n → i < length fs → SaidBelow m (any_of fs)

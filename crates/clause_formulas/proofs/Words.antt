@@ -7,8 +7,8 @@ use Rattle.clause_formulas.specs.Statements.{Statement, atom, never, or, no, eva
 use Rattle.clause_formulas.specs.declared.defined.Defined.{Defined}
 use Rattle.clause_formulas.specs.declared.defined.Defined.TheVariants.{Known, By}
 use Rattle.clause_formulas.specs.Drafts.{said_of, defined_true, DefinedBelow, value_at, part_at}
-use Rattle.clause_store.specs.Clauses.{Clauses}
 use Rattle.gate_plans.specs.Growth.{MeetsSince}
+use Rattle.clause_formulas.specs.Gated.{Gated, Fits}
 use Rattle.clause_formulas.specs.Values.{MeanEach}
 use Rattle.clause_store.proofs.Meaning.{lit_true-negation}
 use Rattle.clause_formulas.proofs.DraftLaws.{or-false}
@@ -146,19 +146,19 @@ pub one_of-below : (n : ℕ) (ls : List Lit) → AllBelow n ls → SaidBelow n (
 one_of-below n ls b = all_of-below n (any_of (map atom ls) ∷ apart ls) (atoms-below n ls b, apart-below n ls b)
 
 -- a table of values, each of which means its formula
-pub value-said : (s t : Clauses) (asked v : ℕ → Bool) → MeetsSince asked v s t → (ds : List Defined) (fs : List Statement)
-    → MeanEach s t ds fs → (k : ℕ) → eval v (value_at ds k) ≡ eval v (part_at fs k)
-value-said s t asked v m [] [] h k = refl
-value-said s t asked v m [] (f ∷ fs) h k = elim h [ ]
-value-said s t asked v m (d ∷ ds) [] h k = elim h [ ]
-value-said s t asked v m (d ∷ ds) (f ∷ fs) h zero = eval-said_of v d ∙ h.0.value asked v m
-value-said s t asked v m (d ∷ ds) (f ∷ fs) h (suc k) = value-said s t asked v m ds fs h.1 k
+pub value-said : (s t : Gated) (asked v : ℕ → Bool) → Fits v s.gates → MeetsSince asked v s.list t.list → (ds : List Defined)
+    (fs : List Statement) → MeanEach s t ds fs → (k : ℕ) → eval v (value_at ds k) ≡ eval v (part_at fs k)
+value-said s t asked v i m [] [] h k = refl
+value-said s t asked v i m [] (f ∷ fs) h k = elim h [ ]
+value-said s t asked v i m (d ∷ ds) [] h k = elim h [ ]
+value-said s t asked v i m (d ∷ ds) (f ∷ fs) h zero = eval-said_of v d ∙ h.0.value asked v i m
+value-said s t asked v i m (d ∷ ds) (f ∷ fs) h (suc k) = value-said s t asked v i m ds fs h.1 k
 
-pub value-below : (s t : Clauses) (ds : List Defined) (fs : List Statement) → MeanEach s t ds fs → (k : ℕ)
-    → SaidBelow t.vars (value_at ds k)
+pub value-below : (s t : Gated) (ds : List Defined) (fs : List Statement) → MeanEach s t ds fs → (k : ℕ)
+    → SaidBelow t.list.vars (value_at ds k)
 value-below s t [] fs h k = tt
 value-below s t (d ∷ ds) [] h k = elim h [ ]
-value-below s t (d ∷ ds) (f ∷ fs) h zero = said_of-below t.vars d h.0.below
+value-below s t (d ∷ ds) (f ∷ fs) h zero = said_of-below t.list.vars d h.0.below
 value-below s t (d ∷ ds) (f ∷ fs) h (suc k) = value-below s t ds fs h.1 k
 
 pub part-below : (n : ℕ) (fs : List Statement) → SaidBelow n (any_of fs) → (k : ℕ) → SaidBelow n (part_at fs k)

@@ -3,10 +3,12 @@ ghost use Rattle.std.specs.Prelude.{◌≡◌, Some, IfOk, OnOk};
 ghost use Rattle.clause_store.specs.Lits.{AllBelow};
 ghost use Rattle.gate_plans.specs.Growth.{Extends};
 ghost use Rattle.clause_formulas.specs.Statements.{SaidBelow, any_of, no};
-ghost use Rattle.clause_formulas.specs.Built.{ask_on, by_cover, cover_on, covered_on};
+ghost use Rattle.clause_formulas.specs.Gated.{gated, GatesBelow, Keeps};
+ghost use Rattle.clause_formulas.specs.Built.{ask_in, by_cover, cover_on, covered_on};
 
 use crate::defined::{Defined, Draft};
 use crate::formula::{Formula, Node};
+use crate::gates::Gates;
 use crate::spread::spread_any;
 use clause_store::{Clause, ClauseList, Lit};
 use gate_plans::define_cover;
@@ -18,22 +20,25 @@ use std::alloc::{AllocError, Global};
 pub(crate) fn ask(
     alloc: Global,
     clauses: &mut ClauseList,
+    gates: &mut Gates,
     draft: &mut Draft,
     formula: &Formula,
 ) -> Result<(), AllocError>
     requires formula_below { SaidBelow clauses.old.vars formula.now }
+    requires gates_below { GatesBelow clauses.old.vars gates.old }
     requires draft_below { AllBelow clauses.old.vars draft.old.lits }
-    ensures built { OnOk result (ask_on clauses.old draft.old formula.now ≡ record {
-      list =
-          clauses.new;
-      answer = draft.new;
-    }) }
-    ensures extends { Extends clauses.old clauses.new }
+    ensures built { OnOk result (ask_in (gated clauses.old gates.old) draft.old formula.now
+        ≡ record {
+          state =
+              gated clauses.new gates.new;
+          answer = draft.new;
+        }) }
+    ensures keeps { Keeps (gated clauses.old gates.old) (gated clauses.new gates.new) }
 {
     match &formula.node {
         Node::Atom(lit) => draft.put(Defined::By(*lit)),
-        Node::Any(parts) => ask_any(alloc, clauses, draft, parts.as_slice()),
-        Node::NoneOf(parts) => ask_none(alloc, clauses, draft, parts.as_slice()),
+        Node::Any(parts) => ask_any(alloc, clauses, gates, draft, parts.as_slice()),
+        Node::NoneOf(parts) => ask_none(alloc, clauses, gates, draft, parts.as_slice()),
     }
 }
 
@@ -42,20 +47,23 @@ pub(crate) fn ask(
 pub(crate) fn ask_any(
     alloc: Global,
     clauses: &mut ClauseList,
+    gates: &mut Gates,
     draft: &mut Draft,
     parts: &[Formula],
 ) -> Result<(), AllocError>
     requires parts_below { SaidBelow clauses.old.vars (any_of parts.now) }
+    requires gates_below { GatesBelow clauses.old.vars gates.old }
     requires draft_below { AllBelow clauses.old.vars draft.old.lits }
-    ensures built { OnOk result (ask_on clauses.old draft.old (any_of parts.now) ≡ record {
-      list =
-          clauses.new;
-      answer = draft.new;
-    }) }
-    ensures extends { Extends clauses.old clauses.new }
+    ensures built { OnOk result (ask_in (gated clauses.old gates.old) draft.old
+        (any_of parts.now) ≡ record {
+          state =
+              gated clauses.new gates.new;
+          answer = draft.new;
+        }) }
+    ensures keeps { Keeps (gated clauses.old gates.old) (gated clauses.new gates.new) }
 {
     for part in parts {
-        ask(alloc, clauses, draft, part)?;
+        ask(alloc, clauses, gates, draft, part)?;
     }
     Ok(())
 }
@@ -64,19 +72,22 @@ pub(crate) fn ask_any(
 fn ask_none(
     alloc: Global,
     clauses: &mut ClauseList,
+    gates: &mut Gates,
     draft: &mut Draft,
     parts: &[Formula],
 ) -> Result<(), AllocError>
-    requires { SaidBelow clauses.old.vars (any_of parts.now) }
-    ensures built { OnOk result (ask_on clauses.old draft.old (no (any_of parts.now)) ≡ record {
-      list =
-          clauses.new;
-      answer = draft.new;
-    }) }
-    ensures extends { Extends clauses.old clauses.new }
+    requires parts_below { SaidBelow clauses.old.vars (any_of parts.now) }
+    requires gates_below { GatesBelow clauses.old.vars gates.old }
+    ensures built { OnOk result (ask_in (gated clauses.old gates.old) draft.old
+        (no (any_of parts.now)) ≡ record {
+          state =
+              gated clauses.new gates.new;
+          answer = draft.new;
+        }) }
+    ensures keeps { Keeps (gated clauses.old gates.old) (gated clauses.new gates.new) }
 {
     let mut inner = Draft::new(alloc);
-    spread_any(alloc, clauses, &mut inner, parts)?;
+    spread_any(alloc, clauses, gates, &mut inner, parts)?;
     let value = covered(alloc, clauses, &inner)?;
     draft.put(value.reversed())
 }

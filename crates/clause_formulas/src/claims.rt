@@ -4,20 +4,42 @@ ghost use Rattle.clause_store.specs.declared.Label.TheVariants.{Demand as Demand
 ghost use Rattle.clause_store.specs.Lits.{AllBelow};
 ghost use Rattle.gate_plans.specs.Growth.{Says, where_asked};
 ghost use Rattle.clause_formulas.specs.Statements.{SaidBelow, any_of, eval};
-ghost use Rattle.clause_formulas.specs.Built.{with_draft, assert_on, claimed, demand_on, demand_all_on, demands_true};
-ghost use Rattle.clause_formulas.specs.Allowed.{Allows};
+ghost use Rattle.clause_formulas.specs.Gated.{gated, GatesBelow};
+ghost use Rattle.clause_formulas.specs.Built.{with_draft, assert_in, assert_on, claimed, demand_in, demand_all_in, demands_true};
+ghost use Rattle.clause_formulas.specs.Allowed.{Allows, AllowsIn, SaysIn};
 
 use crate::asked::ask_any;
 use crate::defined::{Defined, Draft};
 use crate::formula::{Formula, Node};
-use crate::values::define;
+use crate::gates::Gates;
+use crate::values::define_in;
 use clause_store::{Clause, ClauseList, Label};
 use std::alloc::{AllocError, Global};
 
 /// Adds clauses with a label that hold exactly where the formula is true.
 ///
-/// An all-of is asserted part by part, and an any-of as one clause. After want of memory the list may
-/// have grown by some of the clauses.
+/// An all-of is asserted part by part, and an any-of as one clause. Gates that were made serve
+/// again, and new ones are kept. After want of memory the list may have grown by some of the clauses.
+pub fn assert_in(
+    alloc: Global,
+    clauses: &mut ClauseList,
+    gates: &mut Gates,
+    formula: &Formula,
+    label: Label,
+) -> Result<(), AllocError>
+    requires formula_below { SaidBelow clauses.old.vars formula.now }
+    requires gates_below { GatesBelow clauses.old.vars gates.old }
+    ensures built { OnOk result (assert_in label (gated clauses.old gates.old) true formula.now
+        ≡ gated clauses.new gates.new) }
+    ensures says { OnOk result (SaysIn (gated clauses.old gates.old) (gated clauses.new gates.new)
+        (where_asked label (λ v. eval v formula.now))) }
+    ensures allows { AllowsIn (gated clauses.old gates.old) (gated clauses.new gates.new)
+        (λ asked v. where_asked label (λ w. eval w formula.now) asked v ≡ true) }
+{
+    claim(alloc, clauses, gates, true, formula, label)
+}
+
+/// The same over gates of its own.
 pub fn assert(
     alloc: Global,
     clauses: &mut ClauseList,
@@ -31,26 +53,30 @@ pub fn assert(
     ensures allows { Allows clauses.old clauses.new
         (λ asked v. where_asked label (λ w. eval w formula.now) asked v ≡ true) }
 {
-    claim(alloc, clauses, true, formula, label)
+    let mut gates = Gates::new(alloc);
+    assert_in(alloc, clauses, &mut gates, formula, label)
 }
 
 /// Defines the formula's value, and adds the clause of this value alone for a demand. A demand that
 /// always holds gets no clause, and one that never does the empty clause. After want of memory the
 /// list may have grown by definitions.
-pub fn demand(
+pub fn demand_in(
     alloc: Global,
     clauses: &mut ClauseList,
+    gates: &mut Gates,
     formula: &Formula,
     id: u64,
 ) -> Result<(), AllocError>
-    requires { SaidBelow clauses.old.vars formula.now }
-    ensures built { OnOk result (demand_on clauses.old formula.now id ≡ clauses.new) }
-    ensures says { OnOk result (Says clauses.old clauses.new
+    requires formula_below { SaidBelow clauses.old.vars formula.now }
+    requires gates_below { GatesBelow clauses.old.vars gates.old }
+    ensures built { OnOk result (demand_in (gated clauses.old gates.old) formula.now id
+        ≡ gated clauses.new gates.new) }
+    ensures says { OnOk result (SaysIn (gated clauses.old gates.old) (gated clauses.new gates.new)
         (where_asked (DemandOf id) (λ v. eval v formula.now))) }
-    ensures allows { Allows clauses.old clauses.new
+    ensures allows { AllowsIn (gated clauses.old gates.old) (gated clauses.new gates.new)
         (λ asked v. where_asked (DemandOf id) (λ w. eval w formula.now) asked v ≡ true) }
 {
-    let value = define(alloc, clauses, formula)?;
+    let value = define_in(alloc, clauses, gates, formula)?;
     let mut draft = Draft::new(alloc);
     draft.put(value)?;
     add_draft(alloc, clauses, &draft, Label::Demand(id))
@@ -58,20 +84,23 @@ pub fn demand(
 
 /// Demands with the ids 0, 1, 2 and so on. After want of memory the list may have grown by some of
 /// them.
-pub fn demand_all(
+pub fn demand_all_in(
     alloc: Global,
     clauses: &mut ClauseList,
+    gates: &mut Gates,
     formulas: &[Formula],
 ) -> Result<(), AllocError>
-    requires { SaidBelow clauses.old.vars (any_of formulas.now) }
-    ensures built { OnOk result (demand_all_on clauses.old 0 formulas.now ≡ clauses.new) }
-    ensures says { OnOk result (Says clauses.old clauses.new
+    requires formulas_below { SaidBelow clauses.old.vars (any_of formulas.now) }
+    requires gates_below { GatesBelow clauses.old.vars gates.old }
+    ensures built { OnOk result (demand_all_in (gated clauses.old gates.old) 0 formulas.now
+        ≡ gated clauses.new gates.new) }
+    ensures says { OnOk result (SaysIn (gated clauses.old gates.old) (gated clauses.new gates.new)
         (λ asked v. demands_true asked v 0 formulas.now)) }
-    ensures allows { Allows clauses.old clauses.new
+    ensures allows { AllowsIn (gated clauses.old gates.old) (gated clauses.new gates.new)
         (λ asked v. demands_true asked v 0 formulas.now ≡ true) }
 {
     for (i, formula) in formulas.iter().enumerate() {
-        demand(alloc, clauses, formula, i as u64)?;
+        demand_in(alloc, clauses, gates, formula, i as u64)?;
     }
     Ok(())
 }
@@ -81,13 +110,16 @@ pub fn demand_all(
 fn claim(
     alloc: Global,
     clauses: &mut ClauseList,
+    gates: &mut Gates,
     sign: bool,
     formula: &Formula,
     label: Label,
 ) -> Result<(), AllocError>
-    requires { SaidBelow clauses.old.vars formula.now }
-    ensures built { OnOk result (assert_on label clauses.old sign formula.now ≡ clauses.new) }
-    ensures allows { Allows clauses.old clauses.new
+    requires formula_below { SaidBelow clauses.old.vars formula.now }
+    requires gates_below { GatesBelow clauses.old.vars gates.old }
+    ensures built { OnOk result (assert_in label (gated clauses.old gates.old) sign formula.now
+        ≡ gated clauses.new gates.new) }
+    ensures allows { AllowsIn (gated clauses.old gates.old) (gated clauses.new gates.new)
         (λ asked v. where_asked label (λ w. claimed sign (eval w formula.now)) asked v ≡ true) }
 {
     match &formula.node {
@@ -96,8 +128,8 @@ fn claim(
             draft.put(Defined::By(if sign { *lit } else { lit.negated() }))?;
             add_draft(alloc, clauses, &draft, label)
         }
-        Node::Any(parts) => claim_any(alloc, clauses, sign, parts.as_slice(), label),
-        Node::NoneOf(parts) => claim_any(alloc, clauses, !sign, parts.as_slice(), label),
+        Node::Any(parts) => claim_any(alloc, clauses, gates, sign, parts.as_slice(), label),
+        Node::NoneOf(parts) => claim_any(alloc, clauses, gates, !sign, parts.as_slice(), label),
     }
 }
 
@@ -106,23 +138,26 @@ fn claim(
 fn claim_any(
     alloc: Global,
     clauses: &mut ClauseList,
+    gates: &mut Gates,
     sign: bool,
     parts: &[Formula],
     label: Label,
 ) -> Result<(), AllocError>
-    requires { SaidBelow clauses.old.vars (any_of parts.now) }
-    ensures built { OnOk result (assert_on label clauses.old sign (any_of parts.now) ≡ clauses.new) }
-    ensures allows { Allows clauses.old clauses.new
+    requires parts_below { SaidBelow clauses.old.vars (any_of parts.now) }
+    requires gates_below { GatesBelow clauses.old.vars gates.old }
+    ensures built { OnOk result (assert_in label (gated clauses.old gates.old) sign
+        (any_of parts.now) ≡ gated clauses.new gates.new) }
+    ensures allows { AllowsIn (gated clauses.old gates.old) (gated clauses.new gates.new)
         (λ asked v. where_asked label (λ w. claimed sign (eval w (any_of parts.now))) asked v
         ≡ true) }
 {
     if sign {
         let mut draft = Draft::new(alloc);
-        ask_any(alloc, clauses, &mut draft, parts)?;
+        ask_any(alloc, clauses, gates, &mut draft, parts)?;
         return add_draft(alloc, clauses, &draft, label);
     }
     for part in parts {
-        claim(alloc, clauses, false, part, label)?;
+        claim(alloc, clauses, gates, false, part, label)?;
     }
     Ok(())
 }

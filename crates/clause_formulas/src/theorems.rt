@@ -7,8 +7,9 @@ ghost use Rattle.gate_plans.specs.Gates.{lit_of, labelled};
 ghost use Rattle.clause_formulas.specs.declared.defined.Defined.TheVariants.{Known, By};
 ghost use Rattle.clause_formulas.specs.Statements.{Statement, atom, never, eval, opposite, any_of, all_of, both, implies, one_of, all_eval, one_true, truths, SaidBelow};
 ghost use Rattle.clause_formulas.specs.Rules.{Rule, keeps_rule, in_words};
-ghost use Rattle.clause_formulas.specs.Built.{define_on, assert_on, demand_on};
-ghost use Rattle.clause_formulas.specs.Rows.{a, b, c, start, made, with_entries, structures};
+ghost use Rattle.clause_formulas.specs.Gated.{Gated, gated, bare};
+ghost use Rattle.clause_formulas.specs.Built.{define_in, define_all_in, define_on, assert_on, demand_in, demand_all_in};
+ghost use Rattle.clause_formulas.specs.Rows.{a, b, c, start, made, shared, entries_of, with_entries, structures};
 
 /// The words of formulas say what their names say.
 pub fn word_laws()
@@ -32,8 +33,18 @@ pub fn rule_laws<W>()
         → SaidBelow n (in_words f r) }
 {}
 
+/// A formula that was defined has its value again, whatever was defined since, and adds nothing.
+pub fn gate_laws()
+    ensures again { (s : Gated) (f g : Statement)
+        → define_in (define_in (define_in s f).state g).state f
+        ≡ record {
+          state = (define_in (define_in s f).state g).state;
+          answer = (define_in s f).answer;
+        } }
+{}
+
 /// Two literals take one variable; one that is said twice beside a constant, and constants, none.
-#[tactic(auto, unfolding(crate::specs::Built::define_on, crate::specs::Built::named_on, crate::specs::Built::or_on, gate_plans::specs::Gates::kept_clauses))]
+#[tactic(auto, unfolding(crate::specs::Built::define_on, crate::specs::Built::define_in, crate::specs::Built::named_in, crate::specs::Built::or_in, crate::specs::Built::or_on, gate_plans::specs::Gates::kept_clauses))]
 pub fn worked_values()
     ensures two { define_on start (any_of (atom a ∷ atom b ∷ []))
         ≡ made ((negation a ∷ lit_of 3 ∷ []) ∷ (negation b ∷ lit_of 3 ∷ [])
@@ -46,7 +57,7 @@ pub fn worked_values()
 {}
 
 /// An implication is one clause, exactly one of three four, and a demand that of one literal.
-#[tactic(auto, unfolding(crate::specs::Built::define_on, crate::specs::Built::demand_on, crate::specs::Built::with_draft, crate::specs::Built::named_on, crate::specs::Built::or_on, gate_plans::specs::Gates::kept_clauses))]
+#[tactic(auto, unfolding(crate::specs::Built::define_in, crate::specs::Built::demand_in, crate::specs::Built::with_draft, crate::specs::Built::named_in, crate::specs::Built::or_in, crate::specs::Built::or_on, gate_plans::specs::Gates::kept_clauses))]
 pub fn worked_claims()
     ensures implication { assert_on Structure start true
         (implies (both (atom a) (atom b)) (any_of (atom c ∷ never ∷ [])))
@@ -54,6 +65,20 @@ pub fn worked_claims()
     ensures one_of_three { assert_on Structure start true (one_of (a ∷ b ∷ c ∷ []))
         ≡ with_entries (structures ((a ∷ b ∷ c ∷ []) ∷ (negation a ∷ negation b ∷ [])
         ∷ (negation a ∷ negation c ∷ []) ∷ (negation b ∷ negation c ∷ []) ∷ [])) 3 }
-    ensures single { demand_on start (atom a) 7
-        ≡ with_entries (labelled (Demand 7) (a ∷ []) ∷ []) 3 }
+    ensures single { demand_in (bare start) (atom a) 7
+        ≡ bare (with_entries (labelled (Demand 7) (a ∷ []) ∷ []) 3) }
+{}
+
+/// The same two literals, in either order and under either sign, take one variable; a part that stands
+/// twice in a formula takes one: twelve clauses, where a gate for each time made fifteen.
+#[tactic(auto, unfolding(crate::specs::Built::define_in, crate::specs::Built::demand_in, crate::specs::Built::with_draft, crate::specs::Built::named_in, crate::specs::Built::or_in, crate::specs::Built::or_on, gate_plans::specs::Gates::kept_clauses))]
+pub fn worked_gates()
+    ensures once { define_all_in (bare start) (any_of (atom a ∷ atom b ∷ [])
+        ∷ any_of (atom b ∷ atom a ∷ []) ∷ all_of (atom (negation a) ∷ atom (negation b) ∷ []) ∷ [])
+        ≡ shared ((negation a ∷ lit_of 3 ∷ []) ∷ (negation b ∷ lit_of 3 ∷ [])
+        ∷ (a ∷ b ∷ negation (lit_of 3) ∷ []) ∷ []) 4 ((a ∷ b ∷ [], lit_of 3) ∷ [])
+        (By (lit_of 3) ∷ By (lit_of 3) ∷ By (negation (lit_of 3)) ∷ []) }
+    ensures within { entries_of (define_in (bare start)
+        (any_of (both (any_of (atom a ∷ atom b ∷ [])) (atom c)
+        ∷ both (any_of (atom b ∷ atom a ∷ [])) (atom (negation c)) ∷ []))) ≡ 12 }
 {}

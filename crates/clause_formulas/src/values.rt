@@ -3,17 +3,71 @@ ghost use Rattle.std.specs.Prelude.{◌≡◌, IfOk};
 ghost use Rattle.gate_plans.specs.Growth.{Extends};
 ghost use Rattle.clause_formulas.specs.Statements.{SaidBelow, any_of, eval};
 ghost use Rattle.clause_formulas.specs.Drafts.{defined_true, DefinedBelow};
-ghost use Rattle.clause_formulas.specs.Values.{DefinesValue, DefinesValues};
-ghost use Rattle.clause_formulas.specs.Built.{define_on, literal_on, define_all_on};
+ghost use Rattle.clause_formulas.specs.Gated.{gated, GatesBelow, Keeps};
+ghost use Rattle.clause_formulas.specs.Values.{DefinesValue, DefinesIn, DefinesValues};
+ghost use Rattle.clause_formulas.specs.Built.{define_in, define_all_in, define_on, literal_on};
 
 use crate::defined::{Defined, Draft};
 use crate::formula::Formula;
-use crate::spread::{named, or, spread};
+use crate::gates::{Gates, or};
+use crate::spread::{named, spread};
 use clause_store::{ClauseList, Lit};
 use std::alloc::{AllocError, Global};
 
-/// A value that is true exactly where the formula is. After want of memory the list may have grown
-/// by definitions.
+/// A value that is true exactly where the formula is. Gates that were made serve again, and new ones
+/// are kept. After want of memory the list may have grown by definitions.
+pub fn define_in(
+    alloc: Global,
+    clauses: &mut ClauseList,
+    gates: &mut Gates,
+    formula: &Formula,
+) -> Result<Defined, AllocError>
+    requires formula_below { SaidBelow clauses.old.vars formula.now }
+    requires gates_below { GatesBelow clauses.old.vars gates.old }
+    ensures built { IfOk result (λ value. define_in (gated clauses.old gates.old) formula.now
+        ≡ record {
+          state =
+              gated clauses.new gates.new;
+          answer = value;
+        }) }
+    ensures value { IfOk result (λ value. DefinesIn (gated clauses.old gates.old)
+        (gated clauses.new gates.new) value (λ v. eval v formula.now)) }
+    ensures keeps { Keeps (gated clauses.old gates.old) (gated clauses.new gates.new) }
+{
+    let mut draft = Draft::new(alloc);
+    spread(alloc, clauses, gates, &mut draft, formula)?;
+    named(alloc, clauses, gates, &draft)
+}
+
+/// The values of formulas, in their order. After want of memory the list may have grown by
+/// definitions.
+pub fn define_all_in(
+    alloc: Global,
+    clauses: &mut ClauseList,
+    gates: &mut Gates,
+    formulas: &[Formula],
+) -> Result<Vec<Defined>, AllocError>
+    requires formulas_below { SaidBelow clauses.old.vars (any_of formulas.now) }
+    requires gates_below { GatesBelow clauses.old.vars gates.old }
+    ensures built { IfOk result (λ values. define_all_in (gated clauses.old gates.old) formulas.now
+        ≡ record {
+          state =
+              gated clauses.new gates.new;
+          answer = values.items;
+        }) }
+    ensures values { IfOk result (λ values. DefinesValues (gated clauses.old gates.old)
+        (gated clauses.new gates.new) values.items formulas.now) }
+    ensures keeps { Keeps (gated clauses.old gates.old) (gated clauses.new gates.new) }
+{
+    let mut values = Vec::new(alloc);
+    for formula in formulas {
+        values.push(define_in(alloc, clauses, gates, formula)?)?;
+    }
+    Ok(values)
+}
+
+/// A value that is true exactly where the formula is, over gates of its own. After want of memory the
+/// list may have grown by definitions.
 pub fn define(
     alloc: Global,
     clauses: &mut ClauseList,
@@ -29,9 +83,8 @@ pub fn define(
         (λ v. eval v formula.now)) }
     ensures extends { Extends clauses.old clauses.new }
 {
-    let mut draft = Draft::new(alloc);
-    spread(alloc, clauses, &mut draft, formula)?;
-    named(alloc, clauses, &draft)
+    let mut gates = Gates::new(alloc);
+    define_in(alloc, clauses, &mut gates, formula)
 }
 
 /// A literal with a value; a constant gets a variable that a clause fixes.
@@ -53,27 +106,4 @@ pub fn literal(alloc: Global, clauses: &mut ClauseList, value: Defined) -> Resul
             Ok(if holds { off.negated() } else { off })
         }
     }
-}
-
-/// The values of formulas, in their order. After want of memory the list may have grown by
-/// definitions.
-pub fn define_all(
-    alloc: Global,
-    clauses: &mut ClauseList,
-    formulas: &[Formula],
-) -> Result<Vec<Defined>, AllocError>
-    requires { SaidBelow clauses.old.vars (any_of formulas.now) }
-    ensures built { IfOk result (λ values. define_all_on clauses.old formulas.now ≡ record {
-      list =
-          clauses.new;
-      answer = values.items;
-    }) }
-    ensures values { IfOk result (λ values. DefinesValues clauses.old clauses.new values.items formulas.now) }
-    ensures extends { Extends clauses.old clauses.new }
-{
-    let mut values = Vec::new(alloc);
-    for formula in formulas {
-        values.push(define(alloc, clauses, formula)?)?;
-    }
-    Ok(values)
 }

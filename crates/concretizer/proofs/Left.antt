@@ -4,7 +4,7 @@ use Rattle.std.specs.Result.{IsErrAnd}
 use Rattle.std.specs.Prelude.{IfSome}
 use Rattle.outside_desk.specs.Files.{Files}
 use Rattle.run_output.specs.Answer.{Answer}
-use Rattle.run_output.specs.Answers.{IsHalfPut, KeepsFronts, Writes}
+use Rattle.run_output.specs.Answers.{IsHalfPut, KeepsWhole, Writes}
 use Rattle.run_output.specs.declared.answer.Outcome.{Outcome}
 use Rattle.run_output.specs.Input.{Input}
 use Rattle.run_output.specs.Orders.{command_in}
@@ -70,16 +70,16 @@ answered words command lock cert task outcome (Some files) between after said_be
 -- what any end of writing keeps
 pub held : (words : List (List ℕ)) (command : Command) (lock cert : List ℕ) (task : Task) (before between after : Option Files)
     → Is (command_in words) (Ok command) → IfSome before (λ files. Gives {T = Task} (Ok task) (Named files command)) → between ≡ before
-    → lock ≡ lock_path words → cert ≡ cert_path words → (after ≡ between) ⊎ KeepsFronts lock cert task between after
+    → lock ≡ lock_path words → cert ≡ cert_path words → (after ≡ between) ⊎ KeepsWhole lock cert task between after
     → IfSome before (λ files. Keeps files words after)
 held words command lock cert task None between after ordered read same at certified kept = tt
 held words command lock cert task (Some files) between after ordered read same at certified (inl unchanged) = inl (unchanged ∙ same)
-held words command lock cert task (Some files) between after ordered read same at certified (inr fronts) =
+held words command lock cert task (Some files) between after ordered read same at certified (inr whole) =
     inr (record {
       task = task;
       read = (command, ordered, read);
-      held = by_paths (λ l c. KeepsFronts l c task (Some files) after) lock cert (lock_path words) (cert_path words) at certified
-          (subst (λ (m : Option Files). KeepsFronts lock cert task m after) same fronts);
+      held = by_paths (λ l c. KeepsWhole l c task (Some files) after) lock cert (lock_path words) (cert_path words) at certified
+          (subst (λ (m : Option Files). KeepsWhole lock cert task m after) same whole);
     })
 
 is_concretize : (work : Work) (input : Input) → IsOf work (tasks.Solve input) → work ≡ works.Concretize

@@ -14,7 +14,7 @@ use Rattle.run_output.specs.Tasks.{Poses}
 use Rattle.run_output.specs.Refusals.{status_of, line_of}
 use Rattle.run_output.specs.Stop.{Stop}
 use Rattle.run_output.specs.Stops.{read_fault_line, write_fault_line, output_fault_line, no_memory_line, stop_line}
-use Rattle.run_output.specs.Answers.{IsFinished, HasNone, HasSpent, IsHalfDone, IsUntold, KeepsFronts}
+use Rattle.run_output.specs.Answers.{IsFinished, HasNone, HasSpent, IsHalfDone, IsUntold, KeepsWhole}
 use Rattle.run_output.specs.Refusal.{Refusal}
 use Rattle.run_output.specs.Status.{Status}
 use Rattle.run_output.specs.Status.TheVariants as statuses
@@ -139,12 +139,12 @@ pub record IsOutOfMemory (words : List (List ℕ)) (files : Option Files × Opti
   pub stopped : IsStopped words files faults out
   pub errors : IsSilent err ⊎ Says err no_memory_line
 
--- Whatever the answer: the files are as at entry, or reading gave a problem to solve, and CERT holds a front of the log
--- of its answer; or all of it, and LOCK a front of the lock file of an optimal graph
+-- Whatever the answer: the files are as at entry, or reading gave a problem to solve, and CERT alone changed and holds the log
+-- of its answer; or it does so, unless it is `-`, and LOCK is as at entry, or holds the lock file of an optimal graph
 pub record HasPut (files : Files) (words : List (List ℕ)) (after : Option Files) : Type 0 where
   pub task : Task
   pub read : Poses files words (Ok task)
-  pub held : KeepsFronts (lock_path words) (cert_path words) task (Some files) after
+  pub held : KeepsWhole (lock_path words) (cert_path words) task (Some files) after
 
 abbrev pub Keeps : Files → List (List ℕ) → Option Files → Type 0
 Keeps files words after = (after ≡ Some files) ⊎ HasPut files words after

@@ -96,7 +96,7 @@ pub fn run<R: Threads + Sync, D: Desk, O: Sink, E: Sink, P: Progress>(
         × (D.put_faults desk.new ≡ D.put_faults desk.old)
         × (O.faults out.new ≡ O.faults out.old) × (E.faults err.new ≡ E.faults err.old) }
 
-    // No file but the certificate and the lock file changes, and each holds a front of its text at the worst.
+    // No file but the certificate and the lock file changes, and each is as it was or holds its whole text, whatever comes.
     ensures others { IfSome (D.files desk.old) (λ files. ChangesOnly
         (lock_path (words_of words.now)) (cert_path (words_of words.now)) files (D.files desk.new)) }
     ensures held { IfSome (D.files desk.old)

@@ -11,7 +11,8 @@ use Rattle.clause_formulas.specs.Statements.{Statement, any_of, SaidBelow}
 use Rattle.clause_formulas.specs.Drafts.{value_at}
 use Rattle.clause_formulas.specs.declared.defined.Defined.{Defined}
 use Rattle.clause_formulas.specs.Values.{DefinesValues}
-use Rattle.clause_formulas.specs.Built.{Grown, assert_on, define_all_on, demand_on, demand_all_on}
+use Rattle.clause_formulas.specs.Gated.{Gate, Gated, gated, bare}
+use Rattle.clause_formulas.specs.Built.{Grown, Shared, assert_in, define_all_in, demand_in, demand_all_in}
 use Rattle.clause_formulas.proofs.DraftLaws.{SaidBelow-le}
 use Rattle.clause_formulas.proofs.Words.{value-below}
 use Rattle.level_encoding.specs.Asserted.{assert_all, levels_on}
@@ -83,42 +84,44 @@ conditions_range t n f old path fs range more paths e =
 paths-later : (m n : ℕ) (path : PathFormulas) → m ≤ n → PathsBelow m path → PathsBelow n path
 paths-later m n path h below from to = SaidBelow-le m n (path from to) h (below from to)
 
-pub rules_range : (t : Table) (n : ℕ) (f : Formulas) (old mid : Clauses) (path : PathFormulas) (ds : List Defined) (fs : List Statement) (rule : Statement)
-    → AreInRange t n f → n ≤ old.vars → PathsBelow old.vars path → DefinesValues old mid ds fs
-    → rule ≡ f.rules path (value_at ds) → SaidBelow mid.vars rule
+pub rules_range : (t : Table) (n : ℕ) (f : Formulas) (old mid : Gated) (path : PathFormulas) (ds : List Defined) (fs : List Statement) (rule : Statement)
+    → AreInRange t n f → n ≤ old.list.vars → PathsBelow old.list.vars path → DefinesValues old mid ds fs
+    → rule ≡ f.rules path (value_at ds) → SaidBelow mid.list.vars rule
 rules_range t n f old mid path ds fs rule range more paths values e =
-    let later : old.vars ≤ mid.vars = values.defines.says.grows.more in
-    subst (SaidBelow mid.vars) (sym e) (range.rules mid.vars path (value_at ds) (omega (arith, more, later)) (paths-later old.vars mid.vars path later paths)
-    (λ k. value-below old mid ds fs values.means k))
+    let later : old.list.vars ≤ mid.list.vars = values.defines.says.grows.more in
+    subst (SaidBelow mid.list.vars) (sym e) (range.rules mid.list.vars path (value_at ds) (omega (arith, more, later))
+    (paths-later old.list.vars mid.list.vars path later paths) (λ k. value-below old mid ds fs values.means k))
 
-pub demand_range : (t : Table) (n : ℕ) (f : Formulas) (old mid late : Clauses) (path : PathFormulas) (ds : List Defined)
-    (fs : List Statement) → AreInRange t n f → n ≤ old.vars → PathsBelow old.vars path → DefinesValues old mid ds fs
-    → mid.vars ≤ late.vars → (d : Demand) → SaidBelow late.vars (f.demand path (value_at ds) d)
+pub demand_range : (t : Table) (n : ℕ) (f : Formulas) (old mid : Gated) (late : ℕ) (path : PathFormulas) (ds : List Defined)
+    (fs : List Statement) → AreInRange t n f → n ≤ old.list.vars → PathsBelow old.list.vars path → DefinesValues old mid ds fs
+    → mid.list.vars ≤ late → (d : Demand) → SaidBelow late (f.demand path (value_at ds) d)
 demand_range t n f old mid late path ds fs range more paths values h d =
-    let later : old.vars ≤ mid.vars = values.defines.says.grows.more in
-    range.demand late.vars path (value_at ds) d (omega (arith, more, later, h)) (paths-later old.vars late.vars path (omega (arith, later, h)) paths)
-    (λ k. SaidBelow-le mid.vars late.vars (value_at ds k) h (value-below old mid ds fs values.means k))
+    let later : old.list.vars ≤ mid.list.vars = values.defines.says.grows.more in
+    range.demand late path (value_at ds) d (omega (arith, more, later, h)) (paths-later old.list.vars late path (omega (arith, later, h)) paths)
+    (λ k. SaidBelow-le mid.list.vars late (value_at ds k) h (value-below old mid ds fs values.means k))
 
-pub rules_step : (problem : Problem) (f : Formulas) (path : PathFormulas) (old mid late new : Clauses) (fs : List Statement) (ds : List Defined)
-    (rule : Statement) → fs ≡ f.conditions path → define_all_on old fs ≡ record { list = mid; answer = ds }
-    → rule ≡ f.rules path (value_at ds) → assert_on Structure mid true rule ≡ late
-    → demand_all_on late 0 (map (f.demand path (value_at ds)) (demands problem)) ≡ new → rules_on problem f path old ≡ new
+pub rules_step : (problem : Problem) (f : Formulas) (path : PathFormulas) (old : Clauses) (none : List Gate) (mid late new : Gated)
+    (fs : List Statement) (ds : List Defined) (rule : Statement) → none ≡ [] → fs ≡ f.conditions path
+    → define_all_in (gated old none) fs ≡ record { state = mid; answer = ds }
+    → rule ≡ f.rules path (value_at ds) → assert_in Structure mid true rule ≡ late
+    → demand_all_in late 0 (map (f.demand path (value_at ds)) (demands problem)) ≡ new → rules_on problem f path old ≡ new.list
 unfolding rules_on
-rules_step problem f path old mid late new fs ds rule a b c d g =
-    ap (λ (m : Grown (List Defined)). demand_all_on (assert_on Structure m.list true (f.rules path (value_at m.answer))) 0
-    (map (f.demand path (value_at m.answer)) (demands problem))) (ap (define_all_on old) (sym a) ∙ b)
-    ∙ ap (λ s. demand_all_on s 0 (map (f.demand path (value_at ds)) (demands problem))) (ap (assert_on Structure mid true) (sym c) ∙ d)
-    ∙ g
+rules_step problem f path old none mid late new fs ds rule empty a b c d g =
+    ap (λ (m : Shared (List Defined)). (demand_all_in (assert_in Structure m.state true (f.rules path (value_at m.answer))) 0
+    (map (f.demand path (value_at m.answer)) (demands problem))).list)
+    (ap (λ gs. define_all_in (gated old gs) (f.conditions path)) (sym empty) ∙ ap (define_all_in (gated old none)) (sym a) ∙ b)
+    ∙ ap (λ s. (demand_all_in s 0 (map (f.demand path (value_at ds)) (demands problem))).list) (ap (assert_in Structure mid true) (sym c) ∙ d)
+    ∙ ap (λ (s : Gated). s.list) g
 
 -- ---- demands, one by one
 
-pub demand_more : (say : Demand → Statement) (ds : List Demand) (old new all : Clauses) (i : ℕ) (d : Demand) → slice_get ds i ≡ Some d
-    → demand_on old (say d) i ≡ new → demand_all_on old i (map say (drop i ds)) ≡ all → demand_all_on new (i + 1) (map say (drop (i + 1) ds)) ≡ all
+pub demand_more : (say : Demand → Statement) (ds : List Demand) (old new all : Gated) (i : ℕ) (d : Demand) → slice_get ds i ≡ Some d
+    → demand_in old (say d) i ≡ new → demand_all_in old i (map say (drop i ds)) ≡ all → demand_all_in new (i + 1) (map say (drop (i + 1) ds)) ≡ all
 demand_more say ds old new all i d e b rest =
     let at : get_or ds i d ≡ d = get_or_from_slice_get ds i d d e in
     let cut : drop i ds ≡ d ∷ drop (i + 1) ds = drop_more ds i d (slice_get_within ds i d e) ∙ ap (λ x. x ∷ drop (i + 1) ds) at in
-    ap (λ s. demand_all_on s (i + 1) (map say (drop (i + 1) ds))) (sym b)
-    ∙ sym (ap (λ xs. demand_all_on old i (map say xs)) cut) ∙ rest
+    ap (λ s. demand_all_in s (i + 1) (map say (drop (i + 1) ds))) (sym b)
+    ∙ sym (ap (λ xs. demand_all_in old i (map say xs)) cut) ∙ rest
 
 pub demand_gap : (ds : List Demand) (i : ℕ) → i < length ds → slice_get ds i ≡ None → ⊥
 demand_gap ds i h e = none-some (get_or ds i (demand.Root 0)) (sym e ∙ slice_get-get_or ds i (demand.Root 0) h)
@@ -136,7 +139,14 @@ encode_step problem t n f targets mid new made a b c =
 -- what is defined for the conditions
 pub values_step : (problem : Problem) (t : Table) (n : ℕ) (f : Formulas) (targets : List Text) (mid : Clauses) (made : PathTable) (ds : List Defined)
     → levels_made problem t n f targets ≡ record { list = mid; answer = made.paths } → made.targets ≡ places_of (names_of t) targets
-    → ds ≡ (define_all_on mid (f.conditions (path_words t made))).answer → ds ≡ values_for problem t n f targets
+    → ds ≡ (define_all_in (bare mid) (f.conditions (path_words t made))).answer → ds ≡ values_for problem t n f targets
 values_step problem t n f targets mid made ds a b c = sym (
-    ap (λ (m : Grown (List (Option Lit))). (define_all_on m.list (f.conditions (path_of t targets m.answer))).answer) a
-    ∙ ap (λ ts. (define_all_on mid (f.conditions (path_words t (path_table ts made.paths)))).answer) (sym b) ∙ sym c)
+    ap (λ (m : Grown (List (Option Lit))). (define_all_in (bare m.list) (f.conditions (path_of t targets m.answer))).answer) a
+    ∙ ap (λ ts. (define_all_in (bare mid) (f.conditions (path_words t (path_table ts made.paths)))).answer) (sym b) ∙ sym c)
+
+-- the values of the code are those of the definition
+pub values_made : (old : Clauses) (none : List Gate) (mid : Gated) (fs gs : List Statement) (ds : List Defined) → none ≡ [] → fs ≡ gs
+    → define_all_in (gated old none) fs ≡ record { state = mid; answer = ds } → ds ≡ (define_all_in (bare old) gs).answer
+values_made old none mid fs gs ds empty a b =
+    sym (ap (λ (m : Shared (List Defined)). m.answer)
+    (ap (λ hs. define_all_in (gated old hs) gs) (sym empty) ∙ ap (define_all_in (gated old none)) (sym a) ∙ b))

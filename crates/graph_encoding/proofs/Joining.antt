@@ -13,8 +13,10 @@ use Rattle.clause_formulas.specs.declared.defined.Defined.{Defined}
 use Rattle.clause_formulas.specs.Statements.{Statement, eval, any_of, SaidBelow}
 use Rattle.clause_formulas.specs.Drafts.{value_at, part_at}
 use Rattle.clause_formulas.specs.Values.{DefinesValues}
-use Rattle.clause_formulas.specs.Built.{Grown, assert_on, define_all_on, demand_all_on, demands_true}
-use Rattle.clause_formulas.proofs.Laws.{assert_is, define_all_is, demand_all_is}
+use Rattle.clause_formulas.specs.Gated.{Gated, bare}
+use Rattle.clause_formulas.specs.Allowed.{SaysIn}
+use Rattle.clause_formulas.specs.Built.{Grown, Shared, assert_in, define_all_in, demand_all_in, demands_true}
+use Rattle.clause_formulas.proofs.Laws.{assert_in_is, define_all_is, demand_all_is}
 use Rattle.clause_formulas.proofs.Words.{value-below}
 use Rattle.clause_formulas.proofs.DraftLaws.{SaidBelow-le}
 use Rattle.level_encoding.specs.Asserted.{assert_all, levels_on}
@@ -34,7 +36,7 @@ use Rattle.graph_rules.specs.declared.rule.Rule.TheVariants as rules
 use Rattle.literal_table.specs.Tables.{Table, IsTable}
 use Rattle.literal_table.specs.Spells.{Spells}
 use Rattle.encoding_stages.specs.Stages.{Nothing, Both, IsLocal, Models, Stage, Decodes}
-use Rattle.encoding_stages.specs.Rules.{Says, Holds, ValuesSay, asked_among, KeepsAsked}
+use Rattle.encoding_stages.specs.Rules.{Says, Holds, FitsGates, ValuesSay, asked_among, KeepsAsked}
 use Rattle.encoding_stages.proofs.Growing.{added, joined, restated, named, decodes, local-le, local-both}
 use Rattle.encoding_stages.proofs.Adapters.{asserted, defined, demanded, begun}
 use Rattle.graph_levels.specs.Numbers.{names_of}
@@ -159,80 +161,90 @@ module _ (problem : Problem) (t : Table) (n : ℕ) (f : Formulas) (decode : (ℕ
 
     module _ (holds : ℕ → Content → Bool) (says : AreRightFormulas problem t n f (told_in t targets) holds) where
       -- values of conditions
-      abbrev pub valued : Grown (List Defined)
-      valued = define_all_on levelled (f.conditions path)
+      abbrev pub valued : Shared (List Defined)
+      valued = define_all_in (bare levelled) (f.conditions path)
+
+      abbrev pub defined-list : Clauses
+      defined-list = valued.state.list
 
       abbrev pub met : ℕ → Statement
       met = value_at valued.answer
 
-      values-are : DefinesValues levelled valued.list valued.answer (f.conditions path)
-      values-are = define_all_is levelled (f.conditions path) (says.conditions_below levelled.vars path levelled-more (paths-below levelled.vars (omega arith)))
+      values-are : DefinesValues (bare levelled) valued.state valued.answer (f.conditions path)
+      values-are = define_all_is (bare levelled) (f.conditions path) tt (says.conditions_below levelled.vars path levelled-more (paths-below levelled.vars (omega arith)))
 
       abbrev pub S3 : (ℕ → Bool) → Content → Type 0
-      S3 v g = S2 v g × ValuesSay valued.answer holds v g
+      S3 v g = S2 v g × (ValuesSay valued.answer holds v g × FitsGates valued.state.gates v g)
 
       abbrev pub R3 : (ℕ → Bool) → Content → Type 0
       R3 asked g = R2 asked g × Unit {0}
 
-      values-stage : Stage levelled valued.list S2 (ValuesSay valued.answer holds) R2 Nothing
-      values-stage = defined levelled valued.list S2 R2 valued.answer (f.conditions path) holds values-are
+      values-stage : Stage levelled defined-list S2 (Both (ValuesSay valued.answer holds) (FitsGates valued.state.gates)) R2 Nothing
+      values-stage = defined (bare levelled) valued.state S2 R2 (λ v g s. tt) valued.answer (f.conditions path) holds values-are
           (λ k asked v g s r. says.conditions_say v g path s.0.0 r.0.0.0 s.1 k)
 
-      pub values-models : Models valued.list S3 R3
-      values-models = added levelled valued.list S2 (ValuesSay valued.answer holds) R2 Nothing levels-models values-stage
+      pub values-models : Models defined-list S3 R3
+      values-models = added levelled defined-list S2 (Both (ValuesSay valued.answer holds) (FitsGates valued.state.gates)) R2 Nothing
+          levels-models values-stage
 
-      valued-more : levelled.vars ≤ valued.list.vars
+      valued-more : levelled.vars ≤ defined-list.vars
       valued-more = values-stage.grows.more
 
-      met-below : (m : ℕ) → valued.list.vars ≤ m → MetBelow m met
-      met-below m h k = SaidBelow-le valued.list.vars m (met k) h (value-below levelled valued.list valued.answer (f.conditions path) values-are.means k)
+      met-below : (m : ℕ) → defined-list.vars ≤ m → MetBelow m met
+      met-below m h k = SaidBelow-le defined-list.vars m (met k) h
+          (value-below (bare levelled) valued.state valued.answer (f.conditions path) values-are.means k)
 
       -- the rules that are always asked
-      abbrev pub ruled : Clauses
-      ruled = assert_on Structure valued.list true (f.rules path met)
+      abbrev pub ruled : Gated
+      ruled = assert_in Structure valued.state true (f.rules path met)
 
       abbrev pub R4 : (ℕ → Bool) → Content → Type 0
       R4 asked g = R3 asked g × Holds (keeps_all other_rules problem) asked g
 
       abbrev pub S4 : (ℕ → Bool) → Content → Type 0
-      S4 v g = S3 v g × Unit {0}
+      S4 v g = S3 v g × FitsGates ruled.gates v g
 
-      rules-stage : Stage valued.list ruled S3 Nothing R3 (Holds (keeps_all other_rules problem))
-      rules-stage = asserted valued.list ruled S3 R3 (f.rules path met) (keeps_all other_rules problem)
-          (assert_is Structure (f.rules path met) true valued.list
-          (says.rules_below valued.list.vars path met (omega (arith, levelled-more, valued-more)) (paths-below valued.list.vars valued-more)
-          (met-below valued.list.vars (omega arith))))
-          (λ asked v g s r. says.rules_say v g path met s.0.0.0 r.0.0.0.0 s.0.1 s.1)
+      rules-said : SaysIn valued.state ruled (where_asked Structure (λ v. eval v (f.rules path met)))
+      rules-said = assert_in_is Structure (f.rules path met) true valued.state values-are.keeps.below
+          (says.rules_below defined-list.vars path met (omega (arith, levelled-more, valued-more)) (paths-below defined-list.vars valued-more)
+          (met-below defined-list.vars (omega arith)))
 
-      pub rules-models : Models ruled S4 R4
-      rules-models = added valued.list ruled S3 Nothing R3 (Holds (keeps_all other_rules problem)) values-models rules-stage
+      rules-stage : Stage defined-list ruled.list S3 (FitsGates ruled.gates) R3 (Holds (keeps_all other_rules problem))
+      rules-stage = asserted valued.state ruled S3 R3 (λ v g s. s.1.1) (f.rules path met) (keeps_all other_rules problem) rules-said
+          (λ asked v g s r. says.rules_say v g path met s.0.0.0 r.0.0.0.0 s.0.1 s.1.0)
 
-      ruled-more : valued.list.vars ≤ ruled.vars
+      pub rules-models : Models ruled.list S4 R4
+      rules-models = added defined-list ruled.list S3 (FitsGates ruled.gates) R3 (Holds (keeps_all other_rules problem)) values-models rules-stage
+
+      ruled-more : defined-list.vars ≤ ruled.list.vars
       ruled-more = rules-stage.grows.more
 
       -- the demands
+      abbrev pub demanding : Gated
+      demanding = demand_all_in ruled 0 (map (f.demand path met) (demands problem))
+
       abbrev pub whole : Clauses
-      whole = demand_all_on ruled 0 (map (f.demand path met) (demands problem))
+      whole = demanding.list
 
       abbrev pub K : (ℕ → Bool) → Content → Type 0
       K = KeepsAsked (λ g d. keeps_demand problem g d) (demands problem)
 
       abbrev pub S5 : (ℕ → Bool) → Content → Type 0
-      S5 v g = S4 v g × Unit {0}
+      S5 v g = S4 v g × FitsGates demanding.gates v g
 
       abbrev pub R5 : (ℕ → Bool) → Content → Type 0
       R5 asked g = R4 asked g × K asked g
 
-      demands-stage : Stage ruled whole S4 Nothing R4 K
-      demands-stage = demanded ruled whole S4 R4 (demands problem) (f.demand path met) (λ g d. keeps_demand problem g d)
-          (demand_all_is ruled 0 (map (f.demand path met) (demands problem))
-          (demands-below ruled.vars (f.demand path met) (λ d. says.demand_below ruled.vars path met d
-          (omega (arith, levelled-more, valued-more, ruled-more)) (paths-below ruled.vars (omega (arith, valued-more, ruled-more)))
-          (met-below ruled.vars ruled-more)) (demands problem)))
-          (λ d asked v g s r. says.demand_says v g path met d s.0.0.0.0 r.0.0.0.0.0 s.0.0.1 s.0.1)
+      demands-stage : Stage ruled.list whole S4 (FitsGates demanding.gates) R4 K
+      demands-stage = demanded ruled demanding S4 R4 (λ v g s. s.1) (demands problem) (f.demand path met) (λ g d. keeps_demand problem g d)
+          (demand_all_is ruled 0 (map (f.demand path met) (demands problem)) rules-said.allows.below
+          (demands-below ruled.list.vars (f.demand path met) (λ d. says.demand_below ruled.list.vars path met d
+          (omega (arith, levelled-more, valued-more, ruled-more)) (paths-below ruled.list.vars (omega (arith, valued-more, ruled-more)))
+          (met-below ruled.list.vars ruled-more)) (demands problem)))
+          (λ d asked v g s r. says.demand_says v g path met d s.0.0.0.0 r.0.0.0.0.0 s.0.0.1 s.0.1.0)
 
       pub whole-models : Models whole S5 R5
-      whole-models = added ruled whole S4 Nothing R4 K rules-models demands-stage
+      whole-models = added ruled.list whole S4 (FitsGates demanding.gates) R4 K rules-models demands-stage
 
       -- ---- valid graphs
 
@@ -268,7 +280,7 @@ module _ (problem : Problem) (t : Table) (n : ℕ) (f : Formulas) (decode : (ℕ
 
       -- ---- variables
 
-      whole-later : valued.list.vars ≤ whole.vars
+      whole-later : defined-list.vars ≤ whole.vars
       whole-later = omega (arith, ruled-more, demands-stage.grows.more)
 
       pub in-range : (n ≤ (encode_on problem t n f targets).vars) × MetBelow (encode_on problem t n f targets).vars met

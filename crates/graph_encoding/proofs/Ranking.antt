@@ -54,7 +54,7 @@ module _ (problem : Problem) (t : Table) (n : ℕ) (f : Formulas) (decode : (ℕ
     spells = s.0.0.0.0.0;
     edges = s.0.0.0.0.1;
     paths = s.0.0.0.1;
-    conditions = s.0.0.1;
+    conditions = s.0.0.1.0;
   }
 
   module _ (new : Clauses) (bits : List Lit) (sums : (ℕ → Bool) → List ℕ) (numbers : Content → List ℕ) (orders : OrdersBits list new bits sums)

@@ -6,7 +6,8 @@ use Rattle.gate_plans.specs.Growth.{MeetsSince, Defines}
 use Rattle.clause_formulas.specs.Statements.{Statement}
 use Rattle.clause_formulas.specs.Drafts.{value_at}
 use Rattle.clause_formulas.specs.declared.defined.Defined.{Defined}
-use Rattle.clause_formulas.specs.Built.{define_all_on}
+use Rattle.clause_formulas.specs.Gated.{bare}
+use Rattle.clause_formulas.specs.Built.{define_all_in}
 use Rattle.criteria_totals.specs.Spellings.{compare_bits, compare_numbers}
 use Rattle.criteria_totals.specs.Totals.{values_at}
 use Rattle.graph_core.specs.Graphs.{Text, Content}
@@ -25,7 +26,8 @@ path_for problem t n f targets = path_of t targets (levels_made problem t n f ta
 
 -- what is defined for each condition
 abbrev pub values_for : Problem → Table → ℕ → Formulas → List Text → List Defined
-values_for problem t n f targets = (define_all_on (levels_made problem t n f targets).list (f.conditions (path_for problem t n f targets))).answer
+values_for problem t n f targets =
+    (define_all_in (bare (levels_made problem t n f targets).list) (f.conditions (path_for problem t n f targets))).answer
 
 abbrev pub met_for : Problem → Table → ℕ → Formulas → List Text → ℕ → Statement
 met_for problem t n f targets = value_at (values_for problem t n f targets)

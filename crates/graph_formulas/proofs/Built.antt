@@ -1,5 +1,5 @@
 -- The rules of a node to build, of providers and of paths hold where these are kept.
-use Rattle.std.proofs.Common.{◌≡◌, refl, sym, ap, ◌∙◌, Bool, true, false, not, ◌||◌, ◌&&◌, List, [], ◌∷◌, Option, Some, None}
+use Rattle.std.proofs.Common.{◌≡◌, refl, sym, ap, ◌∙◌, Bool, not, ◌||◌, ◌&&◌, List, [], ◌∷◌, Option, Some, None}
 use Rattle.std.specs.Prelude.{is_some}
 use Rattle.std.specs.List.{list_any}
 use Rattle.std.specs.Str.{bytes_eq}
@@ -8,7 +8,7 @@ use Rattle.clause_formulas.specs.Rules.{Rule, keeps_rule}
 use Rattle.graph_core.specs.Graphs.{Text, Content, node_of}
 use Rattle.graph_core.specs.Paths.{reaches_in}
 use Rattle.graph_core.specs.declared.node.Node.{Node}
-use Rattle.condition_rules.specs.Words.{among, if_written, is_some_and}
+use Rattle.condition_rules.specs.Words.{among, is_some_and}
 use Rattle.problem.specs.Problems.{Problem, world_of, recipe_at, versions_at, entry_of, is_buildable_in, same_compiler}
 use Rattle.site_settings.specs.declared.settings.CompilerEntry.{CompilerEntry}
 use Rattle.graph_rules.specs.Built.{keeps_buildable, keeps_version, keeps_compiler, keeps_machine, supports}

@@ -1,16 +1,12 @@
 -- The rule of each demand holds where it is kept, and rules of all nodes by names.
-use Rattle.std.proofs.Common.{◌≡◌, refl, sym, ap, ◌∙◌, Bool, true, false, not, ◌||◌, ◌&&◌, ℕ, List, [], ◌∷◌, filter, Option, Some, None, inl, inr}
+use Rattle.std.proofs.Common.{◌≡◌, refl, sym, ap, ◌∙◌, Bool, true, false, ◌&&◌, ℕ, List, [], ◌∷◌, filter, Some, None, inl, inr}
 use Rattle.std.specs.Prelude.{◌==◌, slice_get}
 use Rattle.std.specs.List.{list_all}
 use Rattle.std.proofs.lemmas.Bool.{cases_Bool}
-use Rattle.spec_grammar.specs.declared.part.Spec.{Spec}
 use Rattle.clause_formulas.specs.Rules.{Rule, keeps_rule}
-use Rattle.variant_values.specs.Texts.{byte_cmp}
 use Rattle.graph_core.specs.Graphs.{Text}
-use Rattle.keyed_lists.specs.Keyed.{rises}
-use Rattle.condition_rules.specs.Words.{among, implies, if_written}
-use Rattle.graph_core.specs.Graphs.{Content, is_graph, node_of, provider_of}
-use Rattle.problem.specs.Nodes.{is_built}
+use Rattle.condition_rules.specs.Words.{among, implies}
+use Rattle.graph_core.specs.Graphs.{Content, node_of, provider_of}
 use Rattle.graph_core.specs.declared.node.Node.{Node}
 use Rattle.problem.specs.Problems.{Problem, world_of, depends_at, conflicts_at, requirements_at}
 use Rattle.graph_rules.specs.Directives.{keeps_root, keeps_edge, keeps_constraint, keeps_conflict, keeps_requirement}
@@ -23,7 +19,7 @@ use Rattle.graph_words.proofs.Rules.{written-kept, each-kept}
 use Rattle.graph_formulas.specs.Terms.{Term, is_true, known_rule}
 use Rattle.graph_formulas.specs.Directives.{root_rule, edge_rule, constraint_rule, conflict_rule, requirement_rule}
 use Rattle.graph_formulas.specs.Demands.{directive_rule, demand_rule}
-use Rattle.graph_formulas.proofs.Directives.{root-kept, edge-kept, constraint-kept, conflict-kept, requirement-kept, built-kept}
+use Rattle.graph_formulas.proofs.Directives.{LeadsToNodes, root-kept, edge-kept, constraint-kept, conflict-kept, requirement-kept, built-kept}
 
 all-filter : {T : Type 0} (test f : T → Bool) (xs : List T) → list_all test (filter f xs) ≡ list_all (λ x. implies (f x) (test x)) xs
 all-filter test f [] = refl
@@ -44,18 +40,22 @@ module _ (problem : Problem) (packages : Text → List Text) (graph : Content)
       each-kept (is_true (world_of problem) graph) rule test same (filter (λ row. number_of row == number) rows)
       ∙ all-filter test (λ row. number_of row == number) rows
 
-  directive-kept : (number : ℕ) (node : Node) → holds_here (directive_rule problem packages number node.name) ≡ keeps_directive problem graph number node
-  directive-kept number node = rw (
+  directive-kept : LeadsToNodes graph → (number : ℕ) (node : Node) → holds_here (directive_rule problem packages number node.name) ≡ keeps_directive problem graph number node
+  directive-kept leads number node = rw (
     numbered number (λ row. row.number) (λ row. edge_rule problem packages node.name row and constraint_rule problem packages node.name row) (λ row. keeps_edge problem graph node row && keeps_constraint problem graph node row)
-        (λ row. rw (edge-kept problem packages graph listed node row, constraint-kept problem packages graph listed node row) refl) (depends_at problem node.name),
+        (λ row. rw (edge-kept problem packages graph listed leads node row, constraint-kept problem packages graph listed node row) refl) (depends_at problem node.name),
     numbered number (λ row. row.number) (conflict_rule problem packages node.name) (keeps_conflict problem graph node) (conflict-kept problem packages graph listed node) (conflicts_at problem node.name),
     numbered number (λ row. row.number) (requirement_rule problem packages node.name) (keeps_requirement problem graph node) (requirement-kept problem packages graph listed node) (requirements_at problem node.name),
   ) refl
 
-  pub demand-kept : (d : Demand) → holds_here (demand_rule problem packages d) ≡ keeps_demand problem graph d
+  pub demand-kept : LeadsToNodes graph → (may_be : Text → Bool) → ((name : Text) → may_be name ≡ false → node_of graph name ≡ None) → (d : Demand)
+      → holds_here (demand_rule problem packages may_be d) ≡ keeps_demand problem graph d
   unfolding keeps_demand
-  demand-kept (demand.Root place) =
+  demand-kept leads may_be nowhere_else (demand.Root place) =
       written-kept (is_true (world_of problem) graph) (λ spec. known_rule (root_rule problem packages spec)) (keeps_root problem graph) (root-kept problem packages graph listed) (slice_get problem.roots place)
-  demand-kept (demand.Directive name number) =
-      built-kept problem packages graph listed name (directive_rule problem packages number name) (keeps_directive problem graph number)
-      (λ node here. ap (λ n. holds_here (directive_rule problem packages number n)) (sym (named-so graph name node here)) ∙ directive-kept number node)
+  demand-kept leads may_be nowhere_else (demand.Directive name number) = elim (cases_Bool (may_be name)) [
+    | inl there ↦ rw there (
+        built-kept problem packages graph listed name (directive_rule problem packages number name) (keeps_directive problem graph number)
+        (λ node here. ap (λ n. holds_here (directive_rule problem packages number n)) (sym (named-so graph name node here)) ∙ directive-kept leads number node))
+    | inr absent ↦ rw (absent, nowhere_else name absent) refl
+  ]

@@ -1,5 +1,5 @@
 -- The rules of roots and directives hold where these are kept.
-use Rattle.std.proofs.Common.{◌≡◌, refl, sym, ap, ◌∙◌, Bool, true, false, not, ◌||◌, ◌&&◌, ℕ, ◌+◌, List, [], ◌∷◌, Option, Some, None, inl, inr, arith}
+use Rattle.std.proofs.Common.{◌≡◌, refl, sym, ap, ◌∙◌, Bool, true, false, not, ◌||◌, ℕ, ◌+◌, List, [], ◌∷◌, Option, Some, None, inl, inr, arith}
 use Rattle.std.specs.Prelude.{◌==◌, if◌then◌else◌, count_by}
 use Rattle.std.specs.List.{list_any, list_all}
 use Rattle.std.specs.Option.{option_and_then}
@@ -14,7 +14,6 @@ use Rattle.graph_core.specs.Graphs.{Content, node_of, provider_of, edge_of}
 use Rattle.problem.specs.Nodes.{covers, is_built}
 use Rattle.graph_core.specs.declared.node.Node.{Node}
 use Rattle.graph_core.specs.declared.node.Kinds.{Kinds}
-use Rattle.condition_rules.specs.Worlds.{World}
 use Rattle.condition_rules.specs.Holds.{asked_node, suits, holds, all_hold}
 use Rattle.conditions.specs.declared.recipe.DependRow.{DependRow}
 use Rattle.conditions.specs.declared.recipe.ConflictRow.{ConflictRow}
@@ -22,11 +21,12 @@ use Rattle.conditions.specs.declared.recipe.RequireRow.{RequireRow}
 use Rattle.problem.specs.Problems.{Problem, world_of}
 use Rattle.graph_rules.specs.Directives.{keeps_root, keeps_edge, keeps_constraint, keeps_conflict, keeps_requirement, has_choice}
 use Rattle.graph_words.specs.Facts.{Word, has_edge, is_in}
-use Rattle.graph_words.specs.Lists.{◌and◌, some, just_one}
-use Rattle.graph_words.specs.Parts.{there_rule, suits_rule, asked_rule, holds_rule}
+use Rattle.graph_words.specs.Lists.{just_one}
+use Rattle.graph_words.specs.Parts.{suits_rule, holds_rule}
 use Rattle.literal_table.proofs.Spelling.{named-so}
-use Rattle.graph_words.proofs.Rules.{or-false, some-kept, named-kept}
+use Rattle.graph_words.proofs.Rules.{some-kept, named-kept}
 use Rattle.graph_words.proofs.Kept.{by_node, asked-kept, holds-kept, suits-kept}
+use Rattle.graph_formulas.proofs.Few.{one-kept}
 use Rattle.graph_formulas.specs.Terms.{Term, is_true, known_rule, where_built}
 use Rattle.graph_formulas.specs.Directives.{root_rule, edge_to, edge_rule, suits_asked, constraint_rule, conflict_rule, choice_rule, requirement_rule}
 
@@ -34,30 +34,9 @@ pub not-or : (a b : Bool) → (not a || b) ≡ implies a b
 not-or true b = refl
 not-or false b = refl
 
--- exactly one
-none-count : {T : Type 0} (test : T → Bool) (xs : List T) → (count_by test xs == 0) ≡ not (list_any test xs)
-none-count test xs = sum_by-zero (λ x. if test x then 1 else 0) xs ∙ each xs
-  where
-    each : (xs : List _) → list_all (λ x. (if test x then 1 else 0) == 0) xs ≡ not (list_any test xs)
-    each [] = refl
-    each (x ∷ xs) = elim (cases_Bool (test x)) [ inl t ↦ rw t refl | inr f ↦ rw f (each xs) ]
-
-plus-zero : (n : ℕ) → n ≡ 0 + n
-plus-zero n = omega arith
-
-one-more : (n : ℕ) → (1 + n == 1) ≡ (n == 0)
-one-more n = elim (cases_Bool (n == 0)) [
-  | inl t ↦ let e : n ≡ 0 = eqb-true n 0 t in rw t (eq-eqb (1 + n) 1 (omega (arith, e)))
-  | inr f ↦ rw f (ne_eqb (1 + n) 1 (λ h. let e : n ≡ 0 = omega (arith, h) in let t : (n == 0) ≡ true = eq-eqb n 0 e in cc))
-]
-
-module _ {W T : Type 0} (p : W → Bool) (rule : T → Rule W) (test : T → Bool) (same : (x : T) → keeps_rule p (rule x) ≡ test x) where
-  pub one-kept : (xs : List T) → keeps_rule p (just_one rule xs) ≡ (count_by test xs == 1)
-  one-kept [] = refl
-  one-kept (x ∷ xs) = rw (same x, some-kept p rule test same xs, one-kept xs, sum_by-cons (λ x. if test x then 1 else 0) x xs) (elim (cases_Bool (test x)) [
-    | inl t ↦ rw (t, one-more (count_by test xs), none-count test xs) (or-false (not (list_any test xs)))
-    | inr f ↦ rw f (or-false (count_by test xs == 1) ∙ ap (λ n. n == 1) (plus-zero (count_by test xs)))
-  ])
+-- edges lead to nodes alone
+abbrev pub LeadsToNodes : Content → Type 0
+LeadsToNodes graph = (parent child : Text) → node_of graph child ≡ None → edge_of graph parent child ≡ None
 
 pub then-and : {T U : Type 0} (f : T → Option U) (test : U → Bool) (o : Option T) → is_some_and (option_and_then f o) test ≡ is_some_and o (λ x. is_some_and (f x) test)
 then-and f test None = refl
@@ -88,22 +67,22 @@ module _ (problem : Problem) (packages : Text → List Text) (graph : Content)
   unfolding keeps_constraint
   constraint-kept node row = rw (suits-asked row) (not-or (all_hold (world_of problem) row.when graph node.name) _)
 
-  edge-child : (parent : Text) (kinds : Kinds) (child : Text)
-      → in_graph (there_rule child and fact (has_edge parent child kinds)) ≡ is_some_and (node_of graph child) (λ c. is_some_and (edge_of graph parent c.name) (λ e. covers e.kinds kinds))
-  edge-child parent kinds child =
-      by_node graph child (λ o. (is_some_and o (λ c. true) && is_some_and (edge_of graph parent child) (λ e. covers e.kinds kinds)) ≡ is_some_and o (λ c. is_some_and (edge_of graph parent c.name) (λ e. covers e.kinds kinds)))
+  edge-child : LeadsToNodes graph → (parent : Text) (kinds : Kinds) (child : Text)
+      → in_graph (fact (has_edge parent child kinds)) ≡ is_some_and (node_of graph child) (λ c. is_some_and (edge_of graph parent c.name) (λ e. covers e.kinds kinds))
+  edge-child leads parent kinds child =
+      by_node graph child (λ o. is_some_and (edge_of graph parent child) (λ e. covers e.kinds kinds) ≡ is_some_and o (λ c. is_some_and (edge_of graph parent c.name) (λ e. covers e.kinds kinds)))
       (λ node here. ap (λ n. is_some_and (edge_of graph parent n) (λ e. covers e.kinds kinds)) (sym (named-so graph child node here)))
-      (λ absent. refl)
+      (λ absent. ap (λ o. is_some_and o (λ e. covers e.kinds kinds)) (leads parent child absent))
 
-  edge-to : (node : Node) (row : DependRow) → in_graph (edge_to problem packages node.name row)
+  edge-to : LeadsToNodes graph → (node : Node) (row : DependRow) → in_graph (edge_to problem packages node.name row)
       ≡ is_some_and (option_and_then (asked_node (world_of problem) graph) row.part.name) (λ child. is_some_and (edge_of graph node.name child.name) (λ e. covers e.kinds row.kinds))
-  edge-to node row =
-      named-kept (is_in graph) _ _ (λ asked. asked-kept (world_of problem) graph packages listed asked (λ child. there_rule child and fact (has_edge node.name child row.kinds)) _ (edge-child node.name row.kinds)) row.part.name
+  edge-to leads node row =
+      named-kept (is_in graph) _ _ (λ asked. asked-kept (world_of problem) graph packages listed asked (λ child. fact (has_edge node.name child row.kinds)) _ (edge-child leads node.name row.kinds)) row.part.name
       ∙ sym (then-and (asked_node (world_of problem) graph) _ row.part.name)
 
-  pub edge-kept : (node : Node) (row : DependRow) → holds_true (edge_rule problem packages node.name row) ≡ keeps_edge problem graph node row
+  pub edge-kept : LeadsToNodes graph → (node : Node) (row : DependRow) → holds_true (edge_rule problem packages node.name row) ≡ keeps_edge problem graph node row
   unfolding keeps_edge
-  edge-kept node row = rw (edge-to node row) (not-or (all_hold (world_of problem) row.when graph node.name) _)
+  edge-kept leads node row = rw (edge-to leads node row) (not-or (all_hold (world_of problem) row.when graph node.name) _)
 
   pub requirement-kept : (node : Node) (row : RequireRow) → holds_true (requirement_rule problem packages node.name row) ≡ keeps_requirement problem graph node row
   unfolding keeps_requirement

@@ -20,15 +20,14 @@ use Rattle.conditions.specs.declared.recipe.DependRow.{DependRow}
 use Rattle.problem.specs.Problems.{Problem, world_of, depends_at}
 use Rattle.graph_rules.specs.Built.{asks, asking, asked_kinds}
 use Rattle.graph_rules.specs.Whole.{uses}
-use Rattle.graph_words.specs.Facts.{Word, has_edge, is_in, has_origin}
-use Rattle.graph_words.specs.Lists.{◌and◌, given, some}
-use Rattle.graph_words.specs.Parts.{there_rule}
+use Rattle.graph_words.specs.Facts.{is_in, has_origin}
+use Rattle.graph_words.specs.Lists.{given, some}
 use Rattle.literal_table.proofs.Spelling.{named-so}
 use Rattle.graph_words.proofs.Rules.{given-kept, each-kept, some-kept, named-kept}
 use Rattle.graph_words.proofs.Kept.{by_node, there, asked-kept}
 use Rattle.graph_formulas.specs.Terms.{Term, is_true, met_rule, builds}
 use Rattle.graph_formulas.specs.Edges.{no_kinds, of_provider, asks_rule, may_ask, names_virtual, may_use, kind_rule, extra_edge_rule, use_rule}
-use Rattle.graph_formulas.proofs.Directives.{not-or, then-and}
+use Rattle.graph_formulas.proofs.Directives.{LeadsToNodes, not-or, then-and}
 
 any-filter : {T : Type 0} (test f : T → Bool) (xs : List T) → list_any test (filter f xs) ≡ list_any (λ x. test x && f x) xs
 any-filter test f [] = refl
@@ -113,32 +112,36 @@ user-asks problem graph p name = by_node graph name (λ o. is_some_and o (uses p
 module _ (problem : Problem) (packages : Text → List Text) (graph : Content)
     (listed : (virtual p : Text) → provider_of graph virtual ≡ Some p → among (packages virtual) p ≡ true)
     (name : Text) (node : Node) (here : node_of graph name ≡ Some node) where
-  child-kept : (child n : Text) → keeps_rule (is_in graph) (there_rule n and given (bytes_eq n child)) ≡ is_some_and (node_of graph n) (λ asked. bytes_eq asked.name child)
-  child-kept child n = rw (given-kept (is_in graph) (bytes_eq n child)) (
-      by_node graph n (λ o. (is_some_and o (λ c. true) && bytes_eq n child) ≡ is_some_and o (λ asked. bytes_eq asked.name child))
+  child-kept : (child : Text) (c : Node) → node_of graph child ≡ Some c → (n : Text) → keeps_rule (is_in graph) (given (bytes_eq n child)) ≡ is_some_and (node_of graph n) (λ asked. bytes_eq asked.name child)
+  child-kept child c child_here n = rw (given-kept (is_in graph) (bytes_eq n child)) (
+      by_node graph n (λ o. bytes_eq n child ≡ is_some_and o (λ asked. bytes_eq asked.name child))
       (λ asked there. ap (λ m. bytes_eq m child) (sym (named-so graph n asked there)))
-      (λ absent. refl))
+      (λ absent. elim (cases_Bool (bytes_eq n child)) [
+        | inl same ↦ absurd (let both : Some c ≡ None = sym child_here ∙ ap (node_of graph) (sym (bytes_eq-same n child same)) ∙ absent in cc)
+        | inr other ↦ other
+      ]))
 
-  asks-kept : (child : Text) (row : DependRow) → keeps_rule (is_true (world_of problem) graph) (asks_rule problem packages name child row) ≡ asks problem graph node child row
-  asks-kept child row =
+  asks-kept : (child : Text) (c : Node) → node_of graph child ≡ Some c → (row : DependRow) → keeps_rule (is_true (world_of problem) graph) (asks_rule problem packages name child row) ≡ asks problem graph node child row
+  asks-kept child c child_here row =
       ap (λ b. all_hold (world_of problem) row.when graph name && b) (
-      named-kept (is_in graph) _ _ (λ asked. asked-kept (world_of problem) graph packages listed asked (λ n. there_rule n and given (bytes_eq n child)) _ (child-kept child)) row.part.name
+      named-kept (is_in graph) _ _ (λ asked. asked-kept (world_of problem) graph packages listed asked (λ n. given (bytes_eq n child)) _ (child-kept child c child_here)) row.part.name
       ∙ sym (then-and (asked_node (world_of problem) graph) (λ asked. bytes_eq asked.name child) row.part.name))
       ∙ ap (λ n. all_hold (world_of problem) row.when graph n && is_some_and (option_and_then (asked_node (world_of problem) graph) row.part.name) (λ asked. bytes_eq asked.name child)) (sym (named-so graph name node here))
 
-  kind-kept : (kinds : Kinds) (has : Kinds → Bool) (child : Text) → ((k : Kinds) → covers k kinds ≡ has k)
+  -- where the edge is there, so is its child
+  kind-kept : LeadsToNodes graph → (kinds : Kinds) (has : Kinds → Bool) (child : Text) → ((k : Kinds) → covers k kinds ≡ has k)
       → keeps_rule (is_true (world_of problem) graph) (kind_rule problem packages kinds has name child) ≡ if_written (edge_of graph name child) (λ e. implies (has e.kinds) (list_any (λ row. has row.kinds) (asking problem graph node child)))
-  kind-kept kinds has child same = rw asked (go (edge_of graph name child))
+  kind-kept leads kinds has child same = go (edge_of graph name child) refl
     where
       ordered : (a h m : Bool) → (a ≡ true → m ≡ true) → (a && (h && m)) ≡ (h && a)
       ordered true h m may = ap (λ b. h && b) (may refl)
       ordered false true m may = refl
       ordered false false m may = refl
 
-      asked : keeps_rule (is_true (world_of problem) graph) (some (asks_rule problem packages name child) (filter (λ row. has row.kinds && may_ask problem packages child row) (depends_at problem name)))
+      asked : (c : Node) → node_of graph child ≡ Some c → keeps_rule (is_true (world_of problem) graph) (some (asks_rule problem packages name child) (filter (λ row. has row.kinds && may_ask problem packages child row) (depends_at problem name)))
           ≡ list_any (λ row. has row.kinds) (asking problem graph node child)
-      asked =
-          some-kept (is_true (world_of problem) graph) (asks_rule problem packages name child) (asks problem graph node child) (asks-kept child)
+      asked c child_here =
+          some-kept (is_true (world_of problem) graph) (asks_rule problem packages name child) (asks problem graph node child) (asks-kept child c child_here)
           (filter (λ row. has row.kinds && may_ask problem packages child row) (depends_at problem name))
           ∙ any-filter (asks problem graph node child) (λ row. has row.kinds && may_ask problem packages child row) (depends_at problem name)
           ∙ any-same (λ row. asks problem graph node child row && (has row.kinds && may_ask problem packages child row)) (λ row. has row.kinds && asks problem graph node child row)
@@ -146,16 +149,24 @@ module _ (problem : Problem) (packages : Text → List Text) (graph : Content)
           ∙ ap (λ n. list_any (λ row. has row.kinds && asks problem graph node child row) (depends_at problem n)) (sym (named-so graph name node here))
           ∙ sym (any-filter (λ row. has row.kinds) (asks problem graph node child) (depends_at problem node.name))
 
-      go : (o : Option Edge) → (not (is_some_and o (λ e. covers e.kinds kinds)) || list_any (λ row. has row.kinds) (asking problem graph node child)) ≡ if_written o (λ e. implies (has e.kinds) (list_any (λ row. has row.kinds) (asking problem graph node child)))
-      go None = refl
-      go (Some e) = rw (same e.kinds) (not-or (has e.kinds) (list_any (λ row. has row.kinds) (asking problem graph node child)))
+      child_there : (e : Edge) → edge_of graph name child ≡ Some e → (o : Option Node) → node_of graph child ≡ o → (c : Node) × (node_of graph child ≡ Some c)
+      child_there e is (Some c) child_here = (c, child_here)
+      child_there e is None absent = absurd (let both : Some e ≡ None = sym is ∙ leads name child absent in cc)
+
+      go : (o : Option Edge) → edge_of graph name child ≡ o
+          → (not (is_some_and o (λ e. covers e.kinds kinds)) || keeps_rule (is_true (world_of problem) graph) (some (asks_rule problem packages name child) (filter (λ row. has row.kinds && may_ask problem packages child row) (depends_at problem name))))
+          ≡ if_written o (λ e. implies (has e.kinds) (list_any (λ row. has row.kinds) (asking problem graph node child)))
+      go None is = refl
+      go (Some e) is =
+          let there = child_there e is (node_of graph child) refl in
+          rw (same e.kinds, asked there.0 there.1) (not-or (has e.kinds) (list_any (λ row. has row.kinds) (asking problem graph node child)))
 
   -- an edge of the node has no kind that none asks for
-  pub extra_edge-kept : (child : Text) → keeps_rule (is_true (world_of problem) graph) (extra_edge_rule problem packages name child) ≡ if_written (edge_of graph name child) (λ e. covers (asked_kinds (asking problem graph node child)) e.kinds)
-  extra_edge-kept child = rw (
-    kind-kept (record no_kinds { build = true }) (λ k. k.build) child (λ k. ands k.build),
-    kind-kept (record no_kinds { link = true }) (λ k. k.link) child (λ k. and-true k.link),
-    kind-kept (record no_kinds { run = true }) (λ k. k.run) child (λ k. refl),
+  pub extra_edge-kept : LeadsToNodes graph → (child : Text) → keeps_rule (is_true (world_of problem) graph) (extra_edge_rule problem packages name child) ≡ if_written (edge_of graph name child) (λ e. covers (asked_kinds (asking problem graph node child)) e.kinds)
+  extra_edge-kept leads child = rw (
+    kind-kept leads (record no_kinds { build = true }) (λ k. k.build) child (λ k. ands k.build),
+    kind-kept leads (record no_kinds { link = true }) (λ k. k.link) child (λ k. and-true k.link),
+    kind-kept leads (record no_kinds { run = true }) (λ k. k.run) child (λ k. refl),
   ) (go (edge_of graph name child))
     where
       and-true : (a : Bool) → (a && true) ≡ a

@@ -1,10 +1,9 @@
 -- The rule of kept nodes holds where it is kept.
-use Rattle.std.proofs.Common.{◌≡◌, refl, sym, ap, subst, ◌∙◌, Bool, true, false, not, ◌||◌, ◌&&◌, ℕ, List, [], ◌∷◌, Option, Some, None, inl, inr}
-use Rattle.std.specs.Prelude.{is_none, ◌==◌, slice_get}
-use Rattle.std.specs.List.{list_any, list_all}
+use Rattle.std.proofs.Common.{◌≡◌, refl, sym, ap, ◌∙◌, Bool, true, false, not, ◌||◌, ◌&&◌, List, [], ◌∷◌, Option, Some, None, inl, inr}
+use Rattle.std.specs.Prelude.{is_none, slice_get}
+use Rattle.std.specs.List.{list_all}
 use Rattle.std.specs.Option.{option_eq}
 use Rattle.std.specs.Str.{bytes_eq}
-use Rattle.std.specs.Cmp.Lexicographic.{bytes_decides}
 use Rattle.std.proofs.lemmas.Bool.{cases_Bool, eqb-true, eq-eqb}
 use Rattle.clause_formulas.specs.Rules.{Rule, keeps_rule, fact, isnt, if_so}
 use Rattle.graph_core.specs.Graphs.{Text, Content, node_of, edge_of, edges_from}
@@ -18,7 +17,6 @@ use Rattle.problem.specs.Problems.{Problem, world_of, entry_of, externals_in, re
 use Rattle.problem.specs.Nodes.{covers, is_installed}
 use Rattle.problem.specs.Records.{kept_dependencies}
 use Rattle.reuse_db.specs.declared.record.Record.{Record}
-use Rattle.site_settings.specs.declared.settings.ExternalEntry.{ExternalEntry}
 use Rattle.graph_rules.specs.Kept.{same_attributes, external_node, installed_node, has_kinds, keeps_child, is_child, keeps_origin, keeps_kept}
 use Rattle.graph_rules.proofs.Lists.{In, bytes_eq-same, bytes_eq-itself}
 use Rattle.literal_table.proofs.Spelling.{named-so}
@@ -28,7 +26,6 @@ use Rattle.graph_words.proofs.Rules.{given-kept, named-kept, each-kept}
 use Rattle.graph_words.proofs.Kept.{there}
 use Rattle.graph_formulas.specs.Edges.{no_kinds}
 use Rattle.graph_formulas.specs.Kept.{same_origin, installs, same_rule, kinds_rule, is_child_name, child_rule, recorded_rule, origin_rule, kept_rule}
-use Rattle.graph_formulas.proofs.Directives.{not-or}
 
 -- ---- origins
 

@@ -1,16 +1,19 @@
 -- What the formulas of rules say of the graph that literals spell.
-use Rattle.std.proofs.Common.{filter, ◌≡◌, refl, sym, ap, subst, ◌∙◌, Bool, true, false, not, ◌&&◌, ◌||◌, ℕ, List, [], ◌∷◌, map, Option, Some, None, inl, inr}
+use Rattle.std.proofs.Common.{filter, ◌≡◌, refl, sym, ap, subst, ◌∙◌, Bool, true, false, not, ◌||◌, ℕ, List, [], ◌∷◌, map, Option, Some, None, inl, inr}
 use Rattle.std.specs.Prelude.{if◌then◌else◌}
-use Rattle.std.specs.List.{list_all, list_any}
-use Rattle.std.specs.Option.{option_map}
-use Rattle.std.specs.Str.{bytes_eq}
+use Rattle.std.specs.List.{list_all}
+use Rattle.std.specs.Option.{is_some}
 use Rattle.std.proofs.lemmas.Bool.{cases_Bool}
 use Rattle.clause_store.specs.Lits.{lit_true}
 use Rattle.clause_formulas.specs.Statements.{Statement, eval}
-use Rattle.clause_formulas.specs.Rules.{Rule, keeps_rule, fact}
+use Rattle.clause_formulas.specs.Rules.{Rule, keeps_rule}
 use Rattle.clause_formulas.proofs.RuleLaws.{rule-said}
 use Rattle.spec_grammar.specs.declared.part.Spec.{Spec}
-use Rattle.graph_core.specs.Graphs.{Text, Content, node_of, provider_of, edge_of, edges_from, ends_of}
+use Rattle.graph_core.specs.Graphs.{Text, Content, node_of, provider_of, edge_of, edges_from, ends_of, HasNode}
+use Rattle.std.proofs.lemmas.List.Elements.{All-contains}
+use Rattle.keyed_lists.proofs.LookupLaws.{find_sound}
+use Rattle.graph_core.proofs.GraphLaws.{has_decides}
+use Rattle.graph_core.proofs.PairLaws.{pair_total, pair_exact}
 use Rattle.graph_core.specs.declared.node.Node.{Node}
 use Rattle.graph_core.specs.declared.node.Edge.{Edge}
 use Rattle.virtuals.specs.Virtuals.{is_virtual}
@@ -35,9 +38,8 @@ use Rattle.literal_table.specs.Spells.{SpellsNode, SpellsAt, SpellsEdge, chosen_
 use Rattle.literal_table.specs.declared.block.Block.{Block}
 use Rattle.literal_table.specs.declared.block.EdgeLits.{EdgeLits}
 use Rattle.literal_table.proofs.Spelling.{named-so}
-use Rattle.graph_words.specs.Facts.{Word, word_said, is_in}
-use Rattle.graph_words.specs.Lists.{each}
-use Rattle.graph_words.specs.Words.{SpellsPaths, names_for}
+use Rattle.graph_words.specs.Facts.{word_said, is_in}
+use Rattle.graph_words.specs.Words.{names_for}
 use Rattle.graph_words.proofs.Said.{word-said}
 use Rattle.graph_words.proofs.Rules.{given-kept, each-kept, some-kept}
 use Rattle.graph_words.proofs.Kept.{by_node}
@@ -49,9 +51,9 @@ use Rattle.graph_formulas.specs.Edges.{extra_edge_rule, extra_edges_rule, use_ru
 use Rattle.graph_formulas.specs.Variants.{variant_rule, variants_rule, keeps_one_variant}
 use Rattle.graph_formulas.specs.Kept.{origins_in, origins_of, kept_rule}
 use Rattle.graph_formulas.specs.Demands.{demand_rule}
-use Rattle.graph_formulas.specs.Laws.{SpellsProblem, HasVariants, rule_says, if_built, names_of, virtuals_of, children_of, variants_in, variants_of}
+use Rattle.graph_formulas.specs.Laws.{SpellsProblem, HasVariants, rule_says, if_built, has_name, names_of, virtuals_of, children_of, variants_in, variants_of}
 use Rattle.graph_formulas.proofs.Names.{all-same, found-ends, each-node-said, each-provider-said, each-edge-said}
-use Rattle.graph_formulas.proofs.Directives.{root-kept, edge-kept, constraint-kept, conflict-kept, requirement-kept, built-kept}
+use Rattle.graph_formulas.proofs.Directives.{LeadsToNodes, root-kept, edge-kept, constraint-kept, conflict-kept, requirement-kept, built-kept}
 use Rattle.graph_formulas.proofs.Demands.{demand-kept}
 use Rattle.graph_formulas.proofs.Built.{buildable-kept, version-kept, compiler-kept, machine-kept, provider-kept, no_cycle-kept, reachable-kept}
 use Rattle.graph_formulas.proofs.Edges.{extra_edge-kept, use-kept, of-provider-kept, any-node, any-narrowed, user-asks}
@@ -94,6 +96,16 @@ module _ (problem : Problem) (v : ℕ → Bool) (path : Text → Text → Statem
   listed : (virtual p : Text) → provider_of graph virtual ≡ Some p → among (names_for table virtual) p ≡ true
   listed = provider-listed v table graph s.whole.facts
 
+  leads : LeadsToNodes graph
+  leads parent child absent = go (edge_of graph parent child) refl
+    where
+      go : (o : Option Edge) → edge_of graph parent child ≡ o → edge_of graph parent child ≡ None
+      go None is = is
+      go (Some e) is =
+          let found = find_sound pair_total pair_exact ends_of graph.edges (parent, child) e is in
+          let there = subst (HasNode graph) (ap (λ p. p.1) found.1) (All-contains (λ (d : Edge). HasNode graph d.child) graph.edges e s.is_graph.children found.0) in
+          absurd (let both : true ≡ false = sym ((has_decides graph child).1 there) ∙ ap is_some absent in cc)
+
   term-said : (t : Term) → eval v (term_said path condition table t) ≡ is_true (world_of problem) graph t
   term-said (known rule) = rule-said v (word_said path table) (is_in graph) (word-said v path table graph s.whole) rule
   term-said (met name when) = s.conditions name when
@@ -116,7 +128,7 @@ module _ (problem : Problem) (v : ℕ → Bool) (path : Text → Text → Statem
   root-said spec = said (known_rule (root_rule problem (names_for table) spec)) ∙ root-kept problem (names_for table) graph listed spec
 
   pub edge-said : (name : Text) (row : DependRow) → rule_says v path condition table (where_built name (edge_rule problem (names_for table) name row)) ≡ if_built graph name (λ node. keeps_edge problem graph node row)
-  edge-said name row = at-name name (λ n. edge_rule problem (names_for table) n row) _ (λ node. edge-kept problem (names_for table) graph listed node row)
+  edge-said name row = at-name name (λ n. edge_rule problem (names_for table) n row) _ (λ node. edge-kept problem (names_for table) graph listed leads node row)
 
   pub constraint-said : (name : Text) (row : DependRow) → rule_says v path condition table (where_built name (constraint_rule problem (names_for table) name row)) ≡ if_built graph name (λ node. keeps_constraint problem graph node row)
   constraint-said name row = at-name name (λ n. constraint_rule problem (names_for table) n row) _ (λ node. constraint-kept problem (names_for table) graph listed node row)
@@ -175,12 +187,21 @@ module _ (problem : Problem) (v : ℕ → Bool) (path : Text → Text → Statem
   pub extra_edge-said : (name child : Text) → rule_says v path condition table (where_built name (extra_edge_rule problem (names_for table) name child)) ≡ if_built graph name (λ node. if_written (edge_of graph name child) (is_asked problem graph node))
   extra_edge-said name child =
       where-built name (extra_edge_rule problem (names_for table) name child) (λ node. if_written (edge_of graph name child) (is_asked problem graph node))
-      (λ node here. extra_edge-kept problem (names_for table) graph listed name node here child ∙ asked-edge name child node (edge_of graph name child) refl)
+      (λ node here. extra_edge-kept problem (names_for table) graph listed name node here leads child ∙ asked-edge name child node (edge_of graph name child) refl)
 
   -- ---- demands
 
-  pub demand-said : (d : Demand) → rule_says v path condition table (demand_rule problem (names_for table) d) ≡ keeps_demand problem graph d
-  demand-said d = said (demand_rule problem (names_for table) d) ∙ demand-kept problem (names_for table) graph listed d
+  -- a name that the table does not have has no node
+  unnamed : (name : Text) → has_name table name ≡ false → node_of graph name ≡ None
+  unnamed name = go (block_of table name) (s.whole.facts.nodes name)
+    where
+      go : (o : Option Block) → SpellsAt v o (node_of graph name) → is_some o ≡ false → node_of graph name ≡ None
+      go None spelled h = spelled
+      go (Some b) spelled h = cc
+
+  pub demand-said : (d : Demand) → rule_says v path condition table (demand_rule problem (names_for table) (has_name table) d) ≡ keeps_demand problem graph d
+  demand-said d =
+      said (demand_rule problem (names_for table) (has_name table) d) ∙ demand-kept problem (names_for table) graph listed leads (has_name table) unnamed d
 
   -- ---- rules of all nodes, by names
 
@@ -231,7 +252,7 @@ module _ (problem : Problem) (v : ℕ → Bool) (path : Text → Text → Statem
   all-extra_edge = each-built (λ name. extra_edges_rule problem (names_for table) (children_of table name) name) (keeps_extra_edge problem graph)
       (λ name. where-built name (extra_edges_rule problem (names_for table) (children_of table name) name) (keeps_extra_edge problem graph) (λ node here.
       each-kept (is_true (world_of problem) graph) (extra_edge_rule problem (names_for table) name) (λ child. if_written (edge_of graph name child) (is_asked problem graph node))
-      (λ child. extra_edge-kept problem (names_for table) graph listed name node here child ∙ asked-edge name child node (edge_of graph name child) refl) (children_of table name)
+      (λ child. extra_edge-kept problem (names_for table) graph listed name node here leads child ∙ asked-edge name child node (edge_of graph name child) refl) (children_of table name)
       ∙ sym (edges-said name (is_asked problem graph node))
       ∙ ap (λ n. list_all (is_asked problem graph node) (edges_from graph n)) (sym (named-so graph name node here))))
 

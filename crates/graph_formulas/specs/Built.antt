@@ -1,8 +1,7 @@
 -- The rules of a node to build, and of providers and paths.
-use Rattle.std.specs.Prelude.{Bool, ◌&&◌, not, List, [], ◌∷◌, None, is_some}
+use Rattle.std.specs.Prelude.{◌&&◌, [], ◌∷◌, None, is_some}
 use Rattle.std.specs.List.{list_any}
 use Rattle.std.specs.Str.{bytes_eq}
-use Rattle.spec_grammar.specs.declared.part.Spec.{Spec}
 use Rattle.clause_formulas.specs.Rules.{Rule, fact, isnt, any_rule}
 use Rattle.graph_core.specs.Graphs.{Text}
 use Rattle.condition_rules.specs.Words.{among, is_some_and}

@@ -1,11 +1,11 @@
 -- Each demand as one rule.
-use Rattle.std.specs.Prelude.{ℕ, Bool, ◌==◌, List, filter, slice_get}
+use Rattle.std.specs.Prelude.{ℕ, Bool, true, ◌==◌, List, filter, slice_get, if◌then◌else◌}
 use Rattle.clause_formulas.specs.Rules.{Rule}
 use Rattle.graph_core.specs.Graphs.{Text}
 use Rattle.problem.specs.Problems.{Problem, depends_at, conflicts_at, requirements_at}
 use Rattle.problem.specs.declared.demand.Demand.{Demand}
 use Rattle.problem.specs.declared.demand.Demand.TheVariants as demand
-use Rattle.graph_words.specs.Lists.{◌and◌, written, each}
+use Rattle.graph_words.specs.Lists.{◌and◌, given, written, each}
 use Rattle.graph_formulas.specs.Terms.{Term, known_rule, where_built}
 use Rattle.graph_formulas.specs.Directives.{root_rule, edge_rule, constraint_rule, conflict_rule, requirement_rule}
 
@@ -17,6 +17,7 @@ module _ (problem : Problem) (packages : Text → List Text) where
       and each (conflict_rule problem packages name) (filter (λ row. row.number == number) (conflicts_at problem name))
       and each (requirement_rule problem packages name) (filter (λ row. row.number == number) (requirements_at problem name))
 
-  abbrev pub demand_rule : Demand → Rule Term
-  demand_rule (demand.Root place) = written (slice_get problem.roots place) (λ spec. known_rule (root_rule problem packages spec))
-  demand_rule (demand.Directive name number) = where_built name (directive_rule number name)
+  -- a directive of a name that no node can have holds by itself, and nothing of it is said
+  abbrev pub demand_rule : (Text → Bool) → Demand → Rule Term
+  demand_rule may_be (demand.Root place) = written (slice_get problem.roots place) (λ spec. known_rule (root_rule problem packages spec))
+  demand_rule may_be (demand.Directive name number) = if may_be name then where_built name (directive_rule number name) else given true

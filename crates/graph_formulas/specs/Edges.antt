@@ -9,20 +9,20 @@ use Rattle.graph_core.specs.declared.node.Kinds.{Kinds}
 use Rattle.virtuals.specs.Virtuals.{is_virtual}
 use Rattle.conditions.specs.declared.recipe.DependRow.{DependRow}
 use Rattle.problem.specs.Problems.{Problem, world_of, depends_at}
-use Rattle.graph_words.specs.Facts.{Word, provides_as, has_edge}
+use Rattle.graph_words.specs.Facts.{provides_as, has_edge}
 use Rattle.graph_words.specs.Lists.{◌and◌, given, named, each, some}
-use Rattle.graph_words.specs.Parts.{there_rule, asked_rule}
+use Rattle.graph_words.specs.Parts.{asked_rule}
 use Rattle.graph_formulas.specs.Terms.{Term, known_rule, met_rule, built_rule}
 
 abbrev pub no_kinds : Kinds
 no_kinds = record { build = false; link = false; run = false }
 
 module _ (problem : Problem) (packages : Text → List Text) where
-  -- the row holds at the node and asks for this child
+  -- the row holds at the node and asks for this child, where that is there
   abbrev pub asks_rule : Text → Text → DependRow → Rule Term
   asks_rule name child row =
       met_rule name row.when
-      and known_rule (named row.part.name (λ asked. asked_rule (world_of problem) packages asked (λ n. there_rule n and given (bytes_eq n child))))
+      and known_rule (named row.part.name (λ asked. asked_rule (world_of problem) packages asked (λ n. given (bytes_eq n child))))
 
   -- the row may ask for this child, by its name or by a virtual
   abbrev pub may_ask : Text → DependRow → Bool

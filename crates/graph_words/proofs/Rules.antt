@@ -1,11 +1,11 @@
 -- Rules of lists, options and tests hold where these do.
 use Rattle.std.proofs.Common.{◌≡◌, refl, Bool, true, false, not, ◌||◌, ◌&&◌, List, [], ◌∷◌, map, Option, Some, None}
-use Rattle.std.specs.Prelude.{if◌then◌else◌, ◌==◌, count_by}
+use Rattle.std.specs.Prelude.{if◌then◌else◌}
 use Rattle.std.specs.List.{list_any, list_all}
 use Rattle.std.specs.Option.{is_some, option_or}
 use Rattle.clause_formulas.specs.Rules.{Rule, keeps_rule, isnt, any_rule}
 use Rattle.condition_rules.specs.Words.{if_written, is_some_and, find_last}
-use Rattle.graph_words.specs.Lists.{given, written, named, each, some, last_one}
+use Rattle.graph_words.specs.Lists.{given, unless, written, named, each, some, last_one}
 
 pub any-last : {T : Type 0} (f : T → Bool) (xs : List T) → list_any f xs ≡ is_some (find_last f xs)
 any-last f [] = refl
@@ -29,6 +29,15 @@ module _ {W : Type 0} (p : W → Bool) where
   pub given-kept : (b : Bool) → keeps_rule p (given b) ≡ b
   given-kept true = refl
   given-kept false = refl
+
+  -- where something else says what a rule asks
+  pub unless-so : (b : Bool) (rule : Rule W) → keeps_rule p rule ≡ true → keeps_rule p (unless b rule) ≡ true
+  unless-so true rule h = refl
+  unless-so false rule h = h
+
+  pub unless-kept : (b : Bool) (rule : Rule W) → keeps_rule p (unless b rule) ≡ (b || keeps_rule p rule)
+  unless-kept true rule = refl
+  unless-kept false rule = refl
 
   pub some-kept : {T : Type 0} (rule : T → Rule W) (test : T → Bool) → ((x : T) → keeps_rule p (rule x) ≡ test x) → (xs : List T)
       → keeps_rule p (some rule xs) ≡ list_any test xs

@@ -1,5 +1,6 @@
 -- Rules of lists, options and tests.
-use Rattle.std.specs.Prelude.{Bool, true, false, List, [], ◌∷◌, map, Option, Some, None}
+use Prim.Native.Nat.{zero, suc}
+use Rattle.std.specs.Prelude.{ℕ, ◌/◌, Bool, true, false, List, [], ◌∷◌, ◌++◌, map, length, take, drop, Option, Some, None, nat_lt, if◌then◌else◌}
 use Rattle.clause_formulas.specs.Rules.{Rule, nowhere, isnt, both_of, either_of, any_rule, all_rules}
 
 infixl 35 ◌and◌
@@ -10,6 +11,15 @@ r and q = both_of r q
 abbrev pub given : {W : Type 0} → Bool → Rule W
 given true = isnt nowhere
 given false = nowhere
+
+-- asked only where nothing else says it
+abbrev pub unless : {W : Type 0} → Bool → Rule W → Rule W
+unless true rule = isnt nowhere
+unless false rule = rule
+
+abbrev pub is_filled : {T : Type 0} → List T → Bool
+is_filled [] = false
+is_filled (x ∷ xs) = true
 
 -- what is not written asks nothing
 abbrev pub written : {W T : Type 0} → Option T → (T → Rule W) → Rule W
@@ -32,7 +42,36 @@ abbrev pub last_one : {W T : Type 0} → (T → Rule W) → (T → Rule W) → L
 last_one passes rule [] = nowhere
 last_one passes rule (x ∷ xs) = either_of (isnt (some passes xs) and passes x and rule x) (last_one passes rule xs)
 
--- exactly one keeps the rule
+-- none keeps the rule
+abbrev pub none : {W T : Type 0} → (T → Rule W) → List T → Rule W
+none rule xs = isnt (some rule xs)
+
+-- a thing doesn't keep the rule, or none of the others does
+abbrev pub first_rules : {W T : Type 0} → (T → Rule W) → T → List T → List (Rule W)
+first_rules rule x [] = []
+first_rules rule x (y ∷ ys) = any_rule (isnt (rule x) ∷ none rule (y ∷ ys) ∷ []) ∷ []
+
+-- no two keep the rule: each thing and those behind it
+abbrev pub apart_rules : {W T : Type 0} → (T → Rule W) → List T → List (Rule W)
+apart_rules rule [] = []
+apart_rules rule (x ∷ xs) = first_rules rule x xs ++ apart_rules rule xs
+
+abbrev pub half_of : {T : Type 0} → List T → ℕ
+half_of xs = length xs / 2
+
+-- none of these keeps the rule, or none of those
+abbrev pub halves_rule : {W T : Type 0} → (T → Rule W) → List T → List T → Rule W
+halves_rule rule xs ys = any_rule (none rule xs ∷ none rule ys ∷ [])
+
+-- no two keep the rule: a list of more than eight is halved, so many times at most
+unfoldable pub few_rules : {W T : Type 0} → ℕ → (T → Rule W) → List T → List (Rule W)
+few_rules zero rule xs = apart_rules rule xs
+few_rules (suc times) rule xs =
+    if nat_lt 8 (length xs)
+    then halves_rule rule (take (half_of xs) xs) (drop (half_of xs) xs)
+    ∷ (few_rules times rule (take (half_of xs) xs) ++ few_rules times rule (drop (half_of xs) xs))
+    else apart_rules rule xs
+
+-- exactly one keeps the rule: so deep as one thing's rule, however long the list is
 abbrev pub just_one : {W T : Type 0} → (T → Rule W) → List T → Rule W
-just_one rule [] = nowhere
-just_one rule (x ∷ xs) = any_rule ((rule x and isnt (some rule xs)) ∷ (isnt (rule x) and just_one rule xs) ∷ [])
+just_one rule xs = some rule xs and all_rules (few_rules (length xs / 8) rule xs)

@@ -1,5 +1,8 @@
 // The formula of the variants of a node: just these, each with its values.
-ghost use Rattle.std.specs.Prelude.{◌≡◌, ◌++◌, [], IfOk, OnOk};
+ghost use Rattle.std.specs.Prelude.{◌≡◌, ◌++◌, ◌∷◌, [], List, IfOk, OnOk};
+ghost use Rattle.clause_formulas.specs.Statements.{atom};
+ghost use Rattle.graph_core.specs.Graphs.{Text};
+ghost use Rattle.literal_table.specs.Choices.{Choices};
 ghost use Rattle.graph_words.specs.Facts.{fact_said, has_variants, just_parts, some_parts, variant_parts};
 ghost use Rattle.word_formulas.specs.Builders.{node_said};
 
@@ -21,6 +24,21 @@ fn push_rest(alloc: Global, parts: &mut Vec<Formula>, values: &[Word]) -> Result
     Ok(())
 }
 
+// The value of a choice is chosen where it comes next, and else is not; with the values behind it.
+fn just_part<'a>(choice: &(Word, Lit), values: &'a [Word]) -> (Lit, &'a [Word])
+    ensures { (choices : Choices Text) → just_parts (choice.now ∷ choices) values.now
+        ≡ atom result.0 ∷ just_parts choices result.1.now }
+{
+    let Some((value, rest)) = values.split_first() else {
+        return (choice.1.negated(), values);
+    };
+    if choice.0.as_str() == value.as_str() {
+        (choice.1, rest)
+    } else {
+        (choice.1.negated(), values)
+    }
+}
+
 // Just these values are chosen, in this order.
 fn push_just(
     alloc: Global,
@@ -30,19 +48,13 @@ fn push_just(
 ) -> Result<(), AllocError>
     ensures { OnOk result (parts.new.items ≡ parts.old.items ++ just_parts choices.now values.now) }
 {
-    let Some((choice, choices)) = choices.split_first() else {
-        return push_rest(alloc, parts, values);
-    };
-    let Some((value, rest)) = values.split_first() else {
-        parts.push(Formula::lit(choice.1.negated()))?;
-        return push_just(alloc, parts, choices, values);
-    };
-    if choice.0.as_str() == value.as_str() {
-        parts.push(Formula::lit(choice.1))?;
-        return push_just(alloc, parts, choices, rest);
+    let mut rest = values;
+    for choice in choices {
+        let (lit, more) = just_part(choice, rest);
+        parts.push(Formula::lit(lit))?;
+        rest = more;
     }
-    parts.push(Formula::lit(choice.1.negated()))?;
-    push_just(alloc, parts, choices, values)
+    push_rest(alloc, parts, rest)
 }
 
 // There are values.
@@ -83,6 +95,27 @@ fn push_same(
     push_just(alloc, parts, choices, values)
 }
 
+// A variant that is offered has its values where it comes next, and else none; gives the variants behind it.
+fn push_offer<'a>(
+    alloc: Global,
+    parts: &mut Vec<Formula>,
+    offer: &(Word, List<(Word, Lit)>),
+    variants: &'a [(Word, ValueSet)],
+) -> Result<&'a [(Word, ValueSet)], AllocError>
+    ensures { IfOk result (λ rest. (offered : List (Text × Choices Text))
+        → parts.new.items ++ variant_parts offered rest.now
+        ≡ parts.old.items ++ variant_parts (offer.now ∷ offered) variants.now) }
+{
+    if let Some((variant, rest)) = variants.split_first() {
+        if offer.0.as_str() == variant.0.as_str() {
+            push_same(alloc, parts, offer.1.as_slice(), variant.1.values())?;
+            return Ok(rest);
+        }
+    }
+    push_just(alloc, parts, offer.1.as_slice(), &[])?;
+    Ok(variants)
+}
+
 // Just these variants are chosen, each with its values.
 fn push_variants(
     alloc: Global,
@@ -93,19 +126,11 @@ fn push_variants(
     ensures { OnOk result (parts.new.items ≡ parts.old.items
         ++ variant_parts offered.now variants.now) }
 {
-    let Some((offer, offered)) = offered.split_first() else {
-        return push_left(alloc, parts, variants);
-    };
-    let Some((variant, rest)) = variants.split_first() else {
-        push_just(alloc, parts, offer.1.as_slice(), &[])?;
-        return push_variants(alloc, parts, offered, variants);
-    };
-    if offer.0.as_str() == variant.0.as_str() {
-        push_same(alloc, parts, offer.1.as_slice(), variant.1.values())?;
-        return push_variants(alloc, parts, offered, rest);
+    let mut rest = variants;
+    for offer in offered {
+        rest = push_offer(alloc, parts, offer, rest)?;
     }
-    push_just(alloc, parts, offer.1.as_slice(), &[])?;
-    push_variants(alloc, parts, offered, variants)
+    push_left(alloc, parts, rest)
 }
 
 fn variants_in(

@@ -14,10 +14,10 @@ fault_of_kind kinds.InvalidFilename = desk_faults.Missing
 fault_of_kind kinds.OutOfMemory = desk_faults.OutOfMemory
 fault_of_kind _ = desk_faults.Failed
 
--- an error of opening a file for a put: nothing was lost yet, so want of memory is told as such
-abbrev pub open_fault_of_kind : ErrorKind → DeskFault
-open_fault_of_kind kinds.OutOfMemory = desk_faults.OutOfMemory
-open_fault_of_kind _ = desk_faults.Failed
+-- an error of a put that comes before anything is written: want of memory is told as such
+abbrev pub put_fault_of_kind : ErrorKind → DeskFault
+put_fault_of_kind kinds.OutOfMemory = desk_faults.OutOfMemory
+put_fault_of_kind _ = desk_faults.Failed
 
 -- a front of the bytes was appended, where the writer tells what it holds
 abbrev pub AppendsPart : Option (List ℕ) → Option (List ℕ) → List ℕ → Type 0

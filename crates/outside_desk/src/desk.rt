@@ -13,7 +13,7 @@ use std::alloc::Global;
 ///
 /// ```text
 ///   read_at, list ──► answer, files as before ── Failed: faults rises
-///   put           ──► the file holds the bytes ─ Failed: put_faults rises
+///   put           ──► the file holds the bytes ─ Failed: put_faults rises, the old file or the new one
 /// ```
 ///
 /// Calls come in any order, also after a fault: no fault closes a desk. A call that does not answer `Failed` leaves
@@ -63,7 +63,7 @@ pub trait Desk {
 
     /// Makes the file at `path` hold `bytes`, and leaves all other files.
     ///
-    /// After `Failed` the file holds what it held or a front of the bytes. After `OutOfMemory` nothing
+    /// After `Failed` the file is as it was or holds all of the bytes. After `OutOfMemory` nothing
     /// changed. Never `Missing`.
     fn put(&mut self, alloc: Global, path: &str, bytes: &[u8]) -> Result<(), DeskFault>
         ensures ok { OnOk result (files self.new ≡ with_file (files self.old) path.now bytes.now) }

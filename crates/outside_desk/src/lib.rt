@@ -1,7 +1,7 @@
 //! What stands outside of the program: a desk of files, and a sink that lines are said to.
 //! Promises, for any desk or sink: what each call does to the content, and the cause of each fault, by counts.
 //! Has three of each: in memory with faults on demand, in memory without faults, and the machine's own.
-//! Stands on: std alone. Only `real_files`, `RealDesk` and `RealSink` reach the machine, and they tell no content.
+//! Stands on: std alone. Only `RealDesk`, `RealSink`, `file_id` and what stands in `real_*` below them reach the machine, and they tell no content.
 //! Must not know: what the files mean, or who reads them.
 #![tactic(auto)]
 
@@ -15,6 +15,8 @@ mod names;
 mod pieces;
 mod real_desk;
 mod real_files;
+mod real_paths;
+mod real_puts;
 mod real_sink;
 mod sink;
 mod steady_desk;
@@ -26,6 +28,7 @@ pub use fault::{DeskFault, ReadFault, SinkFault};
 pub use memory_desk::MemoryDesk;
 pub use memory_sink::MemorySink;
 pub use real_desk::RealDesk;
+pub use real_paths::{FileId, file_id};
 pub use real_sink::RealSink;
 pub use sink::Sink;
 pub use steady_desk::SteadyDesk;

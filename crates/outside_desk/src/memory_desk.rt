@@ -16,15 +16,16 @@ use std::alloc::{AllocError, Global};
 ///
 /// ```text
 ///   new ──► files empty, next call 0, no call is to fail, no faults
-///   add, fail_call ──► one file, one number more; no call counted
+///   add, fail_call, fail_late ──► one file, one number more; no call counted
 ///   read_at, list, put ──► next call + 1 ── number in the list: Failed, faults or put_faults + 1
 /// ```
 ///
-/// A put that fails leaves the first half of the bytes, rounded down.
+/// A put of a number of `fail_call` leaves the file as it was, and one of `fail_late` fails once the file holds the bytes.
 #[derive(Drop)]
 pub struct MemoryDesk {
     map: FileMap,
     calls: Calls,
+    late: Vec<u64>,
     faults: u64,
     put_faults: u64,
     ghost faults_fit: { faults < 2 ^ 64 },
@@ -41,6 +42,8 @@ impl MemoryDesk {
           next_call = 0;
           failing =
               [];
+          late =
+              [];
           faults = 0;
           put_faults = 0;
         } }
@@ -48,6 +51,7 @@ impl MemoryDesk {
         MemoryDesk {
             map: FileMap::new(alloc),
             calls: Calls::new(alloc),
+            late: Vec::new(alloc),
             faults: 0,
             put_faults: 0,
         }
@@ -73,6 +77,18 @@ impl MemoryDesk {
         ensures err { OnErr result (desk_state self.new ≡ desk_state self.old) }
     {
         self.calls.fail(call)
+    }
+
+    /// Lets the call of that number, where it is a put, fail once the file holds the bytes. Any other call does not fail by this.
+    /// Where memory is short, nothing changes.
+    pub fn fail_late(&mut self, call: u64) -> Result<(), AllocError>
+        ensures ok { OnOk result (desk_state self.new ≡ record (desk_state self.old) {
+          late =
+              (desk_state self.old).late ++ call ∷ [];
+        }) }
+        ensures err { OnErr result (desk_state self.new ≡ desk_state self.old) }
+    {
+        Ok(self.late.push(call)?)
     }
 
     /// The bytes of the file at the path, or `None` where there is none.
@@ -146,11 +162,16 @@ impl Desk for MemoryDesk {
     fn put(&mut self, _: Global, path: &str, bytes: &[u8]) -> Result<(), DeskFault>
         ensures calls { Puts (desk_state self.old) (desk_state self.new) path.now bytes.now result }
     {
+        let is_late = self.late.contains(&self.calls.next);
         if self.calls.fails() {
-            self.map.put(path, &bytes[..bytes.len() / 2])?;
             self.put_faults = self.put_faults.saturating_add(1);
             return Err(DeskFault::Failed);
         }
-        Ok(self.map.put(path, bytes)?)
+        self.map.put(path, bytes)?;
+        if is_late {
+            self.put_faults = self.put_faults.saturating_add(1);
+            return Err(DeskFault::Failed);
+        }
+        Ok(())
     }
 }

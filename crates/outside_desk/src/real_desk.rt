@@ -6,7 +6,8 @@ ghost use Rattle.std.specs.String.{string_bytes};
 ghost use Rattle.outside_desk.specs.Causes.{CountsEach};
 ghost use Rattle.outside_desk.specs.Listing.{AreInOrder};
 
-use crate::real_files::{fault_of, list_folder, open_regular, put_file, read_piece};
+use crate::real_files::{fault_of, list_folder, open_regular, read_piece};
+use crate::real_puts::put_file;
 use crate::{Desk, DeskFault};
 use std::alloc::Global;
 use std::io::{Error, ErrorKind, Read, Seek};
@@ -23,8 +24,12 @@ use std::rt::Files;
 /// `Missing` also where a file stands in a folder's place, and where a name is too long for the machine.
 /// Reading what is no regular file is `Failed`. A file is opened once for all its pieces, so one that is
 /// replaced in between is not read as a mix. Interrupted readings and writings are tried again. A folder
-/// without names is an empty list, and names that are no texts are passed over. A put answers `OutOfMemory`
-/// only where the file could not be opened, and `Failed` at each other error.
+/// without names is an empty list, and names that are no texts are passed over.
+///
+/// A put replaces a regular file as a whole: it writes a file `.spack_concretize-N.tmp` in the same folder, under the first number
+/// that is free, syncs it, renames it and syncs the folder. Links at the end of the path are followed first; permissions are kept,
+/// and the owner where the machine lets it. A pipe or a device is written in place. A put answers `OutOfMemory` only before
+/// anything was written, and `Failed` at each other error.
 ///
 /// `F` is the runtime's type of open files.
 #[derive(Drop)]
@@ -164,13 +169,13 @@ impl<'a, R: Files> Desk for RealDesk<'a, R, R::File> {
         }
     }
 
-    fn put(&mut self, _: Global, path: &str, bytes: &[u8]) -> Result<(), DeskFault>
+    fn put(&mut self, alloc: Global, path: &str, bytes: &[u8]) -> Result<(), DeskFault>
         ensures never_missing { IsErrOf result DeskFault.Missing → ⊥ }
         ensures put_faults { CountsEach (real_put_faults self.old) (real_put_faults self.new)
             (IsErrOf result DeskFault.Failed) }
         ensures faults { real_faults self.new ≡ real_faults self.old }
     {
-        match put_file(self.rt, path, bytes) {
+        match put_file(alloc, self.rt, path, bytes) {
             Err(DeskFault::Failed) => {
                 self.put_faults = self.put_faults.saturating_add(1);
                 Err(DeskFault::Failed)

@@ -1,12 +1,12 @@
 //! Files and folders of the machine: the trusted edge, which tells no content.
 
-ghost use Rattle.std.specs.Prelude.{◌≡◌, map, IfOk, IsErrOf, OnOk, OnErr};
+ghost use Rattle.std.specs.Prelude.{◌≡◌, map, IfOk, OnOk, OnErr};
 ghost use Rattle.std.specs.Io.{ReadsAtMost};
 ghost use Rattle.std.specs.Io.KnownBytes.{Appends};
 ghost use Rattle.std.specs.IoError.{error_kind};
 ghost use Rattle.std.specs.String.{string_bytes};
 ghost use Rattle.outside_desk.specs.Listing.{AreInOrder};
-ghost use Rattle.outside_desk.specs.RealFiles.{fault_of_kind, open_fault_of_kind, AppendsPart};
+ghost use Rattle.outside_desk.specs.RealFiles.{fault_of_kind, AppendsPart};
 
 use crate::DeskFault;
 use crate::names::Names;
@@ -84,37 +84,6 @@ pub fn write_whole<W: Write>(writer: &mut W, bytes: &[u8]) -> Result<(), Error>
         }
     }
     Err(Error::from(ErrorKind::Interrupted))
-}
-
-/// The fault for an error of opening a file for a put.
-fn open_fault_of(error: &Error) -> DeskFault
-    ensures { result ≡ open_fault_of_kind (error_kind error.now) }
-{
-    match error.kind() {
-        ErrorKind::OutOfMemory => DeskFault::OutOfMemory,
-        _ => DeskFault::Failed,
-    }
-}
-
-/// Fills a file that was opened. It may have lost its old bytes, so each error is `Failed`.
-fn fill<W: Write>(file: &mut W, bytes: &[u8]) -> Result<(), DeskFault>
-    ensures { OnErr result (IsErrOf result DeskFault.Failed) }
-{
-    match write_whole(file, bytes) {
-        Ok(()) => Ok(()),
-        Err(_) => Err(DeskFault::Failed),
-    }
-}
-
-/// Makes the file hold the bytes.
-pub fn put_file<R: Files>(rt: &R, path: &str, bytes: &[u8]) -> Result<(), DeskFault>
-    ensures { IsErrOf result DeskFault.Missing → ⊥ }
-{
-    let mut file = match fs::create(rt, path) {
-        Ok(file) => file,
-        Err(error) => return Err(open_fault_of(&error)),
-    };
-    fill(&mut file, bytes)
 }
 
 /// The names in a folder that are texts, sorted by their bytes.

@@ -1,5 +1,5 @@
 //! Whether what is kept has its variants in order, each with a value: without a value none is spelled.
-ghost use Rattle.std.specs.Prelude.{◌≡◌, map};
+ghost use Rattle.std.specs.Prelude.{◌≡◌, ◌∷◌, ◌&&◌, map};
 ghost use Rattle.std.specs.List.{list_all};
 ghost use Rattle.variant_values.specs.Texts.{byte_cmp};
 ghost use Rattle.keyed_lists.specs.Keyed.{rises};
@@ -20,16 +20,26 @@ fn are_valued(variants: &[(Word, ValueSet)]) -> bool
         .all(|variant| matches!(variant.1.values(), [_, ..]))
 }
 
+// The first key is below the next one, if there is one.
+fn leads(first: &(Word, ValueSet), rest: &[(Word, ValueSet)]) -> bool
+    ensures { rises byte_cmp (map (λ v. v.0) (first.now ∷ rest.now))
+        ≡ (result && rises byte_cmp (map (λ v. v.0) rest.now)) }
+{
+    match rest {
+        [next, ..] => first.0.as_str().cmp(next.0.as_str()).is_lt(),
+        [] => true,
+    }
+}
+
 fn are_in_order(variants: &[(Word, ValueSet)]) -> bool
     ensures { result ≡ rises byte_cmp (map (λ v. v.0) variants.now) }
 {
-    match variants {
-        [first, rest @ ..] => match rest {
-            [next, ..] => first.0.as_str().cmp(next.0.as_str()).is_lt() && are_in_order(rest),
-            [] => true,
-        },
-        [] => true,
+    for (i, variant) in variants.iter().enumerate() {
+        if !leads(variant, &variants[i + 1..]) {
+            return false;
+        }
     }
+    true
 }
 
 fn has_written_values(entry: &PackageEntry) -> bool

@@ -11,7 +11,8 @@ use Rattle.clause_store.specs.Clauses.{Clauses}
 use Rattle.clause_formulas.specs.Statements.{Statement, eval}
 use Rattle.clause_formulas.specs.declared.defined.Defined.{Defined}
 use Rattle.clause_formulas.specs.Drafts.{said_of, value_at}
-use Rattle.clause_formulas.specs.Built.{define_on, define_all_on}
+use Rattle.clause_formulas.specs.Gated.{Gated}
+use Rattle.clause_formulas.specs.Built.{define_in, define_all_in}
 use Rattle.graph_core.specs.Graphs.{Text, Content}
 use Rattle.conditions.specs.declared.recipe.Condition.{Condition}
 use Rattle.condition_rules.specs.Words.{among}
@@ -24,9 +25,9 @@ use Rattle.graph_terms.specs.Held.{defined_in, held_in}
 use Rattle.ranked_costs.specs.Given.{passed, held_from}
 
 -- each formula has a value
-pub as-many : (s : Clauses) (fs : List Statement) → length (define_all_on s fs).answer ≡ length fs
+pub as-many : (s : Gated) (fs : List Statement) → length (define_all_in s fs).answer ≡ length fs
 as-many s [] = refl
-as-many s (f ∷ fs) = ap (λ k. suc k) (as-many (define_on s f).list fs)
+as-many s (f ∷ fs) = ap (λ k. suc k) (as-many (define_in s f).state fs)
 
 map-twice : {X Y Z : Type 0} (f : Y → Z) (g : X → Y) (xs : List X) → map f (map g xs) ≡ map (λ x. f (g x)) xs
 map-twice f g [] = refl

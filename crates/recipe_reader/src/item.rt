@@ -32,6 +32,14 @@ fn innermost(heads: &List<Head>, depth: u64) -> Option<&Head>
     heads.as_slice().get((depth - 1) as usize)
 }
 
+/// No conditions, with room for so many: nearly all rows have one or none, and a list that grows by itself has room for
+/// four from the first on.
+fn with_room(alloc: Global, most: usize) -> Result<List<Spec>, AllocError>
+    ensures { IfOk result (λ specs. specs ≡ []) }
+{
+    Ok(List::from_vec(Vec::with_capacity(alloc, most)?))
+}
+
 /// The conditions of a head, and one more where there is one.
 fn when_of(alloc: Global, around: Option<&Head>, own: Option<Spec>) -> Result<Condition, AllocError>
     ensures { IfOk result (λ when. when.specs ≡ when_in (option_copied around.entry)
@@ -39,7 +47,7 @@ fn when_of(alloc: Global, around: Option<&Head>, own: Option<Spec>) -> Result<Co
 {
     let mut when = match around {
         None => Condition {
-            specs: List::new(alloc),
+            specs: with_room(alloc, own.is_some() as usize)?,
         },
         Some(head) => head.when.duplicate(alloc)?,
     };

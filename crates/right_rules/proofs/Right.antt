@@ -27,7 +27,7 @@ use Rattle.literal_table.specs.Tables.{Table, IsTable, block_of}
 use Rattle.literal_table.specs.Spells.{Spells}
 use Rattle.literal_table.specs.declared.block.Block.{Block}
 use Rattle.graph_words.specs.Facts.{Word, word_said, fact_said, said_in, has_origin}
-use Rattle.graph_words.specs.Lists.{written}
+use Rattle.graph_words.specs.Lists.{given, written}
 use Rattle.graph_words.specs.Words.{SpellsPaths, names_for, rule_said}
 use Rattle.graph_words.specs.Parts.{condition_rule, holds_rule}
 use Rattle.graph_words.proofs.Parts.{condition-said}
@@ -38,7 +38,7 @@ use Rattle.graph_formulas.specs.Edges.{extra_edges_rule, used_rule, of_provider}
 use Rattle.graph_formulas.specs.Variants.{variants_rule}
 use Rattle.graph_formulas.specs.Kept.{kept_rule, origins_of}
 use Rattle.graph_formulas.specs.Demands.{demand_rule, directive_rule}
-use Rattle.graph_formulas.specs.Laws.{SpellsProblem, term_formula, rule_says, names_of, virtuals_of, children_of, variants_of}
+use Rattle.graph_formulas.specs.Laws.{SpellsProblem, term_formula, rule_says, has_name, names_of, virtuals_of, children_of, variants_of}
 use Rattle.graph_formulas.proofs.Said.{demand-said, all-buildable, all-version, all-compiler, all-machine, all-extra_edge, all-kept, all-provider, all-used}
 use Rattle.graph_decoding.specs.Range.{IsTableBelow}
 use Rattle.graph_encoding.specs.Formulas.{PathFormulas, PathsTold, ConditionsTold, PathsBelow, MetBelow, AreRightFormulas, other_rules, part_of}
@@ -259,11 +259,17 @@ module _ (problem : Problem) (t : Table) (told : Text → Bool) (all : list_all 
               ≡ eval v (implies (said_in (λ b. fact_said b (has_origin builds)) o) (term_formula exact cond_exact t rule))) (sym at) refl
           go (Some b) at = alike (where_built name rule) (refl, h (found-passes is_told_name t.blocks name b told-names at))
 
-      demand-says : (d : Demand) → says_path (demand_rule problem (names_for t) d) ≡ keeps_demand problem g d
-      demand-says (demand.Root place) = alike (demand_rule problem (names_for t) (demand.Root place)) (roots-alike problem.roots told-roots place)
-          ∙ demand-said problem v exact cond_exact t g spelled (demand.Root place)
-      demand-says (demand.Directive name number) = directive-alike name (directive_rule problem (names_for t) number name)
+      -- of a name that the table does not have both say nothing
+      named-alike : (name : Text) (number : ℕ) (b : Bool) → says_path (if b then where_built name (directive_rule problem (names_for t) number name) else given true)
+          ≡ says_exact (if b then where_built name (directive_rule problem (names_for t) number name) else given true)
+      named-alike name number true = directive-alike name (directive_rule problem (names_for t) number name)
           (λ e. terms.directive-alike problem v t path exact told same cond_path cond_exact same-met name e number)
+      named-alike name number false = refl
+
+      demand-says : (d : Demand) → says_path (demand_rule problem (names_for t) (has_name t) d) ≡ keeps_demand problem g d
+      demand-says (demand.Root place) = alike (demand_rule problem (names_for t) (has_name t) (demand.Root place)) (roots-alike problem.roots told-roots place)
+          ∙ demand-said problem v exact cond_exact t g spelled (demand.Root place)
+      demand-says (demand.Directive name number) = named-alike name number (has_name t name)
           ∙ demand-said problem v exact cond_exact t g spelled (demand.Directive name number)
 
 -- ---- ranges
@@ -302,7 +308,7 @@ rules-right problem t n structure place table below has placed = record {
   rules_below = λ m path met le paths mets.
       all_of-below m (map (row_said problem t path (condition_by problem t place path met)) (rule_rows problem t))
       (listed-below m (row_said problem t path (condition_by problem t place path met)) (row-below problem t n words m path le paths place met mets) (rule_rows problem t));
-  demand_below = λ m path met d le paths mets. formula-below problem t n words m path le paths place met mets (demand_rule problem (names_for t) d);
+  demand_below = λ m path met d le paths mets. formula-below problem t n words m path le paths place met mets (demand_rule problem (names_for t) (has_name t) d);
 }
   where
     words : WordsBelow n t

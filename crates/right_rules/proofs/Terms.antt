@@ -26,7 +26,7 @@ use Rattle.literal_table.specs.Tables.{Table}
 use Rattle.graph_words.specs.Facts.{Word, word_said, has_edge, provides_as}
 use Rattle.graph_words.specs.Lists.{◌and◌, given, written, named, each, some, last_one, just_one}
 use Rattle.graph_words.specs.Words.{names_for, rule_said}
-use Rattle.graph_words.specs.Parts.{there_rule, holds_rule, asked_rule, suits_rule, provides_rule}
+use Rattle.graph_words.specs.Parts.{holds_rule, asked_rule, suits_rule, provides_rule}
 use Rattle.graph_formulas.specs.Terms.{Term, known, met, term_said, known_rule, met_rule, built_rule}
 use Rattle.graph_formulas.specs.Directives.{root_rule, edge_to, edge_rule, suits_asked, constraint_rule, conflict_rule, choice_rule, requirement_rule}
 use Rattle.graph_formulas.specs.Edges.{no_kinds, asks_rule, may_ask, names_virtual, may_use, kind_rule, extra_edge_rule, extra_edges_rule, use_rule, used_rule, of_provider}
@@ -86,8 +86,8 @@ module _ (problem : Problem) (v : ℕ → Bool) (t : Table) (path other : PathFo
   edge-alike name row e = (
     same_met name row.when e,
     known-alike (edge_to problem packages name row)
-        (named-all W (λ asked. asked_rule (world_of problem) packages asked (λ child. there_rule child and fact (has_edge name child row.kinds)))
-        (λ asked. asked-alike v t path other told same (world_of problem) packages asked (λ child. there_rule child and fact (has_edge name child row.kinds)) (λ child. (refl, refl))) row.part.name),
+        (named-all W (λ asked. asked_rule (world_of problem) packages asked (λ child. fact (has_edge name child row.kinds)))
+        (λ asked. asked-alike v t path other told same (world_of problem) packages asked (λ child. fact (has_edge name child row.kinds)) (λ child. refl)) row.part.name),
   )
 
   constraint-alike : (name : Text) (row : DependRow) → is_told_condition row.when ≡ true → AllWords TermAlike (constraint_rule problem packages name row)
@@ -191,9 +191,9 @@ module _ (problem : Problem) (v : ℕ → Bool) (t : Table) (path other : PathFo
       some-if TermAlike (asks_rule problem packages name child) (λ row. is_told_condition row.when)
           (λ row h. (
             same_met name row.when h,
-            known-alike (named row.part.name (λ asked. asked_rule (world_of problem) packages asked (λ n. there_rule n and given (bytes_eq n child))))
-                (named-all W (λ asked. asked_rule (world_of problem) packages asked (λ n. there_rule n and given (bytes_eq n child)))
-                (λ asked. asked-alike v t path other told same (world_of problem) packages asked (λ n. there_rule n and given (bytes_eq n child)) (λ n. (refl, given-all W (bytes_eq n child)))) row.part.name),
+            known-alike (named row.part.name (λ asked. asked_rule (world_of problem) packages asked (λ n. given (bytes_eq n child))))
+                (named-all W (λ asked. asked_rule (world_of problem) packages asked (λ n. given (bytes_eq n child)))
+                (λ asked. asked-alike v t path other told same (world_of problem) packages asked (λ n. given (bytes_eq n child)) (λ n. given-all W (bytes_eq n child))) row.part.name),
           ))
           (filter (λ row. has row.kinds && may_ask problem packages child row) (depends_at problem name))
           (all-filtered (λ row. is_told_condition row.when) (λ row. has row.kinds && may_ask problem packages child row) (depends_at problem name) rows.depends),

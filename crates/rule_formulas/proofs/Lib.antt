@@ -1,3 +1,4 @@
+mod Few
 pub mod Lists
 pub mod Plain
 pub mod Where

@@ -1,10 +1,13 @@
 -- Lists of what a table offers, and rules that speak of no condition.
-use Rattle.std.proofs.Common.{◌≡◌, refl, ap, Bool, true, false, List, [], ◌∷◌, map, filter}
+use Prim.Native.Nat.{zero, suc}
+use Rattle.std.proofs.Common.{◌≡◌, refl, sym, ap, ◌∙◌, ℕ, ◌/◌, Bool, true, false, List, [], ◌∷◌, ◌++◌, map, filter, take, drop, length, nat_lt}
+use Rattle.std.proofs.lemmas.List.{map-append}
 use Rattle.std.specs.List.{list_any}
 use Rattle.std.specs.Str.{bytes_eq}
 use Rattle.std.specs.Prelude.{if◌then◌else◌}
 use Rattle.clause_store.specs.declared.Lit.{Lit}
-use Rattle.clause_formulas.specs.Statements.{Statement, or}
+use Rattle.clause_formulas.specs.Statements.{Statement, or, all_of}
+use Rattle.clause_formulas.proofs.RuleLaws.{all_rules-said}
 use Rattle.clause_formulas.specs.Rules.{Rule, in_words}
 use Rattle.condition_rules.specs.Worlds.{World}
 use Rattle.conditions.specs.declared.recipe.Condition.{Condition}
@@ -14,13 +17,14 @@ use Rattle.literal_table.specs.Choices.{Choices, offered}
 use Rattle.literal_table.specs.Tables.{Table, packages_of}
 use Rattle.problem.specs.Problems.{Problem, world_of}
 use Rattle.virtuals.specs.Virtuals.{is_virtual}
-use Rattle.graph_words.specs.Facts.{Word}
-use Rattle.graph_words.specs.Lists.{some, just_one}
+use Rattle.graph_words.specs.Facts.{Word, word_said}
+use Rattle.graph_words.specs.Lists.{some, first_rules, apart_rules, half_of, halves_rule, few_rules, just_one}
 use Rattle.graph_words.specs.Parts.{holds_rule}
 use Rattle.graph_words.specs.Words.{names_for, rule_said}
-use Rattle.graph_formulas.specs.Terms.{term_said, known_rule}
+use Rattle.graph_formulas.specs.Terms.{Term, term_said, known_rule}
 use Rattle.graph_formulas.specs.Laws.{term_formula}
 use Rattle.graph_formulas.specs.Directives.{choice_rule}
+use Rattle.word_formulas.proofs.Steps.{both-same}
 use Rattle.rule_formulas.specs.Terms.{is_asked, choice_said}
 
 any-offered : (child : Text) (cs : Choices Text) → list_any (λ (c : Text × Lit). bytes_eq child c.0) cs ≡ list_any (bytes_eq child) (offered cs)
@@ -59,9 +63,49 @@ module _ (path : Text → Text → Statement) (condition : Text → Condition �
     some-known [] = refl
     some-known (x ∷ xs) = ap (λ f. or (rule_said path table (rule x)) f) (some-known xs)
 
-    pub one-known : (xs : List T) → rule_said path table (just_one rule xs) ≡ term_formula path condition table (just_one (λ x. known_rule (rule x)) xs)
-    one-known [] = refl
-    one-known (x ∷ xs) = rw (some-known xs, one-known xs) refl
+    abbrev words : List (Rule Word) → List Statement
+    words rs = map (rule_said path table) rs
+
+    abbrev terms : List (Rule Term) → List Statement
+    terms rs = map (term_formula path condition table) rs
+
+    abbrev known : T → Rule Term
+    known x = known_rule (rule x)
+
+    both-append : (rs qs : List (Rule Word)) (ts us : List (Rule Term)) → words rs ≡ terms ts → words qs ≡ terms us → words (rs ++ qs) ≡ terms (ts ++ us)
+    both-append rs qs ts us first second = map-append (rule_said path table) rs qs
+        ∙ ap (λ fs. fs ++ words qs) first ∙ ap (λ fs. terms ts ++ fs) second ∙ sym (map-append (term_formula path condition table) ts us)
+
+    first-known : (x : T) (xs : List T) → words (first_rules rule x xs) ≡ terms (first_rules known x xs)
+    first-known x [] = refl
+    first-known x (y ∷ ys) = rw (some-known ys) refl
+
+    apart-known : (xs : List T) → words (apart_rules rule xs) ≡ terms (apart_rules known xs)
+    apart-known [] = refl
+    apart-known (x ∷ xs) = both-append (first_rules rule x xs) (apart_rules rule xs) (first_rules known x xs) (apart_rules known xs) (first-known x xs) (apart-known xs)
+
+    halves-known : (xs ys : List T) → rule_said path table (halves_rule rule xs ys) ≡ term_formula path condition table (halves_rule known xs ys)
+    halves-known xs ys = rw (some-known xs, some-known ys) refl
+
+    few-known : (times : ℕ) (xs : List T) → words (few_rules times rule xs) ≡ terms (few_rules times known xs)
+    unfolding few_rules
+    few-known zero xs = apart-known xs
+    few-known (suc times) xs =
+        let front = take (half_of xs) xs in
+        let back = drop (half_of xs) xs in
+        elim (nat_lt 8 (length xs)) as (λ b. words (if b then halves_rule rule front back ∷ (few_rules times rule front ++ few_rules times rule back) else apart_rules rule xs)
+        ≡ terms (if b then halves_rule known front back ∷ (few_rules times known front ++ few_rules times known back) else apart_rules known xs)) [
+          | true ↦ ap (λ f. f ∷ words (few_rules times rule front ++ few_rules times rule back)) (halves-known front back)
+              ∙ ap (λ fs. term_formula path condition table (halves_rule known front back) ∷ fs)
+              (both-append (few_rules times rule front) (few_rules times rule back) (few_rules times known front) (few_rules times known back) (few-known times front) (few-known times back))
+          | false ↦ apart-known xs
+        ]
+
+    pub one-known : (xs : List T) → rule_said path table (just_one rule xs) ≡ term_formula path condition table (just_one known xs)
+    one-known xs =
+        let times = length xs / 8 in
+        both-same _ _ _ _ (some-known xs) (all_rules-said (word_said path table) (few_rules times rule xs)
+        ∙ ap all_of (few-known times xs) ∙ sym (all_rules-said (term_said path condition table) (few_rules times known xs)))
 
   pub choice-known : (problem : Problem) (name : Text) (row : RequireRow)
       → choice_said path table (world_of problem) name row ≡ term_formula path condition table (choice_rule problem (names_for table) name row)

@@ -1,7 +1,7 @@
 -- Formulas of rules over the conditions of a problem.
-use Rattle.std.specs.Prelude.{Bool, true, List, [], ◌∷◌, Option, if◌then◌else◌}
+use Rattle.std.specs.Prelude.{ℕ, Bool, true, List, [], ◌∷◌, Option, if◌then◌else◌}
 use Rattle.std.specs.Str.{bytes_eq}
-use Rattle.clause_formulas.specs.Statements.{Statement, any_of, both, opposite}
+use Rattle.clause_formulas.specs.Statements.{Statement, any_of, opposite}
 use Rattle.clause_formulas.specs.Rules.{Rule}
 use Rattle.spec_grammar.specs.declared.part.Spec.{Spec}
 use Rattle.graph_core.specs.Graphs.{Text}
@@ -13,6 +13,7 @@ use Rattle.conditions.specs.declared.recipe.Condition.{Condition}
 use Rattle.conditions.specs.declared.recipe.RequireRow.{RequireRow}
 use Rattle.literal_table.specs.Tables.{Table}
 use Rattle.problem.specs.Problems.{Problem}
+use Rattle.problem.specs.declared.demand.Demand.TheVariants as demand
 use Rattle.graph_words.specs.Facts.{Word}
 use Rattle.graph_words.specs.Lists.{written, some, just_one}
 use Rattle.graph_words.specs.Parts.{holds_rule}
@@ -20,7 +21,8 @@ use Rattle.graph_words.specs.Words.{names_for, rule_said}
 use Rattle.graph_formulas.specs.Terms.{Term}
 use Rattle.graph_formulas.specs.Directives.{root_rule}
 use Rattle.graph_formulas.specs.Edges.{no_kinds}
-use Rattle.graph_formulas.specs.Laws.{term_formula}
+use Rattle.graph_formulas.specs.Demands.{demand_rule}
+use Rattle.graph_formulas.specs.Laws.{has_name, term_formula}
 use Rattle.word_formulas.specs.Builders.{no_paths}
 use Rattle.rule_formulas.specs.declared.extra_edges.Kind.{Kind}
 use Rattle.rule_formulas.specs.declared.extra_edges.Kind.TheVariants as kind
@@ -54,14 +56,15 @@ module _ (path : Text → Text → Statement) (table : Table) where
       if row.one_of then rule_said path table (just_one (holds_rule world (names_for table) name) row.specs)
       else rule_said path table (some (holds_rule world (names_for table) name) row.specs)
 
-  -- a thing keeps the rule, and no other
-  abbrev pub alone_said : {T : Type 0} → (T → Rule Word) → T → List T → Statement
-  alone_said rule x rest = both (rule_said path table (rule x)) (opposite (rule_said path table (some rule rest)))
+  -- a thing does not keep the rule, or none of the others does
+  abbrev pub apart_said : {T : Type 0} → (T → Rule Word) → T → List T → Statement
+  apart_said rule x rest = any_of (opposite (rule_said path table (rule x)) ∷ opposite (rule_said path table (some rule rest)) ∷ [])
 
   -- a root, where there is one
   abbrev pub root_said : Problem → Option Spec → Statement
   root_said problem o = rule_said path table (written o (root_rule problem (names_for table)))
 
--- one of two cases
-abbrev pub either_said : Statement → Statement → Statement
-either_said f g = any_of (f ∷ g ∷ [])
+-- the directives of a package with a number
+abbrev pub directives_said : (Text → Text → Statement) → (Text → Condition → Statement) → Problem → Table → Text → ℕ → Statement
+directives_said path condition problem table name number =
+    term_formula path condition table (demand_rule problem (names_for table) (has_name table) (demand.Directive name number))

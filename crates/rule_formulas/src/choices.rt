@@ -1,10 +1,11 @@
 //! Formulas of the specs of a requirement.
-ghost use Rattle.std.specs.Prelude.{◌≡◌, IfOk};
-ghost use Rattle.graph_words.specs.Lists.{some, just_one};
+ghost use Rattle.std.specs.Prelude.{◌≡◌, ◌++◌, ◌∷◌, ◌/◌, [], length, map, IfOk, OnOk};
+ghost use Rattle.clause_formulas.specs.Statements.{any_of, all_of};
+ghost use Rattle.graph_words.specs.Lists.{some, first_rules, apart_rules, halves_rule, few_rules, just_one};
 ghost use Rattle.graph_words.specs.Parts.{holds_rule};
 ghost use Rattle.graph_words.specs.Words.{names_for, rule_said};
 ghost use Rattle.path_formulas.specs.Paths.{path_by};
-ghost use Rattle.rule_formulas.specs.Terms.{either_said, alone_said};
+ghost use Rattle.rule_formulas.specs.Terms.{apart_said};
 
 use clause_formulas::Formula;
 use condition_rules::World;
@@ -13,7 +14,10 @@ use literal_table::LiteralTable;
 use path_formulas::holds_formula;
 use spec_grammar::Spec;
 use std::alloc::{AllocError, Global};
-use word_formulas::{given, some};
+use word_formulas::some;
+
+/// How many specs are kept apart one by one.
+const SHORT: usize = 8;
 
 /// Some spec holds at the node of the name.
 pub(crate) fn some_formula(
@@ -34,9 +38,8 @@ pub(crate) fn some_formula(
     )
 }
 
-/// One of two cases.
 fn either(alloc: Global, first: Formula, second: Formula) -> Result<Formula, AllocError>
-    ensures { IfOk result (λ formula. formula ≡ either_said first second) }
+    ensures { IfOk result (λ formula. formula ≡ any_of (first ∷ second ∷ [])) }
 {
     let mut parts = Vec::new(alloc);
     parts.push(first)?;
@@ -44,8 +47,26 @@ fn either(alloc: Global, first: Formula, second: Formula) -> Result<Formula, All
     Ok(Formula::any(parts))
 }
 
-/// The first spec holds, and no other.
-fn first_alone(
+/// None of these specs holds, or none of those.
+fn halves_formula(
+    alloc: Global,
+    table: &LiteralTable,
+    world: &World,
+    paths: &PathLits,
+    name: &str,
+    front: &[Spec],
+    back: &[Spec],
+) -> Result<Formula, AllocError>
+    ensures { IfOk result (λ formula. formula ≡ rule_said (path_by table.now paths.now) table.now
+        (halves_rule (holds_rule world.now (names_for table.now) name.now) front.now back.now)) }
+{
+    let first = some_formula(alloc, table, world, paths, name, front)?;
+    let second = some_formula(alloc, table, world, paths, name, back)?;
+    either(alloc, first.negated(), second.negated())
+}
+
+/// The spec does not hold, or none of the others does.
+fn first_formula(
     alloc: Global,
     table: &LiteralTable,
     world: &World,
@@ -54,12 +75,126 @@ fn first_alone(
     spec: &Spec,
     rest: &[Spec],
 ) -> Result<Formula, AllocError>
-    ensures { IfOk result (λ formula. formula ≡ alone_said (path_by table.now paths.now) table.now
+    ensures { IfOk result (λ formula. formula ≡ apart_said (path_by table.now paths.now) table.now
         (holds_rule world.now (names_for table.now) name.now) spec.now rest.now) }
 {
     let first = holds_formula(alloc, table, world, paths, name, spec)?;
     let others = some_formula(alloc, table, world, paths, name, rest)?;
-    Formula::both(alloc, first, others.negated())
+    either(alloc, first.negated(), others.negated())
+}
+
+#[tactic(auto, using(crate::proofs::Few::first_none, crate::proofs::Few::first_some))]
+fn push_first(
+    alloc: Global,
+    parts: &mut Vec<Formula>,
+    table: &LiteralTable,
+    world: &World,
+    paths: &PathLits,
+    name: &str,
+    spec: &Spec,
+    rest: &[Spec],
+) -> Result<(), AllocError>
+    ensures { OnOk result (parts.new.items ≡ parts.old.items
+        ++ map (rule_said (path_by table.now paths.now) table.now)
+        (first_rules (holds_rule world.now (names_for table.now) name.now) spec.now rest.now)) }
+{
+    if rest.len() != 0 {
+        parts.push(first_formula(alloc, table, world, paths, name, spec, rest)?)?;
+    }
+    Ok(())
+}
+
+/// Of each spec and those behind it.
+#[tactic(auto, using(crate::proofs::Few::apart_step))]
+fn push_apart(
+    alloc: Global,
+    parts: &mut Vec<Formula>,
+    table: &LiteralTable,
+    world: &World,
+    paths: &PathLits,
+    name: &str,
+    specs: &[Spec],
+) -> Result<(), AllocError>
+    ensures { OnOk result (parts.new.items ≡ parts.old.items
+        ++ map (rule_said (path_by table.now paths.now) table.now)
+        (apart_rules (holds_rule world.now (names_for table.now) name.now) specs.now)) }
+{
+    for (i, spec) in specs.iter().enumerate() {
+        push_first(
+            alloc,
+            parts,
+            table,
+            world,
+            paths,
+            name,
+            spec,
+            &specs[i + 1..],
+        )?;
+    }
+    Ok(())
+}
+
+/// No two specs hold. It calls itself for each half, so as deep as the logarithm of the list's length.
+fn push_few(
+    alloc: Global,
+    parts: &mut Vec<Formula>,
+    table: &LiteralTable,
+    world: &World,
+    paths: &PathLits,
+    name: &str,
+    specs: &[Spec],
+    times: usize,
+) -> Result<(), AllocError>
+    ensures { OnOk result (parts.new.items ≡ parts.old.items
+        ++ map (rule_said (path_by table.now paths.now) table.now)
+        (few_rules times (holds_rule world.now (names_for table.now) name.now) specs.now)) }
+{
+    if times == 0 {
+        return push_apart(alloc, parts, table, world, paths, name, specs);
+    }
+    if specs.len() <= SHORT {
+        return push_apart(alloc, parts, table, world, paths, name, specs);
+    }
+    let half = specs.len() / 2;
+    parts.push(halves_formula(
+        alloc,
+        table,
+        world,
+        paths,
+        name,
+        &specs[..half],
+        &specs[half..],
+    )?)?;
+    push_few(alloc, parts, table, world, paths, name, &specs[..half], times - 1)?;
+    push_few(alloc, parts, table, world, paths, name, &specs[half..], times - 1)?;
+    Ok(())
+}
+
+/// No two specs hold at the node of the name.
+fn few_formula(
+    alloc: Global,
+    table: &LiteralTable,
+    world: &World,
+    paths: &PathLits,
+    name: &str,
+    specs: &[Spec],
+) -> Result<Formula, AllocError>
+    ensures { IfOk result (λ formula. formula ≡ all_of
+        (map (rule_said (path_by table.now paths.now) table.now)
+        (few_rules (length specs.now / 8) (holds_rule world.now (names_for table.now) name.now) specs.now))) }
+{
+    let mut parts = Vec::new(alloc);
+    push_few(
+        alloc,
+        &mut parts,
+        table,
+        world,
+        paths,
+        name,
+        specs,
+        specs.len() / SHORT,
+    )?;
+    Formula::all(alloc, parts)
 }
 
 /// Exactly one spec holds at the node of the name.
@@ -74,12 +209,7 @@ pub(crate) fn one_formula(
     ensures { IfOk result (λ formula. formula ≡ rule_said (path_by table.now paths.now) table.now
         (just_one (holds_rule world.now (names_for table.now) name.now) specs.now)) }
 {
-    let Some((spec, rest)) = specs.split_first() else {
-        return Ok(given(alloc, false));
-    };
-    let alone = first_alone(alloc, table, world, paths, name, spec, rest)?;
-    let first = holds_formula(alloc, table, world, paths, name, spec)?;
-    let later = one_formula(alloc, table, world, paths, name, rest)?;
-    let without = Formula::both(alloc, first.negated(), later)?;
-    either(alloc, alone, without)
+    let some = some_formula(alloc, table, world, paths, name, specs)?;
+    let few = few_formula(alloc, table, world, paths, name, specs)?;
+    Formula::both(alloc, some, few)
 }

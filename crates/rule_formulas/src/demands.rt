@@ -3,10 +3,11 @@ ghost use Rattle.std.specs.Prelude.{◌≡◌, IfOk, slice_get};
 ghost use Rattle.std.specs.Option.{option_copied};
 ghost use Rattle.graph_words.specs.Words.{names_for, rule_said};
 ghost use Rattle.graph_formulas.specs.Directives.{root_rule};
-ghost use Rattle.graph_formulas.specs.Demands.{demand_rule};
-ghost use Rattle.graph_formulas.specs.Laws.{term_formula};
+ghost use Rattle.graph_formulas.specs.Demands.{directive_rule, demand_rule};
+ghost use Rattle.graph_formulas.specs.Laws.{has_name, term_formula};
+ghost use Rattle.graph_formulas.specs.Terms.{where_built};
 ghost use Rattle.path_formulas.specs.Paths.{path_by};
-ghost use Rattle.rule_formulas.specs.Terms.{root_said};
+ghost use Rattle.rule_formulas.specs.Terms.{root_said, directives_said};
 
 use crate::directives::directive_formula;
 use clause_formulas::Formula;
@@ -60,6 +61,55 @@ fn root_formula(
     }
 }
 
+/// A node may have the name.
+fn has_name(table: &LiteralTable, name: &str) -> bool
+    ensures { result ≡ has_name table.now name.now }
+{
+    match table.block(name) {
+        Some(_) => true,
+        None => false,
+    }
+}
+
+/// Where the node of the name is to be built, it keeps the directives with this number.
+fn built_formula<C: MetConditions>(
+    alloc: Global,
+    problem: &Problem,
+    table: &LiteralTable,
+    paths: &PathLits,
+    conditions: &C,
+    name: &str,
+    number: u64,
+) -> Result<Formula, AllocError>
+    ensures { IfOk result (λ formula. formula
+        ≡ term_formula (path_by table.now paths.now) (C.condition_of conditions.now) table.now
+        (where_built name.now (directive_rule problem.now (names_for table.now) number name.now))) }
+{
+    let rule = directive_formula(alloc, problem, table, paths, conditions, name, number)?;
+    where_built(alloc, table, name, rule)
+}
+
+/// The directives with this number are kept. Of a name that no node can have nothing is said, and nothing is built.
+fn directives_formula<C: MetConditions>(
+    alloc: Global,
+    problem: &Problem,
+    table: &LiteralTable,
+    paths: &PathLits,
+    conditions: &C,
+    name: &str,
+    number: u64,
+) -> Result<Formula, AllocError>
+    ensures { IfOk result (λ formula. formula
+        ≡ directives_said (path_by table.now paths.now) (C.condition_of conditions.now) problem.now
+        table.now name.now number) }
+{
+    if has_name(table, name) {
+        built_formula(alloc, problem, table, paths, conditions, name, number)
+    } else {
+        Ok(given(alloc, true))
+    }
+}
+
 /// The demand is kept.
 pub fn demand_formula<C: MetConditions>(
     alloc: Global,
@@ -71,14 +121,13 @@ pub fn demand_formula<C: MetConditions>(
 ) -> Result<Formula, AllocError>
     ensures { IfOk result (λ formula. formula
         ≡ term_formula (path_by table.now paths.now) (C.condition_of conditions.now) table.now
-        (demand_rule problem.now (names_for table.now) demand.now)) }
+        (demand_rule problem.now (names_for table.now) (has_name table.now) demand.now)) }
 {
     match demand {
         Demand::Root(place) => root_formula(alloc, problem, table, paths, *place),
         Demand::Directive { package, number } => {
             let name = package.as_str();
-            let rule = directive_formula(alloc, problem, table, paths, conditions, name, *number)?;
-            where_built(alloc, table, name, rule)
+            directives_formula(alloc, problem, table, paths, conditions, name, *number)
         }
     }
 }

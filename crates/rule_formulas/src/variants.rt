@@ -96,11 +96,19 @@ fn push_last<C: MetConditions>(
     ensures { OnOk result (parts.new.items ≡ parts.old.items
         ++ last_parts table.now (C.condition_of conditions.now) name.now variant.now rows.now) }
 {
-    let Some((row, rest)) = rows.split_first() else {
-        return Ok(());
-    };
-    push_governed(alloc, parts, table, conditions, name, variant, row, rest)?;
-    push_last(alloc, parts, table, conditions, name, variant, rest)
+    for (i, row) in rows.iter().enumerate() {
+        push_governed(
+            alloc,
+            parts,
+            table,
+            conditions,
+            name,
+            variant,
+            row,
+            &rows[i + 1..],
+        )?;
+    }
+    Ok(())
 }
 
 /// Some definition of the variant governs, and allows the values.

@@ -1,5 +1,5 @@
 -- What puts leave of the other files.
-use Rattle.std.proofs.Common.{◌≡◌, ◌≢◌, inl, inr, refl, ap, ◌∙◌, ℕ, Bool, true, false, List, cond, Option, Some, None, IfSome, take, ◌⊎◌}
+use Rattle.std.proofs.Common.{◌≡◌, ◌≢◌, inl, inr, refl, ap, ◌∙◌, ℕ, Bool, true, false, List, cond, Option, Some, None, IfSome, ◌⊎◌}
 use Rattle.std.specs.Cmp.Lexicographic.{nat_list_cmp_total}
 use Rattle.std.specs.Str.{bytes_eq}
 use Rattle.std.specs.FinMap.{get, insert, get-insert}
@@ -17,7 +17,7 @@ use Rattle.run_task.specs.Words.{is_dash}
 use Rattle.run_task.specs.Problems.{Problem}
 use Rattle.run_task.specs.declared.task.Task.{Task}
 use Rattle.run_task.specs.declared.task.Task.TheVariants as tasks
-use Rattle.run_output.specs.Answers.{HoldsFronts, KeepsFronts, MayLock, with_cert_by}
+use Rattle.run_output.specs.Answers.{HoldsWhole, KeepsWhole, MayLock, with_cert_by}
 use Rattle.run_output.specs.Changes.{ChangesOnly, IsOther}
 
 other_file : (m : Files) (path bytes other : List ℕ) → other ≢ path → get (insert m path bytes) other ≡ get m other
@@ -44,7 +44,7 @@ module _ (lock cert : List ℕ) where
   keeps_part : (before after : Option Files) (at bytes : List ℕ) → ((path : List ℕ) → IsOther lock cert path → path ≢ at)
       → MayHold before after at bytes → Keeps before after
   keeps_part before after at bytes ne (inl e) = keeps_none before after e
-  keeps_part before after at bytes ne (inr (n, e)) = keeps_put before after at (take n bytes) ne e
+  keeps_part before after at bytes ne (inr e) = keeps_put before after at bytes ne e
 
   keeps_then : (before between after : Option Files) → Keeps before between → Keeps between after → Keeps before after
   keeps_then None between after first second = tt
@@ -64,20 +64,20 @@ module _ (lock cert : List ℕ) where
   keeps_lock problem (answers.Nothing log) before between after first held = absurd held
   keeps_lock problem (answers.Undecided log) before between after first held = absurd held
 
-  keeps_fronts : (problem : Problem) (answer : Answer) (before after : Option Files) → HoldsFronts lock cert problem answer before after
+  keeps_whole : (problem : Problem) (answer : Answer) (before after : Option Files) → HoldsWhole lock cert problem answer before after
       → Keeps before after
-  keeps_fronts problem answer before after (inl (dash, held)) =
+  keeps_whole problem answer before after (inl (dash, held)) =
       keeps_part before after cert (log_text (log_of answer)) (λ path other. other.no_cert dash) held
-  keeps_fronts problem answer before after (inr held) =
+  keeps_whole problem answer before after (inr held) =
       keeps_lock problem answer before (with_cert_by (is_dash cert) cert (log_of answer) before) after
       (keeps_cert (log_of answer) before (is_dash cert) (λ dash path other. other.no_cert dash)) held
 
   -- what any end of writing keeps
-  pub keeps : (task : Task) (before after : Option Files) → (after ≡ before) ⊎ KeepsFronts lock cert task before after
+  pub keeps : (task : Task) (before after : Option Files) → (after ≡ before) ⊎ KeepsWhole lock cert task before after
       → IfSome before (λ files. ChangesOnly lock cert files after)
   keeps task None after kept = tt
   keeps task (Some m) after (inl same) = keeps_none (Some m) after same
-  keeps (tasks.Solve input) (Some m) after (inr kept) = keeps_fronts input.problem kept.answer (Some m) after kept.held
+  keeps (tasks.Solve input) (Some m) after (inr kept) = keeps_whole input.problem kept.answer (Some m) after kept.held
   keeps (tasks.Report numbers) (Some m) after (inr kept) = absurd kept
   keeps tasks.Accepted (Some m) after (inr kept) = absurd kept
   keeps (tasks.Explain input) (Some m) after (inr kept) = absurd kept

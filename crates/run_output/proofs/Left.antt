@@ -7,7 +7,7 @@ use Rattle.run_task.specs.Input.{Input}
 use Rattle.run_task.specs.WriteStop.{WriteStop}
 use Rattle.run_task.specs.WriteStop.TheVariants.{Put, Output, NoMemory}
 use Rattle.run_task.specs.declared.task.Task.TheVariants as tasks
-use Rattle.run_output.specs.Answers.{HoldsFronts, KeepsFronts, Leaves, Writes}
+use Rattle.run_output.specs.Answers.{HoldsWhole, KeepsWhole, Leaves, Writes}
 use Rattle.run_output.specs.Texts.{IsFor}
 use Rattle.run_output.specs.declared.answer.Outcome.{Outcome}
 use Rattle.run_output.specs.declared.answer.Outcome.TheVariants.{Solved, Unsolved, Undecided}
@@ -47,7 +47,7 @@ module _ (lock cert : List ℕ) (input : Input) (before after : Option Files) (s
 
   -- what it keeps at any end
   pub kept : (answer : Answer) → IsFor input.problem answer
-      → (after ≡ before) ⊎ HoldsFronts lock cert input.problem answer before after
-      → (after ≡ before) ⊎ KeepsFronts lock cert (tasks.Solve input) before after
+      → (after ≡ before) ⊎ HoldsWhole lock cert input.problem answer before after
+      → (after ≡ before) ⊎ KeepsWhole lock cert (tasks.Solve input) before after
   kept answer found (inl same) = inl same
   kept answer found (inr held) = inr (record { answer = answer; found = found; held = held })

@@ -1,5 +1,5 @@
 pub mod Changes
-pub mod Fronts
+pub mod Puts
 pub mod Kept
 pub mod Left
 pub mod Spent

@@ -39,11 +39,11 @@ files_with lock cert problem (answers.Best graph log) files = with_both lock cer
 files_with lock cert problem (answers.Nothing log) files = with_cert cert log files
 files_with lock cert problem (answers.Undecided log) files = with_cert cert log files
 
--- the certificate holds a front of its text, or is as it was
+-- the certificate is as it was, or holds its text
 abbrev pub MayCert : List ℕ → List Line → Option Files → Option Files → Type 0
 MayCert cert log before after = (is_dash cert ≡ false) × MayHold before after cert (log_text log)
 
--- the lock file holds a front of its text, or is as it was
+-- the lock file is as it was, or holds its text
 abbrev pub MayLock : List ℕ → Problem → Answer → Option Files → Option Files → Type 0
 MayLock lock problem (answers.Best graph log) before after = MayHold before after lock (lock_of problem graph)
 MayLock lock problem (answers.Nothing log) before after = ⊥
@@ -55,9 +55,9 @@ IsHalfPut lock cert problem answer path before after =
     ((path ≡ cert) × MayCert cert (log_of answer) before after)
     ⊎ ((path ≡ lock) × MayLock lock problem answer (with_cert cert (log_of answer) before) after)
 
--- at any end: the certificate holds a front of its text; or it is whole, and the lock file holds a front of its
-abbrev pub HoldsFronts : List ℕ → List ℕ → Problem → Answer → Option Files → Option Files → Type 0
-HoldsFronts lock cert problem answer before after =
+-- at any end: the certificate is as it was, or whole; or it is whole, and the lock file is as it was, or whole
+abbrev pub HoldsWhole : List ℕ → List ℕ → Problem → Answer → Option Files → Option Files → Type 0
+HoldsWhole lock cert problem answer before after =
     MayCert cert (log_of answer) before after ⊎ MayLock lock problem answer (with_cert cert (log_of answer) before) after
 
 -- ---- what calls leave
@@ -144,11 +144,11 @@ pub record IsUnsaid (lock cert : List ℕ) (problem : Problem) (before after : O
   pub files : after ≡ files_with lock cert problem answer before
   pub out : SaysPart out_before out_after (text_of problem answer)
 
--- at any end, each file holds a front of its text at the worst
-pub record HasFronts (lock cert : List ℕ) (problem : Problem) (before after : Option Files) : Type 0 where
+-- at any end, each file is as it was, or holds its text
+pub record HasWhole (lock cert : List ℕ) (problem : Problem) (before after : Option Files) : Type 0 where
   pub answer : Answer
   pub found : IsFor problem answer
-  pub held : HoldsFronts lock cert problem answer before after
+  pub held : HoldsWhole lock cert problem answer before after
 
 -- ---- what writing leaves, by the task: all but `concretize` put no file
 
@@ -191,6 +191,6 @@ Writes lock cert task before after out_before out_after (Err writes.Output) = Is
 Writes lock cert task before after out_before out_after (Err writes.NoMemory) = out_after ≡ out_before
 
 -- files were put
-abbrev pub KeepsFronts : List ℕ → List ℕ → Task → Option Files → Option Files → Type 0
-KeepsFronts lock cert (tasks.Solve input) before after = HasFronts lock cert input.problem before after
-KeepsFronts lock cert task before after = ⊥
+abbrev pub KeepsWhole : List ℕ → List ℕ → Task → Option Files → Option Files → Type 0
+KeepsWhole lock cert (tasks.Solve input) before after = HasWhole lock cert input.problem before after
+KeepsWhole lock cert task before after = ⊥

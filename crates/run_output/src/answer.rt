@@ -6,7 +6,7 @@ ghost use Rattle.outside_desk.specs.Files.{Files};
 ghost use Rattle.run_task.specs.Stops.{EndsInPutFault, EndsInOutputFault};
 ghost use Rattle.run_task.specs.Tasks.{IsReady};
 ghost use Rattle.run_task.specs.declared.task.Task.TheVariants as tasks;
-ghost use Rattle.run_output.specs.Answers.{KeepsFronts, Writes};
+ghost use Rattle.run_output.specs.Answers.{KeepsWhole, Writes};
 ghost use Rattle.run_output.specs.Kept.{KeepsAny};
 ghost use Rattle.run_output.specs.Told.{Tells};
 
@@ -46,7 +46,7 @@ fn write_best<D: Desk, O: Sink, P: Progress>(
     ensures left { Writes lock.now cert.now (tasks.Solve input.now) (D.files desk.old)
         (D.files desk.new) (O.said out.old) (O.said out.new) result }
     ensures held { (D.files desk.new ≡ D.files desk.old)
-        ⊎ KeepsFronts lock.now cert.now (tasks.Solve input.now) (D.files desk.old)
+        ⊎ KeepsWhole lock.now cert.now (tasks.Solve input.now) (D.files desk.old)
         (D.files desk.new) }
     ensures faults { D.faults desk.new ≡ D.faults desk.old }
     ensures put { Counts (D.put_faults desk.old) (D.put_faults desk.new) (EndsInPutFault result) }
@@ -95,7 +95,7 @@ pub fn write_answer<D: Desk, O: Sink, P: Progress>(
     ensures left { Writes lock.now cert.now task.now (D.files desk.old) (D.files desk.new)
         (O.said out.old) (O.said out.new) result }
     ensures held { (D.files desk.new ≡ D.files desk.old)
-        ⊎ KeepsFronts lock.now cert.now task.now (D.files desk.old) (D.files desk.new) }
+        ⊎ KeepsWhole lock.now cert.now task.now (D.files desk.old) (D.files desk.new) }
     ensures faults { D.faults desk.new ≡ D.faults desk.old }
     ensures put { Counts (D.put_faults desk.old) (D.put_faults desk.new) (EndsInPutFault result) }
     ensures said { Counts (O.faults out.old) (O.faults out.new) (EndsInOutputFault result) }

@@ -6,7 +6,7 @@ ghost use Rattle.outside_desk.specs.Causes.{Counts};
 ghost use Rattle.spec_grammar.specs.Canonical.{spec_text};
 ghost use Rattle.run_task.specs.Answer.TheVariants as answers;
 ghost use Rattle.run_task.specs.Stops.{EndsInPutFault, EndsInOutputFault};
-ghost use Rattle.run_output.specs.Answers.{HoldsFronts, Leaves, PutsAnswer};
+ghost use Rattle.run_output.specs.Answers.{HoldsWhole, Leaves, PutsAnswer};
 ghost use Rattle.run_output.specs.Texts.{IsFor, outcome_of};
 
 use crate::answer::Outcome;
@@ -36,7 +36,7 @@ fn put_best<D: Desk>(
     ensures left { PutsAnswer lock.now cert.now problem.now (answers.Best graph.now log.now)
         (D.files desk.old) (D.files desk.new) result }
     ensures held { (D.files desk.new ≡ D.files desk.old)
-        ⊎ HoldsFronts lock.now cert.now problem.now (answers.Best graph.now log.now)
+        ⊎ HoldsWhole lock.now cert.now problem.now (answers.Best graph.now log.now)
         (D.files desk.old) (D.files desk.new) }
     ensures no_output { EndsInOutputFault result → ⊥ }
     ensures faults { D.faults desk.new ≡ D.faults desk.old }
@@ -62,7 +62,7 @@ fn put_answer<D: Desk>(
     ensures left { PutsAnswer lock.now cert.now problem.now answer.now (D.files desk.old)
         (D.files desk.new) result }
     ensures held { (D.files desk.new ≡ D.files desk.old)
-        ⊎ HoldsFronts lock.now cert.now problem.now answer.now (D.files desk.old)
+        ⊎ HoldsWhole lock.now cert.now problem.now answer.now (D.files desk.old)
         (D.files desk.new) }
     ensures no_output { EndsInOutputFault result → ⊥ }
     ensures faults { D.faults desk.new ≡ D.faults desk.old }
@@ -91,7 +91,7 @@ pub fn write_found<D: Desk, O: Sink>(
     ensures left { Leaves lock.now cert.now problem.now answer.now (D.files desk.old)
         (D.files desk.new) (O.said out.old) (O.said out.new) result }
     ensures held { (D.files desk.new ≡ D.files desk.old)
-        ⊎ HoldsFronts lock.now cert.now problem.now answer.now (D.files desk.old)
+        ⊎ HoldsWhole lock.now cert.now problem.now answer.now (D.files desk.old)
         (D.files desk.new) }
     ensures faults { D.faults desk.new ≡ D.faults desk.old }
     ensures put { Counts (D.put_faults desk.old) (D.put_faults desk.new) (EndsInPutFault result) }

@@ -68,15 +68,15 @@ pub fn are_roots_of(
 ) -> Result<bool, AllocError>
     ensures { IfOk result (λ are. are ≡ are_roots_of hashes.now specs.now roots.now) }
 {
-    match (specs, roots) {
-        ([], []) => Ok(true),
-        ([spec, specs @ ..], [root, roots @ ..]) => {
-            if !is_root_of(alloc, hashes, spec, root)? {
-                return Ok(false);
-            }
-            are_roots_of(alloc, hashes, specs, roots)
+    let mut left = roots;
+    for spec in specs {
+        let Some((root, rest)) = left.split_first() else {
+            return Ok(false);
+        };
+        if !is_root_of(alloc, hashes, spec, root)? {
+            return Ok(false);
         }
-        ([], [_root, _roots @ ..]) => Ok(false),
-        ([_spec, _specs @ ..], []) => Ok(false),
+        left = rest;
     }
+    Ok(left.is_empty())
 }

@@ -18,10 +18,11 @@ fn with_digit(value: u64, byte: u8) -> Option<u64>
 fn digits_behind(value: u64, text: &[u8]) -> Option<u64>
     ensures { result ≡ digits_behind value text.now }
 {
-    match text {
-        [] => Some(value),
-        [byte, rest @ ..] => digits_behind(with_digit(value, *byte)?, rest),
+    let mut number = value;
+    for byte in text {
+        number = with_digit(number, *byte)?;
     }
+    Some(number)
 }
 
 /// The number, where it is written so.

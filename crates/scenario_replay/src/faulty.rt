@@ -9,15 +9,7 @@ fn is_front(wanted: &[u8], got: &[u8]) -> bool {
     got.len() <= wanted.len() && got == &wanted[..got.len()]
 }
 
-/// Whether the put of this file failed, and left a front of what is wanted.
-fn is_begun(run: &OneRun, path: &str, wanted: &[u8], got: Option<&[u8]>) -> bool {
-    match (&run.desk.failed_put, got) {
-        (Some(failed), Some(got)) => failed.as_str() == path && is_front(wanted, got),
-        _ => false,
-    }
-}
-
-/// A file that is to be put is as before or as it is wanted, or a front of that where its put failed.
+/// A file that is to be put is as before or as it is wanted.
 fn compare_put(
     differences: &mut Differences,
     run: &OneRun,
@@ -26,7 +18,7 @@ fn compare_put(
     wanted: &[u8],
 ) -> Result<(), AllocError> {
     let got = run.file(path);
-    if is_same(before, got) || is_same(Some(wanted), got) || is_begun(run, path, wanted, got) {
+    if is_same(before, got) || is_same(Some(wanted), got) {
         return Ok(());
     }
     differences.add_other(&["file ", path], "as before, or as wanted", got)

@@ -34,7 +34,7 @@ fn recipe_text(
 }
 
 /// Adds so many recipes, from package `own` on.
-#[tactic(auto, using(crate::proofs::Counts::more_recipes))]
+#[tactic(auto, using(crate::proofs::Counts::recipes_start, crate::proofs::Counts::more_recipes, crate::proofs::Counts::recipes_done))]
 fn add_recipes(
     alloc: Global,
     packages: u64,
@@ -46,13 +46,12 @@ fn add_recipes(
     requires { own + count ≤ packages }
     ensures { OnOk result (desk.new ≡ with_recipes packages own count draws.old.state desk.old) }
 {
-    if count == 0 {
-        return Ok(());
+    for more in 0..count {
+        let path = recipe_path(alloc, own + more)?;
+        let text = recipe_text(alloc, packages, own + more, draws)?;
+        desk.add(path.as_str(), text.as_slice())?;
     }
-    let path = recipe_path(alloc, own)?;
-    let text = recipe_text(alloc, packages, own, draws)?;
-    desk.add(path.as_str(), text.as_slice())?;
-    add_recipes(alloc, packages, own + 1, count - 1, draws, desk)
+    Ok(())
 }
 
 /// A repository `repo` of so many packages, `p0` to `p(N - 1)`, each of which depends on later ones alone.

@@ -18,16 +18,14 @@ fn write_version(alloc: Global, number: u64, out: &mut Vec<u8>) -> Result<(), Al
 }
 
 /// So many versions, from 1.`from` on.
-#[tactic(auto, using(crate::proofs::Counts::more_versions))]
+#[tactic(auto, using(crate::proofs::Counts::versions_start, crate::proofs::Counts::more_versions, crate::proofs::Counts::versions_done))]
 fn write_versions(alloc: Global, from: u64, count: u64, out: &mut Vec<u8>) -> Result<(), AllocError>
     requires { from + count < 2 ^ 64 }
     ensures { OnOk result (out.new.items ≡ out.old.items ++ texts.version_lines from count) }
 {
-    if count == 0 {
-        return Ok(());
+    for more in 0..count {
+        write_version(alloc, from + more, out)?;
     }
-    write_version(alloc, from, out)?;
-    write_versions(alloc, from + 1, count - 1, out)?;
     Ok(())
 }
 
@@ -74,7 +72,7 @@ fn write_dependency(
     write_depend(alloc, child, conditional, out)
 }
 
-#[tactic(auto, using(crate::proofs::Counts::more_needs, crate::proofs::Counts::needs_state))]
+#[tactic(auto, using(crate::proofs::Counts::needs_start, crate::proofs::Counts::state_start, crate::proofs::Counts::needs_done, crate::proofs::Counts::state_done))]
 fn write_dependencies(
     alloc: Global,
     packages: u64,
@@ -89,11 +87,9 @@ fn write_dependencies(
     ensures state { OnOk result (draws.new.state
         ≡ (texts.dependencies packages own count draws.old.state).state) }
 {
-    if count == 0 {
-        return Ok(());
+    for _more in 0..count {
+        write_dependency(alloc, packages, own, draws, out)?;
     }
-    write_dependency(alloc, packages, own, draws, out)?;
-    write_dependencies(alloc, packages, own, count - 1, draws, out)?;
     Ok(())
 }
 

@@ -54,8 +54,8 @@ module _ (path : Text → Text → Statement) (table : Table) where
   pub edge-agree : (problem : Problem) (packages : Text → List Text) (name : Text) (row : DependRow)
       → rule_said path table (edge_to problem packages name row) ≡ plain_said table (edge_to problem packages name row)
   edge-agree problem packages name row =
-      named-agree (λ asked. asked_rule (world_of problem) packages asked (λ child. both_of (there_rule child) (fact (has_edge name child row.kinds))))
-      (λ asked. asked-agree (world_of problem) packages asked (λ child. both_of (there_rule child) (fact (has_edge name child row.kinds))) (λ n. refl)) row.part.name
+      named-agree (λ asked. asked_rule (world_of problem) packages asked (λ child. fact (has_edge name child row.kinds)))
+      (λ asked. asked-agree (world_of problem) packages asked (λ child. fact (has_edge name child row.kinds)) (λ n. refl)) row.part.name
 
   pub suits_asked-agree : (problem : Problem) (packages : Text → List Text) (row : DependRow)
       → rule_said path table (suits_asked problem packages row) ≡ plain_said table (suits_asked problem packages row)
@@ -66,6 +66,5 @@ module _ (path : Text → Text → Statement) (table : Table) where
   pub asks_child-agree : (problem : Problem) (child : Text) (row : DependRow)
       → rule_said path table (asks_child problem table child row) ≡ plain_said table (asks_child problem table child row)
   asks_child-agree problem child row =
-      named-agree (λ asked. asked_rule (world_of problem) (names_for table) asked (λ n. both_of (there_rule n) (given (bytes_eq n child))))
-      (λ asked. asked-agree (world_of problem) (names_for table) asked (λ n. both_of (there_rule n) (given (bytes_eq n child)))
-      (λ n. both-same (in_words f (there_rule n)) (in_words f (given (bytes_eq n child))) (in_words f (there_rule n)) (in_words g (given (bytes_eq n child))) refl (given-agree f g (bytes_eq n child)))) row.part.name
+      named-agree (λ asked. asked_rule (world_of problem) (names_for table) asked (λ n. given (bytes_eq n child)))
+      (λ asked. asked-agree (world_of problem) (names_for table) asked (λ n. given (bytes_eq n child)) (λ n. given-agree f g (bytes_eq n child))) row.part.name

@@ -1,16 +1,16 @@
 // Formulas of directives, where their conditions have formulas.
 ghost use Rattle.std.specs.Prelude.{◌≡◌, IfOk};
-ghost use Rattle.clause_formulas.specs.Rules.{fact, both_of};
+ghost use Rattle.clause_formulas.specs.Rules.{fact};
 ghost use Rattle.clause_formulas.specs.Statements.{implies};
 ghost use Rattle.graph_words.specs.Facts.{has_edge};
-ghost use Rattle.graph_words.specs.Parts.{there_rule, suits_rule};
+ghost use Rattle.graph_words.specs.Parts.{suits_rule};
 ghost use Rattle.graph_words.specs.Words.{names_for};
 ghost use Rattle.graph_formulas.specs.Directives.{edge_to, suits_asked};
 ghost use Rattle.word_formulas.specs.Builders.{plain_said};
 
 use crate::asked_nodes::asked_formula;
 use crate::edges::has_edge;
-use crate::facts::{given, is_there};
+use crate::facts::given;
 use crate::parts::{meets_formula, rest_formula};
 use crate::virtual_nodes::provides_formula;
 use clause_formulas::Formula;
@@ -23,7 +23,7 @@ use problem::Problem;
 use spec_grammar::Part;
 use std::alloc::{AllocError, Global};
 
-/// The child has a node, and an edge with these kinds goes to it.
+/// An edge with these kinds goes to the child.
 fn child_formula(
     alloc: Global,
     table: &LiteralTable,
@@ -32,11 +32,9 @@ fn child_formula(
     child: &Word,
 ) -> Result<Formula, AllocError>
     ensures { IfOk result (λ formula. formula
-        ≡ plain_said table.now (both_of (there_rule child.now) (fact (has_edge name.now child.now kinds.now)))) }
+        ≡ plain_said table.now (fact (has_edge name.now child.now kinds.now))) }
 {
-    let there = is_there(alloc, table, child.as_str());
-    let edge = has_edge(alloc, table, name, child.as_str(), kinds)?;
-    Formula::both(alloc, there, edge)
+    has_edge(alloc, table, name, child.as_str(), kinds)
 }
 
 /// An edge with the kinds of the row goes to the node that it asks for.

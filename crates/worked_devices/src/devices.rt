@@ -1,17 +1,17 @@
 // Desks and sinks, and whole files.
 use crate::same::check_same;
 use outside_desk::{
-    Desk, DeskFault, MemoryDesk, MemorySink, ReadFault, RealDesk, RealSink, Sink, SinkFault,
-    SteadyDesk, SteadySink, read_whole,
+    Desk, DeskFault, MemoryDesk, MemorySink, ReadFault, RealSink, Sink, SinkFault, SteadyDesk,
+    SteadySink, read_whole,
 };
 use std::alloc::{AllocError, Global};
+use std::io;
 use std::process::Abort;
 use std::test::Fail;
-use std::{fs, io};
 use test_desks::OneByteDesk;
 
 /// Where to read in a file of `hello`, how many bytes are asked for, and what is got.
-const PIECES: &[(u64, usize, &[u8])] = &[
+pub(crate) const PIECES: &[(u64, usize, &[u8])] = &[
     (0, 5, b"hello"),
     (0, 2, b"he"),
     (0, 9, b"hello"),
@@ -27,7 +27,7 @@ const PIECES: &[(u64, usize, &[u8])] = &[
 ];
 
 /// Reads a piece of a file of `hello`.
-fn check_piece<D: Desk>(
+pub(crate) fn check_piece<D: Desk>(
     rt: &impl Abort,
     alloc: Global,
     desk: &mut D,
@@ -57,7 +57,7 @@ fn check_pieces<D: Desk>(rt: &impl Abort, alloc: Global, desk: &mut D) -> Result
     Ok(())
 }
 
-fn check_list<D: Desk>(
+pub(crate) fn check_list<D: Desk>(
     rt: &impl Abort,
     alloc: Global,
     desk: &mut D,
@@ -156,29 +156,43 @@ fn desks_in_memory(rt: HostRuntime) -> Result<(), Fail> {
     check_steady(&rt, rt.alloc())
 }
 
-/// A desk of two files, whose calls of these numbers fail.
-fn failing_desk(alloc: Global, calls: &[u64]) -> Result<MemoryDesk, AllocError> {
+/// A desk of two files, whose calls of these numbers fail, or fail late.
+fn failing_desk(alloc: Global, calls: &[u64], late: &[u64]) -> Result<MemoryDesk, AllocError> {
     let mut desk = MemoryDesk::new(alloc);
     desk.add("d/f", b"hello")?;
     desk.add("d/g", b"other")?;
     for call in calls {
         desk.fail_call(*call)?;
     }
+    for call in late {
+        desk.fail_late(*call)?;
+    }
     Ok(desk)
 }
 
-/// The calls that fail; whether the reading, the listing and the put do; the counts of failed readings and
-/// puts; what is left of the file.
-type CallRow = (&'static [u64], [bool; 3], u64, u64, &'static [u8]);
+/// The calls that fail, and those that fail late; whether the reading, the listing and the put fail; the counts of failed
+/// readings and puts; what is left of the file.
+type CallRow = (
+    &'static [u64],
+    &'static [u64],
+    [bool; 3],
+    u64,
+    u64,
+    &'static [u8],
+);
 
 const FAILING_CALLS: &[CallRow] = &[
-    (&[], [false, false, false], 0, 0, b"12345"),
-    (&[0], [true, false, false], 1, 0, b"12345"),
-    (&[1], [false, true, false], 1, 0, b"12345"),
-    (&[2], [false, false, true], 0, 1, b"12"),
-    (&[2, 0], [true, false, true], 1, 1, b"12"),
-    (&[0, 1, 2], [true, true, true], 2, 1, b"12"),
-    (&[3, 9], [false, false, false], 0, 0, b"12345"),
+    (&[], &[], [false, false, false], 0, 0, b"12345"),
+    (&[0], &[], [true, false, false], 1, 0, b"12345"),
+    (&[1], &[], [false, true, false], 1, 0, b"12345"),
+    (&[2], &[], [false, false, true], 0, 1, b"hello"),
+    (&[2, 0], &[], [true, false, true], 1, 1, b"hello"),
+    (&[0, 1, 2], &[], [true, true, true], 2, 1, b"hello"),
+    (&[3, 9], &[], [false, false, false], 0, 0, b"12345"),
+    (&[], &[2], [false, false, true], 0, 1, b"12345"),
+    (&[2], &[2], [false, false, true], 0, 1, b"hello"),
+    (&[1], &[0, 1, 2], [false, true, true], 1, 1, b"12345"),
+    (&[], &[0, 1, 3], [false, false, false], 0, 0, b"12345"),
 ];
 
 /// What a call answers, which fails or not.
@@ -204,8 +218,8 @@ fn check_left(
 }
 
 fn check_failing_calls(rt: &impl Abort, alloc: Global, row: &CallRow) -> Result<(), Fail> {
-    let (failing, [read, list, put], faults, put_faults, left) = *row;
-    let mut desk = failing_desk(alloc, failing)?;
+    let (failing, late, [read, list, put], faults, put_faults, left) = *row;
+    let mut desk = failing_desk(alloc, failing, late)?;
     let mut out = [0u8; 4];
     let got = desk.read_at(alloc, "d/f", 2, &mut out).err();
     check_call(rt, "reading", failing, got, read);
@@ -217,7 +231,7 @@ fn check_failing_calls(rt: &impl Abort, alloc: Global, row: &CallRow) -> Result<
     Ok(())
 }
 
-/// One of three calls fails: a reading, a listing, and a put of `12345` over a file of `hello`.
+/// Some of three calls fail: a reading, a listing, and a put of `12345` over a file of `hello`.
 #[test]
 fn calls_of_a_desk_fail(rt: HostRuntime) -> Result<(), Fail> {
     for row in FAILING_CALLS {
@@ -288,7 +302,7 @@ const WHOLES: &[(&str, u64, Result<&[u8], ReadFault>)] = &[
     ("none", 9, Err(ReadFault::Missing)),
 ];
 
-fn check_whole<D: Desk>(
+pub(crate) fn check_whole<D: Desk>(
     rt: &impl Abort,
     alloc: Global,
     desk: &mut D,
@@ -375,106 +389,6 @@ fn whole_files_fail_in_mid_stream(rt: HostRuntime) -> Result<(), Fail> {
     for call in 0..3 {
         check_mid_stream(&rt, rt.alloc(), &big, call)?;
     }
-    Ok(())
-}
-
-const REAL_WHOLES: &[(&str, u64, Result<&[u8], ReadFault>)] = &[
-    ("real_desk/b.yaml", 5, Ok(b"hello")),
-    ("real_desk/b.yaml", 4, Err(ReadFault::TooLong)),
-    ("real_desk/none", 9, Err(ReadFault::Missing)),
-    ("real_desk/none/x", 9, Err(ReadFault::Missing)),
-    ("real_desk/b-c/x", 9, Err(ReadFault::Missing)),
-    ("real_desk/b", 9, Err(ReadFault::Failed)),
-];
-
-const REAL_PATHS: &[&str] = &["real_desk/b.yaml", "real_desk/b-c"];
-
-const NO_REAL_FOLDERS: &[&str] = &["real_desk/none", "real_desk/b-c"];
-
-const NO_REAL_PATHS: &[&str] = &["real_desk/none/x", "real_desk/b"];
-
-/// Puts files into a folder that has the folder `b`, and lists it.
-fn check_real_puts<D: Desk>(rt: &impl Abort, alloc: Global, desk: &mut D) -> Result<(), Fail> {
-    for row in REAL_PATHS {
-        let path = *row;
-        for bytes in [b"longer than hello".as_slice(), b"hello".as_slice()] {
-            let put = desk.put(alloc, path, bytes);
-            check_same(rt, &(path, bytes, put), &(path, bytes, Ok(())));
-        }
-    }
-    check_list(rt, alloc, desk, "real_desk", &["b", "b-c", "b.yaml"])?;
-    check_list(rt, alloc, desk, "real_desk/b", &[])
-}
-
-/// Reads these files.
-fn check_real_files<D: Desk>(rt: &impl Abort, alloc: Global, desk: &mut D) -> Result<(), Fail> {
-    for row in PIECES {
-        check_piece(rt, alloc, desk, "real_desk/b-c", *row)?;
-    }
-    for row in REAL_WHOLES {
-        check_whole(rt, alloc, desk, *row);
-    }
-    Ok(())
-}
-
-/// Asks for folders and files that are not there.
-fn check_real_faults<D: Desk>(rt: &impl Abort, alloc: Global, desk: &mut D) {
-    for row in NO_REAL_FOLDERS {
-        let folder = *row;
-        let missing = desk.list(alloc, folder).err();
-        check_same(rt, &(folder, missing), &(folder, Some(DeskFault::Missing)));
-    }
-    for row in NO_REAL_PATHS {
-        let path = *row;
-        let got = desk.put(alloc, path, b"1");
-        check_same(rt, &(path, got), &(path, Err(DeskFault::Failed)));
-    }
-}
-
-/// Files of the machine, in a folder below the one that the test runs in.
-#[test]
-fn desks_of_the_machine(rt: HostRuntime) -> Result<(), Fail> {
-    let alloc = rt.alloc();
-    let _ = fs::remove_dir_all(&rt, "real_desk");
-    fs::create_dir(&rt, "real_desk")?;
-    fs::create_dir(&rt, "real_desk/b")?;
-    let mut desk = RealDesk::new(&rt);
-    check_real_puts(&rt, alloc, &mut desk)?;
-    check_real_files(&rt, alloc, &mut desk)?;
-    check_real_faults(&rt, alloc, &mut desk);
-    fs::remove_dir_all(&rt, "real_desk")?;
-    Ok(())
-}
-
-fn put_many<D: Desk>(rt: &impl Abort, alloc: Global, desk: &mut D) -> Result<(), Fail> {
-    for k in 0..500u32 {
-        let path = format!(in alloc; "long_folder/a_rather_long_name_of_a_file_{k:03}")?;
-        let put = desk.put(alloc, path.as_str(), b"x");
-        check_same(rt, &(path.as_str(), put), &(path.as_str(), Ok(())));
-    }
-    Ok(())
-}
-
-fn check_many(rt: &impl Abort, alloc: Global, names: &[String]) -> Result<(), Fail> {
-    assert_eq!(rt; names.len(), 500);
-    for (k, name) in names.iter().enumerate() {
-        let wanted = format!(in alloc; "a_rather_long_name_of_a_file_{k:03}")?;
-        assert_eq!(rt; name.as_str(), wanted.as_str());
-    }
-    Ok(())
-}
-
-/// A folder of more names than one reading of it gives.
-#[test]
-fn long_folders_of_the_machine(rt: HostRuntime) -> Result<(), Fail> {
-    let alloc = rt.alloc();
-    let _ = fs::remove_dir_all(&rt, "long_folder");
-    fs::create_dir(&rt, "long_folder")?;
-    let mut desk = RealDesk::new(&rt);
-    put_many(&rt, alloc, &mut desk)?;
-    let names = desk.list(alloc, "long_folder")?;
-    check_many(&rt, alloc, &names)?;
-    fs::remove_dir_all(&rt, "long_folder")?;
     Ok(())
 }
 

@@ -8,6 +8,8 @@
 #[cfg(test)]
 mod devices;
 #[cfg(test)]
+mod machine;
+#[cfg(test)]
 mod plain;
 #[cfg(test)]
 mod same;

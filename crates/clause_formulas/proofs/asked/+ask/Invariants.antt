@@ -1,15 +1,15 @@
 use Rattle.std.proofs.Common.{◌≡◌, ◌+◌, ◌*◌, drop}
 use Rattle.clause_store.specs.Lits.{AllBelow}
 use Rattle.clause_formulas.specs.Statements.{any_of, weight}
-use Rattle.clause_formulas.specs.Built.{ask_on}
-use Rattle.gate_plans.specs.Growth.{Extends}
+use Rattle.clause_formulas.specs.Built.{ask_in}
+use Rattle.clause_formulas.specs.Gated.{gated, Keeps}
 use Rattle.clause_formulas.proofs.asked.+ask.Given as goal
 
 abbrev pub invariant-ask_any-loop-part : goal.invariant-ask_any-loop-part
 invariant-ask_any-loop-part l = record {
-  rest : ask_on l.clauses l.draft (any_of (drop l.part-index l.parts)) ≡ ask_on l.fn.clauses l.fn.draft (any_of l.parts);
+  rest : ask_in (gated l.clauses l.gates) l.draft (any_of (drop l.part-index l.parts)) ≡ ask_in (gated l.fn.clauses l.fn.gates) l.fn.draft (any_of l.parts);
   below : AllBelow l.clauses.vars l.draft.lits;
-  extends : Extends l.fn.clauses l.clauses;
+  keeps : Keeps (gated l.fn.clauses l.fn.gates) (gated l.clauses l.gates);
 }
 
 abbrev pub decreases-ask : goal.decreases-ask

@@ -1,14 +1,16 @@
 use Rattle.std.proofs.Common.{◌≡◌, ◌+◌, ◌*◌, false, drop}
 use Rattle.clause_formulas.specs.Statements.{any_of, weight}
-use Rattle.clause_formulas.specs.Built.{assert_on}
-use Rattle.clause_formulas.specs.Allowed.{Allows}
+use Rattle.clause_formulas.specs.Gated.{gated}
+use Rattle.clause_formulas.specs.Built.{assert_in}
+use Rattle.clause_formulas.specs.Allowed.{AllowsIn}
 use Rattle.clause_formulas.proofs.AllowLaws.{claims}
 use Rattle.clause_formulas.proofs.claims.+claim.Given as goal
 
 abbrev pub invariant-claim_any-loop-part : goal.invariant-claim_any-loop-part
 invariant-claim_any-loop-part l = record {
-  rest : assert_on l.label l.clauses false (any_of (drop l.part-index l.parts)) ≡ assert_on l.label l.fn.clauses false (any_of l.parts);
-  allows : Allows l.fn.clauses l.clauses (claims l.label false (any_of l.parts));
+  rest : assert_in l.label (gated l.clauses l.gates) false (any_of (drop l.part-index l.parts))
+      ≡ assert_in l.label (gated l.fn.clauses l.fn.gates) false (any_of l.parts);
+  allows : AllowsIn (gated l.fn.clauses l.fn.gates) (gated l.clauses l.gates) (claims l.label false (any_of l.parts));
 }
 
 abbrev pub decreases-claim : goal.decreases-claim

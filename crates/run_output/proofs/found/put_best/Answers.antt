@@ -1,6 +1,6 @@
 use Rattle.std.proofs.Common.{◌∙◌}
 use Rattle.run_task.specs.Answer.TheVariants.{Best}
-use Rattle.run_output.proofs.Fronts.{carried, first_stopped, first_held, second_put, second_held}
+use Rattle.run_output.proofs.Puts.{carried, first_stopped, first_held, second_put, second_held}
 use Rattle.run_output.proofs.found.put_best.Goals as goal
 
 pub returns-in_err-put_cert-clause-left : goal.returns-in_err-put_cert-clause-left

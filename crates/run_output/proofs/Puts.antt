@@ -1,0 +1,95 @@
+-- What puts leave of the files.
+use Rattle.std.proofs.Common.{◌≡◌, ◌⊎◌, inl, inr, sym, ap, subst, ◌∙◌, ℕ, true, false, List, Option, Result, Ok, Err}
+use Rattle.std.specs.Result.{IsErrAnd}
+use Rattle.outside_desk.specs.Files.{Files, with_file, MayHold}
+use Rattle.graph_core.specs.Graphs.{Content}
+use Rattle.proof_log.specs.declared.line.Line.{Line}
+use Rattle.proof_log.specs.Readings.{log_text}
+use Rattle.run_task.specs.Answers.{log_of}
+use Rattle.run_task.specs.Answer.{Answer}
+use Rattle.run_task.specs.Answer.TheVariants as answers
+use Rattle.valid_locks.specs.Locks.{lock_of}
+use Rattle.run_task.specs.Words.{is_dash}
+use Rattle.run_task.specs.Problems.{Problem}
+use Rattle.run_task.specs.WriteStop.{WriteStop}
+use Rattle.run_task.specs.WriteStop.TheVariants.{Put, Output, NoMemory}
+use Rattle.run_output.specs.Answers.{HoldsWhole, MayCert, Puts, PutsAnswer, PutsCert, with_cert, with_cert_by}
+
+-- a stop that was handed on
+pub carried : {A : Type 0} (stop : WriteStop) (result : Result A WriteStop) → IsErrAnd result (λ given. given ≡ stop) → result ≡ Err stop
+carried stop (Ok x) h = absurd h
+carried stop (Err given) h = ap Err h
+
+-- ---- the certificate
+
+-- none is put
+pub no_cert : (cert : List ℕ) (log : List Line) (before after : Option Files) → is_dash cert ≡ true → after ≡ before
+    → after ≡ with_cert cert log before
+no_cert cert log before after dash same = same ∙ sym (ap (λ b. with_cert_by b cert log before) dash)
+
+-- one is put
+pub cert_put : (cert : List ℕ) (log : List Line) (text : List ℕ) (before after : Option Files) (result : Result (Unit {0}) WriteStop)
+    → is_dash cert ≡ false → text ≡ log_text log → Puts cert text before after result → PutsCert cert log before after result
+cert_put cert log text before after (Ok done) dash is left =
+    left ∙ ap (with_file before cert) is ∙ sym (ap (λ b. with_cert_by b cert log before) dash)
+cert_put cert log text before after (Err (Put at)) dash is (same, held) =
+    (same, (dash, subst (λ (t : List ℕ). MayHold before after cert t) is held))
+cert_put cert log text before after (Err Output) dash is left = absurd left
+cert_put cert log text before after (Err NoMemory) dash is left = tt
+
+pub cert_held : (cert : List ℕ) (log : List Line) (text : List ℕ) (before after : Option Files)
+    → is_dash cert ≡ false → text ≡ log_text log → MayHold before after cert text → (after ≡ before) ⊎ MayCert cert log before after
+cert_held cert log text before after dash is held = inr (dash, subst (λ (t : List ℕ). MayHold before after cert t) is held)
+
+-- ---- the certificate, and then the lock file
+
+-- the first put stopped
+pub first_stopped : (lock cert : List ℕ) (problem : Problem) (answer : Answer) (stop : WriteStop) (before after : Option Files)
+    → PutsCert cert (log_of answer) before after (Err stop) → PutsAnswer lock cert problem answer before after (Err stop)
+first_stopped lock cert problem answer (Put at) before after left = inl left
+first_stopped lock cert problem answer Output before after left = left
+first_stopped lock cert problem answer NoMemory before after left = tt
+
+pub first_held : (lock cert : List ℕ) (problem : Problem) (answer : Answer) (before after : Option Files)
+    → (after ≡ before) ⊎ MayCert cert (log_of answer) before after
+    → (after ≡ before) ⊎ HoldsWhole lock cert problem answer before after
+first_held lock cert problem answer before after (inl same) = inl same
+first_held lock cert problem answer before after (inr held) = inr (inl held)
+
+-- the second put
+pub second_put : (lock cert : List ℕ) (problem : Problem) (graph : Content) (log : List Line) (text : List ℕ)
+    (before between after : Option Files) (result : Result (Unit {0}) WriteStop) → between ≡ with_cert cert log before
+    → text ≡ lock_of problem graph → Puts lock text between after result
+    → PutsAnswer lock cert problem (answers.Best graph log) before after result
+second_put lock cert problem graph log text before between after (Ok done) first is left =
+    left ∙ ap (with_file between lock) is ∙ ap (λ (m : Option Files). with_file m lock (lock_of problem graph)) first
+second_put lock cert problem graph log text before between after (Err (Put at)) first is (same, held) =
+    inr (
+      same,
+      subst (λ (m : Option Files). MayHold m after lock (lock_of problem graph)) first
+          (subst (λ (t : List ℕ). MayHold between after lock t) is held),
+    )
+second_put lock cert problem graph log text before between after (Err Output) first is left = absurd left
+second_put lock cert problem graph log text before between after (Err NoMemory) first is left = tt
+
+pub second_held : (lock cert : List ℕ) (problem : Problem) (graph : Content) (log : List Line) (text : List ℕ)
+    (before between after : Option Files) → between ≡ with_cert cert log before → text ≡ lock_of problem graph
+    → MayHold between after lock text
+    → (after ≡ before) ⊎ HoldsWhole lock cert problem (answers.Best graph log) before after
+second_held lock cert problem graph log text before between after first is held =
+    inr (inr (subst (λ (m : Option Files). MayHold m after lock (lock_of problem graph)) first
+    (subst (λ (t : List ℕ). MayHold between after lock t) is held)))
+
+-- an answer without a graph
+pub nothing_put : (lock cert : List ℕ) (problem : Problem) (log : List Line) (before after : Option Files)
+    (result : Result (Unit {0}) WriteStop) → PutsCert cert log before after result
+    → PutsAnswer lock cert problem (answers.Nothing log) before after result
+nothing_put lock cert problem log before after (Ok done) left = left
+nothing_put lock cert problem log before after (Err stop) left = first_stopped lock cert problem (answers.Nothing log) stop before after left
+
+pub undecided_put : (lock cert : List ℕ) (problem : Problem) (log : List Line) (before after : Option Files)
+    (result : Result (Unit {0}) WriteStop) → PutsCert cert log before after result
+    → PutsAnswer lock cert problem (answers.Undecided log) before after result
+undecided_put lock cert problem log before after (Ok done) left = left
+undecided_put lock cert problem log before after (Err stop) left =
+    first_stopped lock cert problem (answers.Undecided log) stop before after left
