@@ -28,7 +28,6 @@ class Item:
     text: str
     lines: int
     scope: "Scope"
-    names: list[str] = field(default_factory=list)
     is_type: bool = False
 
     def place(self) -> str:
