@@ -1,34 +1,38 @@
-# Completion for bash: `source site_tools/completion.bash`. It completes the commands, files by their places, and the
-# names of packages in REPO, also behind `^`.
+# Completion for bash: `source site_tools/completion.bash`. It completes the commands and the launcher's own words, files by
+# their places, and the names of packages in REPO, also behind `^`. Behind `--json` and `help` stands a command.
 _spack_concretize() {
-  local word=${COMP_WORDS[COMP_CWORD]} front='' command=${COMP_WORDS[1]:-}
-  local specs_from=7
+  local word=${COMP_WORDS[COMP_CWORD]} front='' commands='concretize judge check refute explain trial' at=1 specs_from
   COMPREPLY=()
-  case $COMP_CWORD:$command in
-  1:*)
-    mapfile -t COMPREPLY < <(compgen -W 'concretize judge check refute explain trial --where' -- "$word")
+  case ${COMP_WORDS[1]:-} in --json | help) [ "$COMP_CWORD" = 1 ] || at=2 ;; esac
+  local command=${COMP_WORDS[at]:-} place=$((COMP_CWORD - at))
+  if [ "$place" = 0 ]; then
+    [ "$at" = 2 ] || commands+=' help --help --json --version --where'
+    mapfile -t COMPREPLY < <(compgen -W "$commands" -- "$word")
     return
-    ;;
-  *:trial) return ;;
-  2:*)
+  fi
+  [ "${COMP_WORDS[1]:-}" != help ] || return
+  case $command in
+  concretize | check) specs_from=6 ;;
+  judge | refute) specs_from=5 ;;
+  explain) specs_from=4 ;;
+  *) return ;;
+  esac
+  if [ "$place" = 1 ] && [[ $word == -* ]]; then
+    mapfile -t COMPREPLY < <(compgen -W --help -- "$word")
+  elif [ "$place" = 1 ]; then
     compopt -o filenames 2>/dev/null
     mapfile -t COMPREPLY < <(compgen -d -- "$word")
-    return
-    ;;
-  *:judge | *:refute) specs_from=6 ;;
-  *:explain) specs_from=5 ;;
-  esac
-  if [ "$COMP_CWORD" -lt "$specs_from" ]; then
+  elif [ "$place" -lt "$specs_from" ]; then
     compopt -o filenames 2>/dev/null
     mapfile -t COMPREPLY < <(compgen -f -- "$word")
-    return
+  else
+    [ "${word#^}" = "$word" ] || front='^'
+    local names=()
+    if [ -d "${COMP_WORDS[at + 1]}/packages" ]; then
+      mapfile -t names < <(cd "${COMP_WORDS[at + 1]}/packages" && printf '%s\n' */package.py)
+    fi
+    names=("${names[@]%/package.py}")
+    mapfile -t COMPREPLY < <(compgen -P "$front" -W "${names[*]}" -- "${word#^}")
   fi
-  [ "${word#^}" = "$word" ] || front='^'
-  local names=()
-  if [ -d "${COMP_WORDS[2]}/packages" ]; then
-    mapfile -t names < <(cd "${COMP_WORDS[2]}/packages" && printf '%s\n' */package.py)
-  fi
-  names=("${names[@]%/package.py}")
-  mapfile -t COMPREPLY < <(compgen -P "$front" -W "${names[*]}" -- "${word#^}")
 }
 complete -F _spack_concretize spack_concretize ./spack_concretize

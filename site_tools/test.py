@@ -24,6 +24,7 @@ SITE = TOP / "examples" / "site"
 sys.path.insert(0, str(TOOLS))
 sys.dont_write_bytecode = True
 
+import answer_checks  # noqa: E402
 from bridge import export_spec, import_repo, import_settings, installed, lock_view, manual, spec_text  # noqa: E402
 from bridge.literals import Evaluator, NotLiteral  # noqa: E402
 
@@ -243,6 +244,7 @@ def check_program() -> Check:
         lock = (Path(room) / "site_hdf5.lock").read_text("utf-8")
         yield from compared("examples/site/hdf5.lock", lock, SITE / "hdf5.lock")
     yield from check_read(program)
+    yield from answer_checks.check_all()
 
 
 def check_style() -> Check:

@@ -1,6 +1,6 @@
 # shellcheck shell=bash
 # Which file is the build of a program crate from these very sources, and how one is made. Sourced by the launchers at the
-# top and by the scripts of bench/ and tools/, with `top` set to the top of the checkout; it needs bash and coreutils.
+# top and by the scripts of bench/ and tools/, with `top` set to the top of the checkout; it needs bash, coreutils, findutils.
 #
 #   launch NAME WORD..          runs NAME with the words; `--where` alone says which file that would be, `--help` how NAME is
 #                               called, `--version` of which sources it is: these three run and build nothing
@@ -9,10 +9,21 @@
 #   sources_hash NAME           the hash of all that NAME is made of
 #   release_fault NAME HASH     why the release of NAME is not the build of the sources with that hash: nothing where it is
 #
-# No file is taken by its age. A local build counts where the note beside it names the hash of these sources and the
-# file's SHA-256; the note is written only after a build that ended well and in which no source was touched, and what was
-# built before is removed first. Failing that, the release counts, where release/ names the same two for it. So what runs
-# is the build of these sources, or nothing runs.
+# No file is taken by its age or name. The release counts where release/ names the hash of these sources and the file's
+# SHA-256. Failing that, a local build counts where the note beside it names the two; the note is written only after a build
+# that ended well and in which no source was touched, and what was built before is removed first. So what runs is the build
+# of these sources, or nothing runs; and what stands in a folder that git ignores runs only where the release is no build
+# of them.
+#
+# To hash all sources takes longer than most runs. So out/NAME.stamp keeps, as one hash, the sizes, inodes and times of
+# status changes of all files that were looked at when the release was last found right; where all are as they were, the
+# release runs. Nobody can set these times. A stamp never leads to any other file than the release.
+
+# The caller's environment has no say in how the commands below work; that it cannot bring functions of its own is by the
+# launchers' `bash -p`. Texts are bytes. A launcher takes the machine's commands before those of `callers_path`, but for `rt`.
+unset -v POSIXLY_CORRECT BASH_COMPAT EXECIGNORE TMOUT FIND_BLOCK_SIZE BLOCK_SIZE BLOCKSIZE LS_BLOCK_SIZE GREP_OPTIONS
+export LC_ALL=C
+: "${callers_path:=$PATH}"
 
 # The program crates that are released.
 programs=(encode_dimacs replay_scenarios spack_concretize)
@@ -28,65 +39,10 @@ trial_of() {
   esac
 }
 
-# How a program is called, for --help.
-help_of() {
-  case $1 in
-  spack_concretize) cat <<'HELP' ;;
-spack_concretize concretize REPO SETTINGS DATABASE LOCK CERT SPEC..
-    finds the best graph of the specs, and puts it at LOCK as a lock file
-spack_concretize judge REPO SETTINGS DATABASE LOCK SPEC..
-    says whether the graph of the lock file LOCK is valid, and what it costs
-spack_concretize check REPO SETTINGS DATABASE LOCK CERT SPEC..
-    says whether it is the best besides, as the certificate CERT shows
-spack_concretize refute REPO SETTINGS DATABASE CERT SPEC..
-    says whether the certificate CERT shows that there is no valid graph
-spack_concretize explain REPO SETTINGS DATABASE SPEC..
-    says that there is a graph, or which directives and specs stand against one
-spack_concretize trial N SEED
-    finds the best graph of N packages (1 to 1,000) that are made from SEED
-
-REPO      a folder with packages/NAME/package.py           docs/formats/recipes.md
-SETTINGS  a JSON file, or - for the standard settings      docs/formats/settings.md
-DATABASE  what is installed, or - for nothing              docs/formats/database.md
-LOCK      where the lock file is put; judge reads it       docs/formats/lock-file.md
-CERT      the log of the search, or - for none             docs/CERTIFICATES.md
-SPEC      such as 'hdf5@1.14: +mpi ^mpich'                 docs/formats/specs.md
-
-0 done  1 unsatisfiable  2 usage  3 undecided  4 bad input  5 read fault  6 write fault  7 too large  8 refused
-9 no memory  10 no words  70 no program could be built. What a refusal means: docs/WHEN-REFUSED.md
-
-spack_concretize --where | --version | --help
-    which file runs, and why; of which sources it is; this text. They run nothing, and build nothing.
-HELP
-  replay_scenarios) cat <<'HELP' ;;
-replay FILE-OR-FOLDER..     replays scenarios (docs/SCENARIOS.md); without words those of the repository
-replay --where | --version | --help
-0 all the same  1 something differs or is no scenario  2 could not be said  70 no program could be built
-HELP
-  encode_dimacs) cat <<'HELP' ;;
-encode_dimacs REPO SETTINGS DATABASE SPEC..
-    prints the clauses of the problem as DIMACS, with comments that say what its variables mean (docs/ENCODING.md)
-encode_dimacs --where | --version | --help
-0 done  2 usage  4 bad input  5 read fault  6 write fault  7 too large  9 no memory  10 no words  70 no program could be built
-HELP
-  *) echo "$1 WORD.. | --where | --version | --help" ;;
-  esac
-}
-
-# Of which sources a program is: their hash, and whether its release is of them.
-version_of() {
-  local hash fault key name of=none
-  hash="$(sources_hash "$1")" || hash='that cannot be read'
-  fault="$(release_fault "$1" "$hash" 2>/dev/null)"
-  printf '%s of the sources %s\n' "$1" "$hash"
-  printf 'release: %s\n' "${fault:-of these sources}"
-  while read -r key name; do
-    [ "$key" != kit ] || of=$name
-  done 2>/dev/null <"$top/release/PROVENANCE" || true
-  printf 'kit of the release: %s\n' "$of"
-}
-
 tell() { printf '%s\n' "$*" >&2; }
+
+# Reads further functions, once.
+need() { declare -F "$2" >/dev/null || source "$top/tools/$1"; }
 
 sha256_of() { sha256sum <"$1" | cut -c1-64; }
 
@@ -108,7 +64,7 @@ crate_lines() {
     read -r -a words <<<"${lines[$name]#*:}"
     todo+=("${words[@]}")
     unset "lines[$name]"
-  done | LC_ALL=C sort
+  done | sort
 }
 
 # The folders of those crates that a build reads, one a line, by their paths below the top.
@@ -126,7 +82,7 @@ source_folders() {
 file_sums() (
   set -o pipefail
   cd "$top" && find "$@" -regex 'crates/[^/]*/out' -prune -o \( -type f -o -type l \) -print0 |
-    LC_ALL=C sort -z | xargs -0 sha256sum
+    sort -z | xargs -0 sha256sum
 )
 
 # One hash over those lines, and over the path and content of each file in those folders.
@@ -164,153 +120,146 @@ release_fault() {
   [ "$status" = "${trial[0]}" ] || echo "release/$file does not run on this machine"
 }
 
+# One hash over the kind, inode, size and time of status change of each file and folder by which the release of NAME is found
+# right, in the order in which they are found: crates.txt, all that any crate is built from, the release, and this machine's
+# loader; and over the start of the machine. (A new name in a folder is a change of the folder.) Three look at a time.
+files_stamp() (
+  shopt -s nullglob
+  boot='' loader=/lib64/ld-linux-x86-64.so.2 form='%y %i %s %C@\n'
+  { read -r boot </proc/sys/kernel/random/boot_id; } 2>/dev/null || true
+  cd "$top" || exit
+  [ -e "$loader" ] || loader=.
+  {
+    printf 'stamp 2 %s %s\n' "$1" "$boot"
+    cat <(find -H crates.txt crates/[!a-m]*/proofs -printf "$form") <(find -H crates.txt crates/[a-m]*/proofs -printf "$form") \
+      <(find -H crates.txt crates/*/{src,specs,c} release "$loader" -printf "$form")
+  } | sha256sum
+)
+
+# Whether the release was found right before, and nothing that was looked at then has changed.
+is_stamped() {
+  local kept=''
+  { read -r kept <"$top/out/$1.stamp"; } 2>/dev/null || true
+  [ -n "$kept" ] && [ "$kept" = "$(files_stamp "$1" 2>/dev/null)" ]
+}
+
+# Makes a file for a new stamp, before the sources are looked at, and sets `begun` to its name; empty where none can be made.
+begin_stamp() {
+  begun=''
+  [ ! -e "$1" ] || begun="$(mkdir -p "$top/out" && mktemp "$top/out/stamp.XXXXXX")" || begun=''
+  # Those of calls that were killed.
+  [ -z "$begun" ] || find "$top/out" -maxdepth 1 -name 'stamp.??????' -mmin +60 -delete || true
+} 2>/dev/null
+
+# Keeps the stamp $2, which was taken behind `begin_stamp` and before the sources were hashed, in the place of that of NAME,
+# where it still is the stamp, no file was touched in the two seconds before that or later (an edit during the hashing could
+# else have the time that was seen), and none is a link, whose own times say nothing of its text. Else the next call hashes.
+keep_stamp() {
+  if [ -n "$2" ] && touch -c -d "@$(($(stat -c %Z "$begun") - 2))" "$begun" &&
+    [ -z "$(cd "$top" && find crates.txt crates release \( -newercm "$begun" -o -type l \) -not -path '*/out/*' -print -quit || echo fault)" ] &&
+    [ "$2" = "$(files_stamp "$1")" ] && printf '%s\n' "$2" >"$begun" && chmod 644 "$begun"; then
+    mv -f "$begun" "$top/out/$1.stamp" || rm -f "$begun"
+  fi
+} 2>/dev/null
+
 find_program() {
-  local name=$1 sources of='' sum='' fault
-  local built="$top/crates/$name/out/$name"
+  local name=$1 sources='' of='' sum='' fault stamp begun
+  local built="$top/crates/$name/out/$name" file="$top/release/$name-x86_64-linux"
   program='' why=''
-  sources="$(sources_hash "$name")" || {
+  if [ -e "$top/INSTALLED" ]; then
+    if [ -x "$file" ]; then
+      program="$file" why="installed, $(<"$top/INSTALLED")"
+      return
+    fi
+    why="there is no $file: install it again"
+    return 1
+  fi
+  if is_stamped "$name"; then
+    program="$file" why='the release of these sources'
+    return
+  fi
+  begin_stamp "$file"
+  [ -n "$begun" ] && stamp="$(files_stamp "$name" 2>/dev/null)" || stamp=''
+  sources="$(sources_hash "$name")" || sources=''
+  [ -z "$sources" ] || fault="$(release_fault "$name" "$sources" 2>/dev/null)" || fault='its release cannot be judged'
+  [ -z "$sources" ] || [ -n "$fault" ] || [ -z "$stamp" ] || keep_stamp "$name" "$stamp"
+  [ -z "$begun" ] || rm -f "$begun"
+  if [ -z "$sources" ]; then
     why="the sources of $name cannot be read"
     return 1
-  }
+  elif [ -z "$fault" ]; then
+    program="$file" why='the release of these sources'
+    return
+  fi
   { read -r of sum <"$built.note"; } 2>/dev/null || true
   if [ "$of" = "$sources" ] && is_file "$built" "$sum"; then
-    program="$built" why="proved and built here, from these sources"
+    program="$built" why='proved and built here, from these sources'
     return
   fi
-  if fault="$(release_fault "$name" "$sources" 2>/dev/null)" && [ -z "$fault" ]; then
-    program="$top/release/$name-x86_64-linux" why="the release of these sources"
-    return
-  fi
-  why="no build of these sources is here, and ${fault:-its release cannot be judged}"
+  why="no build of these sources is here, and $fault"
   return 1
 }
 
-# Proves and builds the program, and notes what it was built from. Two at once take turns, by a lock on the top folder.
-build_program() (
-  name=$1
-  folder="$top/crates/$name"
-  built="$folder/out/$name"
-  rt="$(command -v rt || echo /opt/rattle/bin/rt)"
-  fail() {
-    tell "$name: $*"
-    exit 70
-  }
-  tell "$name: $why"
-  [ -x "$rt" ] || fail "there is no rt on the path and no $rt, so the program cannot be built here"
-  mkdir -p "$folder/out" || fail "$folder/out cannot be made"
-  exec {lock}<"$top"
-  if ! flock -n "$lock"; then
-    tell "$name: waiting for another build in this checkout"
-    flock "$lock" || true
-  fi
-  ! find_program "$name" || exit 0
-
-  # A run of `rt` in this crate, as of the gate, keeps what it made until it ends.
-  flock -n "$folder" true || tell "$name: waiting for a run of rt in this checkout"
-  flock "$folder" rm -f "$built" "$built.note" "$folder/out/begun."* || fail "$built cannot be removed"
-  begun="$(mktemp "$folder/out/begun.XXXXXX")" || fail "$folder/out cannot be written"
-  trap 'rm -f "$begun"' EXIT
-  sources="$(sources_hash "$name")" || fail "the sources cannot be read"
-
-  tell "$name: proving and building the program; from nothing this takes some minutes"
-  read -r -a trial <<<"$(trial_of "$name")"
-  # `rt run` proves each crate in turn, links the program, and runs it.
-  (cd "$folder" && exec "$rt" run -- "${trial[@]:1}") {lock}<&- </dev/null 2>&1 |
-    tee "$folder/out/build.log" {lock}<&- |
-    sed -un -e "s/^rt: chose .* for \(.*\)$/$name: proving the crate \1/p" \
-      -e 's/^so far: \([0-9]* of [0-9]* functions\) checked.*/  \1/p' \
-      -e '/^error\|: error\|: no proof\|waiting for/p' {lock}<&- >&2
-  status=${PIPESTATUS[0]}
-
-  [ "$status" = "${trial[0]}" ] || fail "the program could not be built: rt run ended with $status; see $folder/out/build.log"
-  [ -x "$built" ] || fail "the program could not be built: rt run left no $built; see $folder/out/build.log"
-  ! sources_touched "$name" "$begun" || fail "sources changed while the program was built, so it is not run; call again"
-  printf '%s %s\n' "$sources" "$(sha256_of "$built")" >"$begun" && mv "$begun" "$built.note"
-)
-
 ready_program() {
   find_program "$1" && return
+  [ ! -e "$top/INSTALLED" ] || { tell "$1: $why" && return 70; }
+  need launch_build.sh build_program
   build_program "$1" || return 70
   find_program "$1" && return
   tell "$1: sources changed since the program was built, so it is not run; call again"
   return 70
 }
 
-# The number of seconds after which a run is next said to be at work: 1, 2, 5, 10, 20, and then each half minute.
-next_time() {
-  local time
-  for time in 1 2 5 10 20; do
-    [ "$1" -ge "$time" ] || break
-  done
-  [ "$1" -lt "$time" ] || time=$(($1 / 30 * 30 + 30))
-  printf '%s\n' "$time"
-}
-
-# The text with commas in its long numbers.
-with_commas() {
-  local text=$1
-  while [[ $text =~ ^(.*[0-9])([0-9]{3})(([^0-9].*)?)$ ]]; do
-    text="${BASH_REMATCH[1]},${BASH_REMATCH[2]}${BASH_REMATCH[3]}"
-  done
-  printf '%s\n' "$text"
-}
-
-# Says that the run with this process number is at work, which memory it holds, and the stage that it writes into the file:
-# at those times, and where it is at another part of its work, but at most once a second. It ends with its standard input,
-# whose other end the run holds open.
-watch_run() {
-  local name=$1 run=$2 file=$3 seconds=0 next=1 stage='' part='' status pages line
-  while true; do
-    status=0
-    read -r -t 1 || status=$?
-    [ "$status" -gt 128 ] || return 0
-    seconds=$((seconds + 1))
-    { read -r _ pages _ <"/proc/$run/statm"; } 2>/dev/null || return 0
-    { read -r line <"$file" && stage="$(with_commas "$line")"; } 2>/dev/null
-    [ "$seconds" -ge "$next" ] || [ "$part" != "${stage%%[ :]*}" ] || continue
-    next="$(next_time "$seconds")" part="${stage%%[ :]*}"
-    tell "$name: at work for $seconds s, $((pages / 256)) MiB${stage:+, $stage}"
-  done
-}
-
-# Opens a file without a name, and sets `stage_file` to where this process and those that it starts find it.
-open_stage_file() {
-  local path opened
-  path="$(mktemp 2>/dev/null)" || return
-  { exec {opened}<>"$path"; } 2>/dev/null && stage_file="/proc/self/fd/$opened"
-  rm -f "$path"
-}
-
-launch() {
-  local name=$1 held stage_file=''
+# What is said without a run, for the words that ask for it: false for all others.
+said_without_a_run() {
+  local name=$1
   shift
   case "$*" in
   --help | -h)
+    need launch_help.sh help_of
     help_of "$name"
-    exit 0
     ;;
   --version)
+    need launch_help.sh help_of
     version_of "$name"
-    exit 0
     ;;
-  esac
-  if [ "$*" = --where ]; then
+  --where)
     find_program "$name" || {
       tell "$name: $why; a call proves and builds one"
       exit 70
     }
     printf '%s\n' "$program"
     tell "$name: $why"
-    exit 0
+    ;;
+  *) return 1 ;;
+  esac
+}
+
+launch() {
+  local name=$1
+  shift
+  ! said_without_a_run "$name" "$@" || exit 0
+  if [ "$name" = spack_concretize ]; then
+    source "$top/tools/launch_words.sh"
+    ! help_with_a_word "$@" || exit 0
+    if [ "${1:-}" = --json ]; then
+      shift
+      ready_program "$name" || {
+        printf '{"answer": "NoProgram", "program": "", "status": 70, "version": 1, "words": []}\n'
+        exit 70
+      }
+      run_for_json "$@"
+    fi
   fi
   ready_program "$name" || exit 70
-  # Only a terminal is told: what a run says on a file or a pipe is what it promises.
   unset SPACK_CONCRETIZE_STAGE
-  if [ -t 2 ]; then
-    open_stage_file && export SPACK_CONCRETIZE_STAGE="$stage_file"
-    exec {held}> >(watch_run "$name" $$ "$stage_file" >/dev/null)
-  fi
   # A limit of file sizes is then a fault of writing, which the program says, and no signal that kills it.
   trap '' XFSZ
-  exec "$program" "$@"
+  # Only a terminal is told more, but of wrong words: what a run says on a file or a pipe is what it promises.
+  if [ -t 2 ]; then
+    source "$top/tools/launch_watch.sh"
+    run_on_terminal "$name" "$@"
+  fi
+  [ "$name" != spack_concretize ] || words_are_right "$@" || run_wrong_words "$@"
+  PATH="$callers_path" exec "$program" "$@"
 }

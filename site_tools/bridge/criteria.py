@@ -25,11 +25,15 @@ def read(text: str) -> list[int]:
     return [int(word) for word in lines[-1]]
 
 
+def names() -> list[str]:
+    """The words of all numbers, in order."""
+    return [f"to build: {words}" for words in WORDS] + ["packages to build"] + [f"not to build: {words}" for words in WORDS]
+
+
 def lines(vector: list[int], reason_of: Callable[[int, int], Optional[str]], everything: bool = False) -> list[str]:
     """The numbers in words with their reasons, the heaviest first; those that are 0 only where all are asked for."""
-    names = [f"to build: {words}" for words in WORDS] + ["packages to build"] + [f"not to build: {words}" for words in WORDS]
     found = []
-    for place, (number, name) in enumerate(zip(vector, names), start=1):
+    for place, (number, name) in enumerate(zip(vector, names()), start=1):
         if number or everything:
             found.append(f"{place:4}. {number:6}  {name}")
         reason = reason_of(place, number) if number else None

@@ -82,9 +82,10 @@ def facts(lock: Lock, node: Node) -> dict[str, str]:
 
 
 def diff_lines(old: Lock, new: Lock) -> list[str]:
-    """What is in one graph and not in the other, package by package."""
+    """What is in one graph and not in the other, package by package; and what was asked for, where that is other."""
     before, after = old.by_name(), new.by_name()
-    lines: list[str] = []
+    asked = ["; ".join(spec for spec, _ in each.roots) for each in (old, new)]
+    lines = [f"  asked for: {asked[0]} -> {asked[1]}"] if asked[0] != asked[1] else []
     for name in sorted(before.keys() | after.keys()):
         if name not in after:
             lines.append(f"- {node_texts.spec_text(before[name], '')}")
@@ -98,7 +99,8 @@ def diff_lines(old: Lock, new: Lock) -> list[str]:
     providers = sorted(old.providers.keys() | new.providers.keys())
     changed = [name for name in providers if old.providers.get(name) != new.providers.get(name)]
     lines += [f"  provider of {name}: {old.providers.get(name, 'none')} -> {new.providers.get(name, 'none')}" for name in changed]
-    return lines or ["no difference"]
+    return lines or SAME
 
 
+SAME = ["no difference"]
 FORMATS = {"tree": tree_lines, "table": table_lines, "dot": dot_lines, "json": json_lines}

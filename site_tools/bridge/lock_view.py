@@ -2,15 +2,17 @@
 
 With `--vector` it says what the 31 numbers are, in words: from a file with the program's output, from `-`, or, with
 `--judge REPO SETTINGS DATABASE`, by asking the program. It computes no cost itself.
+
+With `--diff` the status says whether anything differs, as that of `diff`. With `--why` it says of one package who asks for it
+and what its choices cost, computed from the recipes and compared with the program's numbers where these are known.
 """
 import argparse
-import json
 import subprocess
 import sys
 from pathlib import Path
 from typing import Optional
 
-from . import cost_reasons, criteria, lock, lock_formats
+from . import cost_reasons, criteria, json_files, lock, lock_formats
 
 TOP = Path(__file__).resolve().parent.parent.parent
 
@@ -41,7 +43,7 @@ def vector_text(found: lock.Lock, given: argparse.Namespace) -> Optional[str]:
 def settings_of(given: argparse.Namespace) -> Optional[dict]:
     """The settings that the costs are by, where they are known; `-` are the standard ones."""
     path = given.judge[1] if given.judge else given.settings
-    return None if path is None else {} if path == "-" else json.loads(Path(path).read_text("utf-8"))
+    return None if path is None else {} if path == "-" else json_files.read(Path(path))
 
 
 def arguments(words: Optional[list[str]]) -> argparse.Namespace:
@@ -49,21 +51,37 @@ def arguments(words: Optional[list[str]]) -> argparse.Namespace:
     parser = argparse.ArgumentParser(prog="lock_view", description=__doc__)
     parser.add_argument("lock", type=Path, metavar="LOCK", help="a lock file")
     parser.add_argument("--format", choices=sorted(lock_formats.FORMATS), default="tree", help="tree is the standard")
-    parser.add_argument("--diff", type=Path, metavar="OTHER", help="what is other in the lock file OTHER")
+    parser.add_argument("--diff", type=Path, metavar="OTHER", help="what is other in the lock file OTHER; status 1 where anything is")
     parser.add_argument("--vector", metavar="FILE", help="what concretize or judge said, for the costs in words; - is standard input")
     parser.add_argument("--judge", nargs=3, metavar=("REPO", "SETTINGS", "DATABASE"), help="asks the program for the costs")
     parser.add_argument("--settings", metavar="SETTINGS", help="with --vector: the settings, for more of the reasons")
+    parser.add_argument("--why", metavar="NAME", help="who asks for this package or virtual, and what its choices cost")
+    parser.add_argument("--repo", metavar="REPO", help="with --why: the recipes")
     parser.add_argument("--all", action="store_true", help="also the costs that are 0")
     return parser.parse_args(words)
 
 
+def why_lines(found: lock.Lock, given: argparse.Namespace) -> list[str]:
+    """Who asks for a package, and what its choices cost as far as recipes and settings are named."""
+    from . import why
+    from .catalog import Catalog
+
+    text = vector_text(found, given)
+    inputs = given.judge or ([given.repo, given.settings or "-"] if given.repo else None)
+    return why.lines(given.why, found, Catalog(*inputs) if inputs else None, None if text is None else criteria.read(text))
+
+
 def main(words: Optional[list[str]] = None) -> int:
-    """Shows a lock file: 0 where it was shown, 2 where it is none or the program refuses it."""
-    given = arguments(words)
+    """Shows a lock file: 0 where it was shown, 1 where --diff shows a difference, 2 where it is none or the program refuses it."""
+    given, differs = arguments(words), False
     try:
         found = lock.read(given.lock)
+        if given.why:
+            print("\n".join(why_lines(found, given)))
+            return 0
         if given.diff:
             lines = lock_formats.diff_lines(found, lock.read(given.diff))
+            differs = lines != lock_formats.SAME
         else:
             lines = lock_formats.FORMATS[given.format](found)
         text = vector_text(found, given)
@@ -75,4 +93,4 @@ def main(words: Optional[list[str]] = None) -> int:
         print(f"lock_view: {fault}", file=sys.stderr)
         return 2
     print("\n".join(lines))
-    return 0
+    return 1 if differs else 0

@@ -5,11 +5,11 @@ use Rattle.clause_store.specs.declared.Label.{Label}
 use Rattle.clause_store.specs.declared.Label.TheVariants.{Demand}
 use Rattle.clause_store.specs.Clauses.{Clauses, counts}
 use Rattle.gate_plans.specs.Growth.{Agree, where_asked}
-use Rattle.gate_plans.proofs.Composed.{Grows-trans, Agree-trans, MeetsSince-parts, MeetsSince-join, Meets-agree, since}
+use Rattle.gate_plans.proofs.Composed.{Grows-refl, Grows-trans, Extends-refl, Agree-trans, MeetsSince-parts, MeetsSince-join, Meets-agree, since}
 use Rattle.clause_formulas.specs.Statements.{Statement, eval, any_of, SaidBelow}
 use Rattle.clause_formulas.specs.Gated.{Gated, gated, GatesBelow, Keeps}
 use Rattle.clause_formulas.specs.Built.{assert_in, demand_in, claimed, demands_true}
-use Rattle.clause_formulas.specs.Allowed.{AllowsIn}
+use Rattle.clause_formulas.specs.Allowed.{Allows, AllowsIn}
 use Rattle.clause_formulas.proofs.DraftLaws.{eval-agree}
 use Rattle.clause_formulas.proofs.GateLaws.{Fits-agree, Keeps-refl}
 use Rattle.clause_formulas.proofs.Laws.{assert_in_is, demand_is}
@@ -18,21 +18,21 @@ use Rattle.clause_formulas.proofs.Laws.{assert_in_is, demand_is}
 abbrev pub Rule : Type 1
 Rule = (ℕ → Bool) → (ℕ → Bool) → Type 0
 
-pub Allows-keeps : (s t : Gated) (p : Rule) → Keeps s t → AllowsIn s t p
-Allows-keeps s t p d = record {
+pub AllowsIn-keeps : (s t : Gated) (p : Rule) → Keeps s t → AllowsIn s t p
+AllowsIn-keeps s t p d = record {
   grows = d.extends.grows;
   below = d.below;
   fits = d.fits;
   each = λ asked v k h. d.extends.each asked v refl;
 }
 
-pub Allows-refl : (s : Gated) (p : Rule) → GatesBelow s.list.vars s.gates → AllowsIn s s p
-Allows-refl s p i = Allows-keeps s s p (Keeps-refl s i)
+pub AllowsIn-refl : (s : Gated) (p : Rule) → GatesBelow s.list.vars s.gates → AllowsIn s s p
+AllowsIn-refl s p i = AllowsIn-keeps s s p (Keeps-refl s i)
 
 -- two steps one after the other
-pub Allows-then : (a b c : Gated) (p q : Rule) → GatesBelow a.list.vars a.gates → AllowsIn a b p → AllowsIn b c q
+pub AllowsIn-then : (a b c : Gated) (p q : Rule) → GatesBelow a.list.vars a.gates → AllowsIn a b p → AllowsIn b c q
     → ((asked v w : ℕ → Bool) → Agree a.list.vars v w → p asked v → q asked w) → AllowsIn a c p
-Allows-then a b c p q i d e link = record {
+AllowsIn-then a b c p q i d e link = record {
   grows = Grows-trans a.list b.list c.list d.grows e.grows;
   below = e.below;
   fits = λ asked v k m.
@@ -50,10 +50,27 @@ Allows-then a b c p q i d e link = record {
 }
 
 -- a call that came to its end, or left the list as it found it
-pub Allows-called : {T E : Type 0} (r : Result T E) (s t v : Gated) (u : Clauses) (p : Rule) → AllowsIn s v p → Keeps s t
+pub AllowsIn-called : {T E : Type 0} (r : Result T E) (s t v : Gated) (u : Clauses) (p : Rule) → AllowsIn s v p → Keeps s t
     → OnOk r (v ≡ gated u t.gates) → OnErr r (u ≡ t.list) → AllowsIn s (gated u t.gates) p
-Allows-called (Ok x) s t v u p d e f g = subst (λ l. AllowsIn s l p) f d
-Allows-called (Err x) s t v u p d e f g = subst (λ l. AllowsIn s (gated l t.gates) p) (sym g) (Allows-keeps s t p e)
+AllowsIn-called (Ok x) s t v u p d e f g = subst (λ l. AllowsIn s l p) f d
+AllowsIn-called (Err x) s t v u p d e f g = subst (λ l. AllowsIn s (gated l t.gates) p) (sym g) (AllowsIn-keeps s t p e)
+
+-- over no gates
+pub Allows-refl : (s : Clauses) (p : Rule) → Allows s s p
+Allows-refl s p = record { grows = Grows-refl s; each = λ asked v h. (Extends-refl s).each asked v refl }
+
+pub Allows-then : (a b c : Clauses) (p q : Rule) → Allows a b p → Allows b c q
+    → ((asked v w : ℕ → Bool) → Agree a.vars v w → p asked v → q asked w) → Allows a c p
+Allows-then a b c p q d e link = record {
+  grows = Grows-trans a b c d.grows e.grows;
+  each = λ asked v h.
+      let x = d.each asked v h in
+      let y = e.each asked x.0 (link asked v x.0 x.1 h) in (
+        y.0,
+        Agree-trans a.vars b.vars v x.0 y.0 d.grows.more x.1 y.1,
+        MeetsSince-join asked y.0 a b c d.grows e.grows (Meets-agree asked b.vars x.0 y.0 y.1 (since a b) d.grows.in_range x.2) y.2,
+      );
+}
 
 -- what is claimed of a formula, where the label is asked for
 abbrev pub claims : Label → Bool → Statement → Rule
@@ -62,14 +79,14 @@ claims label sign f = λ asked v. where_asked label (λ w. claimed sign (eval w 
 pub claim-called : {T E : Type 0} (r : Result T E) (s t : Gated) (u : Clauses) (label : Label) (sign : Bool) (f : Statement)
     → GatesBelow s.list.vars s.gates → SaidBelow s.list.vars f → Keeps s t → OnOk r (assert_in label s sign f ≡ gated u t.gates)
     → OnErr r (u ≡ t.list) → AllowsIn s (gated u t.gates) (claims label sign f)
-claim-called r s t u label sign f i b e p q = Allows-called r s t (assert_in label s sign f) u (claims label sign f)
+claim-called r s t u label sign f i b e p q = AllowsIn-called r s t (assert_in label s sign f) u (claims label sign f)
     (assert_in_is label f sign s i b).allows e p q
 
 pub demand-called : {T E : Type 0} (r : Result T E) (s t : Gated) (u : Clauses) (f : Statement) (id : ℕ)
     → GatesBelow s.list.vars s.gates → SaidBelow s.list.vars f → Keeps s t → OnOk r (demand_in s f id ≡ gated u t.gates)
     → OnErr r (u ≡ t.list) → AllowsIn s (gated u t.gates) (λ asked v. where_asked (Demand id) (λ w. eval w f) asked v ≡ true)
 demand-called r s t u f id i b e p q =
-    Allows-called r s t (demand_in s f id) u (λ asked v. where_asked (Demand id) (λ w. eval w f) asked v ≡ true)
+    AllowsIn-called r s t (demand_in s f id) u (λ asked v. where_asked (Demand id) (λ w. eval w f) asked v ≡ true)
     (demand_is s f id i b).allows e p q
 
 -- where none of a list is true, no part is

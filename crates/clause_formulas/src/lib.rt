@@ -1,10 +1,11 @@
 //! Formulas over literals as plain data, and the clauses that say them.
 //!
-//! It promises: `define` gives a formula a value, `assert` and `demand` ask for it; each call equals
+//! It promises: `define` gives a formula a value, `assert` and `demand_in` ask for it; each call equals
 //! a computing definition (so that clauses have fixed numbers), and has one law, which says what the
 //! new clauses ask of the old variables. Constants fold, any-ofs in any-ofs flatten, an implication
-//! is one clause, and only what stands under the other sign takes a variable. It stands on
-//! `gate_plans`, whose words of growth it takes over. It must not know what literals mean.
+//! is one clause, only what stands under the other sign takes a variable, and over a table of gates
+//! none is made twice. It stands on `gate_plans`, whose words of growth it takes over. It must not
+//! know what literals mean.
 #![tactic(auto)]
 
 mod asked;

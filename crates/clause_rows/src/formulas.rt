@@ -5,13 +5,14 @@ ghost use Rattle.clause_formulas.specs.Statements.{SaidBelow};
 use crate::answer::Answer;
 use crate::input::{lit_of, lits_of, parts};
 use clause_formulas::{
-    Defined, Formula, are_below, assert, define, define_all, demand, demand_all, is_below, literal,
+    Defined, Formula, Gates, are_below, assert, define, define_all_in, demand_all_in, demand_in,
+    is_below, literal,
 };
 use clause_store::{ClauseList, Label, Lit};
 use std::alloc::{AllocError, Global};
 
 /// The commands `define`, `literal` (of the value that is defined), `assert` and `demand` (of id 7) of
-/// a formula, and `each` and `demands` (of ids from 0 on) of formulas, in Polish order backwards:
+/// a formula, and `each` and `demands` (of ids from 0 on) of formulas that share their gates, in Polish order backwards:
 /// a literal; `!` for the opposite; `|3` and `&3` for any and all of the last three; `+` for both of the
 /// last two; `>` where the last but one implies the last; `^1,-2` for exactly one of literals.
 pub fn ask(
@@ -44,11 +45,12 @@ fn say_all(
     if !are_below(formulas, clauses.vars()) {
         return Ok(None);
     }
+    let mut gates = Gates::new(alloc);
     if command == "each" {
-        let values = define_all(alloc, clauses, formulas)?;
+        let values = define_all_in(alloc, clauses, &mut gates, formulas)?;
         return Ok(Some(Answer::Each(values)));
     }
-    demand_all(alloc, clauses, formulas)?;
+    demand_all_in(alloc, clauses, &mut gates, formulas)?;
     Ok(Some(Answer::Lits(Vec::new(alloc))))
 }
 
@@ -69,7 +71,7 @@ fn say(
         },
         "literal" => lits.push(defined(alloc, clauses, formula)?)?,
         "assert" => assert(alloc, clauses, formula, Label::Structure)?,
-        _ => demand(alloc, clauses, formula, 7)?,
+        _ => demand_in(alloc, clauses, &mut Gates::new(alloc), formula, 7)?,
     }
     Ok(Some(Answer::Lits(lits)))
 }

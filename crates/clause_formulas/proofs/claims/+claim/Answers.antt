@@ -8,7 +8,7 @@ use Rattle.clause_formulas.specs.Allowed.{AllowsIn}
 use Rattle.clause_formulas.proofs.GateLaws.{Keeps-refl}
 use Rattle.clause_formulas.proofs.SpreadSteps.{ask-below, weight-at, SaidBelow-at}
 use Rattle.clause_formulas.proofs.CallSteps.{assert-any}
-use Rattle.clause_formulas.proofs.AllowLaws.{claims, Allows-refl, Allows-then, claim-called, none-claimed}
+use Rattle.clause_formulas.proofs.AllowLaws.{claims, AllowsIn-refl, AllowsIn-then, claim-called, none-claimed}
 use Rattle.clause_formulas.proofs.claims.+claim.Goals as goal
 
 pub claim_any-add_draft-requires : goal.claim_any-add_draft-requires
@@ -34,18 +34,18 @@ claim_any-claim-requires t c =
     )
 
 pub claim_any-loop-part-init : goal.claim_any-loop-part-init
-claim_any-loop-part-init t c = record { rest = refl; allows = Allows-refl _ _ c.requires.gates_below }
+claim_any-loop-part-init t c = record { rest = refl; allows = AllowsIn-refl _ _ c.requires.gates_below }
 
 pub claim_any-loop-part-preserved : goal.claim_any-loop-part-preserved
 claim_any-loop-part-preserved t c = record {
   rest = grind (arith, common_steps);
-  allows = Allows-then _ _ _ _ _ c.requires.gates_below c.loop-part.invariant.allows c.claim.ensures.allows
+  allows = AllowsIn-then _ _ _ _ _ c.requires.gates_below c.loop-part.invariant.allows c.claim.ensures.allows
       (none-claimed c.args.label c.args.clauses.now.vars c.args.parts.now c.loop-part.part-index c.part-item.result (omega arith)
       c.part-item.is c.requires.parts_below);
 }
 
 pub claim-returns-in_err-put-in-Atom-clause-allows : goal.claim-returns-in_err-put-in-Atom-clause-allows
-claim-returns-in_err-put-in-Atom-clause-allows t c = Allows-refl _ _ c.requires.gates_below
+claim-returns-in_err-put-in-Atom-clause-allows t c = AllowsIn-refl _ _ c.requires.gates_below
 
 pub claim-returns-in_ok-put-in-Atom-clause-built : goal.claim-returns-in_ok-put-in-Atom-clause-built
 claim-returns-in_ok-put-in-Atom-clause-built t c = search rules
@@ -66,6 +66,6 @@ pub claim_any-returns-in_err-claim-clause-allows : goal.claim_any-returns-in_err
 claim_any-returns-in_err-claim-clause-allows t c =
     subst (λ b. AllowsIn (gated c.args.clauses.now c.args.gates.now) (gated c.claim.new.clauses c.claim.new.gates)
     (claims c.args.label b (any_of c.args.parts.now))) (sym c.if-sign.false)
-    (Allows-then _ _ _ _ _ c.requires.gates_below c.loop-part.invariant.allows c.claim.ensures.allows
+    (AllowsIn-then _ _ _ _ _ c.requires.gates_below c.loop-part.invariant.allows c.claim.ensures.allows
     (none-claimed c.args.label c.args.clauses.now.vars c.args.parts.now c.loop-part.part-index c.part-item.result (omega arith)
     c.part-item.is c.requires.parts_below))

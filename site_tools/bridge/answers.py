@@ -1,0 +1,64 @@
+"""What a run says on standard output as data: nodes, the vector, the words of an answer (docs/formats/texts.md)."""
+import re
+from typing import Any, Optional
+
+from . import criteria
+from .fault_lines import ANSWERS
+
+NAMES = {0: "Done", 1: "Unsatisfiable", 3: "Undecided", 10: "NoWords", 70: "NoProgram", **ANSWERS}
+NODE = re.compile(
+    r"(?P<name>\S+?)@=(?P<version>\S+)(?P<variants>(?: [^%\s]\S*)*?)(?: %(?P<compiler>\S+?)@=(?P<of>\S+))?"
+    r" os=(?P<os>\S+) target=(?P<target>\S+) (?P<origin>built|external|installed)(?: (?P<behind>\S+))?"
+)
+
+
+def variants(text: str) -> dict[str, list[str]]:
+    """The variants of a node's line."""
+    found: dict[str, list[str]] = {}
+    for word in text.split():
+        if word[0] in "+~":
+            found[word[1:]] = ["true" if word[0] == "+" else "false"]
+        else:
+            name, _, values = word.partition("=")
+            found[name] = values.split(",")
+    return found
+
+
+def node(line: str) -> Optional[dict[str, Any]]:
+    """A node's line as data; None where it is none."""
+    each = NODE.fullmatch(line)
+    if each is None:
+        return None
+    found: dict[str, Any] = {key: each[key] for key in ("name", "version", "os", "target", "origin")}
+    found["variants"] = variants(each["variants"])
+    found["compiler"] = {"name": each["compiler"], "version": each["of"]} if each["compiler"] else None
+    if each["origin"] == "external":
+        found["entry"] = int(each["behind"])
+    elif each["origin"] == "installed":
+        found["hash"] = each["behind"]
+    return found
+
+
+def data(out: str) -> dict[str, Any]:
+    """What stands on standard output."""
+    found: dict[str, Any] = {}
+    lines = out.splitlines()
+    nodes = [each for each in map(node, lines) if each]
+    if nodes:
+        found["nodes"] = nodes
+    for line in lines:
+        word, _, rest = line.partition(" ")
+        if word == "vector":
+            found["vector"] = criteria.read(line)
+            names = criteria.names()
+            found["costs"] = [
+                {"number": place, "value": value, "words": names[place - 1]}
+                for place, value in enumerate(found["vector"], start=1) if value
+            ]
+        elif word in ("valid", "accepted", "satisfiable", "fresh", "stale", "broken") and not rest:
+            found["said"] = word
+        elif word == "undecided":
+            found["budget"] = int(rest)
+        elif word == "learnt" and rest.isdigit():
+            found["learnt"] = int(rest)
+    return found

@@ -1,0 +1,135 @@
+"""The reasons that `explain` gives, with what stands behind each: the text and place of a directive, and the causes that show.
+
+Reads what the program said, and the files of the run; the program alone decides that there is no graph.
+"""
+import re
+from dataclasses import asdict, dataclass, field
+from typing import Any
+
+from . import origins, spec_parts
+from .catalog import Catalog, few
+from .reason_causes import Cause, causes
+from .recipe_rows import Directive
+from .shown import shown
+
+LINE = re.compile(r"root ([0-9]+) (.*)|([A-Za-z0-9_-]+) (depends_on|conflicts|requires) ([0-9]+)")
+
+
+@dataclass
+class Reason:
+    """A root, or a directive of a package, with its place in the recipe, the line of Spack's that it was made of, and causes."""
+
+    kind: str
+    number: int
+    text: str
+    package: str = ""
+    file: str = ""
+    line: int = 0
+    msg: str = ""
+    origin: str = ""
+    causes: list[Cause] = field(default_factory=list)
+    needs: list[str] = field(default_factory=list)
+
+    def lines(self) -> list[str]:
+        """The reason for a person."""
+        head = f"root {self.number}: {shown(self.text)}"
+        if self.kind != "root":
+            head = f"{self.package}: {shown(self.text)}"
+        found = [f"  {head}"]
+        if self.file:
+            found.append(f"      {shown(self.file)}:{self.line}" + (f", from {shown(self.origin)}" if self.origin else ""))
+        found += [f"      its message: {shown(self.msg)}"] if self.msg else []
+        for each in self.causes:
+            there = f": there is {few(map(shown, each.near))}" if each.near else ""
+            found.append(f"      {each.kind}: {each.text}{there}")
+        return found
+
+    def data(self) -> dict[str, Any]:
+        """The reason for a machine, without what is empty."""
+        whole = asdict(self)
+        del whole["needs"]
+        return {key: value for key, value in whole.items() if value != "" and not (key == "line" and not self.file)}
+
+
+def needed(row: Directive, catalog: Catalog) -> list[str]:
+    """The packages that a dependency can lead to: itself, or who provides it."""
+    names = [spec[0].name for spec in spec_parts.parts(row.first())][:1]
+    return names + sorted({package for name in names for package, _ in catalog.virtuals.get(name, [])})
+
+
+def directive_causes(row: Directive, package: str, catalog: Catalog) -> list[Cause]:
+    """The causes in the spec of a dependency, or in all specs of a requirement."""
+    if row.word == "depends_on":
+        return [cause for spec in spec_parts.parts(row.first()) for part in spec for cause in causes(part, catalog)]
+    if row.word == "requires":
+        each_of = [[cause for spec in spec_parts.parts(str(text)) for part in spec
+                    for cause in causes(own(part, package), catalog)] for text in row.values]
+        return [cause for found in each_of for cause in found] if all(each_of) else []
+    return []
+
+
+def own(part: spec_parts.Part, package: str) -> spec_parts.Part:
+    """A part of a condition, which speaks of the recipe's own package where it has no name."""
+    part.name = part.name or package
+    return part
+
+
+def of_directive(package: str, word: str, number: int, catalog: Catalog) -> Reason:
+    """A directive by its number."""
+    found = Reason(word, number, f"{word} {number}", package)
+    rows = catalog.rows(package)
+    if number < len(rows) and rows[number].word == word:
+        row = rows[number]
+        around = [text for text in row.conditions if text != row.keywords.get("when")]
+        found.text = row.text + (f" with when {' '.join(around)}" if around else "")
+        found.file, found.line = f"{catalog.repo}/packages/{package}/package.py", row.line
+        found.msg = str(row.keywords.get("msg") or "")
+        found.causes = directive_causes(row, package, catalog)
+        found.needs = needed(row, catalog) if word == "depends_on" else []
+    entry = origins.entry(catalog.repo, package, number)
+    if entry:
+        found.origin = f"{entry.get('file', '')}:{entry.get('line', '')}".strip(":")
+        found.msg = str(entry.get("msg") or found.msg)
+    return found
+
+
+def read(said: str, catalog: Catalog) -> list[Reason]:
+    """The reasons that `explain` said, in its order."""
+    found: list[Reason] = []
+    for line in said.splitlines():
+        each = LINE.fullmatch(line)
+        if each and each[1]:
+            specs = spec_parts.parts(each[2])
+            reason = Reason("root", int(each[1]), each[2])
+            reason.causes = [cause for spec in specs for part in spec for cause in causes(part, catalog)]
+            found.append(reason)
+        elif each:
+            found.append(of_directive(each[3], each[4], int(each[5]), catalog))
+    return found
+
+
+def cycle(reasons: list[Reason]) -> list[str]:
+    """Packages that need each other in a round by the dependencies among the reasons, the first one again at the end."""
+    edges: dict[str, set[str]] = {}
+    for reason in reasons:
+        edges.setdefault(reason.package, set()).update(reason.needs)
+    return next(filter(None, (way_back(start, edges) for start in sorted(edges) if start)), [])
+
+
+def way_back(start: str, edges: dict[str, set[str]]) -> list[str]:
+    """The shortest way from a package back to itself; none where there is none."""
+    before: dict[str, str] = {}
+    todo = [start]
+    while todo:
+        here = todo.pop(0)
+        for name in sorted(edges.get(here, ())):
+            if name == start:
+                way = [start, here]
+                while here != start:
+                    here = before[here]
+                    way.append(here)
+                return way[::-1]
+            if name not in before:
+                before[name] = here
+                todo.append(name)
+    return []
