@@ -5,7 +5,7 @@
 
 For each kind of list, 2,000 and 4,000 long, one line each for `concretize` and `explain` and for what can be asked of the answer (`judge` and `check` of a
 lock file with its certificate, `refute` of a refutation): status, seconds of the processor, what is said first. A run
-that a signal ends is marked and ends the script with 1. A run is cut off after 15 s (`cut`), and has 4 GB of addresses: that counts for nothing here, since
+that a signal ends is marked and ends the script with 1. A run is cut off after 15 s of the processor (`cut`), and has 4 GB of addresses: that counts for nothing here, since
 the search and the encoding are not what is tried.
 """
 import argparse
@@ -21,6 +21,7 @@ import sys
 import tempfile
 
 LONGEST = 15
+LONGEST_ON_THE_CLOCK = 120
 ADDRESSES = 4 << 30
 SIZES = (2000, 4000)
 MACHINE = {"compiler": {"name": "gcc", "version": "12.3.0"}, "external": None, "os": "ubuntu22.04", "target": "x86_64", "variants": {}}
@@ -266,6 +267,7 @@ def limits(kib):
     def set_them():
         resource.setrlimit(resource.RLIMIT_STACK, (kib << 10, kib << 10))
         resource.setrlimit(resource.RLIMIT_AS, (ADDRESSES, ADDRESSES))
+        resource.setrlimit(resource.RLIMIT_CPU, (LONGEST, LONGEST + 5))
         resource.setrlimit(resource.RLIMIT_CORE, (0, 0))
     return set_them
 
@@ -276,7 +278,7 @@ def run(program, kib, room, words):
     spent = resource.getrusage(resource.RUSAGE_CHILDREN)
     cut = False
     try:
-        said = child.communicate(timeout=LONGEST)[0]
+        said = child.communicate(timeout=LONGEST_ON_THE_CLOCK)[0]
     except subprocess.TimeoutExpired:
         child.kill()
         said = child.communicate()[0]
@@ -284,6 +286,7 @@ def run(program, kib, room, words):
     after = resource.getrusage(resource.RUSAGE_CHILDREN)
     seconds = after.ru_utime + after.ru_stime - spent.ru_utime - spent.ru_stime
     first = said.decode("latin-1").split("\n", 1)[0]
+    cut = cut or child.returncode == -signal.SIGXCPU
     return (None if cut else child.returncode), first[:60], seconds
 
 
