@@ -34,7 +34,7 @@ module _ (problem : Problem) (t : Table) (n : ℕ) (f : Formulas) (read : (ℕ �
   unfolding encode_on rules_on levels_made edges_made
   model-says asked v meets =
       let w = all-said problem t n f read right targets holds says asked v meets in
-      (record { spells = w.0.0.0.0.0.0; edges = w.0.0.0.0.0.1; paths = w.0.0.0.0.1; conditions = w.0.0.0.1 }, w.1.0)
+      (record { spells = w.0.0.0.0.0.0; edges = w.0.0.0.0.0.1; paths = w.0.0.0.0.1; conditions = w.0.0.0.1.0 }, w.1.0)
 
 module _ (problem : Problem) (names : List Text) (place : Places) (order : List Text) where
   abbrev t : Table
