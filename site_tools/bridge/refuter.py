@@ -65,6 +65,10 @@ class Refuter:
             self.log.lines.append(Line("u", chain=chain))
         return chain is not None
 
+    def end(self) -> None:
+        """Writes that all bits are settled."""
+        self.log.lines.append(Line("e"))
+
     def refute(self, steps: list[Step], assumed: Optional[int]) -> Optional[list[int]]:
         """Writes the lemmas that a refutation rests on, and gives the chain of its end; None where the steps do not get there."""
         clauses, count, length = self.clauses, len(self.clauses.lits), len(self.clauses.trail)
