@@ -1,4 +1,6 @@
 """Checks of what makes and trims logs, used by test.py, run by no one else: a checker of logs written apart, and random problems."""
+import contextlib
+import io
 import itertools
 import random
 import shutil
@@ -6,14 +8,30 @@ import subprocess
 import sys
 import tempfile
 from pathlib import Path
-from typing import Iterator, Optional
+from typing import Callable, Iterator, Optional
+from unittest import mock
 
-from answer_checks import TOP, view
-from bridge import dimacs, drat_to_log, model_to_lock, optimize, proof_logs, trim_log
+from bridge import dimacs, drat_to_log, model_to_lock, optimize, proof_logs, solvers, trim_log
 
+TOP = Path(__file__).resolve().parent.parent
 LOGS = TOP / "site_tools" / "tests" / "logs"
+sys.path.insert(0, str(LOGS))
+
+import dpll  # noqa: E402
+
 DPLL = f"{sys.executable} {LOGS / 'dpll.py'} {{cnf}} {{proof}}"
 Check = Iterator[tuple[str, str]]
+
+
+def told(main: Callable[[list[str]], int], words: list[str]) -> str:
+    """What a tool says on both streams, and its status where that is not 0."""
+    out = io.StringIO()
+    with contextlib.redirect_stdout(out), contextlib.redirect_stderr(out):
+        try:
+            status = main(words)
+        except SystemExit as end:
+            status = int(end.code or 0)
+    return out.getvalue() + (f"status {status}\n" if status else "")
 
 
 def resolved(known: dict[int, frozenset[int]], chain: list[int]) -> frozenset[int]:
@@ -88,21 +106,33 @@ def least(problem: dimacs.Problem) -> Optional[list[bool]]:
     return min(found, default=None)
 
 
+def by_dpll(_: str, variables: int, clauses: list[list[int]]) -> solvers.Answer:
+    """What tests/logs/dpll.py answers, without a process of its own."""
+    shown, proof = dpll.texts(*dpll.answer(variables, clauses))
+    return solvers.Answer(shown if " SAT" in shown else None, proof.encode())
+
+
+def searched(problem: dimacs.Problem, solver: str) -> tuple[Optional[list[bool]], proof_logs.Log]:
+    """The best bits and the log of `optimize`; the solver `""` is that of tests/logs within this process."""
+    search = optimize.Search(problem, solver, solver)
+    with mock.patch.object(solvers, "solve", solvers.solve if solver else by_dpll):
+        model = search.best()
+    return None if model is None else [dimacs.is_true(model, bit) for bit in problem.bits()], search.made.log
+
+
 def check_random() -> Check:
     """The optima of random problems are those of trying all assignments, and their logs are right, trimmed or not."""
     chance = random.Random(76)
-    solvers = [DPLL] * 24 + ["cadical"] * (40 if shutil.which("cadical") else 0)
+    calls = [""] * 150 + [DPLL] * 2 + ["cadical"] * (6 if shutil.which("cadical") else 0)
     counts = {"certificates": 0, "refutations": 0, "learnt": 0}
-    for number, solver in enumerate(solvers):
+    for number, solver in enumerate(calls):
         problem = random_problem(chance)
-        search = optimize.Search(problem, solver, solver)
-        model = search.best()
         bits = problem.bits()
-        values = None if model is None else [dimacs.is_true(model, bit) for bit in bits]
+        values, made = searched(problem, solver)
         if values != least(problem):
             yield f"random problem {number}", f"{values} are not the least bits"
         counts["refutations" if values is None else "certificates"] += 1
-        for log in (search.made.log, proof_logs.trimmed(search.made.log)):
+        for log in (made, proof_logs.trimmed(made)):
             fault = wrong_line(problem.clauses, problem.variables, bits, values, log.text())
             counts["learnt"] += sum(line.kind == "l" for line in log.lines)
             if fault:
@@ -122,17 +152,17 @@ def check_proofs() -> Check:
     with tempfile.TemporaryDirectory() as name:
         log, lock = Path(name) / "log", Path(name) / "lock"
         for cnf, proof in rows:
-            said = view(drat_to_log.main, [str(LOGS / f"{cnf}.cnf"), str(LOGS / proof), str(log)])
+            said = told(drat_to_log.main, [str(LOGS / f"{cnf}.cnf"), str(LOGS / proof), str(log)])
             problem = dimacs.read(LOGS / f"{cnf}.cnf")
             variables, count = problem.rules
             fault = wrong_line(problem.clauses[:count], variables, [], None, log.read_text("ascii")) if log.exists() else said
             if fault or "status" in said:
                 yield f"logs/{proof}", f"{fault} {said}"
             log.unlink(missing_ok=True)
-        said = view(trim_log.main, [str(LOGS / "dead.log"), str(log)])
+        said = told(trim_log.main, [str(LOGS / "dead.log"), str(log)])
         if said != "1 of 3 learnt clauses stay\n" or log.read_text("ascii") != (LOGS / "dead.wanted").read_text("ascii"):
             yield "logs/dead.log", said
-        said = view(model_to_lock.main, [str(LOGS / "mpi.cnf"), str(LOGS / "mpi.model"), str(lock)])
+        said = told(model_to_lock.main, [str(LOGS / "mpi.cnf"), str(LOGS / "mpi.model"), str(lock)])
         if not lock.exists() or lock.read_bytes() != (TOP / "examples" / "mpi" / "hdf5.lock").read_bytes():
             yield "logs/mpi.model", f"is not read as examples/mpi/hdf5.lock: {said}"
 
@@ -148,7 +178,7 @@ def check_mistakes() -> Check:
             room = Path(name)
             (room / "file").write_text(text.replace("\\n", "\n"), "ascii")
             tool, *rest = words.replace("@/", f"{LOGS}/").replace("FILE", str(room / "file")).replace("OUT", str(room / "out")).split(",")
-            said = view(mains[tool].main, rest)
+            said = told(mains[tool].main, rest)
             if wanted not in said or "status" not in said or (room / "out").exists():
                 yield f"logs/mistakes.rows `{words}`", f"wanted {wanted!r}, got {said!r}"
 
@@ -171,7 +201,7 @@ def check_accepted() -> Check:
             encoder = [str(TOP / "release" / "encode_dimacs-x86_64-linux"), *problem, spec]
             with open(f"{room}/cnf", "wb") as file:
                 subprocess.run(encoder, cwd=TOP, stdout=file, check=False)
-            said = view(optimize.main, [f"{room}/cnf", f"{room}/log", f"{room}/lock"])
+            said = told(optimize.main, [f"{room}/cnf", f"{room}/log", f"{room}/lock"])
             words = [*problem, *([f"{room}/lock"] if status == 0 else []), f"{room}/log", spec]
             program = [str(TOP / "release" / "spack_concretize-x86_64-linux"), command, *words]
             done = subprocess.run(program, cwd=TOP, capture_output=True, text=True, check=False)

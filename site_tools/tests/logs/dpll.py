@@ -18,11 +18,8 @@ def falsified(clauses: list[list[int]], true: set[int]) -> bool:
     return False
 
 
-def main(cnf: str, proof: str) -> int:
-    """Answers as solvers do."""
-    lines = Path(cnf).read_text("ascii").splitlines()
-    variables = int(lines[0].split()[2])
-    clauses = [list(map(int, line.split()))[:-1] for line in lines[1:]]
+def answer(variables: int, clauses: list[list[int]]) -> tuple[set[int], list[list[int]]]:
+    """The true literals of a model (none where there is none), and the lemmas of the refutation."""
     lemmas: list[list[int]] = []
 
     def model(decisions: list[int]) -> set[int]:
@@ -38,10 +35,23 @@ def main(cnf: str, proof: str) -> int:
         lemmas.append([-literal for literal in decisions])
         return set()
 
-    found = model([])
-    Path(proof).write_text("".join(" ".join(map(str, [*lemma, 0])) + "\n" for lemma in lemmas), "ascii")
-    print("s SATISFIABLE\nv " + " ".join(map(str, found)) + " 0" if found else "s UNSATISFIABLE")
-    return 10 if found else 20
+    return model([]), lemmas
+
+
+def texts(found: set[int], lemmas: list[list[int]]) -> tuple[str, str]:
+    """What a solver prints, and its DRAT."""
+    proof = "".join(" ".join(map(str, [*lemma, 0])) + "\n" for lemma in lemmas)
+    return ("s SATISFIABLE\nv " + " ".join(map(str, found)) + " 0\n" if found else "s UNSATISFIABLE\n"), proof
+
+
+def main(cnf: str, proof: str) -> int:
+    """Answers as solvers do."""
+    lines = Path(cnf).read_text("ascii").splitlines()
+    clauses = [list(map(int, line.split()))[:-1] for line in lines[1:]]
+    shown, lemmas = texts(*answer(int(lines[0].split()[2]), clauses))
+    Path(proof).write_text(lemmas, "ascii")
+    print(shown, end="")
+    return 10 if " SAT" in shown else 20
 
 
 if __name__ == "__main__":
