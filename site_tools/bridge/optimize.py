@@ -11,8 +11,8 @@ from typing import Optional
 from . import dimacs, model_lock, proof_steps, refuter, solvers
 
 WORDS = """\
-A solver is a command line: `cadical`, `picosat -i 0`, or one with the files' places, as `kissat -q {cnf} {proof}` or `my-solver {cnf} {model}`.
-Known by name: cadical, kissat, minisat, glucose, picosat. Where there is no graph, LOG is a refutation, no LOCK is written, and the status is 1.
+A solver is a command line: `cadical`, `picosat -i 0`, or one with the files' places, as `kissat -q {cnf} {proof}`
+or `my-solver {cnf} {model}`. Known by name: cadical, kissat, minisat, glucose, picosat. Where there is no graph, LOG is a refutation, no LOCK is written, and the status is 1.
 """
 
 
@@ -37,7 +37,7 @@ class Search:
         answer = solvers.solve(self.prover, variables, clauses)
         if answer.model is not None:
             raise solvers.NoAnswer(f"`{self.prover}` finds a model where `{self.solver}` finds none")
-        if not answer.proof:
+        if answer.proof is None:
             raise solvers.NoAnswer(f"`{self.prover}` wrote no refutation")
         return proof_steps.read(answer.proof)[0]
 
@@ -49,7 +49,8 @@ class Search:
             variables, count = problem.rules
             rules = problem.clauses[:count]
             self.made = refuter.Refuter(variables, rules, 0)
-            self.need(self.made.unsat(self.proof(variables, rules)))
+            if not self.made.unsat([]):
+                self.need(self.made.unsat(self.proof(variables, rules)))
             return None
         for place, bit in enumerate(problem.bits()):
             if dimacs.is_true(model, bit) and not self.made.one(place, bit, []):

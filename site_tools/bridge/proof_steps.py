@@ -21,8 +21,8 @@ class Step:
 
 
 def is_binary(data: bytes) -> bool:
-    """Whether bytes are binary DRAT: it has bytes that no text of numbers has."""
-    return any(byte not in b"0123456789- d\tac\r\n" for byte in data[:10000] if not data.startswith(b"c "))
+    """Whether bytes are binary DRAT: each step ends with a zero byte, which no text has."""
+    return b"\0" in data
 
 
 def read_binary(data: bytes) -> list[Step]:

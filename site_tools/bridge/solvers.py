@@ -25,7 +25,7 @@ class Answer:
     """What a solver said: the text with its model, or that there is none; and its refutation where it wrote one."""
 
     model: Optional[str]
-    proof: bytes = b""
+    proof: Optional[bytes] = None
 
 
 def command(text: str, room: Path) -> list[str]:
@@ -59,5 +59,5 @@ def solve(text: str, variables: int, clauses: list[list[int]]) -> Answer:
             return Answer(file.read_text("ascii") if file.exists() else done.stdout)
         if done.returncode == 20 or "s UNSATISFIABLE" in done.stdout.splitlines():
             file = room / "proof"
-            return Answer(None, file.read_bytes() if file.exists() else b"")
+            return Answer(None, file.read_bytes() if file.exists() else None)
         raise NoAnswer(f"{shlex.join(words)} ended with {done.returncode}: {(done.stderr or done.stdout).strip()[:200]}")
