@@ -12,7 +12,8 @@ from . import dimacs, model_lock, proof_steps, refuter, solvers
 
 WORDS = """\
 A solver is a command line: `cadical`, `picosat -i 0`, or one with the files' places, as `kissat -q {cnf} {proof}`
-or `my-solver {cnf} {model}`. Known by name: cadical, kissat, minisat, glucose, picosat. Where there is no graph, LOG is a refutation, no LOCK is written, and the status is 1.
+or `my-solver {cnf} {model}`. Known by name: cadical, kissat, minisat, glucose, picosat.
+Where there is no graph, LOG is a refutation, no LOCK is written, and the status is 1.
 """
 
 

@@ -183,7 +183,7 @@ def log_by_hints(variables: int, clauses: list[list[int]], steps: list[Step]) ->
     next_id = len(clauses) + 1
     for step in steps:
         if any(hint not in slots for hint in step.hints) or any(abs(literal) > variables for literal in step.literals):
-            raise NoProof(f"line {step.place}: a hint that names no clause (as a RAT step has, which no log can say), or a variable too large")
+            raise NoProof(f"line {step.place}: a hint that names no clause (a RAT step?), or a variable too large")
         false = looked.assume_none(step.literals)
         for hint in step.hints:
             free = [literal for literal in looked.lits[slots[hint]] if looked.value[literal] >= 0]
