@@ -120,6 +120,15 @@ def searched(problem: dimacs.Problem, solver: str) -> tuple[Optional[list[bool]]
     return None if model is None else [dimacs.is_true(model, bit) for bit in problem.bits()], search.made.log
 
 
+def lrat(log: proof_logs.Log) -> bytes:
+    """A refutation as LRAT: the chains in reverse, each with a hint more that is not needed."""
+    lines = []
+    for line in log.lines:
+        hints = [*line.chain[::-1], line.chain[0]]
+        lines.append(" ".join(map(str, [line.id or 10**6, *line.literals, 0, *hints, 0])))
+    return ("\n".join(lines) + "\n").encode()
+
+
 def check_random() -> Check:
     """The optima of random problems are those of trying all assignments, and their logs are right, trimmed or not."""
     chance = random.Random(76)
@@ -132,7 +141,8 @@ def check_random() -> Check:
         if values != least(problem):
             yield f"random problem {number}", f"{values} are not the least bits"
         counts["refutations" if values is None else "certificates"] += 1
-        for log in (made, proof_logs.trimmed(made)):
+        again = made if values is not None else drat_to_log.log_of(problem, lrat(made))
+        for log in (made, proof_logs.trimmed(made), again):
             fault = wrong_line(problem.clauses, problem.variables, bits, values, log.text())
             counts["learnt"] += sum(line.kind == "l" for line in log.lines)
             if fault:

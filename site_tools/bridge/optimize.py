@@ -24,18 +24,23 @@ class Search:
         self.problem, self.solver, self.prover = problem, solver, prover
         self.made = refuter.Refuter(problem.variables, problem.clauses, len(problem.bits()))
         self.settled: list[list[int]] = []
-        self.calls = 0
 
-    def ask(self, more: list[list[int]]) -> Optional[list[bool]]:
-        """A model of the clauses, of the bits that are settled and of more; none where there is none."""
-        self.calls += 1
-        answer = solvers.solve(self.solver, self.problem.variables, self.problem.clauses + self.settled + more)
-        return None if answer.model is None else dimacs.read_model(answer.model, self.problem)
+    def better(self, model: list[bool], place: int, bit: int) -> list[bool]:
+        """A model without a bit that is true; the same one where there is none, and then the bit is written."""
+        variables, clauses = self.problem.variables, self.problem.clauses + self.settled + [[-bit]]
+        answer = solvers.solve(self.solver, variables, clauses)
+        if answer.model is not None:
+            other = dimacs.read_model(answer.model, self.problem)
+            if any(not dimacs.is_true(other, literal) for literal, in [*self.settled, [-bit]]):
+                raise solvers.NoAnswer(f"the model of `{self.solver}` does not meet a clause of one literal")
+            return other
+        self.need(self.made.one(place, bit, self.proof(variables, clauses, answer)))
+        return model
 
-    def proof(self, variables: int, clauses: list[list[int]]) -> list[proof_steps.Step]:
-        """A refutation of clauses that have no model, by the solver that writes these."""
-        self.calls += 1
-        answer = solvers.solve(self.prover, variables, clauses)
+    def proof(self, variables: int, clauses: list[list[int]], said: Optional[solvers.Answer] = None) -> list[proof_steps.Step]:
+        """A refutation of clauses that have no model: the one that was said already, or by the solver that writes these."""
+        is_said = said is not None and self.prover == self.solver
+        answer = said if said is not None and is_said else solvers.solve(self.prover, variables, clauses)
         if answer.model is not None:
             raise solvers.NoAnswer(f"`{self.prover}` finds a model where `{self.solver}` finds none")
         if answer.proof is None:
@@ -45,22 +50,18 @@ class Search:
     def best(self) -> Optional[list[bool]]:
         """The best model, with its certificate in the log; none where there is none, with a refutation in the log."""
         problem = self.problem
-        model = self.ask([])
-        if model is None:
+        answer = solvers.solve(self.solver, problem.variables, problem.clauses)
+        if answer.model is None:
             variables, count = problem.rules
             rules = problem.clauses[:count]
             self.made = refuter.Refuter(variables, rules, 0)
             if not self.made.unsat([]):
                 self.need(self.made.unsat(self.proof(variables, rules)))
             return None
+        model = dimacs.read_model(answer.model, problem)
         for place, bit in enumerate(problem.bits()):
             if dimacs.is_true(model, bit) and not self.made.one(place, bit, []):
-                other = self.ask([[-bit]])
-                if other is None:
-                    steps = self.proof(problem.variables, problem.clauses + self.settled + [[-bit]])
-                    self.need(self.made.one(place, bit, steps))
-                else:
-                    model = other
+                model = self.better(model, place, bit)
             if not dimacs.is_true(model, bit):
                 self.made.zero(place, bit)
             self.settled.append([bit if dimacs.is_true(model, bit) else -bit])
