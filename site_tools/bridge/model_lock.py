@@ -33,22 +33,39 @@ class Locker:
 
     def __init__(self, problem: Problem, values: list[bool], database: Optional[Path]) -> None:
         self.problem, self.values = problem, values
-        self.made: dict[str, Optional[Node]] = {}  # None where it is being made
+        self.made: dict[str, Node] = {}
         self.by_hash: dict[str, Node] = {}
         if database is not None:
             data = json_files.read(database)
             if not isinstance(data, dict) or not isinstance(data.get("records"), list):
                 raise ValueError(f"{database} is no database")
             self.by_hash = {record["hash"]: record for record in data["records"]}
+        self.edges: dict[str, dict[str, list[str]]] = {}  # the kinds by parent and child
+        for (parent, child), literals in problem.edges.items():
+            kinds = [kind for kind in KINDS if kind in literals and is_true(values, literals[kind])]
+            if kinds:
+                self.edges.setdefault(parent, {})[child] = kinds
 
-    def node(self, name: str) -> Node:
-        """The node of a name."""
-        if name in self.made:
-            found = self.made[name]
-            if found is None:
+    def children_first(self, names: list[str]) -> list[str]:
+        """The names, each behind its children."""
+        order: dict[str, None] = {}
+        above: set[str] = set()
+        stack = [(name, False) for name in names]
+        while stack:
+            name, is_left = stack.pop()
+            if is_left:
+                above.discard(name)
+                order[name] = None
+            elif name in above:
                 raise NoClauses(f"the model has a cycle through {name}")
-            return found
-        self.made[name] = None
+            elif name not in order:
+                above.add(name)
+                stack.append((name, True))
+                stack += [(child, False) for child in self.edges.get(name, {})]
+        return list(order)
+
+    def make(self, name: str) -> None:
+        """Makes the node of a name, of which the children are made."""
         choices = self.problem.names[name]
         origin, _, entry = chosen(self.values, name, "origin", choices).partition(" ")
         if origin == "installed":
@@ -59,7 +76,6 @@ class Locker:
             record = self.record(name, choices)
         made = {**record, "origin": origin, "entry": int(entry) if origin == "external" else None, "hash": records.hash_of(record)}
         self.made[name] = made
-        return made
 
     def record(self, name: str, choices: Choices) -> Node:
         """The record of a node that is built or external."""
@@ -73,10 +89,8 @@ class Locker:
             found = sorted(value for value, literal in some if is_true(self.values, literal))
             if found:
                 record["variants"][variant] = found
-        for (parent, child), literals in self.problem.edges.items():
-            kinds = [kind for kind in KINDS if kind in literals and is_true(self.values, literals[kind])]
-            if parent == name and kinds:
-                record["dependencies"].append({"hash": self.node(child)["hash"], "kinds": kinds})
+        for child, kinds in self.edges.get(name, {}).items():
+            record["dependencies"].append({"hash": self.made[child]["hash"], "kinds": kinds})
         record["dependencies"].sort(key=lambda child: child["hash"])
         return record
 
@@ -85,13 +99,15 @@ def lock_text(problem: Problem, values: list[bool], database: Optional[Path]) ->
     """The text of the lock file; `NoClauses` where the model spells no graph, or a record is missing."""
     locker = Locker(problem, values, database)
     names = sorted((name for name, choices in problem.names.items() if is_true(values, choices.node)), key=str.encode)
-    nodes = [locker.node(name) for name in names]
+    for name in locker.children_first(names):
+        locker.make(name)
+    nodes = [locker.made[name] for name in names]
     roots = []
     for number, text in sorted(problem.roots.items()):
         found = NAME.match(text)
         if number != len(roots) or found is None or found[0] not in names:
             raise NoClauses(f"no `c clause` tells the root {len(roots)}, or the model has no node of it")
-        roots.append({"hash": locker.node(found[0])["hash"], "spec": text})
+        roots.append({"hash": locker.made[found[0]]["hash"], "spec": text})
     providers = {}
     for virtual, some in problem.providers.items():
         for package, literal in some:
