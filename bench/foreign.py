@@ -14,6 +14,8 @@ import argparse
 import base64
 import gzip
 import json
+import shlex
+import shutil
 import subprocess
 import sys
 import tempfile
@@ -131,6 +133,10 @@ def main():
     parser.add_argument("--solver", default="cadical", help="finds models (cadical)")
     parser.add_argument("--prover", default="cadical", help="writes refutations (cadical)")
     options = parser.parse_args()
+    for solver in (options.solver, options.prover):
+        if shutil.which(shlex.split(solver)[0]) is None:
+            print("bench/foreign.sh: %s is missing" % solver, file=sys.stderr)
+            return 2
     bench, begun = Bench(options), time.monotonic()
     for case in cases(options.files, options.count):
         if bench.certificates + bench.refutations >= options.count:

@@ -132,7 +132,10 @@ def lrat(log: proof_logs.Log) -> bytes:
 def check_random() -> Check:
     """The optima of random problems are those of trying all assignments, and their logs are right, trimmed or not."""
     chance = random.Random(76)
-    calls = [""] * 150 + [DPLL] * 2 + ["cadical"] * (6 if shutil.which("cadical") else 0)
+    calls = [""] * 150 + [DPLL] * 2 + ["cadical"] * 6
+    if not shutil.which("cadical"):
+        print("passed over: random problems by cadical (it is not installed)")
+        calls = calls[:-6]
     counts = {"certificates": 0, "refutations": 0, "learnt": 0}
     for number, solver in enumerate(calls):
         problem = random_problem(chance)
