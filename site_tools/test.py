@@ -26,6 +26,7 @@ sys.path.insert(0, str(TOOLS))
 sys.dont_write_bytecode = True
 
 import answer_checks  # noqa: E402
+import log_checks  # noqa: E402
 from bridge import export_spec, import_repo, import_settings, installed, lock_view, manual, spec_text  # noqa: E402
 from bridge.literals import Evaluator, NotLiteral  # noqa: E402
 import again_cases  # noqa: E402
@@ -250,6 +251,7 @@ def check_program() -> Check:
         yield from compared("examples/site/hdf5.lock", lock, SITE / "hdf5.lock")
     yield from check_read(program)
     yield from answer_checks.check_all()
+    yield from log_checks.check_accepted()
 
 
 def check_style() -> Check:
@@ -271,7 +273,7 @@ def main() -> int:
     begun, wrong = time.monotonic(), 0
     # The program's lock file is one that the views show, so it comes first.
     checks = (check_style, check_texts, check_literals, check_idioms, check_recipes, check_again, check_site, check_cases, check_locks)
-    asked, checks = chosen(), (*checks, check_program, check_views, check_completion, check_manual)
+    asked, checks = chosen(), (*checks, check_program, check_views, log_checks.check_logs, check_completion, check_manual)
     for check in [each for each in checks if not asked or each.__name__[6:] in asked]:
         faults = list(check())
         wrong += len(faults)
