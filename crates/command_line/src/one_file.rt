@@ -82,8 +82,12 @@ pub fn one_file<R: Files>(
     rt: &R,
     words: &[String],
 ) -> Result<Option<String>, AllocError> {
-    match read_order(alloc, words) {
-        Ok(command) if command.work == Work::Concretize => line_for(alloc, rt, &command),
+    let command = match read_order(alloc, words) {
+        Ok(command) => command,
+        Err(_) => return Ok(None),
+    };
+    match command.work {
+        Work::Concretize => line_for(alloc, rt, &command),
         _ => Ok(None),
     }
 }
