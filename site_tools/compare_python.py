@@ -5,8 +5,10 @@ The importer never runs a recipe. This script does, with the recipes of tests/re
 itself: their directives are replaced by functions that note what they are called with. What the importer took must be
 what was called, in that order, but for the lines that it lists as left out; and each call that cannot be said must be listed.
 """
+import argparse
 import ast
 import copy
+import itertools
 import sys
 import tempfile
 import types
@@ -68,6 +70,7 @@ class Notes:
         found.update({name: lambda *_, **__: None for name in directives.PASSED_OVER | {"run_before", "run_after"}})
         constructors = ("conditional", "any_combination_of", "auto_or_any_combination_of", "disjoint_sets", "Version", "ver")
         found.update({name: literals.FUNCTIONS[name] for name in constructors})
+        found["itertools"] = itertools
         found["unknown"] = "u"  # what Python knows, and the importer does not
         found["when"] = lambda condition: Block(self, condition, {})
         found["default_args"] = lambda **words: Block(self, None, words)
@@ -163,7 +166,7 @@ def compare(repository: Repository) -> tuple[int, list[str]]:
         try:
             module = repository.module(path)
             notes = run(module.text, repository)
-        except (Cannot, OSError, NameError, TypeError, ValueError, AttributeError):
+        except (Cannot, OSError, NameError, TypeError, ValueError, AttributeError, LookupError, MemoryError):
             continue
         if class_name(package) in module.classes:
             count += 1
@@ -173,7 +176,11 @@ def compare(repository: Repository) -> tuple[int, list[str]]:
 
 def main() -> int:
     """Compares the recipes of the tests, and random ones: 0 where nothing differs."""
-    seed, runs = [int(word) for word in (sys.argv[1:] + ["1", "5"][len(sys.argv) - 1 :])]
+    parser = argparse.ArgumentParser(description=__doc__)
+    parser.add_argument("seed", type=int, nargs="?", default=1, metavar="SEED")
+    parser.add_argument("runs", type=int, nargs="?", default=5, metavar="RUNS")
+    given = parser.parse_args()
+    seed, runs = given.seed, given.runs
     stand_ins = [TOOLS / "build_systems"]
     count, wrong = compare(Repository(TOOLS / "tests" / "recipes", stand_ins, "linux"))
     for turn in range(runs):

@@ -5,6 +5,7 @@ Makes random spec texts and random recipes in Spack's style, right and wrong one
 program read what was written. The program must read all of it: what it refuses is a fault of the importer. It says
 nothing of whether what was written means the same.
 """
+import argparse
 import random
 import subprocess
 import sys
@@ -16,7 +17,7 @@ sys.path.insert(0, str(TOOLS))
 sys.dont_write_bytecode = True
 
 from bridge import import_repo, spec_text  # noqa: E402
-from bridge.variants import quoted  # noqa: E402
+from bridge.rows import quoted  # noqa: E402
 
 PIECES = (
     "a|b-c|_x|@|1.2|1.2:|::|:|2:1|,|=|+|~|-|%|gcc|clang| |  |^|^zlib| v=a|v=a,b|os=x| target=x:y| platform=l| arch=a-b-c|'a'"
@@ -36,15 +37,28 @@ WHOLE = (
     'build_system(conditional("cmake", when="@1:"), "generic", default="generic")', 'depends_on("c", type="build")',
 )
 # Statements over the names `v`, `w` and `names`, which each class gives first.
-GIVEN = ('    v, w, names = "z", "y", ["m", "n"]',)
+GIVEN = (
+    '    v, w, names = "z", "y", ["m", "n"]', "    def f(x, y=None):", '        if x == "a":', "            return",
+    '        conflicts("+" + x, when=y)', "        for z in x[:3]:", '            if z > "f":', "                break",
+    '            conflicts("~" + z)',
+    "    def g(xs, front):", "        found = []", "        for x in xs:", '            if x == "n":', "                continue",
+    "            found.append(front + x)", "        return found", "    def h(xs):", '        xs.append("h")',
+    "        return len(xs)", "    def k(x):", "        depends_on(x)", "        if unknown:", "            return 1", "        return 2",
+)
 STATEMENTS = (
     'w = v + "y"', 'names = ["m", v]', "names += [w]", "names.append(v)", "w = names[0]", "w = len(names) * v", "other = names",
     'v = "%s-%s" % (v, len(w))', "names[0] = w", "w = unknown", 'conflicts(f"+{v}")', 'conflicts("+" + w)', 'depends_on(f"z-{len(names)}")',
+    'f(v)', 'f(w, y="@1")', 'names = g(names[:5], "g")', "w = h(names)", "h(names)", "w = k(v)", "k(v)",
+    "names.extend(g(names[:2], v))",
+    'conflicts("+" + g([v], front="q")[0])', "[f(x) for x in names[:4] if x != v]", '[depends_on(x + y) for x in "ab" for y in names[:2]]',
+    'names.insert(0, "i")', "names.sort()",
     'conflicts("+" + names[-1], when="+{0}".format(v))', '[conflicts("+" + x) for x in names]', 'version(f"{len(names)}.{len(v)}")',
 )
 HEADS = (
     'with default_args(type="build"):', 'for v in "ab":', 'for v in [x + "c" for x in ("a", "b")]:', "for x in names[:3]:", 'if v < "b":',
-    "if len(names) > 2 and w:", 'for x, v in {"p": "q", "r": "s"}.items():', 'for v in sorted(names)[:2]:', "if unknown:",
+    "if len(names) > 2 and w:",
+    "for v in itertools.chain(names[:2], 'xy'):", "for x, y in itertools.permutations(names[:3], 2):",
+    'for x, v in {"p": "q", "r": "s"}.items():', 'for v in sorted(names)[:2]:', "if unknown:",
 )
 
 
@@ -82,13 +96,20 @@ class Maker:
             self.random.choice(WHOLE), *self.random.choices(STATEMENTS, k=5),
         ])
 
+    def ending(self, head: str, depth: int) -> list[str]:
+        """Sometimes, what may end a turn of a loop."""
+        if not head.startswith("for") or self.random.random() < 0.6:
+            return []
+        test = self.random.choice(['if v == "b":', "if v in names:", "if unknown:", 'if v > "m":'])
+        return ["    " * depth + test, "    " * (depth + 1) + self.random.choice(["continue", "break"])]
+
     def block(self, depth: int) -> list[str]:
         """Directives, some in blocks and loops."""
         lines: list[str] = []
         for _ in range(self.random.randint(1, 4)):
             head = self.random.choice([f"with when({self.random.choice(WHENS)}):", *HEADS])
             if depth < 4 and self.random.random() < 0.3:
-                lines += ["    " * depth + head, *self.block(depth + 1)]
+                lines += ["    " * depth + head, *self.ending(head, depth + 1), *self.block(depth + 1)]
             else:
                 lines.append("    " * depth + self.directive())
         return lines
@@ -129,7 +150,11 @@ def compare_recipes(maker: Maker, program: str, room: Path) -> str:
 
 def main() -> int:
     """Runs the comparisons: 0 where the program read all."""
-    seed, runs = [int(word) for word in (sys.argv[1:] + ["1", "5"][len(sys.argv) - 1 :])]
+    parser = argparse.ArgumentParser(description=__doc__)
+    parser.add_argument("seed", type=int, nargs="?", default=1, metavar="SEED")
+    parser.add_argument("runs", type=int, nargs="?", default=5, metavar="RUNS")
+    given = parser.parse_args()
+    seed, runs = given.seed, given.runs
     program = subprocess.run([str(TOOLS.parent / "spack_concretize"), "--where"], capture_output=True, text=True, check=True).stdout.strip()
     wrong = False
     for turn in range(runs):

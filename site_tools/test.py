@@ -1,10 +1,11 @@
 #!/usr/bin/env python3
-"""The tests of site_tools: `python3 site_tools/test.py` runs all of them in some seconds, and needs no kit.
+"""The tests of site_tools: `site_tools/test.py` runs all of them in some seconds, `test.py idioms cases` some; no kit is needed.
 
 Rows and files are the data, in tests/ and examples/site. `--write` writes what the tools give now as what is wanted:
 look at `git diff` before it is kept. Where the released program is of other sources, the checks that ask it are passed
 over by name.
 """
+import argparse
 import ast
 import contextlib
 import io
@@ -27,6 +28,11 @@ sys.dont_write_bytecode = True
 import answer_checks  # noqa: E402
 from bridge import export_spec, import_repo, import_settings, installed, lock_view, manual, spec_text  # noqa: E402
 from bridge.literals import Evaluator, NotLiteral  # noqa: E402
+import again_cases  # noqa: E402
+import idioms  # noqa: E402
+import lock_cases  # noqa: E402
+import style  # noqa: E402
+import view_cases  # noqa: E402
 
 WRITE = "--write" in sys.argv[1:]
 Check = Iterator[tuple[str, str]]  # the name of what is wrong, and how
@@ -62,6 +68,8 @@ def compared_folders(name: str, found: Path, wanted: Path) -> Check:
     if WRITE:
         shutil.rmtree(wanted, ignore_errors=True)
         shutil.copytree(found, wanted)
+    for path in [path for path in found.rglob("*") if path.name in ("import.json", "import_rows.jsonl", "origins.json")]:
+        path.unlink()  # looked at elsewhere
     paths = {path.relative_to(root) for root in (found, wanted) for path in root.rglob("*") if path.is_file()}
     for path in sorted(paths):
         if not (found / path).exists():
@@ -79,8 +87,7 @@ def rows(path: Path) -> Iterator[list[str]]:
 
 def check_texts() -> Check:
     """Spec texts of Spack, and what is written for them."""
-    names = ("condition", "dependency", "provision")
-    readers = {name: getattr(spec_text, f"read_{name}") for name in names}
+    readers = {name: getattr(spec_text, f"read_{name}") for name in ("condition", "dependency", "provision")}
     for kind, text, wanted in rows(TESTS / "texts.rows"):
         dialect = spec_text.Dialect(is_v2=kind.startswith("v2 "))
         try:
@@ -114,23 +121,33 @@ def check_recipes() -> Check:
             run(import_repo.main, TESTS / "recipes", out, *words)
             if not words:
                 yield from compared_folders("import_repo", out, TESTS / name)
-            else:
-                report = (out / "report.txt").read_text("utf-8")
-                yield from compared(f"import_repo {words[0]}", report, TESTS / "reports" / f"{name}.txt")
-                umber = (out / "packages" / "umber" / "package.py")
-                text = umber.read_text("utf-8") if umber.exists() else "none"
-                yield from compared(f"import_repo {words[0]} umber", text, TESTS / "reports" / f"{name}_umber.txt")
+                continue
+            yield from compared(f"import_repo {words[0]}", (out / "report.txt").read_text("utf-8"), TESTS / "reports" / f"{name}.txt")
+            umber = out / "packages" / "umber" / "package.py"
+            text = umber.read_text("utf-8") if umber.exists() else "none"
+            yield from compared(f"import_repo {words[0]} umber", text, TESTS / "reports" / f"{name}_umber.txt")
+
+
+def check_idioms() -> Check:
+    """Small recipes of one idiom each."""
+    for path in sorted((TESTS / "idioms").glob("*.txt")):
+        yield from idioms.check(path, run)
+
+
+def check_again() -> Check:
+    """An import over the last one."""
+    yield from again_cases.faults(TESTS / "recipes", run)
 
 
 def check_site() -> Check:
     """examples/site is what the importers make of examples/site/spack."""
     with tempfile.TemporaryDirectory() as name:
         room = Path(name)
-        run(import_repo.main, SITE / "spack", room / "repo")
+        run(import_repo.main, SITE / "spack", room / "repo", "--packages", SITE / "spack" / "packages.yaml")
         yield from compared_folders("examples/site", room / "repo" / "packages", SITE / "packages")
         yield from compared("examples/site", (room / "repo" / "report.txt").read_text("utf-8"), SITE / "reports" / "packages.txt")
         files = [SITE / "spack" / f"{each}.yaml" for each in ("packages", "compilers", "concretizer")]
-        report = run(import_settings.main, "--target", "zen2", room / "settings.json", *files)
+        report = run(import_settings.main, "--target", "zen2", "--repo", room / "repo", room / "settings.json", *files)
         if "python3-yaml is not installed" in report:
             print("passed over: import_settings (python3-yaml is not installed)")
         else:
@@ -148,40 +165,28 @@ def check_cases() -> Check:
         words = (folder / "words").read_text("utf-8").replace("@", str(folder)).split()
         with tempfile.TemporaryDirectory() as room:
             out = Path(room) / "settings.json"
-            report = run(import_settings.main, out, *sorted(folder.glob("*.yaml")), *words)
-            report = report.replace(f"{folder}/", "")
+            report = run(import_settings.main, out, *sorted(folder.glob("*.yaml")), *words).replace(f"{folder}/", "")
             if "python3-yaml is not installed" not in report:
                 text = report + (out.read_text("utf-8") if out.exists() else "")
                 yield from compared(f"settings/{folder.name}", text, folder / "wanted.txt")
     for folder in sorted((TESTS / "installed").iterdir()):
         with tempfile.TemporaryDirectory() as room:
             files = [Path(room) / name for name in ("database.json", "hashes.tsv")]
-            words = (folder / "words").read_text("utf-8").split()
+            words = (folder / "words").read_text("utf-8").replace("@", str(folder)).split()
             report = run(installed.main, folder / "index.json", *files, *words).replace(f"{folder}/", "")
             text = report + "".join(file.read_text("utf-8") for file in files if file.exists())
             yield from compared(f"installed/{folder.name}", text, folder / "wanted.txt")
 
 
+def check_locks() -> Check:
+    """The folders of tests/locks: files of Spack's, and the lock files that come of them."""
+    for name, text, wanted in lock_cases.outcomes(TESTS / "locks", run):
+        yield from compared(name, text, wanted)
+
+
 def check_views() -> Check:
     """What lock_view and export_spec show of the lock files of the examples."""
-    mpi, site = TOP / "examples" / "mpi", SITE / "hdf5.lock"
-    broken = TESTS / "views" / "changed.lock"
-    mpi_costs = (lock_view.main, mpi / "hdf5.lock", "--vector", TESTS / "views" / "mpi.out")
-    site_costs = (lock_view.main, site, "--vector", TESTS / "answers" / "site_hdf5.wanted")
-    views: dict[str, tuple] = {
-        "mpi_dot.txt": (lock_view.main, mpi / "hdf5.lock", "--format", "dot"),
-        "mpi_costs.txt": (lock_view.main, mpi / "hdf5.lock", "--vector", TESTS / "views" / "mpi.out"),
-        "mpi_reasons.txt": (*mpi_costs, "--settings", mpi / "settings.json"),
-        "site_costs.txt": (*site_costs, "--settings", SITE / "settings.json"),
-        "mpi_all.txt": (*mpi_costs, "--all"),
-        "mpi_diff.txt": (lock_view.main, mpi / "hdf5.lock", "--diff", mpi / "broken.lock"),
-        "site_diff.txt": (lock_view.main, mpi / "hdf5.lock", "--diff", site),
-        "changed.txt": (lock_view.main, broken),
-        "site_pinned.txt": (export_spec.main, site, "--hashes", SITE / "hashes.tsv"),
-        "mpi_environment.txt": (export_spec.main, mpi / "hdf5.lock", "--environment"),
-    }
-    views.update({f"site_{each}.txt": (lock_view.main, site, "--format", each) for each in ("tree", "table", "json")})
-    for name, words in views.items():
+    for name, words in view_cases.views(TESTS, lock_view.main, export_spec.main).items():
         yield from compared(f"views/{name}", run(*words).replace(f"{TOP}/", ""), TESTS / "views" / name)
 
 
@@ -250,28 +255,24 @@ def check_program() -> Check:
 def check_style() -> Check:
     """Each module and function says what it does, has types, and is short."""
     for path in [*sorted((TOOLS / "bridge").glob("*.py")), *sorted(TOOLS.glob("*.py"))]:
-        text = path.read_text("utf-8")
-        tree = ast.parse(text)
-        if not ast.get_docstring(tree):
-            yield path.name, "has no docstring"
-        if text.count("\n") > 300 or max(map(len, text.splitlines())) > 140:
-            yield path.name, "is longer than 300 lines, or wider than 140 signs"
-        for node in ast.walk(tree):
-            if not isinstance(node, ast.FunctionDef):
-                continue
-            untyped = [each.arg for each in node.args.args if each.annotation is None and each.arg != "self"]
-            if node.returns is None or untyped or (node.end_lineno or 0) - node.lineno >= 40:
-                yield f"{path.name}:{node.lineno} {node.name}", "has no types, or is longer than 40 lines"
-            if not ast.get_docstring(node) and not (node.name.startswith("__") and node.name.endswith("__")):
-                yield f"{path.name}:{node.lineno} {node.name}", "has no docstring"
+        yield from style.faults(path)
+
+
+def chosen() -> list[str]:
+    """The names of the checks that are asked for."""
+    parser = argparse.ArgumentParser(description=__doc__)
+    parser.add_argument("--write", action="store_true", help="keep what the tools give now as what is wanted")
+    parser.add_argument("checks", nargs="*", help="names of checks, as the lines show them; all without a name")
+    return parser.parse_args().checks
 
 
 def main() -> int:
     """Runs all checks: 0 where nothing differs."""
     begun, wrong = time.monotonic(), 0
     # The program's lock file is one that the views show, so it comes first.
-    checks = (check_style, check_texts, check_literals, check_recipes, check_site, check_cases, check_program, check_views)
-    for check in (*checks, check_completion, check_manual):
+    checks = (check_style, check_texts, check_literals, check_idioms, check_recipes, check_again, check_site, check_cases, check_locks)
+    asked, checks = chosen(), (*checks, check_program, check_views, check_completion, check_manual)
+    for check in [each for each in checks if not asked or each.__name__[6:] in asked]:
         faults = list(check())
         wrong += len(faults)
         print(f"{check.__name__.removeprefix('check_')}: {'right' if not faults else f'{len(faults)} wrong'}")

@@ -3,13 +3,13 @@
 A function gets the computed arguments and gives the rows that say exactly the same, or raises `Cannot` (or
 `NotInProfile`) with the reason. It never writes a weaker or a stronger directive in place of one.
 """
-from dataclasses import dataclass, replace
+from dataclasses import dataclass, field, replace
 from typing import Any, Callable, Optional, Union
 
-from . import signs, spec_text
-from .rows import Cannot, Conditions, Row, VariantRow
+from . import signs, spec_memory, spec_text
+from .rows import Cannot, Conditions, Row, VariantRow, listed, quoted
 from .spec_text import Dialect
-from .variants import VariantReader, listed, quoted
+from .variants import VariantReader
 from .versions import Version
 
 LANGUAGES = ("c", "cxx", "fortran")
@@ -54,6 +54,8 @@ class Call:
     blocks: tuple[str, ...]
     dialect: Dialect
     has_python_venv: bool = False
+    site_values: dict[str, tuple[str, ...]] = field(default_factory=dict)
+    notes: list[tuple[str, str, str]] = field(default_factory=list)  # what is said in part: directive, kind, detail
 
     def text(self, place: int = 0) -> str:
         """A positional value that has to be a text."""
@@ -66,7 +68,7 @@ class Call:
         """A condition in the profile's words."""
         if not isinstance(value, str):
             raise Cannot("a condition that is no text", f"`{value}`")
-        return spec_text.read_condition(value, self.dialect).text()
+        return spec_memory.condition_text(value, self.dialect)
 
     def conditions(self) -> Optional[Conditions]:
         """All conditions of this call; None where one of them never holds."""
@@ -103,23 +105,28 @@ def variant(call: Call) -> Rows:
     conditions = call.conditions()
     if conditions is None:
         return []
-    reader = VariantReader(call.positional[0] if call.positional else None, call.keywords, conditions, call.condition)
-    return [reader.read()]
+    name = call.positional[0] if call.positional else None
+    reader = VariantReader(name, call.keywords, conditions, call.condition, call.site_values)
+    rows: Rows = [reader.read()]
+    if reader.allowed_of_any:
+        what = f"these are allowed, which the site names: {', '.join(reader.allowed_of_any)}"
+        call.notes.append(("values", "values that are any text", what))
+    return rows
 
 
 def depends_on(call: Call, standard: Any = None) -> Rows:
     """`depends_on`, with its kinds where they are not build and link."""
     conditions = call.conditions()
     kinds = kinds_of(call.keywords.get("type", standard))
-    spec = spec_text.read_dependency(call.text(), call.dialect)
+    spec, text = spec_memory.dependency_text(call.text(), call.dialect)
     if conditions is None:
         return []
     words: tuple[str, ...] = ()
     if kinds != ("build", "link"):
         words = (f"type={quoted(kinds[0]) if len(kinds) == 1 else listed(list(kinds))}",)
-    is_language = spec.top == spec_text.Part(spec.top.name) and spec.top.name in LANGUAGES
+    is_language = spec.top.name in LANGUAGES and spec.top == spec_text.Part(spec.top.name)
     names = () if is_language or kinds == ("test",) else (str(spec.top.name),)
-    return [Row("depends_on", (quoted(spec.text()), *words), conditions, names)]
+    return [Row("depends_on", (quoted(text), *words), conditions, names)]
 
 
 def extends(call: Call) -> Rows:

@@ -4,12 +4,13 @@ Reads YAML (by python3-yaml, Debian's package of that name), writes settings JSO
 out and listed with its line and what to do instead; nothing of the machine is looked at.
 """
 import argparse
+import hashlib
 import json
 import sys
 from pathlib import Path
 from typing import Any, Optional
 
-from . import settings_packages, targets, yaml_texts
+from . import json_files, settings_packages, targets, yaml_texts
 from .rows import Cannot
 from .settings_compilers import compilers_of, ordered
 from .settings_notes import Notes
@@ -29,7 +30,7 @@ def read_files(paths: list[Path]) -> dict[str, tuple[str, Any]]:
     found: dict[str, tuple[str, Any]] = {}
     for path in paths:
         try:
-            value = yaml_texts.read(path.read_text("utf-8"))
+            value = yaml_texts.read_file(path)
         except ValueError as fault:
             raise Cannot("a file that cannot be read", f"{path}: {fault}") from fault
         if not isinstance(value, dict) or not value:
@@ -53,6 +54,9 @@ def read_concretizer(value: Any, notes: Notes) -> bool:
             if inner.get("host_compatible", "true").lower() != "true":
                 notes.leave_out(inner, "targets.host_compatible", "the table of targets has those that the machine runs")
             continue
+        if key == "reuse":
+            notes.take(inner, "concretizer.reuse", CONCRETIZER["reuse"])
+            continue
         text = inner.get("strategy") if isinstance(inner, dict) else inner
         if (str(key), str(text).lower()) not in SAME:
             notes.leave_out(inner, f"concretizer.{key}", CONCRETIZER.get(str(key), "the settings have no such key"))
@@ -71,7 +75,7 @@ def target_table(given: argparse.Namespace, packages: Any, generic: bool, notes:
     """The table of targets, those first that are preferred for all packages."""
     targets.use(given.archspec)
     if given.targets:
-        table = json.loads(given.targets.read_text("utf-8"))
+        table = json_files.read(given.targets)
     elif given.target in targets.PARENTS:
         table = targets.table_of(given.target, generic)
     else:
@@ -103,7 +107,22 @@ def settings_of(given: argparse.Namespace, notes: Notes) -> dict:
         raise Cannot("no compiler", "neither compilers.yaml nor an external with `compilers` has one for this machine")
     notes.file = packages_file
     settings = {"platform": given.platform, "os": systems, "targets": table, "compilers": compilers}
-    return {**settings, **settings_packages.read(packages, given.platform, notes)}
+    site = site_of(given, [each["name"] for each in table])
+    return {**settings, **settings_packages.read(packages, site, notes)}
+
+
+def site_of(given: argparse.Namespace, names: list[str]) -> settings_packages.Site:
+    """What is known of the machine, and of the recipes that `--repo` names."""
+    if given.repo is None:
+        return settings_packages.Site(given.platform, names)
+    path = given.repo / "site.json"
+    try:
+        known = json_files.read(path)
+        providers, declared, digest = known["providers"], known["declared"], known["packages"]
+    except (OSError, ValueError, KeyError, TypeError) as fault:
+        raise Cannot("no folder that import_repo wrote", f"{path}: {fault}") from fault
+    digests = {hashlib.sha256(each.read_bytes()).hexdigest() for each in given.files}
+    return settings_packages.Site(given.platform, names, providers, declared, digest in digests)
 
 
 def text_of(settings: dict) -> str:
@@ -121,7 +140,7 @@ def text_of(settings: dict) -> str:
 
 
 def main(words: Optional[list[str]] = None) -> int:
-    """Imports settings: 0 where they were written, 2 where they could not be."""
+    """Imports settings: 0 where all was said, 1 where something was listed, 2 where nothing could be written."""
     parser = argparse.ArgumentParser(prog="import_settings", description=__doc__)
     parser.add_argument("out", type=Path, metavar="SETTINGS", help="the settings file that is written")
     parser.add_argument("files", type=Path, nargs="+", metavar="YAML", help="files of Spack's settings")
@@ -131,6 +150,11 @@ def main(words: Optional[list[str]] = None) -> int:
     which.add_argument("--target", help="the target of the machine, as `spack arch -t` names it")
     which.add_argument("--targets", type=Path, metavar="JSON", help="a table of targets, in the form of the settings' key")
     parser.add_argument("--archspec", type=Path, metavar="JSON", help="archspec's microarchitectures.json, as Spack has it")
+    parser.add_argument(
+        "--repo", type=Path, metavar="OUT",
+        help="what import_repo wrote: it says which names are virtual, and whether it was given this packages.yaml",
+    )
+    parser.add_argument("--strict", action="store_true", help="write nothing where something is left out")
     given = parser.parse_args(words)
     notes = Notes()
     try:
@@ -144,6 +168,7 @@ def main(words: Optional[list[str]] = None) -> int:
     except (OSError, ValueError, KeyError, yaml_texts.NoYaml) as fault:
         print(f"import_settings: {fault}", file=sys.stderr)
         return 2
-    given.out.write_text(text_of(settings), "utf-8")
+    if not (given.strict and notes.rows):
+        given.out.write_text(text_of(settings), "utf-8")
     print(notes.text(), end="")
-    return 0
+    return 1 if notes.rows else 0

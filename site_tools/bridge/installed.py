@@ -5,13 +5,12 @@ new hashes. What a record cannot say is left out of it and listed; a record that
 each that is linked to it or runs with it.
 """
 import argparse
-import json
 import sys
 from dataclasses import dataclass, field
 from pathlib import Path
 from typing import Any, Optional
 
-from . import records, signs
+from . import json_files, records, signs
 from .records import Record
 from .rows import Cannot
 from .spec_text import COMPILER_OF_PACKAGE
@@ -114,7 +113,7 @@ def record_of(old: str, found: Import) -> Record:
     """The record of one installed package; `Cannot` where there is none."""
     install = found.installs[old]
     spec, arch = install["spec"], install["spec"].get("arch", {})
-    if not install.get("installed", True):
+    if not install.get("installed", True) and not install.get("in_buildcache"):
         raise Cannot("not installed", "")
     if install.get("deprecated_for"):
         raise Cannot("deprecated for another one", "")
@@ -148,7 +147,7 @@ def read(old: str, found: Import) -> Optional[str]:
     except Cannot as fault:
         found.refused[old] = fault.kind + (f": {fault.detail}" if fault.detail else "")
         return None
-    except (KeyError, TypeError, AttributeError) as fault:
+    except (KeyError, TypeError, AttributeError, ValueError, RecursionError) as fault:
         found.refused[old] = f"an entry that is not of Spack's form: {fault}"
         return None
     new = records.hash_of(record)
@@ -159,11 +158,35 @@ def read(old: str, found: Import) -> Optional[str]:
     return new
 
 
+def children_first(installs: dict[str, Any]) -> list[str]:
+    """The installed packages, each behind those that it depends on, as far as there is no cycle."""
+    order: dict[str, None] = {}
+    seen: set[str] = set()
+    for first in sorted(installs):
+        waiting = [(first, False)]
+        while waiting:
+            old, is_done = waiting.pop()
+            if is_done:
+                order[old] = None
+            elif old not in seen and old in installs:
+                seen.add(old)
+                waiting.append((old, True))
+                waiting += [(each, False) for each in child_hashes(installs[old])]
+    return list(order)
+
+
+def child_hashes(install: Any) -> list[str]:
+    """The hashes of an entry's children; none where it is not of Spack's form."""
+    try:
+        return [child["hash"] for child in children_of(install["spec"]) if isinstance(child["hash"], str)]
+    except (KeyError, TypeError, AttributeError):
+        return []
+
+
 def import_all(index: dict, platform: str, strict: bool = False) -> Import:
     """All installed packages of an index."""
     found = Import(platform, index["database"]["installs"])
-    sys.setrecursionlimit(max(sys.getrecursionlimit(), 4 * len(found.installs) + 1000))
-    for old in sorted(found.installs):
+    for old in children_first(found.installs):
         read(old, found)
     if strict and found.parts:
         kept = {old: each for old, each in found.installs.items() if old not in found.parts}
@@ -172,6 +195,14 @@ def import_all(index: dict, platform: str, strict: bool = False) -> Import:
         again.installs = found.installs
         return again
     return found
+
+
+def add_cache(index: dict, cache: dict) -> None:
+    """Adds what a build cache has and the index has not: it can be fetched in place of being built."""
+    installs = index["database"]["installs"]
+    for old, entry in cache["database"]["installs"].items():
+        if old not in installs or not installs[old].get("installed", True):
+            installs[old] = {**entry, "in_buildcache": True}
 
 
 def database_text(found: Import) -> str:
@@ -188,7 +219,10 @@ def table_text(found: Import) -> str:
 
 def shown(old: str, found: Import) -> str:
     """An installed package as reports show it."""
-    spec = found.installs[old].get("spec", {})
+    install = found.installs[old]
+    spec = install.get("spec") if isinstance(install, dict) else None
+    if not isinstance(spec, dict):
+        return f"an entry /{old[:7]}"
     return f"{spec.get('name')}@{spec.get('version')} /{old[:7]}"
 
 
@@ -213,12 +247,18 @@ def main(words: Optional[list[str]] = None) -> int:
     parser.add_argument("database", type=Path, metavar="DATABASE", help="the file that is written")
     parser.add_argument("table", type=Path, metavar="HASHES", help="the table of old to new hashes that is written")
     parser.add_argument("--platform", default="linux", help="records of other platforms are left out")
+    parser.add_argument(
+        "--cache", type=Path, action="append", default=[], metavar="INDEX_JSON",
+        help="index.json of a build cache: what is there counts as installed",
+    )
     parser.add_argument("--strict", action="store_true", help="leave out each record of which a part cannot be said")
     given = parser.parse_args(words)
     try:
-        index = json.loads(given.index.read_text("utf-8"))
+        index = json_files.read(given.index)
+        for path in given.cache:
+            add_cache(index, json_files.read(path))
         found = import_all(index, given.platform, given.strict)
-    except (OSError, ValueError, KeyError, TypeError) as fault:
+    except (OSError, ValueError, KeyError, TypeError, AttributeError) as fault:
         print(f"import_installed: {given.index} is no index of Spack's: {fault}", file=sys.stderr)
         return 2
     given.database.write_text(database_text(found), "utf-8")

@@ -5,38 +5,15 @@ f-strings, comprehensions, and a few calls without effects. It never calls a fun
 what it cannot compute it refuses by `NotLiteral`, with the expression.
 """
 import ast
-import itertools
 import operator
-from typing import Any, Callable, MutableMapping
+from collections import ChainMap
+from typing import Any, Callable
 
-from . import variant_values as values_of
-from .versions import Version
+from .known_calls import FUNCTIONS, LONGEST, METHODS, MODULES, ORDERLESS, Steps, TooMuch, Unordered
+from .known_calls import check_call, check_template, weight
+from .values import MACHINE, ClassValue, Function, Names, NotLiteral, Unknown, dotted, source
 
-LONGEST = 10_000  # entries of a list that a loop may run over, and signs of a text
-
-Names = MutableMapping[str, Any]
-
-
-class NotLiteral(ValueError):
-    """An expression whose value does not follow from the text: the expression, and why."""
-
-
-class Unknown:
-    """What stands for a name whose value could not be computed."""
-
-    def __init__(self, why: str) -> None:
-        self.why = why
-
-
-class Unordered(tuple):
-    """A set: it may be looped over, sorted, counted and searched; what would show its order is refused."""
-
-
-class ClassValue:
-    """A class whose attributes may be asked for, as `CudaPackage.cuda_arch_values`."""
-
-    def __init__(self, names: Names) -> None:
-        self.names = names
+STEPS = Steps()
 
 
 BINARY: dict[type, Callable[[Any, Any], Any]] = {
@@ -48,42 +25,6 @@ COMPARISONS: dict[type, Callable[[Any, Any], bool]] = {
     ast.GtE: operator.ge, ast.In: lambda a, b: a in b, ast.NotIn: lambda a, b: a not in b,
     ast.Is: operator.is_, ast.IsNot: operator.is_not,
 }
-FUNCTIONS: dict[str, Callable[..., Any]] = {
-    "str": str, "int": int, "len": len, "list": list, "tuple": tuple, "dict": dict, "sorted": sorted,
-    "set": lambda given=(): Unordered(dict.fromkeys(given)),
-    "zip": lambda *lists: list(zip(*lists)), "enumerate": lambda *given: list(enumerate(*given)),
-    "reversed": lambda given: list(reversed(given)), "min": min, "max": max, "any": any, "all": all, "bool": bool,
-    "range": lambda *ends: short_range(*ends), "product": lambda *lists: list(itertools.product(*lists)),
-    "chain": lambda *lists: list(itertools.chain(*lists)), "Version": Version, "ver": Version,
-    "conditional": values_of.conditional, "any_combination_of": values_of.any_combination_of,
-    "auto_or_any_combination_of": values_of.auto_or_any_combination_of, "disjoint_sets": values_of.disjoint_sets,
-}
-ORDERLESS = frozenset("set sorted len min max any all bool".split())
-METHODS: dict[type, frozenset[str]] = {
-    str: frozenset("format join split replace lower upper strip lstrip rstrip startswith endswith title".split()),
-    dict: frozenset("items keys values get".split()),
-    list: frozenset({"index", "count"}),
-    tuple: frozenset({"index", "count"}),
-    Version: frozenset({"up_to"}),
-    values_of.DisjointSets: frozenset(
-        "with_default with_error with_non_feature_values allow_empty_set prohibit_empty_set".split()
-    ),
-}
-
-
-def short_range(*ends: int) -> list[int]:
-    """`range`, refused where it is long."""
-    found = range(*ends)
-    if len(found) > LONGEST:
-        raise ValueError("a range that is too long")
-    return list(found)
-
-
-def source(node: ast.AST) -> str:
-    """The expression as text, on one line."""
-    return " ".join(ast.unparse(node).split())
-
-
 class Evaluator:
     """Computes expressions over a table of names."""
 
@@ -92,22 +33,22 @@ class Evaluator:
 
     def value(self, node: ast.expr) -> Any:
         """The value of an expression; `NotLiteral` where it does not follow from the text."""
-        method = getattr(self, "of_" + type(node).__name__.lower(), None)
+        kind = type(node)
+        if kind is ast.Constant:
+            return node.value  # type: ignore[attr-defined]
+        STEPS.spend(1)
+        method = METHOD_OF.get(kind)
         if method is None:
             raise NotLiteral(f"`{source(node)}`")
         try:
-            found = method(node)
-        except NotLiteral:
+            found = method(self, node)
+            if kind is not ast.Name and isinstance(found, (str, list, tuple, dict)):
+                STEPS.spend(weight(found) // 16)
+            return found
+        except (NotLiteral, TooMuch, RecursionError):
             raise
         except Exception as fault:  # a wrong expression is no literal, whatever is wrong with it
             raise NotLiteral(f"`{source(node)}` ({fault})") from fault
-        if isinstance(found, (str, list, tuple, set, dict)) and len(found) > 100 * LONGEST:
-            raise NotLiteral(f"`{source(node)}` (too long)")
-        return found
-
-    def of_constant(self, node: ast.Constant) -> Any:
-        """A literal."""
-        return node.value
 
     def of_name(self, node: ast.Name) -> Any:
         """What the name was given."""
@@ -118,12 +59,19 @@ class Evaluator:
 
     def of_attribute(self, node: ast.Attribute) -> Any:
         """`sys.platform`, and the attribute of a class that was read."""
-        if source(node) == "sys.platform":
-            return self.names["sys.platform"]
+        if dotted(node) in MACHINE:
+            return self.machine(dotted(node))
         owner = self.value(node.value)
         if isinstance(owner, ClassValue):
             return Evaluator(owner.names).value(ast.Name(node.attr, ast.Load()))
         raise NotLiteral(f"`{source(node)}`")
+
+    def machine(self, name: str) -> Any:
+        """What the importer was told of the machine, by the name in a recipe."""
+        found = self.names.get(name) if name.partition(".")[0] not in self.names else None
+        if found is None:
+            raise NotLiteral(f"`{name}`, which --target says")
+        return found
 
     def items(self, nodes: list[ast.expr]) -> list[Any]:
         """The values of expressions beside each other, `*list` spread out."""
@@ -163,13 +111,16 @@ class Evaluator:
 
     def of_joinedstr(self, node: ast.JoinedStr) -> str:
         """An f-string."""
-        return "".join(str(self.value(part)) for part in node.values)
+        parts = [self.value(part) for part in node.values]
+        return "".join(str(part) for part in parts if weight(part))
 
     def of_formattedvalue(self, node: ast.FormattedValue) -> str:
         """One `{..}` of an f-string."""
         if node.conversion != -1:
             raise NotLiteral(f"`{source(node.value)}` with a conversion")
-        return format(self.value(node.value), self.value(node.format_spec) if node.format_spec else "")
+        value, form = self.value(node.value), self.value(node.format_spec) if node.format_spec else ""
+        check_template("{0:" + form + "}")
+        return format(value, form) if weight(value) or form else ""
 
     def of_binop(self, node: ast.BinOp) -> Any:
         """`a + b` and the like."""
@@ -177,6 +128,9 @@ class Evaluator:
         numbers = [each for each in (left, right) if isinstance(each, int)]
         if isinstance(node.op, ast.Mult) and max(numbers + [0]) > LONGEST:
             raise NotLiteral(f"`{source(node)}` (too long)")
+        if isinstance(left, str) and isinstance(node.op, ast.Mod):
+            check_template(left)
+            weight(right)
         return BINARY[type(node.op)](left, right)
 
     def of_unaryop(self, node: ast.UnaryOp) -> Any:
@@ -217,28 +171,41 @@ class Evaluator:
 
     def of_call(self, node: ast.Call) -> Any:
         """A call of a function without effects, or of a method of a text, a list or a dictionary."""
-        name = node.func.id if isinstance(node.func, ast.Name) else None
-        if isinstance(node.func, ast.Attribute):
-            name = node.func.attr
-            if name in FUNCTIONS and not isinstance(node.func.value, ast.Constant) and name not in self.names:
-                return self.called(FUNCTIONS[name], node, name in ORDERLESS)  # spack.variant.any_combination_of
-            owner = self.value(node.func.value)
-            if name in METHODS.get(type(owner), ()):
-                found = self.called(getattr(owner, name), node)
-                return list(found) if isinstance(owner, dict) and name != "get" else found
-        elif name in FUNCTIONS and name not in self.names:
+        place = dotted(node.func)
+        front, _, name = place.rpartition(".")
+        if place + "()" in MACHINE and not node.args and not node.keywords:
+            return self.machine(place + "()")
+        if front.partition(".")[0] in MODULES and name in FUNCTIONS and front.partition(".")[0] not in self.names:
             return self.called(FUNCTIONS[name], node, name in ORDERLESS)
+        if isinstance(node.func, ast.Attribute):
+            owner = self.value(node.func.value)
+            if isinstance(owner, ClassValue) and isinstance(owner.names.get(node.func.attr), Function):
+                return self.run_function(owner.names[node.func.attr], node)
+            if node.func.attr in METHODS.get(type(owner), ()):
+                found = self.called(getattr(owner, node.func.attr), node, owner=owner)
+                return list(found) if isinstance(owner, dict) and node.func.attr != "get" else found
+        elif place in FUNCTIONS and place not in self.names:
+            return self.called(FUNCTIONS[place], node, place in ORDERLESS)
+        elif isinstance(self.names.get(place), Function):
+            return self.run_function(self.names[place], node)
         raise NotLiteral(f"`{source(node)}`, a call")
 
-    def called(self, function: Callable[..., Any], node: ast.Call, orderless: bool = False) -> Any:
+    def run_function(self, function: Function, node: ast.Call) -> Any:
+        """The value of a function of the recipe."""
+        if Function.run is None:
+            raise NotLiteral(f"`{source(node)}`, a call")
+        return self.called(lambda *given, **words: Function.run(function, list(given), words), node)  # type: ignore[misc]
+
+    def called(self, function: Callable[..., Any], node: ast.Call, orderless: bool = False, owner: Any = None) -> Any:
         """What a known function gives for the arguments, sets among them only where their order does not matter."""
-        if not orderless:
-            for each in [*node.args, *(word.value for word in node.keywords)]:
-                self.ordered(each.value if isinstance(each, ast.Starred) else each)
-        words = {each.arg: self.value(each.value) for each in node.keywords if each.arg}
-        if len(words) != len(node.keywords):
-            raise NotLiteral(f"`{source(node)}`")
-        return function(*self.items(node.args), **words)
+        words: dict[str, Any] = {}
+        for each in node.keywords:
+            words.update(self.value(each.value) if each.arg is None else {each.arg: self.value(each.value)})
+        positional = self.items(node.args)
+        if not orderless and any(isinstance(each, Unordered) and len(each) > 1 for each in [*positional, *words.values()]):
+            raise NotLiteral(f"`{source(node)}`, a set in some order")
+        check_call(owner, node.func.attr if isinstance(node.func, ast.Attribute) else "", positional, words)
+        return function(*positional, **words)
 
     def comprehended(self, node: Any, result: Callable[["Evaluator"], Any]) -> list:
         """The results of a comprehension."""
@@ -251,7 +218,8 @@ class Evaluator:
                 found.append(result(inner))
                 return
             for value in inner.ordered(rest[0].iter):
-                bound = dict(names)
+                bound = ChainMap({}, names)  # type: ignore[arg-type]
+                STEPS.spend(1)
                 bind(rest[0].target, value, bound)
                 if all(Evaluator(bound).value(test) for test in rest[0].ifs):
                     run(rest[1:], bound)
@@ -264,11 +232,23 @@ class Evaluator:
         return self.comprehended(node, lambda inner: inner.value(node.elt))
 
     of_generatorexp = of_listcomp
-    of_setcomp = of_listcomp
+
+    def of_setcomp(self, node: ast.SetComp) -> Unordered:
+        """`{a for b in c}`."""
+        return Unordered(dict.fromkeys(self.comprehended(node, lambda inner: inner.value(node.elt))))
 
     def of_dictcomp(self, node: ast.DictComp) -> dict:
         """`{a: b for c in d}`."""
         return dict(self.comprehended(node, lambda inner: (inner.value(node.key), inner.value(node.value))))
+
+
+METHOD_OF: dict[type, Callable[[Evaluator, Any], Any]] = {
+    kind: getattr(Evaluator, f"of_{kind.__name__.lower()}")
+    for kind in (
+        ast.Name, ast.Attribute, ast.Tuple, ast.List, ast.Set, ast.Dict, ast.JoinedStr, ast.FormattedValue, ast.BinOp, ast.UnaryOp,
+        ast.BoolOp, ast.Compare, ast.IfExp, ast.Subscript, ast.Slice, ast.Call, ast.ListComp, ast.GeneratorExp, ast.SetComp, ast.DictComp,
+    )
+}
 
 
 def bind(target: ast.expr, value: Any, names: Names) -> None:

@@ -2,12 +2,11 @@
 
 Reads what docs/formats/lock-file.md has; compares each hash with the computed one, and takes no other file.
 """
-import json
 from dataclasses import dataclass
 from pathlib import Path
 from typing import Any, Iterator
 
-from . import records
+from . import json_files, records
 
 Node = dict[str, Any]
 
@@ -45,7 +44,7 @@ class Lock:
 def read(path: Path) -> Lock:
     """The lock file; `NoLock` where it is none."""
     try:
-        value = json.loads(path.read_text("utf-8"))
+        value = json_files.read(path)
         nodes = {node["hash"]: node for node in value["nodes"]}
         roots = [(root["spec"], root["hash"]) for root in value["roots"]]
         for node in value["nodes"]:

@@ -7,6 +7,7 @@ import ast
 import copy
 import re
 import string
+import warnings
 from collections import ChainMap
 from dataclasses import dataclass, field
 from pathlib import Path
@@ -14,10 +15,13 @@ from typing import Any, Iterator, Optional
 
 from .class_reader import ClassReader
 from .directives import DIRECTIVES
-from .literals import ClassValue
+from .definitions import copied
+from .values import ClassValue
 from .rows import Cannot, LeftOut, Row, VariantRow
+from .site_values import SiteValues, values_for
 from .spec_text import Dialect
 
+MOST_BYTES = 1024 * 1024
 PLATFORMS = {"linux": "linux", "darwin": "darwin", "windows": "win32"}
 
 
@@ -58,23 +62,71 @@ def imported(statement: ast.stmt) -> Iterator[tuple[str, str]]:
             yield each.asname or each.name, f"{'.' * statement.level}{statement.module or ''}.{each.name}"
 
 
+def machine_of(platform: str, family: Optional[str]) -> dict[str, Any]:
+    """What a recipe may ask of the machine: its platform, and where the family of its target is known, `platform.machine()`."""
+    found = {"sys.platform": PLATFORMS.get(platform, platform), "platform.system()": platform.title()}
+    if family is not None:
+        others = {"darwin": {"aarch64": "arm64"}, "windows": {"x86_64": "AMD64", "aarch64": "ARM64"}}
+        found["platform.machine()"] = others.get(platform, {}).get(family, family)
+    return found
+
+
+def parsed(path: Path) -> tuple[str, ast.Module]:
+    """A file's text, and what Python's parser makes of it; `Cannot` where it refuses it."""
+    if not path.is_file():
+        raise Cannot("a file that cannot be read", "no regular file")
+    if path.stat().st_size > MOST_BYTES:
+        raise Cannot("a file that is too large", f"more than {MOST_BYTES} bytes")
+    try:
+        text = path.read_text("utf-8-sig")
+        with warnings.catch_warnings():
+            warnings.simplefilter("ignore")
+            return text, ast.parse(text)
+    except (SyntaxError, ValueError) as fault:
+        raise Cannot("a file that is no Python in UTF-8", f"line {getattr(fault, 'lineno', None) or 1}") from fault
+    except (RecursionError, MemoryError) as fault:
+        raise Cannot("a file that is too deep for Python's parser", path.parent.name) from fault
+
+
 class Repository:
     """A repository of Spack's recipes, with the folders of base classes."""
 
-    def __init__(self, root: Path, build_systems: list[Path], platform: str) -> None:
-        self.root, self.platform = root, platform
-        text = (root / "repo.yaml").read_text("utf-8") if (root / "repo.yaml").exists() else ""
+    def __init__(self, root: Path, build_systems: list[Path], platform: str, family: Optional[str] = None) -> None:
+        self.root = root
+        self.site_values: SiteValues = {}
+        self.machine = machine_of(platform, family)
+        text = (root / "repo.yaml").read_text("utf-8", "replace") if (root / "repo.yaml").is_file() else ""
         found = re.search(r"^\s*namespace:\s*['\"]?([\w.-]+)", text, re.M)
         is_v2 = re.search(r"^\s*api:\s*['\"]?v2", text, re.M) is not None
         self.dialect = Dialect((found.group(1) if found else "builtin").rpartition(".")[2], is_v2)
         self.folders = {self.package_of(each.parent.name): each for each in sorted(root.glob("packages/*/package.py"))}
+        self.packages = frozenset(self.folders)
         self.base_files = [path for folder in build_systems for path in sorted(folder.glob("*.py"))]
+        self.base_paths, self.base_names = frozenset(self.base_files), frozenset(map(str, self.base_files))
         self.modules: dict[Path, Module] = {}
         self.read: dict[str, ClassRows] = {}
         self.bases: dict[str, Path] = {}
+        self.current: Optional[Path] = None
+        self.used: set[Path] = set()  # files of other packages that the present one is made of
         for path in self.base_files:
             for name in self.module(path).classes:
                 self.bases.setdefault(name, path)
+
+    def begin(self, name: str) -> None:
+        """Begins a package."""
+        self.current, self.used = self.folders[name], set()
+
+    def others(self) -> list[str]:
+        """The names of other packages' folders that the present one is made of."""
+        names = {path: name for name, path in self.folders.items()} if self.used else {}
+        return sorted(names[path] for path in self.used if path in names)
+
+    def end(self) -> None:
+        """Forgets what was read of packages, of which there are many: base classes stay."""
+        for path in [path for path in self.modules if path not in self.base_paths]:
+            del self.modules[path]
+        for key in [key for key in self.read if key.partition(":")[0] not in self.base_names]:
+            del self.read[key]
 
     def package_of(self, folder: str) -> str:
         """The name of the package in a folder: Spack 1.0 has `py_numpy` for `py-numpy`, `_7zip` for `7zip`."""
@@ -89,15 +141,12 @@ class Repository:
 
     def module(self, path: Path) -> Module:
         """The file, parsed once; `Cannot` where Python does not read it."""
+        if path not in self.base_paths and path != self.current:
+            self.used.add(path)
         if path in self.modules:
             return self.modules[path]
-        try:
-            text = path.read_text("utf-8-sig")
-            tree = ast.parse(text)
-        except (SyntaxError, ValueError, RecursionError) as fault:
-            raise Cannot("a file that is no Python in UTF-8", f"line {getattr(fault, 'lineno', None) or 1}") from fault
-        names = {"sys.platform": PLATFORMS.get(self.platform, self.platform)}
-        module = self.modules[path] = Module(path, names=names, text=text)
+        text, tree = parsed(path)
+        module = self.modules[path] = Module(path, names=dict(self.machine), text=text)
         reader = ClassReader(self.shown(path), self.dialect, text=text)
         for statement in tree.body:
             module.imports.update(imported(statement))
@@ -122,8 +171,11 @@ class Repository:
         found = ClassRows([], [], set(), ClassValue({}), [])
         for base in reversed(node.bases):
             self.add_base(found, module, ast.unparse(base), node, open_classes + (own,))
-        names = ChainMap({}, self.class_values(module, node), copy.deepcopy(module.names_at[name]))
+        given = module.names_at[name]
+        names = ChainMap({}, self.class_values(module, node), copied(given, copy.deepcopy(given)))
         reader = ClassReader(self.shown(module.path), self.dialect, "python-venv" in self.folders, module.text)
+        package = None if module.path in self.base_paths else self.package_of(module.path.parent.name)
+        reader.site_values = values_for(self.site_values, package)
         reader.run(node.body, names)
         found.rows += reader.rows
         found.left_out += [each for each in module.left_out if each not in found.left_out] + reader.left_out
@@ -165,9 +217,9 @@ class Repository:
 
     def class_values(self, module: Module, node: ast.ClassDef) -> dict[str, ClassValue]:
         """The classes that a class body may ask for attributes by name."""
-        asked = {each.value.id for each in ast.walk(node) if isinstance(each, ast.Attribute) and isinstance(each.value, ast.Name)}
+        asked = set(re.findall(r"\b(\w+)\.\w", module.text))
         found = {}
-        for name in asked:
+        for name in sorted(asked & (self.bases.keys() | module.classes.keys() | module.imports.keys())):
             place = self.find_class(module, name)
             if place and place[0].classes[place[1]] is not node:
                 found[name] = self.class_rows(*place).value

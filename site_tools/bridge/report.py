@@ -5,11 +5,13 @@ Says what was done, and what it means for the answers; decides nothing.
 import ast
 import textwrap
 from collections import Counter, defaultdict
-from dataclasses import dataclass
+from dataclasses import dataclass, field
 from pathlib import Path
 
-from . import spec_text
-from .rows import Cannot, LeftOut, Recipe
+from . import signs
+from .rows import Cannot, LeftOut, Recipe, unquoted
+from .settings_notes import Notes
+from .wishes import Site
 
 # What it means for the answers that a directive is not there.
 MEANING = {
@@ -24,6 +26,9 @@ MEANING = {
     "generator": "the variant `generator` has the values of the base class",
     "class": "directives of the base class are missing",
     "call": "directives that such a call would make are missing",
+    "sticky": "a value of these variants may be chosen that nobody asked for, where Spack keeps the default: see `--sticky`",
+    "values": "specs that ask for other values than these cannot be met",
+    "validator": "values of these variants may be chosen together that Spack refuses",
     "import": "names of that module may mean something else than Spack's",
 }
 HOW_TO_READ = (
@@ -39,6 +44,8 @@ class Import:
 
     recipes: list[Recipe]
     refused: dict[str, Cannot]
+    site: Site = field(default_factory=Site)
+    notes: Notes = field(default_factory=Notes)
 
     def whole(self) -> list[Recipe]:
         """Recipes that say all that Spack's say."""
@@ -130,16 +137,22 @@ def lost_lines(found: Import) -> list[str]:
     return [f"{recipe.name}: {', '.join(sorted(recipe.lost_variants))}" for recipe in found.recipes if recipe.lost_variants]
 
 
+def variants_in(text: str) -> list[str]:
+    """The names of the variants in the canonical text of a dependency."""
+    words = text.split(" ")[1:]
+    pairs = [word.partition("=")[0] for word in words if "=" in word and word[0] not in "%+~@"]
+    return [word[1:] for word in words if word[0] in "+~"] + [name for name in pairs if name not in signs.KEYS]
+
+
 def asked_lines(found: Import) -> list[str]:
     """Variants that a dependency asks for, of a package whose recipe has none of that name."""
     has = {each.name: {row.arguments[0] for row in each.rows if row.directive == "variant"} for each in found.recipes}
     asked: dict[tuple[str, str], set[str]] = defaultdict(set)
     for recipe in found.recipes:
         for row in [row for row in recipe.rows if row.directive == "depends_on" and row.names and row.names[0] in has]:
-            part = spec_text.read_dependency(row.arguments[0].strip('"'), spec_text.Dialect()).top
-            for name in part.variants:
-                if f'"{name}"' not in has[str(part.name)]:
-                    asked[str(part.name), name].add(recipe.name)
+            for name in variants_in(unquoted(row.arguments[0])):
+                if f'"{name}"' not in has[row.names[0]]:
+                    asked[row.names[0], name].add(recipe.name)
     return [line for key in sorted(asked) for line in wrapped(f"{key[0]} {key[1]}: asked for by {', '.join(sorted(asked[key]))}")]
 
 
@@ -160,7 +173,7 @@ def wrapped(text: str) -> list[str]:
     return textwrap.wrap(text, LONGEST, subsequent_indent="    ", break_on_hyphens=False)
 
 
-def text_of(found: Import, stand_ins: list[str]) -> str:
+def text_of(found: Import, stand_ins: list[str], by_hand: list[str]) -> str:
     """The whole report."""
     refused = [f"{name}: {fault.kind}: {fault.detail}" for name, fault in sorted(found.refused.items())]
     lines = [f"import_repo: {summary(found)}", counts(found), "", *HOW_TO_READ]
@@ -170,8 +183,15 @@ def text_of(found: Import, stand_ins: list[str]) -> str:
     lines += section("Variants that are missing", lost_lines(found))
     lines += section("Variants that are asked for and that no recipe has: these dependencies cannot be met", asked_lines(found))
     lines += section("Names that no recipe has and none provides: nothing that asks for them can be met", unknown_lines(found))
+    lines += section("Of packages.yaml: not written into the recipes, or weaker there", found.notes.lines(found.notes.rows))
     lines += section("Base classes that stand-ins were taken for (--build-systems names your Spack's own)", stand_ins)
+    lines += section("Changed by hand since the last import, and left as they are", wrapped(" ".join(by_hand)) if by_hand else [])
     lines += section("Taken with parts left out", part_lines(found.partly()))
     whole = "Taken whole" + (", but for what the stand-ins lack" if stand_ins else "")
     lines += section(whole, wrapped(" ".join(each.name for each in found.whole())))
-    return "\n".join(lines) + "\n"
+    return "".join(map(plain, "\n".join(lines))) + "\n"
+
+
+def plain(sign: str) -> str:
+    """A sign as a terminal may show it: control signs by their number."""
+    return sign if sign.isprintable() or sign == "\n" else f"\\x{ord(sign):02x}"

@@ -1,20 +1,20 @@
 """packages.yaml as the keys `providers` and `packages` of the settings.
 
-Takes providers, versions, buildable and externals; lists all else, since the settings have no preference of variants
-and no requirement.
+Takes providers, versions, buildable and externals. What else it says of packages is written into the recipes by
+`import_repo --packages`; where that was not done, it is listed.
 """
+from dataclasses import dataclass, field
 from typing import Any, Optional
 
-from . import signs, spec_text, versions
+from . import settings_externals, signs, versions
 from .settings_notes import Notes
-from .spec_text import Dialect, NotInProfile
-from .yaml_texts import Text, texts
+from .spec_text import Part
+from .wish_texts import SECTIONS
+from .yaml_texts import Text, line_of, texts
 
+IN_RECIPES = "the settings have no such key: `import_repo --packages` writes it into the recipes, and `--repo` names these"
 ADVICE = {
-    "variants": "the settings prefer no variant: write it in the spec, as `hdf5+mpi`",
-    "require": "the settings require nothing: write it in the spec",
-    "prefer": "the settings prefer no spec: write it in the spec",
-    "conflict": "the settings forbid nothing: write the contrary in the spec",
+    **dict.fromkeys(SECTIONS, IN_RECIPES),
     "compiler": "compilers are preferred for all packages alike: write it in the spec, as `hdf5 %gcc@12`",
     "target": "targets are preferred for all packages alike: write it in the spec, as `hdf5 target=zen3`",
     "providers": "providers are preferred for all packages alike, under `all`",
@@ -23,32 +23,20 @@ SILENT = frozenset({"permissions", "package_attributes"})  # of files and builds
 ALL = frozenset({"compiler", "target", "providers"})  # read elsewhere
 
 
+@dataclass
+class Site:
+    """What is known beside packages.yaml: the machine, and the imported recipes where they were named."""
+
+    platform: str
+    targets: list[str]
+    providers: Optional[dict[str, list[str]]] = None  # of the recipes; None where none were named
+    declared: dict[str, list[str]] = field(default_factory=dict)
+    in_recipes: bool = False  # whether the recipes have what this packages.yaml requires, forbids and prefers
+
+
 def truth(value: Any) -> Optional[bool]:
     """A truth value as YAML has it; None where it is none."""
     return {"true": True, "false": False}.get(str(value).lower()) if isinstance(value, Text) and value.plain else None
-
-
-def external_of(package: str, external: Any, platform: str, notes: Notes) -> Optional[dict]:
-    """One external in the profile's words."""
-    text = str(external.get("spec", ""))
-    where = f"packages.{package}.externals `{text}`"
-    if "prefix" not in external:
-        notes.leave_out(external, where, "it has no prefix")
-        return None
-    try:
-        part = spec_text.read_dependency(text, Dialect()).top
-    except NotInProfile as fault:
-        notes.leave_out(external, where, f"{fault.kind}: {fault.detail}")
-        return None
-    compiler_version = versions.single(part.compiler[1]) if part.compiler else "none"
-    one_target = not part.targets or len(part.targets) == 1 and ":" not in part.targets[0]
-    if part.name != package or versions.single(part.versions) is None or compiler_version is None or not one_target:
-        notes.leave_out(external, where, "it is not one version of the package, with one version of its compiler and one target")
-        return None
-    if part.platform and part.platform != platform:
-        notes.leave_out(external, where, f"it is of another platform than {platform}")
-        return None
-    return {"spec": part.text(), "prefix": str(external["prefix"])}
 
 
 def versions_of(package: str, value: Any, notes: Notes) -> list[str]:
@@ -65,24 +53,32 @@ def versions_of(package: str, value: Any, notes: Notes) -> list[str]:
     return found
 
 
-def package_of(package: str, inner: Any, platform: str, notes: Notes) -> dict:
+def externals_of(package: str, value: Any, site: Site, notes: Notes) -> list[tuple[Part, str]]:
+    """The externals of a package."""
+    listed = value if isinstance(value, list) else [value]
+    entries = [each for each in listed if isinstance(each, dict)]
+    if len(entries) < len(listed):
+        notes.leave_out(value, f"packages.{package}.externals", "an entry is no map")
+    given = [settings_externals.read(package, each, site.platform, notes) for each in entries]
+    return [each for each in given if each is not None]
+
+
+def package_of(package: str, packages: dict, site: Site, notes: Notes) -> dict:
     """What the settings say of one package."""
     found: dict[str, Any] = {}
-    for key, value in inner.items():
+    for key, value in packages[package].items():
         if key == "version":
             found["versions"] = versions_of(package, value, notes)
         elif key == "buildable" and truth(value) is not None:
             found["buildable"] = truth(value)
         elif key == "externals":
-            listed = value if isinstance(value, list) else [value]
-            entries = [each for each in listed if isinstance(each, dict)]
-            if len(entries) < len(listed):
-                notes.leave_out(value, f"packages.{package}.externals", "an entry is no map")
-            given = [external_of(package, each, platform, notes) for each in entries]
-            found["externals"] = [each for each in given if each is not None]
-        elif key not in SILENT:
+            given = settings_externals.allowed(package, externals_of(package, value, site, notes), packages, notes)
+            found["externals"] = settings_externals.entries(given, site.targets)
+        elif key not in SILENT and not (key in SECTIONS and site.in_recipes):
             why = "it is no truth value" if key == "buildable" else ADVICE.get(str(key), "the settings have no such key")
             notes.leave_out(value, f"packages.{package}.{key}", why)
+    if site.declared.get(package):
+        found["versions"] = found.get("versions", []) + [",".join(f"={each}" for each in site.declared[package])]
     return {key: found[key] for key in ("versions", "buildable", "externals") if key in found and found[key] != []}
 
 
@@ -97,26 +93,67 @@ def maps(packages: Any, notes: Notes) -> dict[str, Any]:
     return found
 
 
-def read(packages: Any, platform: str, notes: Notes) -> dict:
-    """The keys `providers` and `packages`."""
-    providers: dict[str, list[str]] = {}
-    found: dict[str, dict] = {}
-    for name, inner in (packages or {}).items():
-        if name != "all":
+def providers_of(virtual: str, order: Any, notes: Notes) -> list[str]:
+    """The packages that provide a virtual, in order: names alone, as Spack's solver takes them."""
+    found: list[str] = []
+    for text in texts(order):
+        name = settings_externals.name_of(str(text))
+        if name is None:
+            notes.leave_out(text, f"packages.all.providers.{virtual} {text}", "it begins with no name of a package")
             continue
-        virtuals = inner.get("providers", {})
-        for virtual, order in virtuals.items() if isinstance(virtuals, dict) else ():
-            names = list(dict.fromkeys(str(each) for each in texts(order)))
-            if not all(map(signs.is_name, [str(virtual), *names])):
-                notes.leave_out(order, f"packages.all.providers.{virtual}", "a name beyond the profile, or one with a version")
-            providers[str(virtual)] = [each for each in names if signs.is_name(each)]
-        providers = {virtual: providers[virtual] for virtual in providers if signs.is_name(virtual)}
-        for key in inner:
-            if key not in ALL | SILENT:
-                notes.leave_out(inner[key], f"packages.all.{key}", ADVICE.get(str(key), "it is read of single packages alone"))
-    for name, inner in (packages or {}).items():
-        if name in providers:
-            notes.leave_out(inner, f"packages.{name}", "it is a virtual: say it of each package that provides it")
-        elif name != "all":
-            found[str(name)] = package_of(str(name), inner, platform, notes)
+        if name != text:
+            why = f"`{name}` keeps its place, as with Spack, which looks at the name alone"
+            notes.take(text, f"packages.all.providers.{virtual} {text}", why)
+        found += [name] if name not in found else []
+    return found
+
+
+def spread(packages: dict, virtuals: dict[str, list[str]], notes: Notes) -> dict[str, Any]:
+    """The packages with what is said of virtuals at each package that provides one, as Spack does."""
+    found = {name: dict(inner) for name, inner in packages.items() if name not in virtuals}
+    for virtual in [name for name in packages if name in virtuals]:
+        for key, value in packages[virtual].items():
+            if key == "buildable" and truth(value) is not None:
+                for name in virtuals[virtual] if truth(value) is False else ():
+                    found.setdefault(name, {})["buildable"] = value
+            elif key == "externals" and isinstance(value, list):
+                for each in value:
+                    name = settings_externals.name_of(str(each.get("spec", ""))) if isinstance(each, dict) else None
+                    if name is None:
+                        notes.leave_out(each, f"packages.{virtual}.externals", "an entry names no package")
+                        continue
+                    inner = found.setdefault(name, {})
+                    inner["externals"] = list(inner.get("externals") or []) + [each]
+            elif key not in SILENT and key not in SECTIONS:
+                notes.leave_out(value, f"packages.{virtual}.{key}", "it is a virtual: say it of each package that provides it")
+            elif key in SECTIONS:
+                found.setdefault("", {})[key] = value
+    return found
+
+
+def read(packages: Any, site: Site, notes: Notes) -> dict:
+    """The keys `providers` and `packages`."""
+    packages = packages or {}
+    every = packages.get("all", {})
+    given = every.get("providers", {})
+    providers = {}
+    for virtual, order in given.items() if isinstance(given, dict) else ():
+        if signs.is_name(str(virtual)):
+            providers[str(virtual)] = providers_of(str(virtual), order, notes)
+        else:
+            notes.leave_out(order, f"packages.all.providers.{virtual}", "a name beyond the profile")
+    for key in every:
+        if key not in ALL | SILENT and not (key in SECTIONS and site.in_recipes):
+            notes.leave_out(every[key], f"packages.all.{key}", ADVICE.get(str(key), "it is read of single packages alone"))
+    if site.providers is None:
+        for name in [name for name in packages if name in providers]:
+            notes.leave_out(packages[name], f"packages.{name}", "it is a virtual: name the imported recipes by `--repo`")
+        known = {name: inner for name, inner in packages.items() if name not in providers}
+    else:
+        known = spread(packages, site.providers, notes)
+        for key, value in known.pop("", {}).items():
+            if not site.in_recipes:
+                notes.leave_out_line(line_of(value), f"packages: {key} of a virtual", IN_RECIPES)
+    named = [name for name in known if name != "all"] + [name for name in site.declared if name not in known]
+    found = {name: package_of(name, {**known, name: known.get(name, {})}, site, notes) for name in named}
     return {"providers": providers, "packages": {name: found[name] for name in found if found[name]}}

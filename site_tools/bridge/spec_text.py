@@ -4,6 +4,7 @@ Reads a text as Spack does and writes it in the canonical form of docs/formats/s
 the same meaning. Where the profile has no such text, or where Spack's own releases differ in what it means, it raises
 `NotInProfile` with the reason; it never writes something near.
 """
+import functools
 import re
 from dataclasses import dataclass, field
 from typing import Optional
@@ -88,6 +89,12 @@ def variant_text(name: str, values: tuple[str, ...]) -> str:
     return f"{name}={','.join(sorted(values))}"
 
 
+@functools.lru_cache(maxsize=None)
+def pattern_of(text: str) -> re.Pattern:
+    """A pattern, compiled once."""
+    return re.compile(text)
+
+
 class Reader:
     """Reads one text from the left, item by item."""
 
@@ -101,7 +108,7 @@ class Reader:
 
     def take(self, pattern: str) -> Optional[str]:
         """The text that the pattern matches here, taken; None where it does not match."""
-        found = re.compile(pattern).match(self.text, self.place)
+        found = pattern_of(pattern).match(self.text, self.place)
         if found is None:
             return None
         self.place = found.end()
@@ -121,7 +128,7 @@ class Reader:
 
     def starts_name(self) -> bool:
         """Whether a name stands here that is no key of a variant."""
-        return re.compile(rf"{SPACK_NAME}(?!\s*:?=)(?![A-Za-z0-9_.-])").match(self.text, self.place) is not None
+        return pattern_of(rf"{SPACK_NAME}(?!\s*:?=)(?![A-Za-z0-9_.-])").match(self.text, self.place) is not None
 
     def package_name(self) -> str:
         """The name of a package; the repository's own namespace in front is dropped."""
@@ -145,7 +152,7 @@ class Reader:
     def take_constraint(self, blank: bool) -> None:
         """Takes one constraint of the nearest package."""
         part, sign = self.parts[-1], self.text[self.place]
-        if re.compile(r"\+\+|~~|%%").match(self.text, self.place) or blank and self.text.startswith("--", self.place):
+        if pattern_of(r"\+\+|~~|%%").match(self.text, self.place) or blank and self.text.startswith("--", self.place):
             raise self.fail("propagation (`++`, `~~`, `--`, `==`)")
         if part.compiler and self.dialect.is_v2:
             raise self.fail("something behind a compiler, which Spack 1.0 asks of the compiler")
@@ -205,7 +212,7 @@ class Reader:
             raise self.fail("`%` before what is no compiler")
         if part.compiler:
             raise self.fail("two compilers")
-        if re.compile(r"\s+@").match(self.text, self.place):
+        if pattern_of(r"\s+@").match(self.text, self.place):
             raise self.fail("white space between a compiler and `@`, which Spack's releases read differently")
         part.compiler = (name, self.version_list() if self.text.startswith("@", self.place) else None)
 

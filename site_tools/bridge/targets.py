@@ -3,9 +3,10 @@
 Says which targets a machine can run; never looks at the machine. What a target that is not here builds on is not
 guessed: `import_settings` reads archspec's own table by `--archspec`, or a table of targets by `--targets`.
 """
-import json
 from pathlib import Path
 from typing import Optional
+
+from . import json_files
 
 X86 = {
     "x86_64": [], "x86_64_v2": ["x86_64"], "x86_64_v3": ["x86_64_v2"], "x86_64_v4": ["x86_64_v3"],
@@ -57,7 +58,7 @@ def use(path: Optional[Path]) -> None:
         PARENTS.update(KNOWN)
         GENERIC.update(KNOWN_GENERIC)
         return
-    found = json.loads(path.read_text("utf-8"))["microarchitectures"]
+    found = json_files.read(path)["microarchitectures"]
     for name, each in found.items():
         parents = each["from"]
         PARENTS[name] = [parents] if isinstance(parents, str) else list(parents)

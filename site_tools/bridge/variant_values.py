@@ -14,6 +14,13 @@ class Conditional:
     when: Any
 
 
+@dataclass(frozen=True)
+class FreeValues:
+    """Values that a function tests, with what stands there."""
+
+    why: str
+
+
 def conditional(*values: Any, when: Any) -> tuple[Conditional, ...]:
     """`conditional("a", "b", when="@2:")`: each value with the condition."""
     return tuple(Conditional(value, when) for value in values)

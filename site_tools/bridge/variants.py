@@ -6,18 +6,8 @@ that exclude each other become `conflicts`. A variant whose values a function te
 from typing import Any, Optional
 
 from . import signs
-from .rows import Cannot, Conditions, Row, VariantRow
-from .variant_values import Conditional, DisjointSets
-
-
-def quoted(text: str) -> str:
-    """A text as a string of a recipe."""
-    return '"' + text.replace("\\", "\\\\").replace('"', '\\"') + '"'
-
-
-def listed(texts: list[str]) -> str:
-    """Texts as a tuple of a recipe."""
-    return "(" + ", ".join(map(quoted, texts)) + ("," if len(texts) == 1 else "") + ")"
+from .rows import Cannot, Choice, Conditions, Row, VariantRow, quoted
+from .variant_values import Conditional, DisjointSets, FreeValues
 
 
 def flat(values: Any) -> list[Any]:
@@ -38,12 +28,17 @@ def checked(value: Any) -> str:
     return text
 
 
+MOST_PAIRS = 20_000  # of values that exclude each other: a conflict for each
+
+
 class VariantReader:
     """Reads one call of `variant`, its arguments computed."""
 
-    def __init__(self, name: Any, given: dict[str, Any], conditions: Conditions, condition_of: Any) -> None:
+    def __init__(self, name: Any, given: dict[str, Any], conditions: Conditions, condition_of: Any, site_values: dict) -> None:
         self.name, self.given, self.conditions, self.condition_of = name, given, conditions, condition_of
         self.rules: list[Row] = []
+        self.site_values: tuple[str, ...] = site_values.get(name, ()) if isinstance(name, str) else ()
+        self.allowed_of_any: tuple[str, ...] = ()  # where the variant takes any text: the values that the site names
 
     def read(self) -> VariantRow:
         """The definition, and its rules."""
@@ -51,23 +46,39 @@ class VariantReader:
             raise Cannot("a name that is no variant of the profile", f"`{self.name}`")
         values = self.given.get("values")
         if values is None or isinstance(values, (tuple, list)) and set(map(str, values)) == {"True", "False"}:
-            arguments = self.read_bool()
+            choice = self.read_bool()
         elif isinstance(values, DisjointSets):
-            arguments = self.read_sets(values)
+            choice = self.read_sets(values)
+        elif isinstance(values, FreeValues):
+            choice = self.read_any("values that a function tests", values.why)
         elif isinstance(values, (tuple, list, str, int)):
-            arguments = self.read_list(flat(values))
+            choice = self.read_list(flat(values))
         else:
-            raise Cannot("values that are no list", "")
-        return VariantRow(self.name, Row("variant", (quoted(self.name),) + arguments, self.conditions), tuple(self.rules))
+            choice = self.read_any("values that are no list", "")
+        return VariantRow(self.name, Row("variant", choice.arguments(), self.conditions, choice=choice), tuple(self.rules))
 
-    def read_bool(self) -> tuple[str, ...]:
+    def read_bool(self) -> Choice:
         """A truth value; without `values`, another default means any value at all."""
         default = str(self.given.get("default")).lower()
         if default not in ("true", "false"):
-            raise Cannot("values that are any text", f"default `{self.given.get('default')}`")
-        return (f"default={default.title()}",)
+            return self.read_any("values that are any text", f"default `{self.given.get('default')}`")
+        return Choice(self.name, (default,), sticky=self.is_sticky())
 
-    def read_list(self, values: list[Any]) -> tuple[str, ...]:
+    def read_any(self, kind: str, why: str) -> Choice:
+        """Any text: its default, and the values that the site names; `Cannot` where it names none."""
+        default = self.given.get("default")
+        wanted = [signs.as_value(each) for each in (default if isinstance(default, (tuple, list)) else [default])]
+        if not self.site_values or default is None:
+            raise Cannot(kind, why)
+        allowed = list(dict.fromkeys(map(checked, [*wanted, *self.site_values])))
+        self.allowed_of_any = tuple(allowed)
+        return self.shape(allowed, default, self.given.get("multi") is True)
+
+    def is_sticky(self) -> bool:
+        """Whether Spack keeps the default where nobody names the variant."""
+        return bool(self.given.get("sticky"))
+
+    def read_list(self, values: list[Any]) -> Choice:
         """A list of values, some with a condition."""
         allowed: list[str] = []
         for value in values:
@@ -80,9 +91,12 @@ class VariantReader:
                 self.rules.append(self.rule("requires", self.condition_of(when), f"{self.name}={text}"))
         return self.shape(allowed, self.given.get("default"), self.given.get("multi") is True)
 
-    def read_sets(self, values: DisjointSets) -> tuple[str, ...]:
+    def read_sets(self, values: DisjointSets) -> Choice:
         """Sets of which a node takes one: values of two of them conflict."""
         sets = [[checked(value) for value in each] for each in values.sets]
+        pairs = (sum(map(len, sets)) ** 2 - sum(len(each) ** 2 for each in sets)) // 2
+        if pairs > MOST_PAIRS:
+            raise Cannot("a variant with too many values that exclude each other", f"more than {MOST_PAIRS} pairs")
         for place, each in enumerate(sets):
             for value in each:
                 for other in [other for later in sets[place + 1 :] for other in later]:
@@ -97,8 +111,8 @@ class VariantReader:
         blocks = self.conditions.with_own_as_block() if own_text else self.conditions.blocks
         return Row(directive, (quoted(text),), Conditions(blocks, own_text or self.conditions.own))
 
-    def shape(self, allowed: list[str], default: Any, multi: bool) -> tuple[str, ...]:
-        """The keywords of a definition with these values."""
+    def shape(self, allowed: list[str], default: Any, multi: bool) -> Choice:
+        """A definition with these values."""
         wanted = list(default) if isinstance(default, (tuple, list)) else [default]
         if multi and isinstance(default, str):
             wanted = default.split(",")
@@ -106,5 +120,4 @@ class VariantReader:
         allowed = list(dict.fromkeys(allowed))
         if default is None or not chosen or not set(chosen) <= set(allowed) or len(chosen) != 1 and not multi:
             raise Cannot("a default that is none of the values", f"`{default}`")
-        text = quoted(chosen[0]) if len(chosen) == 1 else listed(chosen)
-        return (f"default={text}", f"values={listed(allowed)}") + (("multi=True",) if multi else ())
+        return Choice(self.name, tuple(chosen), tuple(allowed), multi, self.is_sticky())

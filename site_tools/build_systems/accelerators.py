@@ -1,4 +1,4 @@
-"""Missing: which versions of CUDA and of compilers go with which `cuda_arch`, and which packages of ROCm with which `amdgpu_target`; both variants are `sticky` in Spack, and not here."""
+"""Missing: which versions of CUDA and of compilers go with which `cuda_arch`, and which packages of ROCm with which `amdgpu_target`."""
 
 
 class CudaPackage(PackageBase):
@@ -8,7 +8,7 @@ class CudaPackage(PackageBase):
     )
 
     variant("cuda", default=False)
-    variant("cuda_arch", values=any_combination_of(*cuda_arch_values), when="+cuda")
+    variant("cuda_arch", values=any_combination_of(*cuda_arch_values), sticky=True, when="+cuda")
 
     depends_on("cuda", when="+cuda")
 
@@ -17,7 +17,7 @@ class ROCmPackage(PackageBase):
     amdgpu_targets = ("gfx803", "gfx900", "gfx906", "gfx908", "gfx90a", "gfx940", "gfx942", "gfx1030", "gfx1100")
 
     variant("rocm", default=False)
-    variant("amdgpu_target", values=any_combination_of(*amdgpu_targets), when="+rocm")
+    variant("amdgpu_target", values=any_combination_of(*amdgpu_targets), sticky=True, when="+rocm")
 
     depends_on("llvm-amdgpu", when="+rocm")
     depends_on("hip", when="+rocm")

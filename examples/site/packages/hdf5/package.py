@@ -28,3 +28,4 @@ class Hdf5(Package):
         depends_on("mpi")
         conflicts("+threadsafe", when="+hl")
     conflicts("+threadsafe", when="+fortran")
+    requires("%gcc")

@@ -1,4 +1,4 @@
-# Written by site_tools/import_repo from packages/hwloc/package.py.
+# Written by site_tools/import_repo from packages/hwloc/package.py, with parts left out (see the report).
 class Hwloc(Package):
     variant("cuda", default=False)
     variant("cuda_arch", default="none", values=("none", "10", "11", "12", "13", "20", "21", "30", "32", "35", "37", "50", "52", "53", "60", "61", "62", "70", "72", "75", "80", "86", "87", "89", "90", "90a"), multi=True, when="+cuda")

@@ -3,6 +3,8 @@ class Ivy(Package):
     variant("build_system", default="generic", values=("generic",))
     version("1.0")
     depends_on("pine", when="+before")
+    depends_on("acorn", when="+a")
+    depends_on("acorn", when="+b")
     variant("d", default=False)
     variant("e", default=False)
     depends_on("basalt", when="+x")

@@ -2,4 +2,8 @@
 class Vetch(Package):
     variant("build_system", default="generic", values=("generic",))
     version("1.1")
+    depends_on("part0")
+    depends_on("part1")
+    depends_on("part2")
     depends_on("cedar")
+    depends_on("dunes", when="@a")

@@ -1,0 +1,28 @@
+"""What is shown of lock files in the tests: the words of lock_view and export_spec, by the file that has to come of them."""
+from pathlib import Path
+from typing import Callable
+
+TOP = Path(__file__).resolve().parent.parent
+SITE = TOP / "examples" / "site"
+
+
+def views(tests: Path, lock_view: Callable[..., int], export_spec: Callable[..., int]) -> dict[str, tuple]:
+    """Each view's name, and its words."""
+    mpi, site = TOP / "examples" / "mpi", SITE / "hdf5.lock"
+    broken = tests / "views" / "changed.lock"
+    mpi_costs = (lock_view, mpi / "hdf5.lock", "--vector", tests / "views" / "mpi.out")
+    site_costs = (lock_view, site, "--vector", tests / "answers" / "site_hdf5.wanted")
+    found: dict[str, tuple] = {
+        "mpi_dot.txt": (lock_view, mpi / "hdf5.lock", "--format", "dot"),
+        "mpi_costs.txt": (lock_view, mpi / "hdf5.lock", "--vector", tests / "views" / "mpi.out"),
+        "mpi_reasons.txt": (*mpi_costs, "--settings", mpi / "settings.json"),
+        "site_costs.txt": (*site_costs, "--settings", SITE / "settings.json"),
+        "mpi_all.txt": (*mpi_costs, "--all"),
+        "mpi_diff.txt": (lock_view, mpi / "hdf5.lock", "--diff", mpi / "broken.lock"),
+        "site_diff.txt": (lock_view, mpi / "hdf5.lock", "--diff", site),
+        "changed.txt": (lock_view, broken),
+        "site_pinned.txt": (export_spec, site, "--hashes", SITE / "hashes.tsv"),
+        "mpi_environment.txt": (export_spec, mpi / "hdf5.lock", "--environment"),
+    }
+    found.update({f"site_{each}.txt": (lock_view, site, "--format", each) for each in ("tree", "table", "json")})
+    return found
