@@ -217,7 +217,7 @@ said_without_a_run() {
   case "$*" in
   --help | -h)
     need launch_help.sh help_of
-    help_of "$name"
+    help_of "$name" || true # a reader that has enough closes its end
     ;;
   --version)
     need launch_help.sh help_of

@@ -189,9 +189,9 @@ help_with_a_word() {
   [ -z "$command" ] || command_takes "$command" || return 1
   need launch_help.sh help_of
   if [ -n "$command" ]; then
-    help_of_command "$command"
+    help_of_command "$command" || true # a reader that has enough closes its end
   else
-    help_of spack_concretize
+    help_of spack_concretize || true
   fi
 }
 
