@@ -5,10 +5,15 @@ use Rattle.outside_desk.specs.Causes.{Counts, Rose}
 use Rattle.outside_desk.specs.Files.{Files}
 use Rattle.run_output.specs.Task.{Task}
 use Rattle.run_output.specs.Tasks.{Poses}
+use Rattle.run_output.specs.CertificateVerdicts.{no_verdict}
+use Rattle.run_output.specs.Certificates.{log_verdict}
+use Rattle.run_output.specs.Evidence.{evidence}
 use Rattle.run_output.specs.Refusals.{status_of, line_of}
+use Rattle.run_output.specs.Senses.{Sense}
 use Rattle.run_output.specs.Stops.{stop_status, stop_line}
 use Rattle.concretizer.specs.Attempts.{Attempts, Concludes, StopsAtOnce, FailsToRead, FailsToPut, FailsToSay}
 use Rattle.concretizer.specs.Headline.{IsRefused, IsOfInput, IsRefusalStatus, Settles, Reports, ReportsWords, IsAnsweredBy, Spoken, Says}
+use Rattle.concretizer.specs.Logs.{AreStill}
 use Rattle.run_output.specs.declared.answer.Outcome.{Outcome}
 use Rattle.run_output.specs.Refusal.{Refusal}
 use Rattle.run_output.specs.Status.{Status}
@@ -20,7 +25,7 @@ use Rattle.run_output.specs.Stop.TheVariants.{Read, Write}
 
 -- words name one problem at most, or are due one refusal
 abbrev pub PosesOnce : Type 0
-PosesOnce = (files : Files) (words : List (List ℕ)) (a b : Result Task Refusal) → Poses files words a → Poses files words b → a ≡ b
+PosesOnce = (files : Files) (words : List (List ℕ)) (a b : Result Task Refusal) → Poses log_verdict files words a → Poses log_verdict files words b → a ≡ b
 
 -- ---- words that are refused
 
@@ -46,25 +51,25 @@ report_said status line said faults result (inl (is, line_said, still)) refuses 
 report_said status line said faults result (inr (inl (is, front, rose))) refuses = absurd (rw is at refuses)
 report_said status line said faults result (inr (inr (is, silent))) refuses = absurd (rw is at refuses)
 
-refused_here : (files : Files) (words : List (List ℕ)) (stop : Stop) (after : Option Files) (out err : Spoken) (result : Status)
-    → Attempts files words after out.0 out.1 (Err stop) → Said (stop_status stop) (stop_line stop) err result → IsRefusalStatus result
-    → IsRefused files words result after out err
-refused_here files words (Read (Refused refusal)) after out err result (poses, left) (is, said) refuses =
+refused_here : (sense : Sense) (files : Files) (words : List (List ℕ)) (stop : Stop) (after : Option Files) (out err : Spoken) (result : Status)
+    → Attempts sense files words after out.0 out.1 (Err stop) → Said (stop_status stop) (stop_line stop) err result → IsRefusalStatus result
+    → IsRefused sense files words result after out err
+refused_here sense files words (Read (Refused refusal)) after out err result (poses, left) (is, said) refuses =
     record { refusal = refusal; read = poses; status = is; unchanged = left.unchanged; output = left.out; errors = said }
-refused_here files words (Read (Fault path)) after out err result left (is, said) refuses = absurd (rw is at refuses)
-refused_here files words (Read NoMemory) after out err result left (is, said) refuses = absurd (rw is at refuses)
-refused_here files words (Write (writes.Put path)) after out err result left (is, said) refuses = absurd (rw is at refuses)
-refused_here files words (Write writes.Output) after out err result left (is, said) refuses = absurd (rw is at refuses)
-refused_here files words (Write writes.NoMemory) after out err result left (is, said) refuses = absurd (rw is at refuses)
+refused_here sense files words (Read (Fault path)) after out err result left (is, said) refuses = absurd (rw is at refuses)
+refused_here sense files words (Read NoMemory) after out err result left (is, said) refuses = absurd (rw is at refuses)
+refused_here sense files words (Write (writes.Put path)) after out err result left (is, said) refuses = absurd (rw is at refuses)
+refused_here sense files words (Write writes.Output) after out err result left (is, said) refuses = absurd (rw is at refuses)
+refused_here sense files words (Write writes.NoMemory) after out err result left (is, said) refuses = absurd (rw is at refuses)
 
-pub refused : (before : Option Files) (words : List (List ℕ)) (stop : Stop) (after : Option Files) (out err : Spoken) (faults : ℕ × ℕ)
+pub refused : (sense : Sense) (before : Option Files) (words : List (List ℕ)) (stop : Stop) (after : Option Files) (out err : Spoken) (faults : ℕ × ℕ)
     (result : Status)
-    → IfSome before (λ files. Attempts files words after out.0 out.1 (Err stop))
+    → IfSome before (λ files. Attempts sense files words after out.0 out.1 (Err stop))
     → Reports (stop_status stop) (stop_line stop) err faults result → IsRefusalStatus result
-    → IfSome before (λ files. IsRefused files words result after out err)
-refused None words stop after out err faults result left reports refuses = tt
-refused (Some files) words stop after out err faults result left reports refuses =
-    refused_here files words stop after out err result left (report_said _ _ err faults result reports refuses) refuses
+    → IfSome before (λ files. IsRefused sense files words result after out err)
+refused sense None words stop after out err faults result left reports refuses = tt
+refused sense (Some files) words stop after out err faults result left reports refuses =
+    refused_here sense files words stop after out err result left (report_said _ _ err faults result reports refuses) refuses
 
 -- ---- input that nothing refuses
 
@@ -75,13 +80,6 @@ settles_none line said faults result (inl (is, line_said, same)) still = rw is t
 settles_none line said faults result (inr (inl (is, front, rose))) still = absurd (still rose)
 settles_none line said faults result (inr (inr (is, silent))) still = rw is tt
 
--- no device failed
-pub record AreStill (reads puts says errs : ℕ × ℕ) : Type 0 where
-  pub read : ¬ Rose reads.0 reads.1
-  pub put : ¬ Rose puts.0 puts.1
-  pub said : ¬ Rose says.0 says.1
-  pub err : ¬ Rose errs.0 errs.1
-
 -- whose count rose where an attempt failed
 pub record AreCounted (stop : Stop) (reads puts says : ℕ × ℕ) : Type 0 where
   pub read : Counts reads.0 reads.1 (FailsToRead (Err stop))
@@ -90,9 +88,9 @@ pub record AreCounted (stop : Stop) (reads puts says : ℕ × ℕ) : Type 0 wher
 
 settles_here : PosesOnce → (files : Files) (words : List (List ℕ)) (stop : Stop) (after : Option Files) (out err : Spoken)
     (reads puts says errs : ℕ × ℕ) (result : Status)
-    → Attempts files words after out.0 out.1 (Err stop) → AreCounted stop reads puts says
+    → Attempts evidence files words after out.0 out.1 (Err stop) → AreCounted stop reads puts says
     → Reports (stop_status stop) (stop_line stop) err errs result
-    → (task : Task) → Poses files words (Ok task) → AreStill reads puts says errs → Settles result
+    → (task : Task) → Poses log_verdict files words (Ok task) → AreStill reads puts says errs → Settles result
 settles_here laws files words (Read (Refused refusal)) after out err reads puts says errs result left counts reports task poses still =
     absurd (let same : (let T : Type 0 = Result Task Refusal in let l : T = Ok task in let r : T = Err refusal in l ≡ r) =
     laws files words (Ok task) (Err refusal) poses left.0 in cc)
@@ -109,14 +107,31 @@ settles_here laws files words (Write writes.NoMemory) after out err reads puts s
 
 pub settles : PosesOnce → (before : Option Files) (words : List (List ℕ)) (stop : Stop) (after : Option Files) (out err : Spoken)
     (reads puts says errs : ℕ × ℕ) (result : Status)
-    → IfSome before (λ files. Attempts files words after out.0 out.1 (Err stop)) → AreCounted stop reads puts says
+    → IfSome before (λ files. Attempts evidence files words after out.0 out.1 (Err stop)) → AreCounted stop reads puts says
     → Reports (stop_status stop) (stop_line stop) err errs result
-    → IfSome before (λ files. (task : Task) → Poses files words (Ok task) → ¬ Rose reads.0 reads.1 → ¬ Rose puts.0 puts.1
-    → ¬ Rose says.0 says.1 → ¬ Rose errs.0 errs.1 → Settles result)
+    → IfSome before (λ files. (task : Task) → Poses log_verdict files words (Ok task) → AreStill reads puts says errs → Settles result)
 settles laws None words stop after out err reads puts says errs result left counts reports = tt
-settles laws (Some files) words stop after out err reads puts says errs result left counts reports = λ task poses read put said late.
-    settles_here laws files words stop after out err reads puts says errs result left counts reports task poses
-    (record { read = read; put = put; said = said; err = late })
+settles laws (Some files) words stop after out err reads puts says errs result left counts reports =
+    settles_here laws files words stop after out err reads puts says errs result left counts reports
+
+-- an answer
+pub settled : (before : Option Files) (words : List (List ℕ)) (reads puts says errs : ℕ × ℕ) (result : Status) → Settles result
+    → IfSome before (λ files. (task : Task) → Poses log_verdict files words (Ok task) → AreStill reads puts says errs → Settles result)
+settled None words reads puts says errs result settles = tt
+settled (Some files) words reads puts says errs result settles = λ task poses still. settles
+
+-- where no certificate is read
+abbrev pub NonePosed : Type 0
+NonePosed = (files : Files) (words : List (List ℕ)) (posed : Result Task Refusal) → Poses no_verdict files words posed
+    → Poses log_verdict files words posed
+
+pub complete : NonePosed → (before : Option Files) (words : List (List ℕ)) (reads puts says errs : ℕ × ℕ) (result : Status)
+    → IfSome before (λ files. (task : Task) → Poses log_verdict files words (Ok task) → AreStill reads puts says errs → Settles result)
+    → IfSome before (λ files. (task : Task) → Poses no_verdict files words (Ok task) → ¬ Rose reads.0 reads.1 → ¬ Rose puts.0 puts.1
+    → ¬ Rose says.0 says.1 → ¬ Rose errs.0 errs.1 → Settles result)
+complete laws None words reads puts says errs result settles = tt
+complete laws (Some files) words reads puts says errs result settles = λ task poses read put said late.
+    settles task (laws files words (Ok task) poses) (record { read = read; put = put; said = said; err = late })
 
 -- ---- input that is refused
 
@@ -135,22 +150,22 @@ none_reported status line said faults result (inr (inl (is, front, rose))) still
 none_reported status line said faults result (inr (inr (is, silent))) still = inr is
 
 not_both : {A : Type 0} → PosesOnce → (files : Files) (words : List (List ℕ)) (task : Task) (refusal : Refusal)
-    → Poses files words (Ok task) → Poses files words (Err refusal) → A
+    → Poses log_verdict files words (Ok task) → Poses log_verdict files words (Err refusal) → A
 not_both laws files words task refusal p q =
     absurd (let same : (let T : Type 0 = Result Task Refusal in let l : T = Ok task in let r : T = Err refusal in l ≡ r) =
     laws files words (Ok task) (Err refusal) p q in cc)
 
 same_refusal : PosesOnce → (files : Files) (words : List (List ℕ)) (a b : Refusal)
-    → Poses files words (Err a) → Poses files words (Err b) → a ≡ b
+    → Poses log_verdict files words (Err a) → Poses log_verdict files words (Err b) → a ≡ b
 same_refusal laws files words a b p q =
     let same : (let T : Type 0 = Result Task Refusal in let l : T = Err a in let r : T = Err b in l ≡ r) =
     laws files words (Err a) (Err b) p q in cc
 
 due_here : PosesOnce → (files : Files) (words : List (List ℕ)) (stop : Stop) (after : Option Files) (out err : Spoken)
     (reads puts says errs : ℕ × ℕ) (result : Status)
-    → Attempts files words after out.0 out.1 (Err stop) → AreCounted stop reads puts says
+    → Attempts evidence files words after out.0 out.1 (Err stop) → AreCounted stop reads puts says
     → Reports (stop_status stop) (stop_line stop) err errs result
-    → (refusal : Refusal) → Poses files words (Err refusal) → AreStill reads puts says errs → IsAnsweredBy (status_of refusal) result
+    → (refusal : Refusal) → Poses log_verdict files words (Err refusal) → AreStill reads puts says errs → IsAnsweredBy (status_of refusal) result
 due_here laws files words (Read (Refused given)) after out err reads puts says errs result left counts reports refusal poses still =
     subst (λ (r : Refusal). IsAnsweredBy (status_of r) result) (same_refusal laws files words given refusal left.0 poses)
     (reported (status_of given) (line_of given) err errs result reports still.err)
@@ -168,24 +183,33 @@ due_here laws files words (Write writes.NoMemory) after out err reads puts says 
 -- a refusal is due where an attempt stopped
 pub due : PosesOnce → (before : Option Files) (words : List (List ℕ)) (stop : Stop) (after : Option Files) (out err : Spoken)
     (reads puts says errs : ℕ × ℕ) (result : Status)
-    → IfSome before (λ files. Attempts files words after out.0 out.1 (Err stop)) → AreCounted stop reads puts says
+    → IfSome before (λ files. Attempts evidence files words after out.0 out.1 (Err stop)) → AreCounted stop reads puts says
     → Reports (stop_status stop) (stop_line stop) err errs result
-    → IfSome before (λ files. (refusal : Refusal) → Poses files words (Err refusal) → ¬ Rose reads.0 reads.1 → ¬ Rose puts.0 puts.1
-    → ¬ Rose says.0 says.1 → ¬ Rose errs.0 errs.1 → IsAnsweredBy (status_of refusal) result)
+    → IfSome before (λ files. (refusal : Refusal) → Poses log_verdict files words (Err refusal) → AreStill reads puts says errs
+    → IsAnsweredBy (status_of refusal) result)
 due laws None words stop after out err reads puts says errs result left counts reports = tt
-due laws (Some files) words stop after out err reads puts says errs result left counts reports = λ refusal poses read put said late.
-    due_here laws files words stop after out err reads puts says errs result left counts reports refusal poses
-    (record { read = read; put = put; said = said; err = late })
+due laws (Some files) words stop after out err reads puts says errs result left counts reports =
+    due_here laws files words stop after out err reads puts says errs result left counts reports
 
 -- no refusal is due where an answer was written
 pub written : PosesOnce → (before : Option Files) (words : List (List ℕ)) (outcome : Outcome) (after : Option Files) (out : Spoken)
     (reads puts says errs : ℕ × ℕ) (result : Status)
-    → IfSome before (λ files. Attempts files words after out.0 out.1 (Ok outcome))
-    → IfSome before (λ files. (refusal : Refusal) → Poses files words (Err refusal) → ¬ Rose reads.0 reads.1 → ¬ Rose puts.0 puts.1
-    → ¬ Rose says.0 says.1 → ¬ Rose errs.0 errs.1 → IsAnsweredBy (status_of refusal) result)
+    → IfSome before (λ files. Attempts evidence files words after out.0 out.1 (Ok outcome))
+    → IfSome before (λ files. (refusal : Refusal) → Poses log_verdict files words (Err refusal) → AreStill reads puts says errs
+    → IsAnsweredBy (status_of refusal) result)
 written laws None words outcome after out reads puts says errs result left = tt
-written laws (Some files) words outcome after out reads puts says errs result left = λ refusal poses read put said late.
+written laws (Some files) words outcome after out reads puts says errs result left = λ refusal poses still.
     not_both laws files words left.task refusal left.read poses
+
+-- where no certificate is read
+pub refusals_due : NonePosed → (before : Option Files) (words : List (List ℕ)) (reads puts says errs : ℕ × ℕ) (result : Status)
+    → IfSome before (λ files. (refusal : Refusal) → Poses log_verdict files words (Err refusal) → AreStill reads puts says errs
+    → IsAnsweredBy (status_of refusal) result)
+    → IfSome before (λ files. (refusal : Refusal) → Poses no_verdict files words (Err refusal) → ¬ Rose reads.0 reads.1 → ¬ Rose puts.0 puts.1
+    → ¬ Rose says.0 says.1 → ¬ Rose errs.0 errs.1 → IsAnsweredBy (status_of refusal) result)
+refusals_due laws None words reads puts says errs result answered = tt
+refusals_due laws (Some files) words reads puts says errs result answered = λ refusal poses read put said late.
+    answered refusal (laws files words (Err refusal) poses) (record { read = read; put = put; said = said; err = late })
 
 -- ---- counts
 

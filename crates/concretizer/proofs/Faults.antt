@@ -4,6 +4,7 @@ use Rattle.std.specs.Prelude.{IfSome}
 use Rattle.outside_desk.specs.Causes.{Counts, Rose}
 use Rattle.outside_desk.specs.Files.{Files}
 use Rattle.run_output.specs.Refusals.{status_of}
+use Rattle.run_output.specs.Senses.{Sense}
 use Rattle.run_output.specs.Stops.{no_memory_line, stop_status, stop_line}
 use Rattle.run_output.specs.Status.{Status}
 use Rattle.run_output.specs.Status.TheVariants as statuses
@@ -72,18 +73,18 @@ read_fault words (Write writes.NoMemory) reads files out err errs result reports
 -- ---- WriteFault
 
 -- what a sink that failed leaves
-untold : (before after : Option Files) (words : List (List ℕ)) (out : Spoken)
-    → IfSome before (λ files. Attempts files words after out.0 out.1 (Err (Write writes.Output)))
-    → IfSome before (λ files. LeavesAll files words after out)
-untold None after words out outcome = tt
-untold (Some files) after words out outcome = record { task = outcome.task; read = outcome.read; left = outcome.left }
+untold : (sense : Sense) (before after : Option Files) (words : List (List ℕ)) (out : Spoken)
+    → IfSome before (λ files. Attempts sense files words after out.0 out.1 (Err (Write writes.Output)))
+    → IfSome before (λ files. LeavesAll sense files words after out)
+untold sense None after words out outcome = tt
+untold sense (Some files) after words out outcome = record { task = outcome.task; read = outcome.read; left = outcome.left }
 
 -- what a put that failed leaves
-half_left : (path : List ℕ) (before after : Option Files) (words : List (List ℕ)) (out_before out_after : Option (List ℕ))
-    → IfSome before (λ files. Attempts files words after out_before out_after (Err (Write (writes.Put path))))
-    → IfSome before (λ files. LeavesPut files words path after)
-half_left path None after words out_before out_after outcome = tt
-half_left path (Some files) after words out_before out_after outcome =
+half_left : (sense : Sense) (path : List ℕ) (before after : Option Files) (words : List (List ℕ)) (out_before out_after : Option (List ℕ))
+    → IfSome before (λ files. Attempts sense files words after out_before out_after (Err (Write (writes.Put path))))
+    → IfSome before (λ files. LeavesPut sense files words path after)
+half_left sense path None after words out_before out_after outcome = tt
+half_left sense path (Some files) after words out_before out_after outcome =
     record { task = outcome.task; read = outcome.read; half = outcome.left.0 }
 
 -- nothing was said of an answer, or its sink failed
@@ -95,71 +96,71 @@ silent_or_rose (Write writes.Output) says out unsaid said = inr (said.cause tt)
 silent_or_rose (Write writes.NoMemory) says out unsaid said = inl (unsaid tt)
 
 -- why a run stopped, and what that leaves
-abbrev stopped : (words : List (List ℕ)) (stop : Stop) (says : ℕ × ℕ) (files : Option Files × Option Files) (out : Spoken)
-    → Follows files.0 words (Err stop) → IfSome files.0 (λ before. Attempts before words files.1 out.0 out.1 (Err stop))
-    → (StopsBefore (Err stop) → out.1 ≡ out.0) → Counts says.0 says.1 (FailsToSay (Err stop)) → IsStopped words files says out
-stopped words stop says files out follows outcome unsaid said =
+abbrev stopped : (sense : Sense) (words : List (List ℕ)) (stop : Stop) (says : ℕ × ℕ) (files : Option Files × Option Files) (out : Spoken)
+    → Follows files.0 words (Err stop) → IfSome files.0 (λ before. Attempts sense before words files.1 out.0 out.1 (Err stop))
+    → (StopsBefore (Err stop) → out.1 ≡ out.0) → Counts says.0 says.1 (FailsToSay (Err stop)) → IsStopped sense words files says out
+stopped sense words stop says files out follows outcome unsaid said =
     record { stop = stop; follows = follows; left = outcome; output = silent_or_rose stop says out unsaid said }
 
 -- what a report leaves that failed, of a stop whose status is not WriteFault
-late : (words : List (List ℕ)) (puts says : ℕ × ℕ) (files : Option Files × Option Files) (out err : Spoken) (errs : ℕ × ℕ) (result : Status)
-    → (stopped : IsStopped words files says out) → (stop_status stopped.stop ≡ statuses.WriteFault → ⊥)
+late : (sense : Sense) (words : List (List ℕ)) (puts says : ℕ × ℕ) (files : Option Files × Option Files) (out err : Spoken) (errs : ℕ × ℕ) (result : Status)
+    → (stopped : IsStopped sense words files says out) → (stop_status stopped.stop ≡ statuses.WriteFault → ⊥)
     → Reports (stop_status stopped.stop) (stop_line stopped.stop) err errs result → result ≡ statuses.WriteFault
-    → IsPutFault words files puts out err ⊎ (IsOutputFault words files says out err ⊎ IsReportFault words files says errs out err)
-late words puts says files out err errs result stopped other reports is =
+    → IsPutFault sense words files puts out err ⊎ (IsOutputFault sense words files says out err ⊎ IsReportFault sense words files says errs out err)
+late sense words puts says files out err errs result stopped other reports is =
     by_report _ _ err errs result reports (λ same told. absurd (other (sym same ∙ is)))
     (λ same failed. inr (inr (record { stopped = stopped; rose = failed.1; errors = failed.0 })))
     (λ none silent. absurd (let no : statuses.NoMemory ≡ statuses.WriteFault = sym none ∙ is in cc))
 
-pub write_fault : (words : List (List ℕ)) (stop : Stop) (puts says : ℕ × ℕ) (files : Option Files × Option Files) (out err : Spoken)
+pub write_fault : (sense : Sense) (words : List (List ℕ)) (stop : Stop) (puts says : ℕ × ℕ) (files : Option Files × Option Files) (out err : Spoken)
     (errs : ℕ × ℕ) (result : Status)
     → Reports (stop_status stop) (stop_line stop) err errs result → Follows files.0 words (Err stop)
-    → IfSome files.0 (λ before. Attempts before words files.1 out.0 out.1 (Err stop))
+    → IfSome files.0 (λ before. Attempts sense before words files.1 out.0 out.1 (Err stop))
     → (StopsBefore (Err stop) → out.1 ≡ out.0) → Counts puts.0 puts.1 (FailsToPut (Err stop)) → Counts says.0 says.1 (FailsToSay (Err stop))
     → result ≡ statuses.WriteFault
-    → IsPutFault words files puts out err ⊎ (IsOutputFault words files says out err ⊎ IsReportFault words files says errs out err)
-write_fault words (Read (Refused refusal)) puts says files out err errs result reports follows outcome unsaid put said is =
-    late words puts says files out err errs result (stopped words (Read (Refused refusal)) says files out follows outcome unsaid said)
+    → IsPutFault sense words files puts out err ⊎ (IsOutputFault sense words files says out err ⊎ IsReportFault sense words files says errs out err)
+write_fault sense words (Read (Refused refusal)) puts says files out err errs result reports follows outcome unsaid put said is =
+    late sense words puts says files out err errs result (stopped sense words (Read (Refused refusal)) says files out follows outcome unsaid said)
     (λ no. unlike refusal (status_of refusal) statuses.WriteFault refl no (λ h. h)) reports is
-write_fault words (Read (Fault path)) puts says files out err errs result reports follows outcome unsaid put said is =
-    late words puts says files out err errs result (stopped words (Read (Fault path)) says files out follows outcome unsaid said)
+write_fault sense words (Read (Fault path)) puts says files out err errs result reports follows outcome unsaid put said is =
+    late sense words puts says files out err errs result (stopped sense words (Read (Fault path)) says files out follows outcome unsaid said)
     (λ no. let same : statuses.ReadFault ≡ statuses.WriteFault = no in cc) reports is
-write_fault words (Read NoMemory) puts says files out err errs result reports follows outcome unsaid put said is =
-    late words puts says files out err errs result (stopped words (Read NoMemory) says files out follows outcome unsaid said)
+write_fault sense words (Read NoMemory) puts says files out err errs result reports follows outcome unsaid put said is =
+    late sense words puts says files out err errs result (stopped sense words (Read NoMemory) says files out follows outcome unsaid said)
     (λ no. let same : statuses.NoMemory ≡ statuses.WriteFault = no in cc) reports is
-write_fault words (Write (writes.Put path)) puts says files out err errs result reports follows outcome unsaid put said is =
+write_fault sense words (Write (writes.Put path)) puts says files out err errs result reports follows outcome unsaid put said is =
     by_report _ _ err errs result reports
     (λ same told. inl (record {
       path = path;
       asked = follows.0;
       put = follows.1;
-      left = half_left path files.0 files.1 words out.0 out.1 outcome;
+      left = half_left sense path files.0 files.1 words out.0 out.1 outcome;
       rose = put.cause tt;
       output = unsaid tt;
       errors = told;
     }))
     (λ same failed. inr (inr (record {
-      stopped = stopped words (Write (writes.Put path)) says files out follows outcome unsaid said;
+      stopped = stopped sense words (Write (writes.Put path)) says files out follows outcome unsaid said;
       rose = failed.1;
       errors = failed.0;
     })))
     (λ none silent. absurd (let no : statuses.NoMemory ≡ statuses.WriteFault = sym none ∙ is in cc))
-write_fault words (Write writes.Output) puts says files out err errs result reports follows outcome unsaid put said is =
+write_fault sense words (Write writes.Output) puts says files out err errs result reports follows outcome unsaid put said is =
     by_report _ _ err errs result reports
     (λ same told. inr (inl (record {
       asked = follows;
-      left = untold files.0 files.1 words out outcome;
+      left = untold sense files.0 files.1 words out outcome;
       rose = said.cause tt;
       errors = told;
     })))
     (λ same failed. inr (inr (record {
-      stopped = stopped words (Write writes.Output) says files out follows outcome unsaid said;
+      stopped = stopped sense words (Write writes.Output) says files out follows outcome unsaid said;
       rose = failed.1;
       errors = failed.0;
     })))
     (λ none silent. absurd (let no : statuses.NoMemory ≡ statuses.WriteFault = sym none ∙ is in cc))
-write_fault words (Write writes.NoMemory) puts says files out err errs result reports follows outcome unsaid put said is =
-    late words puts says files out err errs result (stopped words (Write writes.NoMemory) says files out follows outcome unsaid said)
+write_fault sense words (Write writes.NoMemory) puts says files out err errs result reports follows outcome unsaid put said is =
+    late sense words puts says files out err errs result (stopped sense words (Write writes.NoMemory) says files out follows outcome unsaid said)
     (λ no. let same : statuses.NoMemory ≡ statuses.WriteFault = no in cc) reports is
 
 -- ---- NoMemory
@@ -172,17 +173,17 @@ no_memory_said (Write (writes.Put path)) err is says = absurd (let no : statuses
 no_memory_said (Write writes.Output) err is says = absurd (let no : statuses.WriteFault ≡ statuses.NoMemory = is in cc)
 no_memory_said (Write writes.NoMemory) err is says = says
 
-pub no_memory : (words : List (List ℕ)) (stop : Stop) (says : ℕ × ℕ) (files : Option Files × Option Files) (out err : Spoken)
+pub no_memory : (sense : Sense) (words : List (List ℕ)) (stop : Stop) (says : ℕ × ℕ) (files : Option Files × Option Files) (out err : Spoken)
     (errs : ℕ × ℕ) (result : Status)
     → Reports (stop_status stop) (stop_line stop) err errs result → Follows files.0 words (Err stop)
-    → IfSome files.0 (λ before. Attempts before words files.1 out.0 out.1 (Err stop))
+    → IfSome files.0 (λ before. Attempts sense before words files.1 out.0 out.1 (Err stop))
     → (StopsBefore (Err stop) → out.1 ≡ out.0) → Counts says.0 says.1 (FailsToSay (Err stop))
-    → result ≡ statuses.NoMemory → IsOutOfMemory words files says out err
-no_memory words stop says files out err errs result reports follows outcome unsaid said is =
+    → result ≡ statuses.NoMemory → IsOutOfMemory sense words files says out err
+no_memory sense words stop says files out err errs result reports follows outcome unsaid said is =
     by_report _ _ err errs result reports
     (λ same told. record {
-      stopped = stopped words stop says files out follows outcome unsaid said;
+      stopped = stopped sense words stop says files out follows outcome unsaid said;
       errors = inr (no_memory_said stop err (sym same ∙ is) told);
     })
     (λ same failed. absurd (let no : statuses.WriteFault ≡ statuses.NoMemory = sym same ∙ is in cc))
-    (λ none silent. record { stopped = stopped words stop says files out follows outcome unsaid said; errors = inl silent })
+    (λ none silent. record { stopped = stopped sense words stop says files out follows outcome unsaid said; errors = inl silent })

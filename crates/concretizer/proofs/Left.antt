@@ -5,6 +5,8 @@ use Rattle.std.specs.Prelude.{IfSome}
 use Rattle.outside_desk.specs.Files.{Files}
 use Rattle.run_output.specs.Answer.{Answer}
 use Rattle.run_output.specs.Answers.{IsHalfPut, KeepsWhole, Writes}
+use Rattle.run_output.specs.Certificates.{log_verdict}
+use Rattle.run_output.specs.Evidence.{evidence}
 use Rattle.run_output.specs.declared.answer.Outcome.{Outcome}
 use Rattle.run_output.specs.Input.{Input}
 use Rattle.run_output.specs.Orders.{command_in}
@@ -38,48 +40,48 @@ by_paths A lock cert lock_of cert_of at certified left = subst (λ (q : List ℕ
 pub stopped : (words : List (List ℕ)) (command : Command) (lock cert : List ℕ) (task : Task) (stop : WriteStop)
     (result : Result Outcome Stop) (before between after : Option Files) (said_before said_after : Option (List ℕ))
     → IsErrAnd result (λ given. given ≡ Write stop) → Is (command_in words) (Ok command)
-    → IfSome before (λ files. Gives {T = Task} (Ok task) (Named files command)) → between ≡ before
-    → lock ≡ lock_path words → cert ≡ cert_path words → Writes lock cert task between after said_before said_after (Err stop)
-    → IfSome before (λ files. Attempts files words after said_before said_after result)
+    → IfSome before (λ files. Gives {T = Task} (Ok task) (Named log_verdict files command)) → between ≡ before
+    → lock ≡ lock_path words → cert ≡ cert_path words → Writes evidence lock cert task between after said_before said_after (Err stop)
+    → IfSome before (λ files. Attempts evidence files words after said_before said_after result)
 stopped words command lock cert task stop result None between after said_before said_after is ordered read same at certified left = tt
 stopped words command lock cert task stop result (Some files) between after said_before said_after is ordered read same at certified left =
     rw (write_carried stop result is) (record {
       task = task;
       read = (command, ordered, read);
-      left = by_paths (λ l c. Writes l c task (Some files) after said_before said_after (Err stop)) lock cert (lock_path words)
+      left = by_paths (λ l c. Writes evidence l c task (Some files) after said_before said_after (Err stop)) lock cert (lock_path words)
           (cert_path words) at certified
-          (subst (λ (m : Option Files). Writes lock cert task m after said_before said_after (Err stop)) same left);
+          (subst (λ (m : Option Files). Writes evidence lock cert task m after said_before said_after (Err stop)) same left);
     })
 
 -- a writing that answered
 pub answered : (words : List (List ℕ)) (command : Command) (lock cert : List ℕ) (task : Task) (outcome : Outcome)
     (before between after : Option Files) (said_before said_after : Option (List ℕ)) → Is (command_in words) (Ok command)
-    → IfSome before (λ files. Gives {T = Task} (Ok task) (Named files command)) → between ≡ before
-    → lock ≡ lock_path words → cert ≡ cert_path words → Writes lock cert task between after said_before said_after (Ok outcome)
-    → IfSome before (λ files. Attempts files words after said_before said_after (Ok outcome))
+    → IfSome before (λ files. Gives {T = Task} (Ok task) (Named log_verdict files command)) → between ≡ before
+    → lock ≡ lock_path words → cert ≡ cert_path words → Writes evidence lock cert task between after said_before said_after (Ok outcome)
+    → IfSome before (λ files. Attempts evidence files words after said_before said_after (Ok outcome))
 answered words command lock cert task outcome None between after said_before said_after ordered read same at certified left = tt
 answered words command lock cert task outcome (Some files) between after said_before said_after ordered read same at certified left =
     record {
       task = task;
       read = (command, ordered, read);
-      left = by_paths (λ l c. Writes l c task (Some files) after said_before said_after (Ok outcome)) lock cert (lock_path words)
+      left = by_paths (λ l c. Writes evidence l c task (Some files) after said_before said_after (Ok outcome)) lock cert (lock_path words)
           (cert_path words) at certified
-          (subst (λ (m : Option Files). Writes lock cert task m after said_before said_after (Ok outcome)) same left);
+          (subst (λ (m : Option Files). Writes evidence lock cert task m after said_before said_after (Ok outcome)) same left);
     }
 
 -- what any end of writing keeps
 pub held : (words : List (List ℕ)) (command : Command) (lock cert : List ℕ) (task : Task) (before between after : Option Files)
-    → Is (command_in words) (Ok command) → IfSome before (λ files. Gives {T = Task} (Ok task) (Named files command)) → between ≡ before
-    → lock ≡ lock_path words → cert ≡ cert_path words → (after ≡ between) ⊎ KeepsWhole lock cert task between after
-    → IfSome before (λ files. Keeps files words after)
+    → Is (command_in words) (Ok command) → IfSome before (λ files. Gives {T = Task} (Ok task) (Named log_verdict files command)) → between ≡ before
+    → lock ≡ lock_path words → cert ≡ cert_path words → (after ≡ between) ⊎ KeepsWhole evidence lock cert task between after
+    → IfSome before (λ files. Keeps evidence files words after)
 held words command lock cert task None between after ordered read same at certified kept = tt
 held words command lock cert task (Some files) between after ordered read same at certified (inl unchanged) = inl (unchanged ∙ same)
 held words command lock cert task (Some files) between after ordered read same at certified (inr whole) =
     inr (record {
       task = task;
       read = (command, ordered, read);
-      held = by_paths (λ l c. KeepsWhole l c task (Some files) after) lock cert (lock_path words) (cert_path words) at certified
-          (subst (λ (m : Option Files). KeepsWhole lock cert task m after) same whole);
+      held = by_paths (λ l c. KeepsWhole evidence l c task (Some files) after) lock cert (lock_path words) (cert_path words) at certified
+          (subst (λ (m : Option Files). KeepsWhole evidence lock cert task m after) same whole);
     })
 
 is_concretize : (work : Work) (input : Input) → IsOf work (tasks.Solve input) → work ≡ works.Concretize
@@ -100,7 +102,7 @@ put_path words lock cert input answer at before after is_lock is_cert (inr (same
 follows_here : (told : Option Files) (words : List (List ℕ)) (lock cert : List ℕ) (task : Task) (stop : WriteStop) (before after : Option Files)
     (said_before said_after : Option (List ℕ))
     → (asked : IsAsked words) → IsOf asked.command.work task → lock ≡ lock_path words → cert ≡ cert_path words
-    → Writes lock cert task before after said_before said_after (Err stop) → Follows told words (Err (Write stop))
+    → Writes evidence lock cert task before after said_before said_after (Err stop) → Follows told words (Err (Write stop))
 follows_here told words lock cert (tasks.Solve input) (Put at) before after said_before said_after asked work is_lock is_cert (left, unsaid) = (
   record { asked = asked; work = is_concretize asked.command.work input work },
   put_path words lock cert input left.answer at before after is_lock is_cert left.half,
@@ -119,7 +121,7 @@ pub follows : (told : Option Files) (words : List (List ℕ)) (lock cert : List 
     (before after : Option Files) (said_before said_after : Option (List ℕ))
     → IsErrAnd result (λ given. given ≡ Write stop) → (asked : IsAsked words) → IsOf asked.command.work task
     → lock ≡ lock_path words → cert ≡ cert_path words
-    → Writes lock cert task before after said_before said_after (Err stop) → Follows told words result
+    → Writes evidence lock cert task before after said_before said_after (Err stop) → Follows told words result
 follows told words lock cert task stop result before after said_before said_after carried asked work is_lock is_cert left =
     rw (write_carried stop result carried)
     (follows_here told words lock cert task stop before after said_before said_after asked work is_lock is_cert left)
@@ -132,13 +134,13 @@ has_shown words command (Some files) ordered shown = record { command = command;
 
 -- what is said by a writing that stopped before
 quiet : (lock cert : List ℕ) (task : Task) (stop : WriteStop) (before after : Option Files) (said_before said_after : Option (List ℕ))
-    → Writes lock cert task before after said_before said_after (Err stop) → StopsBefore (Err (Write stop)) → said_after ≡ said_before
+    → Writes evidence lock cert task before after said_before said_after (Err stop) → StopsBefore (Err (Write stop)) → said_after ≡ said_before
 quiet lock cert task (Put at) before after said_before said_after left stops = left.1
 quiet lock cert task Output before after said_before said_after left stops = absurd stops
 quiet lock cert task NoMemory before after said_before said_after left stops = left
 
 pub unsaid : (lock cert : List ℕ) (task : Task) (stop : WriteStop) (result : Result Outcome Stop) (before after : Option Files)
     (said_before said_after : Option (List ℕ)) → IsErrAnd result (λ given. given ≡ Write stop)
-    → Writes lock cert task before after said_before said_after (Err stop) → StopsBefore result → said_after ≡ said_before
+    → Writes evidence lock cert task before after said_before said_after (Err stop) → StopsBefore result → said_after ≡ said_before
 unsaid lock cert task stop result before after said_before said_after carried left stops =
     quiet lock cert task stop before after said_before said_after left (rw (write_carried stop result carried) at stops)

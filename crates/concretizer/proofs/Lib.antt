@@ -1,7 +1,9 @@
+pub mod Answered
 pub mod Ends
 pub mod Faults
 pub mod Kept
 pub mod Left
 pub mod Logs
+pub mod Meaning
 pub mod Reported
 pub mod Stages

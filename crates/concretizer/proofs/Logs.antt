@@ -3,6 +3,7 @@ use Rattle.std.proofs.Common.{◌≡◌, inl, inr, sym, subst, ℕ, List, [], Op
 use Rattle.std.specs.Result.{IsErrAnd}
 use Rattle.std.specs.Prelude.{IfSome}
 use Rattle.outside_desk.specs.Files.{Files}
+use Rattle.run_output.specs.Certificates.{log_verdict}
 use Rattle.run_output.specs.declared.answer.Outcome.{Outcome}
 use Rattle.run_output.specs.Kept.{HoldsLog, KeepsAny, KeepsLog}
 use Rattle.run_output.specs.Line.{Line}
@@ -27,7 +28,7 @@ use Rattle.concretizer.proofs.Reported.{refuses}
 
 module _ (words : List (List ℕ)) (command : Command) (lock cert : List ℕ) (task : Task) (kept : List Line) where
   pub answered_log : (outcome : Outcome) (before between after : Option Files) → Is (command_in words) (Ok command)
-      → IfSome before (λ files. Gives {T = Task} (Ok task) (Named files command)) → between ≡ before
+      → IfSome before (λ files. Gives {T = Task} (Ok task) (Named log_verdict files command)) → between ≡ before
       → lock ≡ lock_path words → cert ≡ cert_path words → KeepsAny lock cert task between after kept (Ok outcome)
       → IfSome before (λ files. AttemptKeeps files words after kept (Ok outcome))
   answered_log outcome None between after ordered read same at certified keeps = tt
@@ -38,12 +39,12 @@ module _ (words : List (List ℕ)) (command : Command) (lock cert : List ℕ) (t
         (subst (λ (m : Option Files). KeepsLog lock cert task outcome m after kept) same keeps);
   }
 
-  found : (files : Files) → Is (command_in words) (Ok command) → Gives {T = Task} (Ok task) (Named files command) → HoldsLog task kept
+  found : (files : Files) → Is (command_in words) (Ok command) → Gives {T = Task} (Ok task) (Named log_verdict files command) → HoldsLog task kept
       → MayKeep files words kept
   found files ordered read holds = inr (record { task = task; read = (command, ordered, read); holds = holds })
 
   stopped_here : (stop : WriteStop) (files : Files) (between after : Option Files) → Is (command_in words) (Ok command)
-      → Gives {T = Task} (Ok task) (Named files command) → KeepsAny lock cert task between after kept (Err stop) → MayKeep files words kept
+      → Gives {T = Task} (Ok task) (Named log_verdict files command) → KeepsAny lock cert task between after kept (Err stop) → MayKeep files words kept
   stopped_here (Put at) files between after ordered read keeps = found files ordered read keeps
   stopped_here Output files between after ordered read keeps = found files ordered read keeps
   stopped_here NoMemory files between after ordered read (inl empty) = inl empty
@@ -51,7 +52,7 @@ module _ (words : List (List ℕ)) (command : Command) (lock cert : List ℕ) (t
 
   pub stopped_log : (stop : WriteStop) (result : Result Outcome Stop) (before between after : Option Files)
       → IsErrAnd result (λ given. given ≡ Write stop) → Is (command_in words) (Ok command)
-      → IfSome before (λ files. Gives {T = Task} (Ok task) (Named files command)) → between ≡ before
+      → IfSome before (λ files. Gives {T = Task} (Ok task) (Named log_verdict files command)) → between ≡ before
       → lock ≡ lock_path words → cert ≡ cert_path words → KeepsAny lock cert task between after kept (Err stop)
       → IfSome before (λ files. AttemptKeeps files words after kept result)
   stopped_log stop result None between after is ordered read same at certified keeps = tt

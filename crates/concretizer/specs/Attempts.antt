@@ -3,6 +3,7 @@ use Rattle.std.specs.Prelude.{◌≡◌, ℕ, List, Option, Some, None, Result, 
 use Rattle.outside_desk.specs.Files.{Files}
 use Rattle.run_output.specs.Answers.{Writes}
 use Rattle.run_output.specs.declared.answer.Outcome.{Outcome}
+use Rattle.run_output.specs.Senses.{Sense}
 use Rattle.run_output.specs.Words.{command_of, lock_path, cert_path}
 use Rattle.run_output.specs.Task.{Task}
 use Rattle.run_output.specs.Tasks.{Poses}
@@ -18,24 +19,24 @@ use Rattle.concretizer.specs.Asked.{IsAsked, IsLocking, IsPutPath, IsRead}
 -- ---- for a desk that tells its files
 
 -- reading gave a task, and writing left this
-pub record IsWritten (files : Files) (words : List (List ℕ)) (after : Option Files) (out_before out_after : Option (List ℕ))
+pub record IsWritten (sense : Sense) (files : Files) (words : List (List ℕ)) (after : Option Files) (out_before out_after : Option (List ℕ))
     (result : Result Outcome WriteStop) : Type 0 where
   pub task : Task
-  pub read : Poses files words (Ok task)
-  pub left : Writes (lock_path words) (cert_path words) task (Some files) after out_before out_after result
+  pub read : Poses sense.verdicts files words (Ok task)
+  pub left : Writes sense (lock_path words) (cert_path words) task (Some files) after out_before out_after result
 
 -- nothing was written
 pub record IsUnwritten (files : Files) (after : Option Files) (out_before out_after : Option (List ℕ)) : Type 0 where
   pub unchanged : after ≡ Some files
   pub out : out_after ≡ out_before
 
-abbrev pub Attempts : Files → List (List ℕ) → Option Files → Option (List ℕ) → Option (List ℕ) → Result Outcome Stop → Type 0
-Attempts files words after out_before out_after (Ok outcome) = IsWritten files words after out_before out_after (Ok outcome)
-Attempts files words after out_before out_after (Err (Read (reads.Refused refusal))) = Poses files words (Err refusal)
+abbrev pub Attempts : Sense → Files → List (List ℕ) → Option Files → Option (List ℕ) → Option (List ℕ) → Result Outcome Stop → Type 0
+Attempts sense files words after out_before out_after (Ok outcome) = IsWritten sense files words after out_before out_after (Ok outcome)
+Attempts sense files words after out_before out_after (Err (Read (reads.Refused refusal))) = Poses sense.verdicts files words (Err refusal)
     × IsUnwritten files after out_before out_after
-Attempts files words after out_before out_after (Err (Read (reads.Fault path))) = IsUnwritten files after out_before out_after
-Attempts files words after out_before out_after (Err (Read reads.NoMemory)) = IsUnwritten files after out_before out_after
-Attempts files words after out_before out_after (Err (Write stop)) = IsWritten files words after out_before out_after (Err stop)
+Attempts sense files words after out_before out_after (Err (Read (reads.Fault path))) = IsUnwritten files after out_before out_after
+Attempts sense files words after out_before out_after (Err (Read reads.NoMemory)) = IsUnwritten files after out_before out_after
+Attempts sense files words after out_before out_after (Err (Write stop)) = IsWritten sense files words after out_before out_after (Err stop)
 
 -- ---- for any desk
 

@@ -1,11 +1,13 @@
 -- The headline: what each answer of a run means.
 --
+-- The `sense` of an answer is what it means, or besides the log that shows it (`Senses.antt` of `run_output`): all is said of both.
 -- `files` are the files at entry of a desk that tells them, `words` the words of the command line,
 -- `after` the files at the return, and `out` and `err` what the two sinks tell before and after.
 use Rattle.std.specs.Prelude.{◌≡◌, ◌⊎◌, ℕ, List, Option, Some, Ok, Err, IfSome}
 use Rattle.outside_desk.specs.Causes.{Rose}
 use Rattle.outside_desk.specs.Files.{Files, and_said, SaysPart}
 use Rattle.run_output.specs.Orders.{command_in}
+use Rattle.run_output.specs.Senses.{Sense}
 use Rattle.run_output.specs.Shown.{IsShown}
 use Rattle.run_output.specs.Stages.{Is}
 use Rattle.run_output.specs.Words.{Command, lock_path, cert_path}
@@ -38,14 +40,14 @@ abbrev pub SaysFront : Spoken → List ℕ → Type 0
 SaysFront said line = SaysPart said.0 said.1 line
 
 -- Done, by `concretize` (`IsSolved` in `run_output`): LOCK holds the lock file of a graph that is well-formed and optimal
--- for the problem that was read, CERT, unless it is `-`, the text of a log that is a certificate of its costs, every
+-- for the problem that was read, CERT, unless it is `-`, the text of a log (as evidence, a certificate of its costs), every
 -- other file is as at entry, its lines were said, and nothing else was. By the other commands (`IsTold`): no file changed, and
 -- what the task comes to was said: of `judge` the cost vector of the lock file's valid graph, of `check` and `refute` that the
 -- certificate is right, of `explain` that some graph is valid, of `trial` the counts of an optimal graph
-pub record IsDone (files : Files) (words : List (List ℕ)) (after : Option Files) (out err : Spoken) : Type 0 where
+pub record IsDone (sense : Sense) (files : Files) (words : List (List ℕ)) (after : Option Files) (out err : Spoken) : Type 0 where
   pub task : Task
-  pub read : Poses files words (Ok task)
-  pub finished : IsFinished (lock_path words) (cert_path words) task (Some files) after out.0 out.1
+  pub read : Poses sense.verdicts files words (Ok task)
+  pub finished : IsFinished sense (lock_path words) (cert_path words) task (Some files) after out.0 out.1
   pub errors : IsSilent err
 
 -- What the yes of a command shows, whoever made the files (`IsShown` in `run_task`): of `check`, that LOCK holds a lock file of just
@@ -55,27 +57,27 @@ pub record HasShown (files : Files) (words : List (List ℕ)) : Type 0 where
   pub ordered : Is (command_in words) (Ok command)
   pub shown : IsShown files command
 
--- Unsatisfiable, by `concretize`: no graph is valid, CERT holds the text of a log that refutes the problem, and every
+-- Unsatisfiable, by `concretize`: no graph is valid, CERT holds the text of a log (as evidence, it refutes the problem), and every
 -- other file is as at entry. By `explain`: a line was said for each demand that a refutation of the problem rests on, and no
 -- graph is valid for these alone; by `trial`: no graph of the made input is valid; no file changed
-pub record IsUnsatisfiable (files : Files) (words : List (List ℕ)) (after : Option Files) (out err : Spoken) : Type 0 where
+pub record IsUnsatisfiable (sense : Sense) (files : Files) (words : List (List ℕ)) (after : Option Files) (out err : Spoken) : Type 0 where
   pub task : Task
-  pub read : Poses files words (Ok task)
-  pub none : HasNone (cert_path words) task (Some files) after out.0 out.1
+  pub read : Poses sense.verdicts files words (Ok task)
+  pub none : HasNone sense (cert_path words) task (Some files) after out.0 out.1
   pub errors : IsSilent err
 
--- Undecided, by `concretize`: the budget of the settings was spent, CERT holds the text of the log that shows it, and
+-- Undecided, by `concretize`: the budget of the settings was spent, CERT holds the text of a log (as evidence, it shows that), and
 -- every other file is as at entry; by `explain` and `trial` likewise, and no file changed
-pub record IsUndecided (files : Files) (words : List (List ℕ)) (after : Option Files) (out err : Spoken) : Type 0 where
+pub record IsUndecided (sense : Sense) (files : Files) (words : List (List ℕ)) (after : Option Files) (out err : Spoken) : Type 0 where
   pub task : Task
-  pub read : Poses files words (Ok task)
-  pub spent : HasSpent (cert_path words) task (Some files) after out.0 out.1
+  pub read : Poses sense.verdicts files words (Ok task)
+  pub spent : HasSpent sense (cert_path words) task (Some files) after out.0 out.1
   pub errors : IsSilent err
 
 -- Usage, BadInput, TooLarge and Refused: reading refuses, in its order; no file changed, and the refusal was said
-pub record IsRefused (files : Files) (words : List (List ℕ)) (answer : Status) (after : Option Files) (out err : Spoken) : Type 0 where
+pub record IsRefused (sense : Sense) (files : Files) (words : List (List ℕ)) (answer : Status) (after : Option Files) (out err : Spoken) : Type 0 where
   pub refusal : Refusal
-  pub read : Poses files words (Err refusal)
+  pub read : Poses sense.verdicts files words (Err refusal)
   pub status : answer ≡ status_of refusal
   pub unchanged : after ≡ Some files
   pub output : IsSilent out
@@ -92,62 +94,68 @@ pub record IsReadFault (words : List (List ℕ)) (faults : ℕ × ℕ) (files : 
   pub errors : Says err (read_fault_line path)
 
 -- what a put at the path that failed leaves: what was put before is whole
-pub record LeavesPut (files : Files) (words : List (List ℕ)) (path : List ℕ) (after : Option Files) : Type 0 where
+pub record LeavesPut (sense : Sense) (files : Files) (words : List (List ℕ)) (path : List ℕ) (after : Option Files) : Type 0 where
   pub task : Task
-  pub read : Poses files words (Ok task)
-  pub half : IsHalfDone (lock_path words) (cert_path words) task path (Some files) after
+  pub read : Poses sense.verdicts files words (Ok task)
+  pub half : IsHalfDone sense (lock_path words) (cert_path words) task path (Some files) after
 
 -- WriteFault where the desk failed to put the certificate or the lock file, and that was said, and nothing else
-pub record IsPutFault (words : List (List ℕ)) (files : Option Files × Option Files) (faults : ℕ × ℕ) (out err : Spoken) : Type 0 where
+pub record IsPutFault (sense : Sense) (words : List (List ℕ)) (files : Option Files × Option Files) (faults : ℕ × ℕ) (out err : Spoken) : Type 0 where
   pub path : List ℕ
   pub asked : IsLocking words
   pub put : IsPutPath words path
-  pub left : IfSome files.0 (λ before. LeavesPut before words path files.1)
+  pub left : IfSome files.0 (λ before. LeavesPut sense before words path files.1)
   pub rose : Rose faults.0 faults.1
   pub output : IsSilent out
   pub errors : Says err (write_fault_line path)
 
 -- what a fault of the sink of the answer leaves: all files of the answer whole, no file changed by other commands than `concretize`,
 -- and a front of what was to be said
-pub record LeavesAll (files : Files) (words : List (List ℕ)) (after : Option Files) (out : Spoken) : Type 0 where
+pub record LeavesAll (sense : Sense) (files : Files) (words : List (List ℕ)) (after : Option Files) (out : Spoken) : Type 0 where
   pub task : Task
-  pub read : Poses files words (Ok task)
-  pub left : IsUntold (lock_path words) (cert_path words) task (Some files) after out.0 out.1
+  pub read : Poses sense.verdicts files words (Ok task)
+  pub left : IsUntold sense (lock_path words) (cert_path words) task (Some files) after out.0 out.1
 
 -- WriteFault where the sink of the answer failed, and that was said
-pub record IsOutputFault (words : List (List ℕ)) (files : Option Files × Option Files) (faults : ℕ × ℕ) (out err : Spoken) : Type 0 where
+pub record IsOutputFault (sense : Sense) (words : List (List ℕ)) (files : Option Files × Option Files) (faults : ℕ × ℕ) (out err : Spoken) : Type 0 where
   pub asked : IsAsked words
-  pub left : IfSome files.0 (λ before. LeavesAll before words files.1 out)
+  pub left : IfSome files.0 (λ before. LeavesAll sense before words files.1 out)
   pub rose : Rose faults.0 faults.1
   pub errors : Says err output_fault_line
 
 -- a run stopped for this cause, which leaves the files and the sink of the answer so; `faults` counts those of that sink
-pub record IsStopped (words : List (List ℕ)) (files : Option Files × Option Files) (faults : ℕ × ℕ) (out : Spoken) : Type 0 where
+pub record IsStopped (sense : Sense) (words : List (List ℕ)) (files : Option Files × Option Files) (faults : ℕ × ℕ) (out : Spoken) : Type 0 where
   pub stop : Stop
   pub follows : Follows files.0 words (Err stop)
-  pub left : IfSome files.0 (λ before. Attempts before words files.1 out.0 out.1 (Err stop))
+  pub left : IfSome files.0 (λ before. Attempts sense before words files.1 out.0 out.1 (Err stop))
   pub output : IsSilent out ⊎ Rose faults.0 faults.1
 
 -- WriteFault where the sink of the report failed: a front of the line of why the run stopped was said
-pub record IsReportFault (words : List (List ℕ)) (files : Option Files × Option Files) (faults errs : ℕ × ℕ) (out err : Spoken) : Type 0 where
-  pub stopped : IsStopped words files faults out
+pub record IsReportFault (sense : Sense) (words : List (List ℕ)) (files : Option Files × Option Files) (faults errs : ℕ × ℕ) (out err : Spoken) : Type 0 where
+  pub stopped : IsStopped sense words files faults out
   pub rose : Rose errs.0 errs.1
   pub errors : SaysFront err (stop_line stopped.stop)
 
+-- WriteFault: a put, the sink of the answer or that of the report failed
+abbrev pub IsWriteFault : Sense → List (List ℕ) → Option Files × Option Files → ℕ × ℕ → ℕ × ℕ → ℕ × ℕ → Spoken → Spoken → Type 0
+IsWriteFault sense words files puts says errs out err =
+    IsPutFault sense words files puts out err
+    ⊎ (IsOutputFault sense words files says out err ⊎ IsReportFault sense words files says errs out err)
+
 -- NoMemory, which needs no cause: that was said, or nothing
-pub record IsOutOfMemory (words : List (List ℕ)) (files : Option Files × Option Files) (faults : ℕ × ℕ) (out err : Spoken) : Type 0 where
-  pub stopped : IsStopped words files faults out
+pub record IsOutOfMemory (sense : Sense) (words : List (List ℕ)) (files : Option Files × Option Files) (faults : ℕ × ℕ) (out err : Spoken) : Type 0 where
+  pub stopped : IsStopped sense words files faults out
   pub errors : IsSilent err ⊎ Says err no_memory_line
 
 -- Whatever the answer: the files are as at entry, or reading gave a problem to solve, and CERT alone changed and holds the log
 -- of its answer; or it does so, unless it is `-`, and LOCK is as at entry, or holds the lock file of an optimal graph
-pub record HasPut (files : Files) (words : List (List ℕ)) (after : Option Files) : Type 0 where
+pub record HasPut (sense : Sense) (files : Files) (words : List (List ℕ)) (after : Option Files) : Type 0 where
   pub task : Task
-  pub read : Poses files words (Ok task)
-  pub held : KeepsWhole (lock_path words) (cert_path words) task (Some files) after
+  pub read : Poses sense.verdicts files words (Ok task)
+  pub held : KeepsWhole sense (lock_path words) (cert_path words) task (Some files) after
 
-abbrev pub Keeps : Files → List (List ℕ) → Option Files → Type 0
-Keeps files words after = (after ≡ Some files) ⊎ HasPut files words after
+abbrev pub Keeps : Sense → Files → List (List ℕ) → Option Files → Type 0
+Keeps sense files words after = (after ≡ Some files) ⊎ HasPut sense files words after
 
 -- the answers of input that nothing refuses, where no device fails
 abbrev pub Settles : Status → Type 0

@@ -2,6 +2,7 @@
 
 ghost use Rattle.std.specs.Prelude.{◌≡◌, ◌≤◌, Err, IfSome, OnOk};
 ghost use Rattle.outside_desk.specs.Causes.{Counts};
+ghost use Rattle.run_output.specs.Evidence.{evidence};
 ghost use Rattle.run_output.specs.Orders.{command_in};
 ghost use Rattle.run_output.specs.Refusal.{Refusal};
 ghost use Rattle.run_output.specs.Stages.{Is};
@@ -38,7 +39,7 @@ pub fn attempt<R: Threads + Sync, D: Desk, O: Sink, P: Progress>(
     progress: &mut P,
 ) -> Result<Outcome, Stop>
     ensures outcome { IfSome (D.files desk.old)
-        (λ files. Attempts files (words_of words.now) (D.files desk.new) (O.said out.old)
+        (λ files. Attempts evidence files (words_of words.now) (D.files desk.new) (O.said out.old)
         (O.said out.new) result) }
     ensures shown { OnOk result (IfSome (D.files desk.old)
         (λ files. HasShown files (words_of words.now))) }
@@ -54,7 +55,7 @@ pub fn attempt<R: Threads + Sync, D: Desk, O: Sink, P: Progress>(
         × (D.put_faults desk.new ≡ D.put_faults desk.old)
         × (O.faults out.new ≡ O.faults out.old) }
     ensures held { IfSome (D.files desk.old)
-        (λ files. Keeps files (words_of words.now) (D.files desk.new)) }
+        (λ files. Keeps evidence files (words_of words.now) (D.files desk.new)) }
     ensures kept { IfSome (D.files desk.old)
         (λ files. AttemptKeeps files (words_of words.now) (D.files desk.new) kept.new result) }
     ensures read { Counts (D.faults desk.old) (D.faults desk.new) (FailsToRead result) }

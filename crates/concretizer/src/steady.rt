@@ -1,11 +1,13 @@
 //! Runs over devices that never fail.
 
 ghost use Rattle.std.specs.Prelude.{◌≡◌, ◌≢◌, Ok, Err, Some};
+ghost use Rattle.run_output.specs.CertificateVerdicts.{no_verdict};
+ghost use Rattle.run_output.specs.Senses.{meaning};
 ghost use Rattle.run_output.specs.Words.{words_of};
 ghost use Rattle.run_output.specs.Task.{Task};
 ghost use Rattle.run_output.specs.Tasks.{Poses};
 ghost use Rattle.concretizer.specs.Headline.{IsDone, HasShown, IsUnsatisfiable, IsUndecided, IsRefused, Settles, IsRefusalStatus, IsAnsweredBy};
-ghost use Rattle.concretizer.specs.Logs.{KeepsFor};
+ghost use Rattle.concretizer.specs.Logs.{IsLogged, KeepsFor};
 ghost use Rattle.run_output.specs.Refusals.{status_of};
 ghost use Rattle.run_output.specs.Refusal.{Refusal};
 
@@ -27,24 +29,26 @@ pub fn run_steady<R: Threads + Sync>(
     kept: &mut Log,
 ) -> Status
     ensures done { result ≡ Status.Done
-        → IsDone desk.old (words_of words.now) (Some desk.new) (Some out.old, Some out.new)
+        → IsDone meaning desk.old (words_of words.now) (Some desk.new) (Some out.old, Some out.new)
         (Some err.old, Some err.new) }
     ensures shown { result ≡ Status.Done → HasShown desk.old (words_of words.now) }
     ensures unsatisfiable { result ≡ Status.Unsatisfiable
-        → IsUnsatisfiable desk.old (words_of words.now) (Some desk.new) (Some out.old, Some out.new)
+        → IsUnsatisfiable meaning desk.old (words_of words.now) (Some desk.new) (Some out.old, Some out.new)
         (Some err.old, Some err.new) }
     ensures undecided { result ≡ Status.Undecided
-        → IsUndecided desk.old (words_of words.now) (Some desk.new) (Some out.old, Some out.new)
+        → IsUndecided meaning desk.old (words_of words.now) (Some desk.new) (Some out.old, Some out.new)
         (Some err.old, Some err.new) }
     ensures refused { IsRefusalStatus result
-        → IsRefused desk.old (words_of words.now) result (Some desk.new)
+        → IsRefused meaning desk.old (words_of words.now) result (Some desk.new)
         (Some out.old, Some out.new) (Some err.old, Some err.new) }
     ensures no_read_fault { result ≢ Status.ReadFault }
     ensures no_write_fault { result ≢ Status.WriteFault }
-    ensures complete { (task : Task) → Poses desk.old (words_of words.now) (Ok task)
+    ensures complete { (task : Task) → Poses no_verdict desk.old (words_of words.now) (Ok task)
         → Settles result }
-    ensures due { (refusal : Refusal) → Poses desk.old (words_of words.now) (Err refusal)
+    ensures due { (refusal : Refusal) → Poses no_verdict desk.old (words_of words.now) (Err refusal)
         → IsAnsweredBy (status_of refusal) result }
+    ensures logged { IsLogged (words_of words.now) (Some desk.old, Some desk.new) (0, 0) (0, 0) (0, 0)
+        (0, 0) (Some out.old, Some out.new) (Some err.old, Some err.new) result }
     ensures kept { KeepsFor result desk.old (words_of words.now) (Some desk.new) kept.new }
 {
     run(rt, alloc, words, desk, out, err, kept, &mut Untold)

@@ -1,17 +1,19 @@
 //! The top call.
 
-ghost use Rattle.std.specs.Prelude.{◌≡◌, ◌⊎◌, ◌≤◌, None, Ok, Err, IfSome};
+ghost use Rattle.std.specs.Prelude.{◌≡◌, ◌≤◌, None, Ok, Err, IfSome};
 ghost use Rattle.outside_desk.specs.Causes.{Rose};
+ghost use Rattle.run_output.specs.CertificateVerdicts.{no_verdict};
 ghost use Rattle.run_output.specs.Changes.{ChangesOnly};
 ghost use Rattle.run_output.specs.Orders.{command_in};
 ghost use Rattle.run_output.specs.Refusal.{Refusal};
 ghost use Rattle.run_output.specs.Refusals.{status_of};
+ghost use Rattle.run_output.specs.Senses.{meaning};
 ghost use Rattle.run_output.specs.Stages.{Is};
 ghost use Rattle.run_output.specs.Task.{Task};
 ghost use Rattle.run_output.specs.Tasks.{Poses};
 ghost use Rattle.run_output.specs.Words.{words_of, command_of, lock_path, cert_path};
-ghost use Rattle.concretizer.specs.Logs.{KeepsFor};
-ghost use Rattle.concretizer.specs.Headline.{IsDone, HasShown, IsUnsatisfiable, IsUndecided, IsRefused, IsReadFault, IsPutFault, IsOutputFault, IsReportFault, IsOutOfMemory, IsOfInput, Keeps, Settles, IsRefusalStatus, ReportsWords, IsAnsweredBy};
+ghost use Rattle.concretizer.specs.Logs.{IsLogged, KeepsFor};
+ghost use Rattle.concretizer.specs.Headline.{IsDone, HasShown, IsUnsatisfiable, IsUndecided, IsRefused, IsReadFault, IsWriteFault, IsOutOfMemory, IsOfInput, Keeps, Settles, IsRefusalStatus, ReportsWords, IsAnsweredBy};
 
 use crate::attempt::{attempt, report};
 use outside_desk::{Desk, Sink};
@@ -60,18 +62,18 @@ pub fn run<R: Threads + Sync, D: Desk, O: Sink, E: Sink, P: Progress>(
 
     // The answers of a desk that tells its files.
     ensures done { result ≡ Status.Done → IfSome (D.files desk.old) (λ files.
-        IsDone files (words_of words.now) (D.files desk.new) (O.said out.old, O.said out.new)
+        IsDone meaning files (words_of words.now) (D.files desk.new) (O.said out.old, O.said out.new)
         (E.said err.old, E.said err.new)) }
     ensures shown { result ≡ Status.Done → IfSome (D.files desk.old) (λ files.
         HasShown files (words_of words.now)) }
     ensures unsatisfiable { result ≡ Status.Unsatisfiable → IfSome (D.files desk.old) (λ files.
-        IsUnsatisfiable files (words_of words.now) (D.files desk.new)
+        IsUnsatisfiable meaning files (words_of words.now) (D.files desk.new)
         (O.said out.old, O.said out.new) (E.said err.old, E.said err.new)) }
     ensures undecided { result ≡ Status.Undecided → IfSome (D.files desk.old) (λ files.
-        IsUndecided files (words_of words.now) (D.files desk.new)
+        IsUndecided meaning files (words_of words.now) (D.files desk.new)
         (O.said out.old, O.said out.new) (E.said err.old, E.said err.new)) }
     ensures refused { IsRefusalStatus result → IfSome (D.files desk.old) (λ files.
-        IsRefused files (words_of words.now) result (D.files desk.new)
+        IsRefused meaning files (words_of words.now) result (D.files desk.new)
         (O.said out.old, O.said out.new) (E.said err.old, E.said err.new)) }
 
     // Faults come from outside, and are told.
@@ -80,15 +82,12 @@ pub fn run<R: Threads + Sync, D: Desk, O: Sink, E: Sink, P: Progress>(
         (D.files desk.old, D.files desk.new) (O.said out.old, O.said out.new)
         (E.said err.old, E.said err.new) }
     ensures write_fault { result ≡ Status.WriteFault →
-        IsPutFault (words_of words.now) (D.files desk.old, D.files desk.new)
-        (D.put_faults desk.old, D.put_faults desk.new) (O.said out.old, O.said out.new) (E.said err.old, E.said err.new)
-        ⊎ (IsOutputFault (words_of words.now) (D.files desk.old, D.files desk.new)
-        (O.faults out.old, O.faults out.new) (O.said out.old, O.said out.new) (E.said err.old, E.said err.new)
-        ⊎ IsReportFault (words_of words.now) (D.files desk.old, D.files desk.new)
-        (O.faults out.old, O.faults out.new) (E.faults err.old, E.faults err.new)
-        (O.said out.old, O.said out.new) (E.said err.old, E.said err.new)) }
+        IsWriteFault meaning (words_of words.now) (D.files desk.old, D.files desk.new)
+        (D.put_faults desk.old, D.put_faults desk.new) (O.faults out.old, O.faults out.new)
+        (E.faults err.old, E.faults err.new)
+        (O.said out.old, O.said out.new) (E.said err.old, E.said err.new) }
     ensures no_memory { result ≡ Status.NoMemory →
-        IsOutOfMemory (words_of words.now) (D.files desk.old, D.files desk.new)
+        IsOutOfMemory meaning (words_of words.now) (D.files desk.old, D.files desk.new)
         (O.faults out.old, O.faults out.new) (O.said out.old, O.said out.new) (E.said err.old, E.said err.new) }
 
     // Any other answer is of a run in which no device failed: none that did is asked again, or passed over.
@@ -100,23 +99,29 @@ pub fn run<R: Threads + Sync, D: Desk, O: Sink, E: Sink, P: Progress>(
     ensures others { IfSome (D.files desk.old) (λ files. ChangesOnly
         (lock_path (words_of words.now)) (cert_path (words_of words.now)) files (D.files desk.new)) }
     ensures held { IfSome (D.files desk.old)
-        (λ files. Keeps files (words_of words.now) (D.files desk.new)) }
+        (λ files. Keeps meaning files (words_of words.now) (D.files desk.new)) }
+
+    // All of this besides as the logs show it: what is shown over clauses of the problem, and when a certificate is refused.
+    ensures logged { IsLogged (words_of words.now) (D.files desk.old, D.files desk.new)
+        (D.faults desk.old, D.faults desk.new) (D.put_faults desk.old, D.put_faults desk.new)
+        (O.faults out.old, O.faults out.new) (E.faults err.old, E.faults err.new)
+        (O.said out.old, O.said out.new) (E.said err.old, E.said err.new) result }
 
     // The log of the search is kept, and no line where no search answered.
     ensures kept { IfSome (D.files desk.old) (λ files.
         KeepsFor result files (words_of words.now) (D.files desk.new) kept.new) }
 
-    // Input that nothing refuses is answered, where no device fails.
+    // Input that nothing refuses is answered, where no device fails and no certificate is read.
     ensures complete { IfSome (D.files desk.old) (λ files. (task : Task)
-        → Poses files (words_of words.now) (Ok task)
+        → Poses no_verdict files (words_of words.now) (Ok task)
         → ¬ Rose (D.faults desk.old) (D.faults desk.new)
         → ¬ Rose (D.put_faults desk.old) (D.put_faults desk.new)
         → ¬ Rose (O.faults out.old) (O.faults out.new)
         → ¬ Rose (E.faults err.old) (E.faults err.new) → Settles result) }
 
-    // Input that is refused is answered so, where no device fails.
+    // Input that is refused is answered so, where no device fails: by its certificate, `logged` says.
     ensures due { IfSome (D.files desk.old) (λ files. (refusal : Refusal)
-        → Poses files (words_of words.now) (Err refusal)
+        → Poses no_verdict files (words_of words.now) (Err refusal)
         → ¬ Rose (D.faults desk.old) (D.faults desk.new)
         → ¬ Rose (D.put_faults desk.old) (D.put_faults desk.new)
         → ¬ Rose (O.faults out.old) (O.faults out.new)

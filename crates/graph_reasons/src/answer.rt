@@ -8,10 +8,12 @@ ghost use Rattle.possible_closure.specs.Closures.{closure_of};
 ghost use Rattle.graph_check.specs.OfBestGraph.Encodings.{AreRules, RulesDecode};
 ghost use Rattle.graph_check.specs.OfBestGraph.Kept.{has_right_values};
 ghost use Rattle.graph_reasons.specs.Explanations.{Explains};
+ghost use Rattle.graph_reasons.specs.Grounds.{RestsOn};
 
 use crate::explanation::Explanation;
 use explain_failure::{reason_laws, reasons};
 use graph_check::{Progress, Rules, Stage, encode_rules};
+use graph_encoding::demand_laws;
 use optimum_search::{Found, found_laws, search};
 use possible_closure::Closure;
 use problem::Problem;
@@ -31,7 +33,8 @@ pub fn explain<P: Progress>(
 ) -> Result<Explanation, AllocError>
     requires closure { closure.now ≡ closure_of problem.now }
     requires values { has_right_values problem.now ≡ true }
-    ensures { IfOk result (Explains problem.now budget) }
+    ensures means { IfOk result (Explains problem.now budget) }
+    ensures rests { IfOk result (RestsOn problem.now budget) }
 {
     let packages = closure.names().len() as u64;
     progress.tell(Stage::Encoding { packages });
@@ -63,10 +66,12 @@ fn explanation_of(
     requires decodes { RulesDecode _problem.now }
     requires found { IsFound rules.now.clauses [] _budget found }
     requires in_order { AllClauses (clauses_of rules.now.clauses.entries) }
-    ensures { IfOk result (Explains _problem.now _budget) }
+    ensures means { IfOk result (Explains _problem.now _budget) }
+    ensures rests { IfOk result (RestsOn _problem.now _budget) }
 {
     found_laws();
     reason_laws();
+    demand_laws();
     match found {
         Found::Optimal { .. } => Ok(Explanation::Satisfiable),
         Found::Refuted { log } => {

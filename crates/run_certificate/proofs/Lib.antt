@@ -1,3 +1,4 @@
 pub mod Reading
 pub mod Next
 pub mod Shown
+mod Sayings

@@ -18,11 +18,12 @@ use Rattle.graph_rules.specs.Valid.{valid}
 use Rattle.graph_costs.specs.Costs.{vector}
 use Rattle.graph_costs.specs.Optimal.{IsOptimal, HasNoGraph}
 use Rattle.graph_reasons.specs.OfGraphCheck.Built.{encoding_of, rule_clauses}
-use Rattle.run_answers.specs.Stages.{◌>>=◌, or_refuse}
+use Rattle.run_answers.specs.Stages.{◌>>=◌, or_refuse, Is}
 use Rattle.run_answers.specs.declared.refusal.Refusal.{Refusal}
 use Rattle.run_answers.specs.declared.refusal.Refusal.TheVariants as refusals
 use Rattle.run_answers.specs.declared.line_fault.LineFault.{LineFault}
 use Rattle.run_answers.specs.declared.line_fault.LineFault.TheVariants as faults
+use Rattle.run_certificate.specs.CertificateVerdicts.{CertificateVerdicts}
 
 -- why the checker refuses a line, as a fault of the line
 abbrev pub fault_of : Why → LineFault
@@ -70,6 +71,11 @@ unfoldable pub certified_at : Files → List ℕ → Problem → Option (List �
 certified_at files path problem numbers = do
   s ← or_refuse (refusals.BadCertificate 1 faults.WrongBit) (begun_for problem numbers)
   said_at files path s
+
+-- what is said by the log that the file holds: that it is right, where the log is a right one over the clauses of the problem, and else
+-- the first refusal
+abbrev pub log_verdict : CertificateVerdicts
+log_verdict files path problem numbers = Is (certified_at files path problem numbers)
 
 -- what a right certificate shows: that a valid graph with these costs is optimal, or, without costs, that no graph is valid
 abbrev pub ShowsOf : Problem → Option (List ℕ) → Type 0

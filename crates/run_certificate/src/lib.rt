@@ -9,8 +9,10 @@
 
 mod certificate;
 mod pieces;
+mod theorems;
 mod verdict;
 
 pub use certificate::read_certificate;
 // What crates above answer with.
 pub use graph_reasons::{Answer, Explanation, Progress, Stage, Untold, best_graph, explain};
+pub use theorems::certificate_laws;

@@ -19,6 +19,7 @@ use Rattle.run_task.specs.declared.task.Task.{Task}
 use Rattle.run_task.specs.declared.task.Task.TheVariants as tasks
 use Rattle.run_output.specs.Answers.{HoldsWhole, KeepsWhole, MayLock, with_cert_by}
 use Rattle.run_output.specs.Changes.{ChangesOnly, IsOther}
+use Rattle.run_output.specs.Evidence.{evidence}
 
 other_file : (m : Files) (path bytes other : List ℕ) → other ≢ path → get (insert m path bytes) other ≡ get m other
 other_file m path bytes other ne =
@@ -73,7 +74,7 @@ module _ (lock cert : List ℕ) where
       (keeps_cert (log_of answer) before (is_dash cert) (λ dash path other. other.no_cert dash)) held
 
   -- what any end of writing keeps
-  pub keeps : (task : Task) (before after : Option Files) → (after ≡ before) ⊎ KeepsWhole lock cert task before after
+  pub keeps : (task : Task) (before after : Option Files) → (after ≡ before) ⊎ KeepsWhole evidence lock cert task before after
       → IfSome before (λ files. ChangesOnly lock cert files after)
   keeps task None after kept = tt
   keeps task (Some m) after (inl same) = keeps_none (Some m) after same

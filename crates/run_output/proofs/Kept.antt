@@ -11,7 +11,7 @@ use Rattle.run_task.specs.WriteStop.TheVariants.{Put, Output, NoMemory}
 use Rattle.run_task.specs.declared.task.Task.TheVariants as tasks
 use Rattle.run_output.specs.Answers.{Leaves}
 use Rattle.run_output.specs.Kept.{IsLogTo, KeepsAny}
-use Rattle.run_output.specs.Texts.{IsFor}
+use Rattle.run_output.specs.Evidence.{IsFor}
 use Rattle.run_output.specs.declared.answer.Outcome.{Outcome}
 
 module _ (lock cert : List ℕ) (input : Input) (before after : Option Files) (said more : Option (List ℕ)) where

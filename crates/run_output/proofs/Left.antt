@@ -8,28 +8,28 @@ use Rattle.run_task.specs.WriteStop.{WriteStop}
 use Rattle.run_task.specs.WriteStop.TheVariants.{Put, Output, NoMemory}
 use Rattle.run_task.specs.declared.task.Task.TheVariants as tasks
 use Rattle.run_output.specs.Answers.{HoldsWhole, KeepsWhole, Leaves, Writes}
-use Rattle.run_output.specs.Texts.{IsFor}
+use Rattle.run_output.specs.Evidence.{IsFor, evidence}
 use Rattle.run_output.specs.declared.answer.Outcome.{Outcome}
 use Rattle.run_output.specs.declared.answer.Outcome.TheVariants.{Solved, Unsolved, Undecided}
 
 module _ (lock cert : List ℕ) (input : Input) (before after : Option Files) (said more : Option (List ℕ)) where
   solved : (answer : Answer) → IsFor input.problem answer
       → Leaves lock cert input.problem answer before after said more (Ok Solved)
-      → Writes lock cert (tasks.Solve input) before after said more (Ok Solved)
+      → Writes evidence lock cert (tasks.Solve input) before after said more (Ok Solved)
   solved (answers.Best graph log) found (is, files, out) = record { graph = graph; log = log; best = found; files = files; out = out }
   solved (answers.Nothing log) found (is, files, out) = absurd (let no : Solved ≡ Unsolved = is in cc)
   solved (answers.Undecided log) found (is, files, out) = absurd (let no : Solved ≡ Undecided = is in cc)
 
   unsolved : (answer : Answer) → IsFor input.problem answer
       → Leaves lock cert input.problem answer before after said more (Ok Unsolved)
-      → Writes lock cert (tasks.Solve input) before after said more (Ok Unsolved)
+      → Writes evidence lock cert (tasks.Solve input) before after said more (Ok Unsolved)
   unsolved (answers.Best graph log) found (is, files, out) = absurd (let no : Unsolved ≡ Solved = is in cc)
   unsolved (answers.Nothing log) found (is, files, out) = record { log = log; none = found; files = files; out = out }
   unsolved (answers.Undecided log) found (is, files, out) = absurd (let no : Unsolved ≡ Undecided = is in cc)
 
   undecided : (answer : Answer) → IsFor input.problem answer
       → Leaves lock cert input.problem answer before after said more (Ok Undecided)
-      → Writes lock cert (tasks.Solve input) before after said more (Ok Undecided)
+      → Writes evidence lock cert (tasks.Solve input) before after said more (Ok Undecided)
   undecided (answers.Best graph log) found (is, files, out) = absurd (let no : Undecided ≡ Solved = is in cc)
   undecided (answers.Nothing log) found (is, files, out) = absurd (let no : Undecided ≡ Unsolved = is in cc)
   undecided (answers.Undecided log) found (is, files, out) = record { log = log; spent = found; files = files; out = out }
@@ -37,7 +37,7 @@ module _ (lock cert : List ℕ) (input : Input) (before after : Option Files) (s
   -- an answer that was found, and written
   pub written : (answer : Answer) (result : Result Outcome WriteStop) → IsFor input.problem answer
       → Leaves lock cert input.problem answer before after said more result
-      → Writes lock cert (tasks.Solve input) before after said more result
+      → Writes evidence lock cert (tasks.Solve input) before after said more result
   written answer (Ok Solved) found left = solved answer found left
   written answer (Ok Unsolved) found left = unsolved answer found left
   written answer (Ok Undecided) found left = undecided answer found left
@@ -48,6 +48,6 @@ module _ (lock cert : List ℕ) (input : Input) (before after : Option Files) (s
   -- what it keeps at any end
   pub kept : (answer : Answer) → IsFor input.problem answer
       → (after ≡ before) ⊎ HoldsWhole lock cert input.problem answer before after
-      → (after ≡ before) ⊎ KeepsWhole lock cert (tasks.Solve input) before after
+      → (after ≡ before) ⊎ KeepsWhole evidence lock cert (tasks.Solve input) before after
   kept answer found (inl same) = inl same
   kept answer found (inr held) = inr (record { answer = answer; found = found; held = held })

@@ -11,25 +11,26 @@ use Rattle.run_task.specs.Explanation.{Explanation}
 use Rattle.run_task.specs.Explanation.TheVariants as explanations
 use Rattle.run_output.specs.Answers.{HasSpent}
 use Rattle.run_output.specs.Budgets.{budget_of}
-use Rattle.run_output.specs.Texts.{IsFor, explanation_outcome, outcome_of}
+use Rattle.run_output.specs.Senses.{meaning}
+use Rattle.run_output.specs.Texts.{explanation_outcome, outcome_of}
 use Rattle.run_output.specs.declared.answer.Outcome.TheVariants.{Undecided}
 
-of_answer : (problem : Problem) (answer : Answer) → IsFor problem answer → Undecided ≡ outcome_of answer
+of_answer : (problem : Problem) (answer : Answer) → meaning.answers problem answer → Undecided ≡ outcome_of answer
     → problem.settings.conflict_budget < 2 ^ 64 - 1
 of_answer problem (answers.Best graph log) found is = absurd (cc)
 of_answer problem (answers.Nothing log) found is = absurd (cc)
-of_answer problem (answers.Undecided log) found is = found.means.1
+of_answer problem (answers.Undecided log) found is = found.1
 
 of_explanation : (problem : Problem) (explanation : Explanation) → Explains problem problem.settings.conflict_budget explanation
     → Undecided ≡ explanation_outcome explanation → problem.settings.conflict_budget < 2 ^ 64 - 1
 of_explanation problem explanations.Satisfiable explains is = absurd (cc)
 of_explanation problem (explanations.Unmet demands) explains is = absurd (cc)
-of_explanation problem explanations.Undecided explains is = explains.finite
+of_explanation problem explanations.Undecided explains is = explains
 
 -- no budget of 2^64 - 1 is spent
 pub spent_below : (cert : List ℕ) (task : Task) (before after : Option Files) (said more : Option (List ℕ))
-    → HasSpent cert task before after said more → budget_of task < 2 ^ 64 - 1
-spent_below cert (tasks.Solve input) before after said more spent = spent.spent.means.1
+    → HasSpent meaning cert task before after said more → budget_of task < 2 ^ 64 - 1
+spent_below cert (tasks.Solve input) before after said more spent = spent.spent.1
 spent_below cert (tasks.Report numbers) before after said more spent = absurd (let e = spent.tells.0 in cc)
 spent_below cert tasks.Accepted before after said more spent = absurd (let e = spent.tells.0 in cc)
 spent_below cert (tasks.Explain input) before after said more spent =

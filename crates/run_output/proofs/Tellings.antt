@@ -11,14 +11,15 @@ use Rattle.proof_log.specs.declared.line.Line.{Line}
 use Rattle.proof_log.specs.declared.line.Line.TheVariants.{Header, Learnt, Zero, One, Unsat, Spent, End}
 use Rattle.proof_log.specs.Lines.{learnt_count, learnt_in}
 use Rattle.run_output.specs.Answers.{SaysText, Writes}
+use Rattle.run_output.specs.Evidence.{evidence}
 use Rattle.run_output.specs.Texts.{is_learnt}
 use Rattle.run_output.specs.Told.{Tells, IsHalfTold}
 use Rattle.run_output.specs.declared.answer.Outcome.{Outcome}
 use Rattle.run_output.specs.declared.answer.Outcome.TheVariants.{Solved, Unsolved, Undecided}
 
 module _ (lock cert : List ℕ) (files : Option Files) (said more : Option (List ℕ)) (text : List ℕ) where
-  pub told_writes : (task : Task) (outcome : Outcome) → Tells task outcome text → more ≡ and_said said text
-      → Writes lock cert task files files said more (Ok outcome)
+  pub told_writes : (task : Task) (outcome : Outcome) → Tells evidence task outcome text → more ≡ and_said said text
+      → Writes evidence lock cert task files files said more (Ok outcome)
   told_writes (tasks.Solve input) outcome tells out = absurd tells
   told_writes (tasks.Report numbers) Solved tells out = record { text = text; tells = tells; files = refl; out = out }
   told_writes (tasks.Report numbers) Unsolved tells out = record { text = text; tells = tells; files = refl; out = out }
@@ -33,11 +34,11 @@ module _ (lock cert : List ℕ) (files : Option Files) (said more : Option (List
   told_writes (tasks.Try input) Unsolved tells out = record { text = text; tells = tells; files = refl; out = out }
   told_writes (tasks.Try input) Undecided tells out = record { text = text; tells = tells; files = refl; out = out }
 
-  half_told : (task : Task) (outcome : Outcome) → Tells task outcome text → SaysPart said more text → IsHalfTold task files files said more
+  half_told : (task : Task) (outcome : Outcome) → Tells evidence task outcome text → SaysPart said more text → IsHalfTold evidence task files files said more
   half_told task outcome tells part = record { outcome = outcome; text = text; tells = tells; files = refl; out = part }
 
-  pub told_stops : (task : Task) (outcome : Outcome) (stop : WriteStop) → Tells task outcome text → SaysText text said more (Err stop)
-      → Writes lock cert task files files said more (Err stop)
+  pub told_stops : (task : Task) (outcome : Outcome) (stop : WriteStop) → Tells evidence task outcome text → SaysText text said more (Err stop)
+      → Writes evidence lock cert task files files said more (Err stop)
   told_stops task outcome (Put at) tells says = absurd says
   told_stops (tasks.Solve input) outcome Output tells says = absurd tells
   told_stops (tasks.Report numbers) outcome Output tells says = half_told (tasks.Report numbers) outcome tells says

@@ -14,7 +14,8 @@ use Rattle.run_task.specs.WriteStop.{WriteStop}
 use Rattle.run_task.specs.WriteStop.TheVariants as writes
 use Rattle.run_task.specs.declared.task.Task.{Task}
 use Rattle.run_task.specs.declared.task.Task.TheVariants as tasks
-use Rattle.run_output.specs.Texts.{IsFor, graph_text, text_of, outcome_of, unsatisfiable_line, undecided_line}
+use Rattle.run_output.specs.Senses.{Sense}
+use Rattle.run_output.specs.Texts.{graph_text, text_of, outcome_of, unsatisfiable_line, undecided_line}
 use Rattle.run_output.specs.Told.{IsTold, IsHalfTold}
 use Rattle.run_output.specs.declared.answer.Outcome.{Outcome}
 use Rattle.run_output.specs.declared.answer.Outcome.TheVariants as outcomes
@@ -104,93 +105,93 @@ Leaves lock cert problem answer before after out_before out_after (Err writes.No
 
 -- ---- answers of `concretize`
 
--- A graph was found: it is well-formed and optimal for the problem, and the log is a certificate of its costs (`best`);
+-- A graph was found: it is well-formed and optimal for the problem (`best`; as evidence, the log is a certificate of its costs besides);
 -- CERT holds the log unless it is `-`, LOCK the graph's lock file; its nodes and its vector were said
-pub record IsSolved (lock cert : List ℕ) (problem : Problem) (before after : Option Files)
+pub record IsSolved (sense : Sense) (lock cert : List ℕ) (problem : Problem) (before after : Option Files)
     (out_before out_after : Option (List ℕ)) : Type 0 where
   pub graph : Content
   pub log : List Line
-  pub best : IsFor problem (answers.Best graph log)
+  pub best : sense.answers problem (answers.Best graph log)
   pub files : after ≡ with_both lock cert problem graph log before
   pub out : out_after ≡ and_said out_before (graph_text problem graph)
 
--- No graph is valid, as the log refutes (`none`); CERT holds the log
-pub record IsUnsolved (cert : List ℕ) (problem : Problem) (before after : Option Files)
+-- No graph is valid (`none`; as evidence, the log refutes the problem's rules); CERT holds the log
+pub record IsUnsolved (sense : Sense) (cert : List ℕ) (problem : Problem) (before after : Option Files)
     (out_before out_after : Option (List ℕ)) : Type 0 where
   pub log : List Line
-  pub none : IsFor problem (answers.Nothing log)
+  pub none : sense.answers problem (answers.Nothing log)
   pub files : after ≡ with_cert cert log before
   pub out : out_after ≡ and_said out_before unsatisfiable_line
 
--- The budget of the settings was spent, as the log shows (`spent`); CERT holds the log
-pub record IsUndecided (cert : List ℕ) (problem : Problem) (before after : Option Files)
+-- The budget of the settings was spent (`spent`; as evidence, the log shows it); CERT holds the log
+pub record IsUndecided (sense : Sense) (cert : List ℕ) (problem : Problem) (before after : Option Files)
     (out_before out_after : Option (List ℕ)) : Type 0 where
   pub log : List Line
-  pub spent : IsFor problem (answers.Undecided log)
+  pub spent : sense.answers problem (answers.Undecided log)
   pub files : after ≡ with_cert cert log before
   pub out : out_after ≡ and_said out_before (undecided_line problem.settings.conflict_budget)
 
 -- a put at the path failed
-pub record HasHalfPut (lock cert : List ℕ) (problem : Problem) (path : List ℕ) (before after : Option Files) : Type 0 where
+pub record HasHalfPut (sense : Sense) (lock cert : List ℕ) (problem : Problem) (path : List ℕ) (before after : Option Files) : Type 0 where
   pub answer : Answer
-  pub found : IsFor problem answer
+  pub found : sense.answers problem answer
   pub half : IsHalfPut lock cert problem answer path before after
 
 -- all files were put, and the sink failed: a front of the lines was said
-pub record IsUnsaid (lock cert : List ℕ) (problem : Problem) (before after : Option Files)
+pub record IsUnsaid (sense : Sense) (lock cert : List ℕ) (problem : Problem) (before after : Option Files)
     (out_before out_after : Option (List ℕ)) : Type 0 where
   pub answer : Answer
-  pub found : IsFor problem answer
+  pub found : sense.answers problem answer
   pub files : after ≡ files_with lock cert problem answer before
   pub out : SaysPart out_before out_after (text_of problem answer)
 
 -- at any end, each file is as it was, or holds its text
-pub record HasWhole (lock cert : List ℕ) (problem : Problem) (before after : Option Files) : Type 0 where
+pub record HasWhole (sense : Sense) (lock cert : List ℕ) (problem : Problem) (before after : Option Files) : Type 0 where
   pub answer : Answer
-  pub found : IsFor problem answer
+  pub found : sense.answers problem answer
   pub held : HoldsWhole lock cert problem answer before after
 
 -- ---- what writing leaves, by the task: all but `concretize` put no file
 
 -- what was asked for is done
-abbrev pub IsFinished : List ℕ → List ℕ → Task → Option Files → Option Files → Option (List ℕ) → Option (List ℕ) → Type 0
-IsFinished lock cert (tasks.Solve input) before after out_before out_after =
-    IsSolved lock cert input.problem before after out_before out_after
-IsFinished lock cert task before after out_before out_after = IsTold task outcomes.Solved before after out_before out_after
+abbrev pub IsFinished : Sense → List ℕ → List ℕ → Task → Option Files → Option Files → Option (List ℕ) → Option (List ℕ) → Type 0
+IsFinished sense lock cert (tasks.Solve input) before after out_before out_after =
+    IsSolved sense lock cert input.problem before after out_before out_after
+IsFinished sense lock cert task before after out_before out_after = IsTold sense task outcomes.Solved before after out_before out_after
 
 -- there is no graph
-abbrev pub HasNone : List ℕ → Task → Option Files → Option Files → Option (List ℕ) → Option (List ℕ) → Type 0
-HasNone cert (tasks.Solve input) before after out_before out_after = IsUnsolved cert input.problem before after out_before out_after
-HasNone cert task before after out_before out_after = IsTold task outcomes.Unsolved before after out_before out_after
+abbrev pub HasNone : Sense → List ℕ → Task → Option Files → Option Files → Option (List ℕ) → Option (List ℕ) → Type 0
+HasNone sense cert (tasks.Solve input) before after out_before out_after = IsUnsolved sense cert input.problem before after out_before out_after
+HasNone sense cert task before after out_before out_after = IsTold sense task outcomes.Unsolved before after out_before out_after
 
 -- the budget was spent
-abbrev pub HasSpent : List ℕ → Task → Option Files → Option Files → Option (List ℕ) → Option (List ℕ) → Type 0
-HasSpent cert (tasks.Solve input) before after out_before out_after = IsUndecided cert input.problem before after out_before out_after
-HasSpent cert task before after out_before out_after = IsTold task outcomes.Undecided before after out_before out_after
+abbrev pub HasSpent : Sense → List ℕ → Task → Option Files → Option Files → Option (List ℕ) → Option (List ℕ) → Type 0
+HasSpent sense cert (tasks.Solve input) before after out_before out_after = IsUndecided sense cert input.problem before after out_before out_after
+HasSpent sense cert task before after out_before out_after = IsTold sense task outcomes.Undecided before after out_before out_after
 
 -- a put at the path failed
-abbrev pub IsHalfDone : List ℕ → List ℕ → Task → List ℕ → Option Files → Option Files → Type 0
-IsHalfDone lock cert (tasks.Solve input) path before after = HasHalfPut lock cert input.problem path before after
-IsHalfDone lock cert task path before after = ⊥
+abbrev pub IsHalfDone : Sense → List ℕ → List ℕ → Task → List ℕ → Option Files → Option Files → Type 0
+IsHalfDone sense lock cert (tasks.Solve input) path before after = HasHalfPut sense lock cert input.problem path before after
+IsHalfDone sense lock cert task path before after = ⊥
 
 -- the sink failed
-abbrev pub IsUntold : List ℕ → List ℕ → Task → Option Files → Option Files → Option (List ℕ) → Option (List ℕ) → Type 0
-IsUntold lock cert (tasks.Solve input) before after out_before out_after =
-    IsUnsaid lock cert input.problem before after out_before out_after
-IsUntold lock cert task before after out_before out_after = IsHalfTold task before after out_before out_after
+abbrev pub IsUntold : Sense → List ℕ → List ℕ → Task → Option Files → Option Files → Option (List ℕ) → Option (List ℕ) → Type 0
+IsUntold sense lock cert (tasks.Solve input) before after out_before out_after =
+    IsUnsaid sense lock cert input.problem before after out_before out_after
+IsUntold sense lock cert task before after out_before out_after = IsHalfTold sense task before after out_before out_after
 
 -- what writing leaves
-abbrev pub Writes : List ℕ → List ℕ → Task → Option Files → Option Files → Option (List ℕ) → Option (List ℕ)
+abbrev pub Writes : Sense → List ℕ → List ℕ → Task → Option Files → Option Files → Option (List ℕ) → Option (List ℕ)
     → Result Outcome WriteStop → Type 0
-Writes lock cert task before after out_before out_after (Ok outcomes.Solved) = IsFinished lock cert task before after out_before out_after
-Writes lock cert task before after out_before out_after (Ok outcomes.Unsolved) = HasNone cert task before after out_before out_after
-Writes lock cert task before after out_before out_after (Ok outcomes.Undecided) = HasSpent cert task before after out_before out_after
-Writes lock cert task before after out_before out_after (Err (writes.Put at)) =
-    IsHalfDone lock cert task at before after × (out_after ≡ out_before)
-Writes lock cert task before after out_before out_after (Err writes.Output) = IsUntold lock cert task before after out_before out_after
-Writes lock cert task before after out_before out_after (Err writes.NoMemory) = out_after ≡ out_before
+Writes sense lock cert task before after out_before out_after (Ok outcomes.Solved) = IsFinished sense lock cert task before after out_before out_after
+Writes sense lock cert task before after out_before out_after (Ok outcomes.Unsolved) = HasNone sense cert task before after out_before out_after
+Writes sense lock cert task before after out_before out_after (Ok outcomes.Undecided) = HasSpent sense cert task before after out_before out_after
+Writes sense lock cert task before after out_before out_after (Err (writes.Put at)) =
+    IsHalfDone sense lock cert task at before after × (out_after ≡ out_before)
+Writes sense lock cert task before after out_before out_after (Err writes.Output) = IsUntold sense lock cert task before after out_before out_after
+Writes sense lock cert task before after out_before out_after (Err writes.NoMemory) = out_after ≡ out_before
 
 -- files were put
-abbrev pub KeepsWhole : List ℕ → List ℕ → Task → Option Files → Option Files → Type 0
-KeepsWhole lock cert (tasks.Solve input) before after = HasWhole lock cert input.problem before after
-KeepsWhole lock cert task before after = ⊥
+abbrev pub KeepsWhole : Sense → List ℕ → List ℕ → Task → Option Files → Option Files → Type 0
+KeepsWhole sense lock cert (tasks.Solve input) before after = HasWhole sense lock cert input.problem before after
+KeepsWhole sense lock cert task before after = ⊥

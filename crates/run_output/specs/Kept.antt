@@ -10,7 +10,8 @@ use Rattle.run_task.specs.WriteStop.TheVariants as writes
 use Rattle.run_task.specs.declared.task.Task.{Task}
 use Rattle.run_task.specs.declared.task.Task.TheVariants as tasks
 use Rattle.run_output.specs.Answers.{files_with}
-use Rattle.run_output.specs.Texts.{IsFor, outcome_of}
+use Rattle.run_output.specs.Evidence.{IsFor}
+use Rattle.run_output.specs.Texts.{outcome_of}
 use Rattle.run_output.specs.declared.answer.Outcome.{Outcome}
 
 -- these are the lines of the log of an answer of the problem

@@ -1,3 +1,5 @@
+pub mod Senses
+pub mod Evidence
 pub mod Report
 pub mod Texts
 pub mod Told
@@ -21,6 +23,8 @@ pub use Rattle.run_task.specs.Orders
 pub use Rattle.run_task.specs.Work
 pub use Rattle.run_task.specs.Input
 pub use Rattle.run_task.specs.Roots
+pub use Rattle.run_task.specs.CertificateVerdicts
+pub use Rattle.run_task.specs.Certificates
 pub use Rattle.run_task.specs.Tasks
 pub use Rattle.run_task.specs.Shown
 pub use Rattle.run_task.specs.declared.task.Task

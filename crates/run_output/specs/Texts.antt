@@ -6,7 +6,6 @@ use Rattle.proof_log.specs.declared.line.Line.{Line}
 use Rattle.proof_log.specs.declared.line.Line.TheVariants.{Learnt}
 use Rattle.run_task.specs.Problems.{Problem}
 use Rattle.run_task.specs.Costs.{vector}
-use Rattle.run_task.specs.Answers.{IsAnswer}
 use Rattle.run_task.specs.Answer.{Answer}
 use Rattle.run_task.specs.Answer.TheVariants as answers
 use Rattle.run_task.specs.Explanation.{Explanation}
@@ -17,10 +16,6 @@ use Rattle.run_output.specs.declared.answer.Outcome.{Outcome}
 use Rattle.run_output.specs.declared.answer.Outcome.TheVariants as outcomes
 
 -- ---- the answer of a problem
-
--- the answer means what it says within the budget of the settings, and its log shows it over clauses of the problem
-abbrev pub IsFor : Problem → Answer → Type 0
-IsFor problem answer = IsAnswer problem problem.settings.conflict_budget answer
 
 unfoldable pub unsatisfiable_line : List ℕ
 unsatisfiable_line = codes "unsatisfiable\n"

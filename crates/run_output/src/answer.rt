@@ -7,6 +7,7 @@ ghost use Rattle.run_task.specs.Stops.{EndsInPutFault, EndsInOutputFault};
 ghost use Rattle.run_task.specs.Tasks.{IsReady};
 ghost use Rattle.run_task.specs.declared.task.Task.TheVariants as tasks;
 ghost use Rattle.run_output.specs.Answers.{KeepsWhole, Writes};
+ghost use Rattle.run_output.specs.Evidence.{evidence};
 ghost use Rattle.run_output.specs.Kept.{KeepsAny};
 ghost use Rattle.run_output.specs.Told.{Tells};
 
@@ -43,10 +44,10 @@ fn write_best<D: Desk, O: Sink, P: Progress>(
 ) -> Result<Outcome, WriteStop>
     requires ready { IsReady (tasks.Solve input.now) }
     requires empty { kept.old ≡ [] }
-    ensures left { Writes lock.now cert.now (tasks.Solve input.now) (D.files desk.old)
+    ensures left { Writes evidence lock.now cert.now (tasks.Solve input.now) (D.files desk.old)
         (D.files desk.new) (O.said out.old) (O.said out.new) result }
     ensures held { (D.files desk.new ≡ D.files desk.old)
-        ⊎ KeepsWhole lock.now cert.now (tasks.Solve input.now) (D.files desk.old)
+        ⊎ KeepsWhole evidence lock.now cert.now (tasks.Solve input.now) (D.files desk.old)
         (D.files desk.new) }
     ensures faults { D.faults desk.new ≡ D.faults desk.old }
     ensures put { Counts (D.put_faults desk.old) (D.put_faults desk.new) (EndsInPutFault result) }
@@ -65,9 +66,9 @@ fn write_best<D: Desk, O: Sink, P: Progress>(
 /// Says what is said of a task that puts no file.
 #[tactic(auto, using(crate::proofs::Tellings::told_writes, crate::proofs::Tellings::told_stops))]
 fn tell<O: Sink>(alloc: Global, _task: &Task, said: Said, out: &mut O) -> Result<Outcome, WriteStop>
-    requires { Tells _task.now said.outcome said.text.items }
+    requires { Tells evidence _task.now said.outcome said.text.items }
     ensures left { (lock cert : List ℕ) (files : Option Files)
-        → Writes lock cert _task.now files files (O.said out.old) (O.said out.new) result }
+        → Writes evidence lock cert _task.now files files (O.said out.old) (O.said out.new) result }
     ensures cause { Counts (O.faults out.old) (O.faults out.new) (EndsInOutputFault result) }
     ensures steady { OnOk result (O.faults out.new ≡ O.faults out.old) }
     ensures no_put { EndsInPutFault result → ⊥ }
@@ -92,10 +93,10 @@ pub fn write_answer<D: Desk, O: Sink, P: Progress>(
 ) -> Result<Outcome, WriteStop>
     requires ready { IsReady task.now }
     requires empty { kept.old ≡ [] }
-    ensures left { Writes lock.now cert.now task.now (D.files desk.old) (D.files desk.new)
+    ensures left { Writes evidence lock.now cert.now task.now (D.files desk.old) (D.files desk.new)
         (O.said out.old) (O.said out.new) result }
     ensures held { (D.files desk.new ≡ D.files desk.old)
-        ⊎ KeepsWhole lock.now cert.now task.now (D.files desk.old) (D.files desk.new) }
+        ⊎ KeepsWhole evidence lock.now cert.now task.now (D.files desk.old) (D.files desk.new) }
     ensures faults { D.faults desk.new ≡ D.faults desk.old }
     ensures put { Counts (D.put_faults desk.old) (D.put_faults desk.new) (EndsInPutFault result) }
     ensures said { Counts (O.faults out.old) (O.faults out.new) (EndsInOutputFault result) }

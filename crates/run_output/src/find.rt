@@ -3,7 +3,8 @@
 ghost use Rattle.std.specs.Prelude.{◌≡◌, IfOk};
 ghost use Rattle.run_task.specs.Answers as answers;
 ghost use Rattle.run_task.specs.Tasks.{IsReadyInput};
-ghost use Rattle.run_output.specs.Texts.{IsFor, outcome_of};
+ghost use Rattle.run_output.specs.Evidence.{IsFor};
+ghost use Rattle.run_output.specs.Texts.{outcome_of};
 
 use crate::answer::Outcome;
 use crate::told::budget_of;

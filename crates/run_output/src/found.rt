@@ -7,7 +7,8 @@ ghost use Rattle.spec_grammar.specs.Canonical.{spec_text};
 ghost use Rattle.run_task.specs.Answer.TheVariants as answers;
 ghost use Rattle.run_task.specs.Stops.{EndsInPutFault, EndsInOutputFault};
 ghost use Rattle.run_output.specs.Answers.{HoldsWhole, Leaves, PutsAnswer};
-ghost use Rattle.run_output.specs.Texts.{IsFor, outcome_of};
+ghost use Rattle.run_output.specs.Evidence.{IsFor};
+ghost use Rattle.run_output.specs.Texts.{outcome_of};
 
 use crate::answer::Outcome;
 use crate::find::outcome_of;

@@ -5,6 +5,7 @@ ghost use Rattle.run_task.specs.Tasks.{IsReadyInput};
 ghost use Rattle.run_task.specs.declared.task.Task.TheVariants as tasks;
 ghost use Rattle.proof_log.specs.Lines.{learnt_in};
 ghost use Rattle.run_task.specs.Answer.TheVariants as best;
+ghost use Rattle.run_output.specs.Evidence.{evidence};
 ghost use Rattle.run_output.specs.Kept.{IsLogTo};
 ghost use Rattle.run_output.specs.Texts as texts;
 ghost use Rattle.run_output.specs.Told.{Tells};
@@ -29,7 +30,7 @@ pub struct Said {
 
 /// Of a lock file whose graph is valid.
 pub fn of_verdict(alloc: Global, numbers: &[u64]) -> Result<Said, AllocError>
-    ensures { IfOk result (λ said. Tells (tasks.Report numbers.now) said.outcome said.text.items) }
+    ensures { IfOk result (λ said. Tells evidence (tasks.Report numbers.now) said.outcome said.text.items) }
 {
     Ok(Said {
         text: verdict_text(alloc, numbers)?,
@@ -46,7 +47,7 @@ fn accepted_text(alloc: Global) -> Result<Vec<u8>, AllocError>
 
 /// Of a certificate that is right.
 pub fn of_certificate(alloc: Global) -> Result<Said, AllocError>
-    ensures { IfOk result (λ said. Tells tasks.Accepted said.outcome said.text.items) }
+    ensures { IfOk result (λ said. Tells evidence tasks.Accepted said.outcome said.text.items) }
 {
     Ok(Said {
         text: accepted_text(alloc)?,
@@ -95,7 +96,7 @@ pub fn of_reasons<P: Progress>(
     progress: &mut P,
 ) -> Result<Said, AllocError>
     requires { IsReadyInput input.now }
-    ensures { IfOk result (λ said. Tells (tasks.Explain input.now) said.outcome said.text.items) }
+    ensures { IfOk result (λ said. Tells evidence (tasks.Explain input.now) said.outcome said.text.items) }
 {
     let problem = &input.problem;
     let budget = budget_of(problem);
@@ -187,7 +188,7 @@ pub fn of_trial<P: Progress>(
 ) -> Result<Said, AllocError>
     requires ready { IsReadyInput input.now }
     requires empty { kept.old ≡ [] }
-    ensures said { IfOk result (λ said. Tells (tasks.Try input.now) said.outcome said.text.items) }
+    ensures said { IfOk result (λ said. Tells evidence (tasks.Try input.now) said.outcome said.text.items) }
     ensures kept { IfOk result (λ said. IsLogTo input.now.problem said.outcome kept.new) }
     ensures short { OnErr result (kept.new ≡ []) }
 {

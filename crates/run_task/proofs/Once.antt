@@ -11,33 +11,33 @@ use Rattle.run_input.specs.Work.TheVariants as works
 use Rattle.run_input.specs.Inputs.{Reads}
 use Rattle.run_input.specs.declared.input.Input.{Input}
 use Rattle.run_verdict.specs.Verdicts.{Judges}
-use Rattle.run_certificate.specs.Certificates.{certified_at}
+use Rattle.run_certificate.specs.Certificates.{certified_at, log_verdict}
 use Rattle.run_task.specs.Tasks.{AcceptanceOf, TaskBy, Named, Poses, files_for}
 use Rattle.run_task.specs.declared.task.Task.TheVariants as tasks
 
 abbrev OneVerdict : Type 0
 OneVerdict = (files : Files) (path : List ℕ) (problem : Problem) → IsOne (Judges files path problem)
 
-one_acceptance : (files : Files) (cert : List ℕ) (problem : Problem) (numbers : Option (List ℕ)) → IsOne (AcceptanceOf files cert problem numbers)
+one_acceptance : (files : Files) (cert : List ℕ) (problem : Problem) (numbers : Option (List ℕ)) → IsOne (AcceptanceOf log_verdict files cert problem numbers)
 one_acceptance files cert problem numbers =
     one_then (Is (certified_at files cert problem numbers)) (λ done. Is (Ok tasks.Accepted)) (one_is (certified_at files cert problem numbers))
     (λ done. one_is (Ok tasks.Accepted))
 
-one_by : OneVerdict → (work : Work) (files : Files) (command : Command) (input : Input) → IsOne (TaskBy work files command input)
+one_by : OneVerdict → (work : Work) (files : Files) (command : Command) (input : Input) → IsOne (TaskBy log_verdict work files command input)
 one_by one_verdict works.Concretize files command input = one_is (Ok (tasks.Solve input))
 one_by one_verdict works.Judge files command input =
     one_then (Judges files command.lock input.problem) (λ numbers. Is (Ok (tasks.Report numbers)))
     (one_verdict files command.lock input.problem) (λ numbers. one_is (Ok (tasks.Report numbers)))
 one_by one_verdict works.Check files command input =
-    one_then (Judges files command.lock input.problem) (λ numbers. AcceptanceOf files command.cert input.problem (Some numbers))
+    one_then (Judges files command.lock input.problem) (λ numbers. AcceptanceOf log_verdict files command.cert input.problem (Some numbers))
     (one_verdict files command.lock input.problem) (λ numbers. one_acceptance files command.cert input.problem (Some numbers))
 one_by one_verdict works.Refute files command input = one_acceptance files command.cert input.problem None
 one_by one_verdict works.Explain files command input = one_is (Ok (tasks.Explain input))
 one_by one_verdict (works.Trial packages seed) files command input = one_is (Ok (tasks.Try input))
 
 pub one_posed : ((files : Files) (command : Command) → IsOne (Reads files command)) → OneVerdict → (files : Files) (words : List (List ℕ))
-    → IsOne (Poses files words)
+    → IsOne (Poses log_verdict files words)
 one_posed one_read one_verdict files words =
-    one_then (Is (command_in words)) (Named files) (one_is (command_in words))
+    one_then (Is (command_in words)) (Named log_verdict files) (one_is (command_in words))
     (λ command. let over = files_for command.work files in
-    one_then (Reads over command) (TaskBy command.work over command) (one_read over command) (one_by one_verdict command.work over command))
+    one_then (Reads over command) (TaskBy log_verdict command.work over command) (one_read over command) (one_by one_verdict command.work over command))

@@ -12,7 +12,7 @@ use Rattle.run_input.specs.Work.TheVariants as works
 use Rattle.run_input.specs.declared.input.Input.{Input}
 use Rattle.run_verdict.specs.Problems.{Problem}
 use Rattle.run_verdict.specs.Verdicts.{IsValidLock, Judges}
-use Rattle.run_certificate.specs.Certificates.{ShowsOf, certified_at}
+use Rattle.run_certificate.specs.Certificates.{ShowsOf, certified_at, log_verdict}
 use Rattle.trial_input.specs.Inputs.{input_files}
 use Rattle.run_task.specs.Shown.{IsBestLock, IsShown, IsShownOver}
 use Rattle.run_task.specs.Tasks.{
@@ -40,7 +40,7 @@ judged_stop (Some files) path problem stop read = then_stop (Judges files path p
 
 pub certified_stop : (before : Option Files) (path : List ℕ) (problem : Problem) (numbers : Option (List ℕ)) (stop : ReadStop)
     → IfSome before (λ files. Gives {T = Unit {0}} (Err stop) (Is (certified_at files path problem numbers)))
-    → IfSome before (λ files. Gives {T = Task} (Err stop) (AcceptanceOf files path problem numbers))
+    → IfSome before (λ files. Gives {T = Task} (Err stop) (AcceptanceOf log_verdict files path problem numbers))
 certified_stop None path problem numbers stop read = tt
 certified_stop (Some files) path problem numbers stop read =
     then_stop (Is (certified_at files path problem numbers)) (λ done. Is (Ok tasks.Accepted)) stop read
@@ -49,31 +49,31 @@ certified_stop (Some files) path problem numbers stop read =
 
 module _ (before : Option Files) (command : Command) (input : Input) (result : Result Task ReadStop) where
   -- what the work gives is what the command's work gives
-  by_work : (work : Work) → command.work ≡ work → IfSome before (λ files. Gives result (TaskBy work files command input))
-      → IfSome before (λ files. Gives result (TaskBy command.work files command input))
-  by_work work same read = subst (λ (w : Work). IfSome before (λ files. Gives result (TaskBy w files command input))) (sym same) read
+  by_work : (work : Work) → command.work ≡ work → IfSome before (λ files. Gives result (TaskBy log_verdict work files command input))
+      → IfSome before (λ files. Gives result (TaskBy log_verdict command.work files command input))
+  by_work work same read = subst (λ (w : Work). IfSome before (λ files. Gives result (TaskBy log_verdict w files command input))) (sym same) read
 
   pub judged : (lock : List ℕ) → command.work ≡ works.Judge → lock ≡ command.lock
       → IfSome before (λ files. Gives result (ReportOf files lock input.problem))
-      → IfSome before (λ files. Gives result (TaskBy command.work files command input))
+      → IfSome before (λ files. Gives result (TaskBy log_verdict command.work files command input))
   judged lock work same read =
       by_work works.Judge work
       (subst (λ (p : List ℕ). IfSome before (λ files. Gives result (ReportOf files p input.problem))) same read)
 
   pub checked : (lock cert : List ℕ) → command.work ≡ works.Check → lock ≡ command.lock → cert ≡ command.cert
-      → IfSome before (λ files. Gives result (CheckOf files lock cert input.problem))
-      → IfSome before (λ files. Gives result (TaskBy command.work files command input))
+      → IfSome before (λ files. Gives result (CheckOf log_verdict files lock cert input.problem))
+      → IfSome before (λ files. Gives result (TaskBy log_verdict command.work files command input))
   checked lock cert work same too read =
       by_work works.Check work
-      (subst (λ (p : List ℕ). IfSome before (λ files. Gives result (CheckOf files command.lock p input.problem))) too
-      (subst (λ (p : List ℕ). IfSome before (λ files. Gives result (CheckOf files p cert input.problem))) same read))
+      (subst (λ (p : List ℕ). IfSome before (λ files. Gives result (CheckOf log_verdict files command.lock p input.problem))) too
+      (subst (λ (p : List ℕ). IfSome before (λ files. Gives result (CheckOf log_verdict files p cert input.problem))) same read))
 
   pub refuted : (cert : List ℕ) → command.work ≡ works.Refute → cert ≡ command.cert
-      → IfSome before (λ files. Gives result (AcceptanceOf files cert input.problem None))
-      → IfSome before (λ files. Gives result (TaskBy command.work files command input))
+      → IfSome before (λ files. Gives result (AcceptanceOf log_verdict files cert input.problem None))
+      → IfSome before (λ files. Gives result (TaskBy log_verdict command.work files command input))
   refuted cert work same read =
       by_work works.Refute work
-      (subst (λ (p : List ℕ). IfSome before (λ files. Gives result (AcceptanceOf files p input.problem None))) same read)
+      (subst (λ (p : List ℕ). IfSome before (λ files. Gives result (AcceptanceOf log_verdict files p input.problem None))) same read)
 
 -- ---- which task it is
 
@@ -175,21 +175,21 @@ module _ (command : Command) where
   there_shown before (Err stop) made shown = tt
 
 module _ (command : Command) (result : Result Task ReadStop) where
-  pub over_made : (before : Option Files) (files : Files) → before ≡ Some files → IfSome before (λ f. Gives result (Over f command))
-      → Gives result (Over files command)
-  over_made before files same read = subst (λ (b : Option Files). IfSome b (λ f. Gives result (Over f command))) same read
+  pub over_made : (before : Option Files) (files : Files) → before ≡ Some files → IfSome before (λ f. Gives result (Over log_verdict f command))
+      → Gives result (Over log_verdict files command)
+  over_made before files same read = subst (λ (b : Option Files). IfSome b (λ f. Gives result (Over log_verdict f command))) same read
 
   pub named_made : (before : Option Files) (packages seed : ℕ) → made_for command.work ≡ Some (packages, seed)
-      → Gives result (Over (input_files packages seed) command) → IfSome before (λ files. Gives result (Named files command))
+      → Gives result (Over log_verdict (input_files packages seed) command) → IfSome before (λ files. Gives result (Named log_verdict files command))
   named_made None packages seed made read = tt
   named_made (Some files) packages seed made read =
-      subst (λ (m : Option (ℕ × ℕ)). Gives result (Over (files_by m files) command)) (sym made) read
+      subst (λ (m : Option (ℕ × ℕ)). Gives result (Over log_verdict (files_by m files) command)) (sym made) read
 
-  pub named_there : (before : Option Files) → made_for command.work ≡ None → IfSome before (λ files. Gives result (Over files command))
-      → IfSome before (λ files. Gives result (Named files command))
+  pub named_there : (before : Option Files) → made_for command.work ≡ None → IfSome before (λ files. Gives result (Over log_verdict files command))
+      → IfSome before (λ files. Gives result (Named log_verdict files command))
   named_there None made read = tt
   named_there (Some files) made read =
-      subst (λ (m : Option (ℕ × ℕ)). Gives result (Over (files_by m files) command)) (sym made) read
+      subst (λ (m : Option (ℕ × ℕ)). Gives result (Over log_verdict (files_by m files) command)) (sym made) read
 
   pub shown_made : (before : Option Files) (packages seed : ℕ) → made_for command.work ≡ Some (packages, seed)
       → OnOk result (IsShownOver (input_files packages seed) command) → OnOk result (IfSome before (λ files. IsShown files command))

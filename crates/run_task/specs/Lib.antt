@@ -21,7 +21,10 @@ pub use Rattle.run_input.specs.declared.input.Input
 pub use Rattle.run_verdict.specs.Problems
 pub use Rattle.run_verdict.specs.Costs
 pub use Rattle.run_input.specs.Closures
+pub use Rattle.run_certificate.specs.CertificateVerdicts
 pub use Rattle.run_certificate.specs.Explanations
+pub use Rattle.run_certificate.specs.Certificates
+pub use Rattle.run_certificate.specs.Grounds
 pub use Rattle.run_certificate.specs.Explanation
 pub use Rattle.run_certificate.specs.Answers
 pub use Rattle.run_certificate.specs.Answer

@@ -15,7 +15,7 @@ use Rattle.run_input.specs.Inputs.{Reads, IsInputPath, IsPosed}
 use Rattle.run_input.specs.declared.input.Input.{Input}
 use Rattle.run_verdict.specs.Problems.{Problem}
 use Rattle.run_verdict.specs.Verdicts.{Judges}
-use Rattle.run_certificate.specs.Certificates.{certified_at}
+use Rattle.run_certificate.specs.CertificateVerdicts.{CertificateVerdicts}
 use Rattle.trial_input.specs.Inputs.{input_files}
 use Rattle.run_task.specs.declared.task.Task.{Task}
 use Rattle.run_task.specs.declared.task.Task.TheVariants as tasks
@@ -41,35 +41,36 @@ files_for work files = files_by (made_for work) files
 abbrev pub ReportOf : Files → List ℕ → Problem → Result Task Refusal → Type 0
 ReportOf files lock problem = Then (Judges files lock problem) (λ numbers. Is (Ok (tasks.Report numbers)))
 
--- what is said of the certificate at the path, as a task: of a graph with these costs, or of none
-abbrev pub AcceptanceOf : Files → List ℕ → Problem → Option (List ℕ) → Result Task Refusal → Type 0
-AcceptanceOf files cert problem numbers = Then (Is (certified_at files cert problem numbers)) (λ done. Is (Ok tasks.Accepted))
+module _ (verdicts : CertificateVerdicts) where
+  -- what is said of the certificate at the path, as a task: of a graph with these costs, or of none
+  abbrev pub AcceptanceOf : Files → List ℕ → Problem → Option (List ℕ) → Result Task Refusal → Type 0
+  AcceptanceOf files cert problem numbers = Then (verdicts files cert problem numbers) (λ done. Is (Ok tasks.Accepted))
 
--- the lock file's graph first, and then its certificate
-abbrev pub CheckOf : Files → List ℕ → List ℕ → Problem → Result Task Refusal → Type 0
-CheckOf files lock cert problem = Then (Judges files lock problem) (λ numbers. AcceptanceOf files cert problem (Some numbers))
+  -- the lock file's graph first, and then its certificate
+  abbrev pub CheckOf : Files → List ℕ → List ℕ → Problem → Result Task Refusal → Type 0
+  CheckOf files lock cert problem = Then (Judges files lock problem) (λ numbers. AcceptanceOf files cert problem (Some numbers))
 
--- a command's own work over what was read: `concretize`, `explain` and `trial` have a problem to solve, `judge` says what is
--- said of the lock file, `check` and `refute` of the certificate
-abbrev pub TaskBy : Work → Files → Command → Input → Result Task Refusal → Type 0
-TaskBy works.Concretize files command input = Is (Ok (tasks.Solve input))
-TaskBy works.Judge files command input = ReportOf files command.lock input.problem
-TaskBy works.Check files command input = CheckOf files command.lock command.cert input.problem
-TaskBy works.Refute files command input = AcceptanceOf files command.cert input.problem None
-TaskBy works.Explain files command input = Is (Ok (tasks.Explain input))
-TaskBy (works.Trial packages seed) files command input = Is (Ok (tasks.Try input))
+  -- a command's own work over what was read: `concretize`, `explain` and `trial` have a problem to solve, `judge` says what is
+  -- said of the lock file, `check` and `refute` of the certificate
+  abbrev pub TaskBy : Work → Files → Command → Input → Result Task Refusal → Type 0
+  TaskBy works.Concretize files command input = Is (Ok (tasks.Solve input))
+  TaskBy works.Judge files command input = ReportOf files command.lock input.problem
+  TaskBy works.Check files command input = CheckOf files command.lock command.cert input.problem
+  TaskBy works.Refute files command input = AcceptanceOf files command.cert input.problem None
+  TaskBy works.Explain files command input = Is (Ok (tasks.Explain input))
+  TaskBy (works.Trial packages seed) files command input = Is (Ok (tasks.Try input))
 
--- what is read over these files is one for all commands, and then comes the command's own work
-abbrev pub Over : Files → Command → Result Task Refusal → Type 0
-Over files command = Then (Reads files command) (TaskBy command.work files command)
+  -- what is read over these files is one for all commands, and then comes the command's own work
+  abbrev pub Over : Files → Command → Result Task Refusal → Type 0
+  Over files command = Then (Reads files command) (TaskBy command.work files command)
 
--- the task of a command over the files
-abbrev pub Named : Files → Command → Result Task Refusal → Type 0
-Named files command = Over (files_for command.work files) command
+  -- the task of a command over the files
+  abbrev pub Named : Files → Command → Result Task Refusal → Type 0
+  Named files command = Over (files_for command.work files) command
 
--- the task of the words over the files
-abbrev pub Poses : Files → List (List ℕ) → Result Task Refusal → Type 0
-Poses files words = Then (Is (command_in words)) (Named files)
+  -- the task of the words over the files
+  abbrev pub Poses : Files → List (List ℕ) → Result Task Refusal → Type 0
+  Poses files words = Then (Is (command_in words)) (Named files)
 
 -- the task is of this work
 abbrev pub IsOf : Work → Task → Type 0

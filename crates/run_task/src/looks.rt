@@ -5,7 +5,7 @@ ghost use Rattle.std.specs.Option.{option_map};
 ghost use Rattle.outside_desk.specs.Causes.{Counts};
 ghost use Rattle.run_input.specs.Inputs.{IsPosed};
 ghost use Rattle.run_input.specs.Stops.{Gives, EndsByInput, EndsInReadFault, EndsInUsage};
-ghost use Rattle.run_certificate.specs.Certificates.{ShowsOf};
+ghost use Rattle.run_certificate.specs.Certificates.{ShowsOf, log_verdict};
 ghost use Rattle.run_task.specs.Shown.{IsBestLock};
 ghost use Rattle.run_task.specs.Tasks.{AcceptanceOf, CheckOf, ReportOf, IsReportTask, IsYes, FailsAtEither};
 
@@ -53,7 +53,7 @@ pub(crate) fn read_acceptance<R: Threads + Sync, D: Desk>(
 ) -> Result<Task, ReadStop>
     requires { IsPosed input.now }
     ensures read { IfSome (D.files desk.old)
-        (λ files. Gives result (AcceptanceOf files cert.now input.now.problem
+        (λ files. Gives result (AcceptanceOf log_verdict files cert.now input.now.problem
         (option_map (λ n. n.now) numbers.entry))) }
     ensures shown { OnOk result (IfSome (D.files desk.old)
         (λ files. ShowsOf input.now.problem (option_map (λ n. n.now) numbers.entry))) }
@@ -90,7 +90,7 @@ pub(crate) fn read_check<R: Threads + Sync, D: Desk>(
 ) -> Result<Task, ReadStop>
     requires { IsPosed input.now }
     ensures read { IfSome (D.files desk.old)
-        (λ files. Gives result (CheckOf files lock.now cert.now input.now.problem)) }
+        (λ files. Gives result (CheckOf log_verdict files lock.now cert.now input.now.problem)) }
     ensures shown { OnOk result (IfSome (D.files desk.old)
         (λ files. IsBestLock files lock.now input.now.problem)) }
     ensures yes { IfOk result IsYes }

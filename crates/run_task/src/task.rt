@@ -8,6 +8,7 @@ ghost use Rattle.spec_grammar.specs.Canonical.{spec_text};
 ghost use Rattle.spec_grammar.specs.declared.part.Spec.{Spec};
 ghost use Rattle.run_input.specs.Stops.{Gives, EndsByInput, EndsInReadFault, EndsInUsage};
 ghost use Rattle.run_input.specs.Roots.{RootsOf};
+ghost use Rattle.run_certificate.specs.Certificates.{log_verdict};
 ghost use Rattle.trial_input.specs.Inputs.{input_files};
 ghost use Rattle.run_task.specs.Shown.{IsShown, IsShownOver, ShownBy};
 ghost use Rattle.run_task.specs.Tasks.{TaskBy, Over, Named, IsOf, IsReady, FailsAtTask, made_for};
@@ -46,7 +47,7 @@ fn task_by<R: Threads + Sync, D: Desk>(
     requires texts { All (λ spec. IsUtf8 (spec_text spec)) input.problem.roots }
     requires posed { IsPosed input }
     ensures read { IfSome (D.files desk.old)
-        (λ files. Gives result (TaskBy command.now.work files command.now input)) }
+        (λ files. Gives result (TaskBy log_verdict command.now.work files command.now input)) }
     ensures shown { OnOk result (IfSome (D.files desk.old)
         (λ files. ShownBy command.now.work files command.now input.problem)) }
     ensures work { IfOk result (λ task. IsOf command.now.work task) }
@@ -88,7 +89,7 @@ fn read_over<R: Threads + Sync, D: Desk>(
     desk: &mut D,
     command: &Command<'_>,
 ) -> Result<Task, ReadStop>
-    ensures read { IfSome (D.files desk.old) (λ files. Gives result (Over files command.now)) }
+    ensures read { IfSome (D.files desk.old) (λ files. Gives result (Over log_verdict files command.now)) }
     ensures shown { OnOk result (IfSome (D.files desk.old)
         (λ files. IsShownOver files command.now)) }
     ensures work { IfOk result (λ task. IsOf command.now.work task) }
@@ -126,7 +127,7 @@ fn read_made<R: Threads + Sync>(
     packages: u64,
     seed: u64,
 ) -> Result<Task, ReadStop>
-    ensures read { Gives result (Over (input_files packages seed) command.now) }
+    ensures read { Gives result (Over log_verdict (input_files packages seed) command.now) }
     ensures shown { OnOk result (IsShownOver (input_files packages seed) command.now) }
     ensures work { IfOk result (λ task. IsOf command.now.work task) }
     ensures ready { IfOk result (λ task. IsReady task) }
@@ -153,7 +154,7 @@ pub fn read_task<R: Threads + Sync, D: Desk>(
     desk: &mut D,
     command: &Command<'_>,
 ) -> Result<Task, ReadStop>
-    ensures read { IfSome (D.files desk.old) (λ files. Gives result (Named files command.now)) }
+    ensures read { IfSome (D.files desk.old) (λ files. Gives result (Named log_verdict files command.now)) }
     ensures shown { OnOk result (IfSome (D.files desk.old)
         (λ files. IsShown files command.now)) }
     ensures work { IfOk result (λ task. IsOf command.now.work task) }

@@ -1,0 +1,26 @@
+-- In which sense an answer is one of the problem: by what it means, or besides by the log that shows it (`Evidence.antt`).
+--
+-- What is said of a run stands for either sense.
+use Rattle.run_task.specs.Problems.{Problem}
+use Rattle.run_task.specs.Answers.{Means}
+use Rattle.run_task.specs.Answer.{Answer}
+use Rattle.run_task.specs.CertificateVerdicts.{CertificateVerdicts, any_verdict}
+use Rattle.run_task.specs.Explanations.{Explains}
+use Rattle.run_task.specs.Explanation.{Explanation}
+
+pub record Sense : Type 1 where
+  -- which answers a problem has
+  pub answers : Problem → Answer → Type 0
+  -- which explanations it has
+  pub explains : Problem → Explanation → Type 0
+  -- and what is said of certificates that are read
+  pub verdicts : CertificateVerdicts
+
+-- What is meant, within the budget of the settings: a graph is optimal, there is none, the budget was spent; some graph is valid, or none is
+-- for these demands alone. Of a certificate any verdict may be said: what a yes shows is a fact of its own (`IsShown`)
+abbrev pub meaning : Sense
+meaning = record {
+  answers = λ problem answer. Means problem problem.settings.conflict_budget answer;
+  explains = λ problem explanation. Explains problem problem.settings.conflict_budget explanation;
+  verdicts = any_verdict;
+}

@@ -1,0 +1,68 @@
+-- What is posed by some verdicts on certificates is posed by others that allow more.
+use Rattle.std.proofs.Common.{◌≡◌, sym, subst, ℕ, List, Option, Some, None, Result, Ok, Err, inl, inr}
+use Rattle.outside_desk.specs.Files.{Files}
+use Rattle.run_input.specs.Stages.{Is, Then}
+use Rattle.run_input.specs.Refusal.{Refusal}
+use Rattle.run_input.specs.Words.{Command}
+use Rattle.run_input.specs.Orders.{command_in}
+use Rattle.run_input.specs.Work.{Work}
+use Rattle.run_input.specs.Work.TheVariants as works
+use Rattle.run_input.specs.Inputs.{Reads}
+use Rattle.run_input.specs.declared.input.Input.{Input}
+use Rattle.run_verdict.specs.Problems.{Problem}
+use Rattle.run_verdict.specs.Verdicts.{Judges}
+use Rattle.run_certificate.specs.CertificateVerdicts.{CertificateVerdicts, MayBeSaid, any_verdict, no_verdict}
+use Rattle.run_certificate.specs.Certificates.{certified_at, log_verdict}
+use Rattle.run_task.specs.Tasks.{AcceptanceOf, Named, Poses, TaskBy, files_for}
+use Rattle.run_task.specs.declared.task.Task.{Task}
+use Rattle.run_task.specs.declared.task.Task.TheVariants as tasks
+
+-- a stage that gives more, and then one that gives more
+then_more : {A B : Type 0} (first more : Result A Refusal → Type 0) (next later : A → Result B Refusal → Type 0)
+    → ((r : Result A Refusal) → first r → more r) → ((x : A) (r : Result B Refusal) → next x r → later x r)
+    → (r : Result B Refusal) → Then first next r → Then more later r
+then_more first more next later f g (Ok y) (x, here, there) = (x, f (Ok x) here, g x (Ok y) there)
+then_more first more next later f g (Err refusal) (inl here) = inl (f (Err refusal) here)
+then_more first more next later f g (Err refusal) (inr (x, here, there)) = inr (x, f (Ok x) here, g x (Err refusal) there)
+
+abbrev Allows : CertificateVerdicts → CertificateVerdicts → Type 0
+Allows some more = (files : Files) (path : List ℕ) (problem : Problem) (numbers : Option (List ℕ)) (said : Result (Unit {0}) Refusal)
+    → some files path problem numbers said → more files path problem numbers said
+
+module _ (some more : CertificateVerdicts) (allows : Allows some more) where
+  accepts : (files : Files) (cert : List ℕ) (problem : Problem) (numbers : Option (List ℕ)) (r : Result Task Refusal)
+      → AcceptanceOf some files cert problem numbers r → AcceptanceOf more files cert problem numbers r
+  accepts files cert problem numbers =
+      then_more (some files cert problem numbers) (more files cert problem numbers) (λ done. Is (Ok tasks.Accepted)) (λ done. Is (Ok tasks.Accepted))
+      (allows files cert problem numbers) (λ done r is. is)
+
+  by_work : (work : Work) (files : Files) (command : Command) (input : Input) (r : Result Task Refusal)
+      → TaskBy some work files command input r → TaskBy more work files command input r
+  by_work works.Concretize files command input r is = is
+  by_work works.Judge files command input r is = is
+  by_work works.Check files command input r is =
+      then_more (Judges files command.lock input.problem) (Judges files command.lock input.problem)
+      (λ numbers. AcceptanceOf some files command.cert input.problem (Some numbers))
+      (λ numbers. AcceptanceOf more files command.cert input.problem (Some numbers))
+      (λ s judged. judged) (λ numbers. accepts files command.cert input.problem (Some numbers)) r is
+  by_work works.Refute files command input r is = accepts files command.cert input.problem None r is
+  by_work works.Explain files command input r is = is
+  by_work (works.Trial packages seed) files command input r is = is
+
+  poses : (files : Files) (words : List (List ℕ)) (r : Result Task Refusal) → Poses some files words r → Poses more files words r
+  poses files words =
+      then_more (Is (command_in words)) (Is (command_in words)) (Named some files) (Named more files) (λ s is. is)
+      (λ command. let over = files_for command.work files in
+      then_more (Reads over command) (Reads over command) (TaskBy some command.work over command) (TaskBy more command.work over command)
+      (λ s read. read) (by_work command.work over command))
+
+-- each verdict of a log is some verdict
+pub any_posed : ((files : Files) (path : List ℕ) (problem : Problem) (numbers : Option (List ℕ))
+    → MayBeSaid path (certified_at files path problem numbers))
+    → (files : Files) (words : List (List ℕ)) (r : Result Task Refusal) → Poses log_verdict files words r → Poses any_verdict files words r
+any_posed may = poses log_verdict any_verdict
+    (λ files path problem numbers said is. subst (MayBeSaid path) (sym is) (may files path problem numbers))
+
+pub none_posed : (files : Files) (words : List (List ℕ)) (r : Result Task Refusal) → Poses no_verdict files words r
+    → Poses log_verdict files words r
+none_posed = poses no_verdict log_verdict (λ files path problem numbers said none. absurd none)
