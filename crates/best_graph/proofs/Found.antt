@@ -10,7 +10,7 @@ use Rattle.optimum_search.specs.declared.found.Found.TheVariants.{Optimal, Refut
 use Rattle.graph_core.specs.Graphs.{Content}
 use Rattle.problem.specs.Nodes.{IsWellFormed}
 use Rattle.problem.specs.Problems.{Problem}
-use Rattle.graph_costs.specs.Optimal.{IsOptimal}
+use Rattle.graph_rules.specs.Optimal.{IsOptimal}
 use Rattle.graph_decoding.specs.Decoding.{decode}
 use Rattle.problem_encoding.specs.Encodings.{AreRules, IsEncoded, RulesDecode}
 use Rattle.problem_encoding.specs.Built.{encoding_of, rule_clauses, table_of}

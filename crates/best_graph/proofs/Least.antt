@@ -14,11 +14,11 @@ use Rattle.problem.specs.Problems.{Problem}
 use Rattle.problem.specs.Demands.{demands}
 use Rattle.graph_rules.specs.Valid.{valid, valid_for}
 use Rattle.graph_rules.proofs.ValidLaws.{valid-for_any, valid-from_demands}
-use Rattle.graph_costs.specs.Costs.{vector}
-use Rattle.graph_costs.specs.Optimal.{IsOptimal, HasNoGraph}
+use Rattle.graph_rules.specs.Costs.{vector}
+use Rattle.graph_rules.specs.Optimal.{IsOptimal, HasNoGraph}
 use Rattle.optimum_search.specs.Finding.{MeetsAll}
-use Rattle.encoding_stages.specs.Rules.{asked_among}
-use Rattle.encoding_stages.specs.Stages.{Decodes}
+use Rattle.graph_levels.specs.Rules.{asked_among}
+use Rattle.graph_levels.specs.Stages.{Decodes}
 use Rattle.graph_encoding.specs.Encodings.{asked_demands, IsValid}
 use Rattle.problem_encoding.specs.Encodings.{Encodes}
 

@@ -1,2 +1,5 @@
 pub mod Least
 pub mod Found
+pub mod Shown
+mod Asked
+pub mod GraphReasonsShown

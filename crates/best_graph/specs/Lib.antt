@@ -1,3 +1,6 @@
 -- what public contracts say
 pub mod Answers
 pub mod OfProblemEncoding
+pub mod Verdicts
+pub mod Explanations
+pub mod Grounds

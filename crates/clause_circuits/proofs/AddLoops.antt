@@ -3,7 +3,7 @@ use Rattle.std.proofs.Common.{◌≡◌, ℕ, zero, suc, ◌+◌, ◌/◌, ◌%�
 use Rattle.std.proofs.lemmas.Bool.{ne_eqb}
 use Rattle.std.specs.Bool.{then_some}
 use Rattle.clause_store.specs.declared.Lit.{Lit}
-use Rattle.gate_plans.specs.Gates.{Planned, Made}
+use Rattle.clause_circuits.specs.Gates.{Planned, Made}
 use Rattle.clause_circuits.specs.Cells.{odd_on, tied_on}
 use Rattle.clause_circuits.specs.Trees.{halved, total, tree_total}
 use Rattle.clause_circuits.specs.Binary.{size_below, size, weighed, first_bit, rest_bits, present, add_on, sum_on, spell_on, sum_bits_on}

@@ -7,11 +7,11 @@ use Rattle.clause_store.specs.declared.Lit.{Lit}
 use Rattle.clause_store.specs.Lits.{var_of, lit_true, AllBelow}
 use Rattle.clause_store.specs.Clauses.{Clauses}
 use Rattle.clause_store.proofs.Range.{AllBelow-le}
-use Rattle.gate_plans.specs.Gates.{Planned, Made, next, option_list, with_gate, with_gates, IsSound}
-use Rattle.gate_plans.specs.Steps.{Step, FollowsPlan, plan_at}
-use Rattle.gate_plans.proofs.StepLaws.{Step-refl, Step-trans, Step-gate, sound_from, step-defines, step-follows, step-vars}
+use Rattle.clause_circuits.specs.Gates.{Planned, Made, next, option_list, with_gate, with_gates, IsSound}
+use Rattle.clause_circuits.specs.Steps.{Step, FollowsPlan, plan_at}
+use Rattle.clause_circuits.proofs.StepLaws.{Step-refl, Step-trans, Step-gate, sound_from, step-defines, step-follows, step-vars}
 use Rattle.clause_circuits.specs.Cells.{bit, bit_true, count_true, Fits, AllFit, odd_on, tied_on}
-use Rattle.gate_plans.specs.Shapes.{never}
+use Rattle.clause_circuits.specs.Shapes.{never}
 use Rattle.clause_circuits.specs.Trees.{Tree, none, leaf, node, tree_sum, halved, tree_total, total, weight_of, TreeBelow, TermsBelow}
 use Rattle.clause_circuits.specs.Binary.{value, size_below, size, weighed, first_bit, rest_bits, present, add_on, sum_on, spell_on, number_after, number, sum_bits_on, SumsTo, IsSum}
 use Rattle.clause_circuits.proofs.CellLaws.{odd_on-step, odd_on-is, IsLow, tied_on-step, tied_on-is, two}

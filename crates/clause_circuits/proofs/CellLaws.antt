@@ -2,12 +2,12 @@
 use Rattle.std.proofs.Common.{Option, Some, None, ◌∙◌, ◌≡◌, ℕ, ◌+◌, ◌*◌, ◌≤◌, Bool, true, false, not, ◌&&◌, ◌||◌, List, [], ◌∷◌, length, nat_le, refl, arith}
 use Rattle.clause_store.specs.declared.Lit.{Lit}
 use Rattle.clause_store.specs.Lits.{lit_true, AllBelow}
-use Rattle.gate_plans.specs.Gates.{Planned, Agrees, next}
-use Rattle.gate_plans.specs.Steps.{Step, FollowsPlan, Shows}
+use Rattle.clause_circuits.specs.Gates.{Planned, Agrees, next}
+use Rattle.clause_circuits.specs.Steps.{Step, FollowsPlan, Shows}
 use Rattle.clause_store.proofs.Meaning.{lit_true-negation}
-use Rattle.gate_plans.specs.Shapes.{both, differ, odd, most, never}
-use Rattle.gate_plans.proofs.ShapeLaws.{both-agrees, differ-agrees, odd-agrees, most-agrees}
-use Rattle.gate_plans.proofs.StepLaws.{Step-refl, Step-gate}
+use Rattle.clause_circuits.specs.Shapes.{both, differ, odd, most, never}
+use Rattle.clause_circuits.proofs.ShapeLaws.{both-agrees, differ-agrees, odd-agrees, most-agrees}
+use Rattle.clause_circuits.proofs.StepLaws.{Step-refl, Step-gate}
 use Rattle.clause_circuits.specs.Cells.{bit, bit_true, count_true, Fits, odd_on, carry_on, both_with, most_with, tied_on, known_on}
 
 pub odd_on-step : (p : Planned) (ls : List Lit) → AllBelow (next p) ls → Step p (odd_on p ls).plan

@@ -5,16 +5,16 @@ use Rattle.clause_store.specs.declared.Lit.{Lit}
 use Rattle.clause_store.specs.Lits.{var_of, negation, lit_true, clause_true, AllBelow}
 use Rattle.clause_store.specs.Clauses.{Clauses}
 use Rattle.clause_store.proofs.Range.{AllBelow-le}
-use Rattle.gate_plans.specs.Gates.{Planned, Made, next, with_gate, with_gates, option_list}
-use Rattle.gate_plans.specs.Steps.{Step, FollowsPlan, Shows, plan_at}
+use Rattle.clause_circuits.specs.Gates.{Planned, Made, next, with_gate, with_gates, option_list}
+use Rattle.clause_circuits.specs.Steps.{Step, FollowsPlan, Shows, plan_at}
 use Rattle.clause_store.proofs.Meaning.{lit_true-negation}
-use Rattle.gate_plans.proofs.StepLaws.{Step-refl, Step-trans, Step-gate, step-defines, step-follows, step-vars, here-below}
+use Rattle.clause_circuits.proofs.StepLaws.{Step-refl, Step-trans, Step-gate, step-defines, step-follows, step-vars, here-below}
 use Rattle.clause_circuits.specs.Cells.{bit, bit_true, count_true, Fits, odd_on, carry_on, known_on}
 use Rattle.clause_circuits.specs.Choices.{any_on, some_on, ones_on, without_on, exactly_one_on, has_one, adder_on, IsAdder}
 use Rattle.clause_circuits.proofs.CellLaws.{odd_on-step, odd_on-is, carry_on-step, carry_on-is, known_on-is}
 use Rattle.std.proofs.Math.Bool.{or-false, and-true}
-use Rattle.gate_plans.specs.Shapes.{both}
-use Rattle.gate_plans.proofs.ShapeLaws.{any_of-is, both-agrees}
+use Rattle.clause_circuits.specs.Shapes.{both}
+use Rattle.clause_circuits.proofs.ShapeLaws.{any_of-is, both-agrees}
 use Rattle.clause_circuits.proofs.BinaryLaws.{AllBelow-append, Fits-more, option-below, option-short, count-option, count-append}
 
 -- a bit that a longer plan defines

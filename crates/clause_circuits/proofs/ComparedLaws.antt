@@ -5,16 +5,16 @@ use Rattle.std.proofs.lemmas.List.{length-map}
 use Rattle.clause_store.specs.declared.Lit.{Lit}
 use Rattle.clause_store.specs.Lits.{negation, lit_true, all_true, AllBelow}
 use Rattle.clause_store.proofs.Range.{AllBelow-le}
-use Rattle.gate_plans.specs.Gates.{Planned, Made, next, with_gate, option_list}
-use Rattle.gate_plans.specs.Steps.{Step, FollowsPlan, Shows}
+use Rattle.clause_circuits.specs.Gates.{Planned, Made, next, with_gate, option_list}
+use Rattle.clause_circuits.specs.Steps.{Step, FollowsPlan, Shows}
 use Rattle.clause_store.proofs.Meaning.{lit_true-negation}
-use Rattle.gate_plans.proofs.StepLaws.{Step-refl, Step-trans, Step-gate}
+use Rattle.clause_circuits.proofs.StepLaws.{Step-refl, Step-trans, Step-gate}
 use Rattle.clause_circuits.specs.Cells.{bit, bit_true, count_true, Fits, carry_on, known_on}
 use Rattle.clause_circuits.specs.Compared.{all_on, less_from, less_on, same_on, equal_on, number_at, is_less, is_equal}
 use Rattle.clause_circuits.proofs.CellLaws.{carry_on-step, carry_on-is, known_on-is}
 use Rattle.std.proofs.Math.Bool.{and-true}
-use Rattle.gate_plans.specs.Shapes.{differ}
-use Rattle.gate_plans.proofs.ShapeLaws.{all_of-is, differ-agrees}
+use Rattle.clause_circuits.specs.Shapes.{differ}
+use Rattle.clause_circuits.proofs.ShapeLaws.{all_of-is, differ-agrees}
 use Rattle.clause_circuits.proofs.BinaryLaws.{number_after-is, number-small, option-below, option-short, count-option}
 
 number-cons : (v : ℕ → Bool) (l : Lit) (ls : List Lit) → number_at v (l ∷ ls) ≡ bit (lit_true v l) * 2 ^ length ls + number_at v ls

@@ -1,3 +1,11 @@
+pub mod KeptClauses
+pub mod Composed
+pub mod Plans
+pub mod StepLaws
+pub mod ShapeLaws
+pub mod Loops
+pub mod OneGate
+pub mod Cover
 pub mod CellLaws
 pub mod TreeLaws
 pub mod BinaryLaws

@@ -5,10 +5,10 @@ use Rattle.std.specs.Bool.{then_some}
 use Rattle.clause_store.specs.declared.Lit.{Lit}
 use Rattle.clause_store.specs.Lits.{lit_true, AllBelow}
 use Rattle.clause_store.specs.Clauses.{Clauses}
-use Rattle.gate_plans.specs.Growth.{Defines, MeetsSince}
-use Rattle.gate_plans.specs.Steps.{Step, FollowsPlan}
-use Rattle.gate_plans.specs.Gates.{Planned, Made, with_gate, option_list, next}
-use Rattle.gate_plans.specs.Shapes.{never}
+use Rattle.clause_circuits.specs.Growth.{Defines, MeetsSince}
+use Rattle.clause_circuits.specs.Steps.{Step, FollowsPlan}
+use Rattle.clause_circuits.specs.Gates.{Planned, Made, with_gate, option_list, next}
+use Rattle.clause_circuits.specs.Shapes.{never}
 use Rattle.clause_circuits.specs.Cells.{bit, bit_true, odd_on, tied_on}
 use Rattle.clause_circuits.specs.Trees.{Tree, none, leaf, node, halved, tree_total, weight}
 

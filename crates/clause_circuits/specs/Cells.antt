@@ -2,8 +2,8 @@
 use Rattle.std.specs.Prelude.{ℕ, ◌+◌, ◌<◌, Bool, false, cond, List, [], ◌∷◌, Option, Some, None}
 use Rattle.clause_store.specs.declared.Lit.{Lit}
 use Rattle.clause_store.specs.Lits.{var_of, negation, lit_true}
-use Rattle.gate_plans.specs.Gates.{Sides, Planned, Made, with_gate}
-use Rattle.gate_plans.specs.Shapes.{both, differ, odd, most, never}
+use Rattle.clause_circuits.specs.Gates.{Sides, Planned, Made, with_gate}
+use Rattle.clause_circuits.specs.Shapes.{both, differ, odd, most, never}
 
 abbrev pub bit : Bool → ℕ
 bit b = cond b 1 0

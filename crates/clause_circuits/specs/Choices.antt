@@ -3,9 +3,9 @@ use Rattle.std.specs.Prelude.{◌≡◌, ℕ, ◌+◌, ◌*◌, Bool, List, [], 
 use Rattle.clause_store.specs.declared.Lit.{Lit}
 use Rattle.clause_store.specs.Lits.{negation, lit_true, AllBelow}
 use Rattle.clause_store.specs.Clauses.{Clauses}
-use Rattle.gate_plans.specs.Growth.{Defines, MeetsSince}
-use Rattle.gate_plans.specs.Gates.{Planned, Made, with_gate, option_list}
-use Rattle.gate_plans.specs.Shapes.{both, odd, most, any_of}
+use Rattle.clause_circuits.specs.Growth.{Defines, MeetsSince}
+use Rattle.clause_circuits.specs.Gates.{Planned, Made, with_gate, option_list}
+use Rattle.clause_circuits.specs.Shapes.{both, odd, most, any_of}
 use Rattle.clause_circuits.specs.Cells.{bit, count_true, some_of, gave, carry_on, known_on}
 
 -- some literal of a list: a gate for two and more alone

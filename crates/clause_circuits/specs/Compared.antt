@@ -2,8 +2,8 @@
 use Rattle.std.specs.Prelude.{ℕ, Bool, List, [], ◌∷◌, Option, None, map, nat_lt, ◌==◌}
 use Rattle.clause_store.specs.declared.Lit.{Lit}
 use Rattle.clause_store.specs.Lits.{negation, lit_true}
-use Rattle.gate_plans.specs.Gates.{Planned, Made, with_gate, option_list}
-use Rattle.gate_plans.specs.Shapes.{all_of, differ}
+use Rattle.clause_circuits.specs.Gates.{Planned, Made, with_gate, option_list}
+use Rattle.clause_circuits.specs.Shapes.{all_of, differ}
 use Rattle.clause_circuits.specs.Cells.{gave, carry_on, known_on}
 use Rattle.clause_circuits.specs.Binary.{number}
 

@@ -1,14 +1,14 @@
 //! Binary sums: a balanced tree of adders over the bits of the weights.
 ghost use Rattle.std.specs.Prelude.{◌≡◌, ◌<◌, ◌≤◌, ◌^◌, [], drop, None, IfOk};
-ghost use Rattle.gate_plans.specs.Growth.{Extends};
-ghost use Rattle.gate_plans.specs.Steps.{plan_at};
+ghost use Rattle.clause_circuits.specs.Growth.{Extends};
+ghost use Rattle.clause_circuits.specs.Steps.{plan_at};
 ghost use Rattle.clause_circuits.specs.Trees.{total, halved, TermsBelow};
 ghost use Rattle.clause_circuits.specs.Binary.{size, weighed, first_bit, add_on, sum_on, spell_on, sum_bits_on, IsSum};
 ghost use Rattle.clause_circuits.specs.Built.{IsBuilt};
 
 use crate::cells::{known, odd_of, present, tied_carry};
 use clause_store::{ClauseList, Lit};
-use gate_plans::{Plan, define_plan};
+use crate::{Plan, define_plan};
 use smallvec::SmallVec;
 use std::alloc::{AllocError, Global};
 

@@ -1,11 +1,11 @@
 //! Bits, and the sum and the carry of up to three.
 ghost use Rattle.std.specs.Prelude.{◌≡◌, ◌++◌, [], ◌∷◌, IfOk, OnOk};
-ghost use Rattle.gate_plans.specs.Gates.{option_list};
+ghost use Rattle.clause_circuits.specs.Gates.{option_list};
 ghost use Rattle.clause_circuits.specs.Cells.{odd_on, carry_on, both_with as both_gate, most_with as most_gate, tied_on, known_on};
 ghost use Rattle.clause_circuits.specs.Binary.{present};
 
 use clause_store::Lit;
-use gate_plans::{Gate, Lits, Plan};
+use crate::{Gate, Lits, Plan};
 use smallvec::SmallVec;
 use std::alloc::{AllocError, Global};
 

@@ -1,14 +1,14 @@
 //! Some literal of a list, exactly one, and the two bits of three.
 ghost use Rattle.std.specs.Prelude.{◌≡◌, ◌∷◌, [], IfOk};
 ghost use Rattle.clause_store.specs.Lits.{AllBelow, clause_true};
-ghost use Rattle.gate_plans.specs.Growth.{Extends, DefinesLit};
-ghost use Rattle.gate_plans.specs.Steps.{plan_at};
+ghost use Rattle.clause_circuits.specs.Growth.{Extends, DefinesLit};
+ghost use Rattle.clause_circuits.specs.Steps.{plan_at};
 ghost use Rattle.clause_circuits.specs.Choices.{any_on, some_on, ones_on, without_on, exactly_one_on, has_one, adder_on, IsAdder};
 ghost use Rattle.clause_circuits.specs.Built.{IsBuilt};
 
 use crate::cells::{carry_of, known, present};
 use clause_store::{ClauseList, Lit};
-use gate_plans::{Gate, Plan, define_plan};
+use crate::{Gate, Plan, define_plan};
 use std::alloc::{AllocError, Global};
 
 /// A literal that is true exactly where some literal of the list is. One literal is its own.

@@ -1,14 +1,14 @@
 //! Numbers of literals compared, the highest bit first; and each literal of a list.
 ghost use Rattle.std.specs.Prelude.{◌≡◌, length, IfOk};
 ghost use Rattle.clause_store.specs.Lits.{AllBelow, all_true};
-ghost use Rattle.gate_plans.specs.Growth.{Extends, DefinesLit};
-ghost use Rattle.gate_plans.specs.Steps.{plan_at};
+ghost use Rattle.clause_circuits.specs.Growth.{Extends, DefinesLit};
+ghost use Rattle.clause_circuits.specs.Steps.{plan_at};
 ghost use Rattle.clause_circuits.specs.Compared.{all_on, less_from, less_on, same_on, equal_on, is_less, is_equal};
 ghost use Rattle.clause_circuits.specs.Built.{IsBuilt};
 
 use crate::cells::{carry_of, known, present};
 use clause_store::{ClauseList, Lit};
-use gate_plans::{Gate, Plan, define_plan};
+use crate::{Gate, Plan, define_plan};
 use std::alloc::{AllocError, Global};
 
 /// A literal that is true exactly where each literal of the list is. One literal is its own.

@@ -4,8 +4,8 @@ use Rattle.std.proofs.lemmas.Bool.{and_parts}
 use Rattle.clause_store.specs.declared.Label.{Label}
 use Rattle.clause_store.specs.declared.Label.TheVariants.{Demand}
 use Rattle.clause_store.specs.Clauses.{Clauses, counts}
-use Rattle.gate_plans.specs.Growth.{Agree, where_asked}
-use Rattle.gate_plans.proofs.Composed.{Grows-refl, Grows-trans, Extends-refl, Agree-trans, MeetsSince-parts, MeetsSince-join, Meets-agree, since}
+use Rattle.clause_circuits.specs.Growth.{Agree, where_asked}
+use Rattle.clause_circuits.proofs.Composed.{Grows-refl, Grows-trans, Extends-refl, Agree-trans, MeetsSince-parts, MeetsSince-join, Meets-agree, since}
 use Rattle.clause_formulas.specs.Statements.{Statement, eval, any_of, SaidBelow}
 use Rattle.clause_formulas.specs.Gated.{Gated, gated, GatesBelow, Keeps}
 use Rattle.clause_formulas.specs.Built.{assert_in, demand_in, claimed, demands_true}

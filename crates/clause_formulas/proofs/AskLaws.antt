@@ -6,11 +6,11 @@ use Rattle.clause_store.specs.Lits.{lit_true, clause_true, clause_of, AllBelow}
 use Rattle.clause_store.specs.Clauses.{Clauses, counts}
 use Rattle.clause_store.proofs.Range.{AllBelow-le}
 use Rattle.clause_store.proofs.Meaning.{clause_of-Some, clause_of-None, AllBelow-clause_of}
-use Rattle.gate_plans.specs.Growth.{Agree, MeetsSince, Extends, where_asked}
-use Rattle.gate_plans.specs.Gates.{clauses_from, lit_of}
-use Rattle.gate_plans.specs.Shapes.{cover_rules, with_cover}
-use Rattle.gate_plans.proofs.Composed.{Grows-refl, Grows-trans, Extends-refl, MeetsSince-parts, MeetsSince-join, Meets-agree, clause_true-agree, since, Agree-trans}
-use Rattle.gate_plans.proofs.Cover.{cover-gate}
+use Rattle.clause_circuits.specs.Growth.{Agree, MeetsSince, Extends, where_asked}
+use Rattle.clause_circuits.specs.Gates.{clauses_from, lit_of}
+use Rattle.clause_circuits.specs.Shapes.{cover_rules, with_cover}
+use Rattle.clause_circuits.proofs.Composed.{Grows-refl, Grows-trans, Extends-refl, MeetsSince-parts, MeetsSince-join, Meets-agree, clause_true-agree, since, Agree-trans}
+use Rattle.clause_circuits.proofs.Cover.{cover-gate}
 use Rattle.clause_formulas.specs.declared.defined.Defined.{Defined}
 use Rattle.clause_formulas.specs.declared.defined.Defined.TheVariants.{Known, By}
 use Rattle.clause_formulas.specs.Statements.{Statement, atom, never, or, no, eval, SaidBelow}

@@ -10,11 +10,11 @@ use Rattle.clause_store.specs.Clauses.{Clauses}
 use Rattle.clause_formulas.specs.declared.defined.Defined.{Defined}
 use Rattle.clause_formulas.specs.Statements.{Statement, eval, never, or, any_of, SaidBelow}
 use Rattle.clause_formulas.specs.Drafts.{Draft, empty, with_defined, defined_true, DefinedBelow}
-use Rattle.gate_plans.specs.Growth.{Says, where_asked}
+use Rattle.clause_circuits.specs.Growth.{Says, where_asked}
 use Rattle.clause_formulas.specs.Gated.{Gate, Gated, gated, Fits, GatesBelow}
 use Rattle.clause_formulas.specs.Values.{DefinesValue, DefinesIn, DefinesValues}
 use Rattle.clause_formulas.specs.Allowed.{Allows, AllowsIn, SaysIn}
-use Rattle.gate_plans.specs.Gates.{labelled, option_list, kept_clauses}
+use Rattle.clause_circuits.specs.Gates.{labelled, option_list, kept_clauses}
 use Rattle.clause_formulas.specs.Built.{Grown, Shared, or_on}
 use Rattle.clause_formulas.specs.Built.{spread_in, ask_in, named_in, define_in, define_all_in, with_draft, drafted, assert_in, demand_in, demand_all_in, demands_true, define_on, literal_on, assert_on}
 use Rattle.clause_formulas.proofs.Laws.{define_in_is, define_is, literal_is, define_all_is, assert_in_is, assert_is, demand_is, demand_all_is}

@@ -6,9 +6,9 @@ use Rattle.clause_formulas.specs.declared.defined.Defined.{Defined}
 use Rattle.clause_formulas.specs.declared.defined.Defined.TheVariants.{Known, By}
 use Rattle.clause_formulas.specs.Statements.{Statement, atom, never, or, no, eval, SaidBelow}
 use Rattle.clause_formulas.specs.Drafts.{Draft, draft_true, with_defined, defined_true, DefinedBelow, reverse_of}
-use Rattle.gate_plans.specs.Growth.{Agree}
+use Rattle.clause_circuits.specs.Growth.{Agree}
 use Rattle.clause_store.proofs.Meaning.{lit_true-negation}
-use Rattle.gate_plans.proofs.Composed.{lit_true-agree}
+use Rattle.clause_circuits.proofs.Composed.{lit_true-agree}
 
 pub eval-agree : (n : ℕ) (v w : ℕ → Bool) → Agree n v w → (f : Statement) → SaidBelow n f → eval v f ≡ eval w f
 eval-agree n v w a (atom l) b = lit_true-agree n v w a l b

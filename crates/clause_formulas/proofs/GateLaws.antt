@@ -7,8 +7,8 @@ use Rattle.clause_store.specs.Lits.{var_of, lit_eq, lit_true, clause_true, AllBe
 use Rattle.clause_store.specs.Clauses.{Clauses}
 use Rattle.clause_store.proofs.Range.{AllBelow-le}
 use Rattle.clause_store.proofs.Sets.{same_lit, lit_eq-refl}
-use Rattle.gate_plans.specs.Growth.{Agree, Extends}
-use Rattle.gate_plans.proofs.Composed.{lit_true-agree, clause_true-agree, Extends-refl, Extends-trans, MeetsSince-parts}
+use Rattle.clause_circuits.specs.Growth.{Agree, Extends}
+use Rattle.clause_circuits.proofs.Composed.{lit_true-agree, clause_true-agree, Extends-refl, Extends-trans, MeetsSince-parts}
 use Rattle.clause_formulas.specs.Gated.{Gate, Gated, gated, gate_of, Fits, GatesBelow, Keeps}
 
 -- ---- what fits

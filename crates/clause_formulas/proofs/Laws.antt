@@ -8,14 +8,14 @@ use Rattle.clause_formulas.specs.declared.defined.Defined.{Defined}
 use Rattle.clause_formulas.specs.declared.defined.Defined.TheVariants.{Known, By}
 use Rattle.clause_formulas.specs.Statements.{Statement, atom, never, or, no, eval, any_of, SaidBelow}
 use Rattle.clause_formulas.specs.Drafts.{Draft, empty, draft_true, with_defined, defined_true, DefinedBelow}
-use Rattle.gate_plans.specs.Growth.{Agree, MeetsSince, Grows, Says, where_asked}
+use Rattle.clause_circuits.specs.Growth.{Agree, MeetsSince, Grows, Says, where_asked}
 use Rattle.clause_formulas.specs.Gated.{Gated, bare, Fits, GatesBelow, Keeps}
 use Rattle.clause_formulas.specs.Values.{DefinesValue, DefinesIn, MeanEach, DefinesValues}
 use Rattle.clause_formulas.specs.Allowed.{SaysIn}
 use Rattle.clause_formulas.specs.Built.{or_on}
 use Rattle.clause_formulas.specs.Built.{spread_in, define_in, define_all_in, assert_in, demand_in, demand_all_in, define_on, literal_on, assert_on, demands_true, claimed, drafted, with_draft}
 use Rattle.clause_store.proofs.Meaning.{lit_true-negation}
-use Rattle.gate_plans.proofs.Composed.{Defines-refl, Defines-trans, MeetsSince-parts}
+use Rattle.clause_circuits.proofs.Composed.{Defines-refl, Defines-trans, MeetsSince-parts}
 use Rattle.clause_formulas.proofs.GateLaws.{Keeps-refl, Keeps-trans}
 use Rattle.clause_formulas.proofs.ValueLaws.{or_is, MeansIn-later, MeansIn-earlier}
 use Rattle.clause_formulas.proofs.DraftLaws.{eval-agree, SaidBelow-le, or-false, with_defined-true, with_defined-below}

@@ -12,3 +12,4 @@ pub mod AllowLaws
 pub mod AgainLaws
 pub mod Words
 pub mod RuleLaws
+pub mod FewLaws

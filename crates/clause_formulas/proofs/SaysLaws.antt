@@ -2,8 +2,8 @@
 use Rattle.std.proofs.Common.{◌≡◌, ℕ, Bool, true, ◌&&◌, sym, ◌∙◌}
 use Rattle.std.proofs.lemmas.Bool.{and_parts, and_from}
 use Rattle.clause_store.specs.Clauses.{Clauses}
-use Rattle.gate_plans.specs.Growth.{Agree, MeetsSince, Says}
-use Rattle.gate_plans.proofs.Composed.{Grows-trans, Extends-refl, Agree-trans, MeetsSince-parts, MeetsSince-join, Meets-agree, since}
+use Rattle.clause_circuits.specs.Growth.{Agree, MeetsSince, Says}
+use Rattle.clause_circuits.proofs.Composed.{Grows-trans, Extends-refl, Agree-trans, MeetsSince-parts, MeetsSince-join, Meets-agree, since}
 use Rattle.clause_formulas.specs.Gated.{Gated, gated, bare, Fits, GatesBelow, Keeps}
 use Rattle.clause_formulas.specs.Allowed.{SaysIn}
 use Rattle.clause_formulas.proofs.GateLaws.{Fits-agree, GatesBelow-le}

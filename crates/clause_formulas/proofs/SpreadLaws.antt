@@ -9,15 +9,15 @@ use Rattle.clause_formulas.specs.declared.defined.Defined.{Defined}
 use Rattle.clause_formulas.specs.declared.defined.Defined.TheVariants.{Known, By}
 use Rattle.clause_formulas.specs.Statements.{Statement, atom, never, or, no, eval, SaidBelow}
 use Rattle.clause_formulas.specs.Drafts.{Draft, empty, draft_true, with_defined, defined_true, DefinedBelow, reverse_of}
-use Rattle.gate_plans.specs.Growth.{MeetsSince, Says, Defines, where_asked}
+use Rattle.clause_circuits.specs.Growth.{MeetsSince, Says, Defines, where_asked}
 use Rattle.clause_formulas.specs.Gated.{Gated, Fits, GatesBelow, Keeps}
 use Rattle.clause_formulas.specs.Values.{DefinesIn}
-use Rattle.gate_plans.specs.Gates.{kept_clauses, labelled}
+use Rattle.clause_circuits.specs.Gates.{kept_clauses, labelled}
 use Rattle.clause_formulas.specs.Built.{with_kept}
 use Rattle.clause_formulas.specs.Built.{by_clause, named_in, spread_in, with_draft}
 use Rattle.clause_store.proofs.Meaning.{clause_of-Some, clause_of-None, AllBelow-clause_of}
-use Rattle.gate_plans.proofs.KeptClauses.{kept-below, labelled-in_range, kept-true, true-kept}
-use Rattle.gate_plans.proofs.Composed.{Grows-from, since-from, Says-as, Extends-refl, Defines-refl, Defines-trans, MeetsSince-parts}
+use Rattle.clause_circuits.proofs.KeptClauses.{kept-below, labelled-in_range, kept-true, true-kept}
+use Rattle.clause_circuits.proofs.Composed.{Grows-from, since-from, Says-as, Extends-refl, Defines-refl, Defines-trans, MeetsSince-parts}
 use Rattle.clause_formulas.proofs.GateLaws.{Keeps-refl, Keeps-trans}
 use Rattle.clause_formulas.proofs.ValueLaws.{or_in_is}
 use Rattle.clause_formulas.proofs.DraftLaws.{SaidBelow-le, or-false, or-assoc, with_defined-true, with_defined-below, reverse-true, reverse-below}

@@ -4,11 +4,11 @@ use Rattle.clause_store.specs.declared.Lit.{Lit}
 use Rattle.clause_store.specs.Lits.{clause_true, AllBelow}
 use Rattle.clause_store.specs.Clauses.{Clauses}
 use Rattle.clause_store.proofs.Range.{AllBelow-le}
-use Rattle.gate_plans.specs.Growth.{Grows}
-use Rattle.gate_plans.specs.Gates.{lit_of, clauses_from, gate_rules, with_gates}
-use Rattle.gate_plans.specs.Shapes.{any_of as some_of}
-use Rattle.gate_plans.proofs.Composed.{Defines-refl, MeetsSince-parts}
-use Rattle.gate_plans.proofs.OneGate.{any-gate}
+use Rattle.clause_circuits.specs.Growth.{Grows}
+use Rattle.clause_circuits.specs.Gates.{lit_of, clauses_from, gate_rules, with_gates}
+use Rattle.clause_circuits.specs.Shapes.{any_of as some_of}
+use Rattle.clause_circuits.proofs.Composed.{Defines-refl, MeetsSince-parts}
+use Rattle.clause_circuits.proofs.OneGate.{any-gate}
 use Rattle.clause_formulas.specs.declared.defined.Defined.{Defined}
 use Rattle.clause_formulas.specs.declared.defined.Defined.TheVariants.{Known, By}
 use Rattle.clause_formulas.specs.Drafts.{DefinedBelow}

@@ -7,7 +7,7 @@ use Rattle.clause_formulas.specs.Statements.{Statement, atom, never, or, no, eva
 use Rattle.clause_formulas.specs.declared.defined.Defined.{Defined}
 use Rattle.clause_formulas.specs.declared.defined.Defined.TheVariants.{Known, By}
 use Rattle.clause_formulas.specs.Drafts.{said_of, defined_true, DefinedBelow, value_at, part_at}
-use Rattle.gate_plans.specs.Growth.{MeetsSince}
+use Rattle.clause_circuits.specs.Growth.{MeetsSince}
 use Rattle.clause_formulas.specs.Gated.{Gated, Fits}
 use Rattle.clause_formulas.specs.Values.{MeanEach}
 use Rattle.clause_store.proofs.Meaning.{lit_true-negation}

@@ -1,7 +1,7 @@
 -- What a longer list leaves open, whether its call came to an end or not, and what it says.
 use Rattle.std.specs.Prelude.{◌≡◌, ℕ, Bool, true}
 use Rattle.clause_store.specs.Clauses.{Clauses}
-use Rattle.gate_plans.specs.Growth.{Agree, Grows, MeetsSince}
+use Rattle.clause_circuits.specs.Growth.{Agree, Grows, MeetsSince}
 use Rattle.clause_formulas.specs.Gated.{Gated, Fits, GatesBelow}
 
 -- the new list begins with the old one, and each assignment of the old variables that keeps a rule extends to one that meets the

@@ -10,8 +10,8 @@ use Rattle.clause_formulas.specs.declared.defined.Defined.TheVariants.{Known, By
 use Rattle.clause_formulas.specs.Statements.{Statement, atom, never, or, no, eval}
 use Rattle.clause_formulas.specs.Drafts.{Draft, empty, with_defined, reverse_of}
 use Rattle.clause_formulas.specs.Gated.{Gated, gated, bare, gate_of}
-use Rattle.gate_plans.specs.Gates.{kept_clauses, labelled, lit_of, with_gates}
-use Rattle.gate_plans.specs.Shapes.{any_of as some_of, with_cover}
+use Rattle.clause_circuits.specs.Gates.{kept_clauses, labelled, lit_of, with_gates}
+use Rattle.clause_circuits.specs.Shapes.{any_of as some_of, with_cover}
 
 -- a longer list, and what was answered
 pub record Grown (A : Type 0) : Type 0 where

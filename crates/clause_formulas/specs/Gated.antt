@@ -5,7 +5,7 @@ use Rattle.std.specs.Cmp.Lexicographic.{pointwise}
 use Rattle.clause_store.specs.declared.Lit.{Lit}
 use Rattle.clause_store.specs.Lits.{var_of, lit_eq, lit_true, clause_true, AllBelow}
 use Rattle.clause_store.specs.Clauses.{Clauses}
-use Rattle.gate_plans.specs.Growth.{Extends, MeetsSince}
+use Rattle.clause_circuits.specs.Growth.{Extends, MeetsSince}
 
 -- a gate's literals, and the literal that is true exactly where some of them is
 abbrev pub Gate : Type 0

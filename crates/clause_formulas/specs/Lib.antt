@@ -12,3 +12,4 @@ pub mod Codes
 pub mod Kept
 pub mod Nodes
 pub mod Sizes
+pub mod Few

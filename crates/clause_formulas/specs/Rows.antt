@@ -4,7 +4,7 @@ use Rattle.clause_store.specs.declared.Lit.{Lit}
 use Rattle.clause_store.specs.declared.Label.TheVariants.{Structure}
 use Rattle.clause_store.specs.declared.list.Entry.{Entry}
 use Rattle.clause_store.specs.Clauses.{Clauses}
-use Rattle.gate_plans.specs.Gates.{lit_of, labelled}
+use Rattle.clause_circuits.specs.Gates.{lit_of, labelled}
 use Rattle.clause_formulas.specs.declared.defined.Defined.{Defined}
 use Rattle.clause_formulas.specs.Gated.{Gate, gated}
 use Rattle.clause_formulas.specs.Built.{Grown, Shared}

@@ -1,7 +1,7 @@
 -- What a longer list of clauses says of values.
 use Rattle.std.specs.Prelude.{◌≡◌, ℕ, Bool, true, List, [], ◌∷◌}
 use Rattle.clause_store.specs.Clauses.{Clauses}
-use Rattle.gate_plans.specs.Growth.{Agree, Grows, MeetsSince, Defines}
+use Rattle.clause_circuits.specs.Growth.{Agree, Grows, MeetsSince, Defines}
 use Rattle.clause_formulas.specs.declared.defined.Defined.{Defined}
 use Rattle.clause_formulas.specs.Statements.{Statement, eval}
 use Rattle.clause_formulas.specs.Drafts.{defined_true, DefinedBelow}

@@ -1,7 +1,7 @@
 //! The clause of a formula that is asked for: of what stands under the other sign one side is enough.
 ghost use Rattle.std.specs.Prelude.{◌≡◌, Some, IfOk, OnOk};
 ghost use Rattle.clause_store.specs.Lits.{AllBelow};
-ghost use Rattle.gate_plans.specs.Growth.{Extends};
+ghost use Rattle.clause_circuits.specs.Growth.{Extends};
 ghost use Rattle.clause_formulas.specs.Statements.{SaidBelow, any_of, no};
 ghost use Rattle.clause_formulas.specs.Gated.{gated, GatesBelow, Keeps};
 ghost use Rattle.clause_formulas.specs.Built.{ask_in, by_cover, cover_on, covered_on};
@@ -11,7 +11,7 @@ use crate::formula::{Formula, Node};
 use crate::gates::Gates;
 use crate::spread::spread_any;
 use clause_store::{Clause, ClauseList, Lit};
-use gate_plans::define_cover;
+use clause_circuits::define_cover;
 use std::alloc::{AllocError, Global};
 
 /// Adds literals to a draft of which none is true unless the formula is. Each assignment extends to

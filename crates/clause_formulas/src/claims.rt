@@ -2,7 +2,7 @@
 ghost use Rattle.std.specs.Prelude.{◌≡◌, true, OnOk, OnErr};
 ghost use Rattle.clause_store.specs.declared.Label.TheVariants.{Demand as DemandOf};
 ghost use Rattle.clause_store.specs.Lits.{AllBelow};
-ghost use Rattle.gate_plans.specs.Growth.{Says, where_asked};
+ghost use Rattle.clause_circuits.specs.Growth.{Says, where_asked};
 ghost use Rattle.clause_formulas.specs.Statements.{SaidBelow, any_of, eval};
 ghost use Rattle.clause_formulas.specs.Gated.{gated, GatesBelow};
 ghost use Rattle.clause_formulas.specs.Built.{with_draft, assert_in, assert_on, claimed, demand_in, demand_all_in, demands_true};

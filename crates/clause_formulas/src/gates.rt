@@ -2,12 +2,12 @@
 ghost use Rattle.std.specs.Prelude.{◌≡◌, ℕ, ◌<◌, ◌∷◌, ◌++◌, ◌^◌, [], None, IfOk, OnOk, OnErr};
 ghost use Rattle.clause_store.specs.Lits.{AllBelow, var_of};
 ghost use Rattle.clause_store.specs.Kept.{code_of, lits_of_codes};
-ghost use Rattle.gate_plans.specs.Growth.{Extends};
+ghost use Rattle.clause_circuits.specs.Growth.{Extends};
 ghost use Rattle.clause_formulas.specs.Gated.{gate_of, gated, GatesBelow, Keeps};
 ghost use Rattle.clause_formulas.specs.Built.{or_on, or_in};
 
 use clause_store::{ClauseList, Lit};
-use gate_plans::define_any;
+use clause_circuits::define_any;
 use indexmap::IndexMap;
 use std::alloc::{AllocError, Global};
 use std::marker::Model;

@@ -3,7 +3,7 @@ ghost use Rattle.std.specs.Prelude.{◌≡◌, ◌<◌, ℕ, Bool, true, false, 
 ghost use Rattle.clause_store.specs.declared.Lit.{Lit};
 ghost use Rattle.clause_store.specs.declared.Label.TheVariants.{Structure, Demand};
 ghost use Rattle.clause_store.specs.Lits.{negation, AllBelow};
-ghost use Rattle.gate_plans.specs.Gates.{lit_of, labelled};
+ghost use Rattle.clause_circuits.specs.Gates.{lit_of, labelled};
 ghost use Rattle.clause_formulas.specs.declared.defined.Defined.TheVariants.{Known, By};
 ghost use Rattle.clause_formulas.specs.Statements.{Statement, atom, never, eval, opposite, any_of, all_of, both, implies, one_of, all_eval, one_true, truths, SaidBelow};
 ghost use Rattle.clause_formulas.specs.Rules.{Rule, keeps_rule, in_words};
@@ -44,7 +44,7 @@ pub fn gate_laws()
 {}
 
 /// Two literals take one variable; one that is said twice beside a constant, and constants, none.
-#[tactic(auto, unfolding(crate::specs::Built::define_on, crate::specs::Built::define_in, crate::specs::Built::named_in, crate::specs::Built::or_in, crate::specs::Built::or_on, gate_plans::specs::Gates::kept_clauses))]
+#[tactic(auto, unfolding(crate::specs::Built::define_on, crate::specs::Built::define_in, crate::specs::Built::named_in, crate::specs::Built::or_in, crate::specs::Built::or_on, clause_circuits::specs::Gates::kept_clauses))]
 pub fn worked_values()
     ensures two { define_on start (any_of (atom a ∷ atom b ∷ []))
         ≡ made ((negation a ∷ lit_of 3 ∷ []) ∷ (negation b ∷ lit_of 3 ∷ [])
@@ -57,7 +57,7 @@ pub fn worked_values()
 {}
 
 /// An implication is one clause, exactly one of three four, and a demand that of one literal.
-#[tactic(auto, unfolding(crate::specs::Built::define_in, crate::specs::Built::demand_in, crate::specs::Built::with_draft, crate::specs::Built::named_in, crate::specs::Built::or_in, crate::specs::Built::or_on, gate_plans::specs::Gates::kept_clauses))]
+#[tactic(auto, unfolding(crate::specs::Built::define_in, crate::specs::Built::demand_in, crate::specs::Built::with_draft, crate::specs::Built::named_in, crate::specs::Built::or_in, crate::specs::Built::or_on, clause_circuits::specs::Gates::kept_clauses))]
 pub fn worked_claims()
     ensures implication { assert_on Structure start true
         (implies (both (atom a) (atom b)) (any_of (atom c ∷ never ∷ [])))
@@ -71,7 +71,7 @@ pub fn worked_claims()
 
 /// The same two literals, in either order and under either sign, take one variable; a part that stands
 /// twice in a formula takes one: twelve clauses, where a gate for each time made fifteen.
-#[tactic(auto, unfolding(crate::specs::Built::define_in, crate::specs::Built::demand_in, crate::specs::Built::with_draft, crate::specs::Built::named_in, crate::specs::Built::or_in, crate::specs::Built::or_on, gate_plans::specs::Gates::kept_clauses))]
+#[tactic(auto, unfolding(crate::specs::Built::define_in, crate::specs::Built::demand_in, crate::specs::Built::with_draft, crate::specs::Built::named_in, crate::specs::Built::or_in, crate::specs::Built::or_on, clause_circuits::specs::Gates::kept_clauses))]
 pub fn worked_gates()
     ensures once { define_all_in (bare start) (any_of (atom a ∷ atom b ∷ [])
         ∷ any_of (atom b ∷ atom a ∷ []) ∷ all_of (atom (negation a) ∷ atom (negation b) ∷ []) ∷ [])

@@ -1,6 +1,6 @@
 //! Formulas get values.
 ghost use Rattle.std.specs.Prelude.{◌≡◌, IfOk};
-ghost use Rattle.gate_plans.specs.Growth.{Extends};
+ghost use Rattle.clause_circuits.specs.Growth.{Extends};
 ghost use Rattle.clause_formulas.specs.Statements.{SaidBelow, any_of, eval};
 ghost use Rattle.clause_formulas.specs.Drafts.{defined_true, DefinedBelow};
 ghost use Rattle.clause_formulas.specs.Gated.{gated, GatesBelow, Keeps};

@@ -6,7 +6,7 @@ use crate::answer::Answer;
 use crate::input::{lits_of, terms_of};
 use clause_circuits::{and, equal_number, exactly_one, full_adder, less_number, or, sum_bits};
 use clause_store::{Clause, ClauseList, Label, Lit};
-use digit_sums::sum_by_digits;
+use criteria_totals::sum_by_digits;
 use std::alloc::{AllocError, Global};
 
 /// The commands `clause`, `and`, `or`, `one`, `adder` of literals, `less` and `equal` of an even

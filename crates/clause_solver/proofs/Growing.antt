@@ -9,7 +9,7 @@ use Rattle.proof_log.specs.Logs.{LineHolds}
 use Rattle.proof_log.proofs.Logs.{learnt_in-push, AllLines-append, all-learnt}
 use Rattle.proof_log.proofs.GrowingLaws.{IsGrowing-push}
 use Rattle.clause_watch.specs.Watches.{WatchValue}
-use Rattle.activity_order.specs.Orders.{OrderValue}
+use Rattle.clause_solver.specs.Orders.{OrderValue}
 use Rattle.clause_solver.specs.declared.search.Search.{Search}
 use Rattle.clause_solver.specs.Marks.{AreClear}
 use Rattle.clause_solver.specs.Solvers.{SolverValue, IsLogOf, Adds}

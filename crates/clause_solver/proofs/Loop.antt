@@ -13,7 +13,7 @@ use Rattle.clause_watch.specs.Watches.{WatchValue, IsWatch, Propagated, with_nex
 use Rattle.clause_watch.proofs.Propagated.{free_left-le, free_left-less, Grown-free}
 use Rattle.clause_watch.proofs.Kept.{upto-upto}
 use Rattle.clause_watch.proofs.Undone.{decisions-upto}
-use Rattle.activity_order.specs.Orders.{OrderValue}
+use Rattle.clause_solver.specs.Orders.{OrderValue}
 use Rattle.clause_solver.specs.declared.search.Search.{Search}
 use Rattle.clause_solver.specs.declared.outcome.Outcome.{Outcome}
 use Rattle.clause_solver.specs.declared.outcome.Outcome.TheVariants as outcome

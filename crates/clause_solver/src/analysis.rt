@@ -11,7 +11,7 @@ ghost use Rattle.clause_solver.specs.Marks.{AreClear};
 ghost use Rattle.clause_solver.specs.Lessons.{IsKnown, Resolves, IsTop, LeadsBack, KeepsBack, IsLowReason, DerivesRest, IsLevelBelow, IsBackLevel, IsLesson};
 
 use crate::marks::{Marks, last_marked};
-use activity_order::Order;
+use crate::Order;
 use clause_store::{Clause, Lit};
 use clause_watch::Watch;
 use plain_data::List;

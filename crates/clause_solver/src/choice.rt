@@ -10,7 +10,7 @@ ghost use Rattle.clause_solver.specs.Marks.{mark_at};
 ghost use Rattle.clause_solver.specs.Models.{HaveValues, is_open, IsModelOf};
 ghost use Rattle.clause_solver.specs.Searches.{IsOver, IsAssumed, IsNext, OnlyLeaves, stated};
 
-use activity_order::Order;
+use crate::Order;
 use clause_store::{Lit, Var};
 use clause_watch::Watch;
 use std::alloc::{AllocError, Global};

@@ -1,3 +1,10 @@
+//! Variables by their activity: which one a search decides next, and with which value.
+//!
+//! It promises: `next` gives a variable that waits and takes it out, and answers None only where none waits;
+//! `release` lets one wait again and notes its value, which `phase` gives; `touch` and `fade` change no more than
+//! the order. It stands on std alone. It must not know of clauses: that a variable was touched is all that it
+//! hears. Which variable is the most active one is no promise: no proof of a search rests on its choice.
+//!
 //! A search for a model, with a log of what was learnt.
 //!
 //! It promises: a model meets all clauses, the settled bits and the assumption; a refutation ends a sound
@@ -9,6 +16,7 @@
 //! round, and `solver` keeps what callers see. None of them knows how the watch finds clauses.
 #![tactic(auto)]
 
+mod order;
 mod analysis;
 mod choice;
 mod marks;
@@ -17,5 +25,7 @@ mod pace;
 mod search;
 mod solver;
 
+pub use order::Order;
 pub use outcome::Outcome;
 pub use solver::Solver;
+

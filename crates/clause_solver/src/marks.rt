@@ -4,7 +4,7 @@ ghost use Rattle.clause_store.specs.Lits.{AllBelow, SameLits};
 ghost use Rattle.clause_watch.specs.Watches.{IsWatch};
 ghost use Rattle.clause_solver.specs.Marks.{mark_at, AreMarked, AreClear, AreListed, IsFalseLit, IsLastMarked, falsified};
 
-use activity_order::Order;
+use crate::Order;
 use clause_store::{Lit, Var};
 use clause_watch::Watch;
 use std::alloc::{AllocError, Global};

@@ -18,7 +18,7 @@ use crate::analysis::{Lesson, learn, refute};
 use crate::choice::{Move, go_back, is_closing, next, values_of};
 use crate::marks::Marks;
 use crate::pace::Pace;
-use activity_order::Order;
+use crate::Order;
 use clause_store::{Clause, Lit, Var};
 use clause_watch::Watch;
 use plain_data::List;

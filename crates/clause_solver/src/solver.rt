@@ -10,7 +10,7 @@ use crate::choice::lean;
 use crate::marks::Marks;
 use crate::pace::Pace;
 use crate::search::Search;
-use activity_order::Order;
+use crate::Order;
 use clause_store::{ClauseList, Lit};
 use clause_watch::Watch;
 use plain_data::List;

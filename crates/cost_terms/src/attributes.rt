@@ -1,15 +1,15 @@
 //! The terms of the weights of attributes.
 ghost use Rattle.std.specs.Prelude.{◌≡◌, IfOk};
-ghost use Rattle.graph_costs.specs.Weights.{os_weight, target_weight, compiler_weight};
-ghost use Rattle.choice_terms.specs.Spread.{weighed};
+ghost use Rattle.graph_rules.specs.Weights.{os_weight, target_weight, compiler_weight};
+ghost use Rattle.cost_terms.specs.Spread.{weighed};
 ghost use Rattle.cost_terms.specs.Terms.{deprecated_terms, version_terms, os_terms, target_terms, compiler_terms};
 
-use choice_terms::spread;
+use crate::spread;
 use clause_store::Lit;
-use cost_weights::{
+use cost_vector::{
     compiler_weight, deprecated_weights, os_weight, target_weight, version_weights,
 };
-use formula_totals::Weighted;
+use crate::Weighted;
 use graph_core::Compiler;
 use literal_table::Block;
 use plain_data::Word;

@@ -1,2 +1,4 @@
+pub mod RankLaws
+pub mod IndexLaws
 pub mod Totals
 pub mod Parts

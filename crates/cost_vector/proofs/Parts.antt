@@ -6,9 +6,9 @@ use Rattle.graph_core.specs.Graphs.{Content}
 use Rattle.graph_core.specs.declared.node.Node.{Node}
 use Rattle.problem.specs.Nodes.{is_built}
 use Rattle.problem.specs.Problems.{Problem}
-use Rattle.graph_costs.specs.Costs.{other_values, unused_defaults, provider_weights, stopped, criteria, sums, vector}
+use Rattle.graph_rules.specs.Costs.{other_values, unused_defaults, provider_weights, stopped, criteria, sums, vector}
 use Rattle.std.specs.Str.{bytes_eq}
-use Rattle.graph_costs.specs.Weights.{provider_weight}
+use Rattle.graph_rules.specs.Weights.{provider_weight}
 use Rattle.cost_vector.specs.Terms.{variant_cost, weight_at, term_cost, in_part, part_cost, part_sum, part_sums}
 use Rattle.cost_vector.specs.declared.terms.Term.{Term}
 use Rattle.cost_vector.specs.declared.terms.Term.TheVariants as terms

@@ -2,7 +2,7 @@
 use Rattle.std.proofs.Common.{◌≡◌, refl, sym, ap, ◌∙◌, Bool, true, false, ℕ, ◌+◌, ◌-◌, ◌^◌, ◌<◌, ◌≤◌, min, arith, length, get_or, take, List, [], ◌∷◌, cond}
 use Rattle.std.specs.List.{filter, sum_by}
 use Rattle.std.proofs.lemmas.List.Sums.{sum_by_more, sum_by-cons}
-use Rattle.graph_costs.specs.Costs.{stopped}
+use Rattle.graph_rules.specs.Costs.{stopped}
 
 cap_both : (a b m : ℕ) → min (min a m + min b m) m ≡ min (a + b) m
 cap_both a b m = omega arith

@@ -1,2 +1,4 @@
+-- what contracts say
+pub mod Ranks
 -- inside
 pub mod Terms

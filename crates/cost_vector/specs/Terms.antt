@@ -8,8 +8,8 @@ use Rattle.condition_rules.specs.Words.{is_some_and}
 use Rattle.condition_rules.specs.Holds.{governing}
 use Rattle.problem.specs.Nodes.{is_built}
 use Rattle.problem.specs.Problems.{world_of, Problem}
-use Rattle.graph_costs.specs.Weights.{version_weight, is_deprecated, os_weight, target_weight, compiler_weight, provider_weight}
-use Rattle.graph_costs.specs.Costs.{missing, beside_default, differ_in_compiler, differ_in_os, differ_in_target, other_values, unused_defaults, provider_weights, edges_to, at_root, off_root, stopped}
+use Rattle.graph_rules.specs.Weights.{version_weight, is_deprecated, os_weight, target_weight, compiler_weight, provider_weight}
+use Rattle.graph_rules.specs.Costs.{missing, beside_default, differ_in_compiler, differ_in_os, differ_in_target, other_values, unused_defaults, provider_weights, edges_to, at_root, off_root, stopped}
 use Rattle.cost_vector.specs.declared.terms.Attribute.{Attribute}
 use Rattle.cost_vector.specs.declared.terms.Attribute.TheVariants as attributes
 use Rattle.cost_vector.specs.declared.terms.Term.{Term}

@@ -1,13 +1,13 @@
 // The vector.
 ghost use Rattle.std.specs.Prelude.{◌≡◌, IfOk, map, sum_by};
-ghost use Rattle.graph_costs.specs.Costs.{stopped, vector};
+ghost use Rattle.graph_rules.specs.Costs.{stopped, vector};
 ghost use Rattle.cost_vector.specs.Terms.{term_cost, placed, part_cost, part_sum, part_sums};
 
 use crate::terms::{Attribute, Place, Term, part_cost};
 use condition_rules::Paths;
 use graph_core::{Graph, Node};
 use problem::Problem;
-use problem_lookups::Explored;
+use problem::Explored;
 use std::alloc::{AllocError, Global};
 
 fn sum_over(

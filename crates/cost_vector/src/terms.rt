@@ -1,14 +1,14 @@
 // What is summed over the nodes.
 ghost use Rattle.std.specs.Prelude.{◌≡◌, IfOk};
-ghost use Rattle.graph_costs.specs.Costs.{stopped};
+ghost use Rattle.graph_rules.specs.Costs.{stopped};
 ghost use Rattle.cost_vector.specs.Terms.{term_cost, placed, in_part, part_cost};
 
 use crate::node_costs::{edges_differing, is_root, over_variants, provider_weights};
 use condition_rules::Paths;
-use cost_weights::{compiler_weight, is_deprecated, os_weight, target_weight, version_weight};
+use crate::{compiler_weight, is_deprecated, os_weight, target_weight, version_weight};
 use graph_core::Node;
 use problem::Problem;
-use problem_lookups::{Explored, is_built};
+use problem::{Explored, is_built};
 use std::alloc::{AllocError, Global};
 
 /// In what the ends of an edge may differ.

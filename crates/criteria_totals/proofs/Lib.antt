@@ -1,4 +1,12 @@
-pub mod UnaryLaws
+pub mod MergeLaws
+pub mod JoinLaws
+pub mod DigitLaws
+pub mod SumLaws
+pub mod BitLaws
+pub mod SpelledLaws
 pub mod MergeLoops
+pub mod DigitLoops
+pub mod UnaryLaws
+pub mod CriteriaTotalsMergeLoops
 pub mod SpellingLaws
 pub mod TotalLaws

@@ -1,10 +1,8 @@
 -- The loops of the merges, step by step.
-use Rattle.std.proofs.Common.{◌≡◌, ℕ, suc, ◌+◌, ◌/◌, ◌<◌, ◌≤◌, List, [], ◌∷◌, ◌++◌, length, take, drop, get_or, reverse, replicate, append_assoc, refl, sym, ap, ◌∙◌, arith}
+use Rattle.std.proofs.Common.{◌≡◌, ℕ, suc, ◌+◌, List, [], ◌∷◌, ◌++◌, length, append_assoc, refl, sym, ap, ◌∙◌, arith}
 use Rattle.clause_store.specs.declared.Lit.{Lit}
-use Rattle.gate_plans.specs.Gates.{Sides, Planned, Made, with_gate}
-use Rattle.clause_circuits.specs.Trees.{halved}
-use Rattle.criteria_totals.specs.Unary.{each, on_clause, off_clause, at_least, merge_from, unary_on, unary_bits_on}
-use Rattle.clause_circuits.proofs.TreeLaws.{halved-none, halved-leaf, halved-split}
+use Rattle.clause_circuits.specs.Gates.{Sides, Planned, Made, with_gate}
+use Rattle.criteria_totals.specs.Merges.{each, on_clause, off_clause, at_least, merge_from, merged_on}
 use Rattle.clause_circuits.proofs.AddLoops.{with_front}
 
 pub each-more : {A : Type 0} (f : ℕ → List A) (i : ℕ) (now new : List A) → now ≡ each f i → new ≡ now ++ f i → new ≡ each f (i + 1)
@@ -31,21 +29,18 @@ merge-more j w k p q g l xs ys lits more all n inv e f m =
         → with_front lits (record { plan = m.plan; answer = l ∷ m.answer }) ≡ with_front more m
     pushed lits l m more e = rw (e, append_assoc lits (l ∷ []) m.answer) refl
 
-pub unary-none : (p : Planned) (ts : List (ℕ × Lit)) (xs : List Lit) → length ts < 1 → xs ≡ []
-    → unary_on p (halved ts) ≡ record { plan = p; answer = xs }
-unary-none p ts xs h e = rw (halved-none ts h, e) refl
+pub merged-first : (p : Planned) (xs ys zs : List Lit) → length xs ≡ 0 → zs ≡ ys → merged_on p xs ys ≡ record { plan = p; answer = zs }
+merged-first p [] ys zs h e = rw e refl
+merged-first p (x ∷ xs) ys zs h e = absurd (omega arith)
 
-pub unary-leaf : (p : Planned) (ts : List (ℕ × Lit)) (d : ℕ × Lit) (xs : List Lit) → length ts < 2 → 1 ≤ length ts
-    → xs ≡ replicate (get_or ts 0 d).0 (get_or ts 0 d).1 → unary_on p (halved ts) ≡ record { plan = p; answer = xs }
-unary-leaf p ts d xs h k e = rw (halved-leaf ts d h k, e) refl
+pub merged-second : (p : Planned) (xs ys zs : List Lit) → (length xs ≡ 0 → ⊥) → length ys ≡ 0 → zs ≡ xs
+    → merged_on p xs ys ≡ record { plan = p; answer = zs }
+merged-second p [] ys zs n h e = absurd (n refl)
+merged-second p (x ∷ xs) [] zs n h e = rw e refl
+merged-second p (x ∷ xs) (y ∷ ys) zs n h e = absurd (omega arith)
 
-pub unary-node : (p q r : Planned) (ts : List (ℕ × Lit)) (xs ys zs ws : List Lit) (m : Made (List Lit)) → 2 ≤ length ts →
-    unary_on p (halved (take (length ts / 2) ts)) ≡ record { plan = q; answer = xs }
-    → unary_on q (halved (drop (length ts / 2) ts)) ≡ record { plan = r; answer = ys } →
-    zs ≡ xs → ws ≡ ys → merge_from 1 (length zs + length ws) r zs ws ≡ m → unary_on p (halved ts) ≡ m
-unary-node p q r ts xs ys zs ws m h e f a b o = ap (unary_on p) (halved-split ts h) ∙ rw (e, f, ← a, ← b) o
-
-pub unary-built : (p q : Planned) (ts : List (ℕ × Lit)) (ls bits : List Lit) → unary_on p (halved ts) ≡ record { plan = q; answer = ls }
-    → bits ≡ reverse ls → unary_bits_on p ts ≡ record { plan = q; answer = bits }
-unfolding unary_bits_on
-unary-built p q ts ls bits e f = rw (e, f) refl
+pub merged-both : (p : Planned) (xs ys : List Lit) (m : Made (List Lit)) → (length xs ≡ 0 → ⊥) → (length ys ≡ 0 → ⊥)
+    → merge_from 1 (length xs + length ys) p xs ys ≡ m → merged_on p xs ys ≡ m
+merged-both p [] ys m n k e = absurd (n refl)
+merged-both p (x ∷ xs) [] m n k e = absurd (k refl)
+merged-both p (x ∷ xs) (y ∷ ys) m n k e = e

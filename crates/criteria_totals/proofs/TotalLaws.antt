@@ -6,15 +6,15 @@ use Rattle.clause_store.specs.declared.Lit.{Lit}
 use Rattle.clause_store.specs.Lits.{lit_true, AllBelow}
 use Rattle.clause_store.specs.Clauses.{Clauses}
 use Rattle.clause_store.proofs.Range.{AllBelow-le}
-use Rattle.gate_plans.specs.Gates.{Planned, Made, next, with_gates, IsSound}
-use Rattle.gate_plans.specs.Steps.{Step, FollowsPlan, plan_at}
-use Rattle.gate_plans.proofs.StepLaws.{Step-refl, Step-trans, sound_from, step-defines, step-follows, step-vars}
+use Rattle.clause_circuits.specs.Gates.{Planned, Made, next, with_gates, IsSound}
+use Rattle.clause_circuits.specs.Steps.{Step, FollowsPlan, plan_at}
+use Rattle.clause_circuits.proofs.StepLaws.{Step-refl, Step-trans, sound_from, step-defines, step-follows, step-vars}
 use Rattle.clause_circuits.specs.Trees.{halved, weight_of, total, weight, TermsBelow}
 use Rattle.clause_circuits.specs.Binary.{size}
-use Rattle.digit_sums.specs.Digits.{digit_bits_on}
+use Rattle.criteria_totals.specs.Digits.{digit_bits_on}
 use Rattle.criteria_totals.specs.Unary.{thresholds, unary_on, unary_bits_on}
 use Rattle.clause_circuits.proofs.TreeLaws.{halved-sum, halved-below, weight-le}
-use Rattle.digit_sums.proofs.SpelledLaws.{digit_bits_on-is, digit_bits_on-length}
+use Rattle.criteria_totals.proofs.SpelledLaws.{digit_bits_on-is, digit_bits_on-length}
 use Rattle.clause_circuits.proofs.BinaryLaws.{AllBelow-append, AllBelow-reverse, map-reverse}
 use Rattle.criteria_totals.proofs.UnaryLaws.{unary_on-is}
 use Rattle.criteria_totals.specs.Spellings.{unary, binary, spell, spell_all, within, bits_for, AllSmall}

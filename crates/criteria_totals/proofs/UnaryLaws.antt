@@ -3,16 +3,16 @@ use Rattle.std.proofs.Common.{◌≡◌, ℕ, zero, suc, ◌+◌, ◌-◌, ◌*�
 use Rattle.std.proofs.lemmas.Bool.{cases_Bool, cases_lt, le-leb, lt-leb, false≢true}
 use Rattle.std.proofs.lemmas.List.{map-append, length-replicate}
 use Rattle.std.proofs.Math.Bool.{or-false}
-use Rattle.gate_plans.proofs.ShapeLaws.{negations-below}
+use Rattle.clause_circuits.proofs.ShapeLaws.{negations-below}
 use Rattle.clause_store.specs.declared.Lit.{Lit}
 use Rattle.clause_store.specs.Lits.{var_of, negation, lit_true, clause_true, AllBelow}
 use Rattle.clause_store.proofs.Range.{AllBelow-le}
-use Rattle.gate_plans.specs.Gates.{Planned, Made, with_gate, next, rules_true, Agrees, AllClausesBelow}
-use Rattle.gate_plans.specs.Steps.{Step, FollowsPlan}
+use Rattle.clause_circuits.specs.Gates.{Planned, Made, with_gate, next, rules_true, Agrees, AllClausesBelow}
+use Rattle.clause_circuits.specs.Steps.{Step, FollowsPlan}
 use Rattle.clause_store.proofs.Meaning.{lit_true-negation}
-use Rattle.gate_plans.proofs.KeptClauses.{AllClausesBelow-append}
-use Rattle.gate_plans.proofs.Plans.{rules_true-append}
-use Rattle.gate_plans.proofs.StepLaws.{Step-refl, Step-trans, Step-gate}
+use Rattle.clause_circuits.proofs.KeptClauses.{AllClausesBelow-append}
+use Rattle.clause_circuits.proofs.Plans.{rules_true-append}
+use Rattle.clause_circuits.proofs.StepLaws.{Step-refl, Step-trans, Step-gate}
 use Rattle.clause_circuits.specs.Cells.{bit}
 use Rattle.clause_circuits.specs.Trees.{Tree, none, leaf, node, tree_sum, weight_of, TreeBelow}
 use Rattle.criteria_totals.specs.Unary.{thresholds, Spells, above, upto, each, on_clause, off_clause, at_least, merge_from, unary_on, CountsTo}

@@ -1,7 +1,7 @@
 -- Words of the worked rows: variables 0 and 1 are there before.
 use Rattle.std.specs.Prelude.{ℕ, List, [], ◌∷◌}
 use Rattle.clause_store.specs.declared.Lit.{Lit}
-use Rattle.gate_plans.specs.Gates.{Planned, lit_of}
+use Rattle.clause_circuits.specs.Gates.{Planned, lit_of}
 
 abbrev pub start : Planned
 start = record { first = 2; gates = [] }

@@ -3,10 +3,10 @@ use Rattle.std.specs.Prelude.{◌≡◌, ℕ, Bool, true, Some, List, [], ◌∷
 use Rattle.clause_store.specs.declared.Lit.{Lit}
 use Rattle.clause_store.specs.Lits.{lit_true, AllBelow}
 use Rattle.clause_store.specs.Clauses.{Clauses}
-use Rattle.gate_plans.specs.Growth.{Defines, MeetsSince}
-use Rattle.gate_plans.specs.Gates.{Planned, Made}
+use Rattle.clause_circuits.specs.Growth.{Defines, MeetsSince}
+use Rattle.clause_circuits.specs.Gates.{Planned, Made}
 use Rattle.clause_circuits.specs.Trees.{total, weight, TermsBelow}
-use Rattle.digit_sums.specs.Digits.{digit_bits_on}
+use Rattle.criteria_totals.specs.Digits.{digit_bits_on}
 use Rattle.criteria_totals.specs.Unary.{unary_bits_on}
 use Rattle.criteria_totals.specs.Spellings.{compare_bits, compare_numbers, spell_all, within, bits_for}
 

@@ -3,8 +3,8 @@ use Prim.Native.Nat.{suc, zero}
 use Rattle.std.specs.Prelude.{◌≡◌, ℕ, ◌+◌, ◌-◌, ◌≤◌, Bool, ◌&&◌, List, [], ◌∷◌, ◌++◌, length, map, take, drop, reverse, nat_le, replicate, if◌then◌else◌}
 use Rattle.clause_store.specs.declared.Lit.{Lit}
 use Rattle.clause_store.specs.Lits.{negation, lit_true, AllBelow}
-use Rattle.gate_plans.specs.Gates.{Sides, Planned, Made, with_gate, next}
-use Rattle.gate_plans.specs.Steps.{Step, FollowsPlan}
+use Rattle.clause_circuits.specs.Gates.{Sides, Planned, Made, with_gate, next}
+use Rattle.clause_circuits.specs.Steps.{Step, FollowsPlan}
 use Rattle.clause_circuits.specs.Trees.{Tree, none, leaf, node, halved, tree_sum, tree_total, weight_of}
 
 -- whether a number is at least k, k + 1 and so on

@@ -1,7 +1,7 @@
 //! Sums become bits.
 ghost use Rattle.std.specs.Prelude.{◌≡◌, ◌<◌, ◌^◌, IfOk};
-ghost use Rattle.gate_plans.specs.Growth.{Extends};
-ghost use Rattle.gate_plans.specs.Steps.{plan_at};
+ghost use Rattle.clause_circuits.specs.Growth.{Extends};
+ghost use Rattle.clause_circuits.specs.Steps.{plan_at};
 ghost use Rattle.clause_circuits.specs.Trees.{total};
 ghost use Rattle.clause_circuits.specs.Built.{IsBuilt};
 ghost use Rattle.criteria_totals.specs.Spellings.{AllSmall};
@@ -11,8 +11,8 @@ use crate::terms::{Bits, Terms};
 use crate::unary::plan_unary;
 use clause_circuits::total;
 use clause_store::{ClauseList, Lit};
-use digit_sums::plan_digits;
-use gate_plans::{Plan, define_plan};
+use crate::plan_digits;
+use clause_circuits::{Plan, define_plan};
 use std::alloc::{AllocError, Global};
 
 /// Bits that spell the sums of some lists, and compare from the first on as the sums do.

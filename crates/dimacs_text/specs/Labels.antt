@@ -4,7 +4,7 @@ use Rattle.clause_store.specs.declared.Label.{Label}
 use Rattle.clause_store.specs.declared.Label.TheVariants.{Structure, Demand}
 use Rattle.clause_store.specs.declared.list.Entry.{Entry}
 use Rattle.problem.specs.Problems.{Problem}
-use Rattle.reason_texts.specs.Texts.{reasons_text}
+use Rattle.run_answers.specs.Texts.{reasons_text}
 
 -- a clause by its id, the number of its demand, and that demand's line
 unfoldable pub demand_line : Problem → ℕ → ℕ → List ℕ

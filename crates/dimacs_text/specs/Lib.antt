@@ -7,3 +7,5 @@ pub mod Clauses
 -- inside
 pub mod Signs
 pub mod Meanings
+pub mod Answers
+pub mod Attempts

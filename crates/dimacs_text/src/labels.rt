@@ -3,13 +3,13 @@
 ghost use Rattle.std.specs.Prelude.{◌≡◌, ◌++◌, ◌∷◌, [], OnOk, IfOk};
 ghost use Rattle.std.specs.Option.{option_map};
 ghost use Rattle.clause_store.specs.Clauses.{at_id};
-ghost use Rattle.reason_texts.specs.Texts.{reasons_text};
+ghost use Rattle.run_answers.specs.Texts.{reasons_text};
 ghost use Rattle.dimacs_text.specs.Labels as lines;
 
 use crate::signs::write_number;
 use clause_store::{ClauseList, Label};
 use problem::Problem;
-use reason_texts::write_reasons;
+use run_answers::write_reasons;
 use std::alloc::{AllocError, Global};
 
 // Each of these that takes `out` appends a text to it, or some of it after an error.

@@ -5,7 +5,7 @@ use Rattle.std.specs.Option.{option_map}
 use Rattle.std.proofs.lemmas.Bool.{ltb-true, eq-eqb, and_parts, and_from}
 use Rattle.variant_values.specs.Texts.{Texts, with_texts}
 use Rattle.recipe_values.specs.declared.value.Value.{Value}
-use Rattle.conditions.specs.Right.{has_all, is_count_of}
+use Rattle.recipe_data.specs.Right.{has_all, is_count_of}
 use Rattle.directive_arguments.specs.Said.{IsShape}
 use Rattle.directive_arguments.specs.Variants.{switch, bool_shape, kind_of, default_texts, is_right_default, shape_by, shape_with}
 

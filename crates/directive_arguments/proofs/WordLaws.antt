@@ -14,7 +14,7 @@ use Rattle.variant_values.specs.Texts.{Texts}
 use Rattle.spec_grammar.specs.Meaning.{truth}
 use Rattle.directive_arguments.specs.declared.fault.ArgumentFault.TheVariants as fault
 use Rattle.directive_arguments.specs.Arguments.{once, note}
-use Rattle.conditions.specs.Right.{has_all}
+use Rattle.recipe_data.specs.Right.{has_all}
 
 pub note_text : (place : ℕ) (w : List ℕ) (names : Texts) → IsUtf8 w → note place w names ≡ once place w names
 note_text place w names h = rw (is_utf8-from_IsUtf8 w h) refl

@@ -4,7 +4,7 @@ use Rattle.std.specs.List.{AllByRecursion}
 use Rattle.spec_grammar.specs.Signs.{IsName}
 use Rattle.spec_grammar.specs.declared.part.Part.{Part}
 use Rattle.spec_grammar.specs.declared.part.Spec.{Spec}
-use Rattle.conditions.specs.Right.{has_all, is_count_of}
+use Rattle.recipe_data.specs.Right.{has_all, is_count_of}
 use Rattle.directive_arguments.specs.declared.given.Given.{Given}
 use Rattle.directive_arguments.specs.declared.given.Positional.{Positional}
 use Rattle.directive_arguments.specs.declared.variant.Shape.{Shape}

@@ -12,7 +12,7 @@ use Rattle.recipe_values.specs.declared.value.Scalar.TheVariants.{Text, Truth}
 use Rattle.recipe_values.specs.declared.value.Element.{Element}
 use Rattle.recipe_values.specs.declared.value.Value.{Value}
 use Rattle.recipe_values.specs.declared.value.Value.TheVariants.{One, Many}
-use Rattle.conditions.specs.Right.{has_all}
+use Rattle.recipe_data.specs.Right.{has_all}
 use Rattle.directive_arguments.specs.declared.variant.Shape.{Shape}
 use Rattle.directive_arguments.specs.declared.given.Options.{Options}
 use Rattle.directive_arguments.specs.Keywords.{scalar_text, truth_text}

@@ -6,7 +6,7 @@ ghost use Rattle.spec_grammar.specs.Meaning.{truth};
 ghost use Rattle.std.specs.Option.{option_map};
 ghost use Rattle.std.specs.Str.{str_eq_ignore_ascii_case};
 ghost use Rattle.variant_values.specs.Texts.{with_text, with_texts};
-ghost use Rattle.conditions.specs.Right.{has_all};
+ghost use Rattle.recipe_data.specs.Right.{has_all};
 ghost use Rattle.directive_arguments.specs.Keywords.{scalar_text, truth_text};
 ghost use Rattle.directive_arguments.specs.Variants.{switch_text, switch, bool_shape, kind_of, scalar_texts, element_text, cut_texts, default_texts, is_right_default, valued_shape, shape_by, shape_with};
 

@@ -8,7 +8,7 @@ use Rattle.clause_store.specs.declared.Lit.{Lit}
 use Rattle.clause_store.specs.Lits.{var_of}
 use Rattle.clause_store.specs.declared.Label.TheVariants.{Structure}
 use Rattle.clause_store.specs.Clauses.{Clauses, Meets}
-use Rattle.gate_plans.specs.Growth.{Agree, Says as ClausesSay, where_asked}
+use Rattle.clause_circuits.specs.Growth.{Agree, Says as ClausesSay, where_asked}
 use Rattle.clause_formulas.specs.declared.defined.Defined.{Defined}
 use Rattle.clause_formulas.specs.Statements.{Statement, eval, any_of, SaidBelow}
 use Rattle.clause_formulas.specs.Drafts.{value_at, part_at}
@@ -35,10 +35,10 @@ use Rattle.graph_rules.specs.declared.rule.Rule.{Rule}
 use Rattle.graph_rules.specs.declared.rule.Rule.TheVariants as rules
 use Rattle.literal_table.specs.Tables.{Table, IsTable}
 use Rattle.literal_table.specs.Spells.{Spells}
-use Rattle.encoding_stages.specs.Stages.{Nothing, Both, IsLocal, Models, Stage, Decodes}
-use Rattle.encoding_stages.specs.Rules.{Says, Holds, FitsGates, ValuesSay, asked_among, KeepsAsked}
-use Rattle.encoding_stages.proofs.Growing.{added, joined, restated, named, decodes, local-le, local-both}
-use Rattle.encoding_stages.proofs.Adapters.{asserted, defined, demanded, begun}
+use Rattle.graph_levels.specs.Stages.{Nothing, Both, IsLocal, Models, Stage, Decodes}
+use Rattle.graph_levels.specs.Rules.{Says, Holds, FitsGates, ValuesSay, asked_among, KeepsAsked}
+use Rattle.graph_levels.proofs.Growing.{added, joined, restated, named, decodes, local-le, local-both}
+use Rattle.graph_levels.proofs.Adapters.{asserted, defined, demanded, begun}
 use Rattle.graph_levels.specs.Numbers.{names_of}
 use Rattle.graph_levels.specs.Edges.{EdgesSay, EdgesBelow, edges_on}
 use Rattle.graph_levels.specs.Levels.{SpellsEdges, AGraph, KeepsLevelRules, PathsSay, input_for, places_of, path_said, root_names}

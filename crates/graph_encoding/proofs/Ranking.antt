@@ -4,15 +4,15 @@ use Rattle.std.specs.List.{list_all}
 use Rattle.clause_store.specs.declared.Lit.{Lit}
 use Rattle.clause_formulas.specs.Statements.{eval}
 use Rattle.clause_store.specs.Clauses.{Clauses, Meets}
-use Rattle.gate_plans.specs.Growth.{MeetsSince}
+use Rattle.clause_circuits.specs.Growth.{MeetsSince}
 use Rattle.criteria_totals.specs.Spellings.{compare_bits, compare_numbers}
 use Rattle.criteria_totals.specs.Totals.{values_at}
 use Rattle.graph_core.specs.Graphs.{Text, Content}
 use Rattle.problem.specs.Nodes.{IsWellFormed}
 use Rattle.problem.specs.Problems.{Problem}
 use Rattle.literal_table.specs.Tables.{Table}
-use Rattle.encoding_stages.specs.Stages.{Nothing, Models, Stage, Decodes}
-use Rattle.encoding_stages.proofs.Growing.{added, meets-parts}
+use Rattle.graph_levels.specs.Stages.{Nothing, Models, Stage, Decodes}
+use Rattle.graph_levels.proofs.Growing.{added, meets-parts}
 use Rattle.graph_encoding.specs.Formulas.{Formulas, IsRightTable, AreRightFormulas}
 use Rattle.graph_encoding.specs.Encodings.{encode_on, rules_on, levels_made, edges_made, told_in, IsValid}
 use Rattle.graph_encoding.specs.Best.{SaysAll, OrdersBits, RanksGraphs}

@@ -2,7 +2,7 @@
 use Rattle.std.specs.Prelude.{◌≡◌, ℕ, Bool, List}
 use Rattle.clause_store.specs.declared.Lit.{Lit}
 use Rattle.clause_store.specs.Clauses.{Clauses, Meets}
-use Rattle.gate_plans.specs.Growth.{MeetsSince, Defines}
+use Rattle.clause_circuits.specs.Growth.{MeetsSince, Defines}
 use Rattle.clause_formulas.specs.Statements.{Statement}
 use Rattle.clause_formulas.specs.Drafts.{value_at}
 use Rattle.clause_formulas.specs.declared.defined.Defined.{Defined}
@@ -14,8 +14,8 @@ use Rattle.graph_core.specs.Graphs.{Text, Content}
 use Rattle.problem.specs.Problems.{Problem}
 use Rattle.literal_table.specs.Tables.{Table}
 use Rattle.literal_table.specs.Spells.{Spells}
-use Rattle.encoding_stages.specs.Stages.{Decodes}
-use Rattle.encoding_stages.specs.Bits.{IsLeastModel, IsBest}
+use Rattle.graph_levels.specs.Stages.{Decodes}
+use Rattle.graph_levels.specs.Bits.{IsLeastModel, IsBest}
 use Rattle.graph_levels.specs.Edges.{EdgesSay}
 use Rattle.graph_encoding.specs.Formulas.{Formulas, PathFormulas, PathsTold, ConditionsTold}
 use Rattle.graph_encoding.specs.Encodings.{edges_made, levels_made, path_of, told_in}

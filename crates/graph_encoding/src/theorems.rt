@@ -6,7 +6,7 @@ ghost use Rattle.clause_formulas.specs.Statements.{eval};
 ghost use Rattle.graph_core.specs.Graphs.{Text, Content};
 ghost use Rattle.problem.specs.Problems.{Problem};
 ghost use Rattle.literal_table.specs.Tables.{Table};
-ghost use Rattle.encoding_stages.specs.Stages.{Decodes};
+ghost use Rattle.graph_levels.specs.Stages.{Decodes};
 ghost use Rattle.graph_encoding.specs.Formulas.{Formulas, IsRightTable, AreRightFormulas, MetBelow};
 ghost use Rattle.graph_encoding.specs.Encodings.{encode_on, told_in, asked_demands, IsValid};
 ghost use Rattle.graph_encoding.specs.Best.{met_for, SaysAll, OrdersBits, RanksGraphs};

@@ -14,9 +14,9 @@ use Rattle.site_settings.specs.declared.settings.CompilerEntry.{CompilerEntry}
 use Rattle.graph_rules.specs.Built.{keeps_buildable, keeps_version, keeps_compiler, keeps_machine, supports}
 use Rattle.graph_rules.specs.Whole.{keeps_provider, keeps_no_cycle, keeps_reachable}
 use Rattle.literal_table.proofs.Spelling.{named-so}
-use Rattle.graph_words.specs.Facts.{Word, Fact, has_version, has_compiler, has_os, has_target, node_has, is_in, is_so}
-use Rattle.graph_words.proofs.Rules.{or-false, given-kept, written-kept, named-kept, some-kept}
-use Rattle.graph_words.proofs.Kept.{there, provides-kept}
+use Rattle.graph_formulas.specs.Facts.{Word, Fact, has_version, has_compiler, has_os, has_target, node_has, is_in, is_so}
+use Rattle.graph_formulas.proofs.Rules.{or-false, given-kept, written-kept, named-kept, some-kept}
+use Rattle.graph_formulas.proofs.Kept.{there, provides-kept}
 use Rattle.graph_formulas.specs.Built.{buildable_rule, version_rule, entry_rule, compiler_rule, machine_rule, provider_rule, no_cycle_rule, reachable_rule}
 
 pub either-way : (a b : Text) → bytes_eq a b ≡ bytes_eq b a

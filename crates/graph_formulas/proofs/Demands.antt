@@ -13,9 +13,9 @@ use Rattle.graph_rules.specs.Directives.{keeps_root, keeps_edge, keeps_constrain
 use Rattle.graph_rules.specs.Valid.{keeps_directive, keeps_demand}
 use Rattle.problem.specs.declared.demand.Demand.{Demand}
 use Rattle.problem.specs.declared.demand.Demand.TheVariants as demand
-use Rattle.graph_words.specs.Lists.{◌and◌, each}
+use Rattle.graph_formulas.specs.Lists.{◌and◌, each}
 use Rattle.literal_table.proofs.Spelling.{named-so}
-use Rattle.graph_words.proofs.Rules.{written-kept, each-kept}
+use Rattle.graph_formulas.proofs.Rules.{written-kept, each-kept}
 use Rattle.graph_formulas.specs.Terms.{Term, is_true, known_rule}
 use Rattle.graph_formulas.specs.Directives.{root_rule, edge_rule, constraint_rule, conflict_rule, requirement_rule}
 use Rattle.graph_formulas.specs.Demands.{directive_rule, demand_rule}

@@ -15,17 +15,17 @@ use Rattle.problem.specs.Nodes.{covers, is_built}
 use Rattle.graph_core.specs.declared.node.Node.{Node}
 use Rattle.graph_core.specs.declared.node.Kinds.{Kinds}
 use Rattle.condition_rules.specs.Holds.{asked_node, suits, holds, all_hold}
-use Rattle.conditions.specs.declared.recipe.DependRow.{DependRow}
-use Rattle.conditions.specs.declared.recipe.ConflictRow.{ConflictRow}
-use Rattle.conditions.specs.declared.recipe.RequireRow.{RequireRow}
+use Rattle.recipe_data.specs.declared.recipe.DependRow.{DependRow}
+use Rattle.recipe_data.specs.declared.recipe.ConflictRow.{ConflictRow}
+use Rattle.recipe_data.specs.declared.recipe.RequireRow.{RequireRow}
 use Rattle.problem.specs.Problems.{Problem, world_of}
 use Rattle.graph_rules.specs.Directives.{keeps_root, keeps_edge, keeps_constraint, keeps_conflict, keeps_requirement, has_choice}
-use Rattle.graph_words.specs.Facts.{Word, has_edge, is_in}
-use Rattle.graph_words.specs.Lists.{just_one}
-use Rattle.graph_words.specs.Parts.{suits_rule, holds_rule}
+use Rattle.graph_formulas.specs.Facts.{Word, has_edge, is_in}
+use Rattle.graph_formulas.specs.Lists.{just_one}
+use Rattle.graph_formulas.specs.Parts.{suits_rule, holds_rule}
 use Rattle.literal_table.proofs.Spelling.{named-so}
-use Rattle.graph_words.proofs.Rules.{some-kept, named-kept}
-use Rattle.graph_words.proofs.Kept.{by_node, asked-kept, holds-kept, suits-kept}
+use Rattle.graph_formulas.proofs.Rules.{some-kept, named-kept}
+use Rattle.graph_formulas.proofs.Kept.{by_node, asked-kept, holds-kept, suits-kept}
 use Rattle.graph_formulas.proofs.Few.{one-kept}
 use Rattle.graph_formulas.specs.Terms.{Term, is_true, known_rule, where_built}
 use Rattle.graph_formulas.specs.Directives.{root_rule, edge_to, edge_rule, suits_asked, constraint_rule, conflict_rule, choice_rule, requirement_rule}

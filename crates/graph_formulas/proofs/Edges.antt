@@ -16,15 +16,15 @@ use Rattle.graph_core.specs.declared.node.Edge.{Edge}
 use Rattle.graph_core.specs.declared.node.Kinds.{Kinds}
 use Rattle.graph_rules.proofs.Lists.{bytes_eq-same}
 use Rattle.condition_rules.specs.Holds.{asked_node, all_hold}
-use Rattle.conditions.specs.declared.recipe.DependRow.{DependRow}
+use Rattle.recipe_data.specs.declared.recipe.DependRow.{DependRow}
 use Rattle.problem.specs.Problems.{Problem, world_of, depends_at}
 use Rattle.graph_rules.specs.Built.{asks, asking, asked_kinds}
 use Rattle.graph_rules.specs.Whole.{uses}
-use Rattle.graph_words.specs.Facts.{is_in, has_origin}
-use Rattle.graph_words.specs.Lists.{given, some}
+use Rattle.graph_formulas.specs.Facts.{is_in, has_origin}
+use Rattle.graph_formulas.specs.Lists.{given, some}
 use Rattle.literal_table.proofs.Spelling.{named-so}
-use Rattle.graph_words.proofs.Rules.{given-kept, each-kept, some-kept, named-kept}
-use Rattle.graph_words.proofs.Kept.{by_node, there, asked-kept}
+use Rattle.graph_formulas.proofs.Rules.{given-kept, each-kept, some-kept, named-kept}
+use Rattle.graph_formulas.proofs.Kept.{by_node, there, asked-kept}
 use Rattle.graph_formulas.specs.Terms.{Term, is_true, met_rule, builds}
 use Rattle.graph_formulas.specs.Edges.{no_kinds, of_provider, asks_rule, may_ask, names_virtual, may_use, kind_rule, extra_edge_rule, use_rule}
 use Rattle.graph_formulas.proofs.Directives.{LeadsToNodes, not-or, then-and}

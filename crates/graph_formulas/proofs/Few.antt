@@ -8,8 +8,8 @@ use Rattle.std.proofs.lemmas.List.{take-append-drop}
 use Rattle.std.proofs.lemmas.List.Sums.{sum_by-cons}
 use Rattle.std.proofs.lemmas.List.Folds.{sum_by-zero, list_all-append}
 use Rattle.clause_formulas.specs.Rules.{Rule, isnt, keeps_rule, any_rule, all_rules}
-use Rattle.graph_words.specs.Lists.{some, first_rules, apart_rules, half_of, halves_rule, few_rules, just_one}
-use Rattle.graph_words.proofs.Rules.{or-false, some-kept}
+use Rattle.graph_formulas.specs.Lists.{some, first_rules, apart_rules, half_of, halves_rule, few_rules, just_one}
+use Rattle.graph_formulas.proofs.Rules.{or-false, some-kept}
 
 -- exactly one
 none-count : {T : Type 0} (test : T → Bool) (xs : List T) → (count_by test xs == 0) ≡ not (list_any test xs)

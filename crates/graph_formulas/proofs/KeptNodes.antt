@@ -20,10 +20,10 @@ use Rattle.reuse_db.specs.declared.record.Record.{Record}
 use Rattle.graph_rules.specs.Kept.{same_attributes, external_node, installed_node, has_kinds, keeps_child, is_child, keeps_origin, keeps_kept}
 use Rattle.graph_rules.proofs.Lists.{In, bytes_eq-same, bytes_eq-itself}
 use Rattle.literal_table.proofs.Spelling.{named-so}
-use Rattle.graph_words.specs.Facts.{Word, Fact, same_variants, has_origin, has_version, has_variants, has_compiler, has_os, has_target, has_prefix, has_edge, node_has, is_in, is_so}
-use Rattle.graph_words.specs.Lists.{◌and◌, given, named, each}
-use Rattle.graph_words.proofs.Rules.{given-kept, named-kept, each-kept}
-use Rattle.graph_words.proofs.Kept.{there}
+use Rattle.graph_formulas.specs.Facts.{Word, Fact, same_variants, has_origin, has_version, has_variants, has_compiler, has_os, has_target, has_prefix, has_edge, node_has, is_in, is_so}
+use Rattle.graph_formulas.specs.Lists.{◌and◌, given, named, each}
+use Rattle.graph_formulas.proofs.Rules.{given-kept, named-kept, each-kept}
+use Rattle.graph_formulas.proofs.Kept.{there}
 use Rattle.graph_formulas.specs.Edges.{no_kinds}
 use Rattle.graph_formulas.specs.Kept.{same_origin, installs, same_rule, kinds_rule, is_child_name, child_rule, recorded_rule, origin_rule, kept_rule}
 

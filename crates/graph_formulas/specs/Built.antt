@@ -7,9 +7,9 @@ use Rattle.graph_core.specs.Graphs.{Text}
 use Rattle.condition_rules.specs.Words.{among, is_some_and}
 use Rattle.problem.specs.Problems.{Problem, world_of, recipe_at, versions_at, entry_of, is_buildable_in, same_compiler}
 use Rattle.site_settings.specs.declared.settings.CompilerEntry.{CompilerEntry}
-use Rattle.graph_words.specs.Facts.{Word, node_has, has_version, has_compiler, has_os, has_target, has_path}
-use Rattle.graph_words.specs.Lists.{◌and◌, given, written, named, some}
-use Rattle.graph_words.specs.Parts.{provides_rule}
+use Rattle.graph_formulas.specs.Facts.{Word, node_has, has_version, has_compiler, has_os, has_target, has_path}
+use Rattle.graph_formulas.specs.Lists.{◌and◌, given, written, named, some}
+use Rattle.graph_formulas.specs.Parts.{provides_rule}
 
 module _ (problem : Problem) where
   abbrev pub buildable_rule : Text → Rule Word

@@ -5,7 +5,7 @@ use Rattle.graph_core.specs.Graphs.{Text}
 use Rattle.problem.specs.Problems.{Problem, depends_at, conflicts_at, requirements_at}
 use Rattle.problem.specs.declared.demand.Demand.{Demand}
 use Rattle.problem.specs.declared.demand.Demand.TheVariants as demand
-use Rattle.graph_words.specs.Lists.{◌and◌, given, written, each}
+use Rattle.graph_formulas.specs.Lists.{◌and◌, given, written, each}
 use Rattle.graph_formulas.specs.Terms.{Term, known_rule, where_built}
 use Rattle.graph_formulas.specs.Directives.{root_rule, edge_rule, constraint_rule, conflict_rule, requirement_rule}
 

@@ -7,11 +7,11 @@ use Rattle.graph_core.specs.Graphs.{Text}
 use Rattle.condition_rules.specs.Words.{among, is_some_and}
 use Rattle.graph_core.specs.declared.node.Kinds.{Kinds}
 use Rattle.virtuals.specs.Virtuals.{is_virtual}
-use Rattle.conditions.specs.declared.recipe.DependRow.{DependRow}
+use Rattle.recipe_data.specs.declared.recipe.DependRow.{DependRow}
 use Rattle.problem.specs.Problems.{Problem, world_of, depends_at}
-use Rattle.graph_words.specs.Facts.{provides_as, has_edge}
-use Rattle.graph_words.specs.Lists.{◌and◌, given, named, each, some}
-use Rattle.graph_words.specs.Parts.{asked_rule}
+use Rattle.graph_formulas.specs.Facts.{provides_as, has_edge}
+use Rattle.graph_formulas.specs.Lists.{◌and◌, given, named, each, some}
+use Rattle.graph_formulas.specs.Parts.{asked_rule}
 use Rattle.graph_formulas.specs.Terms.{Term, known_rule, met_rule, built_rule}
 
 abbrev pub no_kinds : Kinds

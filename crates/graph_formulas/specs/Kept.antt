@@ -17,8 +17,8 @@ use Rattle.graph_rules.specs.Kept.{external_node, installed_node}
 use Rattle.literal_table.specs.Choices.{offered}
 use Rattle.literal_table.specs.Tables.{Table, block_of}
 use Rattle.literal_table.specs.declared.block.Block.{Block}
-use Rattle.graph_words.specs.Facts.{Word, node_has, has_origin, has_version, has_variants, has_compiler, has_os, has_target, has_prefix, has_edge}
-use Rattle.graph_words.specs.Lists.{◌and◌, given, named, each}
+use Rattle.graph_formulas.specs.Facts.{Word, node_has, has_origin, has_version, has_variants, has_compiler, has_os, has_target, has_prefix, has_edge}
+use Rattle.graph_formulas.specs.Lists.{◌and◌, given, named, each}
 use Rattle.graph_formulas.specs.Edges.{no_kinds}
 
 -- ---- origins

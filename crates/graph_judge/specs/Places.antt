@@ -1,6 +1,6 @@
 -- The places where a rule is broken, one element after another.
 use Rattle.std.specs.Prelude.{Bool, true, false, ℕ, List, [], ◌∷◌, flat_map, Option, Some, None}
-use Rattle.conditions.specs.declared.recipe.DependRow.{DependRow}
+use Rattle.recipe_data.specs.declared.recipe.DependRow.{DependRow}
 use Rattle.graph_core.specs.Graphs.{Text, Content}
 use Rattle.graph_core.specs.declared.node.Node.{Node}
 use Rattle.condition_rules.specs.Words.{implies}

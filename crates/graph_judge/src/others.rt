@@ -8,8 +8,8 @@ use crate::places::add_unless;
 use condition_rules::Paths;
 use plain_data::Word;
 use problem::Problem;
-use problem_lookups::Explored;
-use rule_tests::{keeps_provider, keeps_root, keeps_used};
+use problem::Explored;
+use rule_checks::{keeps_provider, keeps_root, keeps_used};
 use spec_grammar::Spec;
 use std::alloc::{AllocError, Global};
 

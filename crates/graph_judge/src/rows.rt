@@ -8,12 +8,12 @@ ghost use Rattle.graph_judge.specs.Places.{depend_test, keeps_row, row_places, r
 use crate::demanded::Demanded;
 use crate::places::add_unless;
 use condition_rules::Paths;
-use conditions::{ConflictRow, DependRow, RequireRow};
+use recipe_data::{ConflictRow, DependRow, RequireRow};
 use graph_core::Node;
 use plain_data::Word;
 use problem::Problem;
-use problem_lookups::{Explored, conflicts_at, depends_at, is_built, requirements_at};
-use rule_tests::{keeps_conflict, keeps_constraint, keeps_edge, keeps_requirement};
+use problem::{Explored, conflicts_at, depends_at, is_built, requirements_at};
+use rule_checks::{keeps_conflict, keeps_constraint, keeps_edge, keeps_requirement};
 use std::alloc::{AllocError, Global};
 
 // ---- `depends_on`, with the rules Edge and Constraint

@@ -15,7 +15,7 @@ use graph_core::Graph;
 use graph_rules::{Rule, Verdict};
 use plain_data::{Duplicate, Word};
 use problem::Problem;
-use problem_lookups::Explored;
+use problem::Explored;
 use std::alloc::{AllocError, Global};
 
 // The rules, in the order in which a broken one is named.

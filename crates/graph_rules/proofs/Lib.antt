@@ -5,3 +5,5 @@ pub mod VariantLaws
 pub mod KeptLaws
 pub mod ClosureLaws
 pub mod LeastLaws
+pub mod Places
+pub mod BestLaws

@@ -5,3 +5,6 @@ pub mod Kept
 pub mod Whole
 pub mod Valid
 pub mod Verdict
+pub mod Weights
+pub mod Costs
+pub mod Optimal

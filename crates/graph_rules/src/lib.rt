@@ -6,10 +6,21 @@
 //! broken rule; and the laws of `theorems`.
 //! What it stands on: `problem` for what is asked, `condition_rules` for conditions.
 //! What it must not know: costs, clauses, literals, levels, and how a graph is found.
+//!
+//! What graphs cost.
+//!
+//! What it is: the weights of choices, the criteria that sum them, and the vector of all sums.
+//! What it promises: definitions in `specs/` that compute: `version_weight` and the other weights, `criteria`, fifteen
+//! of them, `vector`, 31 numbers, and `IsOptimal`, that no valid graph has a smaller one; and the laws of `theorems`.
+//! What it stands on: `graph_rules` for valid graphs.
+//! What it must not know: clauses, bits of sums, and how a best graph is found.
 #![tactic(auto)]
 
 mod rule;
 mod theorems;
+mod graph_costs_theorems;
 
+pub use graph_costs_theorems::{vector_laws, weights_are_places};
 pub use rule::{Rule, Verdict};
 pub use theorems::{closure_laws, kept_laws, rule_laws, valid_laws, variant_laws};
+

@@ -1,13 +1,13 @@
 // The parts of a problem, as lines give them.
 ghost use Rattle.std.specs.Prelude.{◌≡◌, true, is_some, IfOk, IfSome};
 ghost use Rattle.std.specs.List.{list_all};
-ghost use Rattle.conditions.specs.Right.{is_right_recipe};
+ghost use Rattle.recipe_data.specs.Right.{is_right_recipe};
 ghost use Rattle.virtuals.specs.Virtuals.{AreInOrder};
 
 use crate::made::{children_of, record_of, set_hash};
 use crate::parts::{are_in_order, are_named};
 use crate::read::recipe_text;
-use conditions::Recipe;
+use recipe_data::Recipe;
 use graph_core::{Kinds, Node};
 use plain_data::{List, Word};
 use problem::{Problem, ProblemFault, assemble};

@@ -5,7 +5,7 @@ ghost use Rattle.variant_values.specs.Texts.{byte_cmp};
 ghost use Rattle.keyed_lists.specs.Keyed.{rises};
 ghost use Rattle.virtuals.specs.Virtuals.{AreInOrder};
 
-use conditions::Recipe;
+use recipe_data::Recipe;
 use spec_grammar::Spec;
 
 fn names_rise(recipes: &[Recipe]) -> bool

@@ -6,3 +6,4 @@ pub mod RunLaws
 pub mod TextLaws
 pub mod OfVariantValues
 pub mod OfReachability
+pub mod Lent

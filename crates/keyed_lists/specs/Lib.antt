@@ -4,3 +4,4 @@ pub mod Given
 pub mod Laws
 pub mod OfVariantValues
 pub mod OfReachability
+pub mod Lent

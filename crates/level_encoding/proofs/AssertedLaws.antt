@@ -4,8 +4,8 @@ use Rattle.std.specs.List.{list_all}
 use Rattle.std.proofs.lemmas.List.{drop_all}
 use Rattle.clause_store.specs.declared.Label.TheVariants.{Structure}
 use Rattle.clause_store.specs.Clauses.{Clauses}
-use Rattle.gate_plans.specs.Growth.{Agree, Says}
-use Rattle.gate_plans.proofs.Composed.{Extends-refl, Says-then}
+use Rattle.clause_circuits.specs.Growth.{Agree, Says}
+use Rattle.clause_circuits.proofs.Composed.{Extends-refl, Says-then}
 use Rattle.clause_formulas.specs.Statements.{Statement, eval, any_of}
 use Rattle.clause_formulas.specs.Built.{assert_on}
 use Rattle.clause_formulas.proofs.DraftLaws.{eval-agree, SaidBelow-le}

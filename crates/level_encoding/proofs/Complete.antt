@@ -14,7 +14,7 @@ use Rattle.level_encoding.proofs.Reached.{exact_same, In-has, reaches-sound, rea
 use Rattle.clause_store.specs.declared.Lit.{Lit}
 use Rattle.level_encoding.specs.declared.input.Arc.{Arc}
 use Rattle.clause_store.specs.Lits.{lit_true, var_of}
-use Rattle.gate_plans.specs.Gates.{lit_of}
+use Rattle.clause_circuits.specs.Gates.{lit_of}
 use Rattle.clause_formulas.specs.Statements.{Statement, atom, or, eval, any_of, opposite}
 use Rattle.level_encoding.specs.Composed.{implies, row}
 use Rattle.level_encoding.specs.Input.{Input, numbers, same, ends_of, possible, chosen, node, literal_at, is_root, is_target, IsRight}

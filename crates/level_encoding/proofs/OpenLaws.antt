@@ -6,8 +6,8 @@ use Rattle.std.proofs.lemmas.List.{append-nil}
 use Rattle.std.proofs.lemmas.List.Folds.{list_all-append}
 use Rattle.clause_store.specs.declared.Label.TheVariants.{Structure}
 use Rattle.clause_store.specs.Clauses.{Clauses}
-use Rattle.gate_plans.specs.Growth.{Agree, where_asked}
-use Rattle.gate_plans.proofs.Composed.{Grows-from, since-from}
+use Rattle.clause_circuits.specs.Growth.{Agree, where_asked}
+use Rattle.clause_circuits.proofs.Composed.{Grows-from, since-from}
 use Rattle.clause_formulas.specs.Statements.{Statement, eval}
 use Rattle.clause_formulas.specs.Allowed.{Allows}
 use Rattle.clause_formulas.proofs.AllowLaws.{Rule}

@@ -7,7 +7,7 @@ use Rattle.std.proofs.lemmas.List.Sums.{sum_by-cons}
 use Rattle.clause_store.specs.declared.Lit.{Lit}
 use Rattle.level_encoding.specs.declared.input.Arc.{Arc}
 use Rattle.clause_store.specs.Lits.{var_of}
-use Rattle.gate_plans.specs.Gates.{lit_of}
+use Rattle.clause_circuits.specs.Gates.{lit_of}
 use Rattle.clause_formulas.specs.Statements.{Statement, atom, never, or, no, opposite, any_of, SaidBelow}
 use Rattle.level_encoding.specs.Composed.{both, implies, rising, row}
 use Rattle.level_encoding.specs.Input.{Input, numbers, possible, node, literal_at, is_root, IsRight}

@@ -2,7 +2,7 @@
 use Rattle.std.proofs.Common.{◌≡◌, ◌≢◌, ℕ, zero, suc, ◌+◌, ◌-◌, [], ◌∷◌, ◌++◌, append_assoc, true, not, eqb, refl, sym, arith}
 use Rattle.reachability.specs.Paths.{joined}
 use Rattle.clause_store.specs.declared.Lit.{Lit}
-use Rattle.gate_plans.specs.Gates.{lit_of}
+use Rattle.clause_circuits.specs.Gates.{lit_of}
 use Rattle.clause_formulas.specs.Statements.{atom, opposite}
 use Rattle.std.proofs.lemmas.Bool.{and_parts}
 use Rattle.level_encoding.specs.declared.input.Arc.{Arc}

@@ -7,7 +7,7 @@ use Rattle.std.proofs.lemmas.List.Elements.{All-map}
 use Rattle.std.proofs.lemmas.List.Folds.{list_any_at}
 use Rattle.clause_store.specs.declared.Lit.{Lit}
 use Rattle.clause_store.specs.Clauses.{Clauses}
-use Rattle.gate_plans.specs.Growth.{Says}
+use Rattle.clause_circuits.specs.Growth.{Says}
 use Rattle.clause_formulas.specs.Statements.{eval, SaidBelow}
 use Rattle.clause_formulas.proofs.DraftLaws.{SaidBelow-le}
 use Rattle.level_encoding.specs.Asserted.{assert_all, with_vars, levels_on}

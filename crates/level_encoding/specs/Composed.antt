@@ -1,7 +1,7 @@
 -- Formulas made of others.
 use Rattle.std.specs.Prelude.{◌≡◌, ℕ, Bool, true, List, [], ◌∷◌, ◌++◌, map}
 use Rattle.std.specs.List.{list_all, range_with_len}
-use Rattle.gate_plans.specs.Gates.{lit_of}
+use Rattle.clause_circuits.specs.Gates.{lit_of}
 use Rattle.clause_formulas.specs.Statements.{Statement, atom, eval, opposite, any_of, all_of}
 
 unfoldable pub both : Statement → Statement → Statement

@@ -5,7 +5,7 @@ use Rattle.reachability.specs.Paths.{reaches, joined, members}
 use Rattle.level_encoding.specs.Counts.{total, count}
 use Rattle.clause_store.specs.declared.Lit.{Lit}
 use Rattle.level_encoding.specs.declared.input.Arc.{Arc}
-use Rattle.gate_plans.specs.Gates.{lit_of}
+use Rattle.clause_circuits.specs.Gates.{lit_of}
 use Rattle.clause_formulas.specs.Statements.{Statement, atom, opposite, any_of}
 use Rattle.level_encoding.specs.Composed.{both, implies, rising, row}
 use Rattle.level_encoding.specs.Input.{Input, numbers, same, possible, node, literal_at, is_root, is_target}

@@ -4,7 +4,7 @@ use Rattle.std.specs.List.{All}
 use Rattle.reachability.specs.Paths.{Path, IsAcyclic, IsFounded, HasArc}
 use Rattle.clause_store.specs.declared.Lit.{Lit}
 use Rattle.clause_store.specs.Clauses.{Clauses}
-use Rattle.gate_plans.specs.Growth.{Agree, Grows, MeetsSince}
+use Rattle.clause_circuits.specs.Growth.{Agree, Grows, MeetsSince}
 use Rattle.clause_formulas.specs.Statements.{Statement, SaidBelow, any_of, eval}
 use Rattle.level_encoding.specs.Composed.{Meets}
 use Rattle.level_encoding.specs.Input.{Input, chosen, node, literal_at, is_root, is_target}

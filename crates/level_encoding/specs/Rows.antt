@@ -1,6 +1,6 @@
 -- Small inputs.
 use Rattle.std.specs.Prelude.{ℕ, [], ◌∷◌}
-use Rattle.gate_plans.specs.Gates.{lit_of}
+use Rattle.clause_circuits.specs.Gates.{lit_of}
 use Rattle.clause_formulas.specs.Statements.{Statement, atom}
 use Rattle.level_encoding.specs.declared.input.Arc.{Arc}
 use Rattle.level_encoding.specs.Input.{Input}

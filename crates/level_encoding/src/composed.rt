@@ -2,7 +2,7 @@
 
 ghost use Rattle.std.specs.Prelude.{◌≡◌, ◌+◌, ◌-◌, ◌<◌, ◌≤◌, ◌++◌, ◌∷◌, ◌^◌, IfOk, OnOk, map};
 ghost use Rattle.std.specs.Option.{option_to_list};
-ghost use Rattle.gate_plans.specs.Gates.{lit_of};
+ghost use Rattle.clause_circuits.specs.Gates.{lit_of};
 ghost use Rattle.clause_formulas.specs.Statements.{atom, never, any_of, opposite};
 ghost use Rattle.level_encoding.specs.Composed.{both, implies, last_rules, digit_rules, rising, row};
 

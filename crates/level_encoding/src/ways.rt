@@ -1,7 +1,7 @@
 //! The literals that say where paths lead.
 
 ghost use Rattle.std.specs.Prelude.{true, false, ◌≡◌, ℕ, ◌<◌, ◌+◌, ◌^◌, Some, None, IfOk, OnOk, slice_index_or, if◌then◌else◌};
-ghost use Rattle.gate_plans.specs.Gates.{lit_of};
+ghost use Rattle.clause_circuits.specs.Gates.{lit_of};
 ghost use Rattle.level_encoding.specs.Input.{is_target, numbers};
 ghost use Rattle.level_encoding.specs.Encoding.{end, leads, level_start, path_start, turn_start, way};
 ghost use Rattle.level_encoding.specs.Plan.{IsReached, AreWays};

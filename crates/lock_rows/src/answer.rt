@@ -1,7 +1,7 @@
 //! What the rows ask: records, databases, and lock files that are read and written again.
 
 use crate::show::{database_fault, database_text, fault_text, lock_text};
-use database_reader::read_database;
+use record_reader::read_database;
 use json_readers::{JsonFault, ListOf, Reader, read_json};
 use lockfile::{Lock, can_be_written, read_lock, write_lock};
 use plain_data::List;
@@ -81,7 +81,7 @@ fn records_in(alloc: Global, text: &str) -> Result<List<Record>, JsonFault> {
 pub(crate) fn file_answer(alloc: Global, bytes: &[u8]) -> Result<String, AllocError> {
     match read_database(alloc, bytes) {
         Ok(database) => database_text(alloc, &database),
-        Err(fault) => database_reader::fault_text(alloc, &fault),
+        Err(fault) => record_reader::fault_text(alloc, &fault),
     }
 }
 

@@ -2,7 +2,7 @@
 
 use crate::show::{fault_text, lock_text};
 use graph_core::Graph;
-use lock_again::write_and_read;
+use lockfile::write_and_read;
 use reuse_db::Database;
 use std::alloc::{AllocError, Global};
 

@@ -2,3 +2,13 @@ pub mod Adding
 pub mod EdgeLaws
 pub mod ReadLaws
 pub mod OneLaws
+pub mod AgainLaws
+pub mod FileLaws
+pub mod Lists
+pub mod NodeLaws
+pub mod OrderLaws
+pub mod PartLaws
+pub mod SameLaws
+pub mod SoundLaws
+pub mod WrittenLaws
+pub mod WrittenNodes

@@ -20,7 +20,7 @@ use Rattle.json_readers.specs.Texts.{text_of}
 use Rattle.json_readers.specs.Maps.{entries_of, entry_of, map_of}
 use Rattle.json_readers.specs.Objects.{field, first_odd, members_of, read_needed, unless_odd}
 use Rattle.json_readers.specs.Lists.{list_of}
-use Rattle.text_forms.specs.Forms.{name_meaning}
+use Rattle.json_texts.specs.Forms.{name_meaning}
 use Rattle.graph_core.specs.Graphs.{Text}
 use Rattle.graph_core.specs.declared.node.Origin.{Origin}
 use Rattle.record_reader.specs.Records.{back_at}

@@ -10,7 +10,7 @@ use Rattle.json_readers.specs.Texts.{text_of, whole_number}
 use Rattle.json_readers.specs.Lists.{list_of}
 use Rattle.json_readers.specs.Maps.{map_of}
 use Rattle.json_readers.specs.Objects.{members_of, first_odd, field, none_odd, null_or}
-use Rattle.text_forms.specs.Forms.{name_meaning}
+use Rattle.json_texts.specs.Forms.{name_meaning}
 use Rattle.graph_core.specs.Graphs.{Text}
 use Rattle.graph_core.specs.declared.node.Origin.{Origin}
 use Rattle.graph_core.specs.declared.node.Origin.TheVariants.{Built, External, Installed}

@@ -5,3 +5,6 @@ pub mod Faults
 pub mod Locks
 -- inside
 pub mod Named
+pub mod Again
+pub mod Formed
+pub mod Writable

@@ -17,7 +17,7 @@ use record_reader::HashText;
 use serde_json::{Map, Value};
 use spec_hash::Hash;
 use std::alloc::{AllocError, Global};
-use text_forms::Name;
+use json_texts::Name;
 use variant_values::ValueSet;
 
 /// What a lock file says, each node by itself.

@@ -2,7 +2,7 @@
 use Rattle.std.proofs.Common.{◌≡◌, refl, ap, Bool, true, false, List, [], ◌∷◌, Option, Some, None}
 use Rattle.clause_formulas.specs.Statements.{Statement, both, or, implies, opposite}
 use Rattle.clause_formulas.specs.Rules.{Rule, fact, nowhere, isnt, both_of, either_of, if_so, in_words}
-use Rattle.graph_words.specs.Lists.{given, written, named, each, some}
+use Rattle.graph_formulas.specs.Lists.{given, written, named, each, some}
 
 module _ {W : Type 0} (f g : W → Statement) where
   -- each word of the rule has the same formula

@@ -15,9 +15,9 @@ use Rattle.problem.specs.Records.{kept_dependencies}
 use Rattle.graph_rules.specs.Kept.{external_node, installed_node}
 use Rattle.reuse_db.specs.declared.record.Record.{Record}
 use Rattle.literal_table.specs.Tables.{Table}
-use Rattle.graph_words.specs.Facts.{Word, word_said, has_origin, has_os, has_target, has_edge, node_has}
-use Rattle.graph_words.specs.Lists.{◌and◌, each}
-use Rattle.graph_words.specs.Words.{rule_said}
+use Rattle.graph_formulas.specs.Facts.{Word, word_said, has_origin, has_os, has_target, has_edge, node_has}
+use Rattle.graph_formulas.specs.Lists.{◌and◌, each}
+use Rattle.graph_formulas.specs.Words.{rule_said}
 use Rattle.graph_formulas.specs.Built.{entry_rule, compiler_rule}
 use Rattle.graph_formulas.specs.Edges.{no_kinds}
 use Rattle.graph_formulas.specs.Kept.{same_origin, installs, same_rule, kinds_rule, is_child_name, child_rule, recorded_rule, origin_rule, kept_rule}

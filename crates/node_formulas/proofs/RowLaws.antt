@@ -3,12 +3,12 @@ use Rattle.std.proofs.Common.{◌≡◌, ap, ◌∙◌, None, map}
 use Rattle.std.specs.Prelude.{◌&&◌, is_some}
 use Rattle.clause_formulas.specs.Statements.{Statement, all_of}
 use Rattle.clause_formulas.specs.Rules.{fact, if_so}
-use Rattle.conditions.specs.declared.recipe.Condition.{Condition}
+use Rattle.recipe_data.specs.declared.recipe.Condition.{Condition}
 use Rattle.graph_core.specs.Graphs.{Text}
 use Rattle.problem.specs.Problems.{Problem, world_of, recipe_at, entry_of, is_buildable_in}
 use Rattle.literal_table.specs.Tables.{Table}
-use Rattle.graph_words.specs.Facts.{word_said, provides_as}
-use Rattle.graph_words.specs.Words.{names_for}
+use Rattle.graph_formulas.specs.Facts.{word_said, provides_as}
+use Rattle.graph_formulas.specs.Words.{names_for}
 use Rattle.graph_formulas.specs.Terms.{term_said, known_rule, where_built, where_there}
 use Rattle.graph_formulas.specs.Built.{buildable_rule, compiler_rule, provider_rule}
 use Rattle.graph_formulas.specs.Edges.{of_provider}

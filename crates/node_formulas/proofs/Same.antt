@@ -7,7 +7,7 @@ use Rattle.graph_core.specs.Graphs.{Text}
 use Rattle.graph_core.specs.declared.node.Node.{Node}
 use Rattle.problem.specs.Problems.{same_compiler}
 use Rattle.literal_table.specs.Tables.{Table}
-use Rattle.graph_words.specs.Facts.{Variants, has_compiler, has_os, has_target, has_prefix}
+use Rattle.graph_formulas.specs.Facts.{Variants, has_compiler, has_os, has_target, has_prefix}
 use Rattle.graph_formulas.specs.Kept.{same_rule}
 use Rattle.word_formulas.specs.Builders.{node_said, plain_said}
 use Rattle.node_formulas.specs.Attributes.{software_rule}

@@ -8,8 +8,8 @@ use Rattle.graph_rules.specs.Kept.{installed_node}
 use Rattle.problem.specs.Problems.{Problem, record_at}
 use Rattle.problem.specs.Records.{kept_dependencies}
 use Rattle.reuse_db.specs.declared.record.Record.{Record}
-use Rattle.graph_words.specs.Facts.{Word, Variants, node_has, has_origin, has_version, has_variants, has_edge}
-use Rattle.graph_words.specs.Lists.{◌and◌, given, named, each}
+use Rattle.graph_formulas.specs.Facts.{Word, Variants, node_has, has_origin, has_version, has_variants, has_edge}
+use Rattle.graph_formulas.specs.Lists.{◌and◌, given, named, each}
 use Rattle.graph_formulas.specs.Edges.{no_kinds}
 use Rattle.graph_formulas.specs.Kept.{installs, same_rule, kinds_rule, is_child_name}
 

@@ -4,8 +4,8 @@ use Rattle.clause_formulas.specs.Statements.{Statement, all_of, implies}
 use Rattle.clause_formulas.specs.Rules.{fact}
 use Rattle.graph_core.specs.Graphs.{Text}
 use Rattle.literal_table.specs.Tables.{Table}
-use Rattle.graph_words.specs.Facts.{is_there, has_origin, provides_as}
-use Rattle.graph_words.specs.Words.{names_for}
+use Rattle.graph_formulas.specs.Facts.{is_there, has_origin, provides_as}
+use Rattle.graph_formulas.specs.Words.{names_for}
 use Rattle.graph_formulas.specs.Terms.{builds}
 use Rattle.graph_formulas.specs.Laws.{names_of, virtuals_of}
 use Rattle.word_formulas.specs.Builders.{node_said, plain_said}

@@ -3,8 +3,8 @@ ghost use Rattle.std.specs.Prelude.{◌≡◌, ◌||◌, ◌++◌, map, filter, 
 ghost use Rattle.clause_formulas.specs.Rules.{fact, isnt};
 ghost use Rattle.graph_core.specs.declared.node.Origin.TheVariants.{External, Installed};
 ghost use Rattle.problem.specs.Records.{kept_dependencies};
-ghost use Rattle.graph_words.specs.Facts.{has_edge, has_prefix};
-ghost use Rattle.graph_words.specs.Lists.{each};
+ghost use Rattle.graph_formulas.specs.Facts.{has_edge, has_prefix};
+ghost use Rattle.graph_formulas.specs.Lists.{each};
 ghost use Rattle.graph_formulas.specs.Edges.{no_kinds};
 ghost use Rattle.graph_formulas.specs.Kept.{origin_rule};
 ghost use Rattle.node_formulas.specs.Rows.{only_if};

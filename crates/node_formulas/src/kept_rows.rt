@@ -2,7 +2,7 @@
 ghost use Rattle.std.specs.Prelude.{◌≡◌, IfOk, map};
 ghost use Rattle.clause_formulas.specs.Rules.{fact, if_so};
 ghost use Rattle.clause_formulas.specs.Statements.{all_of};
-ghost use Rattle.graph_words.specs.Facts.{has_origin, node_has};
+ghost use Rattle.graph_formulas.specs.Facts.{has_origin, node_has};
 ghost use Rattle.literal_table.specs.Choices.{offered};
 ghost use Rattle.graph_formulas.specs.Kept.{same_origin, origin_rule, kept_rule, origins_of};
 ghost use Rattle.graph_formulas.specs.Laws.{children_of};

@@ -1,8 +1,8 @@
 // Formulas of the kinds of an edge, as recorded.
 ghost use Rattle.std.specs.Prelude.{◌≡◌, true, IfOk};
 ghost use Rattle.clause_formulas.specs.Rules.{fact, isnt, both_of, if_so};
-ghost use Rattle.graph_words.specs.Facts.{has_edge};
-ghost use Rattle.graph_words.specs.Lists.{given};
+ghost use Rattle.graph_formulas.specs.Facts.{has_edge};
+ghost use Rattle.graph_formulas.specs.Lists.{given};
 ghost use Rattle.graph_formulas.specs.Edges.{no_kinds};
 ghost use Rattle.graph_formulas.specs.Kept.{kinds_rule};
 ghost use Rattle.word_formulas.specs.Builders.{plain_said};

@@ -1,11 +1,11 @@
 // The rows are the formulas of their rules. The bodies are empty: what is proved are the contracts.
 ghost use Rattle.std.specs.Prelude.{◌≡◌, map};
 ghost use Rattle.clause_formulas.specs.Statements.{Statement, all_of};
-ghost use Rattle.conditions.specs.declared.recipe.Condition.{Condition};
+ghost use Rattle.recipe_data.specs.declared.recipe.Condition.{Condition};
 ghost use Rattle.graph_core.specs.Graphs.{Text};
 ghost use Rattle.problem.specs.Problems.{Problem};
 ghost use Rattle.literal_table.specs.Tables.{Table};
-ghost use Rattle.graph_words.specs.Words.{names_for};
+ghost use Rattle.graph_formulas.specs.Words.{names_for};
 ghost use Rattle.graph_formulas.specs.Terms.{known_rule, where_built, where_there};
 ghost use Rattle.graph_formulas.specs.Built.{buildable_rule, version_rule, compiler_rule, machine_rule, provider_rule};
 ghost use Rattle.graph_formulas.specs.Edges.{of_provider};

@@ -3,7 +3,7 @@ ghost use Rattle.std.specs.Prelude.{◌≡◌, ◌++◌, ◌∷◌, [], List, If
 ghost use Rattle.clause_formulas.specs.Statements.{atom};
 ghost use Rattle.graph_core.specs.Graphs.{Text};
 ghost use Rattle.literal_table.specs.Choices.{Choices};
-ghost use Rattle.graph_words.specs.Facts.{fact_said, has_variants, just_parts, some_parts, variant_parts};
+ghost use Rattle.graph_formulas.specs.Facts.{fact_said, has_variants, just_parts, some_parts, variant_parts};
 ghost use Rattle.word_formulas.specs.Builders.{node_said};
 
 use clause_formulas::Formula;

@@ -12,7 +12,7 @@ use clause_solver::{Outcome, Solver};
 use clause_store::{ClauseList, Lit};
 use plain_data::List;
 use proof_log::Line;
-use run_progress::{Progress, Stage, Untold};
+use crate::{Progress, Stage, Untold};
 use std::alloc::{AllocError, Global};
 
 /// A model with the least bits, the first bit counting most.

@@ -1,3 +1,10 @@
+//! What a long run is at, for whoever waits for it.
+//!
+//! What it is: the stages of a run, a device that is told them, and one that passes them on to nobody.
+//! What it promises: nothing. No answer, file or line of a run rests on what it is told, nor on what it does with it.
+//! What it stands on: nothing.
+//! What it must not know: what a run reads, searches and writes.
+//!
 //! The least bits of all models, with a log that shows it.
 //!
 //! It promises: a model with the least bits, the first bit counting most, and a certificate of them; or a
@@ -20,5 +27,42 @@ pub use descent::{search, search_by_numbers};
 pub use found::Found;
 pub use number::Number;
 pub use theorems::found_laws;
-// What is told of a search.
-pub use run_progress::{Progress, Stage, Untold};
+/// What a run is at.
+#[derive(Clone, Copy, Debug, PartialEq, Eq)]
+pub enum Stage {
+    /// What is asked, the settings, the database and the recipes are read.
+    Reading,
+    /// The same, and then a lock file or a certificate is checked.
+    Checking,
+    /// A problem with so many possible packages becomes clauses.
+    Encoding {
+        packages: u64,
+    },
+    /// A first model of so many clauses over so many variables is looked for.
+    Searching {
+        variables: u64,
+        clauses: u64,
+    },
+    /// So many of the cost vector's numbers are the least that there are; the next one is being settled.
+    Settling {
+        settled: u64,
+        numbers: u64,
+        learnt: u64,
+    },
+    /// The answer is found, and is written.
+    Writing,
+}
+
+/// A device that is told what a run is at. Calls come in any order, and a call changes the device alone.
+pub trait Progress {
+    /// The run is at this stage from now on.
+    fn tell(&mut self, stage: Stage);
+}
+
+/// It passes on to nobody what it is told.
+#[derive(Clone, Copy, Debug, Drop)]
+pub struct Untold;
+
+impl Progress for Untold {
+    fn tell(&mut self, _: Stage) {}
+}

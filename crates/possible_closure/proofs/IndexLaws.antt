@@ -3,8 +3,8 @@ use Rattle.std.proofs.Common.{◌≡◌, sym, ap, ◌∙◌, ℕ, ◌+◌, ◌<�
 use Rattle.std.specs.List.{list_any, flat_map}
 use Rattle.std.proofs.lemmas.List.{length-map, map-append, append_assoc, append-nil, take_more}
 use Rattle.std.proofs.lemmas.Grind.{flat_map-append}
-use Rattle.text_index.specs.Lent.{lent}
-use Rattle.text_index.proofs.Lent.{first_in, find_first, some_kept}
+use Rattle.keyed_lists.specs.Lent.{lent}
+use Rattle.keyed_lists.proofs.Lent.{first_in, find_first, some_kept}
 
 module _ {T : Type 0} where
   abbrev pub seen : List (Bor (List ℕ) × Bor T) → List T

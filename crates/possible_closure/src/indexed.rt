@@ -5,15 +5,15 @@ ghost use Rattle.std.specs.Option.{option_copied};
 ghost use Rattle.std.specs.Str.{bytes_eq};
 ghost use Rattle.problem.specs.Closure.{is_known, is_some_list};
 ghost use Rattle.problem.specs.Problems.{entry_of, externals_in};
-ghost use Rattle.text_index.specs.Lent.{lent, IsIndexOf};
+ghost use Rattle.keyed_lists.specs.Lent.{lent, IsIndexOf};
 
 use problem::Problem;
-use problem_lookups::recipe_at;
+use problem::recipe_at;
 use reuse_db::Record;
 use site_settings::PackageEntry;
 use std::alloc::{AllocError, Global};
 use std::marker::Model;
-use text_index::TextIndex;
+use keyed_lists::TextIndex;
 
 /// A problem whose packages of the settings and whose records are found by search of their name, seen as the problem.
 #[derive(Drop)]
@@ -25,7 +25,7 @@ pub struct IndexedProblem<'a> {
 
 impl<'a> Model for IndexedProblem<'a> {
     ghost use Rattle.problem.specs.Problems.{Problem};
-    ghost use Rattle.text_index.specs.Lent.{IsIndexOf};
+    ghost use Rattle.keyed_lists.specs.Lent.{IsIndexOf};
 
     ghost Value = { Problem };
 

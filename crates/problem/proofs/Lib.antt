@@ -2,3 +2,4 @@ pub mod AssembledLaws
 pub mod NumberLaws
 pub mod OfVariantValues
 pub mod OfKeyedLists
+pub mod Stops

@@ -15,3 +15,4 @@ pub mod OfConditions
 pub mod OfVirtuals
 pub mod OfConditionRules
 pub mod OfReuseDb
+pub mod Limits

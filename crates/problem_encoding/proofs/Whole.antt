@@ -14,7 +14,7 @@ use Rattle.ranked_costs.specs.OfClosureEncoding.Tables.{table_for}
 use Rattle.ranked_costs.specs.OfClosureEncoding.Targets.{conditions_of}
 use Rattle.ranked_costs.specs.OfClosureEncoding.Joined.{Places, IsPlaced}
 use Rattle.ranked_costs.specs.OfClosureEncoding.Closures.{closure_clauses, ClosureStructured}
-use Rattle.ranked_costs.specs.OfCostBits.Least.{AreCostBits}
+use Rattle.ranked_costs.specs.Least.{AreCostBits}
 use Rattle.ranked_costs.specs.OfGraphTerms.Held.{held_in}
 use Rattle.ranked_costs.specs.Given.{held_for}
 use Rattle.clause_formulas.specs.Drafts.{value_at}

@@ -6,7 +6,7 @@ use Rattle.graph_core.specs.Graphs.{Text}
 use Rattle.problem.specs.Problems.{Problem}
 use Rattle.possible_closure.specs.Closures.{root_names, closure_of}
 use Rattle.literal_table.specs.Tables.{Table}
-use Rattle.name_order.specs.Walks.{post_order}
+use Rattle.ranked_costs.specs.Walks.{post_order}
 use Rattle.problem_formulas.specs.Given.{no_place}
 use Rattle.ranked_costs.specs.OfClosureEncoding.Tables.{table_for}
 use Rattle.ranked_costs.specs.OfClosureEncoding.Closures.{closure_clauses}

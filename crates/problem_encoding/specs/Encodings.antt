@@ -7,9 +7,9 @@ use Rattle.criteria_totals.specs.Spellings.{bits_for}
 use Rattle.criteria_totals.specs.Totals.{Spelling, values_at}
 use Rattle.graph_core.specs.Graphs.{Content}
 use Rattle.problem.specs.Problems.{Problem}
-use Rattle.graph_costs.specs.Costs.{vector}
+use Rattle.graph_rules.specs.Costs.{vector}
 use Rattle.optimum_search.specs.Finding.{MeetsAll}
-use Rattle.encoding_stages.specs.Stages.{Decodes}
+use Rattle.graph_levels.specs.Stages.{Decodes}
 use Rattle.problem_formulas.specs.OfGraphDecoding.Decoding.{decode, IsStructured}
 use Rattle.problem_formulas.specs.OfGraphEncoding.Encodings.{IsValid}
 use Rattle.problem_formulas.specs.OfGraphEncoding.Best.{RanksGraphs}

@@ -1,7 +1,7 @@
 //! Whether a problem is of a size that is encoded.
 ghost use Rattle.std.specs.Prelude.{◌≡◌, ◌&&◌, length, nat_le};
 ghost use Rattle.possible_closure.specs.Closures.{closure_of};
-ghost use Rattle.ranked_costs.specs.OfCostLimits.Limits.{is_within_limits};
+ghost use Rattle.ranked_costs.specs.OfProblemLimits.Limits.{is_within_limits};
 
 use possible_closure::Closure;
 use problem::Problem;

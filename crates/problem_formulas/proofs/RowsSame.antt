@@ -3,17 +3,17 @@ use Rattle.std.proofs.Common.{◌≡◌, refl, ap, ◌∙◌, List, [], ◌∷�
 use Rattle.std.proofs.lemmas.List.{append_assoc}
 use Rattle.clause_formulas.specs.Statements.{Statement, all_of, implies}
 use Rattle.graph_core.specs.Graphs.{Text}
-use Rattle.conditions.specs.declared.recipe.Condition.{Condition}
+use Rattle.recipe_data.specs.declared.recipe.Condition.{Condition}
 use Rattle.problem.specs.Problems.{Problem}
 use Rattle.literal_table.specs.Tables.{Table}
-use Rattle.graph_words.specs.Facts.{has_origin}
-use Rattle.graph_words.specs.Words.{names_for}
+use Rattle.graph_formulas.specs.Facts.{has_origin}
+use Rattle.graph_formulas.specs.Words.{names_for}
 use Rattle.rule_formulas.specs.OfGraphFormulas.Terms.{builds, known_rule, where_built}
 use Rattle.rule_formulas.specs.OfGraphFormulas.Built.{version_rule, machine_rule}
 use Rattle.rule_formulas.specs.OfGraphFormulas.Edges.{extra_edges_rule, used_rule, of_provider}
 use Rattle.rule_formulas.specs.OfGraphFormulas.Variants.{variants_rule}
 use Rattle.rule_formulas.specs.OfGraphFormulas.Laws.{term_formula, names_of, virtuals_of, children_of, variants_of}
-use Rattle.problem_conditions.specs.OfRightRules.Joined.{rule_rows, row_said}
+use Rattle.problem_formulas.specs.OfRightRules.Joined.{rule_rows, row_said}
 use Rattle.rule_formulas.specs.OfWordFormulas.Builders.{node_said, plain_said}
 use Rattle.node_formulas.specs.Rows.{built_row}
 use Rattle.node_formulas.proofs.RowLaws.{buildable-row, compiler-row, kept-row, provider-row}

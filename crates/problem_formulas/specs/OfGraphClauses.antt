@@ -1,3 +1,3 @@
 -- What is passed on of `graph_clauses`, so that the crates above need not name it.
-pub use Rattle.graph_clauses.specs.Ranges
-pub use Rattle.graph_clauses.specs.declared.calls.ProblemClauses
+pub use Rattle.graph_encoding.specs.Ranges
+pub use Rattle.graph_encoding.specs.declared.calls.ProblemClauses

@@ -2,10 +2,10 @@
 use Rattle.std.specs.Prelude.{List, [], ◌∷◌, ◌++◌, map}
 use Rattle.clause_formulas.specs.Statements.{Statement, all_of}
 use Rattle.graph_core.specs.Graphs.{Text}
-use Rattle.conditions.specs.declared.recipe.Condition.{Condition}
+use Rattle.recipe_data.specs.declared.recipe.Condition.{Condition}
 use Rattle.problem.specs.Problems.{Problem}
 use Rattle.literal_table.specs.Tables.{Table}
-use Rattle.graph_words.specs.Words.{names_for}
+use Rattle.graph_formulas.specs.Words.{names_for}
 use Rattle.rule_formulas.specs.OfGraphFormulas.Terms.{where_built}
 use Rattle.rule_formulas.specs.OfGraphFormulas.Built.{buildable_rule, version_rule, compiler_rule, machine_rule, provider_rule}
 use Rattle.rule_formulas.specs.OfGraphFormulas.Edges.{extra_edges_rule, used_rule, of_provider}

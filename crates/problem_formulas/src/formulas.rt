@@ -3,11 +3,11 @@
 use crate::known::KnownConditions;
 use crate::rules::all_rules;
 use clause_formulas::{Defined, Formula};
-use graph_clauses::RuleFormulas;
+use graph_encoding::RuleFormulas;
 use graph_decoding::structure;
 use literal_table::LiteralTable;
 use problem::{Demand, Problem};
-use problem_conditions::{PathLits, condition_formulas};
+use crate::{PathLits, condition_formulas};
 use rule_formulas::demand_formula;
 use std::alloc::{AllocError, Global};
 

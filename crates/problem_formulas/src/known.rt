@@ -1,10 +1,10 @@
 //! The conditions of a problem, each with its own formula.
 
 use clause_formulas::Formula;
-use conditions::Condition;
+use recipe_data::Condition;
 use literal_table::LiteralTable;
 use problem::Problem;
-use problem_conditions::{PathLits, condition_formula};
+use crate::{PathLits, condition_formula};
 use rule_formulas::MetConditions;
 use std::alloc::{AllocError, Global};
 
@@ -17,8 +17,8 @@ pub(crate) struct KnownConditions<'a> {
 }
 
 impl<'a> MetConditions for KnownConditions<'a> {
-    ghost use Rattle.problem_conditions.specs.OfRightRules.Joined.{condition_said};
-    ghost use Rattle.problem_conditions.specs.OfPathFormulas.Paths.{path_by};
+    ghost use Rattle.problem_formulas.specs.OfRightRules.Joined.{condition_said};
+    ghost use Rattle.problem_formulas.specs.OfPathFormulas.Paths.{path_by};
 
     ghost condition_of = { λ known name when. condition_said known.problem.now known.table.now (path_by known.table.now known.paths.now) name when };
 

@@ -1,3 +1,9 @@
+//! The conditions of a problem's directives, and the names to which they ask for paths.
+//!
+//! It promises: `targets_of` gives just the names that `right_rules` says, each once, and `condition_formulas` the formula of
+//! each condition, package by package, in the order of the lists of a recipe. It stands on `path_formulas`. It must not know
+//! how rules use conditions.
+//!
 //! The formulas of a problem over a table.
 //!
 //! It promises: `ProblemFormulas` gives the formulas that `right_rules` says are right, and errs for want of memory
@@ -5,11 +11,17 @@
 //! `graph_decoding` for the structure. It must not know clauses.
 #![tactic(auto)]
 
+mod listed;
+mod targets;
 mod formulas;
 mod known;
 mod rows;
 mod rules;
 
 pub use formulas::ProblemFormulas;
-pub use graph_clauses::{ProblemClauses, encode};
-pub use problem_conditions::targets_of;
+pub use graph_encoding::{ProblemClauses, encode};
+pub use graph_levels::PathLits;
+pub use listed::condition_formulas;
+pub use rule_formulas::condition_formula;
+pub use targets::targets_of;
+

@@ -9,8 +9,8 @@ use Rattle.variant_values.specs.Texts.{byte_cmp}
 use Rattle.variant_values.proofs.Texts.{ties_are_equal}
 use Rattle.keyed_lists.specs.Keyed.{with_one}
 use Rattle.keyed_lists.proofs.KeyedLaws.{in_order-with_one}
-use Rattle.conditions.specs.Right.{is_right_recipe}
-use Rattle.conditions.specs.declared.recipe.Recipe.{Recipe}
+use Rattle.recipe_data.specs.Right.{is_right_recipe}
+use Rattle.recipe_data.specs.declared.recipe.Recipe.{Recipe}
 use Rattle.virtuals.specs.Virtuals.{AreInOrder, name_of}
 
 abbrev pub with_recipe : List Recipe → Recipe → List Recipe

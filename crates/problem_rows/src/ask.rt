@@ -8,7 +8,7 @@
 
 ghost use Rattle.std.specs.Prelude.{◌≡◌, true};
 ghost use Rattle.std.specs.List.{list_all};
-ghost use Rattle.conditions.specs.Right.{is_right_recipe};
+ghost use Rattle.recipe_data.specs.Right.{is_right_recipe};
 ghost use Rattle.virtuals.specs.Virtuals.{AreInOrder, AreProviders};
 
 use crate::graph::graph_of;
@@ -16,7 +16,7 @@ use crate::recipes::recipes_of;
 use crate::roots::problem_text;
 use crate::site::site_of;
 use condition_rules::{World, all_hold, asked_node, governing, holds, meets, meets_rest, provides};
-use conditions::{Condition, Recipe};
+use recipe_data::{Condition, Recipe};
 use graph_core::{Graph, Node};
 use plain_data::List;
 use recipe_reader::{RecipeFault, RecipeFile};

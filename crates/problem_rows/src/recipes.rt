@@ -2,11 +2,11 @@
 
 ghost use Rattle.std.specs.Prelude.{◌≡◌, [], true, List, IfOk, IfSome};
 ghost use Rattle.std.specs.List.{list_all};
-ghost use Rattle.conditions.specs.Right.{is_right_recipe};
-ghost use Rattle.conditions.specs.declared.recipe.Recipe.{Recipe};
+ghost use Rattle.recipe_data.specs.Right.{is_right_recipe};
+ghost use Rattle.recipe_data.specs.declared.recipe.Recipe.{Recipe};
 ghost use Rattle.virtuals.specs.Virtuals.{AreInOrder};
 
-use conditions::Recipe;
+use recipe_data::Recipe;
 use keyed_lists::insert;
 use recipe_reader::{RecipeFault, RecipeFile, read_recipe};
 use std::alloc::{AllocError, Global};

@@ -2,11 +2,11 @@
 
 ghost use Rattle.std.specs.Prelude.{◌≡◌, true, is_some};
 ghost use Rattle.std.specs.List.{list_all};
-ghost use Rattle.conditions.specs.Right.{is_right_recipe};
+ghost use Rattle.recipe_data.specs.Right.{is_right_recipe};
 ghost use Rattle.virtuals.specs.Virtuals.{AreInOrder};
 
 use crate::site::Site;
-use conditions::Recipe;
+use recipe_data::Recipe;
 use plain_data::List;
 use possible_closure::{Closure, ClosureFault, closure};
 use problem::{Demand, Problem, ProblemFault, assemble};

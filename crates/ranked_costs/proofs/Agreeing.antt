@@ -7,8 +7,8 @@ use Rattle.problem.specs.Problems.{Problem, variants_at}
 use Rattle.literal_table.specs.Tables.{Table, block_of}
 use Rattle.literal_table.specs.Choices.{Choices}
 use Rattle.literal_table.specs.declared.block.Block.{Block}
-use Rattle.formula_totals.specs.declared.weighted.Weighted.{Weighted}
-use Rattle.choice_terms.specs.Parts.{in_part}
+use Rattle.cost_terms.specs.declared.weighted.Weighted.{Weighted}
+use Rattle.cost_terms.specs.Parts.{in_part}
 use Rattle.cost_terms.specs.Governing.{Row, with_formulas, variant_terms, other_terms, unused_terms}
 use Rattle.cost_terms.specs.Terms.{Held, is_root_name, at_root_terms, off_root_terms, over_variants_terms, other_values_terms, unused_defaults_terms, provider_terms, deprecated_terms, version_terms, os_terms, target_terms, compiler_terms, edges_terms, compilers_differ, os_differ, targets_differ, presence_terms, criteria_terms}
 use Rattle.cost_terms.specs.Sums.{part_terms, number_terms, numbers_terms, cost_terms}

@@ -6,22 +6,22 @@ use Rattle.clause_store.specs.Clauses.{Clauses, Meets}
 use Rattle.graph_core.specs.Graphs.{Text, Content}
 use Rattle.problem.specs.Nodes.{IsWellFormed}
 use Rattle.problem.specs.Problems.{Problem}
-use Rattle.graph_costs.specs.Costs.{vector}
+use Rattle.graph_rules.specs.Costs.{vector}
 use Rattle.criteria_totals.specs.Spellings.{bits_for}
 use Rattle.criteria_totals.specs.Totals.{values_at}
 use Rattle.literal_table.specs.Tables.{Table, IsTable, name_of}
-use Rattle.encoding_stages.proofs.Growing.{meets-parts}
+use Rattle.graph_levels.proofs.Growing.{meets-parts}
 use Rattle.graph_encoding.proofs.Ranking.{all-said}
-use Rattle.closure_encoding.specs.OfGraphEncoding.Formulas.{Formulas, IsRightTable, AreRightFormulas}
-use Rattle.closure_encoding.specs.OfGraphEncoding.Encodings.{edges_made, levels_made, rules_on, encode_on, told_in}
-use Rattle.closure_encoding.specs.OfGraphEncoding.Best.{SaysAll}
-use Rattle.closure_encoding.specs.OfRightTables.Decoding.{decode}
-use Rattle.closure_encoding.specs.OfRightTables.Tables.{table_for, size_for}
-use Rattle.closure_encoding.specs.OfRightRules.Targets.{conditions_of, targets_of}
-use Rattle.closure_encoding.specs.OfRightRules.Joined.{Places, holds_at}
-use Rattle.closure_encoding.specs.Closures.{closure_formulas, closure_clauses}
-use Rattle.cost_bits.specs.Least.{AreCostBits}
-use Rattle.graph_terms.specs.Held.{held_in}
+use Rattle.valid_models.specs.OfGraphEncoding.Formulas.{Formulas, IsRightTable, AreRightFormulas}
+use Rattle.valid_models.specs.OfGraphEncoding.Encodings.{edges_made, levels_made, rules_on, encode_on, told_in}
+use Rattle.valid_models.specs.OfGraphEncoding.Best.{SaysAll}
+use Rattle.valid_models.specs.OfGraphDecoding.Decoding.{decode}
+use Rattle.valid_models.specs.Tables.{table_for, size_for}
+use Rattle.valid_models.specs.Targets.{conditions_of, targets_of}
+use Rattle.valid_models.specs.Joined.{Places, holds_at}
+use Rattle.valid_models.specs.Closures.{closure_formulas, closure_clauses}
+use Rattle.ranked_costs.specs.Least.{AreCostBits}
+use Rattle.term_builder.specs.Held.{held_in}
 use Rattle.ranked_costs.specs.Given.{held_for}
 use Rattle.ranked_costs.specs.Ranked.{closure_values}
 use Rattle.ranked_costs.proofs.Steps.{same}

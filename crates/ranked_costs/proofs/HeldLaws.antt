@@ -14,14 +14,14 @@ use Rattle.clause_formulas.specs.Drafts.{said_of, value_at}
 use Rattle.clause_formulas.specs.Gated.{Gated}
 use Rattle.clause_formulas.specs.Built.{define_in, define_all_in}
 use Rattle.graph_core.specs.Graphs.{Text, Content}
-use Rattle.conditions.specs.declared.recipe.Condition.{Condition}
+use Rattle.recipe_data.specs.declared.recipe.Condition.{Condition}
 use Rattle.condition_rules.specs.Words.{among}
 use Rattle.condition_rules.specs.Holds.{all_hold}
 use Rattle.problem.specs.Problems.{Problem, world_of, variants_at, depends_at, conflicts_at, requirements_at}
 use Rattle.graph_rules.proofs.Lists.{bytes_eq-same}
-use Rattle.closure_encoding.specs.OfRightRules.Targets.{conditions_at}
-use Rattle.closure_encoding.specs.OfRightRules.Joined.{holds_at}
-use Rattle.graph_terms.specs.Held.{defined_in, held_in}
+use Rattle.valid_models.specs.Targets.{conditions_at}
+use Rattle.valid_models.specs.Joined.{holds_at}
+use Rattle.term_builder.specs.Held.{defined_in, held_in}
 use Rattle.ranked_costs.specs.Given.{passed, held_from}
 
 -- each formula has a value

@@ -7,19 +7,19 @@ use Rattle.clause_formulas.specs.Drafts.{value_at}
 use Rattle.graph_core.specs.Graphs.{Text}
 use Rattle.problem.specs.Problems.{Problem}
 use Rattle.literal_table.specs.Tables.{Table}
-use Rattle.closure_encoding.specs.OfGraphEncoding.Formulas.{MetBelow}
-use Rattle.formula_totals.specs.declared.weighted.Weighted.{Weighted}
+use Rattle.valid_models.specs.OfGraphEncoding.Formulas.{MetBelow}
+use Rattle.cost_terms.specs.declared.weighted.Weighted.{Weighted}
 use Rattle.criteria_totals.specs.Spellings.{AllSmall}
-use Rattle.formula_totals.specs.Weighed.{AllWeighedBelow, AreTotals, tops_said}
+use Rattle.cost_terms.specs.Weighed.{AllWeighedBelow, AreTotals, tops_said}
 use Rattle.cost_terms.specs.Ranges.{IsTableBelow}
 use Rattle.cost_terms.specs.Sums.{cost_terms}
 use Rattle.cost_terms.proofs.Ranges.{costs-below}
-use Rattle.cost_bits.specs.Least.{AreCostBits}
-use Rattle.graph_terms.specs.Held.{HeldRow, held_in}
+use Rattle.ranked_costs.specs.Least.{AreCostBits}
+use Rattle.term_builder.specs.Held.{HeldRow, held_in}
 use Rattle.criteria_totals.specs.Totals.{Spelling}
-use Rattle.formula_totals.specs.Built.{define_totals_on}
+use Rattle.cost_terms.specs.Built.{define_totals_on}
 use Rattle.ranked_costs.specs.Given.{held_for}
-use Rattle.cost_limits.specs.Small.{are_small}
+use Rattle.ranked_costs.specs.Small.{are_small}
 use Rattle.ranked_costs.specs.Built.{terms_for, rank_costs_on}
 use Rattle.ranked_costs.proofs.SmallSums.{all-small}
 use Rattle.ranked_costs.proofs.Ranges.{held-below}

@@ -1,2 +1,2 @@
 -- What is passed on of `encoding_stages`, so that the crates above need not name it.
-pub use Rattle.encoding_stages.proofs.Growing
+pub use Rattle.graph_levels.proofs.Growing

@@ -12,13 +12,13 @@ use Rattle.problem.specs.Problems.{Problem}
 use Rattle.problem.specs.Demands.{demands}
 use Rattle.problem.specs.declared.demand.Demand.{Demand}
 use Rattle.graph_rules.specs.Valid.{valid, valid_for}
-use Rattle.graph_costs.specs.Costs.{vector}
-use Rattle.graph_costs.specs.Optimal.{IsOptimal}
+use Rattle.graph_rules.specs.Costs.{vector}
+use Rattle.graph_rules.specs.Optimal.{IsOptimal}
 use Rattle.criteria_totals.specs.Spellings.{compare_numbers}
-use Rattle.encoding_stages.specs.Rules.{asked_among}
-use Rattle.encoding_stages.specs.Bits.{IsLeastModel}
-use Rattle.closure_encoding.specs.OfGraphEncoding.Encodings.{asked_demands, IsValid}
-use Rattle.closure_encoding.specs.OfGraphEncoding.Best.{RanksGraphs}
+use Rattle.graph_levels.specs.Rules.{asked_among}
+use Rattle.graph_levels.specs.Bits.{IsLeastModel}
+use Rattle.valid_models.specs.OfGraphEncoding.Encodings.{asked_demands, IsValid}
+use Rattle.valid_models.specs.OfGraphEncoding.Best.{RanksGraphs}
 
 -- all demands are asked for
 all-asked : (k : ℕ) (ds : List Demand) → asked_among (λ d. true) k ds ≡ ds

@@ -14,10 +14,10 @@ use Rattle.graph_core.specs.Graphs.{Text}
 use Rattle.problem.specs.Problems.{Problem, variants_at, depends_at, conflicts_at, requirements_at}
 use Rattle.literal_table.specs.Choices.{Choices, lits_of}
 use Rattle.literal_table.specs.Tables.{Table, name_of}
-use Rattle.closure_encoding.specs.OfGraphEncoding.Formulas.{MetBelow}
-use Rattle.closure_encoding.specs.OfRightTables.Ranges as numbers
+use Rattle.valid_models.specs.OfGraphEncoding.Formulas.{MetBelow}
+use Rattle.valid_models.specs.OfTableNumbers.Ranges as numbers
 use Rattle.cost_terms.specs.Ranges.{IsTableBelow, AreHeldBelow}
-use Rattle.graph_terms.specs.Held.{defined_in, held_in}
+use Rattle.term_builder.specs.Held.{defined_in, held_in}
 use Rattle.ranked_costs.specs.Given.{passed, held_from, held_for}
 
 -- ---- tables

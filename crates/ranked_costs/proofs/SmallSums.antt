@@ -3,9 +3,9 @@ use Rattle.std.proofs.Common.{◌≡◌, ◌^◌, true, List, [], ◌∷◌}
 use Rattle.std.proofs.lemmas.Bool.{and_parts, ltb-true}
 use Rattle.std.proofs.Math.Dec.{ltb}
 use Rattle.criteria_totals.specs.Spellings.{AllSmall}
-use Rattle.formula_totals.specs.declared.weighted.Weighted.{Weighted}
-use Rattle.formula_totals.specs.Weighed.{top_said, tops_said}
-use Rattle.cost_limits.specs.Small.{are_small}
+use Rattle.cost_terms.specs.declared.weighted.Weighted.{Weighted}
+use Rattle.cost_terms.specs.Weighed.{top_said, tops_said}
+use Rattle.ranked_costs.specs.Small.{are_small}
 
 pub all-small : (lists : List (List Weighted)) → are_small lists ≡ true → AllSmall (tops_said lists)
 all-small [] h = tt

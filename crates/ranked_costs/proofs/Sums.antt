@@ -1,74 +1,110 @@
--- The sums of a graph that an assignment says all of are its cost vector.
-use Rattle.std.proofs.Common.{◌≡◌, refl, sym, ap, ◌∙◌, Bool, true, false, ℕ, List, [], ◌∷◌, map, Option, Some, None}
-use Rattle.std.specs.Prelude.{if◌then◌else◌}
-use Rattle.std.specs.List.Sorted.{IsPermutation}
-use Rattle.clause_formulas.specs.Statements.{Statement, eval, never, no}
-use Rattle.graph_core.specs.Graphs.{Text, Content, IsGraph}
-use Rattle.conditions.specs.declared.recipe.VariantRow.{VariantRow}
-use Rattle.condition_rules.specs.Holds.{all_hold}
-use Rattle.problem.specs.Problems.{Problem, world_of, variants_at}
-use Rattle.graph_costs.specs.Costs.{vector, stopped}
-use Rattle.criteria_totals.specs.Spellings.{AllSmall}
-use Rattle.literal_table.specs.Tables.{Table, IsTable, name_of, block_of}
-use Rattle.literal_table.specs.Spells.{Spells}
-use Rattle.literal_table.specs.declared.block.Block.{Block}
-use Rattle.literal_table.proofs.Spelling.{found-named}
-use Rattle.formula_totals.specs.Weighed.{sums_said, tops_said}
-use Rattle.cost_terms.specs.Terms.{Held}
-use Rattle.cost_terms.specs.Sums.{cost_terms, HoldSaid}
-use Rattle.cost_terms.proofs.Whole.{vector-is}
-use Rattle.cost_bits.proofs.Order.{unstopped}
-use Rattle.ranked_costs.proofs.Agreeing.{same-terms}
+-- Sums over plain lists: bounds, and how keys that stand once share out a list.
+use Rattle.std.proofs.Common.{◌≡◌, refl, sym, ap, subst, ◌∙◌, ℕ, ◌+◌, ◌*◌, ◌≤◌, Bool, true, false, cond, List, [], ◌∷◌, length, Some, Contains, sum_by, ⊎_elim, arith}
+use Rattle.std.specs.List.{filter, find}
+use Rattle.std.specs.declared.cmp.Ordering.TheVariants.{Less, Equal}
+use Rattle.std.specs.Cmp.Lexicographic.{nat_list_cmp_total}
+use Rattle.std.proofs.lemmas.Bool.{false_from_ne_true}
+use Rattle.std.proofs.lemmas.Cmp.{tied_itself}
+use Rattle.std.proofs.lemmas.List.Sums.{sum_by-cons}
+use Rattle.reachability.proofs.CountLaws.{has_first, has_later, first_or_later}
+use Rattle.variant_values.specs.Texts.{byte_cmp, IsInByteOrder}
+use Rattle.keyed_lists.specs.Given.{adds_or_none}
+use Rattle.keyed_lists.proofs.RiseLaws.{rises_above, rises_rest}
+use Rattle.graph_core.specs.Graphs.{Text}
 
--- the formula that is always, or never, true
-abbrev fixed : Bool → Statement
-fixed b = if b then no never else never
+-- ---- bounds
 
-fixed-is : (v : ℕ → Bool) (b : Bool) → eval v (fixed b) ≡ b
-fixed-is v true = refl
-fixed-is v false = refl
+pub sum-le-in : {X : Type 0} (f g : X → ℕ) (xs : List X) → ((x : X) → Contains xs x → f x ≤ g x) → sum_by f xs ≤ sum_by g xs
+sum-le-in f g [] le = omega arith
+sum-le-in f g (x ∷ xs) le =
+    let here : f x ≤ g x = le x (has_first x xs) in
+    let rest = sum-le-in f g xs (λ y h. le y (has_later x xs y h)) in
+    omega (arith, sum_by-cons f x xs, sum_by-cons g x xs)
 
-module _ (problem : Problem) (t : Table) (held : Held) (order : List Text) (v : ℕ → Bool) (g : Content) where
-  -- where the conditions of a name's definitions of variants hold
-  abbrev pub holding : Text → List Bool
-  holding name = map (λ row. all_hold (world_of problem) row.when g name) (variants_at problem name)
+pub sum-at : {X : Type 0} (f : X → ℕ) (xs : List X) (x : X) → Contains xs x → f x ≤ sum_by f xs
+sum-at f [] x there = absurd (omega (arith, there.1))
+sum-at f (y ∷ ys) x there = ⊎_elim
+    (λ same. subst (λ z. f z ≤ sum_by f (y ∷ ys)) same (omega (arith, sum_by-cons f y ys)))
+    (λ later. let rest = sum-at f ys x later in omega (arith, sum_by-cons f y ys))
+    (first_or_later y ys x there)
 
-  -- the same formulas at the table's names, and constants elsewhere
-  abbrev fill : Text → Option Block → List Statement
-  fill name None = map (λ row. fixed (all_hold (world_of problem) row.when g name)) (variants_at problem name)
-  fill name (Some b) = held name
+pub sum-add : {X : Type 0} (f g : X → ℕ) (xs : List X) → sum_by (λ x. f x + g x) xs ≡ sum_by f xs + sum_by g xs
+sum-add f g [] = refl
+sum-add f g (x ∷ xs) = omega (arith, sum-add f g xs, sum_by-cons f x xs, sum_by-cons g x xs, sum_by-cons (λ y. f y + g y) x xs)
 
-  abbrev filled : Held
-  filled name = fill name (block_of t name)
+pub sum-ones : {X : Type 0} (xs : List X) → sum_by (λ x. 1) xs ≡ length xs
+sum-ones [] = refl
+sum-ones (x ∷ xs) = omega (arith, sum-ones xs, sum_by-cons (λ y. 1) x xs)
 
-  fixed-all : (name : Text) (rows : List VariantRow)
-      → map (eval v) (map (λ row. fixed (all_hold (world_of problem) row.when g name)) rows)
-      ≡ map (λ row. all_hold (world_of problem) row.when g name) rows
-  fixed-all name [] = refl
-  fixed-all name (row ∷ rows) = λ i. fixed-is v (all_hold (world_of problem) row.when g name) i ∷ fixed-all name rows i
+pub sum-same : {X : Type 0} (k : ℕ) (xs : List X) → sum_by (λ x. k) xs ≡ length xs * k
+sum-same k [] = omega arith
+sum-same k (x ∷ xs) = omega (arith, sum-same k xs, sum_by-cons (λ y. k) x xs)
 
-  module _ (says : (name : Text) (b : Block) → block_of t name ≡ Some b → map (eval v) (held name) ≡ holding name) where
-    all-said : HoldSaid v problem filled g
-    all-said name = go (block_of t name) refl
+-- ---- keys
+
+-- what no key passes adds nothing
+none-passes : (n : ℕ) (p : Text → Bool) (ks : List Text) → ((k : Text) → Contains ks k → p k ≡ false) → sum_by (λ k. cond (p k) n 0) ks ≡ 0
+none-passes n p [] none = refl
+none-passes n p (k ∷ ks) none =
+    let here : cond (p k) n 0 ≡ 0 = ap (λ b. cond b n 0) (none k (has_first k ks)) in
+    omega (arith, here, sum_by-cons (λ j. cond (p j) n 0) k ks, none-passes n p ks (λ j h. none j (has_later k ks j h)))
+
+module _ (same : Text → Text → Bool) (exact : (a b : Text) → same a b ≡ true → a ≡ b) where
+  -- a number that is added at one key alone
+  pub once : (t : Text) (n : ℕ) (ks : List Text) → IsInByteOrder ks → sum_by (λ k. cond (same t k) n 0) ks ≤ n
+  once t n [] rising = omega arith
+  once t n (k ∷ ks) rising = go (once t n ks (rises_rest byte_cmp k ks rising)) (same t k) refl
+    where
+      go : sum_by (λ j. cond (same t j) n 0) ks ≤ n → (b : Bool) → same t k ≡ b → sum_by (λ j. cond (same t j) n 0) (k ∷ ks) ≤ n
+      go others true is =
+          let here : cond (same t k) n 0 ≡ n = ap (λ b. cond b n 0) is in
+          let rest = none-passes n (same t) ks (λ j there. false_from_ne_true (same t j) (λ also.
+          let twice : k ≡ j = sym (exact t k is) ∙ exact t j also in
+          let less : byte_cmp k k ≡ Less = ap (byte_cmp k) twice ∙ rises_above byte_cmp k ks rising j there in
+          let both : Less ≡ Equal = sym less ∙ tied_itself nat_list_cmp_total k in
+          cc)) in
+          omega (arith, here, rest, sum_by-cons (λ j. cond (same t j) n 0) k ks)
+      go others false is =
+          let here : cond (same t k) n 0 ≡ 0 = ap (λ b. cond b n 0) is in
+          omega (arith, here, sum_by-cons (λ j. cond (same t j) n 0) k ks)
+
+  module _ {X : Type 0} (f : X → ℕ) (key : X → Text) where
+    one-more : (x : X) (xs : List X) (k : Text)
+        → sum_by f (filter (λ y. same (key y) k) (x ∷ xs)) ≡ cond (same (key x) k) (f x) 0 + sum_by f (filter (λ y. same (key y) k) xs)
+    one-more x xs k = by (same (key x) k)
       where
-        go : (o : Option Block) → block_of t name ≡ o → map (eval v) (fill name o) ≡ holding name
-        go None e = fixed-all name (variants_at problem name)
-        go (Some b) e = says name b e
+        by : (b : Bool) → sum_by f (cond b (x ∷ filter (λ y. same (key y) k) xs) (filter (λ y. same (key y) k) xs))
+            ≡ cond b (f x) 0 + sum_by f (filter (λ y. same (key y) k) xs)
+        by true = sum_by-cons f x (filter (λ y. same (key y) k) xs)
+        by false = omega arith
 
-    agree : (name : Text) (b : Block) → block_of t name ≡ Some b → held b.name ≡ filled b.name
-    agree name b e =
-        let here : block_of t b.name ≡ Some b = ap (block_of t) (found-named name_of t.blocks name b e) ∙ e in
-        sym (ap (fill b.name) here)
+    -- what each key has of a list is no more than the list
+    pub shared : (ks : List Text) → IsInByteOrder ks → (xs : List X)
+        → sum_by (λ k. sum_by f (filter (λ x. same (key x) k) xs)) ks ≤ sum_by f xs
+    shared ks rising [] = omega (arith, sum-same 0 ks)
+    shared ks rising (x ∷ xs) =
+        let here = sum-le-in (λ k. sum_by f (filter (λ y. same (key y) k) (x ∷ xs)))
+        (λ k. cond (same (key x) k) (f x) 0 + sum_by f (filter (λ y. same (key y) k) xs)) ks (λ k there. omega (arith, one-more x xs k)) in
+        let parts = sum-add (λ k. cond (same (key x) k) (f x) 0) (λ k. sum_by f (filter (λ y. same (key y) k) xs)) ks in
+        omega (arith, here, parts, once (key x) (f x) ks rising, shared ks rising xs, sum_by-cons f x xs)
 
-    pub sums-are : IsTable t → IsGraph g → Spells v t g → IsPermutation (map name_of t.blocks) order
-        → AllSmall (tops_said (cost_terms problem t held order)) → sums_said v (cost_terms problem t held order) ≡ vector problem g
-    sums-are table graph spells ordered small =
-        sym (unstopped v (cost_terms problem t held order) small)
-        ∙ ap (λ lists. map stopped (sums_said v lists)) (same-terms problem t order held filled agree)
-        ∙ vector-is v problem t filled order g (record {
-          is_table = table;
-          is_graph = graph;
-          spells = spells;
-          holds = all-said;
-          ordered = ordered;
-        })
+    -- and so is what is found at each key
+    pub found : (ks : List Text) → IsInByteOrder ks → (xs : List X)
+        → sum_by (λ k. adds_or_none f (find (λ x. same (key x) k) xs)) ks ≤ sum_by f xs
+    found ks rising xs =
+        omega (
+          arith,
+          sum-le-in (λ k. adds_or_none f (find (λ x. same (key x) k) xs)) (λ k. sum_by f (filter (λ x. same (key x) k) xs)) ks
+              (λ k there. first-of k xs),
+          shared ks rising xs,
+        )
+      where
+        first-of : (k : Text) (ys : List X) → adds_or_none f (find (λ x. same (key x) k) ys) ≤ sum_by f (filter (λ x. same (key x) k) ys)
+        first-of k [] = omega arith
+        first-of k (y ∷ ys) = by (same (key y) k) (first-of k ys)
+          where
+            by : (b : Bool) → adds_or_none f (find (λ x. same (key x) k) ys) ≤ sum_by f (filter (λ x. same (key x) k) ys)
+                → adds_or_none f (cond b (Some y) (find (λ x. same (key x) k) ys))
+                ≤ sum_by f (cond b (y ∷ filter (λ x. same (key x) k) ys) (filter (λ x. same (key x) k) ys))
+            by true rest = omega (arith, sum_by-cons f y (filter (λ x. same (key x) k) ys))
+            by false rest = rest

@@ -8,10 +8,10 @@ use Rattle.graph_core.specs.Graphs.{Text}
 use Rattle.problem.specs.Problems.{Problem}
 use Rattle.criteria_totals.specs.Totals.{Spelling}
 use Rattle.literal_table.specs.Tables.{Table}
-use Rattle.formula_totals.specs.declared.weighted.Weighted.{Weighted}
-use Rattle.formula_totals.specs.Built.{define_totals_on}
+use Rattle.cost_terms.specs.declared.weighted.Weighted.{Weighted}
+use Rattle.cost_terms.specs.Built.{define_totals_on}
 use Rattle.cost_terms.specs.Sums.{cost_terms}
-use Rattle.graph_terms.specs.Held.{held_in}
+use Rattle.term_builder.specs.Held.{held_in}
 use Rattle.ranked_costs.specs.Given.{held_for}
 
 -- the terms of the 31 numbers

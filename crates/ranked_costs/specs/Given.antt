@@ -5,7 +5,7 @@ use Rattle.graph_core.specs.Graphs.{Text}
 use Rattle.problem.specs.Problems.{Problem, variants_at, depends_at, conflicts_at, requirements_at}
 use Rattle.literal_table.specs.Tables.{Table, name_of}
 use Rattle.std.specs.Prelude.{map}
-use Rattle.graph_terms.specs.Held.{HeldRow}
+use Rattle.term_builder.specs.Held.{HeldRow}
 
 -- what is behind the values of a package's directives
 abbrev pub passed : Problem → Text → List Defined → List Defined

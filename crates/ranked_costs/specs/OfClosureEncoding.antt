@@ -1,7 +1,7 @@
 -- What is passed on of `closure_encoding`, so that the crates above need not name it.
-pub use Rattle.closure_encoding.specs.Closures
-pub use Rattle.closure_encoding.specs.OfRightRules.Joined
-pub use Rattle.closure_encoding.specs.OfRightRules.Targets
-pub use Rattle.closure_encoding.specs.OfRightTables.Kept
-pub use Rattle.closure_encoding.specs.OfRightTables.Tables
-pub use Rattle.closure_encoding.specs.OfRightTables.{has_right_values}
+pub use Rattle.valid_models.specs.Closures
+pub use Rattle.valid_models.specs.Joined
+pub use Rattle.valid_models.specs.Targets
+pub use Rattle.valid_models.specs.OfTablePlan.Kept
+pub use Rattle.valid_models.specs.Tables
+pub use Rattle.valid_models.specs.OfTablePlan.Kept.{has_right_values}

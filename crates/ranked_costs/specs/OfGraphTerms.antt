@@ -1,2 +1,2 @@
 -- What is passed on of `graph_terms`, so that the crates above need not name it.
-pub use Rattle.graph_terms.specs.Held
+pub use Rattle.term_builder.specs.Held

@@ -8,26 +8,26 @@ use Rattle.clause_formulas.specs.Drafts.{value_at}
 use Rattle.graph_core.specs.Graphs.{Text}
 use Rattle.problem.specs.Problems.{Problem}
 use Rattle.problem.specs.Closure.{IsClosure}
-use Rattle.graph_costs.specs.Costs.{vector}
-use Rattle.graph_costs.specs.Optimal.{IsOptimal, HasNoGraph}
+use Rattle.graph_rules.specs.Costs.{vector}
+use Rattle.graph_rules.specs.Optimal.{IsOptimal, HasNoGraph}
 use Rattle.literal_table.specs.Tables.{Table, name_of}
 use Rattle.criteria_totals.specs.Spellings.{bits_for}
 use Rattle.criteria_totals.specs.Totals.{values_at}
-use Rattle.encoding_stages.specs.Bits.{IsLeastModel}
-use Rattle.closure_encoding.specs.OfRightTables.Kept.{have_values}
-use Rattle.closure_encoding.specs.OfRightTables.Decoding.{decode}
-use Rattle.closure_encoding.specs.OfGraphEncoding.Formulas.{MetBelow}
-use Rattle.closure_encoding.specs.OfGraphEncoding.Encodings.{IsValid}
-use Rattle.closure_encoding.specs.OfGraphEncoding.Best.{values_for, RanksGraphs}
-use Rattle.closure_encoding.specs.OfRightTables.Tables.{table_for, size_for}
-use Rattle.closure_encoding.specs.OfRightRules.Targets.{conditions_of, targets_of}
-use Rattle.closure_encoding.specs.OfRightRules.Joined.{Places, IsPlaced}
-use Rattle.closure_encoding.specs.Closures.{closure_formulas, closure_clauses}
+use Rattle.graph_levels.specs.Bits.{IsLeastModel}
+use Rattle.valid_models.specs.OfTablePlan.Kept.{have_values}
+use Rattle.valid_models.specs.OfGraphDecoding.Decoding.{decode}
+use Rattle.valid_models.specs.OfGraphEncoding.Formulas.{MetBelow}
+use Rattle.valid_models.specs.OfGraphEncoding.Encodings.{IsValid}
+use Rattle.valid_models.specs.OfGraphEncoding.Best.{values_for, RanksGraphs}
+use Rattle.valid_models.specs.Tables.{table_for, size_for}
+use Rattle.valid_models.specs.Targets.{conditions_of, targets_of}
+use Rattle.valid_models.specs.Joined.{Places, IsPlaced}
+use Rattle.valid_models.specs.Closures.{closure_formulas, closure_clauses}
 use Rattle.cost_terms.specs.Ranges.{IsTableBelow}
-use Rattle.cost_limits.specs.OfProblemLimits.Limits.{is_within_limits}
-use Rattle.cost_limits.specs.Small.{are_small}
-use Rattle.cost_bits.specs.Least.{AreCostBits}
-use Rattle.graph_terms.specs.Held.{held_in}
+use Rattle.ranked_costs.specs.OfProblemLimits.Limits.{is_within_limits}
+use Rattle.ranked_costs.specs.Small.{are_small}
+use Rattle.ranked_costs.specs.Least.{AreCostBits}
+use Rattle.term_builder.specs.Held.{held_in}
 use Rattle.ranked_costs.specs.Given.{held_for}
 use Rattle.ranked_costs.specs.Built.{terms_for}
 

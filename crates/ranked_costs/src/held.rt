@@ -7,7 +7,7 @@ use clause_formulas::Defined;
 use literal_table::LiteralTable;
 use plain_data::{Duplicate, List, Word};
 use problem::Problem;
-use problem_lookups::{conflicts_at, depends_at, requirements_at, variants_at};
+use problem::{conflicts_at, depends_at, requirements_at, variants_at};
 use std::alloc::{AllocError, Global};
 
 fn before(values: &[Defined], count: usize) -> &[Defined]

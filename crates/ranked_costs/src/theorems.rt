@@ -1,26 +1,12 @@
-//! What holds of the bits of costs behind the clauses of a closure.
-ghost use Rattle.ranked_costs.specs.Ranked.{ClosureInRange, ClosureSmall, ClosureCosts, ClosureSpells, LeastIsOptimal, NoModelNoGraph};
+//! What holds of all orders. The body is empty: what is proved is the contract.
+ghost use Rattle.std.specs.Prelude.{List};
+ghost use Rattle.std.specs.List.Sorted.{IsPermutation};
+ghost use Rattle.graph_core.specs.Graphs.{Text};
+ghost use Rattle.literal_table.specs.Tables.{Table};
+ghost use Rattle.ranked_costs.specs.Walks.{all_names, post_order};
 
-use closure_encoding::closure_laws;
-use cost_limits::limit_laws;
-use graph_rules::valid_laws;
-
-/// Behind the clauses of a closure, what `rank_costs` asks for holds, and its bits rank the graphs by
-/// their cost vectors. In each model they spell the vector of its graph. Within the limits its sums are small.
-pub fn costs_laws()
-    ensures range { ClosureInRange }
-    ensures small { ClosureSmall }
-    ensures ranks { ClosureCosts }
-    ensures spells { ClosureSpells }
-{
-    closure_laws();
-    limit_laws();
-}
-
-/// A model with the least bits decodes to an optimal graph; where there is no model, no graph is valid.
-pub fn optimum_laws()
-    ensures least { LeastIsOptimal }
-    ensures none { NoModelNoGraph }
-{
-    valid_laws();
-}
+/// Each name of the table stands in the order once.
+pub fn order_laws()
+    ensures each { (table : Table) (roots : List Text)
+        → IsPermutation (all_names table) (post_order table roots) }
+{}

@@ -1,21 +1,21 @@
 // The totals of the costs.
 ghost use Rattle.std.specs.Prelude.{◌≡◌, true, IfOk};
 ghost use Rattle.clause_formulas.specs.Drafts.{value_at};
-ghost use Rattle.gate_plans.specs.Growth.{Extends};
+ghost use Rattle.clause_circuits.specs.Growth.{Extends};
 ghost use Rattle.cost_terms.specs.Ranges.{IsTableBelow};
-ghost use Rattle.cost_bits.specs.Least.{AreCostBits};
-ghost use Rattle.closure_encoding.specs.OfGraphEncoding.Formulas.{MetBelow};
-ghost use Rattle.graph_terms.specs.Held.{held_in};
+ghost use Rattle.ranked_costs.specs.Least.{AreCostBits};
+ghost use Rattle.valid_models.specs.OfGraphEncoding.Formulas.{MetBelow};
+ghost use Rattle.term_builder.specs.Held.{held_in};
 ghost use Rattle.ranked_costs.specs.Given.{held_for};
-ghost use Rattle.cost_limits.specs.Small.{are_small};
+ghost use Rattle.ranked_costs.specs.Small.{are_small};
 ghost use Rattle.ranked_costs.specs.Built.{terms_for, rank_costs_on};
 
 use crate::held::held_for;
 use clause_formulas::Defined;
 use clause_store::ClauseList;
 use criteria_totals::Bits;
-use formula_totals::define_totals;
-use graph_terms::cost_terms;
+use cost_terms::define_totals;
+use term_builder::cost_terms;
 use literal_table::LiteralTable;
 use plain_data::Word;
 use problem::Problem;

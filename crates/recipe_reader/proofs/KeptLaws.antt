@@ -15,9 +15,9 @@ use Rattle.recipe_statements.specs.declared.item.Item.TheVariants.{With, Call}
 use Rattle.recipe_values.specs.Strings.{text_of, start_of}
 use Rattle.recipe_values.specs.Brackets.{arguments_of}
 use Rattle.recipe_values.specs.declared.segment.Segment.{Segment}
-use Rattle.conditions.specs.Right.{is_distinct, has_right_default, is_alone, is_local_row, all_numbers, numbers_of, is_right_recipe}
-use Rattle.conditions.specs.declared.recipe.ProvideRow.{ProvideRow}
-use Rattle.conditions.specs.declared.recipe.Recipe.{Recipe}
+use Rattle.recipe_data.specs.Right.{is_distinct, has_right_default, is_alone, is_local_row, all_numbers, numbers_of, is_right_recipe}
+use Rattle.recipe_data.specs.declared.recipe.ProvideRow.{ProvideRow}
+use Rattle.recipe_data.specs.declared.recipe.Recipe.{Recipe}
 use Rattle.directive_arguments.specs.declared.fault.ArgumentFault.{ArgumentFault}
 use Rattle.recipe_reader.specs.declared.fault.RecipeFault.{RecipeFault}
 use Rattle.directive_arguments.specs.declared.directive.Directive.{Directive}

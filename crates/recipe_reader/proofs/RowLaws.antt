@@ -9,15 +9,15 @@ use Rattle.spec_grammar.specs.Signs.{IsName}
 use Rattle.spec_grammar.specs.declared.part.Part.{Part}
 use Rattle.spec_grammar.specs.declared.part.Spec.{Spec}
 use Rattle.graph_core.specs.declared.node.Kinds.{Kinds}
-use Rattle.conditions.specs.Right.{is_distinct, has_right_default, all_numbers}
-use Rattle.conditions.specs.declared.recipe.Condition.{Condition}
-use Rattle.conditions.specs.declared.recipe.VersionRow.{VersionRow}
-use Rattle.conditions.specs.declared.recipe.VariantRow.{VariantRow}
-use Rattle.conditions.specs.declared.recipe.DependRow.{DependRow}
-use Rattle.conditions.specs.declared.recipe.ProvideRow.{ProvideRow}
-use Rattle.conditions.specs.declared.recipe.ConflictRow.{ConflictRow}
-use Rattle.conditions.specs.declared.recipe.RequireRow.{RequireRow}
-use Rattle.conditions.specs.declared.recipe.Recipe.{Recipe}
+use Rattle.recipe_data.specs.Right.{is_distinct, has_right_default, all_numbers}
+use Rattle.recipe_data.specs.declared.recipe.Condition.{Condition}
+use Rattle.recipe_data.specs.declared.recipe.VersionRow.{VersionRow}
+use Rattle.recipe_data.specs.declared.recipe.VariantRow.{VariantRow}
+use Rattle.recipe_data.specs.declared.recipe.DependRow.{DependRow}
+use Rattle.recipe_data.specs.declared.recipe.ProvideRow.{ProvideRow}
+use Rattle.recipe_data.specs.declared.recipe.ConflictRow.{ConflictRow}
+use Rattle.recipe_data.specs.declared.recipe.RequireRow.{RequireRow}
+use Rattle.recipe_data.specs.declared.recipe.Recipe.{Recipe}
 use Rattle.recipe_reader.specs.declared.fault.RecipeFault.{RecipeFault}
 use Rattle.recipe_reader.specs.declared.fault.RecipeFault.TheVariants as fault
 use Rattle.directive_arguments.specs.declared.given.Options.{Options}

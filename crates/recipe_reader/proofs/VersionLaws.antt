@@ -6,7 +6,7 @@ use Rattle.std.specs.Str.{bytes_eq}
 use Rattle.std.proofs.lemmas.Bool.{and_parts, and_from}
 use Rattle.std.proofs.lemmas.Slice.Eq.{bytes_eq-Decides}
 use Rattle.variant_values.specs.Texts.{Texts}
-use Rattle.conditions.specs.Right.{is_distinct}
+use Rattle.recipe_data.specs.Right.{is_distinct}
 
 other : (v w : List ℕ) → bytes_eq v w ≡ false → bytes_eq w v ≡ false
 other v w e = by (bytes_eq w v) refl

@@ -1,7 +1,7 @@
 -- Recipes of files, one after the other.
 use Rattle.std.specs.Prelude.{◌≡◌, ℕ, List, map, take, Result, Some, Ok, Err, IfOk, IfErr}
 use Rattle.std.specs.List.{slice_get}
-use Rattle.conditions.specs.declared.recipe.Recipe.{Recipe}
+use Rattle.recipe_data.specs.declared.recipe.Recipe.{Recipe}
 use Rattle.recipe_reader.specs.declared.fault.RecipeFault.{RecipeFault}
 use Rattle.recipe_reader.specs.declared.fault.RecipeFault.TheVariants as fault
 use Rattle.recipe_reader.specs.declared.files.RecipeFile.{RecipeFile}

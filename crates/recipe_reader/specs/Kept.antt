@@ -4,8 +4,8 @@ use Rattle.std.specs.List.{list_all}
 use Rattle.std.specs.Ordering.{nat_cmp}
 use Rattle.keyed_lists.specs.Keyed.{rises}
 use Rattle.spec_grammar.specs.Signs.{is_name}
-use Rattle.conditions.specs.Right.{is_right_recipe}
-use Rattle.conditions.specs.declared.recipe.Recipe.{Recipe}
+use Rattle.recipe_data.specs.Right.{is_right_recipe}
+use Rattle.recipe_data.specs.declared.recipe.Recipe.{Recipe}
 
 -- each number is at most the next
 abbrev pub climbs : List ℕ → Bool

@@ -12,8 +12,8 @@ use Rattle.recipe_statements.specs.declared.item.Item.TheVariants.{With, Call}
 use Rattle.recipe_values.specs.Strings.{text_of, start_of}
 use Rattle.recipe_values.specs.Brackets.{arguments_of}
 use Rattle.recipe_values.specs.declared.segment.Segment.{Segment}
-use Rattle.conditions.specs.declared.recipe.Condition.{Condition}
-use Rattle.conditions.specs.declared.recipe.Recipe.{Recipe}
+use Rattle.recipe_data.specs.declared.recipe.Condition.{Condition}
+use Rattle.recipe_data.specs.declared.recipe.Recipe.{Recipe}
 use Rattle.recipe_reader.specs.declared.fault.RecipeFault.{RecipeFault}
 use Rattle.recipe_reader.specs.declared.fault.RecipeFault.TheVariants as fault
 use Rattle.directive_arguments.specs.declared.given.Given.{Given}

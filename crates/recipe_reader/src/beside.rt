@@ -2,7 +2,7 @@
 
 ghost use Rattle.std.specs.Prelude.{◌≡◌, ◌<◌, ◌^◌, ◌++◌, ℕ, List as Items, length, vec_len, slice_index_or, flat_map, map, Ok, IfOk};
 ghost use Rattle.std.specs.List.{AllZip};
-ghost use Rattle.conditions.specs.declared.recipe.Recipe.{Recipe};
+ghost use Rattle.recipe_data.specs.declared.recipe.Recipe.{Recipe};
 ghost use Rattle.recipe_reader.specs.Files.{recipe_in_file, FailsAt, IsReadOf};
 ghost use Rattle.recipe_reader.specs.declared.files.RecipeFile.{RecipeFile as File};
 

@@ -2,14 +2,14 @@
 
 ghost use Rattle.std.specs.Prelude.{◌≡◌, true, map, Ok, IfOk, IfErr};
 ghost use Rattle.std.specs.List.{list_all};
-ghost use Rattle.conditions.specs.Right.{is_right_recipe};
+ghost use Rattle.recipe_data.specs.Right.{is_right_recipe};
 ghost use Rattle.recipe_reader.specs.Results.{Is};
 ghost use Rattle.recipe_reader.specs.Files.{recipe_in_file, FailsAt};
 
 use crate::beside::read_beside;
 use crate::parts::bytes_of;
 use crate::{RecipeFault, read_recipe};
-use conditions::Recipe;
+use recipe_data::Recipe;
 use plain_data::{List, Word};
 use std::alloc::Global;
 use std::thread::{Threads, available_parallelism};

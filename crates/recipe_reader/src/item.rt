@@ -12,7 +12,7 @@ use crate::row::add;
 use crate::stage::{arguments, condition};
 use crate::tokens::{first_word, from, start_of, up_to};
 use crate::{Head, RecipeFault, State};
-use conditions::Condition;
+use recipe_data::Condition;
 use directive_arguments::{Directive, Given, directive_of};
 use plain_data::{Duplicate, List};
 use recipe_lexer::Token;

@@ -1,14 +1,14 @@
 //! The calls of this crate.
 
 ghost use Rattle.std.specs.Prelude.{◌≡◌, true, ◌<◌, ◌≤◌, ◌+◌, ◌^◌, Ok, IfOk, IfErr};
-ghost use Rattle.conditions.specs.Right.{is_right_recipe};
+ghost use Rattle.recipe_data.specs.Right.{is_right_recipe};
 ghost use Rattle.recipe_reader.specs.Results.{Is, Gives, Fails};
 ghost use Rattle.recipe_reader.specs.Recipes.{count, read_items, start, recipe_of};
 
 use crate::item::item;
 use crate::stage::{items_of, tokens_of};
 use crate::{RecipeFault, State};
-use conditions::Recipe;
+use recipe_data::Recipe;
 use directive_arguments::Names;
 use plain_data::{List, Word};
 use recipe_lexer::Token;

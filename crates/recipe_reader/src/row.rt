@@ -6,7 +6,7 @@ ghost use Rattle.recipe_reader.specs.Rows.{add_version, with_variant, add_varian
 
 use crate::depends::add_depends;
 use crate::{RecipeFault, State};
-use conditions::{Condition, ConflictRow, ProvideRow, Recipe, RequireRow, VariantRow, VersionRow};
+use recipe_data::{Condition, ConflictRow, ProvideRow, Recipe, RequireRow, VariantRow, VersionRow};
 use directive_arguments::{Directive, Given, Options, Shape, shape_with};
 use plain_data::{Duplicate, List, Word};
 use spec_grammar::{Part, Spec};

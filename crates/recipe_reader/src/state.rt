@@ -1,7 +1,7 @@
 //! What was read of a file.
 
 use crate::RecipeFault;
-use conditions::{Condition, Recipe};
+use recipe_data::{Condition, Recipe};
 use directive_arguments::Names;
 use plain_data::List;
 

@@ -1,7 +1,7 @@
 //! Recipes as texts.
 
 use crate::show::{lex_fault_text, spec_fault_text};
-use conditions::{
+use recipe_data::{
     Condition, ConflictRow, DependRow, ProvideRow, Recipe, RequireRow, VariantRow, VersionRow,
 };
 use graph_core::Kinds;

@@ -7,7 +7,7 @@ use Rattle.json_readers.specs.Texts.{text_of}
 use Rattle.json_readers.specs.Sets.{set_of, filled_by}
 use Rattle.json_readers.specs.Maps.{map_of}
 use Rattle.json_readers.specs.Objects.{members_of, first_odd, field, none_odd, null_or}
-use Rattle.text_forms.specs.Forms.{name_meaning, value_meaning, version_in}
+use Rattle.json_texts.specs.Forms.{name_meaning, value_meaning, version_in}
 use Rattle.graph_core.specs.Graphs.{Text}
 use Rattle.graph_core.specs.declared.node.Compiler.{Compiler}
 use Rattle.graph_core.specs.declared.node.Kinds.{Kinds}

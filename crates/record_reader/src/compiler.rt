@@ -6,7 +6,7 @@ use graph_core::Compiler;
 use json_readers::{JsonFault, Reader, Text, field, first_odd, members_of, none_odd};
 use serde_json::Value;
 use std::alloc::Global;
-use text_forms::{Name, VersionText};
+use json_texts::{Name, VersionText};
 
 /// An object with `name` and `version`.
 #[derive(Clone, Copy)]

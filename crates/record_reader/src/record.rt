@@ -15,7 +15,7 @@ use reuse_db::Record;
 use serde_json::{Map, Value};
 use spec_hash::Hash;
 use std::alloc::Global;
-use text_forms::{Name, Value as ValueText, VersionText};
+use json_texts::{Name, Value as ValueText, VersionText};
 
 /// The keys `compiler` and `dependencies`.
 #[derive(Drop)]

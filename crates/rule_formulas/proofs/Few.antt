@@ -8,9 +8,9 @@ use Rattle.clause_formulas.specs.Statements.{Statement, any_of}
 use Rattle.clause_formulas.specs.Rules.{Rule}
 use Rattle.graph_core.specs.Graphs.{Text}
 use Rattle.literal_table.specs.Tables.{Table}
-use Rattle.graph_words.specs.Facts.{Word}
-use Rattle.graph_words.specs.Lists.{first_rules, apart_rules, half_of, halves_rule, few_rules}
-use Rattle.graph_words.specs.Words.{rule_said}
+use Rattle.graph_formulas.specs.Facts.{Word}
+use Rattle.graph_formulas.specs.Lists.{first_rules, apart_rules, half_of, halves_rule, few_rules}
+use Rattle.graph_formulas.specs.Words.{rule_said}
 use Rattle.rule_formulas.specs.Terms.{apart_said}
 
 pub either-same : (a b c d : Statement) → a ≡ c → b ≡ d → any_of (a ∷ b ∷ []) ≡ any_of (c ∷ d ∷ [])

@@ -7,14 +7,14 @@ use Rattle.variant_values.specs.declared.kind.VariantKind.TheVariants as kinds
 use Rattle.clause_formulas.specs.Statements.{Statement, or, any_of, both, implies, opposite}
 use Rattle.clause_formulas.specs.Rules.{Rule, in_words}
 use Rattle.graph_core.specs.Graphs.{Text}
-use Rattle.conditions.specs.declared.recipe.Condition.{Condition}
-use Rattle.conditions.specs.declared.recipe.VariantRow.{VariantRow}
+use Rattle.recipe_data.specs.declared.recipe.Condition.{Condition}
+use Rattle.recipe_data.specs.declared.recipe.VariantRow.{VariantRow}
 use Rattle.literal_table.specs.Tables.{Table}
 use Rattle.problem.specs.Problems.{Problem}
 use Rattle.condition_rules.specs.Words.{among}
-use Rattle.graph_words.specs.Facts.{has_value, node_has, word_said}
-use Rattle.graph_words.specs.Lists.{some, last_one}
-use Rattle.graph_words.specs.Words.{rule_said}
+use Rattle.graph_formulas.specs.Facts.{has_value, node_has, word_said}
+use Rattle.graph_formulas.specs.Lists.{some, last_one}
+use Rattle.graph_formulas.specs.Words.{rule_said}
 use Rattle.graph_formulas.specs.Terms.{Term, term_said, known_rule, met_rule}
 use Rattle.graph_formulas.specs.Variants.{count_rule, allows_rule, definitions, variant_there_rule, variant_rule, variants_rule}
 use Rattle.word_formulas.specs.Builders.{no_paths, plain_said}

@@ -1,3 +1,4 @@
+pub mod AskedPaths
 mod Few
 pub mod Lists
 pub mod Plain

@@ -10,17 +10,17 @@ use Rattle.clause_formulas.specs.Statements.{Statement, or, all_of}
 use Rattle.clause_formulas.proofs.RuleLaws.{all_rules-said}
 use Rattle.clause_formulas.specs.Rules.{Rule, in_words}
 use Rattle.condition_rules.specs.Worlds.{World}
-use Rattle.conditions.specs.declared.recipe.Condition.{Condition}
-use Rattle.conditions.specs.declared.recipe.RequireRow.{RequireRow}
+use Rattle.recipe_data.specs.declared.recipe.Condition.{Condition}
+use Rattle.recipe_data.specs.declared.recipe.RequireRow.{RequireRow}
 use Rattle.graph_core.specs.Graphs.{Text}
 use Rattle.literal_table.specs.Choices.{Choices, offered}
 use Rattle.literal_table.specs.Tables.{Table, packages_of}
 use Rattle.problem.specs.Problems.{Problem, world_of}
 use Rattle.virtuals.specs.Virtuals.{is_virtual}
-use Rattle.graph_words.specs.Facts.{Word, word_said}
-use Rattle.graph_words.specs.Lists.{some, first_rules, apart_rules, half_of, halves_rule, few_rules, just_one}
-use Rattle.graph_words.specs.Parts.{holds_rule}
-use Rattle.graph_words.specs.Words.{names_for, rule_said}
+use Rattle.graph_formulas.specs.Facts.{Word, word_said}
+use Rattle.graph_formulas.specs.Lists.{some, first_rules, apart_rules, half_of, halves_rule, few_rules, just_one}
+use Rattle.graph_formulas.specs.Parts.{holds_rule}
+use Rattle.graph_formulas.specs.Words.{names_for, rule_said}
 use Rattle.graph_formulas.specs.Terms.{Term, term_said, known_rule}
 use Rattle.graph_formulas.specs.Laws.{term_formula}
 use Rattle.graph_formulas.specs.Directives.{choice_rule}

@@ -2,15 +2,15 @@
 use Rattle.std.proofs.Common.{◌≡◌, refl, ap, Bool, true, ◌&&◌, List, filter}
 use Rattle.clause_formulas.specs.Statements.{Statement, both, implies}
 use Rattle.clause_formulas.specs.Rules.{in_words, fact, if_so}
-use Rattle.conditions.specs.declared.recipe.Condition.{Condition}
-use Rattle.conditions.specs.declared.recipe.DependRow.{DependRow}
+use Rattle.recipe_data.specs.declared.recipe.Condition.{Condition}
+use Rattle.recipe_data.specs.declared.recipe.DependRow.{DependRow}
 use Rattle.graph_core.specs.Graphs.{Text}
 use Rattle.graph_core.specs.declared.node.Kinds.{Kinds}
 use Rattle.literal_table.specs.Tables.{Table}
 use Rattle.problem.specs.Problems.{Problem, depends_at}
 use Rattle.virtuals.specs.Virtuals.{is_virtual}
-use Rattle.graph_words.specs.Facts.{provides_as, has_edge}
-use Rattle.graph_words.specs.Words.{names_for}
+use Rattle.graph_formulas.specs.Facts.{provides_as, has_edge}
+use Rattle.graph_formulas.specs.Words.{names_for}
 use Rattle.graph_formulas.specs.Terms.{Term, known, term_said, known_rule, met_rule, built_rule}
 use Rattle.graph_formulas.specs.Edges.{no_kinds, asks_rule, may_ask, kind_rule, extra_edge_rule, extra_edges_rule, names_virtual, may_use, use_rule, used_rule, of_provider}
 use Rattle.word_formulas.specs.Builders.{no_paths}

@@ -3,8 +3,8 @@ use Rattle.std.specs.Prelude.{List, [], ◌∷◌, ◌++◌, map, filter, if◌t
 use Rattle.std.specs.Str.{bytes_eq}
 use Rattle.clause_formulas.specs.Statements.{Statement, any_of, both, opposite}
 use Rattle.graph_core.specs.Graphs.{Text}
-use Rattle.conditions.specs.declared.recipe.Condition.{Condition}
-use Rattle.conditions.specs.declared.recipe.VariantRow.{VariantRow}
+use Rattle.recipe_data.specs.declared.recipe.Condition.{Condition}
+use Rattle.recipe_data.specs.declared.recipe.VariantRow.{VariantRow}
 use Rattle.literal_table.specs.Tables.{Table}
 use Rattle.graph_formulas.specs.Variants.{allows_rule}
 use Rattle.word_formulas.specs.Builders.{plain_said}

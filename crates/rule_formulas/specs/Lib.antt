@@ -1,4 +1,5 @@
 -- what public contracts say
+pub mod Paths
 pub mod Terms
 pub mod Governing
 pub mod OfWordFormulas

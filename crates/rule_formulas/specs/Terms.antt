@@ -9,15 +9,15 @@ use Rattle.graph_core.specs.declared.node.Kinds.{Kinds}
 use Rattle.condition_rules.specs.Words.{among}
 use Rattle.condition_rules.specs.Worlds.{World}
 use Rattle.virtuals.specs.Virtuals.{is_virtual}
-use Rattle.conditions.specs.declared.recipe.Condition.{Condition}
-use Rattle.conditions.specs.declared.recipe.RequireRow.{RequireRow}
+use Rattle.recipe_data.specs.declared.recipe.Condition.{Condition}
+use Rattle.recipe_data.specs.declared.recipe.RequireRow.{RequireRow}
 use Rattle.literal_table.specs.Tables.{Table}
 use Rattle.problem.specs.Problems.{Problem}
 use Rattle.problem.specs.declared.demand.Demand.TheVariants as demand
-use Rattle.graph_words.specs.Facts.{Word}
-use Rattle.graph_words.specs.Lists.{written, some, just_one}
-use Rattle.graph_words.specs.Parts.{holds_rule}
-use Rattle.graph_words.specs.Words.{names_for, rule_said}
+use Rattle.graph_formulas.specs.Facts.{Word}
+use Rattle.graph_formulas.specs.Lists.{written, some, just_one}
+use Rattle.graph_formulas.specs.Parts.{holds_rule}
+use Rattle.graph_formulas.specs.Words.{names_for, rule_said}
 use Rattle.graph_formulas.specs.Terms.{Term}
 use Rattle.graph_formulas.specs.Directives.{root_rule}
 use Rattle.graph_formulas.specs.Edges.{no_kinds}

@@ -1,17 +1,17 @@
 //! Formulas of the specs of a requirement.
 ghost use Rattle.std.specs.Prelude.{◌≡◌, ◌++◌, ◌∷◌, ◌/◌, [], length, map, IfOk, OnOk};
 ghost use Rattle.clause_formulas.specs.Statements.{any_of, all_of};
-ghost use Rattle.graph_words.specs.Lists.{some, first_rules, apart_rules, halves_rule, few_rules, just_one};
-ghost use Rattle.graph_words.specs.Parts.{holds_rule};
-ghost use Rattle.graph_words.specs.Words.{names_for, rule_said};
-ghost use Rattle.path_formulas.specs.Paths.{path_by};
+ghost use Rattle.graph_formulas.specs.Lists.{some, first_rules, apart_rules, halves_rule, few_rules, just_one};
+ghost use Rattle.graph_formulas.specs.Parts.{holds_rule};
+ghost use Rattle.graph_formulas.specs.Words.{names_for, rule_said};
+ghost use Rattle.rule_formulas.specs.Paths.{path_by};
 ghost use Rattle.rule_formulas.specs.Terms.{apart_said};
 
 use clause_formulas::Formula;
 use condition_rules::World;
 use graph_levels::PathLits;
 use literal_table::LiteralTable;
-use path_formulas::holds_formula;
+use crate::holds_formula;
 use spec_grammar::Spec;
 use std::alloc::{AllocError, Global};
 use word_formulas::some;

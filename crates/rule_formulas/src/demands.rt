@@ -1,19 +1,19 @@
 //! The formula of a demand.
 ghost use Rattle.std.specs.Prelude.{◌≡◌, IfOk, slice_get};
 ghost use Rattle.std.specs.Option.{option_copied};
-ghost use Rattle.graph_words.specs.Words.{names_for, rule_said};
+ghost use Rattle.graph_formulas.specs.Words.{names_for, rule_said};
 ghost use Rattle.graph_formulas.specs.Directives.{root_rule};
 ghost use Rattle.graph_formulas.specs.Demands.{directive_rule, demand_rule};
 ghost use Rattle.graph_formulas.specs.Laws.{has_name, term_formula};
 ghost use Rattle.graph_formulas.specs.Terms.{where_built};
-ghost use Rattle.path_formulas.specs.Paths.{path_by};
+ghost use Rattle.rule_formulas.specs.Paths.{path_by};
 ghost use Rattle.rule_formulas.specs.Terms.{root_said, directives_said};
 
 use crate::directives::directive_formula;
 use clause_formulas::Formula;
 use graph_levels::PathLits;
 use literal_table::LiteralTable;
-use path_formulas::holds_formula;
+use crate::holds_formula;
 use problem::{Demand, Problem};
 use spec_grammar::Spec;
 use std::alloc::{AllocError, Global};

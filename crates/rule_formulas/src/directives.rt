@@ -2,23 +2,23 @@
 ghost use Rattle.std.specs.Prelude.{◌≡◌, ◌==◌, filter, IfOk};
 ghost use Rattle.clause_formulas.specs.Rules.{both_of};
 ghost use Rattle.problem.specs.Problems.{world_of, depends_at, conflicts_at, requirements_at};
-ghost use Rattle.graph_words.specs.Lists.{each};
-ghost use Rattle.graph_words.specs.Words.{names_for};
+ghost use Rattle.graph_formulas.specs.Lists.{each};
+ghost use Rattle.graph_formulas.specs.Words.{names_for};
 ghost use Rattle.graph_formulas.specs.Directives.{edge_rule, constraint_rule, conflict_rule, requirement_rule};
 ghost use Rattle.graph_formulas.specs.Demands.{directive_rule};
 ghost use Rattle.graph_formulas.specs.Laws.{term_formula};
-ghost use Rattle.path_formulas.specs.Paths.{path_by};
+ghost use Rattle.rule_formulas.specs.Paths.{path_by};
 ghost use Rattle.rule_formulas.specs.Terms.{choice_said};
 
 use crate::choices::{one_formula, some_formula};
 use crate::loops::each_where;
 use clause_formulas::Formula;
-use conditions::{ConflictRow, DependRow, RequireRow};
+use recipe_data::{ConflictRow, DependRow, RequireRow};
 use graph_levels::PathLits;
 use literal_table::LiteralTable;
-use path_formulas::holds_formula;
+use crate::holds_formula;
 use problem::Problem;
-use problem_lookups::{conflicts_at, depends_at, requirements_at};
+use problem::{conflicts_at, depends_at, requirements_at};
 use std::alloc::{AllocError, Global};
 use word_formulas::{MetConditions, constraint_formula, edge_formula};
 

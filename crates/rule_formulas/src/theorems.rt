@@ -1,11 +1,11 @@
 //! What holds of these formulas. The bodies are empty: what is proved are the contracts.
 ghost use Rattle.std.specs.Prelude.{◌≡◌, List};
 ghost use Rattle.clause_formulas.specs.Statements.{Statement};
-ghost use Rattle.conditions.specs.declared.recipe.Condition.{Condition};
+ghost use Rattle.recipe_data.specs.declared.recipe.Condition.{Condition};
 ghost use Rattle.graph_core.specs.Graphs.{Text};
 ghost use Rattle.literal_table.specs.Tables.{Table};
 ghost use Rattle.problem.specs.Problems.{Problem};
-ghost use Rattle.graph_words.specs.Words.{names_for};
+ghost use Rattle.graph_formulas.specs.Words.{names_for};
 ghost use Rattle.graph_formulas.specs.Edges.{extra_edges_rule, used_rule, of_provider};
 ghost use Rattle.graph_formulas.specs.Variants.{variants_rule};
 ghost use Rattle.graph_formulas.specs.Laws.{term_formula};

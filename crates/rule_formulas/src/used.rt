@@ -1,27 +1,27 @@
 //! Formulas of providers that none uses.
 ghost use Rattle.std.specs.Prelude.{◌≡◌, map, filter, IfOk};
 ghost use Rattle.problem.specs.Problems.{depends_at};
-ghost use Rattle.graph_words.specs.Facts.{has_origin};
-ghost use Rattle.graph_words.specs.Lists.{some};
-ghost use Rattle.graph_words.specs.Words.{names_for};
+ghost use Rattle.graph_formulas.specs.Facts.{has_origin};
+ghost use Rattle.graph_formulas.specs.Lists.{some};
+ghost use Rattle.graph_formulas.specs.Words.{names_for};
 ghost use Rattle.graph_formulas.specs.Terms.{builds, met_rule};
 ghost use Rattle.graph_formulas.specs.Edges.{names_virtual, may_use, no_kinds, use_rule, used_rule, of_provider};
 ghost use Rattle.graph_formulas.specs.Laws.{names_of};
 ghost use Rattle.graph_formulas.specs.Terms.{known_rule};
 ghost use Rattle.clause_formulas.specs.Rules.{fact, if_so};
-ghost use Rattle.graph_words.specs.Facts.{provides_as};
+ghost use Rattle.graph_formulas.specs.Facts.{provides_as};
 ghost use Rattle.word_formulas.specs.Builders.{node_said};
 ghost use Rattle.rule_formulas.specs.Terms.{plain_term};
 
 use crate::loops::some_where;
 use clause_formulas::Formula;
 use clause_store::Lit;
-use conditions::DependRow;
+use recipe_data::DependRow;
 use graph_core::{Kinds, Origin};
 use literal_table::LiteralTable;
 use plain_data::Word;
 use problem::Problem;
-use problem_lookups::depends_at;
+use problem::depends_at;
 use std::alloc::{AllocError, Global};
 use word_formulas::{MetConditions, each, given, has_edge, origin_passes, provider_formula};
 

@@ -13,7 +13,7 @@ use Rattle.condition_rules.specs.Meets.{meets_rest, meets, provides}
 use Rattle.condition_rules.specs.Holds.{asked_node, suits, holds, all_hold, governing}
 use Rattle.problem.specs.Problems.{entry_of, record_at}
 use Rattle.problem.specs.Demands.{demands}
-use Rattle.conditions.specs.Right.{is_right_recipe}
+use Rattle.recipe_data.specs.Right.{is_right_recipe}
 use Rattle.problem.specs.Assembled.{is_assembled}
 use Rattle.problem.specs.Closure.{is_known, next_names, is_closed}
 use Rattle.problem.specs.Roots.{roots_fault}
@@ -23,8 +23,8 @@ use Rattle.graph_rules.specs.Kept.{same_attributes, external_node, installed_nod
 use Rattle.graph_rules.specs.Whole.{keeps_provider, keeps_used, keeps_no_cycle, keeps_reachable}
 use Rattle.graph_rules.specs.Valid.{keeps, valid, keeps_demand, valid_for}
 use Rattle.graph_rules.specs.Verdict.{breaks_of, verdict_of}
-use Rattle.graph_costs.specs.Weights.{row_cmp, version_weight, is_deprecated}
-use Rattle.graph_costs.specs.Costs.{other_values, unused_defaults, provider_weights, criteria, vector}
+use Rattle.graph_rules.specs.Weights.{row_cmp, version_weight, is_deprecated}
+use Rattle.graph_rules.specs.Costs.{other_values, unused_defaults, provider_weights, criteria, vector}
 
 unfoldable pub computing : Unit {0}
 unfolding pieces word_of number_of rank_of stage_of staged pre_release release version_cmp is_same is_under item_contains items_overlap

@@ -11,11 +11,11 @@ use Rattle.graph_core.specs.declared.node.Edge.{Edge}
 use Rattle.graph_core.specs.declared.node.Kinds.{Kinds}
 use Rattle.graph_core.specs.declared.node.Compiler.{Compiler}
 use Rattle.graph_core.specs.declared.node.Origin.TheVariants.{Built, Installed}
-use Rattle.conditions.specs.declared.recipe.Condition.{Condition}
-use Rattle.conditions.specs.declared.recipe.Recipe.{Recipe}
-use Rattle.conditions.specs.declared.recipe.VersionRow.{VersionRow}
-use Rattle.conditions.specs.declared.recipe.VariantRow.{VariantRow}
-use Rattle.conditions.specs.declared.recipe.DependRow.{DependRow}
+use Rattle.recipe_data.specs.declared.recipe.Condition.{Condition}
+use Rattle.recipe_data.specs.declared.recipe.Recipe.{Recipe}
+use Rattle.recipe_data.specs.declared.recipe.VersionRow.{VersionRow}
+use Rattle.recipe_data.specs.declared.recipe.VariantRow.{VariantRow}
+use Rattle.recipe_data.specs.declared.recipe.DependRow.{DependRow}
 use Rattle.problem.specs.Problems.{Problem}
 use Rattle.site_settings.specs.declared.settings.Settings.{Settings}
 use Rattle.reuse_db.specs.declared.record.Record.{Record}

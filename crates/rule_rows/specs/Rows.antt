@@ -4,7 +4,7 @@ use Rattle.version_order.specs.declared.item.Item.TheVariants.{Range}
 use Rattle.spec_grammar.specs.Meaning.{empty_part}
 use Rattle.graph_core.specs.Graphs.{Text, Content}
 use Rattle.graph_core.specs.declared.node.Origin.TheVariants.{External}
-use Rattle.conditions.specs.declared.recipe.Recipe.{Recipe}
+use Rattle.recipe_data.specs.declared.recipe.Recipe.{Recipe}
 use Rattle.problem.specs.Problems.{Problem}
 use Rattle.rule_rows.specs.Build.{named, spec, on, at, always, when, version, flag, to_build_and_link, to_run, depends_on, recipe, compiler, standard, problem, built, is_on, edge, graph, installed, kept}
 

@@ -10,7 +10,7 @@ ghost use Rattle.virtuals.specs.Virtuals.{clash};
 ghost use Rattle.graph_rules.specs.declared.rule.Verdict.{Verdict};
 ghost use Rattle.problem.specs.declared.demand.Demand.{Demand};
 ghost use Rattle.problem.specs.declared.fault.ProblemFault.{ProblemFault};
-ghost use Rattle.graph_costs.specs.Costs.{vector};
+ghost use Rattle.graph_rules.specs.Costs.{vector};
 ghost use Rattle.graph_rules.specs.declared.rule.Rule.{Rule};
 ghost use Rattle.rule_rows.specs.Build.{is_on, is_off, named, built, installed, edge, to_run, graph, problem, recipe, with_roots};
 ghost use Rattle.rule_rows.specs.Rows.{vector_of, realistic, realistic_graph, old_compiler, old_compiler_graph, beside, one_node, with_cycle, one_of_two, one_of_graph, with_installed, installed_graph, with_run, with_run_graph, with_newer, newer_graph, single, without_run_graph, with_external, external_graph};

@@ -1,15 +1,15 @@
 -- What is answered and said where input is refused.
 use Rattle.std.specs.Prelude.{ℕ, List, [], ◌∷◌, codes, decimal}
-use Rattle.report_texts.specs.SpecFault.{SpecFault}
-use Rattle.report_texts.specs.SettingsFault.{SettingsFault}
-use Rattle.report_texts.specs.RecipeFault.{RecipeFault}
-use Rattle.report_texts.specs.DbFault.{DbFault}
-use Rattle.report_texts.specs.DatabaseTexts as database
-use Rattle.report_texts.specs.LockFault.{LockFault}
-use Rattle.report_texts.specs.LockFault.TheVariants as faults
-use Rattle.report_texts.specs.Rule.{Rule}
-use Rattle.report_texts.specs.FaultTexts.{spec_fault_text, settings_fault_text, recipe_fault_text, lock_fault_text, rule_name}
-use Rattle.report_texts.specs.Lines.{line}
+use Rattle.run_answers.specs.SpecFault.{SpecFault}
+use Rattle.run_answers.specs.SettingsFault.{SettingsFault}
+use Rattle.run_answers.specs.RecipeFault.{RecipeFault}
+use Rattle.run_answers.specs.DbFault.{DbFault}
+use Rattle.run_answers.specs.DatabaseTexts as database
+use Rattle.run_answers.specs.LockFault.{LockFault}
+use Rattle.run_answers.specs.LockFault.TheVariants as faults
+use Rattle.run_answers.specs.Rule.{Rule}
+use Rattle.run_answers.specs.FaultTexts.{spec_fault_text, settings_fault_text, recipe_fault_text, lock_fault_text, rule_name}
+use Rattle.run_answers.specs.Lines.{line}
 use Rattle.run_answers.specs.declared.line_fault.LineFault.{LineFault}
 use Rattle.run_answers.specs.declared.line_fault.LineFault.TheVariants as line_faults
 use Rattle.run_answers.specs.declared.refusal.Refusal.{Refusal}

@@ -1,6 +1,6 @@
 -- How a reading and a writing end.
 use Rattle.std.specs.Prelude.{ℕ, List, [], ◌∷◌, Result, Ok, Err, codes}
-use Rattle.report_texts.specs.Lines.{line}
+use Rattle.run_answers.specs.Lines.{line}
 use Rattle.run_answers.specs.Refusals.{status_of, line_of}
 use Rattle.run_answers.specs.declared.refusal.Refusal.{Refusal}
 use Rattle.run_answers.specs.declared.refusal.Refusal.TheVariants.{Usage}

@@ -8,7 +8,7 @@ ghost use Rattle.run_answers.specs.Refusals as lines;
 use crate::line_fault::{LineFault, line_fault_name};
 use crate::status::Status;
 use plain_data::Word;
-use report_texts::{
+use crate::{
     DbFault, LockFault, RecipeFault, Rule, SettingsFault, SpecFault, database_fault_text,
     lock_fault_text, recipe_fault_text, rule_name, settings_fault_text, spec_fault_text,
 };

@@ -3,14 +3,14 @@ use Rattle.std.proofs.Common.{◌≡◌, refl, ap, ◌∙◌, ℕ, ◌≤◌, �
 use Rattle.std.specs.List.{slice_get}
 use Rattle.std.specs.Prelude.{get_or}
 use Rattle.std.proofs.lemmas.Option.{get_or_from_slice_get}
-use Rattle.conditions.specs.declared.recipe.Recipe.{Recipe}
-use Rattle.problem_limits.specs.Limits.{are_few_rows}
+use Rattle.recipe_data.specs.declared.recipe.Recipe.{Recipe}
+use Rattle.problem.specs.Limits.{are_few_rows}
 use Rattle.recipe_reader.specs.Files.{recipe_in_file, IsFirstFault}
 use Rattle.recipe_reader.specs.Recipes.{recipe_of}
 use Rattle.recipe_reader.specs.declared.fault.RecipeFault.{RecipeFault}
 use Rattle.recipe_reader.specs.declared.files.RecipeFile.{RecipeFile}
-use Rattle.run_settings.specs.Refusal.TheVariants as refusals
-use Rattle.recipe_files.specs.Sources.{Source, bytes_in, source_of}
+use Rattle.run_input.specs.Refusal.TheVariants as refusals
+use Rattle.run_input.specs.Sources.{Source, bytes_in, source_of}
 use Rattle.run_input.specs.Recipes.{recipes_of}
 
 abbrev Read : Type 0

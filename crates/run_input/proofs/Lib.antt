@@ -1,7 +1,13 @@
+pub use Rattle.run_answers.proofs.StageLaws
+pub mod OneSite
+pub use Rattle.run_words.proofs.StageLaws
+pub mod OneDatabase
+pub mod Ends
+pub mod InOrder
+pub mod Counted
 pub mod Files
 pub mod Named
 pub mod Once
 pub mod Paths
 pub mod Staged
 pub mod Values
-pub use Rattle.run_settings.proofs.StageLaws

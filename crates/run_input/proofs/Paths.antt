@@ -1,12 +1,12 @@
 -- Where a device fails.
 use Rattle.std.proofs.Common.{◌≡◌, subst, Option, Result, Err, inl, inr}
 use Rattle.outside_desk.specs.Files.{Files}
-use Rattle.run_settings.specs.ReadStop.{ReadStop}
-use Rattle.run_settings.specs.ReadStop.TheVariants.{Refused, Fault, NoMemory}
-use Rattle.run_settings.specs.Words.{Command}
-use Rattle.run_settings.specs.Sites as settings
-use Rattle.run_database.specs.Installed as database
-use Rattle.recipe_files.specs.Paths.{FailsInside}
+use Rattle.run_input.specs.ReadStop.{ReadStop}
+use Rattle.run_input.specs.ReadStop.TheVariants.{Refused, Fault, NoMemory}
+use Rattle.run_input.specs.Words.{Command}
+use Rattle.run_input.specs.Sites as settings
+use Rattle.run_input.specs.Installed as database
+use Rattle.run_input.specs.Paths.{FailsInside}
 use Rattle.run_input.specs.Inputs.{FailsAtInput}
 
 -- over the settings

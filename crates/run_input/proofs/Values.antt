@@ -5,17 +5,17 @@ use Rattle.std.proofs.lemmas.Bool.{and_parts, and_from}
 use Rattle.std.proofs.lemmas.List.Elements.{All-weaker}
 use Rattle.std.proofs.lemmas.List.Sums.{AllPass-from_list_all, list_all-from_AllPass}
 use Rattle.table_plan.specs.Kept.{has_recorded_values, has_right_values, has_written_values}
-use Rattle.problem_limits.specs.Limits.{are_few_records, are_few_rows, are_small, is_within_limits}
+use Rattle.problem.specs.Limits.{are_few_records, are_few_rows, are_small, is_within_limits}
 use Rattle.problem.specs.Closure.{is_some_list}
 use Rattle.problem.specs.Problems.{problem_of}
-use Rattle.conditions.specs.declared.recipe.Recipe.{Recipe}
+use Rattle.recipe_data.specs.declared.recipe.Recipe.{Recipe}
 use Rattle.site_settings.specs.declared.settings.PackageEntry.{PackageEntry}
 use Rattle.site_settings.specs.declared.settings.Settings.{Settings}
 use Rattle.spec_grammar.specs.declared.part.Spec.{Spec}
 use Rattle.reuse_db.specs.declared.record.Record.{Record}
-use Rattle.run_settings.specs.Values as settings_values
-use Rattle.run_settings.specs.Values.{are_valued}
-use Rattle.run_database.specs.Values as record_values
+use Rattle.run_input.specs.Values as settings_values
+use Rattle.run_input.specs.Values.{are_valued}
+use Rattle.run_input.specs.Values as record_values
 
 all_weaker : {X : Type 0} (p q : X → Bool) → ((x : X) → p x ≡ true → q x ≡ true) → (xs : List X) → list_all p xs ≡ true → list_all q xs ≡ true
 all_weaker p q weaker xs all =

@@ -3,26 +3,26 @@ use Rattle.std.specs.Prelude.{◌≡◌, ◌⊎◌, ℕ, ◌≤◌, true, nat_le
 use Rattle.outside_desk.specs.Files.{Files}
 use Rattle.spec_grammar.specs.declared.part.Spec.{Spec}
 use Rattle.site_settings.specs.declared.settings.Settings.{Settings}
-use Rattle.conditions.specs.declared.recipe.Recipe.{Recipe}
+use Rattle.recipe_data.specs.declared.recipe.Recipe.{Recipe}
 use Rattle.virtuals.specs.Virtuals.{clash}
 use Rattle.problem.specs.Problems.{Problem, problem_of}
 use Rattle.problem.specs.Roots.{roots_fault}
-use Rattle.problem_limits.specs.Limits.{is_within_limits}
+use Rattle.problem.specs.Limits.{is_within_limits}
 use Rattle.possible_closure.specs.Closures.{closure_of}
 use Rattle.table_plan.specs.Kept.{has_right_values}
 use Rattle.problem.specs.declared.fault.ProblemFault.{ProblemFault}
 use Rattle.problem.specs.declared.fault.ProblemFault.TheVariants as faults
-use Rattle.run_settings.specs.Stages.{Is, Then, ◌>>=◌, check, refuse_some}
-use Rattle.run_settings.specs.Refusal.{Refusal}
-use Rattle.run_settings.specs.Refusal.TheVariants as refusals
-use Rattle.run_settings.specs.ReadStop.{ReadStop}
-use Rattle.run_settings.specs.ReadStop.TheVariants as reads
-use Rattle.run_settings.specs.Words.{Command}
-use Rattle.run_database.specs.Installed.{DatabaseAt, IsDatabasePath}
+use Rattle.run_input.specs.Stages.{Is, Then, ◌>>=◌, check, refuse_some}
+use Rattle.run_input.specs.Refusal.{Refusal}
+use Rattle.run_input.specs.Refusal.TheVariants as refusals
+use Rattle.run_input.specs.ReadStop.{ReadStop}
+use Rattle.run_input.specs.ReadStop.TheVariants as reads
+use Rattle.run_input.specs.Words.{Command}
+use Rattle.run_input.specs.Installed.{DatabaseAt, IsDatabasePath}
 use Rattle.reuse_db.specs.declared.record.Record.{Record}
-use Rattle.run_settings.specs.Sites.{SettingsAt, IsSettingsPath}
-use Rattle.recipe_files.specs.Paths.{IsReadPath}
-use Rattle.recipe_files.specs.Sources.{Source, pile_of}
+use Rattle.run_input.specs.Sites.{SettingsAt, IsSettingsPath}
+use Rattle.run_input.specs.Paths.{IsReadPath}
+use Rattle.run_input.specs.Sources.{Source, pile_of}
 use Rattle.run_input.specs.Recipes.{recipes_of}
 use Rattle.run_input.specs.Roots.{RootsOf}
 use Rattle.run_input.specs.declared.input.Input.{Input}

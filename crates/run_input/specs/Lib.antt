@@ -1,20 +1,32 @@
+pub mod Bytes
+-- what is answered, for crates above
+pub use Rattle.run_answers.specs.Stages
+pub use Rattle.run_answers.specs.Stops
+pub use Rattle.run_answers.specs.declared.refusal.Refusal
+pub use Rattle.run_answers.specs.declared.stop.ReadStop
+pub mod Sites
+-- what crates above name
+pub use Rattle.settings_reader.specs.Values
+pub use Rattle.run_words.specs.Exits
+pub use Rattle.run_words.specs.Lines
+pub use Rattle.run_words.specs.LockFault
+pub use Rattle.run_words.specs.Refusals
+pub use Rattle.run_words.specs.Stages
+pub use Rattle.run_words.specs.Stops
+pub use Rattle.run_words.specs.Refusal
+pub use Rattle.run_words.specs.Status
+pub use Rattle.run_words.specs.ReadStop
+pub use Rattle.run_words.specs.WriteStop
+pub use Rattle.run_words.specs.Stop
+pub use Rattle.run_words.specs.Words
+pub use Rattle.run_words.specs.Orders
+pub use Rattle.run_words.specs.declared.command.Work
+pub mod Installed
+pub use Rattle.file_limits.specs.Values
+pub mod Paths
+pub mod Sources
 pub mod Inputs
 pub mod Recipes
 pub mod Roots
--- what crates above name
-pub use Rattle.run_settings.specs.Exits
-pub use Rattle.run_settings.specs.Lines
-pub use Rattle.run_settings.specs.LockFault
-pub use Rattle.run_settings.specs.Refusals
-pub use Rattle.run_settings.specs.Stages
-pub use Rattle.run_settings.specs.Stops
-pub use Rattle.run_settings.specs.Refusal
-pub use Rattle.run_settings.specs.Status
-pub use Rattle.run_settings.specs.ReadStop
-pub use Rattle.run_settings.specs.WriteStop
-pub use Rattle.run_settings.specs.Stop
-pub use Rattle.run_settings.specs.Words
-pub use Rattle.run_settings.specs.Orders
-pub use Rattle.run_settings.specs.Work
 pub use Rattle.possible_closure.specs.Closures
 pub use Rattle.table_plan.specs.Kept

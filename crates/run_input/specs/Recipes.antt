@@ -1,12 +1,12 @@
 -- The recipes of files, or the refusal that is due first.
 use Rattle.std.specs.Prelude.{ℕ, List, [], ◌∷◌, Result, Ok, Err}
-use Rattle.conditions.specs.declared.recipe.Recipe.{Recipe}
+use Rattle.recipe_data.specs.declared.recipe.Recipe.{Recipe}
 use Rattle.recipe_reader.specs.Recipes.{recipe_of}
 use Rattle.recipe_reader.specs.declared.fault.RecipeFault.{RecipeFault}
-use Rattle.run_settings.specs.Stages.{◌>>=◌}
-use Rattle.run_settings.specs.Refusal.{Refusal}
-use Rattle.run_settings.specs.Refusal.TheVariants as refusals
-use Rattle.recipe_files.specs.Sources.{Source}
+use Rattle.run_input.specs.Stages.{◌>>=◌}
+use Rattle.run_input.specs.Refusal.{Refusal}
+use Rattle.run_input.specs.Refusal.TheVariants as refusals
+use Rattle.run_input.specs.Sources.{Source}
 
 abbrev pub or_bad : List ℕ → Result Recipe RecipeFault → Result Recipe Refusal
 or_bad name (Ok recipe) = Ok recipe

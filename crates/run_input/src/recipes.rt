@@ -2,22 +2,22 @@
 
 ghost use Rattle.std.specs.Prelude.{◌≡◌, ◌≢◌, ◌≤◌, ◌^◌, true, map, Err, IfOk};
 ghost use Rattle.std.specs.List.{list_all};
-ghost use Rattle.conditions.specs.Right.{is_right_recipe};
-ghost use Rattle.problem_limits.specs.Limits.{are_few_rows};
+ghost use Rattle.recipe_data.specs.Right.{is_right_recipe};
+ghost use Rattle.problem.specs.Limits.{are_few_rows};
 ghost use Rattle.virtuals.specs.Virtuals.{name_of};
 ghost use Rattle.recipe_reader.specs.Files.{FailsAt, IsFirstFault};
-ghost use Rattle.run_settings.specs.Refusal.{Refusal};
-ghost use Rattle.run_settings.specs.Stages.{Is};
-ghost use Rattle.run_settings.specs.Stops.{Gives, EndsInReadFault, EndsInUsage};
-ghost use Rattle.recipe_files.specs.Sources.{bytes_in, source_of};
+ghost use Rattle.run_input.specs.Refusal.{Refusal};
+ghost use Rattle.run_input.specs.Stages.{Is};
+ghost use Rattle.run_input.specs.Stops.{Gives, EndsInReadFault, EndsInUsage};
+ghost use Rattle.run_input.specs.Sources.{bytes_in, source_of};
 ghost use Rattle.run_input.specs.Recipes.{recipes_of};
 ghost use Rattle.run_input.specs.Inputs.{apart_of};
 
-use conditions::Recipe;
+use recipe_data::Recipe;
 use plain_data::{Duplicate, List};
-use recipe_counts::size_laws;
+use file_limits::size_laws;
 use recipe_reader::{RecipeFault, RecipeFile, read_recipes};
-use run_settings::{ReadStop, Refusal};
+use crate::{ReadStop, Refusal};
 use std::alloc::{AllocError, Global};
 use std::thread::Threads;
 use virtuals::{Providers, ProvidersFault};

@@ -3,23 +3,23 @@
 ghost use Rattle.std.specs.Prelude.{◌≡◌, ◌≤◌, ◌^◌, true, map, IfOk, IfSome};
 ghost use Rattle.std.specs.List.{list_all};
 ghost use Rattle.outside_desk.specs.Causes.{Counts};
-ghost use Rattle.conditions.specs.Right.{is_right_recipe};
-ghost use Rattle.problem_limits.specs.Limits.{are_few_rows};
+ghost use Rattle.recipe_data.specs.Right.{is_right_recipe};
+ghost use Rattle.problem.specs.Limits.{are_few_rows};
 ghost use Rattle.virtuals.specs.Virtuals as virtuals;
 ghost use Rattle.virtuals.specs.Virtuals.{AreInOrder};
-ghost use Rattle.run_settings.specs.Stops.{Gives, EndsByInput, EndsInReadFault, EndsInUsage};
-ghost use Rattle.recipe_files.specs.Paths.{FailsInside};
+ghost use Rattle.run_input.specs.Stops.{Gives, EndsByInput, EndsInReadFault, EndsInUsage};
+ghost use Rattle.run_input.specs.Paths.{FailsInside};
 ghost use Rattle.variant_values.specs.Texts.{IsInByteOrder};
-ghost use Rattle.recipe_files.specs.Sources.{bytes_in, names_of, source_of};
+ghost use Rattle.run_input.specs.Sources.{bytes_in, names_of, source_of};
 ghost use Rattle.run_input.specs.Inputs.{Over, InRepository};
 
 use crate::recipes::{check_apart, recipes_of};
-use conditions::Recipe;
+use recipe_data::Recipe;
 use outside_desk::Desk;
 use plain_data::List;
-use recipe_files::{Sources, read_sources};
+use crate::{Sources, read_sources};
 use recipe_reader::RecipeFile;
-use run_settings::ReadStop;
+use crate::ReadStop;
 use std::alloc::Global;
 use std::thread::Threads;
 

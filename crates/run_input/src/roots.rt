@@ -1,12 +1,12 @@
 //! The roots that the specs of a run ask for.
 
 ghost use Rattle.std.specs.Prelude.{◌≡◌, true, IfOk};
-ghost use Rattle.run_settings.specs.Stages.{Is, Then};
-ghost use Rattle.run_settings.specs.Stops.{Gives, EndsInReadFault, EndsInUsage};
+ghost use Rattle.run_input.specs.Stages.{Is, Then};
+ghost use Rattle.run_input.specs.Stops.{Gives, EndsInReadFault, EndsInUsage};
 ghost use Rattle.run_input.specs.Roots.{SpecsOf, RootsOf, are_named, roots_of};
 
 use plain_data::List;
-use run_settings::{ReadStop, Refusal};
+use crate::{ReadStop, Refusal};
 use spec_grammar::{Spec, SpecFault, read_specs, writing_laws};
 use std::alloc::Global;
 

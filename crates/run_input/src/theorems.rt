@@ -1,23 +1,17 @@
-//! What holds of the input that any command names.
+//! What holds of the settings that any path names.
 
-ghost use Rattle.std.specs.Prelude.{◌≡◌, Result};
+ghost use Rattle.std.specs.Prelude.{◌≡◌, ℕ, List, Result};
 ghost use Rattle.outside_desk.specs.Files.{Files};
-ghost use Rattle.run_settings.specs.Refusal.{Refusal};
-ghost use Rattle.run_settings.specs.Words.{Command};
-ghost use Rattle.run_input.specs.declared.input.Input.{Input};
-ghost use Rattle.run_input.specs.Inputs.{Reads};
+ghost use Rattle.site_settings.specs.declared.settings.Settings.{Settings};
+ghost use Rattle.run_words.specs.Refusal.{Refusal};
+ghost use Rattle.run_input.specs.Sites.{SettingsAt};
 
-use run_database::installed_laws;
-use run_settings::site_laws;
-use spec_grammar::reading_laws;
+use settings_reader::settings_laws;
 
-/// A command names one input at most over files, or is due one refusal at most.
-pub fn input_laws()
-    ensures one { (files : Files) (command : Command) (a b : Result Input Refusal)
-        → Reads files command a
-        → Reads files command b → a ≡ b }
+/// A path names one settings at most, or is due one refusal at most.
+pub fn site_laws()
+    ensures one { (files : Files) (path : List ℕ) (a b : Result Settings Refusal)
+        → SettingsAt files path a → SettingsAt files path b → a ≡ b }
 {
-    reading_laws();
-    site_laws();
-    installed_laws();
+    settings_laws();
 }

@@ -1,3 +1,4 @@
+pub mod Written
 pub mod Changes
 pub mod Puts
 pub mod Kept

@@ -8,7 +8,7 @@ use Rattle.proof_log.specs.Readings.{log_text}
 use Rattle.run_task.specs.Answers.{log_of}
 use Rattle.run_task.specs.Answer.{Answer}
 use Rattle.run_task.specs.Answer.TheVariants as answers
-use Rattle.valid_locks.specs.Locks.{lock_of}
+use Rattle.run_output.specs.Locks.{lock_of}
 use Rattle.run_task.specs.Words.{is_dash}
 use Rattle.run_task.specs.WriteStop.{WriteStop}
 use Rattle.run_task.specs.WriteStop.TheVariants as writes

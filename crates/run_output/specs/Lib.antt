@@ -1,3 +1,6 @@
+pub mod Locks
+-- what crates above name
+pub use Rattle.lock_writer.specs.Texts as LockTexts
 pub mod Senses
 pub mod Evidence
 pub mod Report
@@ -7,7 +10,6 @@ pub mod Changes
 pub mod Answers
 pub mod Budgets
 pub mod Kept
--- what crates above name
 pub use Rattle.run_task.specs.Exits
 pub use Rattle.run_task.specs.LockFault
 pub use Rattle.run_task.specs.Refusals

@@ -10,7 +10,7 @@ use Rattle.run_task.specs.Answer.{Answer}
 use Rattle.run_task.specs.Answer.TheVariants as answers
 use Rattle.run_task.specs.Explanation.{Explanation}
 use Rattle.run_task.specs.Explanation.TheVariants as explanations
-use Rattle.reason_texts.specs.Texts.{reasons_text}
+use Rattle.run_answers.specs.Texts.{reasons_text}
 use Rattle.run_output.specs.Report.{report_text, vector_line}
 use Rattle.run_output.specs.declared.answer.Outcome.{Outcome}
 use Rattle.run_output.specs.declared.answer.Outcome.TheVariants as outcomes

@@ -20,7 +20,7 @@ use problem::Problem;
 use proof_log::Log;
 use run_task::{Answer, WriteStop};
 use std::alloc::Global;
-use valid_locks::write_valid;
+use crate::write_valid;
 
 /// Puts the certificate of a graph, and then its lock file.
 fn put_best<D: Desk>(

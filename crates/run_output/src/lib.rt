@@ -1,3 +1,10 @@
+//! Lock files of valid graphs.
+//!
+//! What it is: `write_valid`, the text of the lock file of a valid graph of a problem.
+//! What it promises: exactly that text; a valid graph can be written, since the rules demand it.
+//! What it stands on: `graph_rules` for validity, `lock_writer` for the text.
+//! What it must not know: how the graph was found, and where the text goes.
+//!
 //! What a run writes: the certificate, the lock file and the lines of an answer.
 //!
 //! What it is: `write_answer`, which finds the best graph of a problem and writes the answer.
@@ -6,6 +13,7 @@
 //! What it must not know: words, and how the problem was read.
 #![tactic(auto)]
 
+mod lock;
 mod answer;
 mod find;
 mod found;
@@ -16,11 +24,10 @@ mod theorems;
 mod told;
 
 pub use answer::{Outcome, write_answer};
-pub use report::worked_texts;
-pub use theorems::budget_laws;
+pub use lock::write_valid;
 // What crates above answer with, and the log that they keep.
 pub use proof_log::Log;
-pub use run_task::{
-    Command, Progress, ReadStop, Refusal, Stage, Status, Stop, Task, Untold, Work, WriteStop,
-    read_order, read_task, task_laws,
-};
+pub use report::worked_texts;
+pub use run_task::{Command, Progress, ReadStop, Refusal, Stage, Status, Stop, Task, Untold, Work, WriteStop, read_order, read_task, task_laws};
+pub use theorems::budget_laws;
+

@@ -17,7 +17,7 @@ use crate::told::{budget_of, undecided_text, unsatisfiable_text, verdict_text};
 use graph_core::Graph;
 use problem::Problem;
 use proof_log::{Line, Log};
-use reason_texts::write_reasons;
+use run_answers::write_reasons;
 use run_task::{Answer, Explanation, Input, Progress, explain, vector};
 use std::alloc::{AllocError, Global};
 

@@ -1,3 +1,11 @@
+pub mod One
+pub mod Elements
+pub mod ValidLocks
+pub mod Reading
+pub mod Next
+pub mod Shown
+mod Sayings
+pub mod Accepted
 pub mod Once
 pub mod Paths
 pub mod Roots

@@ -1,7 +1,7 @@
 -- The words name one task at most.
 use Rattle.std.proofs.Common.{ℕ, List, Option, Some, None, Ok}
 use Rattle.outside_desk.specs.Files.{Files}
-use Rattle.run_verdict.specs.Problems.{Problem}
+use Rattle.run_task.specs.Problems.{Problem}
 use Rattle.run_input.specs.Stages.{Is}
 use Rattle.run_input.proofs.StageLaws.{IsOne, one_is, one_then}
 use Rattle.run_input.specs.Words.{Command}
@@ -10,8 +10,8 @@ use Rattle.run_input.specs.Work.{Work}
 use Rattle.run_input.specs.Work.TheVariants as works
 use Rattle.run_input.specs.Inputs.{Reads}
 use Rattle.run_input.specs.declared.input.Input.{Input}
-use Rattle.run_verdict.specs.Verdicts.{Judges}
-use Rattle.run_certificate.specs.Certificates.{certified_at, log_verdict}
+use Rattle.run_task.specs.Verdicts.{Judges}
+use Rattle.run_task.specs.Certificates.{certified_at, log_verdict}
 use Rattle.run_task.specs.Tasks.{AcceptanceOf, TaskBy, Named, Poses, files_for}
 use Rattle.run_task.specs.declared.task.Task.TheVariants as tasks
 

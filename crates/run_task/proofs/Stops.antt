@@ -10,9 +10,9 @@ use Rattle.run_input.specs.Words.{Command}
 use Rattle.run_input.specs.Work.{Work}
 use Rattle.run_input.specs.Work.TheVariants as works
 use Rattle.run_input.specs.declared.input.Input.{Input}
-use Rattle.run_verdict.specs.Problems.{Problem}
-use Rattle.run_verdict.specs.Verdicts.{IsValidLock, Judges}
-use Rattle.run_certificate.specs.Certificates.{ShowsOf, certified_at, log_verdict}
+use Rattle.run_task.specs.Problems.{Problem}
+use Rattle.run_task.specs.Verdicts.{IsValidLock, Judges}
+use Rattle.run_task.specs.Certificates.{ShowsOf, certified_at, log_verdict}
 use Rattle.trial_input.specs.Inputs.{input_files}
 use Rattle.run_task.specs.Shown.{IsBestLock, IsShown, IsShownOver}
 use Rattle.run_task.specs.Tasks.{

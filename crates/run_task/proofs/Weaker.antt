@@ -9,10 +9,10 @@ use Rattle.run_input.specs.Work.{Work}
 use Rattle.run_input.specs.Work.TheVariants as works
 use Rattle.run_input.specs.Inputs.{Reads}
 use Rattle.run_input.specs.declared.input.Input.{Input}
-use Rattle.run_verdict.specs.Problems.{Problem}
-use Rattle.run_verdict.specs.Verdicts.{Judges}
-use Rattle.run_certificate.specs.CertificateVerdicts.{CertificateVerdicts, MayBeSaid, any_verdict, no_verdict}
-use Rattle.run_certificate.specs.Certificates.{certified_at, log_verdict}
+use Rattle.run_task.specs.Problems.{Problem}
+use Rattle.run_task.specs.Verdicts.{Judges}
+use Rattle.run_task.specs.CertificateVerdicts.{CertificateVerdicts, MayBeSaid, any_verdict, no_verdict}
+use Rattle.run_task.specs.Certificates.{certified_at, log_verdict}
 use Rattle.run_task.specs.Tasks.{AcceptanceOf, Named, Poses, TaskBy, files_for}
 use Rattle.run_task.specs.declared.task.Task.{Task}
 use Rattle.run_task.specs.declared.task.Task.TheVariants as tasks

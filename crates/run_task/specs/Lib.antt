@@ -1,6 +1,24 @@
+pub mod Locks
+pub mod Roots
+pub mod Verdicts
+-- what crates above name
+pub use Rattle.problem.specs.Problems
+pub use Rattle.graph_rules.specs.Costs
+-- what public contracts say
+pub mod CertificateVerdicts
+pub mod Certificates
+-- where a reading stands
+pub mod Pieces
+pub use Rattle.best_graph.specs.Explanations
+pub use Rattle.best_graph.specs.Grounds
+pub use Rattle.best_graph.specs.declared.explanation.Explanation
+pub use Rattle.best_graph.specs.Answers
+pub use Rattle.best_graph.specs.declared.answer.Answer
+pub use Rattle.best_graph.specs.OfProblemEncoding.Built
+pub use Rattle.best_graph.specs.Verdicts
+pub mod Again
 pub mod Tasks
 pub mod Shown
--- what crates above name
 pub use Rattle.run_input.specs.Exits
 pub use Rattle.run_input.specs.Lines
 pub use Rattle.run_input.specs.LockFault
@@ -18,13 +36,4 @@ pub use Rattle.run_input.specs.Work
 pub use Rattle.run_input.specs.Inputs
 pub use Rattle.run_input.specs.Roots
 pub use Rattle.run_input.specs.declared.input.Input
-pub use Rattle.run_verdict.specs.Problems
-pub use Rattle.run_verdict.specs.Costs
 pub use Rattle.run_input.specs.Closures
-pub use Rattle.run_certificate.specs.CertificateVerdicts
-pub use Rattle.run_certificate.specs.Explanations
-pub use Rattle.run_certificate.specs.Certificates
-pub use Rattle.run_certificate.specs.Grounds
-pub use Rattle.run_certificate.specs.Explanation
-pub use Rattle.run_certificate.specs.Answers
-pub use Rattle.run_certificate.specs.Answer

@@ -1,14 +1,14 @@
 -- What the yes of `check` and of `refute` shows.
 use Rattle.std.specs.Prelude.{ℕ, List, Ok}
 use Rattle.outside_desk.specs.Files.{Files}
-use Rattle.graph_costs.specs.Optimal.{IsOptimal, HasNoGraph}
+use Rattle.graph_rules.specs.Optimal.{IsOptimal, HasNoGraph}
 use Rattle.run_input.specs.Words.{Command}
 use Rattle.run_input.specs.Work.{Work}
 use Rattle.run_input.specs.Work.TheVariants as works
 use Rattle.run_input.specs.Inputs.{Reads}
 use Rattle.run_input.specs.declared.input.Input.{Input}
-use Rattle.run_verdict.specs.Problems.{Problem}
-use Rattle.run_verdict.specs.Verdicts.{IsValidLock}
+use Rattle.run_task.specs.Problems.{Problem}
+use Rattle.run_task.specs.Verdicts.{IsValidLock}
 use Rattle.run_task.specs.Tasks.{files_for}
 
 -- the file at the path is a lock file of just the roots that are asked for, and its graph is valid, with these costs, and optimal

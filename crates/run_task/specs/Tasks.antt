@@ -13,9 +13,9 @@ use Rattle.run_input.specs.Work.{Work}
 use Rattle.run_input.specs.Work.TheVariants as works
 use Rattle.run_input.specs.Inputs.{Reads, IsInputPath, IsPosed}
 use Rattle.run_input.specs.declared.input.Input.{Input}
-use Rattle.run_verdict.specs.Problems.{Problem}
-use Rattle.run_verdict.specs.Verdicts.{Judges}
-use Rattle.run_certificate.specs.CertificateVerdicts.{CertificateVerdicts}
+use Rattle.run_task.specs.Problems.{Problem}
+use Rattle.run_task.specs.Verdicts.{Judges}
+use Rattle.run_task.specs.CertificateVerdicts.{CertificateVerdicts}
 use Rattle.trial_input.specs.Inputs.{input_files}
 use Rattle.run_task.specs.declared.task.Task.{Task}
 use Rattle.run_task.specs.declared.task.Task.TheVariants as tasks

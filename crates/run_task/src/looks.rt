@@ -5,15 +5,15 @@ ghost use Rattle.std.specs.Option.{option_map};
 ghost use Rattle.outside_desk.specs.Causes.{Counts};
 ghost use Rattle.run_input.specs.Inputs.{IsPosed};
 ghost use Rattle.run_input.specs.Stops.{Gives, EndsByInput, EndsInReadFault, EndsInUsage};
-ghost use Rattle.run_certificate.specs.Certificates.{ShowsOf, log_verdict};
+ghost use Rattle.run_task.specs.Certificates.{ShowsOf, log_verdict};
 ghost use Rattle.run_task.specs.Shown.{IsBestLock};
 ghost use Rattle.run_task.specs.Tasks.{AcceptanceOf, CheckOf, ReportOf, IsReportTask, IsYes, FailsAtEither};
 
 use crate::task::Task;
 use outside_desk::Desk;
-use run_certificate::read_certificate;
+use crate::read_certificate;
 use run_input::{Input, ReadStop};
-use run_verdict::read_verdict;
+use crate::read_verdict;
 use std::alloc::Global;
 use std::thread::Threads;
 

@@ -8,7 +8,7 @@ ghost use Rattle.spec_grammar.specs.Canonical.{spec_text};
 ghost use Rattle.spec_grammar.specs.declared.part.Spec.{Spec};
 ghost use Rattle.run_input.specs.Stops.{Gives, EndsByInput, EndsInReadFault, EndsInUsage};
 ghost use Rattle.run_input.specs.Roots.{RootsOf};
-ghost use Rattle.run_certificate.specs.Certificates.{log_verdict};
+ghost use Rattle.run_task.specs.Certificates.{log_verdict};
 ghost use Rattle.trial_input.specs.Inputs.{input_files};
 ghost use Rattle.run_task.specs.Shown.{IsShown, IsShownOver, ShownBy};
 ghost use Rattle.run_task.specs.Tasks.{TaskBy, Over, Named, IsOf, IsReady, FailsAtTask, made_for};

@@ -8,7 +8,7 @@ use Rattle.json_readers.specs.Faults.{given}
 use Rattle.json_readers.specs.Maps.{named}
 use Rattle.json_readers.specs.Objects.{known, may, need}
 use Rattle.json_readers.specs.Texts.{text_of, truth_value}
-use Rattle.text_forms.specs.Forms.{name_meaning}
+use Rattle.json_texts.specs.Forms.{name_meaning}
 use Rattle.settings_reader.specs.Told.{Outcome, Told, Below, said}
 use Rattle.settings_reader.specs.Parsed.{IsList, IsListAt, IsOptional, items_at, members_of}
 use Rattle.settings_reader.specs.Versions.{IsVersionSet}

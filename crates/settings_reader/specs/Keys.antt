@@ -6,7 +6,7 @@ use Rattle.json_readers.specs.Faults.{Reading, ◌>>=◌}
 use Rattle.json_readers.specs.Texts.{text_of, whole_number}
 use Rattle.json_readers.specs.Objects.{may}
 use Rattle.json_readers.specs.Maps.{known_map_of}
-use Rattle.text_forms.specs.Forms.{name_meaning, value_meaning}
+use Rattle.json_texts.specs.Forms.{name_meaning, value_meaning}
 use Rattle.target_table.specs.declared.entry.TargetEntry.{TargetEntry}
 use Rattle.settings_reader.specs.Lists.{compiler_list, os_list, provider_list, target_list}
 use Rattle.site_settings.specs.Standard as standard

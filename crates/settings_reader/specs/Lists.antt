@@ -8,7 +8,7 @@ use Rattle.json_readers.specs.Faults.{Reading, ◌>>=◌}
 use Rattle.json_readers.specs.Texts.{text_of}
 use Rattle.json_readers.specs.Lists.{list_of, not_empty, distinct}
 use Rattle.json_readers.specs.Objects.{known, need, may}
-use Rattle.text_forms.specs.Forms.{name_meaning, plain_meaning, version_in}
+use Rattle.json_texts.specs.Forms.{name_meaning, plain_meaning, version_in}
 use Rattle.target_table.specs.declared.entry.TargetEntry.{TargetEntry}
 use Rattle.graph_core.specs.declared.node.Compiler.{Compiler}
 use Rattle.site_settings.specs.declared.settings.CompilerEntry.{CompilerEntry}

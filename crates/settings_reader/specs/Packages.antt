@@ -6,7 +6,7 @@ use Rattle.serde_json.specs.Find.{get_member}
 use Rattle.json_readers.specs.Objects.{known, may}
 use Rattle.json_readers.specs.Maps.{named}
 use Rattle.json_readers.specs.Texts.{truth_value}
-use Rattle.text_forms.specs.Forms.{name_meaning}
+use Rattle.json_texts.specs.Forms.{name_meaning}
 use Rattle.settings_reader.specs.Told.{Told, ◌>>=◌, Below, done, said}
 use Rattle.settings_reader.specs.Parsed.{AreEach, IsListAt, IsOptional, members_of}
 use Rattle.settings_reader.specs.Versions.{IsVersionSet}

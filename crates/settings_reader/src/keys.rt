@@ -11,14 +11,14 @@ use serde_json::{Map, Value};
 use site_settings::{CompilerEntry, standard};
 use std::alloc::Global;
 use target_table::TargetEntry;
-use text_forms::{self, Name};
+use json_texts::{self, Name};
 
 type Members = Map<String, Value>;
 
 pub(crate) fn platform_at(alloc: Global, members: &Members) -> Result<Word, JsonFault>
     ensures { Gives result (platform_at (members_view members.now.entries)) }
 {
-    match may(alloc, members, "platform", &Text(text_forms::Value))? {
+    match may(alloc, members, "platform", &Text(json_texts::Value))? {
         Some(platform) => Ok(platform),
         None => Ok(standard::platform(alloc)?),
     }

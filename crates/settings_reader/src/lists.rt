@@ -12,7 +12,7 @@ use serde_json::Value;
 use site_settings::CompilerEntry;
 use std::alloc::{AllocError, Global};
 use target_table::TargetEntry;
-use text_forms::{Name, PlainValue, VersionText};
+use json_texts::{Name, PlainValue, VersionText};
 
 /// The operating systems.
 #[derive(Clone, Copy)]

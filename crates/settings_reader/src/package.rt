@@ -15,7 +15,7 @@ use plain_data::{List, Word};
 use serde_json::{Map, Value};
 use site_settings::PackageEntry;
 use std::alloc::Global;
-use text_forms::Name;
+use json_texts::Name;
 
 /// The packages of the settings, whose platform is given.
 pub(crate) fn packages_at(

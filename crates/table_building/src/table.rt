@@ -1,14 +1,14 @@
 // The table of a problem.
 ghost use Rattle.std.specs.Prelude.{◌≡◌, ◌+◌, IfOk, OnOk};
 ghost use Rattle.table_plan.specs.Plans.{plan_of};
-ghost use Rattle.table_numbers.specs.Numbers.{table_from, variables_of};
+ghost use Rattle.table_plan.specs.Numbers.{table_from, variables_of};
 
 use crate::plan::plan_of;
 use literal_table::LiteralTable;
 use possible_closure::Closure;
 use problem::Problem;
 use std::alloc::{AllocError, Global};
-use table_numbers::table_from;
+use table_plan::table_from;
 
 /// The literals of what may be chosen at the names of a closure, over variables from a number on, the next one
 /// that is free.

@@ -1,2 +1,2 @@
 -- What is passed on of `graph_core`, so that the crates above need not name it.
-pub use Rattle.conditions.proofs.OfGraphCore.PathLaws
+pub use Rattle.recipe_data.proofs.OfGraphCore.PathLaws

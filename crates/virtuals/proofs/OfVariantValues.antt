@@ -1,3 +1,3 @@
 -- What is passed on of `variant_values`, so that the crates above need not name it.
-pub use Rattle.conditions.proofs.OfVariantValues.Keys
-pub use Rattle.conditions.proofs.OfVariantValues.Texts2 as Texts2
+pub use Rattle.recipe_data.proofs.OfVariantValues.Keys
+pub use Rattle.recipe_data.proofs.OfVariantValues.Texts2 as Texts2

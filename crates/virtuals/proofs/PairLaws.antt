@@ -10,9 +10,9 @@ use Rattle.std.specs.Ordering.{ordering_then, ordering_reverse, ordering_index, 
 use Rattle.std.specs.Str.{bytes_eq}
 use Rattle.std.specs.declared.cmp.Ordering.{Ordering}
 use Rattle.std.specs.declared.cmp.Ordering.TheVariants.{Less, Equal, Greater}
-use Rattle.conditions.specs.OfVariantValues.Texts.{byte_cmp}
-use Rattle.conditions.specs.OfGraphCore.Graphs.{Text, pair_cmp}
-use Rattle.conditions.proofs.OfGraphCore.PairLaws.{tells_alike}
+use Rattle.recipe_data.specs.OfVariantValues.Texts.{byte_cmp}
+use Rattle.recipe_data.specs.OfGraphCore.Graphs.{Text, pair_cmp}
+use Rattle.recipe_data.proofs.OfGraphCore.PairLaws.{tells_alike}
 use Rattle.virtuals.specs.Virtuals.{Pairs}
 
 not_above : (p q : Text) (s : Ordering) → ordering_then (byte_cmp p q) s ≡ Less → is_lt (byte_cmp q p) ≡ false

@@ -10,13 +10,13 @@ use Rattle.std.specs.List.{list_any, dedup}
 use Rattle.std.specs.List.Sorted.{IsPermutation, IsSorted}
 use Rattle.std.specs.Ordering.{eq_by_cmp, is_le}
 use Rattle.std.specs.Str.{bytes_eq}
-use Rattle.conditions.proofs.OfGraphCore.CountLaws.{has_first, has_later, first_or_later, has_image, image_of}
-use Rattle.conditions.specs.OfVariantValues.Texts.{byte_cmp}
-use Rattle.conditions.proofs.OfKeyedLists.RiseLaws.{rises_above, rises_rest}
-use Rattle.conditions.specs.OfGraphCore.Graphs.{Text, pair_cmp}
-use Rattle.conditions.proofs.OfGraphCore.PairLaws.{pair_total}
-use Rattle.conditions.specs.declared.recipe.Recipe.{Recipe}
-use Rattle.conditions.specs.declared.recipe.ProvideRow.{ProvideRow}
+use Rattle.recipe_data.proofs.OfGraphCore.CountLaws.{has_first, has_later, first_or_later, has_image, image_of}
+use Rattle.recipe_data.specs.OfVariantValues.Texts.{byte_cmp}
+use Rattle.recipe_data.proofs.OfKeyedLists.RiseLaws.{rises_above, rises_rest}
+use Rattle.recipe_data.specs.OfGraphCore.Graphs.{Text, pair_cmp}
+use Rattle.recipe_data.proofs.OfGraphCore.PairLaws.{pair_total}
+use Rattle.recipe_data.specs.declared.recipe.Recipe.{Recipe}
+use Rattle.recipe_data.specs.declared.recipe.ProvideRow.{ProvideRow}
 use Rattle.virtuals.specs.Virtuals.{AreInOrder, AreProviders, IsProvider, Pairs, clash, has_pair, is_virtual, name_of, provides_name}
 use Rattle.virtuals.specs.Pairs.{all_pairs, row_pairs}
 

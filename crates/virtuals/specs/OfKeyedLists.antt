@@ -1,2 +1,2 @@
 -- What is passed on of `keyed_lists`, so that the crates above need not name it.
-pub use Rattle.conditions.specs.OfKeyedLists.Keyed
+pub use Rattle.recipe_data.specs.OfKeyedLists.Keyed

@@ -1,2 +1,2 @@
 -- What is passed on of `variant_values`, so that the crates above need not name it.
-pub use Rattle.conditions.specs.OfVariantValues.Texts
+pub use Rattle.recipe_data.specs.OfVariantValues.Texts

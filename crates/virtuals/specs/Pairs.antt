@@ -1,9 +1,9 @@
 -- The pairs of virtuals and packages, as recipes give them.
 use Rattle.std.specs.Prelude.{List, map}
 use Rattle.std.specs.List.{flat_map}
-use Rattle.conditions.specs.OfGraphCore.Graphs.{Text}
-use Rattle.conditions.specs.declared.recipe.Recipe.{Recipe}
-use Rattle.conditions.specs.declared.recipe.ProvideRow.{ProvideRow}
+use Rattle.recipe_data.specs.OfGraphCore.Graphs.{Text}
+use Rattle.recipe_data.specs.declared.recipe.Recipe.{Recipe}
+use Rattle.recipe_data.specs.declared.recipe.ProvideRow.{ProvideRow}
 use Rattle.virtuals.specs.Virtuals.{Pairs}
 
 abbrev pub row_pairs : Text → List ProvideRow → Pairs

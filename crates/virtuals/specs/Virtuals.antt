@@ -3,10 +3,10 @@ use Rattle.std.specs.Prelude.{◌≡◌, ◌↔◌, Bool, true, List, filter, fi
 use Rattle.std.specs.List.{list_any}
 use Rattle.std.specs.List.Sorted.{IsStrictlySortedBy}
 use Rattle.std.specs.Str.{bytes_eq}
-use Rattle.conditions.specs.OfVariantValues.Texts.{byte_cmp}
-use Rattle.conditions.specs.OfKeyedLists.Keyed.{IsInOrder}
-use Rattle.conditions.specs.OfGraphCore.Graphs.{Text, pair_cmp}
-use Rattle.conditions.specs.declared.recipe.Recipe.{Recipe}
+use Rattle.recipe_data.specs.OfVariantValues.Texts.{byte_cmp}
+use Rattle.recipe_data.specs.OfKeyedLists.Keyed.{IsInOrder}
+use Rattle.recipe_data.specs.OfGraphCore.Graphs.{Text, pair_cmp}
+use Rattle.recipe_data.specs.declared.recipe.Recipe.{Recipe}
 use Rattle.virtuals.specs.declared.clash.ProvidersFault.{ProvidersFault}
 use Rattle.virtuals.specs.declared.clash.ProvidersFault.TheVariants.{NameClash, OutOfMemory}
 

@@ -5,7 +5,7 @@ ghost use Rattle.virtuals.specs.Virtuals.{AreProviders, IsProvidersFault, clash,
 ghost use Rattle.virtuals.specs.declared.clash.ProvidersFault.TheVariants.{OutOfMemory};
 
 use crate::Providers;
-use conditions::Recipe;
+use recipe_data::Recipe;
 use plain_data::{Duplicate, Word};
 use std::alloc::{AllocError, Global};
 use thiserror::Error;

@@ -11,7 +11,7 @@ mod providers;
 mod theorems;
 
 pub use clash::ProvidersFault;
-pub use conditions::{
+pub use recipe_data::{
     Bits, Compiler, Condition, ConflictRow, DependRow, Graph, Node, Part, ProvideRow, Recipe,
     RequireRow, Spec, TargetItem, ValueSet, VariantRow, VersionSet, find, heads_of, reached,
     reaches,

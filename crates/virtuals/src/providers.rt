@@ -3,11 +3,11 @@ ghost use Rattle.std.specs.Prelude.{◌≡◌, ◌≤◌, ◌++◌, length, filt
 ghost use Rattle.std.specs.List.{slice_range};
 ghost use Rattle.std.specs.Str.{bytes_eq};
 ghost use Rattle.std.specs.List.Sorted.{IsStrictlySortedBy};
-ghost use Rattle.conditions.specs.OfGraphCore.Graphs.{pair_cmp};
+ghost use Rattle.recipe_data.specs.OfGraphCore.Graphs.{pair_cmp};
 ghost use Rattle.virtuals.specs.Virtuals.{AreProviders, has_pair, pairs_of};
 ghost use Rattle.virtuals.specs.Pairs.{row_pairs, all_pairs};
 
-use conditions::{ProvideRow, Recipe};
+use recipe_data::{ProvideRow, Recipe};
 use plain_data::{Duplicate, Word};
 use std::alloc::{AllocError, Global};
 use std::marker::Model;
@@ -21,7 +21,7 @@ pub struct Providers {
 
 impl Model for Providers {
     ghost use Rattle.std.specs.List.Sorted.{IsStrictlySortedBy};
-    ghost use Rattle.conditions.specs.OfGraphCore.Graphs.{pair_cmp};
+    ghost use Rattle.recipe_data.specs.OfGraphCore.Graphs.{pair_cmp};
     ghost use Rattle.virtuals.specs.Virtuals.{Pairs};
 
     ghost Value = { Pairs };

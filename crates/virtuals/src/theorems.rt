@@ -1,9 +1,9 @@
 // What holds of all virtuals.
 ghost use Rattle.std.specs.Prelude.{◌≡◌, List, Some, true, Contains};
 ghost use Rattle.std.specs.Ordering.{is_le};
-ghost use Rattle.conditions.specs.OfVariantValues.Texts.{byte_cmp};
-ghost use Rattle.conditions.specs.OfGraphCore.Graphs.{Text};
-ghost use Rattle.conditions.specs.declared.recipe.Recipe.{Recipe};
+ghost use Rattle.recipe_data.specs.OfVariantValues.Texts.{byte_cmp};
+ghost use Rattle.recipe_data.specs.OfGraphCore.Graphs.{Text};
+ghost use Rattle.recipe_data.specs.declared.recipe.Recipe.{Recipe};
 ghost use Rattle.virtuals.specs.Virtuals.{AreInOrder, AreProviders, Pairs, clash, has_pair, is_virtual};
 
 /// A table of providers has a name exactly where the name is a virtual. The name that clashes is the least that

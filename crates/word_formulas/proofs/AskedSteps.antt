@@ -8,9 +8,9 @@ use Rattle.graph_core.specs.Graphs.{Text}
 use Rattle.literal_table.specs.Choices.{Choices, offered}
 use Rattle.literal_table.specs.Tables.{Table, packages_of}
 use Rattle.virtuals.specs.Virtuals.{is_virtual}
-use Rattle.graph_words.specs.Facts.{word_said, provides_as}
-use Rattle.graph_words.specs.Parts.{asked_rule, provides_rule, rest_rule, meets_rule, suits_rule}
-use Rattle.graph_words.specs.Words.{names_for}
+use Rattle.graph_formulas.specs.Facts.{word_said, provides_as}
+use Rattle.graph_formulas.specs.Parts.{asked_rule, provides_rule, rest_rule, meets_rule, suits_rule}
+use Rattle.graph_formulas.specs.Words.{names_for}
 use Rattle.word_formulas.specs.Asked.{NodeRule, keeping_said}
 use Rattle.word_formulas.specs.Builders.{no_paths, plain_said}
 use Rattle.word_formulas.proofs.Steps.{some-said}

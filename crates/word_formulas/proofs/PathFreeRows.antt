@@ -5,16 +5,16 @@ use Rattle.std.specs.Str.{bytes_eq}
 use Rattle.spec_grammar.specs.declared.part.Part.{Part}
 use Rattle.clause_formulas.specs.Statements.{Statement}
 use Rattle.clause_formulas.specs.Rules.{Rule, in_words, fact, both_of}
-use Rattle.conditions.specs.declared.recipe.DependRow.{DependRow}
+use Rattle.recipe_data.specs.declared.recipe.DependRow.{DependRow}
 use Rattle.condition_rules.specs.Worlds.{World}
 use Rattle.graph_core.specs.Graphs.{Text}
 use Rattle.literal_table.specs.Tables.{Table}
 use Rattle.problem.specs.Problems.{Problem, world_of}
 use Rattle.virtuals.specs.Virtuals.{is_virtual}
-use Rattle.graph_words.specs.Facts.{Word, word_said, provides_as, has_edge}
-use Rattle.graph_words.specs.Lists.{given, named, some}
-use Rattle.graph_words.specs.Parts.{there_rule, asked_rule, suits_rule, provides_rule, rest_rule, meets_rule}
-use Rattle.graph_words.specs.Words.{rule_said, names_for}
+use Rattle.graph_formulas.specs.Facts.{Word, word_said, provides_as, has_edge}
+use Rattle.graph_formulas.specs.Lists.{given, named, some}
+use Rattle.graph_formulas.specs.Parts.{there_rule, asked_rule, suits_rule, provides_rule, rest_rule, meets_rule}
+use Rattle.graph_formulas.specs.Words.{rule_said, names_for}
 use Rattle.graph_formulas.specs.Directives.{edge_to, suits_asked}
 use Rattle.word_formulas.specs.Asked.{NodeRule, asks_child}
 use Rattle.word_formulas.specs.Builders.{no_paths, plain_said}

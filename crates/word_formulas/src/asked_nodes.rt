@@ -2,9 +2,9 @@
 ghost use Rattle.std.specs.Prelude.{◌≡◌, IfOk, map};
 ghost use Rattle.std.specs.Str.{bytes_eq};
 ghost use Rattle.clause_formulas.specs.Rules.{fact};
-ghost use Rattle.graph_words.specs.Facts.{provides_as};
-ghost use Rattle.graph_words.specs.Parts.{asked_rule};
-ghost use Rattle.graph_words.specs.Words.{names_for};
+ghost use Rattle.graph_formulas.specs.Facts.{provides_as};
+ghost use Rattle.graph_formulas.specs.Parts.{asked_rule};
+ghost use Rattle.graph_formulas.specs.Words.{names_for};
 ghost use Rattle.word_formulas.specs.Asked.{NodeRule, keeping_said};
 ghost use Rattle.word_formulas.specs.Builders.{Builds, plain_said};
 

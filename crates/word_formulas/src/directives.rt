@@ -2,9 +2,9 @@
 ghost use Rattle.std.specs.Prelude.{◌≡◌, IfOk};
 ghost use Rattle.clause_formulas.specs.Rules.{fact};
 ghost use Rattle.clause_formulas.specs.Statements.{implies};
-ghost use Rattle.graph_words.specs.Facts.{has_edge};
-ghost use Rattle.graph_words.specs.Parts.{suits_rule};
-ghost use Rattle.graph_words.specs.Words.{names_for};
+ghost use Rattle.graph_formulas.specs.Facts.{has_edge};
+ghost use Rattle.graph_formulas.specs.Parts.{suits_rule};
+ghost use Rattle.graph_formulas.specs.Words.{names_for};
 ghost use Rattle.graph_formulas.specs.Directives.{edge_to, suits_asked};
 ghost use Rattle.word_formulas.specs.Builders.{plain_said};
 
@@ -15,7 +15,7 @@ use crate::parts::{meets_formula, rest_formula};
 use crate::virtual_nodes::provides_formula;
 use clause_formulas::Formula;
 use condition_rules::World;
-use conditions::DependRow;
+use recipe_data::DependRow;
 use graph_core::Kinds;
 use literal_table::LiteralTable;
 use plain_data::Word;

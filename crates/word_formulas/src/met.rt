@@ -1,14 +1,14 @@
 //! What gives the formulas of conditions.
 
 use clause_formulas::Formula;
-use conditions::Condition;
+use recipe_data::Condition;
 use std::alloc::{AllocError, Global};
 
 /// The formula of each condition of a package, as `met` of a rule asks for it.
 pub trait MetConditions {
     ghost use Rattle.std.specs.Prelude.{◌≡◌, IfOk};
     ghost use Rattle.clause_formulas.specs.Statements.{Statement};
-    ghost use Rattle.conditions.specs.declared.recipe.Condition.{Condition};
+    ghost use Rattle.recipe_data.specs.declared.recipe.Condition.{Condition};
     ghost use Rattle.graph_core.specs.Graphs.{Text};
 
     ghost condition_of: { Self → Text → Condition → Statement };

@@ -1,6 +1,6 @@
 use Rattle.std.proofs.Common.{◌∙◌, ap, sym}
 use Rattle.clause_circuits.specs.Binary.{sum_bits_on}
-use Rattle.gate_plans.proofs.Composed.{Extends-refl}
+use Rattle.clause_circuits.proofs.Composed.{Extends-refl}
 use Rattle.clause_circuits.proofs.BinaryLaws.{bits-first, bits-sound, bits-sum}
 use Rattle.clause_circuits.proofs.binary.sum_bits.Goals as goal
 

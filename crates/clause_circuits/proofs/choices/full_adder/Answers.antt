@@ -1,5 +1,5 @@
 use Rattle.std.proofs.Common.{◌∙◌, ap, sym}
-use Rattle.gate_plans.proofs.Composed.{Extends-refl}
+use Rattle.clause_circuits.proofs.Composed.{Extends-refl}
 use Rattle.clause_circuits.specs.Choices.{adder_on}
 use Rattle.clause_circuits.proofs.ChoiceLaws.{adder-is}
 use Rattle.clause_circuits.proofs.choices.full_adder.Goals as goal

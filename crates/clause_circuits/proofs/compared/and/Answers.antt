@@ -1,8 +1,8 @@
 use Rattle.std.proofs.Common.{◌∙◌, ap, sym}
-use Rattle.gate_plans.specs.Steps.{plan_at}
-use Rattle.gate_plans.proofs.Composed.{Extends-refl}
+use Rattle.clause_circuits.specs.Steps.{plan_at}
+use Rattle.clause_circuits.proofs.Composed.{Extends-refl}
 use Rattle.clause_circuits.specs.Compared.{all_on}
-use Rattle.gate_plans.proofs.StepLaws.{here-below, lit-first, lit-sound, lit-gate}
+use Rattle.clause_circuits.proofs.StepLaws.{here-below, lit-first, lit-sound, lit-gate}
 use Rattle.clause_circuits.proofs.ComparedLaws.{all_on-is}
 use Rattle.clause_circuits.proofs.compared.and.Goals as goal
 

@@ -1,8 +1,8 @@
 use Rattle.std.proofs.Common.{◌∙◌, ap, sym}
-use Rattle.gate_plans.specs.Steps.{plan_at}
-use Rattle.gate_plans.proofs.Composed.{Extends-refl}
+use Rattle.clause_circuits.specs.Steps.{plan_at}
+use Rattle.clause_circuits.proofs.Composed.{Extends-refl}
 use Rattle.clause_circuits.specs.Compared.{less_on}
-use Rattle.gate_plans.proofs.StepLaws.{here-below, lit-first, lit-sound, lit-gate}
+use Rattle.clause_circuits.proofs.StepLaws.{here-below, lit-first, lit-sound, lit-gate}
 use Rattle.clause_circuits.proofs.ComparedLaws.{less_on-is}
 use Rattle.clause_circuits.proofs.compared.less_number.Goals as goal
 

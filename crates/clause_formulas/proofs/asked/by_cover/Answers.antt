@@ -1,4 +1,4 @@
-use Rattle.gate_plans.proofs.Composed.{Extends-refl}
+use Rattle.clause_circuits.proofs.Composed.{Extends-refl}
 use Rattle.clause_formulas.proofs.asked.by_cover.Goals as goal
 
 pub returns-in-empty-clause-extends : goal.returns-in-empty-clause-extends

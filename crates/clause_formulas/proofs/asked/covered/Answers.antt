@@ -6,7 +6,7 @@ use Rattle.clause_formulas.specs.declared.defined.Defined.TheVariants.{Known}
 use Rattle.clause_formulas.specs.Drafts.{Draft}
 use Rattle.clause_formulas.specs.Built.{covered_on, by_cover}
 use Rattle.clause_store.proofs.Meaning.{AllBelow-clause_of}
-use Rattle.gate_plans.proofs.Composed.{Extends-refl}
+use Rattle.clause_circuits.proofs.Composed.{Extends-refl}
 use Rattle.clause_formulas.proofs.asked.covered.Goals as goal
 
 covered-always : (s : Clauses) (d : Draft) → d.always ≡ true → covered_on s d ≡ record { list = s; answer = Known true }

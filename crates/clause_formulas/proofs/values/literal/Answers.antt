@@ -1,4 +1,4 @@
-use Rattle.gate_plans.proofs.Composed.{Extends-refl}
+use Rattle.clause_circuits.proofs.Composed.{Extends-refl}
 use Rattle.clause_formulas.proofs.CallSteps.{literal-by, literal-true, literal-false, literal_at}
 use Rattle.clause_formulas.proofs.values.literal.Goals as goal
 

@@ -1,8 +1,8 @@
 use Rattle.std.proofs.Common.{ap, ◌∙◌, ℕ, List}
 use Rattle.std.proofs.lemmas.Result.{IfOk-weaker}
 use Rattle.std.specs.Prelude.{if◌then◌else◌}
-use Rattle.graph_costs.specs.Weights.{is_deprecated}
-use Rattle.choice_terms.specs.Spread.{weighed, spread}
+use Rattle.graph_rules.specs.Weights.{is_deprecated}
+use Rattle.cost_terms.specs.Spread.{weighed, spread}
 use Rattle.cost_terms.proofs.attributes.deprecated_terms.Goals as goal
 
 pub returns : goal.returns

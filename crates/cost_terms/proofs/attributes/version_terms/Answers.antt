@@ -1,7 +1,7 @@
 use Rattle.std.proofs.Common.{ap, ◌∙◌}
 use Rattle.std.proofs.lemmas.Result.{IfOk-weaker}
-use Rattle.graph_costs.specs.Weights.{version_weight}
-use Rattle.choice_terms.specs.Spread.{weighed, spread}
+use Rattle.graph_rules.specs.Weights.{version_weight}
+use Rattle.cost_terms.specs.Spread.{weighed, spread}
 use Rattle.cost_terms.proofs.attributes.version_terms.Goals as goal
 
 pub returns : goal.returns

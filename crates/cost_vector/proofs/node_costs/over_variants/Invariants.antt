@@ -1,6 +1,6 @@
 use Rattle.std.proofs.Common.{◌≡◌, take}
 use Rattle.std.specs.List.{sum_by}
-use Rattle.graph_costs.specs.Costs.{stopped}
+use Rattle.graph_rules.specs.Costs.{stopped}
 use Rattle.cost_vector.specs.Terms.{variant_cost}
 use Rattle.cost_vector.proofs.node_costs.over_variants.Given as goal
 

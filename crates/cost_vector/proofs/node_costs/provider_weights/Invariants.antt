@@ -1,6 +1,6 @@
 use Rattle.std.proofs.Common.{◌≡◌, take}
 use Rattle.std.specs.List.{sum_by}
-use Rattle.graph_costs.specs.Costs.{stopped}
+use Rattle.graph_rules.specs.Costs.{stopped}
 use Rattle.cost_vector.specs.Terms.{weight_at}
 use Rattle.cost_vector.proofs.node_costs.provider_weights.Given as goal
 

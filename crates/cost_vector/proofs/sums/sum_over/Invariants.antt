@@ -1,6 +1,6 @@
 use Rattle.std.proofs.Common.{◌≡◌, take}
 use Rattle.std.specs.List.{sum_by}
-use Rattle.graph_costs.specs.Costs.{stopped}
+use Rattle.graph_rules.specs.Costs.{stopped}
 use Rattle.cost_vector.specs.Terms.{part_cost, placed, term_cost}
 use Rattle.cost_vector.proofs.sums.sum_over.Given as goal
 

@@ -1,5 +1,5 @@
 use Rattle.std.proofs.Common.{◌∙◌, ap, sym}
-use Rattle.gate_plans.proofs.Composed.{Extends-refl}
+use Rattle.clause_circuits.proofs.Composed.{Extends-refl}
 use Rattle.criteria_totals.specs.Totals.{totals_on}
 use Rattle.criteria_totals.proofs.TotalLaws.{totals-first, totals-sound, totals-are}
 use Rattle.criteria_totals.proofs.planned.totals.Goals as goal

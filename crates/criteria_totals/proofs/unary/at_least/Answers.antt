@@ -1,6 +1,6 @@
 use Rattle.std.proofs.Common.{arith}
 use Rattle.criteria_totals.specs.Unary.{on_clause}
-use Rattle.criteria_totals.proofs.MergeLoops.{at_least-built, each-more}
+use Rattle.criteria_totals.proofs.CriteriaTotalsMergeLoops.{at_least-built, each-more}
 use Rattle.criteria_totals.proofs.unary.at_least.Goals as goal
 
 pub loop-i-preserved : goal.loop-i-preserved

@@ -1,5 +1,5 @@
 use Rattle.std.proofs.Common.{◌+◌, ◌-◌, length, arith}
-use Rattle.criteria_totals.proofs.MergeLoops.{merge-more}
+use Rattle.criteria_totals.proofs.CriteriaTotalsMergeLoops.{merge-more}
 use Rattle.criteria_totals.proofs.unary.merge.Goals as goal
 
 pub loop-k-preserved : goal.loop-k-preserved

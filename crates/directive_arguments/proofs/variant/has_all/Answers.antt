@@ -1,5 +1,5 @@
 use Rattle.std.proofs.lemmas.Bool.Decides.{same_from_decides}
-use Rattle.conditions.specs.Right.{has_all}
+use Rattle.recipe_data.specs.Right.{has_all}
 use Rattle.directive_arguments.proofs.WordLaws.{has_all_decides}
 use Rattle.directive_arguments.proofs.variant.has_all.Goals as goal
 

@@ -1,4 +1,4 @@
-use Rattle.conditions.specs.declared.recipe.ConflictRow.{ConflictRow}
+use Rattle.recipe_data.specs.declared.recipe.ConflictRow.{ConflictRow}
 use Rattle.graph_core.specs.declared.node.Node.{Node}
 use Rattle.problem.specs.Problems.{conflicts_at}
 use Rattle.graph_rules.specs.Directives.{keeps_conflict}

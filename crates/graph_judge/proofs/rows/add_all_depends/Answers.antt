@@ -1,4 +1,4 @@
-use Rattle.conditions.specs.declared.recipe.DependRow.{DependRow}
+use Rattle.recipe_data.specs.declared.recipe.DependRow.{DependRow}
 use Rattle.graph_core.specs.declared.node.Node.{Node}
 use Rattle.problem.specs.Problems.{depends_at}
 use Rattle.graph_judge.specs.Places.{depend_test, row_places}

@@ -1,4 +1,4 @@
-use Rattle.conditions.specs.declared.recipe.RequireRow.{RequireRow}
+use Rattle.recipe_data.specs.declared.recipe.RequireRow.{RequireRow}
 use Rattle.graph_core.specs.declared.node.Node.{Node}
 use Rattle.problem.specs.Problems.{requirements_at}
 use Rattle.graph_rules.specs.Directives.{keeps_requirement}

@@ -1,4 +1,4 @@
-use Rattle.conditions.specs.declared.recipe.RequireRow.{RequireRow}
+use Rattle.recipe_data.specs.declared.recipe.RequireRow.{RequireRow}
 use Rattle.graph_rules.specs.Directives.{keeps_requirement}
 use Rattle.graph_judge.specs.Places.{unless, keeps_row}
 use Rattle.graph_judge.proofs.Lists.{flat_step}

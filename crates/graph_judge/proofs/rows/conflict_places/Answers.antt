@@ -1,5 +1,5 @@
 use Rattle.std.proofs.Common.{◌∙◌}
-use Rattle.conditions.specs.declared.recipe.ConflictRow.{ConflictRow}
+use Rattle.recipe_data.specs.declared.recipe.ConflictRow.{ConflictRow}
 use Rattle.problem.specs.Problems.{conflicts_at}
 use Rattle.graph_rules.specs.Directives.{keeps_conflict}
 use Rattle.graph_judge.proofs.Lists.{rows_flat}

@@ -1,5 +1,5 @@
 use Rattle.std.proofs.Common.{◌∙◌}
-use Rattle.conditions.specs.declared.recipe.DependRow.{DependRow}
+use Rattle.recipe_data.specs.declared.recipe.DependRow.{DependRow}
 use Rattle.problem.specs.Problems.{depends_at}
 use Rattle.graph_judge.specs.Places.{depend_test}
 use Rattle.graph_judge.proofs.Lists.{rows_flat}

@@ -1,5 +1,5 @@
 use Rattle.std.proofs.Common.{◌∙◌}
-use Rattle.conditions.specs.declared.recipe.RequireRow.{RequireRow}
+use Rattle.recipe_data.specs.declared.recipe.RequireRow.{RequireRow}
 use Rattle.problem.specs.Problems.{requirements_at}
 use Rattle.graph_rules.specs.Directives.{keeps_requirement}
 use Rattle.graph_judge.proofs.Lists.{rows_flat}

@@ -2,7 +2,7 @@ use Rattle.std.proofs.Common.{sym, ◌∙◌, map}
 use Rattle.std.specs.Cmp.Lexicographic.{nat_list_cmp_total}
 use Rattle.variant_values.specs.Texts.{byte_cmp}
 use Rattle.keyed_lists.proofs.RiseLaws.{rises_decides}
-use Rattle.conditions.specs.declared.recipe.Recipe.{Recipe}
+use Rattle.recipe_data.specs.declared.recipe.Recipe.{Recipe}
 use Rattle.judge_rows.proofs.parts.are_in_order.Goals as goal
 
 pub returns : goal.returns

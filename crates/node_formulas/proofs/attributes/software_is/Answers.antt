@@ -1,6 +1,6 @@
 use Rattle.std.proofs.Common.{ap, ◌∙◌}
 use Rattle.std.specs.Str.{bytes_eq}
-use Rattle.graph_words.specs.Facts.{word_said}
+use Rattle.graph_formulas.specs.Facts.{word_said}
 use Rattle.word_formulas.specs.Builders.{no_paths, plain_said, given_said}
 use Rattle.word_formulas.proofs.Steps.{ok-same, given-said, both-same}
 use Rattle.node_formulas.specs.Attributes.{software_rule}

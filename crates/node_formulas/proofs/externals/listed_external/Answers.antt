@@ -1,7 +1,7 @@
 use Rattle.std.proofs.Common.{ap, ◌∙◌, Option, slice_get}
 use Rattle.graph_core.specs.Graphs.{Text}
 use Rattle.graph_rules.specs.Kept.{external_node}
-use Rattle.graph_words.specs.Lists.{named}
+use Rattle.graph_formulas.specs.Lists.{named}
 use Rattle.graph_formulas.specs.Kept.{same_rule}
 use Rattle.problem.specs.Problems.{entry_of, externals_in}
 use Rattle.site_settings.specs.declared.settings.ExternalEntry.{ExternalEntry}

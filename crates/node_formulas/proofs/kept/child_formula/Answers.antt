@@ -1,6 +1,6 @@
 use Rattle.std.proofs.Common.{ap, ◌∙◌, Option}
 use Rattle.graph_core.specs.Graphs.{Text}
-use Rattle.graph_words.specs.Lists.{named}
+use Rattle.graph_formulas.specs.Lists.{named}
 use Rattle.reuse_db.specs.declared.record.Record.{Record}
 use Rattle.word_formulas.specs.Builders.{plain_said}
 use Rattle.word_formulas.proofs.Steps.{ok-same}

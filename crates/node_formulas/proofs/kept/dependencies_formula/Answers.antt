@@ -4,8 +4,8 @@ use Rattle.clause_formulas.specs.Statements.{all_of}
 use Rattle.graph_core.specs.Graphs.{Text}
 use Rattle.graph_core.specs.declared.node.Kinds.{Kinds}
 use Rattle.problem.specs.Records.{kept_dependencies}
-use Rattle.graph_words.specs.Facts.{word_said}
-use Rattle.graph_words.specs.Lists.{each}
+use Rattle.graph_formulas.specs.Facts.{word_said}
+use Rattle.graph_formulas.specs.Lists.{each}
 use Rattle.word_formulas.specs.Builders.{no_paths, plain_said}
 use Rattle.word_formulas.proofs.Steps.{ok-same, each-said}
 use Rattle.node_formulas.specs.Attributes.{dependency_rule}

@@ -1,5 +1,5 @@
 use Rattle.std.proofs.Common.{rules}
-use Rattle.graph_words.specs.Facts.{has_origin}
+use Rattle.graph_formulas.specs.Facts.{has_origin}
 use Rattle.graph_formulas.specs.Kept.{installs}
 use Rattle.word_formulas.specs.Builders.{node_said, plain_said}
 use Rattle.word_formulas.proofs.Steps.{ok-same, ok-is, both-same}

@@ -1,7 +1,7 @@
 use Rattle.std.proofs.Common.{ap, ◌∙◌, Option}
 use Rattle.graph_core.specs.Graphs.{Text}
 use Rattle.graph_core.specs.declared.node.Origin.TheVariants.{Installed}
-use Rattle.graph_words.specs.Lists.{named}
+use Rattle.graph_formulas.specs.Lists.{named}
 use Rattle.graph_formulas.specs.Kept.{origin_rule}
 use Rattle.reuse_db.specs.declared.record.Record.{Record}
 use Rattle.word_formulas.specs.Builders.{plain_said}

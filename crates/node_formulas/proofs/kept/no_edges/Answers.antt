@@ -2,8 +2,8 @@ use Rattle.std.proofs.Common.{rules, sym, map}
 use Rattle.clause_formulas.specs.Rules.{fact, isnt}
 use Rattle.clause_formulas.specs.Statements.{all_of}
 use Rattle.graph_core.specs.Graphs.{Text}
-use Rattle.graph_words.specs.Facts.{word_said, has_edge}
-use Rattle.graph_words.specs.Lists.{each}
+use Rattle.graph_formulas.specs.Facts.{word_said, has_edge}
+use Rattle.graph_formulas.specs.Lists.{each}
 use Rattle.graph_formulas.specs.Edges.{no_kinds}
 use Rattle.word_formulas.specs.Builders.{no_paths, plain_said}
 use Rattle.word_formulas.proofs.Steps.{ok-same, each-said}

@@ -2,8 +2,8 @@ use Rattle.std.proofs.Common.{ap, ◌∙◌, Bool}
 use Rattle.clause_formulas.specs.Rules.{fact, if_so}
 use Rattle.graph_core.specs.Graphs.{Text}
 use Rattle.graph_core.specs.declared.node.Kinds.{Kinds}
-use Rattle.graph_words.specs.Facts.{has_edge}
-use Rattle.graph_words.specs.Lists.{given}
+use Rattle.graph_formulas.specs.Facts.{has_edge}
+use Rattle.graph_formulas.specs.Lists.{given}
 use Rattle.graph_formulas.specs.Kept.{is_child_name}
 use Rattle.word_formulas.specs.Builders.{plain_said}
 use Rattle.word_formulas.proofs.Steps.{ok-same}

@@ -1,6 +1,6 @@
 use Rattle.std.proofs.Common.{ap, ◌∙◌}
 use Rattle.graph_core.specs.Graphs.{Text}
-use Rattle.graph_words.specs.Facts.{is_there}
+use Rattle.graph_formulas.specs.Facts.{is_there}
 use Rattle.graph_formulas.specs.Kept.{kept_rule, origins_of}
 use Rattle.graph_formulas.specs.Laws.{children_of}
 use Rattle.word_formulas.specs.Builders.{node_said, plain_said}

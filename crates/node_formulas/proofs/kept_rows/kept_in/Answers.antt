@@ -5,7 +5,7 @@ use Rattle.clause_formulas.specs.Statements.{all_of}
 use Rattle.graph_core.specs.Graphs.{Text}
 use Rattle.graph_core.specs.declared.node.Origin.{Origin}
 use Rattle.literal_table.specs.Choices.{offered}
-use Rattle.graph_words.specs.Facts.{word_said, has_origin, node_has}
+use Rattle.graph_formulas.specs.Facts.{word_said, has_origin, node_has}
 use Rattle.graph_formulas.specs.Kept.{same_origin, origin_rule, kept_rule}
 use Rattle.graph_formulas.specs.Laws.{children_of}
 use Rattle.word_formulas.specs.Builders.{no_paths, plain_said}

@@ -1,7 +1,7 @@
 use Rattle.std.proofs.Common.{◌∙◌}
 use Rattle.clause_formulas.specs.Rules.{fact, if_so}
-use Rattle.graph_words.specs.Facts.{word_said, has_edge}
-use Rattle.graph_words.specs.Lists.{given}
+use Rattle.graph_formulas.specs.Facts.{word_said, has_edge}
+use Rattle.graph_formulas.specs.Lists.{given}
 use Rattle.word_formulas.specs.Builders.{no_paths, plain_said}
 use Rattle.word_formulas.proofs.Steps.{ok-same, given-said, implies-same}
 use Rattle.node_formulas.proofs.kinds.only_recorded.Goals as goal

@@ -1,6 +1,6 @@
 use Rattle.std.proofs.Common.{ap, None}
 use Rattle.condition_rules.specs.Worlds.{World}
-use Rattle.graph_words.specs.Parts.{provides_rule}
+use Rattle.graph_formulas.specs.Parts.{provides_rule}
 use Rattle.graph_formulas.specs.Built.{provider_rule}
 use Rattle.word_formulas.specs.Builders.{plain_said}
 use Rattle.word_formulas.proofs.Steps.{ok-same}

@@ -2,7 +2,7 @@ use Rattle.std.proofs.Common.{rules, ap}
 use Rattle.std.specs.Str.{bytes_eq}
 use Rattle.clause_formulas.specs.Rules.{fact}
 use Rattle.graph_core.specs.Graphs.{Text}
-use Rattle.graph_words.specs.Facts.{provides_as}
+use Rattle.graph_formulas.specs.Facts.{provides_as}
 use Rattle.literal_table.specs.Choices.{any_choice}
 use Rattle.word_formulas.specs.Builders.{plain_said}
 use Rattle.word_formulas.proofs.Steps.{ok-same}

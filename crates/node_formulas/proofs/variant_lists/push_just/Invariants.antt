@@ -1,5 +1,5 @@
 use Rattle.std.proofs.Common.{◌≡◌, ◌++◌, drop}
-use Rattle.graph_words.specs.Facts.{just_parts}
+use Rattle.graph_formulas.specs.Facts.{just_parts}
 use Rattle.node_formulas.proofs.variant_lists.push_just.Given as goal
 
 abbrev pub invariant-loop-choice : goal.invariant-loop-choice

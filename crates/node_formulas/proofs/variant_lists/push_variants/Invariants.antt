@@ -1,5 +1,5 @@
 use Rattle.std.proofs.Common.{◌≡◌, ◌++◌, drop}
-use Rattle.graph_words.specs.Facts.{variant_parts}
+use Rattle.graph_formulas.specs.Facts.{variant_parts}
 use Rattle.node_formulas.proofs.variant_lists.push_variants.Given as goal
 
 abbrev pub invariant-loop-offer : goal.invariant-loop-offer

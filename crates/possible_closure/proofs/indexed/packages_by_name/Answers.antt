@@ -1,6 +1,6 @@
 use Rattle.std.proofs.lemmas.List.{take_all}
 use Rattle.std.proofs.lemmas.Result.{IfOk-weaker}
-use Rattle.text_index.proofs.Lent.{indexes}
+use Rattle.keyed_lists.proofs.Lent.{indexes}
 use Rattle.possible_closure.proofs.indexed.packages_by_name.Goals as goal
 
 pub returns : goal.returns

@@ -1,6 +1,6 @@
 use Rattle.std.proofs.Common.{◌≡◌, take, map}
-use Rattle.text_index.specs.Lent.{lent}
-use Rattle.text_index.proofs.Lent.{pair_of}
+use Rattle.keyed_lists.specs.Lent.{lent}
+use Rattle.keyed_lists.proofs.Lent.{pair_of}
 use Rattle.possible_closure.proofs.indexed.records_by_name.Given as goal
 
 abbrev pub invariant-loop-entry : goal.invariant-loop-entry

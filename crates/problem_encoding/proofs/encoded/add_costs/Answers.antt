@@ -3,10 +3,10 @@ use Rattle.std.specs.List.Sorted.{IsPermutation}
 use Rattle.std.specs.List.{filter_map}
 use Rattle.std.proofs.lemmas.Result.{IfOk-weaker}
 use Rattle.possible_closure.specs.Closures.{closure_of}
-use Rattle.name_order.specs.Walks.{all_names, post_order}
+use Rattle.ranked_costs.specs.Walks.{all_names, post_order}
 use Rattle.problem_formulas.specs.Given.{no_place}
 use Rattle.literal_table.specs.Tables.{Table}
-use Rattle.ranked_costs.specs.OfCostLimits.Small.{are_small}
+use Rattle.ranked_costs.specs.Small.{are_small}
 use Rattle.ranked_costs.specs.Built.{terms_for, rank_costs_on}
 use Rattle.problem_encoding.specs.Built.{order_in, table_of}
 use Rattle.problem_encoding.proofs.Ruled.{unplaced}

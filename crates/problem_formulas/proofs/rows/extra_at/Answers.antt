@@ -1,8 +1,8 @@
 use Rattle.std.proofs.Common.{ap, ◌∙◌}
 use Rattle.clause_formulas.specs.Statements.{implies}
 use Rattle.graph_core.specs.Graphs.{Text}
-use Rattle.graph_words.specs.Facts.{has_origin}
-use Rattle.graph_words.specs.Words.{names_for}
+use Rattle.graph_formulas.specs.Facts.{has_origin}
+use Rattle.graph_formulas.specs.Words.{names_for}
 use Rattle.rule_formulas.specs.OfGraphFormulas.Terms.{builds}
 use Rattle.rule_formulas.specs.OfGraphFormulas.Edges.{extra_edges_rule}
 use Rattle.rule_formulas.specs.OfGraphFormulas.Laws.{children_of}

@@ -1,6 +1,6 @@
 use Rattle.std.proofs.Common.{rules}
 use Rattle.graph_core.specs.Graphs.{Text}
-use Rattle.graph_words.specs.Words.{names_for}
+use Rattle.graph_formulas.specs.Words.{names_for}
 use Rattle.rule_formulas.specs.OfGraphFormulas.Terms.{where_built}
 use Rattle.rule_formulas.specs.OfGraphFormulas.Edges.{extra_edges_rule}
 use Rattle.rule_formulas.specs.OfGraphFormulas.Laws.{children_of}

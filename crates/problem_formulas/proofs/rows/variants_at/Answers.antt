@@ -1,7 +1,7 @@
 use Rattle.std.proofs.Common.{ap, ◌∙◌}
 use Rattle.clause_formulas.specs.Statements.{implies}
 use Rattle.graph_core.specs.Graphs.{Text}
-use Rattle.graph_words.specs.Facts.{has_origin}
+use Rattle.graph_formulas.specs.Facts.{has_origin}
 use Rattle.rule_formulas.specs.OfGraphFormulas.Terms.{builds}
 use Rattle.rule_formulas.specs.OfWordFormulas.Builders.{node_said}
 use Rattle.rule_formulas.proofs.OfWordFormulas.Steps.{ok-same, ok-is, implies-same}

@@ -1,6 +1,6 @@
 use Rattle.std.proofs.Common.{◌≡◌, true}
 use Rattle.std.specs.List.{list_all}
-use Rattle.conditions.specs.Right.{is_right_recipe}
+use Rattle.recipe_data.specs.Right.{is_right_recipe}
 use Rattle.virtuals.specs.Virtuals.{AreInOrder}
 use Rattle.problem_rows.proofs.recipes.recipes_of.Given as goal
 

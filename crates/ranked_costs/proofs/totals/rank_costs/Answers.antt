@@ -1,5 +1,5 @@
 use Rattle.std.proofs.lemmas.Result.{IfOk-weaker}
-use Rattle.gate_plans.proofs.Composed.{Extends-refl}
+use Rattle.clause_circuits.proofs.Composed.{Extends-refl}
 use Rattle.ranked_costs.proofs.Lists.{items-below, items-small, are-cost-bits, rank-built}
 use Rattle.ranked_costs.proofs.totals.rank_costs.Goals as goal
 

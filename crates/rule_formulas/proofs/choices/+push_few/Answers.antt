@@ -1,11 +1,11 @@
 use Rattle.std.proofs.Common.{◌≡◌, [], ◌∷◌, ◌++◌, ◌-◌, sym, subst, List, map, take, drop, length, OnOk}
 use Rattle.std.proofs.lemmas.List.{take_rest}
 use Rattle.clause_formulas.specs.Rules.{Rule}
-use Rattle.graph_words.specs.Facts.{Word}
-use Rattle.graph_words.specs.Lists.{half_of, halves_rule, few_rules}
-use Rattle.graph_words.specs.Parts.{holds_rule}
-use Rattle.graph_words.specs.Words.{names_for, rule_said}
-use Rattle.path_formulas.specs.Paths.{path_by}
+use Rattle.graph_formulas.specs.Facts.{Word}
+use Rattle.graph_formulas.specs.Lists.{half_of, halves_rule, few_rules}
+use Rattle.graph_formulas.specs.Parts.{holds_rule}
+use Rattle.graph_formulas.specs.Words.{names_for, rule_said}
+use Rattle.rule_formulas.specs.Paths.{path_by}
 use Rattle.rule_formulas.proofs.Few.{few-none, few-short, few-joined}
 use Rattle.rule_formulas.proofs.choices.+push_few.Goals as goal
 

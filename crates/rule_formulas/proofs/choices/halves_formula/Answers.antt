@@ -1,9 +1,9 @@
 use Rattle.std.proofs.Common.{ap, ◌∙◌, ◌∷◌, []}
 use Rattle.clause_formulas.specs.Statements.{any_of, opposite}
-use Rattle.graph_words.specs.Lists.{some, halves_rule}
-use Rattle.graph_words.specs.Parts.{holds_rule}
-use Rattle.graph_words.specs.Words.{names_for, rule_said}
-use Rattle.path_formulas.specs.Paths.{path_by}
+use Rattle.graph_formulas.specs.Lists.{some, halves_rule}
+use Rattle.graph_formulas.specs.Parts.{holds_rule}
+use Rattle.graph_formulas.specs.Words.{names_for, rule_said}
+use Rattle.rule_formulas.specs.Paths.{path_by}
 use Rattle.word_formulas.proofs.Steps.{ok-same, ok-is}
 use Rattle.rule_formulas.proofs.Few.{either-same}
 use Rattle.rule_formulas.proofs.choices.halves_formula.Goals as goal

@@ -1,11 +1,11 @@
 use Rattle.std.proofs.Common.{sym, ◌∙◌, ◌/◌, length, map}
 use Rattle.clause_formulas.specs.Statements.{all_of, both}
 use Rattle.clause_formulas.proofs.RuleLaws.{all_rules-said}
-use Rattle.graph_words.specs.Facts.{word_said}
-use Rattle.graph_words.specs.Lists.{some, few_rules, just_one}
-use Rattle.graph_words.specs.Parts.{holds_rule}
-use Rattle.graph_words.specs.Words.{names_for, rule_said}
-use Rattle.path_formulas.specs.Paths.{path_by}
+use Rattle.graph_formulas.specs.Facts.{word_said}
+use Rattle.graph_formulas.specs.Lists.{some, few_rules, just_one}
+use Rattle.graph_formulas.specs.Parts.{holds_rule}
+use Rattle.graph_formulas.specs.Words.{names_for, rule_said}
+use Rattle.rule_formulas.specs.Paths.{path_by}
 use Rattle.word_formulas.proofs.Steps.{ok-same, ok-is, both-same}
 use Rattle.rule_formulas.proofs.choices.one_formula.Goals as goal
 

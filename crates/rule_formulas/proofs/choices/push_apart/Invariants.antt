@@ -1,8 +1,8 @@
 use Rattle.std.proofs.Common.{◌≡◌, ◌++◌, map, drop}
-use Rattle.graph_words.specs.Lists.{apart_rules}
-use Rattle.graph_words.specs.Parts.{holds_rule}
-use Rattle.graph_words.specs.Words.{names_for, rule_said}
-use Rattle.path_formulas.specs.Paths.{path_by}
+use Rattle.graph_formulas.specs.Lists.{apart_rules}
+use Rattle.graph_formulas.specs.Parts.{holds_rule}
+use Rattle.graph_formulas.specs.Words.{names_for, rule_said}
+use Rattle.rule_formulas.specs.Paths.{path_by}
 use Rattle.rule_formulas.proofs.choices.push_apart.Given as goal
 
 abbrev pub invariant-loop-i : goal.invariant-loop-i

@@ -1,11 +1,11 @@
 use Rattle.std.proofs.Common.{rules, sym, map}
 use Rattle.clause_formulas.specs.Statements.{any_of}
 use Rattle.spec_grammar.specs.declared.part.Spec.{Spec}
-use Rattle.graph_words.specs.Facts.{word_said}
-use Rattle.graph_words.specs.Lists.{some}
-use Rattle.graph_words.specs.Parts.{holds_rule}
-use Rattle.graph_words.specs.Words.{names_for, rule_said}
-use Rattle.path_formulas.specs.Paths.{path_by}
+use Rattle.graph_formulas.specs.Facts.{word_said}
+use Rattle.graph_formulas.specs.Lists.{some}
+use Rattle.graph_formulas.specs.Parts.{holds_rule}
+use Rattle.graph_formulas.specs.Words.{names_for, rule_said}
+use Rattle.rule_formulas.specs.Paths.{path_by}
 use Rattle.word_formulas.proofs.Steps.{ok-same, some-said}
 use Rattle.rule_formulas.proofs.choices.some_formula.Goals as goal
 

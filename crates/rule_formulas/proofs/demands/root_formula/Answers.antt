@@ -1,8 +1,8 @@
 use Rattle.std.proofs.Common.{sym, ap, ◌∙◌, Option}
 use Rattle.spec_grammar.specs.declared.part.Spec.{Spec}
-use Rattle.graph_words.specs.Words.{names_for, rule_said}
+use Rattle.graph_formulas.specs.Words.{names_for, rule_said}
 use Rattle.graph_formulas.specs.Directives.{root_rule}
-use Rattle.path_formulas.specs.Paths.{path_by}
+use Rattle.rule_formulas.specs.Paths.{path_by}
 use Rattle.word_formulas.proofs.Steps.{ok-same}
 use Rattle.rule_formulas.specs.Terms.{root_said}
 use Rattle.std.specs.Prelude.{slice_get}

@@ -2,11 +2,11 @@ use Rattle.std.proofs.Common.{sym, ap, ◌∙◌, Option}
 use Rattle.condition_rules.specs.Worlds.{World}
 use Rattle.graph_core.specs.Graphs.{Text}
 use Rattle.problem.specs.Problems.{world_of}
-use Rattle.graph_words.specs.Lists.{named}
-use Rattle.graph_words.specs.Parts.{holds_rule}
-use Rattle.graph_words.specs.Words.{names_for, rule_said}
+use Rattle.graph_formulas.specs.Lists.{named}
+use Rattle.graph_formulas.specs.Parts.{holds_rule}
+use Rattle.graph_formulas.specs.Words.{names_for, rule_said}
 use Rattle.graph_formulas.specs.Directives.{root_rule}
-use Rattle.path_formulas.specs.Paths.{path_by}
+use Rattle.rule_formulas.specs.Paths.{path_by}
 use Rattle.word_formulas.proofs.Steps.{ok-same}
 use Rattle.rule_formulas.proofs.demands.spec_formula.Goals as goal
 

@@ -1,13 +1,13 @@
 use Rattle.std.proofs.Common.{rules, sym, ap, ◌∙◌, map, filter, List}
 use Rattle.clause_formulas.specs.Statements.{all_of}
-use Rattle.conditions.specs.declared.recipe.ConflictRow.{ConflictRow}
+use Rattle.recipe_data.specs.declared.recipe.ConflictRow.{ConflictRow}
 use Rattle.problem.specs.Problems.{conflicts_at}
-use Rattle.graph_words.specs.Lists.{each}
-use Rattle.graph_words.specs.Words.{names_for}
+use Rattle.graph_formulas.specs.Lists.{each}
+use Rattle.graph_formulas.specs.Words.{names_for}
 use Rattle.graph_formulas.specs.Terms.{term_said}
 use Rattle.graph_formulas.specs.Directives.{conflict_rule}
 use Rattle.graph_formulas.specs.Laws.{term_formula}
-use Rattle.path_formulas.specs.Paths.{path_by}
+use Rattle.rule_formulas.specs.Paths.{path_by}
 use Rattle.word_formulas.proofs.Steps.{ok-same, each-said}
 use Rattle.std.specs.Prelude.{◌==◌}
 use Rattle.rule_formulas.proofs.directives.conflicts_formula.Goals as goal

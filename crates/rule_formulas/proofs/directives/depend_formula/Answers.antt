@@ -1,10 +1,10 @@
 use Rattle.std.proofs.Common.{sym, ◌∙◌}
 use Rattle.clause_formulas.specs.Statements.{both, implies}
 use Rattle.clause_formulas.specs.Rules.{both_of}
-use Rattle.graph_words.specs.Words.{names_for}
+use Rattle.graph_formulas.specs.Words.{names_for}
 use Rattle.graph_formulas.specs.Directives.{edge_to, suits_asked, edge_rule, constraint_rule}
 use Rattle.graph_formulas.specs.Laws.{term_formula}
-use Rattle.path_formulas.specs.Paths.{path_by}
+use Rattle.rule_formulas.specs.Paths.{path_by}
 use Rattle.word_formulas.specs.Builders.{plain_said}
 use Rattle.word_formulas.proofs.PathFreeRows.{edge-agree, suits_asked-agree}
 use Rattle.word_formulas.proofs.Steps.{ok-same, ok-is, both-same, implies-same}

@@ -2,13 +2,13 @@ use Rattle.std.proofs.Common.{◌∙◌, filter}
 use Rattle.clause_formulas.specs.Statements.{both}
 use Rattle.clause_formulas.specs.Rules.{Rule, both_of}
 use Rattle.problem.specs.Problems.{depends_at, conflicts_at, requirements_at}
-use Rattle.graph_words.specs.Lists.{each}
-use Rattle.graph_words.specs.Words.{names_for}
+use Rattle.graph_formulas.specs.Lists.{each}
+use Rattle.graph_formulas.specs.Words.{names_for}
 use Rattle.graph_formulas.specs.Terms.{Term}
 use Rattle.graph_formulas.specs.Directives.{edge_rule, constraint_rule, conflict_rule, requirement_rule}
 use Rattle.graph_formulas.specs.Demands.{directive_rule}
 use Rattle.graph_formulas.specs.Laws.{term_formula}
-use Rattle.path_formulas.specs.Paths.{path_by}
+use Rattle.rule_formulas.specs.Paths.{path_by}
 use Rattle.word_formulas.proofs.Steps.{ok-same, ok-is, both-same}
 use Rattle.std.specs.Prelude.{◌==◌}
 use Rattle.rule_formulas.proofs.directives.directive_formula.Goals as goal

@@ -1,10 +1,10 @@
 use Rattle.std.proofs.Common.{◌∙◌}
 use Rattle.clause_formulas.specs.Statements.{implies}
 use Rattle.problem.specs.Problems.{world_of}
-use Rattle.graph_words.specs.Words.{names_for}
+use Rattle.graph_formulas.specs.Words.{names_for}
 use Rattle.graph_formulas.specs.Directives.{requirement_rule}
 use Rattle.graph_formulas.specs.Laws.{term_formula}
-use Rattle.path_formulas.specs.Paths.{path_by}
+use Rattle.rule_formulas.specs.Paths.{path_by}
 use Rattle.word_formulas.proofs.Steps.{ok-same, ok-is, implies-same}
 use Rattle.rule_formulas.specs.Terms.{choice_said}
 use Rattle.rule_formulas.proofs.Lists.{choice-known}

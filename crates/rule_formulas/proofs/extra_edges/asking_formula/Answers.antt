@@ -1,9 +1,9 @@
 use Rattle.std.proofs.Common.{rules, sym, ap, ◌∙◌, ◌&&◌, map, filter, List}
 use Rattle.clause_formulas.specs.Statements.{any_of}
-use Rattle.conditions.specs.declared.recipe.DependRow.{DependRow}
+use Rattle.recipe_data.specs.declared.recipe.DependRow.{DependRow}
 use Rattle.problem.specs.Problems.{depends_at}
-use Rattle.graph_words.specs.Lists.{some}
-use Rattle.graph_words.specs.Words.{names_for}
+use Rattle.graph_formulas.specs.Lists.{some}
+use Rattle.graph_formulas.specs.Words.{names_for}
 use Rattle.graph_formulas.specs.Terms.{term_said}
 use Rattle.graph_formulas.specs.Edges.{asks_rule, may_ask}
 use Rattle.word_formulas.specs.Builders.{no_paths}

@@ -1,7 +1,7 @@
 use Rattle.std.proofs.Common.{true, ◌∙◌}
 use Rattle.clause_formulas.specs.Statements.{both}
 use Rattle.clause_formulas.specs.Rules.{Rule}
-use Rattle.graph_words.specs.Words.{names_for}
+use Rattle.graph_formulas.specs.Words.{names_for}
 use Rattle.graph_formulas.specs.Terms.{Term}
 use Rattle.graph_formulas.specs.Edges.{no_kinds, kind_rule, extra_edge_rule}
 use Rattle.word_formulas.proofs.Steps.{ok-same, ok-is, both-same}

@@ -3,8 +3,8 @@ use Rattle.std.specs.Str.{bytes_eq}
 use Rattle.clause_formulas.specs.Statements.{all_of}
 use Rattle.graph_core.specs.Graphs.{Text}
 use Rattle.literal_table.specs.declared.block.EdgeLits.{EdgeLits}
-use Rattle.graph_words.specs.Lists.{each}
-use Rattle.graph_words.specs.Words.{names_for}
+use Rattle.graph_formulas.specs.Lists.{each}
+use Rattle.graph_formulas.specs.Words.{names_for}
 use Rattle.graph_formulas.specs.Terms.{term_said}
 use Rattle.graph_formulas.specs.Edges.{extra_edge_rule}
 use Rattle.graph_formulas.specs.Laws.{children_of}

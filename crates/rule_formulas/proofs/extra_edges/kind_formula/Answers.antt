@@ -1,12 +1,12 @@
 use Rattle.std.proofs.Common.{ap, ◌∙◌, ◌&&◌, filter}
 use Rattle.clause_formulas.specs.Statements.{implies}
 use Rattle.clause_formulas.specs.Rules.{fact}
-use Rattle.conditions.specs.declared.recipe.DependRow.{DependRow}
+use Rattle.recipe_data.specs.declared.recipe.DependRow.{DependRow}
 use Rattle.graph_core.specs.declared.node.Kinds.{Kinds}
 use Rattle.problem.specs.Problems.{depends_at}
-use Rattle.graph_words.specs.Facts.{has_edge}
-use Rattle.graph_words.specs.Lists.{some}
-use Rattle.graph_words.specs.Words.{names_for}
+use Rattle.graph_formulas.specs.Facts.{has_edge}
+use Rattle.graph_formulas.specs.Lists.{some}
+use Rattle.graph_formulas.specs.Words.{names_for}
 use Rattle.graph_formulas.specs.Edges.{asks_rule, may_ask, kind_rule}
 use Rattle.word_formulas.specs.Builders.{plain_said}
 use Rattle.word_formulas.proofs.Steps.{ok-same, ok-is, implies-same}

@@ -3,7 +3,7 @@ use Rattle.condition_rules.specs.Words.{is_some_and}
 use Rattle.condition_rules.specs.Worlds.{World}
 use Rattle.graph_core.specs.Graphs.{Text}
 use Rattle.problem.specs.Problems.{world_of}
-use Rattle.graph_words.specs.Words.{names_for}
+use Rattle.graph_formulas.specs.Words.{names_for}
 use Rattle.rule_formulas.specs.Terms.{is_asked}
 use Rattle.rule_formulas.proofs.extra_edges.may_ask.Goals as goal
 

@@ -1,6 +1,6 @@
 use Rattle.std.proofs.Common.{refl}
 use Rattle.clause_formulas.specs.Statements.{both}
-use Rattle.graph_words.specs.Words.{names_for}
+use Rattle.graph_formulas.specs.Words.{names_for}
 use Rattle.graph_formulas.specs.Edges.{asks_rule}
 use Rattle.word_formulas.specs.Asked.{asks_child}
 use Rattle.word_formulas.specs.Builders.{plain_said}

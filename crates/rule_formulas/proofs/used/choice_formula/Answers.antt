@@ -1,6 +1,6 @@
 use Rattle.clause_formulas.specs.Statements.{implies}
 use Rattle.clause_formulas.specs.Rules.{fact, if_so}
-use Rattle.graph_words.specs.Facts.{provides_as}
+use Rattle.graph_formulas.specs.Facts.{provides_as}
 use Rattle.graph_formulas.specs.Terms.{known_rule}
 use Rattle.graph_formulas.specs.Edges.{used_rule}
 use Rattle.graph_formulas.specs.Laws.{names_of}

@@ -3,7 +3,7 @@ use Rattle.clause_formulas.specs.Statements.{any_of}
 use Rattle.graph_core.specs.Graphs.{Text}
 use Rattle.literal_table.specs.Tables.{name_of}
 use Rattle.literal_table.specs.declared.block.Block.{Block}
-use Rattle.graph_words.specs.Lists.{some}
+use Rattle.graph_formulas.specs.Lists.{some}
 use Rattle.graph_formulas.specs.Terms.{term_said}
 use Rattle.graph_formulas.specs.Edges.{may_use, use_rule}
 use Rattle.graph_formulas.specs.Laws.{names_of}

@@ -1,11 +1,11 @@
 use Rattle.std.proofs.Common.{ap, ◌∙◌, filter}
 use Rattle.clause_formulas.specs.Statements.{both}
 use Rattle.clause_formulas.specs.Rules.{fact}
-use Rattle.conditions.specs.declared.recipe.DependRow.{DependRow}
+use Rattle.recipe_data.specs.declared.recipe.DependRow.{DependRow}
 use Rattle.graph_core.specs.Graphs.{Text}
 use Rattle.problem.specs.Problems.{depends_at}
-use Rattle.graph_words.specs.Facts.{has_edge, has_origin}
-use Rattle.graph_words.specs.Lists.{some}
+use Rattle.graph_formulas.specs.Facts.{has_edge, has_origin}
+use Rattle.graph_formulas.specs.Lists.{some}
 use Rattle.graph_formulas.specs.Terms.{met_rule, builds}
 use Rattle.graph_formulas.specs.Edges.{no_kinds, names_virtual, use_rule}
 use Rattle.word_formulas.specs.Builders.{plain_said, node_said}

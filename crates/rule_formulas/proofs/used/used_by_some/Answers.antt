@@ -4,7 +4,7 @@ use Rattle.condition_rules.specs.Worlds.{World}
 use Rattle.graph_core.specs.Graphs.{Text}
 use Rattle.problem.specs.Problems.{world_of}
 use Rattle.virtuals.specs.Virtuals.{is_virtual}
-use Rattle.graph_words.specs.Lists.{some}
+use Rattle.graph_formulas.specs.Lists.{some}
 use Rattle.graph_formulas.specs.Terms.{term_said}
 use Rattle.graph_formulas.specs.Edges.{may_use, use_rule, used_rule}
 use Rattle.graph_formulas.specs.Laws.{names_of}

@@ -4,8 +4,8 @@ use Rattle.clause_formulas.specs.Rules.{fact, if_so}
 use Rattle.clause_store.specs.declared.Lit.{Lit}
 use Rattle.graph_core.specs.Graphs.{Text}
 use Rattle.literal_table.specs.Tables.{packages_of}
-use Rattle.graph_words.specs.Facts.{provides_as}
-use Rattle.graph_words.specs.Words.{names_for}
+use Rattle.graph_formulas.specs.Facts.{provides_as}
+use Rattle.graph_formulas.specs.Words.{names_for}
 use Rattle.graph_formulas.specs.Terms.{term_said, known_rule}
 use Rattle.graph_formulas.specs.Edges.{used_rule, of_provider}
 use Rattle.graph_formulas.specs.Laws.{names_of}

@@ -1,6 +1,6 @@
 use Rattle.std.proofs.Common.{rules}
 use Rattle.std.specs.Str.{bytes_eq}
-use Rattle.conditions.specs.declared.recipe.VariantRow.{VariantRow}
+use Rattle.recipe_data.specs.declared.recipe.VariantRow.{VariantRow}
 use Rattle.rule_formulas.proofs.variants.met_formula.Goals as goal
 
 pub returns : goal.returns

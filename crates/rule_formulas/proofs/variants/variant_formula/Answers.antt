@@ -3,9 +3,9 @@ use Rattle.clause_formulas.specs.Statements.{any_of, both}
 use Rattle.word_formulas.specs.Builders.{node_said}
 use Rattle.word_formulas.proofs.Steps.{ok-same, ok-is, both-same, implies-same}
 use Rattle.rule_formulas.specs.Terms.{plain_term}
-use Rattle.conditions.specs.declared.recipe.VariantRow.{VariantRow}
+use Rattle.recipe_data.specs.declared.recipe.VariantRow.{VariantRow}
 use Rattle.problem.specs.Problems.{variants_at}
-use Rattle.graph_words.specs.Facts.{has_variant}
+use Rattle.graph_formulas.specs.Facts.{has_variant}
 use Rattle.graph_formulas.specs.Variants.{variant_rule}
 use Rattle.rule_formulas.specs.Governing.{met_said, last_parts}
 use Rattle.rule_formulas.proofs.Governing.{met-said, last-said}

@@ -1,7 +1,7 @@
 use Rattle.std.proofs.Common.{◌≡◌, sym, subst, true}
 use Rattle.table_plan.specs.Kept.{has_right_values}
 use Rattle.problem.specs.Problems.{Problem}
-use Rattle.problem_limits.specs.Limits.{is_within_limits}
+use Rattle.problem.specs.Limits.{is_within_limits}
 use Rattle.run_input.proofs.Values.{right_values, within_limits}
 use Rattle.run_input.proofs.input.posed.Goals as goal
 

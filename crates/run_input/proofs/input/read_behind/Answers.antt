@@ -1,6 +1,6 @@
 use Rattle.std.proofs.Common.{ap, ◌∙◌}
-use Rattle.run_settings.specs.Words.{Command}
-use Rattle.run_database.specs.Installed.{DatabaseAt}
+use Rattle.run_input.specs.Words.{Command}
+use Rattle.run_input.specs.Installed.{DatabaseAt}
 use Rattle.run_input.specs.Inputs.{Asked}
 use Rattle.run_input.proofs.Staged.{put_over}
 use Rattle.run_input.proofs.input.read_behind.Goals as goal

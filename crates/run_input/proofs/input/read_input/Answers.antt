@@ -1,6 +1,6 @@
 use Rattle.std.proofs.Common.{ap}
-use Rattle.run_settings.specs.Sites.{SettingsAt}
-use Rattle.run_settings.specs.Words.{Command}
+use Rattle.run_input.specs.Sites.{SettingsAt}
+use Rattle.run_input.specs.Words.{Command}
 use Rattle.run_input.specs.Inputs.{OverSettings}
 use Rattle.run_input.proofs.Paths.{later}
 use Rattle.run_input.proofs.Staged.{staged}

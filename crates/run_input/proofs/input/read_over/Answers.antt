@@ -1,5 +1,5 @@
 use Rattle.std.proofs.Common.{ap}
-use Rattle.run_settings.specs.Words.{Command}
+use Rattle.run_input.specs.Words.{Command}
 use Rattle.run_input.specs.Inputs.{Behind, InRepository}
 use Rattle.run_input.proofs.Paths.{later}
 use Rattle.run_input.proofs.Staged.{staged}

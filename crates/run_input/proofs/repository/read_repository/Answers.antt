@@ -1,6 +1,6 @@
 use Rattle.std.proofs.Common.{refl, []}
-use Rattle.run_settings.specs.Stages.{Is}
-use Rattle.recipe_files.specs.Sources.{pile_of}
+use Rattle.run_input.specs.Stages.{Is}
+use Rattle.run_input.specs.Sources.{pile_of}
 use Rattle.run_input.specs.Inputs.{Over}
 use Rattle.run_input.proofs.Staged.{put_over}
 use Rattle.run_input.proofs.repository.read_repository.Goals as goal

@@ -2,9 +2,9 @@ use Rattle.std.proofs.Common.{◌∙◌, rules}
 use Rattle.std.specs.Ordering.{is_lt, is_le}
 use Rattle.std.proofs.lemmas.List.Sorted.{IsPartitionPoint-from_clause}
 use Rattle.std.specs.declared.cmp.Ordering.{Ordering}
-use Rattle.conditions.specs.OfVariantValues.Texts.{byte_cmp}
-use Rattle.conditions.proofs.OfKeyedLists.RunLaws.{lt_parts, le_parts, run_bounds, run_is}
-use Rattle.conditions.specs.OfGraphCore.Graphs.{Text}
+use Rattle.recipe_data.specs.OfVariantValues.Texts.{byte_cmp}
+use Rattle.recipe_data.proofs.OfKeyedLists.RunLaws.{lt_parts, le_parts, run_bounds, run_is}
+use Rattle.recipe_data.specs.OfGraphCore.Graphs.{Text}
 use Rattle.virtuals.proofs.PairLaws.{firsts_rise, firsts_alike}
 use Rattle.virtuals.proofs.providers.run_of.Goals as goal
 

@@ -1,6 +1,6 @@
 use Rattle.std.proofs.Common.{◌∙◌, ap, not}
 use Rattle.std.specs.Str.{bytes_eq}
-use Rattle.conditions.specs.OfGraphCore.Graphs.{Text}
+use Rattle.recipe_data.specs.OfGraphCore.Graphs.{Text}
 use Rattle.virtuals.proofs.PairLaws.{some_kept}
 use Rattle.virtuals.proofs.providers.Providers.is_virtual.Goals as goal
 

@@ -1,8 +1,0 @@
-use Rattle.certificate_again.proofs.Accepted.{best_accepted, nothing_accepted}
-use Rattle.certificate_again.proofs.theorems.again_laws.Goals as goal
-
-pub returns : goal.returns
-returns c = record {
-  best = best_accepted c.checker_laws.ensures.accepted c.text_laws.ensures.written c.verdict_laws.ensures.best;
-  nothing = nothing_accepted c.checker_laws.ensures.accepted c.text_laws.ensures.written c.verdict_laws.ensures.nothing;
-}

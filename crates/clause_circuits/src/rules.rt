@@ -1,0 +1,171 @@
+//! The clauses of one gate.
+ghost use Rattle.std.specs.Prelude.{◌≡◌, [], ◌∷◌, ◌++◌, map, IfOk, OnOk};
+ghost use Rattle.clause_store.specs.Lits.{negation};
+ghost use Rattle.clause_circuits.specs.Gates.{kept_clauses, clauses_from, headed, gate_rules};
+ghost use Rattle.clause_circuits.specs.Shapes.{both, differ, odd, most, all_of, any_of, singles, cover_rules};
+
+use crate::gate::{Gate, Lits, Shape};
+use clause_store::{Clause, Lit};
+use std::alloc::{AllocError, Global};
+
+/// The clauses that give a literal the meaning of a gate.
+pub(crate) fn rules_of(alloc: Global, lit: Lit, gate: &Gate) -> Result<Vec<Clause>, AllocError>
+    ensures { IfOk result (λ rules. rules.items ≡ clauses_from (gate_rules lit gate.now)) }
+{
+    match &gate.shape {
+        Shape::Both(a, b) => rules_of_both(alloc, lit, *a, *b),
+        Shape::Differ(a, b) => rules_of_differ(alloc, lit, *a, *b),
+        Shape::Odd(a, b, c) => rules_of_odd(alloc, lit, *a, *b, *c),
+        Shape::Most(a, b, c) => rules_of_most(alloc, lit, *a, *b, *c),
+        Shape::AllOf(lits) => rules_of_all(alloc, lit, lits.as_slice()),
+        Shape::AnyOf(lits) => rules_of_any(alloc, lit, lits.as_slice()),
+        Shape::Given(on, off) => rules_of_given(alloc, lit, on.as_slice(), off.as_slice()),
+    }
+}
+
+// The clauses of a gate for two.
+fn rules_of_both(alloc: Global, x: Lit, a: Lit, b: Lit) -> Result<Vec<Clause>, AllocError>
+    ensures { IfOk result (λ rules. rules.items ≡ clauses_from (gate_rules x (both a b))) }
+{
+    let mut rules = Vec::with_capacity(alloc, 3)?;
+    push_rules(alloc, &mut rules, &[[x, a.negated(), b.negated()]])?;
+    push_rules(alloc, &mut rules, &[[x.negated(), a], [x.negated(), b]])?;
+    Ok(rules)
+}
+
+fn rules_of_differ(alloc: Global, x: Lit, a: Lit, b: Lit) -> Result<Vec<Clause>, AllocError>
+    ensures { IfOk result (λ rules. rules.items ≡ clauses_from (gate_rules x (differ a b))) }
+{
+    let (nx, na, nb) = (x.negated(), a.negated(), b.negated());
+    let mut rules = Vec::with_capacity(alloc, 4)?;
+    push_rules(
+        alloc,
+        &mut rules,
+        &[[x, na, b], [x, a, nb], [nx, a, b], [nx, na, nb]],
+    )?;
+    Ok(rules)
+}
+
+// The clauses of a gate for an odd number of three.
+fn rules_of_odd(alloc: Global, x: Lit, a: Lit, b: Lit, c: Lit) -> Result<Vec<Clause>, AllocError>
+    ensures { IfOk result (λ rules. rules.items ≡ clauses_from (gate_rules x (odd a b c))) }
+{
+    let (nx, na, nb, nc) = (x.negated(), a.negated(), b.negated(), c.negated());
+    let on = [[x, na, b, c], [x, a, nb, c], [x, a, b, nc], [x, na, nb, nc]];
+    let off = [
+        [nx, a, b, c],
+        [nx, a, nb, nc],
+        [nx, na, b, nc],
+        [nx, na, nb, c],
+    ];
+    let mut rules = Vec::with_capacity(alloc, 8)?;
+    push_rules(alloc, &mut rules, &on)?;
+    push_rules(alloc, &mut rules, &off)?;
+    Ok(rules)
+}
+
+fn rules_of_most(alloc: Global, x: Lit, a: Lit, b: Lit, c: Lit) -> Result<Vec<Clause>, AllocError>
+    ensures { IfOk result (λ rules. rules.items ≡ clauses_from (gate_rules x (most a b c))) }
+{
+    let (nx, na, nb, nc) = (x.negated(), a.negated(), b.negated(), c.negated());
+    let mut rules = Vec::with_capacity(alloc, 6)?;
+    push_rules(alloc, &mut rules, &[[x, na, nb], [x, na, nc], [x, nb, nc]])?;
+    push_rules(alloc, &mut rules, &[[nx, a, b], [nx, a, c], [nx, b, c]])?;
+    Ok(rules)
+}
+
+// The clauses of a gate for all of a list.
+fn rules_of_all(alloc: Global, x: Lit, lits: &[Lit]) -> Result<Vec<Clause>, AllocError>
+    ensures { IfOk result (λ rules. rules.items ≡ clauses_from (gate_rules x (all_of lits.now))) }
+{
+    let mut negated = Vec::with_capacity(alloc, lits.len() + 1)?;
+    negated.push(x)?;
+    for lit in lits {
+        negated.push(lit.negated())?;
+    }
+    let mut rules = Vec::with_capacity(alloc, lits.len() + 1)?;
+    push_rule(alloc, &mut rules, negated.as_slice())?;
+    for lit in lits {
+        push_rule(alloc, &mut rules, &[x.negated(), *lit])?;
+    }
+    Ok(rules)
+}
+
+/// The clauses of a gate for some literal of a list.
+pub(crate) fn rules_of_any(alloc: Global, x: Lit, lits: &[Lit]) -> Result<Vec<Clause>, AllocError>
+    ensures { IfOk result (λ rules. rules.items ≡ clauses_from (gate_rules x (any_of lits.now))) }
+{
+    let mut rules = rules_of_cover(alloc, x, lits)?;
+    push_headed(alloc, &mut rules, x.negated(), lits)?;
+    Ok(rules)
+}
+
+/// The clauses of its one side: the literal is true where some literal of the list is.
+pub(crate) fn rules_of_cover(alloc: Global, x: Lit, lits: &[Lit]) -> Result<Vec<Clause>, AllocError>
+    ensures { IfOk result (λ rules. rules.items ≡ clauses_from (cover_rules x lits.now)) }
+{
+    let mut rules = Vec::with_capacity(alloc, lits.len() + 1)?;
+    for lit in lits {
+        push_rule(alloc, &mut rules, &[x, lit.negated()])?;
+    }
+    Ok(rules)
+}
+
+// The clauses of a gate that is given by its clauses.
+fn rules_of_given(
+    alloc: Global,
+    x: Lit,
+    on: &[Lits],
+    off: &[Lits],
+) -> Result<Vec<Clause>, AllocError>
+    ensures { IfOk result (λ rules. rules.items
+        ≡ clauses_from (headed x on.now ++ headed (negation x) off.now)) }
+{
+    let mut rules = Vec::with_capacity(alloc, on.len() + off.len())?;
+    for lits in on {
+        push_headed(alloc, &mut rules, x, lits.as_slice())?;
+    }
+    for lits in off {
+        push_headed(alloc, &mut rules, x.negated(), lits.as_slice())?;
+    }
+    Ok(rules)
+}
+
+// The clause of a list with one literal more, if it doesn't always hold.
+fn push_headed(
+    alloc: Global,
+    rules: &mut Vec<Clause>,
+    head: Lit,
+    lits: &[Lit],
+) -> Result<(), AllocError>
+    ensures { OnOk result (rules.new.items ≡ rules.old.items ++ kept_clauses (head ∷ lits.now)) }
+{
+    let mut all = Vec::with_capacity(alloc, lits.len() + 1)?;
+    all.push(head)?;
+    all.extend_from_slice(lits)?;
+    push_rule(alloc, rules, all.as_slice())
+}
+
+// The clauses of some lists of one length.
+fn push_rules<const N: usize>(
+    alloc: Global,
+    rules: &mut Vec<Clause>,
+    lists: &[[Lit; N]],
+) -> Result<(), AllocError>
+    ensures { OnOk result (rules.new.items ≡ rules.old.items ++ clauses_from lists.now) }
+{
+    for lits in lists {
+        push_rule(alloc, rules, lits)?;
+    }
+    Ok(())
+}
+
+// One more clause, if it doesn't always hold.
+fn push_rule(alloc: Global, rules: &mut Vec<Clause>, lits: &[Lit]) -> Result<(), AllocError>
+    ensures { OnOk result (rules.new.items ≡ rules.old.items ++ kept_clauses lits.now) }
+{
+    if let Some(clause) = Clause::new(alloc, lits)? {
+        rules.push(clause)?;
+    }
+    Ok(())
+}

@@ -1,2 +1,0 @@
-pub mod BuiltNames
-pub mod OfRightRules

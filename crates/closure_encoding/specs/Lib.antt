@@ -1,4 +1,0 @@
-pub mod Closures
-pub mod OfGraphEncoding
-pub mod OfRightRules
-pub mod OfRightTables

@@ -1,2 +1,0 @@
-pub mod RankLaws
-pub mod IndexLaws

@@ -1,7 +1,0 @@
-use Rattle.std.proofs.Common.{◌≡◌, take, map}
-use Rattle.text_index.specs.Lent.{lent}
-use Rattle.text_index.proofs.Lent.{pair_of}
-use Rattle.cost_weights.proofs.indexes.ranked_by_version.Given as goal
-
-abbrev pub invariant-loop-one : goal.invariant-loop-one
-invariant-loop-one l = lent l.entries.items ≡ map (pair_of (λ r. r.row.version)) (take l.one-index l.ranked)

@@ -1,9 +1,0 @@
-use Rattle.std.proofs.lemmas.List.{take_all}
-use Rattle.std.proofs.lemmas.Result.{IfOk-weaker}
-use Rattle.text_index.proofs.Lent.{indexes}
-use Rattle.cost_weights.proofs.indexes.rows_by_version.Goals as goal
-
-pub returns : goal.returns
-returns c =
-    let all = rw (take_all c.loop-row.row-index c.args.rows.now c.loop-row-test.false) at c.loop-row.invariant in
-    IfOk-weaker c.new.result _ _ (λ index same. indexes (λ row. row.version) c.args.rows.now c.loop-row.entries.items index all same) c.new.ensures

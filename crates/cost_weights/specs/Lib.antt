@@ -1,2 +1,0 @@
--- what contracts say
-pub mod Ranks

@@ -1,4 +1,0 @@
--- what public contracts say
-pub mod Files
-pub mod Faults
-pub mod FaultTexts

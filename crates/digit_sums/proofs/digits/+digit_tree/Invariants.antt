@@ -1,5 +1,0 @@
-use Rattle.std.proofs.Common.{length}
-use Rattle.digit_sums.proofs.digits.+digit_tree.Given as goal
-
-abbrev pub decreases-digit_tree : goal.decreases-digit_tree
-decreases-digit_tree l = length l.terms.now

@@ -1,4 +1,0 @@
--- what public contracts say
-pub mod Answers
--- inside
-pub mod Attempts

@@ -1,0 +1,160 @@
+//! The reading of a problem, and the saying of its encoding.
+
+ghost use Rattle.std.specs.Prelude.{◌≡◌, true, IfOk, IfSome, OnOk};
+ghost use Rattle.outside_desk.specs.Causes.{Counts};
+ghost use Rattle.outside_desk.specs.Files.{and_said};
+ghost use Rattle.run_input.specs.Inputs.{IsPosed, Reads};
+ghost use Rattle.run_input.specs.Orders.{command_in};
+ghost use Rattle.run_input.specs.Stages.{Is, Then};
+ghost use Rattle.run_input.specs.Stops.{Gives, EndsInReadFault, EndsInOutputFault, EndsInPutFault};
+ghost use Rattle.run_input.specs.Words.{words_of};
+ghost use Rattle.dimacs_text.specs.Answers.{Asks, explained, text_of};
+ghost use Rattle.dimacs_text.specs.Attempts.{Attempts, IsReadStop, FailsToRead, FailsToPut, FailsToSay};
+
+use crate::{dimacs_text, rules_line};
+use outside_desk::{Desk, Sink, SinkFault};
+use problem_encoding::{encode_rules, with_costs};
+use run_input::{Input, ReadStop, Stop, WriteStop, read_input, read_order};
+use std::alloc::{AllocError, Global};
+use std::thread::Threads;
+
+/// The words of the command that reads what these name.
+#[tactic(auto, unfolding(crate::specs::Answers::explained))]
+fn explained(alloc: Global, words: &[String]) -> Result<Vec<String>, AllocError>
+    ensures { IfOk result (λ all. words_of all.items ≡ explained (words_of words.now)) }
+{
+    let mut all = Vec::new(alloc);
+    all.push(String::from_str(alloc, "explain")?)?;
+    for word in words {
+        all.push(word.clone()?)?;
+    }
+    Ok(all)
+}
+
+/// The text of the encoding of what was read.
+#[tactic(auto, unfolding(crate::specs::Answers::text_of))]
+fn text_of(alloc: Global, input: &Input) -> Result<Vec<u8>, AllocError>
+    requires { IsPosed input.now }
+    ensures { IfOk result (λ text. text.items ≡ text_of input.now.problem) }
+{
+    let problem = &input.problem;
+    let rules = encode_rules(alloc, problem, &input.closure)?;
+    let mut text = rules_line(alloc, &rules.clauses)?;
+    let encoded = with_costs(alloc, problem, rules)?;
+    let rest = dimacs_text(
+        alloc,
+        problem,
+        &encoded.clauses,
+        &encoded.bits,
+        &encoded.table,
+    )?;
+    text.extend_from_slice(rest.as_slice())?;
+    Ok(text)
+}
+
+/// Says a text on the sink of the answer.
+fn say<O: Sink>(alloc: Global, out: &mut O, text: &[u8]) -> Result<(), WriteStop>
+    ensures ok { OnOk result (O.said out.new ≡ and_said (O.said out.old) text.now) }
+    ensures cause { Counts (O.faults out.old) (O.faults out.new) (EndsInOutputFault result) }
+    ensures no_put { EndsInPutFault result → ⊥ }
+{
+    match out.say(alloc, text) {
+        Ok(()) => Ok(()),
+        Err(SinkFault::Failed) => Err(WriteStop::Output),
+        Err(SinkFault::OutOfMemory) => Err(WriteStop::NoMemory),
+    }
+}
+
+/// Says the encoding of what was read.
+fn say_encoded<O: Sink>(alloc: Global, out: &mut O, input: &Input) -> Result<(), WriteStop>
+    requires { IsPosed input.now }
+    ensures ok { OnOk result (O.said out.new
+        ≡ and_said (O.said out.old) (text_of input.now.problem)) }
+    ensures cause { Counts (O.faults out.old) (O.faults out.new) (EndsInOutputFault result) }
+    ensures no_put { EndsInPutFault result → ⊥ }
+{
+    let text = text_of(alloc, input)?;
+    say(alloc, out, text.as_slice())
+}
+
+/// The same, as a run ends.
+fn say_input<O: Sink>(alloc: Global, out: &mut O, input: &Input) -> Result<(), Stop>
+    requires { IsPosed input.now }
+    ensures ok { OnOk result (O.said out.new
+        ≡ and_said (O.said out.old) (text_of input.now.problem)) }
+    ensures cause { Counts (O.faults out.old) (O.faults out.new) (FailsToSay result) }
+    ensures no_put { FailsToPut result → ⊥ }
+    ensures no_read { IsReadStop result → ⊥ }
+{
+    match say_encoded(alloc, out, input) {
+        Ok(()) => Ok(()),
+        Err(stop) => Err(Stop::Write(stop)),
+    }
+}
+
+/// The problem that words name, which are those of a command.
+fn read_ordered<R: Threads + Sync, D: Desk>(
+    rt: &R,
+    alloc: Global,
+    words: &[String],
+    desk: &mut D,
+) -> Result<Input, ReadStop>
+    ensures read { IfSome (D.files desk.old) (λ files. Gives result
+        (Then (Is (command_in (words_of words.now))) (Reads files))) }
+    ensures posed { IfOk result IsPosed }
+    ensures cause { Counts (D.faults desk.old) (D.faults desk.new) (EndsInReadFault result) }
+    ensures same { D.files desk.new ≡ D.files desk.old }
+    ensures put_faults { D.put_faults desk.new ≡ D.put_faults desk.old }
+{
+    match read_order(alloc, words) {
+        Ok(command) => read_input(rt, alloc, desk, &command),
+        Err(stop) => Err(stop),
+    }
+}
+
+/// The problem that the words name.
+fn read_asked<R: Threads + Sync, D: Desk>(
+    rt: &R,
+    alloc: Global,
+    words: &[String],
+    desk: &mut D,
+) -> Result<Input, ReadStop>
+    ensures read { IfSome (D.files desk.old)
+        (λ files. Gives result (Asks files (words_of words.now))) }
+    ensures posed { IfOk result IsPosed }
+    ensures cause { Counts (D.faults desk.old) (D.faults desk.new) (EndsInReadFault result) }
+    ensures same { D.files desk.new ≡ D.files desk.old }
+    ensures put_faults { D.put_faults desk.new ≡ D.put_faults desk.old }
+{
+    match explained(alloc, words) {
+        Ok(all) => read_ordered(rt, alloc, all.as_slice(), desk),
+        Err(AllocError) => Err(ReadStop::NoMemory),
+    }
+}
+
+/// Reads the problem that the words name, and says its encoding.
+#[tactic(auto, using(crate::proofs::Ends::was_said, crate::proofs::Ends::was_stopped))]
+pub fn attempt<R: Threads + Sync, D: Desk, O: Sink>(
+    rt: &R,
+    alloc: Global,
+    words: &[String],
+    desk: &mut D,
+    out: &mut O,
+) -> Result<(), Stop>
+    ensures outcome { IfSome (D.files desk.old) (λ files. Attempts files (words_of words.now)
+        (O.said out.old) (O.said out.new) result) }
+    ensures read { Counts (D.faults desk.old) (D.faults desk.new) (FailsToRead result) }
+    ensures said { Counts (O.faults out.old) (O.faults out.new) (FailsToSay result) }
+    ensures no_put { FailsToPut result → ⊥ }
+    ensures same { D.files desk.new ≡ D.files desk.old }
+    ensures put_faults { D.put_faults desk.new ≡ D.put_faults desk.old }
+{
+    match read_asked(rt, alloc, words, desk) {
+        Ok(input) => {
+            let said = say_input(alloc, out, &input);
+            drop(input);
+            said
+        }
+        Err(stop) => Err(Stop::Read(stop)),
+    }
+}

@@ -1,6 +1,0 @@
-use Rattle.std.proofs.Common.{◌≡◌, take, reverse}
-use Rattle.gate_plans.specs.Gates.{with_gates}
-use Rattle.gate_plans.proofs.define.define_plan.Given as goal
-
-abbrev pub invariant-loop-gate : goal.invariant-loop-gate
-invariant-loop-gate l = l.clauses ≡ with_gates l.fn.clauses (reverse (take l.gate-index l.gate-items))

@@ -1,4 +1,0 @@
--- what public contracts say
-pub mod Weights
-pub mod Costs
-pub mod Optimal

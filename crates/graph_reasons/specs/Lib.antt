@@ -1,4 +1,0 @@
--- what public contracts say
-pub mod Explanations
-pub mod Grounds
-pub mod OfGraphCheck

@@ -1,7 +1,0 @@
-use Rattle.std.proofs.Common.{◌≡◌, ◌++◌, take, map}
-use Rattle.std.specs.List.{flat_map}
-use Rattle.right_rules.specs.Targets.{targets_at}
-use Rattle.problem_conditions.proofs.targets.push_all.Given as goal
-
-abbrev pub invariant-loop-block : goal.invariant-loop-block
-invariant-loop-block l = l.names.items ≡ l.initial.names.items ++ flat_map (λ block. targets_at l.problem l.table block.name) (take l.block-index l.table.blocks)

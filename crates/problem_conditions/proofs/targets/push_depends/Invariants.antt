@@ -1,8 +1,0 @@
-use Rattle.std.proofs.Common.{◌≡◌, ◌++◌, take, map}
-use Rattle.std.specs.List.{flat_map}
-use Rattle.graph_words.specs.Words.{names_for}
-use Rattle.right_rules.specs.Targets.{condition_names}
-use Rattle.problem_conditions.proofs.targets.push_depends.Given as goal
-
-abbrev pub invariant-loop-row : goal.invariant-loop-row
-invariant-loop-row l = l.names.items ≡ l.initial.names.items ++ flat_map (λ row. condition_names l.world (names_for l.table) row.when) (take l.row-index l.rows)

@@ -1,8 +1,0 @@
-use Rattle.std.proofs.Common.{◌≡◌, ◌++◌, take, map}
-use Rattle.std.specs.List.{flat_map}
-use Rattle.graph_words.specs.Words.{names_for}
-use Rattle.right_rules.specs.Targets.{spec_names}
-use Rattle.problem_conditions.proofs.targets.push_required.Given as goal
-
-abbrev pub invariant-loop-row : goal.invariant-loop-row
-invariant-loop-row l = l.names.items ≡ l.initial.names.items ++ flat_map (λ row. flat_map (spec_names l.world (names_for l.table)) row.specs) (take l.row-index l.rows)

@@ -1,5 +1,0 @@
-use Rattle.std.proofs.Common.{◌≡◌, take, map}
-use Rattle.problem_lookups.proofs.lookup.names_of.Given as goal
-
-abbrev pub invariant-loop-variant : goal.invariant-loop-variant
-invariant-loop-variant l = l.names.items ≡ map (λ v. v.0) (take l.variant-index l.variants)

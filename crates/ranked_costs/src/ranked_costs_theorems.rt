@@ -1,0 +1,26 @@
+//! What holds of the bits of costs behind the clauses of a closure.
+ghost use Rattle.ranked_costs.specs.Ranked.{ClosureInRange, ClosureSmall, ClosureCosts, ClosureSpells, LeastIsOptimal, NoModelNoGraph};
+
+use valid_models::closure_laws;
+use crate::limit_laws;
+use graph_rules::valid_laws;
+
+/// Behind the clauses of a closure, what `rank_costs` asks for holds, and its bits rank the graphs by
+/// their cost vectors. In each model they spell the vector of its graph. Within the limits its sums are small.
+pub fn costs_laws()
+    ensures range { ClosureInRange }
+    ensures small { ClosureSmall }
+    ensures ranks { ClosureCosts }
+    ensures spells { ClosureSpells }
+{
+    closure_laws();
+    limit_laws();
+}
+
+/// A model with the least bits decodes to an optimal graph; where there is no model, no graph is valid.
+pub fn optimum_laws()
+    ensures least { LeastIsOptimal }
+    ensures none { NoModelNoGraph }
+{
+    valid_laws();
+}

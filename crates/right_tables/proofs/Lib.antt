@@ -1,2 +1,0 @@
-pub mod RightTable
-pub mod OfTablePlan

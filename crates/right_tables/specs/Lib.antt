@@ -1,5 +1,0 @@
-pub mod Tables
-pub mod OfTablePlan
-pub mod OfTableNumbers
-pub mod OfGraphEncoding
-pub mod OfGraphDecoding

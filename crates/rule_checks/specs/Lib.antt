@@ -1,0 +1,3 @@
+-- inside
+pub mod Records
+pub mod Kinds

@@ -1,0 +1,143 @@
+// The variants of a node to build.
+ghost use Rattle.std.specs.Prelude.{◌≡◌, IfOk, map, filter};
+ghost use Rattle.std.specs.List.{list_all};
+ghost use Rattle.std.specs.Str.{bytes_eq};
+ghost use Rattle.std.specs.Cmp.Lexicographic.{pointwise};
+ghost use Rattle.condition_rules.specs.Words.{includes};
+ghost use Rattle.recipe_data.specs.Right.{is_count_of};
+ghost use Rattle.problem.specs.Problems.{applies};
+ghost use Rattle.graph_rules.specs.Built.{governed, allows, is_allowed, has_governed, keeps_variant};
+
+use condition_rules::governing;
+use recipe_data::VariantRow;
+use graph_core::Node;
+use plain_data::{Duplicate, Word};
+use problem::Problem;
+use problem::{Explored, applies, names_of, variants_at};
+use std::alloc::{AllocError, Global};
+use variant_values::{ValueSet, VariantKind};
+
+fn governed_names(
+    alloc: Global,
+    problem: &Problem,
+    graph: &Explored,
+    node: &Node,
+    rows: &[VariantRow],
+) -> Result<Vec<Word>, AllocError>
+    ensures { IfOk result (λ names. names.items ≡ map (λ row. row.name)
+        (filter (λ row. applies problem.now graph.now row.when node.now) rows.now)) }
+{
+    let mut names = Vec::new(alloc);
+    for row in rows {
+        if applies(alloc, problem, graph, &row.when, node)? {
+            names.push(row.name.duplicate(alloc)?)?;
+        }
+    }
+    Ok(names)
+}
+
+/// The variants with a governing definition, in byte order.
+fn governed(
+    alloc: Global,
+    problem: &Problem,
+    graph: &Explored,
+    node: &Node,
+) -> Result<ValueSet, AllocError>
+    ensures { IfOk result (λ names. names ≡ governed problem.now graph.now node.now) }
+{
+    let rows = variants_at(problem, node.name.as_str());
+    let names = governed_names(alloc, problem, graph, node, rows)?;
+    Ok(ValueSet::from_words(names))
+}
+
+fn same_names(a: &[Word], b: &[Word]) -> bool
+    ensures { result ≡ pointwise bytes_eq a.now b.now }
+{
+    a == b
+}
+
+fn has_governed(
+    alloc: Global,
+    problem: &Problem,
+    graph: &Explored,
+    node: &Node,
+) -> Result<bool, AllocError>
+    ensures { IfOk result (λ answer. answer ≡ has_governed problem.now graph.now node.now) }
+{
+    let wanted = governed(alloc, problem, graph, node)?;
+    let names = names_of(alloc, node.variants.as_slice())?;
+    Ok(same_names(names.as_slice(), wanted.values()))
+}
+
+fn is_count_of(kind: VariantKind, count: u64) -> bool
+    ensures { result ≡ is_count_of kind count }
+{
+    match kind {
+        VariantKind::Bool | VariantKind::Single => count == 1,
+        VariantKind::Multi => count > 0,
+    }
+}
+
+fn includes(values: &ValueSet, wanted: &ValueSet) -> bool
+    ensures { result ≡ includes values.now wanted.now }
+{
+    values.contains_all(wanted)
+}
+
+fn allows(values: &ValueSet, row: &VariantRow) -> bool
+    ensures { result ≡ allows values.now row.now }
+{
+    includes(&row.values, values) && is_count_of(row.kind, values.len())
+}
+
+fn is_allowed(
+    alloc: Global,
+    problem: &Problem,
+    graph: &Explored,
+    node: &Node,
+    variant: &(Word, ValueSet),
+) -> Result<bool, AllocError>
+    ensures { IfOk result (λ answer. answer ≡ is_allowed problem.now graph.now node.now
+        variant.now) }
+{
+    let world = problem.world();
+    match governing(alloc, &world, graph, node.name.as_str(), variant.0.as_str())? {
+        Some(row) => Ok(allows(&variant.1, row)),
+        None => Ok(false),
+    }
+}
+
+fn all_allowed(
+    alloc: Global,
+    problem: &Problem,
+    graph: &Explored,
+    node: &Node,
+    variants: &[(Word, ValueSet)],
+) -> Result<bool, AllocError>
+    ensures { IfOk result (λ answer. answer ≡ list_all (is_allowed problem.now graph.now node.now)
+        variants.now) }
+{
+    for variant in variants {
+        if !is_allowed(alloc, problem, graph, node, variant)? {
+            return Ok(false);
+        }
+    }
+    Ok(true)
+}
+
+/// Its variants are exactly those with a governing definition, which allows their values.
+#[tactic(auto, unfolding(graph_rules::specs::Built::keeps_variant))]
+pub fn keeps_variant(
+    alloc: Global,
+    problem: &Problem,
+    graph: &Explored,
+    node: &Node,
+) -> Result<bool, AllocError>
+    ensures { IfOk result (λ answer. answer ≡ keeps_variant problem.now graph.now node.now) }
+{
+    if !has_governed(alloc, problem, graph, node)? {
+        return Ok(false);
+    }
+    let allowed = all_allowed(alloc, problem, graph, node, node.variants.as_slice())?;
+    Ok(allowed)
+}

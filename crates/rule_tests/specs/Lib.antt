@@ -1,2 +1,0 @@
--- inside
-pub mod Kinds

@@ -1,1 +1,0 @@
-pub use Rattle.run_answers.proofs.StageLaws

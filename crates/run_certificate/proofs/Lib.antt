@@ -1,4 +1,0 @@
-pub mod Reading
-pub mod Next
-pub mod Shown
-mod Sayings

@@ -1,3 +1,0 @@
-pub mod Installed
--- what crates above name
-pub use Rattle.recorded_values.specs.Values

@@ -1,0 +1,65 @@
+//! The reading of a database.
+
+ghost use Rattle.std.specs.Prelude.{◌≡◌, ◌≤◌, ◌^◌, true, false, length, IfOk, IfSome};
+ghost use Rattle.std.specs.List.{list_all};
+ghost use Rattle.file_limits.specs.Values.{has_values};
+ghost use Rattle.problem.specs.Limits.{are_few_records};
+ghost use Rattle.outside_desk.specs.Causes.{Counts};
+ghost use Rattle.run_words.specs.Stops.{Gives, EndsByInput, EndsInReadFault, EndsInUsage};
+ghost use Rattle.run_words.specs.Words.{is_dash};
+ghost use Rattle.run_input.specs.Installed.{DatabaseIn, DatabaseAt, FailsThere};
+
+use file_limits::database_count_laws;
+use record_reader::read_database;
+use outside_desk::Desk;
+use file_limits::value_laws;
+use reuse_db::{Database, DbFault};
+use crate::{WholeFile, read_bytes};
+use run_words::{ReadStop, Refusal, is_dash};
+use std::alloc::Global;
+
+/// The database that the bytes of a file are.
+fn database_in(alloc: Global, bytes: &[u8]) -> Result<Database, ReadStop>
+    requires { length bytes.now ≤ 2 ^ 26 }
+    ensures read { Gives result (DatabaseIn bytes.now) }
+    ensures values { IfOk result (λ database. list_all has_values database ≡ true) }
+    ensures few { IfOk result (λ database. are_few_records database ≡ true) }
+    ensures no_usage { EndsInUsage result → ⊥ }
+    ensures no_fault { EndsInReadFault result → ⊥ }
+{
+    value_laws();
+    database_count_laws();
+    match read_database(alloc, bytes) {
+        Ok(database) => Ok(database),
+        Err(DbFault::OutOfMemory) => Err(ReadStop::NoMemory),
+        Err(fault) => Err(ReadStop::Refused(Refusal::BadDatabase(fault))),
+    }
+}
+
+/// The database that a path names: that of the file there, or one without records where the path is `-`.
+///
+/// # Errors
+///
+/// `MissingInput` where there is no such file, `DatabaseTooLarge` beyond 64 MiB, `BadDatabase` with the first
+/// fault of the text. `Fault` where the desk failed, with the path.
+pub fn read_installed<D: Desk>(
+    alloc: Global,
+    desk: &mut D,
+    path: &str,
+) -> Result<Database, ReadStop>
+    ensures read { IfSome (D.files desk.old) (λ files. Gives result (DatabaseAt files path.now)) }
+    ensures values { IfOk result (λ database. list_all has_values database ≡ true) }
+    ensures few { IfOk result (λ database. are_few_records database ≡ true) }
+    ensures path { FailsThere path.now result }
+    ensures no_usage { EndsInUsage result → ⊥ }
+    ensures same { D.files desk.new ≡ D.files desk.old }
+    ensures cause { Counts (D.faults desk.old) (D.faults desk.new) (EndsInReadFault result) }
+    ensures steady { EndsByInput result → D.faults desk.new ≡ D.faults desk.old }
+    ensures put_faults { D.put_faults desk.new ≡ D.put_faults desk.old }
+{
+    if is_dash(path) {
+        return Ok(Database::empty(alloc));
+    }
+    let bytes = read_bytes(alloc, desk, path, WholeFile::Database)?;
+    database_in(alloc, bytes.as_slice())
+}

@@ -1,0 +1,23 @@
+//! What holds of the input that any command names.
+
+ghost use Rattle.std.specs.Prelude.{◌≡◌, Result};
+ghost use Rattle.outside_desk.specs.Files.{Files};
+ghost use Rattle.run_input.specs.Refusal.{Refusal};
+ghost use Rattle.run_input.specs.Words.{Command};
+ghost use Rattle.run_input.specs.declared.input.Input.{Input};
+ghost use Rattle.run_input.specs.Inputs.{Reads};
+
+use crate::installed_laws;
+use crate::site_laws;
+use spec_grammar::reading_laws;
+
+/// A command names one input at most over files, or is due one refusal at most.
+pub fn input_laws()
+    ensures one { (files : Files) (command : Command) (a b : Result Input Refusal)
+        → Reads files command a
+        → Reads files command b → a ≡ b }
+{
+    reading_laws();
+    site_laws();
+    installed_laws();
+}

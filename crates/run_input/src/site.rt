@@ -1,0 +1,60 @@
+//! The reading of settings.
+
+ghost use Rattle.std.specs.Prelude.{◌≡◌, ◌≤◌, ◌^◌, true, false, length, IfOk, IfSome};
+ghost use Rattle.settings_reader.specs.Values.{are_valued};
+ghost use Rattle.problem.specs.Limits.{are_small};
+ghost use Rattle.outside_desk.specs.Causes.{Counts};
+ghost use Rattle.run_words.specs.Stops.{Gives, EndsByInput, EndsInReadFault, EndsInUsage};
+ghost use Rattle.run_words.specs.Words.{is_dash};
+ghost use Rattle.run_input.specs.Sites.{SettingsIn, SettingsAt, FailsThere};
+
+use outside_desk::Desk;
+use crate::{WholeFile, read_bytes};
+use run_words::{ReadStop, Refusal, is_dash};
+use file_limits::settings_count_laws;
+use settings_reader::{SettingsFault, read_settings, settings_laws};
+use site_settings::Settings;
+use std::alloc::Global;
+
+/// The settings that the bytes of a file say.
+fn settings_in(alloc: Global, bytes: &[u8]) -> Result<Settings, ReadStop>
+    requires { length bytes.now ≤ 2 ^ 24 }
+    ensures read { Gives result (SettingsIn bytes.now) }
+    ensures values { IfOk result (λ settings. are_valued settings ≡ true) }
+    ensures small { IfOk result (λ settings. are_small settings ≡ true) }
+    ensures no_usage { EndsInUsage result → ⊥ }
+    ensures no_fault { EndsInReadFault result → ⊥ }
+{
+    settings_laws();
+    settings_count_laws();
+    match read_settings(alloc, bytes) {
+        Ok(settings) => Ok(settings),
+        Err(SettingsFault::OutOfMemory) => Err(ReadStop::NoMemory),
+        Err(fault) => Err(ReadStop::Refused(Refusal::BadSettings(fault))),
+    }
+}
+
+/// The settings that a path names: those of the file there, or the standard ones where the path is `-`.
+///
+/// # Errors
+///
+/// `MissingInput` where there is no such file, `SettingsTooLarge` beyond 16 MiB, `BadSettings` with the first
+/// fault of the text. `Fault` where the desk failed, with the path.
+pub fn read_site<D: Desk>(alloc: Global, desk: &mut D, path: &str) -> Result<Settings, ReadStop>
+    ensures read { IfSome (D.files desk.old) (λ files. Gives result (SettingsAt files path.now)) }
+    ensures values { IfOk result (λ settings. are_valued settings ≡ true) }
+    ensures small { IfOk result (λ settings. are_small settings ≡ true) }
+    ensures path { FailsThere path.now result }
+    ensures no_usage { EndsInUsage result → ⊥ }
+    ensures same { D.files desk.new ≡ D.files desk.old }
+    ensures cause { Counts (D.faults desk.old) (D.faults desk.new) (EndsInReadFault result) }
+    ensures steady { EndsByInput result → D.faults desk.new ≡ D.faults desk.old }
+    ensures put_faults { D.put_faults desk.new ≡ D.put_faults desk.old }
+{
+    settings_count_laws();
+    if is_dash(path) {
+        return Ok(Settings::standard(alloc)?);
+    }
+    let bytes = read_bytes(alloc, desk, path, WholeFile::Settings)?;
+    settings_in(alloc, bytes.as_slice())
+}

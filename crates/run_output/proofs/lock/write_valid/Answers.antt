@@ -1,0 +1,7 @@
+use Rattle.run_output.proofs.Written.{can}
+use Rattle.run_output.proofs.lock.write_valid.Goals as goal
+
+pub write_lock-requires : goal.write_lock-requires
+write_lock-requires c =
+    rw (c.database.ensures, c.roots.ensures)
+    (can c.args.problem.now c.args.graph.now c.nodes-nodes.ensures.graph c.requires.keeps c.requires.texts)

@@ -1,2 +1,0 @@
-pub mod OneSite
-pub use Rattle.run_words.proofs.StageLaws

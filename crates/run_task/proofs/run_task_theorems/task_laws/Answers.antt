@@ -1,0 +1,12 @@
+use Rattle.run_task.proofs.Once.{one_posed}
+use Rattle.run_task.proofs.Weaker.{any_posed, none_posed}
+use Rattle.run_task.proofs.run_task_theorems.task_laws.Goals as goal
+
+pub returns-clause-one : goal.returns-clause-one
+returns-clause-one c = one_posed c.input_laws.ensures.one c.verdict_laws.ensures.one
+
+pub returns-clause-any : goal.returns-clause-any
+returns-clause-any c = any_posed c.certificate_laws.ensures
+
+pub returns-clause-none : goal.returns-clause-none
+returns-clause-none c = none_posed

@@ -1,5 +1,0 @@
-pub mod Outcomes
-pub mod Sums
-pub mod Externals
-pub mod Lists
-pub mod Whole

@@ -1,2 +1,0 @@
--- What public contracts say.
-pub mod Counts

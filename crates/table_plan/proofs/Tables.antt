@@ -1,0 +1,270 @@
+-- The table of a plan spells each graph that the plan offers.
+use Rattle.std.proofs.Common.{◌≡◌, refl, sym, ap, subst, ◌∙◌, ℕ, ◌+◌, ◌*◌, ◌<◌, ◌≤◌, Bool, true, false, ◌||◌, cond, List, [], ◌∷◌, ◌++◌, map, filter, length, Option, Some, None, Contains, All, ◌⊎◌, inl, inr, ⊎_elim, arith}
+use Rattle.std.specs.Option.{option_map, option_to_list, is_some}
+use Rattle.std.specs.Ordering.{eq_by_cmp, is_eq}
+use Rattle.std.specs.declared.cmp.Ordering.{Ordering}
+use Rattle.std.specs.declared.cmp.Ordering.TheVariants.{Less, Equal, Greater}
+use Rattle.std.specs.Str.{bytes_eq}
+use Rattle.std.specs.Cmp.{tied_itself}
+use Rattle.std.specs.Cmp.Lexicographic.{bytes_decides, nat_list_cmp_total}
+use Rattle.std.specs.List.Sorted.{IsStrictlySortedBy}
+use Rattle.std.proofs.lemmas.Bool.{cases_Bool, false≢true}
+use Rattle.std.proofs.lemmas.List.{length-map, length-append}
+use Rattle.std.proofs.lemmas.List.Elements.{All-contains}
+use Rattle.reachability.proofs.CountLaws.{has_first, has_later, first_or_later, has_image, image_of}
+use Rattle.variant_values.specs.Texts.{byte_cmp, IsInByteOrder}
+use Rattle.keyed_lists.specs.Keyed.{IsInOrder, find_key}
+use Rattle.keyed_lists.proofs.RiseLaws.{all_from, rises_above, rises_rest}
+use Rattle.keyed_lists.proofs.TextLaws.{texts_decide}
+use Rattle.graph_core.specs.Graphs.{Text, Content, pair_cmp, node_of, edge_of, provider_of}
+use Rattle.graph_core.proofs.PairLaws.{pair_exact, pair_total}
+use Rattle.graph_core.specs.declared.node.Node.{Node}
+use Rattle.graph_core.specs.declared.node.Edge.{Edge}
+use Rattle.graph_core.specs.declared.node.Kinds.{Kinds}
+use Rattle.condition_rules.specs.Words.{is_some_and}
+use Rattle.problem.specs.Nodes.{has_kind}
+use Rattle.possible_closure.proofs.Lists.{found-there}
+use Rattle.literal_table.specs.Choices.{Choices, chosen}
+use Rattle.literal_table.specs.Tables.{Table, IsTable, AreVariantsInOrder, name_of, ends_of, virtual_of, block_of, edge_lits_of, packages_of, packages_in}
+use Rattle.literal_table.specs.Spells.{SpellsNode, SpellsAt, SpellsEdge, Spells, chosen_kinds, with_kind}
+use Rattle.literal_table.specs.declared.block.Block.{Block}
+use Rattle.literal_table.specs.declared.block.EdgeLits.{EdgeLits}
+use Rattle.table_plan.specs.Gathering.{EachOnce}
+use Rattle.table_plan.specs.Offers.{Offers, IsOffered, IsPossible, IsPlan}
+use Rattle.table_plan.specs.declared.plan.Possible.{Possible}
+use Rattle.table_plan.specs.declared.plan.Plan.{Plan}
+use Rattle.table_plan.proofs.GatherLaws.{only_one}
+use Rattle.table_plan.specs.Numbers.{lit_of, numbered, values_in, width, widths, block_from, blocks_from, run, edge_from, edges_from, provider_from, providers_from, table_from, variables_of}
+use Rattle.table_plan.specs.Spellings.{node_bits, nodes_bits, edge_bits, edges_bits, providers_bits, graph_bits, with_bits, spelling, AgreeOutside}
+use Rattle.table_plan.proofs.ReadLaws.{Reads, reads_parts, reads_bits, bits_before, bits_after}
+use Rattle.table_plan.proofs.Choices.{numbered_reads, nothing_kept}
+use Rattle.table_plan.proofs.Blocks.{length-node_bits, block_ordered, block_named, node_read}
+
+-- ---- lengths
+
+length-nodes_bits : (graph : Content) (ps : List Possible) → length (nodes_bits graph ps) ≡ widths ps
+length-nodes_bits graph [] = refl
+length-nodes_bits graph (p ∷ ps) = omega (
+  arith,
+  length-append (node_bits p (node_of graph p.name)) (nodes_bits graph ps),
+  length-node_bits p (node_of graph p.name),
+  length-nodes_bits graph ps,
+)
+
+length-edge_bits : (o : Option Edge) → length (edge_bits o) ≡ 3
+length-edge_bits None = refl
+length-edge_bits (Some e) = refl
+
+length-edges_bits : (graph : Content) (pairs : List (Text × Text)) → length (edges_bits graph pairs) ≡ 3 * length pairs
+length-edges_bits graph [] = refl
+length-edges_bits graph (pair ∷ pairs) = omega (
+  arith,
+  length-append (edge_bits (edge_of graph pair.0 pair.1)) (edges_bits graph pairs),
+  length-edge_bits (edge_of graph pair.0 pair.1),
+  length-edges_bits graph pairs,
+)
+
+length-providers_bits : (graph : Content) (ws : List (Text × List Text)) → length (providers_bits graph ws) ≡ values_in ws
+length-providers_bits graph [] = refl
+length-providers_bits graph (w ∷ ws) = omega (
+  arith,
+  length-append (map (λ one. is_some_and (provider_of graph w.0) (λ p. bytes_eq p one)) w.1) (providers_bits graph ws),
+  length-map w.1 (λ one. is_some_and (provider_of graph w.0) (λ p. bytes_eq p one)),
+  length-providers_bits graph ws,
+)
+
+length-graph_bits : (plan : Plan) (graph : Content) → length (graph_bits plan graph) ≡ variables_of plan
+unfolding graph_bits variables_of
+length-graph_bits plan graph = omega (
+  arith,
+  length-append (nodes_bits graph plan.nodes) (edges_bits graph plan.edges ++ providers_bits graph plan.providers),
+  length-append (edges_bits graph plan.edges) (providers_bits graph plan.providers),
+  length-nodes_bits graph plan.nodes,
+  length-edges_bits graph plan.edges,
+  length-providers_bits graph plan.providers,
+)
+
+-- ---- small facts
+
+ties : (o : Ordering) → is_eq o ≡ true → o ≡ Equal
+ties Less h = absurd cc
+ties Equal h = refl
+ties Greater h = absurd cc
+
+apart : (a b : Text) → byte_cmp a b ≡ Less → a ≡ b → ⊥
+apart a b less e = let both : Less ≡ Equal = sym less ∙ ap (byte_cmp a) (sym e) ∙ tied_itself nat_list_cmp_total a in cc
+
+texts_once : (xs : List Text) → IsInByteOrder xs → EachOnce xs
+texts_once [] rising = tt
+texts_once (x ∷ xs) rising =
+    (λ there. apart x x (rises_above byte_cmp x xs rising x there) refl, texts_once xs (rises_rest byte_cmp x xs rising))
+
+nothing_there : {X : Type 0} (o : Option X) → ((x : X) → o ≡ Some x → ⊥) → o ≡ None
+nothing_there None f = refl
+nothing_there (Some x) f = absurd (f x refl)
+
+node_named : (graph : Content) (name : Text) (node : Node) → node_of graph name ≡ Some node → node.name ≡ name
+node_named graph name node e =
+    (texts_decide node.name name).0 (found-there (λ (n : Node). eq_by_cmp byte_cmp n.name name) graph.nodes node e).1
+
+-- ---- nodes, edges and providers
+
+module _ (v : ℕ → Bool) (graph : Content) where
+  nodes_read : (n : ℕ) (ps : List Possible) → IsInOrder byte_cmp (λ p. p.name) ps → All IsPossible ps → Reads v n (nodes_bits graph ps)
+      → (name : Text) → ((node : Node) → node_of graph name ≡ Some node → (p : Possible) × Contains ps p × (p.name ≡ name) × Offers p node)
+      → SpellsAt v (find_key byte_cmp name_of (blocks_from n ps) name) (node_of graph name)
+  nodes_read n [] rising is r name f = nothing_there (node_of graph name) (λ node e. let at = f node e in omega (arith, at.1.1))
+  nodes_read n (p ∷ ps) rising is r name f =
+      let parts = reads_parts v n (node_bits p (node_of graph p.name)) (nodes_bits graph ps) r in
+      let later = subst (λ m. Reads v (n + m) (nodes_bits graph ps)) (length-node_bits p (node_of graph p.name)) parts.1 in
+      let all = λ (q : Possible) (there : Contains ps q). All-contains IsPossible (p ∷ ps) q is (has_later p ps q there) in
+      let first : IsPossible p = All-contains IsPossible (p ∷ ps) p is (has_first p ps) in
+      let rest = nodes_read (n + width p) ps (rises_rest byte_cmp p.name (map (λ q. q.name) ps) rising) (all_from IsPossible ps all) later name in
+      ⊎_elim
+      (λ hit.
+      let key : p.name ≡ name = sym (block_named n p) ∙ (texts_decide (block_from n p).name name).0 hit in
+      rw hit (node_read v n p (node_of graph name) first
+      (λ node e. let at = f node e in ⊎_elim (λ same. subst (λ q. Offers q node) (sym same) at.3)
+      (λ in_ps. absurd (apart p.name at.0.name (rises_above byte_cmp p.name (map (λ q. q.name) ps) rising at.0.name
+      (has_image (λ (q : Possible). q.name) ps at.0 in_ps)) (key ∙ sym at.2)))
+      (first_or_later p ps at.0 at.1))
+      (subst (λ m. Reads v n (node_bits p (node_of graph m))) key parts.0)))
+      (λ miss. rw miss (rest (λ node e. let at = f node e in (
+        at.0,
+        ⊎_elim (λ same. absurd (false≢true (sym miss ∙ (texts_decide (block_from n p).name name).1
+            (block_named n p ∙ ap (λ (q : Possible). q.name) same ∙ at.2)))) (λ in_ps. in_ps) (first_or_later p ps at.0 at.1),
+        at.2,
+        at.3,
+      ))))
+      (cases_Bool (eq_by_cmp byte_cmp (block_from n p).name name))
+
+  edge_read : (n : ℕ) (pair : Text × Text) (o : Option Edge) → ((e : Edge) → o ≡ Some e → has_kind e.kinds ≡ true) → Reads v n (edge_bits o)
+      → SpellsEdge v (Some (edge_from n pair)) o
+  edge_read n pair None f r =
+      let two : v (n + 2) ≡ false = subst (λ m. v m ≡ false) (let e : n + 1 + 1 ≡ n + 2 = omega arith in e) r.1.1.0 in
+      rw (r.0, r.1.0, two) refl
+  edge_read n pair (Some e) f r =
+      let two : v (n + 2) ≡ e.kinds.run = subst (λ m. v m ≡ e.kinds.run) (let s : n + 1 + 1 ≡ n + 2 = omega arith in s) r.1.1.0 in
+      rw (r.0, r.1.0, two, f e refl) refl
+
+  edges_read : (n : ℕ) (pairs : List (Text × Text)) → Reads v n (edges_bits graph pairs) → (parent child : Text)
+      → ((e : Edge) → edge_of graph parent child ≡ Some e → Contains pairs (parent, child) × (has_kind e.kinds ≡ true))
+      → SpellsEdge v (find_key pair_cmp ends_of (edges_from n pairs) (parent, child)) (edge_of graph parent child)
+  edges_read n [] r parent child f = nothing_there (edge_of graph parent child) (λ e is. let at = f e is in omega (arith, at.0.1))
+  edges_read n (pair ∷ pairs) r parent child f =
+      let parts = reads_parts v n (edge_bits (edge_of graph pair.0 pair.1)) (edges_bits graph pairs) r in
+      let later = subst (λ m. Reads v (n + m) (edges_bits graph pairs)) (length-edge_bits (edge_of graph pair.0 pair.1)) parts.1 in
+      let rest = edges_read (n + 3) pairs later parent child in
+      ⊎_elim
+      (λ hit.
+      let same : pair ≡ (parent, child) = pair_exact pair (parent, child) (ties (pair_cmp pair (parent, child)) hit) in
+      rw hit (edge_read n pair (edge_of graph parent child) (λ e is. (f e is).1)
+      (subst (λ (p : Text × Text). Reads v n (edge_bits (edge_of graph p.0 p.1))) same parts.0)))
+      (λ miss. rw miss (rest (λ e is. let at = f e is in (
+        ⊎_elim (λ same. absurd (false≢true (sym miss ∙ ap is_eq (ap (λ (p : Text × Text). pair_cmp p (parent, child)) same
+            ∙ tied_itself pair_total (parent, child))))) (λ in_pairs. in_pairs) (first_or_later pair pairs (parent, child) at.0),
+        at.1,
+      ))))
+      (cases_Bool (eq_by_cmp pair_cmp pair (parent, child)))
+
+  packages_read : (n : ℕ) (packages : List Text) (o : Option Text) → IsInByteOrder packages → ((p : Text) → o ≡ Some p → Contains packages p)
+      → Reads v n (map (λ one. is_some_and o (λ p. bytes_eq p one)) packages) → chosen v (numbered n packages) ≡ option_to_list o
+  packages_read n packages None rising f r = numbered_reads v (λ one. false) n packages r ∙ nothing_kept packages
+  packages_read n packages (Some p) rising f r =
+      numbered_reads v (bytes_eq p) n packages r ∙ only_one bytes_eq bytes_decides packages p (texts_once packages rising) (f p refl)
+
+  providers_read : (n : ℕ) (ws : List (Text × List Text)) → IsInOrder byte_cmp (λ w. w.0) ws → All (λ w. IsInByteOrder w.1) ws
+      → Reads v n (providers_bits graph ws) → (name : Text)
+      → ((p : Text) → provider_of graph name ≡ Some p → (packages : List Text) × Contains ws (name, packages) × Contains packages p)
+      → chosen v (packages_in (find_key byte_cmp virtual_of (providers_from n ws) name)) ≡ option_to_list (provider_of graph name)
+  providers_read n [] rising is r name f =
+      sym (ap option_to_list (nothing_there (provider_of graph name) (λ p e. let at = f p e in omega (arith, at.1.1))))
+  providers_read n (w ∷ ws) rising is r name f =
+      let bits = map (λ one. is_some_and (provider_of graph w.0) (λ p. bytes_eq p one)) w.1 in
+      let parts = reads_parts v n bits (providers_bits graph ws) r in
+      let later = subst (λ m. Reads v (n + m) (providers_bits graph ws))
+      (length-map w.1 (λ one. is_some_and (provider_of graph w.0) (λ p. bytes_eq p one))) parts.1 in
+      let first : IsInByteOrder w.1 = All-contains (λ (u : Text × List Text). IsInByteOrder u.1) (w ∷ ws) w is (has_first w ws) in
+      let rest = providers_read (n + length w.1) ws (rises_rest byte_cmp w.0 (map (λ u. u.0) ws) rising)
+      (all_from (λ (u : Text × List Text). IsInByteOrder u.1) ws
+      (λ u there. All-contains (λ (x : Text × List Text). IsInByteOrder x.1) (w ∷ ws) u is (has_later w ws u there))) later name in
+      ⊎_elim
+      (λ hit.
+      let key : w.0 ≡ name = (texts_decide w.0 name).0 hit in
+      rw hit (packages_read n w.1 (provider_of graph name) first
+      (λ p e. let at = f p e in ⊎_elim (λ same. subst (λ (u : Text × List Text). Contains u.1 p) (sym same) at.2)
+      (λ in_ws. absurd (apart w.0 name (rises_above byte_cmp w.0 (map (λ u. u.0) ws) rising name
+      (has_image (λ (u : Text × List Text). u.0) ws (name, at.0) in_ws)) key))
+      (first_or_later w ws (name, at.0) at.1))
+      (subst (λ m. Reads v n (map (λ one. is_some_and (provider_of graph m) (λ p. bytes_eq p one)) w.1)) key parts.0)))
+      (λ miss. rw miss (rest (λ p e. let at = f p e in (
+        at.0,
+        ⊎_elim (λ same. absurd (false≢true (sym miss ∙ (texts_decide w.0 name).1 (ap (λ (u : Text × List Text). u.0) same)))) (λ in_ws. in_ws)
+            (first_or_later w ws (name, at.0) at.1),
+        at.2,
+      ))))
+      (cases_Bool (eq_by_cmp byte_cmp w.0 name))
+
+-- ---- all of it
+
+module _ (n : ℕ) (plan : Plan) (graph : Content) (is : IsPlan plan) (has : IsOffered plan graph) where
+  table_read : (v : ℕ → Bool) → Reads v n (graph_bits plan graph) → Spells v (table_from n plan) graph
+  unfolding graph_bits table_from
+  table_read v r =
+      let nodes = reads_parts v n (nodes_bits graph plan.nodes) (edges_bits graph plan.edges ++ providers_bits graph plan.providers) r in
+      let after = subst (λ m. Reads v (n + m) (edges_bits graph plan.edges ++ providers_bits graph plan.providers)) (length-nodes_bits graph plan.nodes) nodes.1 in
+      let edges = reads_parts v (n + widths plan.nodes) (edges_bits graph plan.edges) (providers_bits graph plan.providers) after in
+      let last = subst (λ m. Reads v (n + widths plan.nodes + m) (providers_bits graph plan.providers)) (length-edges_bits graph plan.edges) edges.1 in
+      record {
+        nodes = λ name. nodes_read v graph n plan.nodes is.nodes is.possible nodes.0 name (λ node e.
+            let at = has.nodes name node e in
+            (at.0, at.1, sym at.2.name ∙ node_named graph name node e, at.2));
+        edges = λ parent child. edges_read v graph (n + widths plan.nodes) plan.edges edges.0 parent child (has.edges parent child);
+        providers = λ name. providers_read v graph (n + widths plan.nodes + 3 * length plan.edges) plan.providers is.providers is.packages last name
+            (has.providers name);
+      }
+
+  pub spelled : (v : ℕ → Bool) → Spells (spelling n plan graph v) (table_from n plan) graph
+  unfolding spelling
+  spelled v = table_read (with_bits n (graph_bits plan graph) v) (reads_bits n (graph_bits plan graph) v)
+
+pub others_stay : (n : ℕ) (plan : Plan) (graph : Content) (v : ℕ → Bool) → AgreeOutside n (variables_of plan) (spelling n plan graph v) v
+unfolding spelling
+others_stay n plan graph v k = (
+  bits_before n (graph_bits plan graph) v k,
+  λ le. bits_after n (graph_bits plan graph) v k (omega (arith, le, length-graph_bits plan graph)),
+)
+
+-- ---- the table is in order
+
+made_keys : {X Y K : Type 0} (make : ℕ → X → Y) (width : X → ℕ) (key : Y → K) (from : X → K) → ((m : ℕ) (x : X) → key (make m x) ≡ from x)
+    → (n : ℕ) (xs : List X) → map key (run make width n xs) ≡ map from xs
+made_keys make width key from same n [] = refl
+made_keys make width key from same n (x ∷ xs) =
+    let first = same n x in
+    let rest = made_keys make width key from same (n + width x) xs in
+    λ i. first i ∷ rest i
+
+blocks_ordered : (n : ℕ) (ps : List Possible) → ((p : Possible) → Contains ps p → IsPossible p) → (b : Block) → Contains (blocks_from n ps) b
+    → AreVariantsInOrder b
+blocks_ordered n [] is b there = absurd (omega (arith, there.1))
+blocks_ordered n (p ∷ ps) is b there = ⊎_elim
+    (λ same. subst AreVariantsInOrder same (block_ordered n p (is p (has_first p ps))))
+    (λ later. blocks_ordered (n + width p) ps (λ q in_ps. is q (has_later p ps q in_ps)) b later)
+    (first_or_later (block_from n p) (blocks_from (n + width p) ps) b there)
+
+pair_itself : (pairs : List (Text × Text)) → map (λ pair. pair) pairs ≡ pairs
+pair_itself [] = refl
+pair_itself (pair ∷ pairs) = ap (λ ps. pair ∷ ps) (pair_itself pairs)
+
+pub table_right : (n : ℕ) (plan : Plan) → IsPlan plan → IsTable (table_from n plan)
+unfolding table_from
+table_right n plan is = record {
+  blocks = subst IsInByteOrder (sym (made_keys block_from width name_of (λ p. p.name) block_named n plan.nodes)) is.nodes;
+  edges = subst (IsStrictlySortedBy pair_cmp)
+      (sym (made_keys edge_from (λ pair. 3) ends_of (λ pair. pair) (λ m pair. refl) _ plan.edges ∙ pair_itself plan.edges)) is.edges;
+  providers = subst IsInByteOrder
+      (sym (made_keys provider_from (λ w. length w.1) virtual_of (λ w. w.0) (λ m w. refl) _ plan.providers)) is.providers;
+  variants = all_from AreVariantsInOrder (blocks_from n plan.nodes)
+      (blocks_ordered n plan.nodes (λ p there. All-contains IsPossible plan.nodes p is.possible there));
+}

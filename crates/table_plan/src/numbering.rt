@@ -1,0 +1,218 @@
+// The table of a plan.
+ghost use Rattle.std.specs.Prelude.{◌≡◌, ◌+◌, ◌*◌, [], ◌∷◌, length, IfOk, OnOk};
+ghost use Rattle.table_plan.specs.Offers.{IsPlan};
+ghost use Rattle.table_plan.specs.Numbers.{lit_of, numbered, attribute, width_of, variants_from, values_in, width, widths, block_from, blocks_from, edge_from, edges_from, provider_from, providers_from, table_from, variables_of};
+
+use clause_store::{Lit, Var};
+use literal_table::{Block, EdgeLits, LiteralTable, ProviderLits};
+use plain_data::{Duplicate, List, Word};
+use std::alloc::{AllocError, Global};
+use crate::{Plan, Possible};
+use variant_values::ValueSet;
+
+/// The table of a plan, whose variables go on from a number, the next one that is free.
+///
+/// Numbers that do not fit count as want of memory.
+#[tactic(auto, unfolding(crate::specs::Numbers::table_from, crate::specs::Numbers::variables_of))]
+pub fn table_from(alloc: Global, next: &mut u64, plan: &Plan) -> Result<LiteralTable, AllocError>
+    requires { IsPlan plan.now }
+    ensures table { IfOk result (λ table. table ≡ table_from next.old plan.now) }
+    ensures next { OnOk result (next.new ≡ next.old + variables_of plan.now) }
+{
+    let blocks = blocks_from(alloc, next, plan.nodes.as_slice())?;
+    let edges = edges_from(alloc, next, plan.edges.as_slice())?;
+    let providers = providers_from(alloc, next, plan.providers.as_slice())?;
+    Ok(LiteralTable::new(blocks, edges, providers))
+}
+
+fn new_lit(next: &mut u64) -> Result<Lit, AllocError>
+    ensures lit { IfOk result (λ lit. lit ≡ lit_of next.old) }
+    ensures next { OnOk result (next.new ≡ next.old + 1) }
+{
+    let number = *next;
+    if number == u64::MAX {
+        return Err(AllocError);
+    }
+    *next = number + 1;
+    Ok(Lit {
+        var: Var(number),
+        positive: true,
+    })
+}
+
+fn numbered<T: Duplicate>(
+    alloc: Global,
+    next: &mut u64,
+    items: &[T],
+) -> Result<List<(T, Lit)>, AllocError>
+    ensures choices { IfOk result (λ choices. choices ≡ numbered next.old items.now) }
+    ensures next { OnOk result (next.new ≡ next.old + length items.now) }
+{
+    let mut choices = List::new(alloc);
+    for item in items {
+        let lit = new_lit(next)?;
+        choices.push((item.duplicate(alloc)?, lit))?;
+    }
+    Ok(choices)
+}
+
+fn alone<T: Duplicate>(alloc: Global, item: &T, lit: Lit) -> Result<List<(T, Lit)>, AllocError>
+    ensures { IfOk result (λ choices. choices ≡ (item.now, lit) ∷ []) }
+{
+    let mut choices = List::new(alloc);
+    choices.push((item.duplicate(alloc)?, lit))?;
+    Ok(choices)
+}
+
+fn attribute<T: Duplicate>(
+    alloc: Global,
+    present: Lit,
+    next: &mut u64,
+    items: &[T],
+) -> Result<List<(T, Lit)>, AllocError>
+    ensures choices { IfOk result (λ choices. choices ≡ attribute present next.old items.now) }
+    ensures next { OnOk result (next.new ≡ next.old + width_of items.now) }
+{
+    match items {
+        [only] => {
+            let choices = alone(alloc, only, present)?;
+            Ok(choices)
+        }
+        _ => {
+            let choices = numbered(alloc, next, items)?;
+            Ok(choices)
+        }
+    }
+}
+
+fn variant_from(
+    alloc: Global,
+    next: &mut u64,
+    variant: &(Word, ValueSet),
+) -> Result<(Word, List<(Word, Lit)>), AllocError>
+    ensures variant { IfOk result (λ made. made ≡ (
+      variant.now.0,
+      numbered next.old variant.now.1,
+    )) }
+    ensures next { OnOk result (next.new ≡ next.old + length variant.now.1) }
+{
+    let values = numbered(alloc, next, variant.1.values())?;
+    Ok((variant.0.duplicate(alloc)?, values))
+}
+
+fn variants_from(
+    alloc: Global,
+    next: &mut u64,
+    variants: &[(Word, ValueSet)],
+) -> Result<List<(Word, List<(Word, Lit)>)>, AllocError>
+    ensures variants { IfOk result (λ made. made ≡ variants_from next.old variants.now) }
+    ensures next { OnOk result (next.new ≡ next.old + values_in variants.now) }
+{
+    let mut made = List::new(alloc);
+    for variant in variants {
+        let one = variant_from(alloc, next, variant)?;
+        made.push(one)?;
+    }
+    Ok(made)
+}
+
+#[tactic(auto, unfolding(crate::specs::Numbers::block_from))]
+fn block_from(alloc: Global, next: &mut u64, p: &Possible) -> Result<Block, AllocError>
+    ensures block { IfOk result (λ block. block ≡ block_from next.old p.now) }
+    ensures next { OnOk result (next.new ≡ next.old + width p.now) }
+{
+    let present = new_lit(next)?;
+    let origins = attribute(alloc, present, next, p.origins.as_slice())?;
+    let versions = attribute(alloc, present, next, p.versions.as_slice())?;
+    let variants = variants_from(alloc, next, p.variants.as_slice())?;
+    let compilers = attribute(alloc, present, next, p.compilers.as_slice())?;
+    let os = attribute(alloc, present, next, p.os.as_slice())?;
+    let targets = attribute(alloc, present, next, p.targets.as_slice())?;
+    let prefixes = attribute(alloc, present, next, p.prefixes.as_slice())?;
+    Ok(Block {
+        name: p.name.duplicate(alloc)?,
+        present,
+        origins,
+        versions,
+        variants,
+        compilers,
+        os,
+        targets,
+        prefixes,
+    })
+}
+
+fn blocks_from(alloc: Global, next: &mut u64, nodes: &[Possible]) -> Result<Vec<Block>, AllocError>
+    ensures blocks { IfOk result (λ blocks. blocks.items ≡ blocks_from next.old nodes.now) }
+    ensures next { OnOk result (next.new ≡ next.old + widths nodes.now) }
+{
+    let mut blocks = Vec::new(alloc);
+    for p in nodes {
+        let block = block_from(alloc, next, p)?;
+        blocks.push(block)?;
+    }
+    Ok(blocks)
+}
+
+fn edge_from(alloc: Global, next: &mut u64, pair: &(Word, Word)) -> Result<EdgeLits, AllocError>
+    ensures edge { IfOk result (λ edge. edge ≡ edge_from next.old pair.now) }
+    ensures next { OnOk result (next.new ≡ next.old + 3) }
+{
+    let build = new_lit(next)?;
+    let link = new_lit(next)?;
+    let run = new_lit(next)?;
+    Ok(EdgeLits {
+        parent: pair.0.duplicate(alloc)?,
+        child: pair.1.duplicate(alloc)?,
+        build,
+        link,
+        run,
+    })
+}
+
+fn edges_from(
+    alloc: Global,
+    next: &mut u64,
+    pairs: &[(Word, Word)],
+) -> Result<Vec<EdgeLits>, AllocError>
+    ensures edges { IfOk result (λ edges. edges.items ≡ edges_from next.old pairs.now) }
+    ensures next { OnOk result (next.new ≡ next.old + 3 * length pairs.now) }
+{
+    let mut edges = Vec::new(alloc);
+    for pair in pairs {
+        let edge = edge_from(alloc, next, pair)?;
+        edges.push(edge)?;
+    }
+    Ok(edges)
+}
+
+fn provider_from(
+    alloc: Global,
+    next: &mut u64,
+    asked: &(Word, List<Word>),
+) -> Result<ProviderLits, AllocError>
+    ensures provider { IfOk result (λ provider. provider ≡ provider_from next.old asked.now) }
+    ensures next { OnOk result (next.new ≡ next.old + length asked.now.1) }
+{
+    let packages = numbered(alloc, next, asked.1.as_slice())?;
+    Ok(ProviderLits {
+        name: asked.0.duplicate(alloc)?,
+        packages,
+    })
+}
+
+fn providers_from(
+    alloc: Global,
+    next: &mut u64,
+    virtuals: &[(Word, List<Word>)],
+) -> Result<Vec<ProviderLits>, AllocError>
+    ensures providers { IfOk result (λ providers. providers.items ≡ providers_from next.old virtuals.now) }
+    ensures next { OnOk result (next.new ≡ next.old + values_in virtuals.now) }
+{
+    let mut providers = Vec::new(alloc);
+    for asked in virtuals {
+        let provider = provider_from(alloc, next, asked)?;
+        providers.push(provider)?;
+    }
+    Ok(providers)
+}

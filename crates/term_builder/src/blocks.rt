@@ -1,0 +1,156 @@
+// What the node of a block adds to each criterion.
+ghost use Rattle.std.specs.Prelude.{◌≡◌, IfOk};
+ghost use Rattle.std.specs.Str.{bytes_eq};
+ghost use Rattle.condition_rules.specs.Words.{is_some_and};
+ghost use Rattle.cost_terms.specs.Terms.{is_root_name, presence_terms, provider_terms, edges_terms, over_variants_terms};
+ghost use Rattle.term_builder.specs.Rows.{compared};
+ghost use Rattle.term_builder.specs.VariantBuilderRows.{counted_terms};
+ghost use Rattle.term_builder.specs.Held.{held_in};
+ghost use Rattle.term_builder.specs.Criteria.{summed_terms, criterion_terms};
+
+use crate::criteria::{Criterion, Place, Summed};
+use crate::held::conditions_at;
+use clause_formulas::{Defined, Formula};
+use crate::push_providers;
+use cost_terms::{compiler_terms, deprecated_terms, os_terms, target_terms, version_terms};
+use crate::{Attribute, push_edges};
+use cost_terms::Weighted;
+use literal_table::{Block, LiteralTable};
+use plain_data::{List, Word};
+use problem::Problem;
+use spec_grammar::Spec;
+use std::alloc::{AllocError, Global};
+use crate::{Counted, push_variants};
+
+// ---- roots
+
+fn is_named(spec: &Spec, name: &str) -> bool
+    ensures { result ≡ is_some_and spec.now.top.name (bytes_eq name.now) }
+{
+    match &spec.top.name {
+        Some(root) => name == root.as_str(),
+        None => false,
+    }
+}
+
+// Whether a requested spec has the name.
+fn is_root_name(problem: &Problem, name: &str) -> bool
+    ensures { result ≡ is_root_name problem.now name.now }
+{
+    problem.roots().iter().any(|spec| is_named(spec, name))
+}
+
+// ---- what is summed
+
+fn presence_terms(alloc: Global, block: &Block) -> Result<Vec<Weighted>, AllocError>
+    ensures { IfOk result (λ terms. terms.items ≡ presence_terms block.now) }
+{
+    let mut terms = Vec::new(alloc);
+    terms.push(Weighted {
+        weight: 1,
+        formula: Formula::lit(block.present),
+    })?;
+    Ok(terms)
+}
+
+fn variant_terms(
+    alloc: Global,
+    which: Counted,
+    problem: &Problem,
+    held: &[(Word, List<Defined>)],
+    block: &Block,
+) -> Result<Vec<Weighted>, AllocError>
+    ensures { IfOk result (λ terms. terms.items
+        ≡ over_variants_terms (counted_terms which) problem.now (held_in held.now) block.now) }
+{
+    let mut terms = Vec::new(alloc);
+    let conditions = conditions_at(held, block.name.as_str());
+    push_variants(alloc, &mut terms, which, problem, conditions, block)?;
+    Ok(terms)
+}
+
+fn provider_terms(
+    alloc: Global,
+    problem: &Problem,
+    table: &LiteralTable,
+    block: &Block,
+) -> Result<Vec<Weighted>, AllocError>
+    ensures { IfOk result (λ terms. terms.items
+        ≡ provider_terms problem.now table.now block.now) }
+{
+    let mut terms = Vec::new(alloc);
+    push_providers(&mut terms, problem, table, block)?;
+    Ok(terms)
+}
+
+fn edge_terms(
+    alloc: Global,
+    attribute: Attribute,
+    table: &LiteralTable,
+    block: &Block,
+) -> Result<Vec<Weighted>, AllocError>
+    ensures { IfOk result (λ terms. terms.items
+        ≡ edges_terms (compared attribute) table.now block.now) }
+{
+    let mut terms = Vec::new(alloc);
+    push_edges(alloc, &mut terms, attribute, table, block)?;
+    Ok(terms)
+}
+
+#[tactic(auto, unfolding(crate::specs::Criteria::summed_terms))]
+fn summed_terms(
+    alloc: Global,
+    summed: Summed,
+    problem: &Problem,
+    table: &LiteralTable,
+    held: &[(Word, List<Defined>)],
+    block: &Block,
+) -> Result<Vec<Weighted>, AllocError>
+    ensures { IfOk result (λ terms. terms.items
+        ≡ summed_terms summed problem.now table.now (held_in held.now) block.now) }
+{
+    match summed {
+        Summed::Node => presence_terms(alloc, block),
+        Summed::Deprecated => deprecated_terms(alloc, problem, block),
+        Summed::Version => version_terms(alloc, problem, block),
+        Summed::OtherValues => variant_terms(alloc, Counted::Others, problem, held, block),
+        Summed::UnusedDefaults => variant_terms(alloc, Counted::Unused, problem, held, block),
+        Summed::Providers => provider_terms(alloc, problem, table, block),
+        Summed::Edges(attribute) => edge_terms(alloc, attribute, table, block),
+        Summed::Os => os_terms(alloc, problem, block),
+        Summed::Target => target_terms(alloc, problem, block),
+        Summed::Compiler => compiler_terms(alloc, problem, block),
+    }
+}
+
+/// What the node of a block adds to a criterion.
+pub(crate) fn criterion_terms(
+    alloc: Global,
+    criterion: Criterion,
+    problem: &Problem,
+    table: &LiteralTable,
+    held: &[(Word, List<Defined>)],
+    block: &Block,
+) -> Result<Vec<Weighted>, AllocError>
+    ensures { IfOk result (λ terms. terms.items
+        ≡ criterion_terms problem.now table.now (held_in held.now) criterion block.now) }
+{
+    let summed = criterion.summed;
+    match criterion.place {
+        Place::Anywhere => summed_terms(alloc, summed, problem, table, held, block),
+        Place::AtRoots => {
+            if is_root_name(problem, block.name.as_str()) {
+                summed_terms(alloc, summed, problem, table, held, block)
+            } else {
+                Ok(Vec::new(alloc))
+            }
+        }
+        Place::OffRoots => {
+            if is_root_name(problem, block.name.as_str()) {
+                Ok(Vec::new(alloc))
+            } else {
+                summed_terms(alloc, summed, problem, table, held, block)
+            }
+        }
+    }
+}

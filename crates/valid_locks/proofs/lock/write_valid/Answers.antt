@@ -1,7 +1,0 @@
-use Rattle.valid_locks.proofs.Written.{can}
-use Rattle.valid_locks.proofs.lock.write_valid.Goals as goal
-
-pub write_lock-requires : goal.write_lock-requires
-write_lock-requires c =
-    rw (c.database.ensures, c.roots.ensures)
-    (can c.args.problem.now c.args.graph.now c.nodes-nodes.ensures.graph c.requires.keeps c.requires.texts)

@@ -1,0 +1,13 @@
+pub mod RightTable
+pub mod OfTablePlan
+pub mod Words
+pub mod Mentions
+pub mod Terms
+pub mod Plain
+pub mod TargetLaws
+pub mod Found
+pub mod BuiltVariants
+pub mod Ranges
+pub mod Right
+pub mod OfGraphFormulas
+pub mod BuiltNames

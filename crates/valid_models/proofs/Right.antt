@@ -1,0 +1,321 @@
+-- The formulas of a problem are right, where paths are told to its targets.
+use Rattle.std.proofs.Common.{◌≡◌, refl, sym, ap, subst, ◌∙◌, Bool, true, false, ◌&&◌, ℕ, zero, suc, ◌≤◌, List, [], ◌∷◌, ◌++◌, map, Option, Some, None}
+use Rattle.std.specs.Prelude.{if◌then◌else◌, flat_map, slice_get}
+use Rattle.std.specs.List.{list_all}
+use Rattle.std.proofs.lemmas.List.Folds.{list_all-append, list_all-map}
+use Rattle.std.proofs.lemmas.Bool.{and_parts, and_from}
+use Rattle.spec_grammar.specs.declared.part.Spec.{Spec}
+use Rattle.clause_formulas.specs.Statements.{Statement, never, no, eval, all_of, any_of, all_eval, implies, SaidBelow}
+use Rattle.clause_formulas.specs.Drafts.{part_at}
+use Rattle.clause_formulas.specs.Rules.{Rule}
+use Rattle.clause_formulas.proofs.RuleLaws.{rule-below}
+use Rattle.clause_formulas.proofs.Words.{eval-all_of, all_of-below}
+use Rattle.clause_formulas.proofs.DraftLaws.{SaidBelow-le}
+use Rattle.graph_core.specs.Graphs.{Text, Content}
+use Rattle.graph_core.specs.Paths.{reaches_in}
+use Rattle.condition_rules.specs.Holds.{all_hold}
+use Rattle.recipe_data.specs.declared.recipe.Condition.{Condition}
+use Rattle.problem.specs.Nodes.{IsWellFormed}
+use Rattle.problem.specs.Problems.{Problem, world_of}
+use Rattle.problem.specs.declared.demand.Demand.{Demand}
+use Rattle.problem.specs.declared.demand.Demand.TheVariants as demand
+use Rattle.graph_rules.specs.Valid.{keeps, keeps_all, keeps_demand}
+use Rattle.graph_rules.specs.declared.rule.Rule.TheVariants as rules
+use Rattle.graph_rules.proofs.Lists.{In, In-map, contains-In, list_all-each}
+use Rattle.literal_table.specs.Tables as tables
+use Rattle.literal_table.specs.Tables.{Table, IsTable, block_of}
+use Rattle.literal_table.specs.Spells.{Spells}
+use Rattle.literal_table.specs.declared.block.Block.{Block}
+use Rattle.graph_formulas.specs.Facts.{Word, word_said, fact_said, said_in, has_origin}
+use Rattle.graph_formulas.specs.Lists.{given, written}
+use Rattle.graph_formulas.specs.Words.{SpellsPaths, names_for, rule_said}
+use Rattle.graph_formulas.specs.Parts.{condition_rule, holds_rule}
+use Rattle.graph_formulas.proofs.Parts.{condition-said}
+use Rattle.graph_formulas.specs.Terms.{Term, known, met, term_said, builds, known_rule, where_built, where_there}
+use Rattle.graph_formulas.specs.Directives.{root_rule}
+use Rattle.graph_formulas.specs.Built.{buildable_rule, version_rule, compiler_rule, machine_rule, provider_rule}
+use Rattle.graph_formulas.specs.Edges.{extra_edges_rule, used_rule, of_provider}
+use Rattle.graph_formulas.specs.Variants.{variants_rule}
+use Rattle.graph_formulas.specs.Kept.{kept_rule, origins_of}
+use Rattle.graph_formulas.specs.Demands.{demand_rule, directive_rule}
+use Rattle.graph_formulas.specs.Laws.{SpellsProblem, term_formula, rule_says, has_name, names_of, virtuals_of, children_of, variants_of}
+use Rattle.graph_formulas.proofs.GraphFormulasSaid.{demand-said, all-buildable, all-version, all-compiler, all-machine, all-extra_edge, all-kept, all-provider, all-used}
+use Rattle.graph_decoding.specs.Range.{IsTableBelow}
+use Rattle.graph_encoding.specs.Formulas.{PathFormulas, PathsTold, ConditionsTold, PathsBelow, MetBelow, AreRightFormulas, other_rules, part_of}
+use Rattle.graph_encoding.specs.Encodings.{told_in}
+use Rattle.valid_models.specs.Targets.{conditions_at, conditions_of, targets_at, asked_targets, targets_of, condition_names, spec_names}
+use Rattle.valid_models.specs.Joined.{Places, IsPlaced, placed_or, condition_said, condition_by, rule_rows, row_said, formulas_for, condition_holds, holds_at, HasBuiltVariants, WordsBelow}
+use Rattle.valid_models.proofs.Words.{AllWords, said-alike, each-if, named-all}
+use Rattle.valid_models.proofs.Mentions.{Alike, all-flat, condition-alike, holds-alike}
+use Rattle.valid_models.proofs.Terms as terms
+use Rattle.valid_models.proofs.Plain as plain
+use Rattle.valid_models.proofs.TargetLaws.{all-told, all-asked}
+use Rattle.valid_models.proofs.BuiltVariants.{all-built-variant}
+use Rattle.valid_models.proofs.Ranges.{words-below}
+use Rattle.valid_models.proofs.Found.{found-passes}
+
+abbrev constant : Bool → Statement
+constant b = if b then no never else never
+
+constant-is : (v : ℕ → Bool) (b : Bool) → eval v (constant b) ≡ b
+constant-is v true = refl
+constant-is v false = refl
+
+-- a formula of a list says each
+all-said : {X : Type 0} (v : ℕ → Bool) (f : X → Statement) (xs : List X) → eval v (all_of (map f xs)) ≡ list_all (λ x. eval v (f x)) xs
+all-said v f xs = eval-all_of v (map f xs) ∙ go xs
+  where
+    go : (xs : List _) → all_eval v (map f xs) ≡ list_all (λ x. eval v (f x)) xs
+    go [] = refl
+    go (x ∷ xs) = rw (go xs) refl
+
+-- what two tests say of a list
+all-alike : {X : Type 0} (p q test : X → Bool) → ((x : X) → test x ≡ true → p x ≡ q x) → (xs : List X) → list_all test xs ≡ true → list_all p xs ≡ list_all q xs
+all-alike p q test same [] e = refl
+all-alike p q test same (x ∷ xs) e = let h = and_parts (test x) (list_all test xs) e in rw (same x h.0, all-alike p q test same xs h.1) refl
+
+always : {X : Type 0} (xs : List X) → list_all (λ x. true) xs ≡ true
+always [] = refl
+always (x ∷ xs) = always xs
+
+all-from : {X : Type 0} (p q : X → Bool) → ((x : X) → p x ≡ true → q x ≡ true) → (xs : List X) → list_all p xs ≡ true → list_all q xs ≡ true
+all-from p q h [] e = refl
+all-from p q h (x ∷ xs) e = let a = and_parts (p x) (list_all p xs) e in and_from (q x) _ (h x a.0) (all-from p q h xs a.1)
+
+listed-below : {X : Type 0} (m : ℕ) (f : X → Statement) → ((x : X) → SaidBelow m (f x)) → (xs : List X) → SaidBelow m (any_of (map f xs))
+listed-below m f h [] = tt
+listed-below m f h (x ∷ xs) = (h x, listed-below m f h xs)
+
+-- ---- what is told
+
+module _ (problem : Problem) (t : Table) (told : Text → Bool) (all : list_all told (asked_targets problem t) ≡ true) where
+  parts : (list_all told (flat_map (targets_at problem t) (names_of t)) ≡ true)
+      × (list_all told (flat_map (spec_names (world_of problem) (names_for t)) problem.roots) ≡ true)
+  parts = and_parts _ _ (sym (list_all-append told (flat_map (targets_at problem t) (names_of t)) (flat_map (spec_names (world_of problem) (names_for t)) problem.roots)) ∙ all)
+
+  abbrev is_told_name : Text → Bool
+  is_told_name name = list_all told (targets_at problem t name)
+
+  abbrev is_told_when : Condition → Bool
+  is_told_when when = list_all told (condition_names (world_of problem) (names_for t) when)
+
+  told-names : list_all is_told_name (names_of t) ≡ true
+  told-names = sym (all-flat told (targets_at problem t) (names_of t)) ∙ parts.0
+
+  told-roots : list_all (λ spec. list_all told (spec_names (world_of problem) (names_for t) spec)) problem.roots ≡ true
+  told-roots = sym (all-flat told (spec_names (world_of problem) (names_for t)) problem.roots) ∙ parts.1
+
+  abbrev is_told_pair : Text × Condition → Bool
+  is_told_pair c = is_told_when c.1
+
+  abbrev pair_with : Text → Condition → Text × Condition
+  pair_with name when = (name, when)
+
+  told-at : (name : Text) → is_told_name name ≡ true → list_all is_told_pair (map (pair_with name) (conditions_at problem name)) ≡ true
+  told-at name e =
+      list_all-map is_told_pair (pair_with name) (conditions_at problem name)
+      ∙ sym (all-flat told (condition_names (world_of problem) (names_for t)) (conditions_at problem name))
+      ∙ (and_parts _ _ (sym (list_all-append told (flat_map (condition_names (world_of problem) (names_for t)) (conditions_at problem name)) _) ∙ e)).0
+
+  told-conditions : list_all is_told_pair (conditions_of problem t) ≡ true
+  told-conditions =
+      all-flat is_told_pair (λ name. map (pair_with name) (conditions_at problem name)) (names_of t)
+      ∙ all-from is_told_name (λ name. list_all is_told_pair (map (pair_with name) (conditions_at problem name))) told-at (names_of t) told-names
+
+  -- ---- one graph
+
+  module _ (table : IsTable t) (v : ℕ → Bool) (g : Content) (path : PathFormulas) (spells : Spells v t g) (formed : IsWellFormed g) (paths : PathsTold told path v g) where
+    -- as the formulas of paths, and constants where they tell nothing
+    abbrev exact : PathFormulas
+    exact from to = if told to then path from to else constant (reaches_in g from to)
+
+    same : (from to : Text) → told to ≡ true → eval v (path from to) ≡ eval v (exact from to)
+    same from to is = rw is refl
+
+    exact-says : (from to : Text) → eval v (exact from to) ≡ reaches_in g from to
+    exact-says from to = go (told to) refl
+      where
+        go : (b : Bool) → told to ≡ b → eval v (if b then path from to else constant (reaches_in g from to)) ≡ reaches_in g from to
+        go true is = paths from to is
+        go false is = constant-is v (reaches_in g from to)
+
+    whole : SpellsPaths v exact t g
+    whole = record { facts = spells; paths = exact-says }
+
+    when-alike : (name : Text) (when : Condition) → is_told_when when ≡ true → eval v (condition_said problem t path name when) ≡ eval v (condition_said problem t exact name when)
+    when-alike name when e = said-alike v (word_said path t) (word_said exact t) (condition_rule (world_of problem) (names_for t) name when)
+        (condition-alike v t path exact told same (world_of problem) (names_for t) name when e)
+
+    when-says : (name : Text) (when : Condition) → eval v (condition_said problem t exact name when) ≡ all_hold (world_of problem) when g name
+    when-says name when = condition-said (world_of problem) v exact t g whole name when
+
+    conditions-say : (cs : List (Text × Condition)) → list_all is_told_pair cs ≡ true → (k : ℕ)
+        → eval v (part_at (map (λ c. condition_said problem t path c.0 c.1) cs) k) ≡ condition_holds problem (slice_get cs k) g
+    conditions-say [] e k = refl
+    conditions-say (c ∷ cs) e zero = when-alike c.0 c.1 (and_parts (is_told_when c.1) _ e).0 ∙ when-says c.0 c.1
+    conditions-say (c ∷ cs) e (suc k) = conditions-say cs (and_parts (is_told_when c.1) _ e).1 k
+
+    -- ---- over values of conditions
+    module _ (place : Places) (placed : IsPlaced (conditions_of problem t) place) (met_by : ℕ → Statement) (conds : ConditionsTold (holds_at problem (conditions_of problem t)) met_by v g) where
+      abbrev cond_path : Text → Condition → Statement
+      cond_path = condition_by problem t place path met_by
+
+      abbrev cond_exact : Text → Condition → Statement
+      cond_exact = condition_by problem t place exact met_by
+
+      same-met : (name : Text) (when : Condition) → is_told_when when ≡ true → eval v (cond_path name when) ≡ eval v (cond_exact name when)
+      same-met name when e = go (place name when)
+        where
+          go : (o : Option ℕ) → eval v (placed_or met_by (condition_said problem t path name when) o) ≡ eval v (placed_or met_by (condition_said problem t exact name when) o)
+          go None = when-alike name when e
+          go (Some k) = refl
+
+      met-says : (name : Text) (when : Condition) → eval v (cond_exact name when) ≡ all_hold (world_of problem) when g name
+      met-says name when = go (place name when) refl
+        where
+          go : (o : Option ℕ) → place name when ≡ o → eval v (placed_or met_by (condition_said problem t exact name when) o) ≡ all_hold (world_of problem) when g name
+          go None at = when-says name when
+          go (Some k) at = conds k ∙ ap (λ c. condition_holds problem c g) (placed name when k at)
+
+      spelled : SpellsProblem problem v exact cond_exact t g
+      spelled = record { whole = whole; conditions = met-says; is_table = table; is_graph = formed.is_graph }
+
+      abbrev T : Term → Type 0
+      T = terms.TermAlike problem v t path exact told same cond_path cond_exact same-met
+
+      abbrev says_path : Rule Term → Bool
+      says_path rule = rule_says v path cond_path t rule
+
+      abbrev says_exact : Rule Term → Bool
+      says_exact rule = rule_says v exact cond_exact t rule
+
+      alike : (rule : Rule Term) → AllWords T rule → says_path rule ≡ says_exact rule
+      alike rule h = said-alike v (term_said path cond_path t) (term_said exact cond_exact t) rule h
+
+      plainly : (rule : Rule Word) → AllWords (Alike v t path exact told same) rule → T (known rule)
+      plainly rule h = terms.known-alike problem v t path exact told same cond_path cond_exact same-met rule h
+
+      -- one rule at all names that pass a test
+      row-says : (rule : Text → Rule Term) (test : Text → Bool) → ((name : Text) → test name ≡ true → AllWords T (rule name)) → (names : List Text)
+          → list_all test names ≡ true → eval v (row_said problem t path cond_path (rule, names)) ≡ list_all (λ name. says_exact (rule name)) names
+      row-says rule test h names e =
+          all-said v (λ name. term_formula path cond_path t (rule name)) names
+          ∙ all-alike (λ name. says_path (rule name)) (λ name. says_exact (rule name)) test (λ name is. alike (rule name) (h name is)) names e
+
+      -- at all names
+      row-free : (rule : Text → Rule Term) → ((name : Text) → AllWords T (rule name)) → (names : List Text)
+          → eval v (row_said problem t path cond_path (rule, names)) ≡ list_all (λ name. says_exact (rule name)) names
+      row-free rule h names = row-says rule (λ name. true) (λ name is. h name) names (always names)
+
+      rules-say : HasBuiltVariants problem t → eval v (all_of (map (row_said problem t path cond_path) (rule_rows problem t))) ≡ keeps_all other_rules problem g
+      rules-say has =
+          all-said v (row_said problem t path cond_path) (rule_rows problem t)
+          ∙ rw (
+            row-free (λ name. where_built name (known_rule (buildable_rule problem name))) (λ name. (refl, plainly (buildable_rule problem name) (plain.buildable-alike v t path exact told same problem name))) (names_of t)
+                ∙ all-buildable problem v exact cond_exact t g spelled,
+            row-free (λ name. where_built name (known_rule (version_rule problem name))) (λ name. (refl, plainly (version_rule problem name) (plain.version-alike v t path exact told same problem name))) (names_of t)
+                ∙ all-version problem v exact cond_exact t g spelled,
+            row-says (λ name. where_built name (variants_rule problem (variants_of t name) name)) is_told_name
+                (λ name e. (refl, terms.variants-alike problem v t path exact told same cond_path cond_exact same-met name e (variants_of t name))) (names_of t) told-names
+                ∙ all-built-variant problem v exact cond_exact t g spelled has,
+            row-free (λ name. where_built name (known_rule (compiler_rule problem name))) (λ name. (refl, plainly (compiler_rule problem name) (plain.compiler-alike v t path exact told same problem name))) (names_of t)
+                ∙ all-compiler problem v exact cond_exact t g spelled,
+            row-free (λ name. where_built name (known_rule (machine_rule problem name))) (λ name. (refl, plainly (machine_rule problem name) (plain.machine-alike v t path exact told same problem name))) (names_of t)
+                ∙ all-machine problem v exact cond_exact t g spelled,
+            row-says (λ name. where_built name (extra_edges_rule problem (names_for t) (children_of t name) name)) is_told_name
+                (λ name e. (refl, terms.extra-edges-alike problem v t path exact told same cond_path cond_exact same-met name e (children_of t name))) (names_of t) told-names
+                ∙ all-extra_edge problem v exact cond_exact t g spelled,
+            row-free (λ name. where_there name (known_rule (kept_rule problem (children_of t name) (origins_of t name) name)))
+                (λ name. (refl, plainly (kept_rule problem (children_of t name) (origins_of t name) name) (plain.kept-alike v t path exact told same problem (children_of t name) (origins_of t name) name))) (names_of t)
+                ∙ all-kept problem v exact cond_exact t g spelled,
+            row-free (λ name. of_provider (names_for t) (λ p. known_rule (provider_rule problem p)) name)
+                (terms.of-provider-alike problem v t path exact told same cond_path cond_exact same-met (λ p. known_rule (provider_rule problem p))
+                (λ p. plainly (provider_rule problem p) (plain.provider-alike v t path exact told same problem p))) (virtuals_of t)
+                ∙ all-provider problem v exact cond_exact t g spelled,
+            row-free (λ name. of_provider (names_for t) (used_rule problem (names_of t)) name)
+                (terms.of-provider-alike problem v t path exact told same cond_path cond_exact same-met (used_rule problem (names_of t))
+                (λ p. terms.used-alike problem v t path exact told same cond_path cond_exact same-met (names_of t) p told-names)) (virtuals_of t)
+                ∙ all-used problem v exact cond_exact t g spelled,
+          ) refl
+
+      -- ---- demands
+      root-alike : (spec : Spec) → list_all told (spec_names (world_of problem) (names_for t) spec) ≡ true → T (known (root_rule problem (names_for t) spec))
+      root-alike spec e = plainly (root_rule problem (names_for t) spec)
+          (named-all (Alike v t path exact told same) (λ name. holds_rule (world_of problem) (names_for t) name spec)
+          (λ name. holds-alike v t path exact told same (world_of problem) (names_for t) name spec e) spec.top.name)
+
+      roots-alike : (specs : List Spec) → list_all (λ spec. list_all told (spec_names (world_of problem) (names_for t) spec)) specs ≡ true → (k : ℕ)
+          → AllWords T (written (slice_get specs k) (λ spec. known_rule (root_rule problem (names_for t) spec)))
+      roots-alike [] e k = tt
+      roots-alike (spec ∷ specs) e zero = root-alike spec (and_parts _ _ e).0
+      roots-alike (spec ∷ specs) e (suc k) = roots-alike specs (and_parts _ _ e).1 k
+
+      directive-alike : (name : Text) (rule : Rule Term) → (is_told_name name ≡ true → AllWords T rule) → says_path (where_built name rule) ≡ says_exact (where_built name rule)
+      directive-alike name rule h = go (block_of t name) refl
+        where
+          go : (o : Option Block) → block_of t name ≡ o → says_path (where_built name rule) ≡ says_exact (where_built name rule)
+          go None at =
+              subst (λ o. eval v (implies (said_in (λ b. fact_said b (has_origin builds)) o) (term_formula path cond_path t rule))
+              ≡ eval v (implies (said_in (λ b. fact_said b (has_origin builds)) o) (term_formula exact cond_exact t rule))) (sym at) refl
+          go (Some b) at = alike (where_built name rule) (refl, h (found-passes is_told_name t.blocks name b told-names at))
+
+      -- of a name that the table does not have both say nothing
+      named-alike : (name : Text) (number : ℕ) (b : Bool) → says_path (if b then where_built name (directive_rule problem (names_for t) number name) else given true)
+          ≡ says_exact (if b then where_built name (directive_rule problem (names_for t) number name) else given true)
+      named-alike name number true = directive-alike name (directive_rule problem (names_for t) number name)
+          (λ e. terms.directive-alike problem v t path exact told same cond_path cond_exact same-met name e number)
+      named-alike name number false = refl
+
+      demand-says : (d : Demand) → says_path (demand_rule problem (names_for t) (has_name t) d) ≡ keeps_demand problem g d
+      demand-says (demand.Root place) = alike (demand_rule problem (names_for t) (has_name t) (demand.Root place)) (roots-alike problem.roots told-roots place)
+          ∙ demand-said problem v exact cond_exact t g spelled (demand.Root place)
+      demand-says (demand.Directive name number) = named-alike name number (has_name t name)
+          ∙ demand-said problem v exact cond_exact t g spelled (demand.Directive name number)
+
+-- ---- ranges
+
+module _ (problem : Problem) (t : Table) (n : ℕ) (words : WordsBelow n t) (m : ℕ) (path : PathFormulas) (le : n ≤ m) (paths : PathsBelow m path) where
+  when-below : (name : Text) (when : Condition) → SaidBelow m (condition_said problem t path name when)
+  when-below name when = rule-below m (word_said path t) (words m path le paths) (condition_rule (world_of problem) (names_for t) name when)
+
+  module _ (place : Places) (met_by : ℕ → Statement) (mets : MetBelow m met_by) where
+    term-below : (w : Term) → SaidBelow m (term_said path (condition_by problem t place path met_by) t w)
+    term-below (known rule) = rule-below m (word_said path t) (words m path le paths) rule
+    term-below (met name when) = go (place name when)
+      where
+        go : (o : Option ℕ) → SaidBelow m (placed_or met_by (condition_said problem t path name when) o)
+        go None = when-below name when
+        go (Some k) = mets k
+
+    formula-below : (rule : Rule Term) → SaidBelow m (term_formula path (condition_by problem t place path met_by) t rule)
+    formula-below rule = rule-below m (term_said path (condition_by problem t place path met_by) t) term-below rule
+
+    row-below : (row : (Text → Rule Term) × List Text) → SaidBelow m (row_said problem t path (condition_by problem t place path met_by) row)
+    row-below row = all_of-below m (map (λ name. term_formula path (condition_by problem t place path met_by) t (row.0 name)) row.1)
+        (listed-below m (λ name. term_formula path (condition_by problem t place path met_by) t (row.0 name)) (λ name. formula-below (row.0 name)) row.1)
+
+pub rules-right : (problem : Problem) (t : Table) (n : ℕ) (structure : List Statement) (place : Places) → IsTable t → IsTableBelow n t
+    → HasBuiltVariants problem t → IsPlaced (conditions_of problem t) place
+    → AreRightFormulas problem t n (formulas_for problem t structure (conditions_of problem t) place) (told_in t (targets_of problem t))
+    (holds_at problem (conditions_of problem t))
+rules-right problem t n structure place table below has placed = record {
+  conditions_say = λ v g path spells formed paths k.
+      conditions-say problem t told all table v g path spells formed paths (conditions_of problem t) (told-conditions problem t told all) k;
+  rules_say = λ v g path met spells formed paths conds. rules-say problem t told all table v g path spells formed paths place placed met conds has;
+  demand_says = λ v g path met d spells formed paths conds. demand-says problem t told all table v g path spells formed paths place placed met conds d;
+  conditions_below = λ m path le paths.
+      listed-below m (λ (c : Text × Condition). condition_said problem t path c.0 c.1) (λ c. when-below problem t n words m path le paths c.0 c.1) (conditions_of problem t);
+  rules_below = λ m path met le paths mets.
+      all_of-below m (map (row_said problem t path (condition_by problem t place path met)) (rule_rows problem t))
+      (listed-below m (row_said problem t path (condition_by problem t place path met)) (row-below problem t n words m path le paths place met mets) (rule_rows problem t));
+  demand_below = λ m path met d le paths mets. formula-below problem t n words m path le paths place met mets (demand_rule problem (names_for t) (has_name t) d);
+}
+  where
+    words : WordsBelow n t
+    words = words-below n t below
+
+    told : Text → Bool
+    told = told_in t (targets_of problem t)
+
+    all : list_all told (asked_targets problem t) ≡ true
+    all = all-asked told (asked_targets problem t) (all-told t (targets_of problem t))

@@ -1,0 +1,227 @@
+-- The words of rules of directives: conditions and paths alone are said in two ways, and alike where paths are told.
+use Rattle.std.proofs.Common.{◌≡◌, refl, ◌∙◌, sym, Bool, true, false, ◌&&◌, ℕ, List, [], ◌∷◌, map, Option, Some, None}
+use Rattle.std.specs.Prelude.{◌++◌, flat_map, if◌then◌else◌, ◌==◌, slice_get, filter}
+use Rattle.std.specs.List.{list_all}
+use Rattle.std.specs.Str.{bytes_eq}
+use Rattle.std.proofs.lemmas.List.Folds.{list_all-append, list_all-map}
+use Rattle.std.proofs.lemmas.Bool.{and_parts, and_from}
+use Rattle.spec_grammar.specs.declared.part.Spec.{Spec}
+use Rattle.clause_formulas.specs.Statements.{Statement, eval}
+use Rattle.clause_formulas.specs.Rules.{Rule, fact, if_so}
+use Rattle.graph_core.specs.Graphs.{Text}
+use Rattle.variant_values.specs.declared.kind.VariantKind.{VariantKind}
+use Rattle.variant_values.specs.declared.kind.VariantKind.TheVariants as kinds
+use Rattle.graph_core.specs.declared.node.Kinds.{Kinds}
+use Rattle.condition_rules.specs.Words.{is_some_and}
+use Rattle.virtuals.specs.Virtuals.{is_virtual}
+use Rattle.recipe_data.specs.declared.recipe.Condition.{Condition}
+use Rattle.recipe_data.specs.declared.recipe.VariantRow.{VariantRow}
+use Rattle.recipe_data.specs.declared.recipe.DependRow.{DependRow}
+use Rattle.recipe_data.specs.declared.recipe.ConflictRow.{ConflictRow}
+use Rattle.recipe_data.specs.declared.recipe.RequireRow.{RequireRow}
+use Rattle.problem.specs.Problems.{Problem, world_of, variants_at, depends_at, conflicts_at, requirements_at}
+use Rattle.problem.specs.declared.demand.Demand.{Demand}
+use Rattle.problem.specs.declared.demand.Demand.TheVariants as demand
+use Rattle.literal_table.specs.Tables.{Table}
+use Rattle.graph_formulas.specs.Facts.{Word, word_said, has_edge, provides_as}
+use Rattle.graph_formulas.specs.Lists.{◌and◌, given, written, named, each, some, last_one, just_one}
+use Rattle.graph_formulas.specs.Words.{names_for, rule_said}
+use Rattle.graph_formulas.specs.Parts.{holds_rule, asked_rule, suits_rule, provides_rule}
+use Rattle.graph_formulas.specs.Terms.{Term, known, met, term_said, known_rule, met_rule, built_rule}
+use Rattle.graph_formulas.specs.Directives.{root_rule, edge_to, edge_rule, suits_asked, constraint_rule, conflict_rule, choice_rule, requirement_rule}
+use Rattle.graph_formulas.specs.Edges.{no_kinds, asks_rule, may_ask, names_virtual, may_use, kind_rule, extra_edge_rule, extra_edges_rule, use_rule, used_rule, of_provider}
+use Rattle.graph_formulas.specs.Variants.{count_rule, definitions, variant_rule, variants_rule, allows_rule}
+use Rattle.graph_formulas.specs.Demands.{directive_rule}
+use Rattle.graph_encoding.specs.Formulas.{PathFormulas}
+use Rattle.valid_models.specs.Targets.{spec_names, condition_names, conditions_at, specs_at, targets_at}
+use Rattle.valid_models.proofs.Words.{AllWords, said-alike, given-all, written-all, named-all, each-all, some-all, each-if, some-if, just-if, last-if}
+use Rattle.valid_models.proofs.Mentions.{Alike, all-flat, asked-alike, suits-alike, holds-alike}
+
+-- a test of the filtered
+pub all-filtered : {X : Type 0} (p q : X → Bool) (xs : List X) → list_all p xs ≡ true → list_all p (filter q xs) ≡ true
+all-filtered p q [] e = refl
+all-filtered p q (x ∷ xs) e = let h = and_parts (p x) (list_all p xs) e in go (q x) h.0 (all-filtered p q xs h.1)
+  where
+    go : (b : Bool) → p x ≡ true → list_all p (filter q xs) ≡ true → list_all p (if b then x ∷ filter q xs else filter q xs) ≡ true
+    go true a rest = and_from (p x) _ a rest
+    go false a rest = rest
+
+-- of both of two lists that are tested
+pub both-all : {X : Type 0} (p q : X → Bool) (xs : List X) → list_all p xs ≡ true → list_all q xs ≡ true → list_all (λ x. p x && q x) xs ≡ true
+both-all p q [] e f = refl
+both-all p q (x ∷ xs) e f =
+    let a = and_parts (p x) (list_all p xs) e in
+    let b = and_parts (q x) (list_all q xs) f in
+    and_from (p x && q x) _ (and_from (p x) (q x) a.0 b.0) (both-all p q xs a.1 b.1)
+
+module _ (problem : Problem) (v : ℕ → Bool) (t : Table) (path other : PathFormulas) (told : Text → Bool)
+    (same : (from to : Text) → told to ≡ true → eval v (path from to) ≡ eval v (other from to))
+    (condition another : Text → Condition → Statement)
+    (same_met : (name : Text) (when : Condition) → list_all told (condition_names (world_of problem) (names_for t) when) ≡ true
+    → eval v (condition name when) ≡ eval v (another name when)) where
+  abbrev W : Word → Type 0
+  W = Alike v t path other told same
+
+  abbrev packages : Text → List Text
+  packages = names_for t
+
+  abbrev pub TermAlike : Term → Type 0
+  TermAlike w = eval v (term_said path condition t w) ≡ eval v (term_said other another t w)
+
+  abbrev pub is_told_condition : Condition → Bool
+  is_told_condition when = list_all told (condition_names (world_of problem) (names_for t) when)
+
+  abbrev pub is_told_spec : Spec → Bool
+  is_told_spec spec = list_all told (spec_names (world_of problem) (names_for t) spec)
+
+  pub known-alike : (rule : Rule Word) → AllWords W rule → TermAlike (known rule)
+  known-alike rule h = said-alike v (word_said path t) (word_said other t) rule h
+
+  spec-alike : (name : Text) (spec : Spec) → is_told_spec spec ≡ true → TermAlike (known (holds_rule (world_of problem) packages name spec))
+  spec-alike name spec e = known-alike (holds_rule (world_of problem) packages name spec) (holds-alike v t path other told same (world_of problem) packages name spec e)
+
+  -- ---- rows
+
+  edge-alike : (name : Text) (row : DependRow) → is_told_condition row.when ≡ true → AllWords TermAlike (edge_rule problem packages name row)
+  edge-alike name row e = (
+    same_met name row.when e,
+    known-alike (edge_to problem packages name row)
+        (named-all W (λ asked. asked_rule (world_of problem) packages asked (λ child. fact (has_edge name child row.kinds)))
+        (λ asked. asked-alike v t path other told same (world_of problem) packages asked (λ child. fact (has_edge name child row.kinds)) (λ child. refl)) row.part.name),
+  )
+
+  constraint-alike : (name : Text) (row : DependRow) → is_told_condition row.when ≡ true → AllWords TermAlike (constraint_rule problem packages name row)
+  constraint-alike name row e = (
+    same_met name row.when e,
+    known-alike (suits_asked problem packages row)
+        (named-all W (λ asked. asked_rule (world_of problem) packages asked (suits_rule (world_of problem) row.part asked))
+        (λ asked. asked-alike v t path other told same (world_of problem) packages asked (suits_rule (world_of problem) row.part asked) (suits-alike v t path other told same (world_of problem) packages row.part asked)) row.part.name),
+  )
+
+  conflict-alike : (name : Text) (row : ConflictRow) → is_told_condition row.when ≡ true → is_told_spec row.spec ≡ true → AllWords TermAlike (conflict_rule problem packages name row)
+  conflict-alike name row e f = (same_met name row.when e, spec-alike name row.spec f)
+
+  choice-alike : (name : Text) (row : RequireRow) → list_all is_told_spec row.specs ≡ true → AllWords TermAlike (choice_rule problem packages name row)
+  choice-alike name row e = go row.one_of
+    where
+      go : (b : Bool) → AllWords TermAlike (if b then just_one (λ spec. known_rule (holds_rule (world_of problem) packages name spec)) row.specs
+          else some (λ spec. known_rule (holds_rule (world_of problem) packages name spec)) row.specs)
+      go true = just-if TermAlike (λ spec. known_rule (holds_rule (world_of problem) packages name spec)) is_told_spec (spec-alike name) row.specs e
+      go false = some-if TermAlike (λ spec. known_rule (holds_rule (world_of problem) packages name spec)) is_told_spec (spec-alike name) row.specs e
+
+  requirement-alike : (name : Text) (row : RequireRow) → is_told_condition row.when ≡ true → list_all is_told_spec row.specs ≡ true
+      → AllWords TermAlike (requirement_rule problem packages name row)
+  requirement-alike name row e f = (same_met name row.when e, choice-alike name row f)
+
+  count-all : (name variant : Text) (kind : VariantKind) → AllWords W (count_rule name variant kind)
+  count-all name variant kinds.Bool = refl
+  count-all name variant kinds.Single = refl
+  count-all name variant kinds.Multi = refl
+
+  -- ---- all rows of a package
+
+  record ToldRows (name : Text) : Type 0 where
+    variants : list_all (λ row. is_told_condition row.when) (variants_at problem name) ≡ true
+    depends : list_all (λ row. is_told_condition row.when) (depends_at problem name) ≡ true
+    conflicts : list_all (λ row. is_told_condition row.when) (conflicts_at problem name) ≡ true
+    requirements : list_all (λ row. is_told_condition row.when) (requirements_at problem name) ≡ true
+    conflict_specs : list_all (λ row. is_told_spec row.spec) (conflicts_at problem name) ≡ true
+    requirement_specs : list_all (λ row. list_all is_told_spec row.specs) (requirements_at problem name) ≡ true
+
+  told-rows : (name : Text) → list_all told (targets_at problem t name) ≡ true → ToldRows name
+  told-rows name e =
+      let both = and_parts _ _ (sym (list_all-append told (flat_map (condition_names (world_of problem) packages) (conditions_at problem name)) (flat_map (spec_names (world_of problem) packages) (specs_at problem name))) ∙ e) in
+      let whens = sym (all-flat told (condition_names (world_of problem) packages) (conditions_at problem name)) ∙ both.0 in
+      let specs = sym (all-flat told (spec_names (world_of problem) packages) (specs_at problem name)) ∙ both.1 in
+      let a = and_parts _ _ (sym (list_all-append is_told_condition (map (λ row. row.when) (variants_at problem name)) _) ∙ whens) in
+      let b = and_parts _ _ (sym (list_all-append is_told_condition (map (λ row. row.when) (depends_at problem name)) _) ∙ a.1) in
+      let c = and_parts _ _ (sym (list_all-append is_told_condition (map (λ row. row.when) (conflicts_at problem name)) _) ∙ b.1) in
+      let s = and_parts _ _ (sym (list_all-append is_told_spec (map (λ row. row.spec) (conflicts_at problem name)) _) ∙ specs) in
+      record {
+        variants = sym (list_all-map is_told_condition (λ row. row.when) (variants_at problem name)) ∙ a.0;
+        depends = sym (list_all-map is_told_condition (λ row. row.when) (depends_at problem name)) ∙ b.0;
+        conflicts = sym (list_all-map is_told_condition (λ row. row.when) (conflicts_at problem name)) ∙ c.0;
+        requirements = sym (list_all-map is_told_condition (λ row. row.when) (requirements_at problem name)) ∙ c.1;
+        conflict_specs = sym (list_all-map is_told_spec (λ row. row.spec) (conflicts_at problem name)) ∙ s.0;
+        requirement_specs = sym (all-flat is_told_spec (λ row. row.specs) (requirements_at problem name)) ∙ s.1;
+      }
+
+  module _ (name : Text) (e : list_all told (targets_at problem t name) ≡ true) where
+    rows : ToldRows name
+    rows = told-rows name e
+
+    pub directive-alike : (number : ℕ) → AllWords TermAlike (directive_rule problem packages number name)
+    directive-alike number = (
+      (
+        each-if TermAlike (λ row. edge_rule problem packages name row and constraint_rule problem packages name row) (λ row. is_told_condition row.when)
+            (λ row h. (edge-alike name row h, constraint-alike name row h)) (filter (λ row. row.number == number) (depends_at problem name))
+            (all-filtered (λ row. is_told_condition row.when) (λ row. row.number == number) (depends_at problem name) rows.depends),
+        each-if TermAlike (conflict_rule problem packages name) (λ row. is_told_condition row.when && is_told_spec row.spec)
+            (λ row h. let p = and_parts (is_told_condition row.when) (is_told_spec row.spec) h in conflict-alike name row p.0 p.1) (filter (λ row. row.number == number) (conflicts_at problem name))
+            (all-filtered (λ row. is_told_condition row.when && is_told_spec row.spec) (λ row. row.number == number) (conflicts_at problem name)
+            (both-all (λ row. is_told_condition row.when) (λ row. is_told_spec row.spec) (conflicts_at problem name) rows.conflicts rows.conflict_specs)),
+      ),
+      each-if TermAlike (requirement_rule problem packages name) (λ row. is_told_condition row.when && list_all is_told_spec row.specs)
+          (λ row h. let p = and_parts (is_told_condition row.when) (list_all is_told_spec row.specs) h in requirement-alike name row p.0 p.1) (filter (λ row. row.number == number) (requirements_at problem name))
+          (all-filtered (λ row. is_told_condition row.when && list_all is_told_spec row.specs) (λ row. row.number == number) (requirements_at problem name)
+          (both-all (λ row. is_told_condition row.when) (λ row. list_all is_told_spec row.specs) (requirements_at problem name) rows.requirements rows.requirement_specs)),
+    )
+
+    defined : (variant : Text) → list_all (λ row. is_told_condition row.when) (definitions problem name variant) ≡ true
+    defined variant = all-filtered (λ row. is_told_condition row.when) (λ row. bytes_eq row.name variant) (variants_at problem name) rows.variants
+
+    pub variants-alike : (variants : List Text) → AllWords TermAlike (variants_rule problem variants name)
+    variants-alike variants = each-all TermAlike (variant_rule problem name)
+        (λ variant. (
+          (some-if TermAlike (λ row. met_rule name row.when) (λ row. is_told_condition row.when) (λ row h. same_met name row.when h) (definitions problem name variant) (defined variant), refl),
+          (
+            refl,
+            last-if TermAlike (λ row. met_rule name row.when) (λ row. known_rule (allows_rule name variant row)) (λ row. is_told_condition row.when)
+                (λ row h. same_met name row.when h) (λ row. known-alike (allows_rule name variant row) (allows-all row variant)) (definitions problem name variant) (defined variant),
+          ),
+        ))
+        variants
+      where
+        allows-all : (row : VariantRow) (variant : Text) → AllWords W (allows_rule name variant row)
+        allows-all row variant = (refl, count-all name variant row.kind)
+
+    kind-alike : (child : Text) (kinds : Kinds) (has : Kinds → Bool) → AllWords TermAlike (kind_rule problem packages kinds has name child)
+    kind-alike child kinds has = (
+      refl,
+      some-if TermAlike (asks_rule problem packages name child) (λ row. is_told_condition row.when)
+          (λ row h. (
+            same_met name row.when h,
+            known-alike (named row.part.name (λ asked. asked_rule (world_of problem) packages asked (λ n. given (bytes_eq n child))))
+                (named-all W (λ asked. asked_rule (world_of problem) packages asked (λ n. given (bytes_eq n child)))
+                (λ asked. asked-alike v t path other told same (world_of problem) packages asked (λ n. given (bytes_eq n child)) (λ n. given-all W (bytes_eq n child))) row.part.name),
+          ))
+          (filter (λ row. has row.kinds && may_ask problem packages child row) (depends_at problem name))
+          (all-filtered (λ row. is_told_condition row.when) (λ row. has row.kinds && may_ask problem packages child row) (depends_at problem name) rows.depends),
+    )
+
+    pub extra-edges-alike : (children : List Text) → AllWords TermAlike (extra_edges_rule problem packages children name)
+    extra-edges-alike children = each-all TermAlike (extra_edge_rule problem packages name)
+        (λ child. (
+          (kind-alike child (record no_kinds { build = true }) (λ kinds. kinds.build), kind-alike child (record no_kinds { link = true }) (λ kinds. kinds.link)),
+          kind-alike child (record no_kinds { run = true }) (λ kinds. kinds.run),
+        )) children
+
+    pub use-alike : (p : Text × Text) → AllWords TermAlike (use_rule problem p name)
+    use-alike p = (
+      (refl, refl),
+      some-if TermAlike (λ row. met_rule name row.when) (λ row. is_told_condition row.when) (λ row h. same_met name row.when h)
+          (filter (names_virtual p.0) (depends_at problem name))
+          (all-filtered (λ row. is_told_condition row.when) (names_virtual p.0) (depends_at problem name) rows.depends),
+    )
+
+  pub used-alike : (names : List Text) (p : Text × Text) → list_all (λ name. list_all told (targets_at problem t name)) names ≡ true
+      → AllWords TermAlike (used_rule problem names p)
+  used-alike names p e = (
+    given-all TermAlike (is_virtual problem.recipes p.0),
+    some-if TermAlike (use_rule problem p) (λ name. list_all told (targets_at problem t name)) (λ name h. use-alike name h p) (filter (may_use problem p.0) names)
+        (all-filtered (λ name. list_all told (targets_at problem t name)) (may_use problem p.0) names e),
+  )
+
+  pub of-provider-alike : (rule : Text × Text → Rule Term) → ((p : Text × Text) → AllWords TermAlike (rule p)) → (virtual : Text)
+      → AllWords TermAlike (of_provider packages rule virtual)
+  of-provider-alike rule h virtual = each-all TermAlike (λ p. if_so (known_rule (fact (provides_as virtual p))) (rule (virtual, p))) (λ p. (refl, h (virtual, p))) (packages virtual)
