@@ -59,7 +59,7 @@ module _ (problem : Problem) (rules : Rules) (ruled : AreRules problem rules) (d
       record {
         alone = λ graph well ok.
             let w = has_models problem own (λ v. decode v (table_of problem)) (demands_at problem numbers) (stands numbers) graph decodes well ok
-                (asked_at problem numbers) in
+            (asked_at problem numbers) in
             no_model own log numbers w.0 rising ([], refuted) rests w.2;
         none = nothing problem own (λ v. decode v (table_of problem)) decodes
             (subst (λ (s : Clauses). IsBest s [] budget (Refuted log)) ruled.clauses best);

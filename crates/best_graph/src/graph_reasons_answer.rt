@@ -11,8 +11,8 @@ ghost use Rattle.best_graph.specs.Explanations.{Explains};
 ghost use Rattle.best_graph.specs.Grounds.{RestsOn};
 
 use crate::explanation::Explanation;
-use explain_failure::{reason_laws, reasons};
 use crate::{Progress, Rules, Stage, encode_rules};
+use explain_failure::{reason_laws, reasons};
 use graph_encoding::demand_laws;
 use optimum_search::{Found, found_laws, search};
 use possible_closure::Closure;

@@ -24,10 +24,10 @@
 
 mod answer;
 mod best;
+mod explanation;
+mod graph_reasons_answer;
 mod meaning;
 mod theorems;
-mod graph_reasons_answer;
-mod explanation;
 
 pub use answer::Answer;
 pub use best::best_graph;
@@ -36,6 +36,7 @@ pub use graph_reasons_answer::explain;
 // What is told of a run.
 pub use optimum_search::{Progress, Stage, Untold};
 // What crates above encode with.
-pub use problem_encoding::{Encoded, Rules, encode, encode_rules, has_right_values, may_encode, values_of, with_costs};
+pub use problem_encoding::{
+    Encoded, Rules, encode, encode_rules, has_right_values, may_encode, values_of, with_costs,
+};
 pub use theorems::verdict_laws;
-

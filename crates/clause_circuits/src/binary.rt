@@ -7,8 +7,8 @@ ghost use Rattle.clause_circuits.specs.Binary.{size, weighed, first_bit, add_on,
 ghost use Rattle.clause_circuits.specs.Built.{IsBuilt};
 
 use crate::cells::{known, odd_of, present, tied_carry};
-use clause_store::{ClauseList, Lit};
 use crate::{Plan, define_plan};
+use clause_store::{ClauseList, Lit};
 use smallvec::SmallVec;
 use std::alloc::{AllocError, Global};
 

@@ -4,8 +4,8 @@ ghost use Rattle.clause_circuits.specs.Gates.{option_list};
 ghost use Rattle.clause_circuits.specs.Cells.{odd_on, carry_on, both_with as both_gate, most_with as most_gate, tied_on, known_on};
 ghost use Rattle.clause_circuits.specs.Binary.{present};
 
-use clause_store::Lit;
 use crate::{Gate, Lits, Plan};
+use clause_store::Lit;
 use smallvec::SmallVec;
 use std::alloc::{AllocError, Global};
 

@@ -7,8 +7,8 @@ ghost use Rattle.clause_circuits.specs.Choices.{any_on, some_on, ones_on, withou
 ghost use Rattle.clause_circuits.specs.Built.{IsBuilt};
 
 use crate::cells::{carry_of, known, present};
-use clause_store::{ClauseList, Lit};
 use crate::{Gate, Plan, define_plan};
+use clause_store::{ClauseList, Lit};
 use std::alloc::{AllocError, Global};
 
 /// A literal that is true exactly where some literal of the list is. One literal is its own.

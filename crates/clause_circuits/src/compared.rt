@@ -7,8 +7,8 @@ ghost use Rattle.clause_circuits.specs.Compared.{all_on, less_from, less_on, sam
 ghost use Rattle.clause_circuits.specs.Built.{IsBuilt};
 
 use crate::cells::{carry_of, known, present};
-use clause_store::{ClauseList, Lit};
 use crate::{Gate, Plan, define_plan};
+use clause_store::{ClauseList, Lit};
 use std::alloc::{AllocError, Global};
 
 /// A literal that is true exactly where each literal of the list is. One literal is its own.

@@ -13,14 +13,14 @@
 //! `gate_plans`, and its `plan_` calls plan without adding. It must not know what literals are for.
 #![tactic(auto)]
 
-mod define;
-mod gate;
-mod plan;
-mod rules;
 mod binary;
 mod cells;
 mod choices;
 mod compared;
+mod define;
+mod gate;
+mod plan;
+mod rules;
 
 pub use binary::{plan_bits, size, sum_bits, total};
 pub use choices::{exactly_one, full_adder, or};
@@ -28,4 +28,3 @@ pub use compared::{and, equal_number, less_number};
 pub use define::{define_any, define_cover, define_plan};
 pub use gate::{Gate, Lits};
 pub use plan::Plan;
-

@@ -10,8 +10,8 @@ use crate::defined::{Defined, Draft};
 use crate::formula::{Formula, Node};
 use crate::gates::Gates;
 use crate::spread::spread_any;
-use clause_store::{Clause, ClauseList, Lit};
 use clause_circuits::define_cover;
+use clause_store::{Clause, ClauseList, Lit};
 use std::alloc::{AllocError, Global};
 
 /// Adds literals to a draft of which none is true unless the formula is. Each assignment extends to

@@ -6,8 +6,8 @@ ghost use Rattle.clause_circuits.specs.Growth.{Extends};
 ghost use Rattle.clause_formulas.specs.Gated.{gate_of, gated, GatesBelow, Keeps};
 ghost use Rattle.clause_formulas.specs.Built.{or_on, or_in};
 
-use clause_store::{ClauseList, Lit};
 use clause_circuits::define_any;
+use clause_store::{ClauseList, Lit};
 use indexmap::IndexMap;
 use std::alloc::{AllocError, Global};
 use std::marker::Model;

@@ -18,14 +18,14 @@
 mod asked;
 mod claims;
 mod defined;
+mod exactly_one_theorems;
+mod few;
 mod formula;
 mod gates;
 mod range;
 mod spread;
 mod theorems;
 mod values;
-mod few;
-mod exactly_one_theorems;
 
 pub use claims::{assert, assert_in, demand_all_in, demand_in};
 pub use defined::Defined;
@@ -36,4 +36,3 @@ pub use gates::Gates;
 pub use range::{are_below, is_below};
 pub use theorems::{gate_laws, rule_laws, word_laws, worked_claims, worked_gates, worked_values};
 pub use values::{define, define_all_in, define_in, literal};
-

@@ -10,8 +10,8 @@ ghost use Rattle.clause_watch.specs.Watches.{IsWatch};
 ghost use Rattle.clause_solver.specs.Marks.{AreClear};
 ghost use Rattle.clause_solver.specs.Lessons.{IsKnown, Resolves, IsTop, LeadsBack, KeepsBack, IsLowReason, DerivesRest, IsLevelBelow, IsBackLevel, IsLesson};
 
-use crate::marks::{Marks, last_marked};
 use crate::Order;
+use crate::marks::{Marks, last_marked};
 use clause_store::{Clause, Lit};
 use clause_watch::Watch;
 use plain_data::List;

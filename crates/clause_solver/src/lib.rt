@@ -16,10 +16,10 @@
 //! round, and `solver` keeps what callers see. None of them knows how the watch finds clauses.
 #![tactic(auto)]
 
-mod order;
 mod analysis;
 mod choice;
 mod marks;
+mod order;
 mod outcome;
 mod pace;
 mod search;
@@ -28,4 +28,3 @@ mod solver;
 pub use order::Order;
 pub use outcome::Outcome;
 pub use solver::Solver;
-

@@ -13,12 +13,11 @@ ghost use Rattle.clause_solver.specs.Searches.{value_of, IsSearch, IsReady, IsAs
 ghost use Rattle.proof_log.specs.Known.{has_var};
 ghost use Rattle.proof_log.specs.Usefulness.{IsSettled};
 
-use crate::Outcome;
 use crate::analysis::{Lesson, learn, refute};
 use crate::choice::{Move, go_back, is_closing, next, values_of};
 use crate::marks::Marks;
 use crate::pace::Pace;
-use crate::Order;
+use crate::{Order, Outcome};
 use clause_store::{Clause, Lit, Var};
 use clause_watch::Watch;
 use plain_data::List;

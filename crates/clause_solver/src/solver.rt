@@ -5,12 +5,11 @@ ghost use Rattle.proof_log.specs.Lines.{IsOpen, learnt_in};
 ghost use Rattle.proof_log.specs.Known.{AllClauses, AllOver};
 ghost use Rattle.clause_solver.specs.Solvers.{IsLogOf, Answers, Fixes, IsInOrder, start_of};
 
-use crate::Outcome;
 use crate::choice::lean;
 use crate::marks::Marks;
 use crate::pace::Pace;
 use crate::search::Search;
-use crate::Order;
+use crate::{Order, Outcome};
 use clause_store::{ClauseList, Lit};
 use clause_watch::Watch;
 use plain_data::List;

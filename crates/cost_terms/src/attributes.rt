@@ -4,12 +4,9 @@ ghost use Rattle.graph_rules.specs.Weights.{os_weight, target_weight, compiler_w
 ghost use Rattle.cost_terms.specs.Spread.{weighed};
 ghost use Rattle.cost_terms.specs.Terms.{deprecated_terms, version_terms, os_terms, target_terms, compiler_terms};
 
-use crate::spread;
+use crate::{Weighted, spread};
 use clause_store::Lit;
-use cost_vector::{
-    compiler_weight, deprecated_weights, os_weight, target_weight, version_weights,
-};
-use crate::Weighted;
+use cost_vector::{compiler_weight, deprecated_weights, os_weight, target_weight, version_weights};
 use graph_core::Compiler;
 use literal_table::Block;
 use plain_data::Word;

@@ -3,10 +3,10 @@ ghost use Rattle.std.specs.Prelude.{◌≡◌, ◌++◌, ◌*◌, ◌<◌, ◌^�
 ghost use Rattle.cost_terms.specs.Spread.{weighed, is_odd, half_of, digit_terms, plain_terms, greatest, spread};
 ghost use Rattle.literal_table.specs.Choices.{any_choice as any_choice_on};
 
+use crate::Weighted;
 use clause_circuits::size;
 use clause_formulas::Formula;
 use clause_store::Lit;
-use crate::Weighted;
 use literal_table::any_choice;
 use std::alloc::{AllocError, Global};
 

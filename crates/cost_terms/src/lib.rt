@@ -20,13 +20,13 @@
 //! valid.
 #![tactic(auto)]
 
-mod totals;
-mod weighted;
+mod attributes;
+mod cost_terms_theorems;
 mod digits;
 mod parts;
 mod theorems;
-mod attributes;
-mod cost_terms_theorems;
+mod totals;
+mod weighted;
 
 pub use attributes::{compiler_terms, deprecated_terms, os_terms, target_terms, version_terms};
 pub use cost_terms_theorems::{cost_laws, range_laws};
@@ -35,4 +35,3 @@ pub use parts::in_part;
 pub use theorems::{differ_laws, part_laws, spread_laws};
 pub use totals::define_totals;
 pub use weighted::Weighted;
-

@@ -4,9 +4,9 @@ ghost use Rattle.std.specs.List.{list_any, list_all};
 ghost use Rattle.literal_table.specs.Choices.{any_choice as any_choice_on};
 ghost use Rattle.cost_terms.specs.Parts.{builds, is_of, part_said, only_where, in_part};
 
+use crate::Weighted;
 use clause_formulas::Formula;
 use clause_store::Lit;
-use crate::Weighted;
 use graph_core::Origin;
 use literal_table::any_choice;
 use std::alloc::{AllocError, Global};

@@ -8,11 +8,10 @@ ghost use Rattle.cost_vector.specs.Ranks.{weight_among};
 use crate::indexes::{RankTable, rows_by_version};
 use crate::ranks::ranked_rows;
 use crate::versions::listed_in;
-use recipe_data::VersionRow;
-use problem::Problem;
-use problem::{entry_of, versions_at};
-use std::alloc::{AllocError, Global};
 use keyed_lists::TextIndex;
+use problem::{Problem, entry_of, versions_at};
+use recipe_data::VersionRow;
+use std::alloc::{AllocError, Global};
 use version_order::Version;
 
 // ---- places in the sort

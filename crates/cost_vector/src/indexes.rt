@@ -6,10 +6,10 @@ ghost use Rattle.keyed_lists.specs.Lent.{IsIndexOf};
 ghost use Rattle.cost_vector.specs.Ranks.{weight_among};
 
 use crate::ranks::{Ranked, place_in, sorted};
+use keyed_lists::TextIndex;
 use recipe_data::VersionRow;
 use std::alloc::{AllocError, Global};
 use std::marker::Model;
-use keyed_lists::TextIndex;
 
 // ---- ranks
 

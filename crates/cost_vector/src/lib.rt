@@ -17,15 +17,14 @@
 
 mod choices;
 mod indexes;
+mod node_costs;
 mod places;
 mod ranks;
-mod versions;
-mod node_costs;
 mod sums;
 mod terms;
+mod versions;
 
 pub use choices::{deprecated_weights, version_weights};
 pub use places::{compiler_weight, os_weight, provider_weight, target_weight};
 pub use sums::vector;
 pub use versions::{is_deprecated, version_weight};
-

@@ -10,14 +10,13 @@ ghost use Rattle.problem.specs.Problems.{same_compiler};
 ghost use Rattle.graph_rules.specs.Costs.{is_root, missing, stopped};
 ghost use Rattle.cost_vector.specs.Terms.{beside, variant_cost, weight_at, differs, edge_differs};
 
+use crate::provider_weight;
 use crate::terms::Attribute;
 use condition_rules::{Paths, governing};
-use recipe_data::VariantRow;
-use crate::provider_weight;
 use graph_core::{Compiler, Edge, Node};
 use plain_data::Word;
-use problem::Problem;
-use problem::{Explored, same_compiler};
+use problem::{Explored, Problem, same_compiler};
+use recipe_data::VariantRow;
 use spec_grammar::Spec;
 use std::alloc::{AllocError, Global};
 use variant_values::ValueSet;

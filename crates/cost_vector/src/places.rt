@@ -8,8 +8,7 @@ ghost use Rattle.graph_rules.specs.Weights.{place_in, os_weight, target_weight, 
 
 use graph_core::Compiler;
 use plain_data::{List, Word};
-use problem::Problem;
-use problem::same_compiler;
+use problem::{Problem, same_compiler};
 use site_settings::CompilerEntry;
 use target_table::TargetEntry;
 

@@ -6,8 +6,7 @@ ghost use Rattle.cost_vector.specs.Terms.{term_cost, placed, part_cost, part_sum
 use crate::terms::{Attribute, Place, Term, part_cost};
 use condition_rules::Paths;
 use graph_core::{Graph, Node};
-use problem::Problem;
-use problem::Explored;
+use problem::{Explored, Problem};
 use std::alloc::{AllocError, Global};
 
 fn sum_over(

@@ -4,11 +4,10 @@ ghost use Rattle.graph_rules.specs.Costs.{stopped};
 ghost use Rattle.cost_vector.specs.Terms.{term_cost, placed, in_part, part_cost};
 
 use crate::node_costs::{edges_differing, is_root, over_variants, provider_weights};
-use condition_rules::Paths;
 use crate::{compiler_weight, is_deprecated, os_weight, target_weight, version_weight};
+use condition_rules::Paths;
 use graph_core::Node;
-use problem::Problem;
-use problem::{Explored, is_built};
+use problem::{Explored, Problem, is_built};
 use std::alloc::{AllocError, Global};
 
 /// In what the ends of an edge may differ.

@@ -8,9 +8,8 @@ ghost use Rattle.graph_rules.specs.Weights.{listed_in, place_of, place_or_number
 ghost use Rattle.cost_vector.specs.Ranks.{rank, rank_cmp};
 
 use crate::ranks::Ranked;
+use problem::{Problem, entry_of, versions_at};
 use recipe_data::VersionRow;
-use problem::Problem;
-use problem::{entry_of, versions_at};
 use site_settings::PackageEntry;
 use version_order::VersionSet;
 

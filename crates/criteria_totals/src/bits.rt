@@ -9,9 +9,8 @@ ghost use Rattle.clause_circuits.specs.Cells.{known_on};
 ghost use Rattle.criteria_totals.specs.Digits.{low_bit_on, high_bit, bits_on, digit_bits_on, one_or_three as one_or_three_gate};
 
 use crate::digits::digit_tree;
-use clause_circuits::{size, total};
+use clause_circuits::{Gate, Lits, Plan, define_plan, size, total};
 use clause_store::{ClauseList, Lit};
-use clause_circuits::{Gate, Lits, Plan, define_plan};
 use std::alloc::{AllocError, Global};
 
 /// The sum of the weights of true literals: its bits, the highest first, as many as all weights'

@@ -5,9 +5,8 @@ ghost use Rattle.clause_circuits.specs.Trees.{total, halved};
 ghost use Rattle.criteria_totals.specs.Digits.{not_above, left_over, digit_on, first_digit, add_digits, digit_count, weight_digits, digits_on};
 
 use crate::merges::{above, merged, push_negated};
-use clause_circuits::{size, total};
+use clause_circuits::{Gate, Lits, Plan, size, total};
 use clause_store::Lit;
-use clause_circuits::{Gate, Lits, Plan};
 use smallvec::SmallVec;
 use std::alloc::{AllocError, Global};
 

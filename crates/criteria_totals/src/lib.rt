@@ -14,12 +14,12 @@
 #![tactic(auto)]
 
 mod bits;
+mod criteria_totals_theorems;
 mod digits;
 mod merges;
-mod theorems;
 mod planned;
 mod terms;
-mod criteria_totals_theorems;
+mod theorems;
 mod unary;
 mod values;
 
@@ -29,4 +29,3 @@ pub use planned::totals;
 pub use terms::{Bits, Terms};
 pub use theorems::worked_digits;
 pub use values::bits_of;
-

@@ -3,8 +3,8 @@ ghost use Rattle.std.specs.Prelude.{◌≡◌, ◌+◌, ◌++◌, ◌<◌, ◌�
 ghost use Rattle.clause_store.specs.Lits.{negation};
 ghost use Rattle.criteria_totals.specs.Merges.{above, upto, on_clause, off_clause, at_least, merge_from, merged_on};
 
-use clause_store::Lit;
 use clause_circuits::{Gate, Lits, Plan};
+use clause_store::Lit;
 use smallvec::SmallVec;
 use std::alloc::{AllocError, Global};
 

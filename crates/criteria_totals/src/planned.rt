@@ -7,12 +7,11 @@ ghost use Rattle.clause_circuits.specs.Built.{IsBuilt};
 ghost use Rattle.criteria_totals.specs.Spellings.{AllSmall};
 ghost use Rattle.criteria_totals.specs.Totals.{number_on, totals_on, tops, AllTermsBelow, IsTotals};
 
+use crate::plan_digits;
 use crate::terms::{Bits, Terms};
 use crate::unary::plan_unary;
-use clause_circuits::total;
+use clause_circuits::{Plan, define_plan, total};
 use clause_store::{ClauseList, Lit};
-use crate::plan_digits;
-use clause_circuits::{Plan, define_plan};
 use std::alloc::{AllocError, Global};
 
 /// Bits that spell the sums of some lists, and compare from the first on as the sums do.

@@ -4,8 +4,8 @@ ghost use Rattle.clause_store.specs.Lits.{negation};
 ghost use Rattle.clause_circuits.specs.Trees.{halved};
 ghost use Rattle.criteria_totals.specs.Unary.{above, upto, on_clause, off_clause, at_least, merge_from, unary_on, unary_bits_on};
 
-use clause_store::Lit;
 use clause_circuits::{Gate, Lits, Plan};
+use clause_store::Lit;
 use smallvec::SmallVec;
 use std::alloc::{AllocError, Global};
 

@@ -14,15 +14,15 @@
 //! What it must not know: how a problem becomes clauses, and how they are written.
 #![tactic(auto)]
 
+mod attempt;
 mod choices;
 mod clauses;
 mod labels;
+mod machine;
 mod meanings;
 mod signs;
 mod sums;
 mod text;
-mod attempt;
-mod machine;
 mod top;
 
 pub use clauses::rules_line;
@@ -30,4 +30,3 @@ pub use machine::dimacs_machine;
 pub use run_input::Status;
 pub use text::dimacs_text;
 pub use top::run;
-

@@ -43,12 +43,12 @@
 //! What it must not know: the limits themselves, and which problem keeps the records.
 #![tactic(auto)]
 
-mod theorems;
-mod spec_counts_theorems;
-mod settings_counts_theorems;
+mod database_counts_theorems;
 mod recipe_counts_theorems;
 mod recorded_values_theorems;
-mod database_counts_theorems;
+mod settings_counts_theorems;
+mod spec_counts_theorems;
+mod theorems;
 
 pub use database_counts_theorems::database_count_laws;
 pub use recipe_counts_theorems::size_laws;
@@ -56,4 +56,3 @@ pub use recorded_values_theorems::value_laws;
 pub use settings_counts_theorems::settings_count_laws;
 pub use spec_counts_theorems::spec_count_laws;
 pub use theorems::count_laws;
-

@@ -2,8 +2,7 @@
 
 ghost use Rattle.file_limits.specs.SettingsCountsCounts.{FilesBearSettings, FilesAreSmall, StandardIsSmall};
 
-use crate::count_laws;
-use crate::spec_count_laws;
+use crate::{count_laws, spec_count_laws};
 
 /// The OSs, targets, compilers, names in lists of providers, externals and variant values of externals that
 /// a file says, two bytes for each, are at most as many as the file has bytes, and the standard ones. So

@@ -11,13 +11,12 @@
 //! by a type that has `RuleFormulas`.
 #![tactic(auto)]
 
-mod theorems;
 mod added;
 mod calls;
 mod formulas;
 mod rules;
+mod theorems;
 
 pub use calls::{ProblemClauses, encode};
 pub use formulas::RuleFormulas;
 pub use theorems::{demand_laws, encoding_laws, model_laws, ranking_laws};
-

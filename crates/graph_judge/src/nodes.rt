@@ -6,12 +6,10 @@ ghost use Rattle.graph_judge.specs.Places.{keeps_at, nodes_places};
 use crate::places::add_unless;
 use condition_rules::Paths;
 use graph_core::Node;
-use rule_checks::keeps_kept;
 use plain_data::Word;
-use problem::Problem;
-use problem::{Explored, is_built};
+use problem::{Explored, Problem, is_built};
 use rule_checks::{
-    keeps_buildable, keeps_compiler, keeps_extra_edge, keeps_machine, keeps_no_cycle,
+    keeps_buildable, keeps_compiler, keeps_extra_edge, keeps_kept, keeps_machine, keeps_no_cycle,
     keeps_reachable, keeps_variant, keeps_version,
 };
 use std::alloc::{AllocError, Global};

@@ -8,11 +8,10 @@ ghost use Rattle.graph_judge.specs.Places.{depend_test, keeps_row, row_places, r
 use crate::demanded::Demanded;
 use crate::places::add_unless;
 use condition_rules::Paths;
-use recipe_data::{ConflictRow, DependRow, RequireRow};
 use graph_core::Node;
 use plain_data::Word;
-use problem::Problem;
-use problem::{Explored, conflicts_at, depends_at, is_built, requirements_at};
+use problem::{Explored, Problem, conflicts_at, depends_at, is_built, requirements_at};
+use recipe_data::{ConflictRow, DependRow, RequireRow};
 use rule_checks::{keeps_conflict, keeps_constraint, keeps_edge, keeps_requirement};
 use std::alloc::{AllocError, Global};
 

@@ -14,8 +14,7 @@ use crate::rows::{conflict_places, depend_places, requirement_places};
 use graph_core::Graph;
 use graph_rules::{Rule, Verdict};
 use plain_data::{Duplicate, Word};
-use problem::Problem;
-use problem::Explored;
+use problem::{Explored, Problem};
 use std::alloc::{AllocError, Global};
 
 // The rules, in the order in which a broken one is named.

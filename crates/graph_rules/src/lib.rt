@@ -16,11 +16,10 @@
 //! What it must not know: clauses, bits of sums, and how a best graph is found.
 #![tactic(auto)]
 
+mod graph_costs_theorems;
 mod rule;
 mod theorems;
-mod graph_costs_theorems;
 
 pub use graph_costs_theorems::{vector_laws, weights_are_places};
 pub use rule::{Rule, Verdict};
 pub use theorems::{closure_laws, kept_laws, rule_laws, valid_laws, variant_laws};
-

@@ -13,4 +13,3 @@ mod version;
 pub use name::Name;
 pub use value::{PlainValue, Value};
 pub use version::VersionText;
-

@@ -13,13 +13,12 @@
 //! What it must not know: what the elements are.
 #![tactic(auto)]
 
+mod index;
 mod keyed;
 mod theorems;
-mod index;
 
 pub use index::TextIndex;
 pub use keyed::{Keyed, find, has_key, insert, place_of};
 pub use reachability::{Bits, PathTable, heads_of, reached};
 pub use theorems::{given_laws, keyed_laws};
 pub use variant_values::{ValueSet, VariantKind};
-

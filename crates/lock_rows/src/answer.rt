@@ -1,11 +1,10 @@
 //! What the rows ask: records, databases, and lock files that are read and written again.
 
 use crate::show::{database_fault, database_text, fault_text, lock_text};
-use record_reader::read_database;
 use json_readers::{JsonFault, ListOf, Reader, read_json};
 use lockfile::{Lock, can_be_written, read_lock, write_lock};
 use plain_data::List;
-use record_reader::RecordForm;
+use record_reader::{RecordForm, read_database};
 use reuse_db::{Database, DbFault, Record, canonical};
 use spec_grammar::{Spec, read_specs};
 use spec_hash::hash_text;

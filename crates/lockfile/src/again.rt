@@ -5,8 +5,8 @@ ghost use Rattle.lockfile.specs.declared.fault.LockFault.TheVariants.{OutOfMemor
 ghost use Rattle.lockfile.specs.Writable.{IsWritable, lock_of};
 
 use crate::lock_again_theorems::again_laws;
-use graph_core::Graph;
 use crate::{Lock, LockFault, lock_laws, read_lock, write_lock};
+use graph_core::Graph;
 use reuse_db::Database;
 use spec_grammar::Spec;
 use std::alloc::Global;

@@ -12,12 +12,12 @@ use json_readers::{
     AnyText, JsonFault, ListOf, MapOf, Reader, Text, TextForm, WholeNumber, Wrong, at_root, field,
     first_odd, members_of, none_odd,
 };
+use json_texts::Name;
 use plain_data::{Duplicate, List, Word};
 use record_reader::HashText;
 use serde_json::{Map, Value};
 use spec_hash::Hash;
 use std::alloc::{AllocError, Global};
-use json_texts::Name;
 use variant_values::ValueSet;
 
 /// What a lock file says, each node by itself.

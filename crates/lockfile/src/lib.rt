@@ -14,17 +14,17 @@
 //! What it must not know: which graphs are valid.
 #![tactic(auto)]
 
+mod again;
 mod checks;
 mod children;
 mod fault;
 mod file;
 mod graph;
 mod lock;
+mod lock_again_theorems;
 mod names;
 mod node;
 mod theorems;
-mod again;
-mod lock_again_theorems;
 
 pub use again::write_and_read;
 pub use fault::LockFault;
@@ -34,4 +34,3 @@ pub use lock_again_theorems::{again_laws, file_laws, graph_laws, node_laws, writ
 pub use lock_writer::{can_be_written, node_hashes, write_lock};
 pub use node::{Body, Head, LockedNode};
 pub use theorems::lock_laws;
-

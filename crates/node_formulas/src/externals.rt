@@ -9,11 +9,10 @@ ghost use Rattle.word_formulas.specs.Builders.{plain_said};
 
 use crate::attributes::same_formula;
 use clause_formulas::Formula;
-use rule_checks::external_node;
 use literal_table::LiteralTable;
 use plain_data::Word;
-use problem::Problem;
-use problem::entry_of;
+use problem::{Problem, entry_of};
+use rule_checks::external_node;
 use site_settings::ExternalEntry;
 use std::alloc::{AllocError, Global};
 use word_formulas::given;

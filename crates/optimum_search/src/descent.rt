@@ -7,12 +7,11 @@ ghost use Rattle.proof_log.specs.Known.{AllClauses};
 ghost use Rattle.optimum_search.specs.Finding.{IsFound};
 
 use crate::settle::settle_next;
-use crate::{Found, Number};
+use crate::{Found, Number, Progress, Stage, Untold};
 use clause_solver::{Outcome, Solver};
 use clause_store::{ClauseList, Lit};
 use plain_data::List;
 use proof_log::Line;
-use crate::{Progress, Stage, Untold};
 use std::alloc::{AllocError, Global};
 
 /// A model with the least bits, the first bit counting most.

@@ -7,13 +7,12 @@ ghost use Rattle.problem.specs.Closure.{is_known, is_some_list};
 ghost use Rattle.problem.specs.Problems.{entry_of, externals_in};
 ghost use Rattle.keyed_lists.specs.Lent.{lent, IsIndexOf};
 
-use problem::Problem;
-use problem::recipe_at;
+use keyed_lists::TextIndex;
+use problem::{Problem, recipe_at};
 use reuse_db::Record;
 use site_settings::PackageEntry;
 use std::alloc::{AllocError, Global};
 use std::marker::Model;
-use keyed_lists::TextIndex;
 
 /// A problem whose packages of the settings and whose records are found by search of their name, seen as the problem.
 #[derive(Drop)]

@@ -29,22 +29,24 @@
 mod assembling;
 mod demand;
 mod demands;
+mod explored;
 mod fault;
 mod known;
+mod limits;
+mod lookup;
 mod platforms;
 mod problem;
-mod limits;
 mod recipes;
 mod records;
 mod settings;
-mod explored;
-mod lookup;
 
 pub use assembling::assemble;
 pub use demand::Demand;
 pub use explored::Explored;
 pub use fault::ProblemFault;
 pub use limits::is_within_limits;
-pub use lookup::{applies, asked_by, conflicts_at, covers, depends_at, entry_of, is_buildable, is_built, names_of, recipe_at, requirements_at, same_compiler, variants_at, versions_at};
+pub use lookup::{
+    applies, asked_by, conflicts_at, covers, depends_at, entry_of, is_buildable, is_built,
+    names_of, recipe_at, requirements_at, same_compiler, variants_at, versions_at,
+};
 pub use problem::Problem;
-

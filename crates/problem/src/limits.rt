@@ -2,10 +2,10 @@
 ghost use Rattle.std.specs.Prelude.{◌≡◌, ◌^◌, ◌&&◌, nat_le};
 ghost use Rattle.problem.specs.Limits.{is_within_limits};
 
+use crate::Problem;
 use crate::recipes::size_of_recipes;
 use crate::records::size_of_database;
 use crate::settings::size_of_settings;
-use crate::Problem;
 
 const MOST_IN_RECIPES: u64 = 1 << 28;
 

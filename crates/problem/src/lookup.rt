@@ -4,12 +4,11 @@ ghost use Rattle.std.specs.Option.{option_copied};
 ghost use Rattle.problem.specs.Nodes.{is_built, covers};
 ghost use Rattle.problem.specs.Problems.{recipe_at, versions_at, variants_at, depends_at, conflicts_at, requirements_at, entry_of, is_buildable_in, same_compiler, applies, asked_by};
 
-use crate::Explored;
+use crate::{Explored, Problem};
 use condition_rules::{Paths, all_hold, asked_node};
-use recipe_data::{Condition, ConflictRow, DependRow, Recipe, RequireRow, VariantRow, VersionRow};
 use graph_core::{Compiler, Kinds, Node, Origin};
 use plain_data::{Duplicate, Word};
-use crate::Problem;
+use recipe_data::{Condition, ConflictRow, DependRow, Recipe, RequireRow, VariantRow, VersionRow};
 use site_settings::PackageEntry;
 use std::alloc::{AllocError, Global};
 use variant_values::ValueSet;

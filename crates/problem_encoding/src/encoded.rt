@@ -13,12 +13,11 @@ use clause_formulas::Defined;
 use clause_store::ClauseList;
 use criteria_totals::Bits;
 use literal_table::LiteralTable;
-use ranked_costs::{order_laws, post_order};
 use plain_data::List;
 use possible_closure::{Closure, possible_laws};
 use problem::Problem;
 use problem_formulas::{ProblemClauses, ProblemFormulas, targets_of};
-use ranked_costs::{closure_laws, costs_laws, plan_laws, rank_costs};
+use ranked_costs::{closure_laws, costs_laws, order_laws, plan_laws, post_order, rank_costs};
 use std::alloc::{AllocError, Global};
 use table_building::table_of;
 

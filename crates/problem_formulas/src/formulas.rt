@@ -2,12 +2,12 @@
 
 use crate::known::KnownConditions;
 use crate::rules::all_rules;
+use crate::{PathLits, condition_formulas};
 use clause_formulas::{Defined, Formula};
-use graph_encoding::RuleFormulas;
 use graph_decoding::structure;
+use graph_encoding::RuleFormulas;
 use literal_table::LiteralTable;
 use problem::{Demand, Problem};
-use crate::{PathLits, condition_formulas};
 use rule_formulas::demand_formula;
 use std::alloc::{AllocError, Global};
 

@@ -1,10 +1,10 @@
 //! The conditions of a problem, each with its own formula.
 
+use crate::{PathLits, condition_formula};
 use clause_formulas::Formula;
-use recipe_data::Condition;
 use literal_table::LiteralTable;
 use problem::Problem;
-use crate::{PathLits, condition_formula};
+use recipe_data::Condition;
 use rule_formulas::MetConditions;
 use std::alloc::{AllocError, Global};
 

@@ -11,12 +11,12 @@
 //! `graph_decoding` for the structure. It must not know clauses.
 #![tactic(auto)]
 
-mod listed;
-mod targets;
 mod formulas;
 mod known;
+mod listed;
 mod rows;
 mod rules;
+mod targets;
 
 pub use formulas::ProblemFormulas;
 pub use graph_encoding::{ProblemClauses, encode};
@@ -24,4 +24,3 @@ pub use graph_levels::PathLits;
 pub use listed::condition_formulas;
 pub use rule_formulas::condition_formula;
 pub use targets::targets_of;
-

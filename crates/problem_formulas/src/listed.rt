@@ -6,12 +6,11 @@ ghost use Rattle.rule_formulas.specs.Paths.{path_by};
 ghost use Rattle.problem_formulas.specs.Asked.{formulas_at, formulas_of};
 
 use clause_formulas::Formula;
-use recipe_data::{Condition, ConflictRow, DependRow, RequireRow, VariantRow};
 use graph_levels::PathLits;
 use literal_table::LiteralTable;
+use problem::{Problem, conflicts_at, depends_at, requirements_at, variants_at};
+use recipe_data::{Condition, ConflictRow, DependRow, RequireRow, VariantRow};
 use rule_formulas::condition_formula;
-use problem::Problem;
-use problem::{conflicts_at, depends_at, requirements_at, variants_at};
 use std::alloc::{AllocError, Global};
 
 fn push_condition(

@@ -9,11 +9,10 @@ ghost use Rattle.valid_models.specs.Targets.{asked_names, spec_names, condition_
 
 use clause_store::Lit;
 use condition_rules::World;
-use recipe_data::{ConflictRow, DependRow, RequireRow, VariantRow};
 use literal_table::LiteralTable;
 use plain_data::{Duplicate, Word};
-use problem::Problem;
-use problem::{conflicts_at, depends_at, requirements_at, variants_at};
+use problem::{Problem, conflicts_at, depends_at, requirements_at, variants_at};
+use recipe_data::{ConflictRow, DependRow, RequireRow, VariantRow};
 use spec_grammar::Spec;
 use std::alloc::{AllocError, Global};
 use variant_values::ValueSet;

@@ -6,8 +6,8 @@ ghost use Rattle.recipe_data.specs.Right.{is_right_recipe};
 ghost use Rattle.recipe_data.specs.declared.recipe.Recipe.{Recipe};
 ghost use Rattle.virtuals.specs.Virtuals.{AreInOrder};
 
-use recipe_data::Recipe;
 use keyed_lists::insert;
+use recipe_data::Recipe;
 use recipe_reader::{RecipeFault, RecipeFile, read_recipe};
 use std::alloc::{AllocError, Global};
 

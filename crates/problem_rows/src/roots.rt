@@ -6,10 +6,10 @@ ghost use Rattle.recipe_data.specs.Right.{is_right_recipe};
 ghost use Rattle.virtuals.specs.Virtuals.{AreInOrder};
 
 use crate::site::Site;
-use recipe_data::Recipe;
 use plain_data::List;
 use possible_closure::{Closure, ClosureFault, closure};
 use problem::{Demand, Problem, ProblemFault, assemble};
+use recipe_data::Recipe;
 use spec_grammar::{Spec, SpecFault, read_specs};
 use std::alloc::{AllocError, Global};
 

@@ -6,8 +6,7 @@ ghost use Rattle.ranked_costs.specs.Given.{passed, held_for};
 use clause_formulas::Defined;
 use literal_table::LiteralTable;
 use plain_data::{Duplicate, List, Word};
-use problem::Problem;
-use problem::{conflicts_at, depends_at, requirements_at, variants_at};
+use problem::{Problem, conflicts_at, depends_at, requirements_at, variants_at};
 use std::alloc::{AllocError, Global};
 
 fn before(values: &[Defined], count: usize) -> &[Defined]

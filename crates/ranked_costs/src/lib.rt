@@ -21,14 +21,14 @@
 //! What it must not know: how models are found.
 #![tactic(auto)]
 
-mod theorems;
-mod walk;
-mod cost_limits_theorems;
 mod cost_bits_theorems;
+mod cost_limits_theorems;
 mod ends;
 mod held;
 mod ranked_costs_theorems;
+mod theorems;
 mod totals;
+mod walk;
 
 pub use cost_limits_theorems::limit_laws;
 pub use ends::number_ends;
@@ -38,4 +38,3 @@ pub use theorems::order_laws;
 pub use totals::rank_costs;
 pub use valid_models::{closure_laws, plan_laws};
 pub use walk::post_order;
-

@@ -13,13 +13,13 @@ ghost use Rattle.ranked_costs.specs.Built.{terms_for, rank_costs_on};
 use crate::held::held_for;
 use clause_formulas::Defined;
 use clause_store::ClauseList;
-use criteria_totals::Bits;
 use cost_terms::define_totals;
-use term_builder::cost_terms;
+use criteria_totals::Bits;
 use literal_table::LiteralTable;
 use plain_data::Word;
 use problem::Problem;
 use std::alloc::{AllocError, Global};
+use term_builder::cost_terms;
 
 /// Bits of the 31 numbers of the cost vector, the first to compare first, behind the clauses.
 ///

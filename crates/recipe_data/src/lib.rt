@@ -11,8 +11,11 @@ mod exact;
 mod recipe;
 mod specs_exact;
 
-pub use graph_core::{Bits, Compiler, Graph, Node, ValueSet, VersionSet, find, heads_of, reached, reaches};
-pub use recipe::{Condition, ConflictRow, DependRow, ProvideRow, Recipe, RequireRow, VariantRow, VersionRow};
+pub use graph_core::{
+    Bits, Compiler, Graph, Node, ValueSet, VersionSet, find, heads_of, reached, reaches,
+};
+pub use recipe::{
+    Condition, ConflictRow, DependRow, ProvideRow, Recipe, RequireRow, VariantRow, VersionRow,
+};
 pub use spec_grammar::{Part, Spec, TargetItem};
 pub use specs_exact::duplicate_spec;
-

@@ -6,9 +6,9 @@ ghost use Rattle.recipe_reader.specs.Results.{Gives};
 ghost use Rattle.recipe_reader.specs.Rows.{has_kind, is_language, names_language, is_bare, is_passed_over, add_depends};
 
 use crate::RecipeFault;
-use recipe_data::{Condition, DependRow, Recipe};
 use graph_core::Kinds;
 use plain_data::Word;
+use recipe_data::{Condition, DependRow, Recipe};
 use spec_grammar::Part;
 
 /// Whether a text is this one.

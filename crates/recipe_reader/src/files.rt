@@ -9,8 +9,8 @@ ghost use Rattle.recipe_reader.specs.Files.{recipe_in_file, FailsAt};
 use crate::beside::read_beside;
 use crate::parts::bytes_of;
 use crate::{RecipeFault, read_recipe};
-use recipe_data::Recipe;
 use plain_data::{List, Word};
+use recipe_data::Recipe;
 use std::alloc::Global;
 use std::thread::{Threads, available_parallelism};
 

@@ -8,9 +8,9 @@ ghost use Rattle.recipe_reader.specs.Recipes.{count, read_items, start, recipe_o
 use crate::item::item;
 use crate::stage::{items_of, tokens_of};
 use crate::{RecipeFault, State};
-use recipe_data::Recipe;
 use directive_arguments::Names;
 use plain_data::{List, Word};
+use recipe_data::Recipe;
 use recipe_lexer::Token;
 use recipe_statements::Item;
 use std::alloc::{AllocError, Global};

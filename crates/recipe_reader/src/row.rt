@@ -6,9 +6,9 @@ ghost use Rattle.recipe_reader.specs.Rows.{add_version, with_variant, add_varian
 
 use crate::depends::add_depends;
 use crate::{RecipeFault, State};
-use recipe_data::{Condition, ConflictRow, ProvideRow, Recipe, RequireRow, VariantRow, VersionRow};
 use directive_arguments::{Directive, Given, Options, Shape, shape_with};
 use plain_data::{Duplicate, List, Word};
+use recipe_data::{Condition, ConflictRow, ProvideRow, Recipe, RequireRow, VariantRow, VersionRow};
 use spec_grammar::{Part, Spec};
 use std::alloc::{AllocError, Global};
 use std::mem;

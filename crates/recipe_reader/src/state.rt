@@ -1,9 +1,9 @@
 //! What was read of a file.
 
 use crate::RecipeFault;
-use recipe_data::{Condition, Recipe};
 use directive_arguments::Names;
 use plain_data::List;
+use recipe_data::{Condition, Recipe};
 
 /// A `with when` block that is open.
 #[derive(Debug, Drop)]

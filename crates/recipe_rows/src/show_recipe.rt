@@ -1,11 +1,11 @@
 //! Recipes as texts.
 
 use crate::show::{lex_fault_text, spec_fault_text};
+use graph_core::Kinds;
+use plain_data::{Duplicate, List};
 use recipe_data::{
     Condition, ConflictRow, DependRow, ProvideRow, Recipe, RequireRow, VariantRow, VersionRow,
 };
-use graph_core::Kinds;
-use plain_data::{Duplicate, List};
 use recipe_reader::RecipeFault;
 use spec_grammar::{Spec, write_spec};
 use std::alloc::{AllocError, Global};

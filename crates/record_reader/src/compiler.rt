@@ -4,9 +4,9 @@ ghost use Rattle.record_reader.specs.Records.{compiler_at};
 
 use graph_core::Compiler;
 use json_readers::{JsonFault, Reader, Text, field, first_odd, members_of, none_odd};
+use json_texts::{Name, VersionText};
 use serde_json::Value;
 use std::alloc::Global;
-use json_texts::{Name, VersionText};
 
 /// An object with `name` and `version`.
 #[derive(Clone, Copy)]

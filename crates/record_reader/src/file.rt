@@ -1,11 +1,11 @@
 // The values of a file.
 ghost use Rattle.record_reader.specs.Files.{records_at, version_at};
 
+use crate::RecordForm;
 use json_readers::{
     JsonFault, ListOf, Reader, WholeNumber, Wrong, at_root, field, first_odd, members_of, none_odd,
 };
 use plain_data::List;
-use crate::RecordForm;
 use reuse_db::Record;
 use serde_json::Value;
 use std::alloc::Global;

@@ -15,14 +15,14 @@
 
 mod compiler;
 mod dependency;
+mod file;
 mod hash;
 mod kinds;
-mod record;
-mod variants;
-mod file;
 mod read;
+mod record;
 mod texts;
 mod theorems;
+mod variants;
 
 pub use compiler::CompilerForm;
 pub use dependency::DependencyForm;
@@ -34,4 +34,3 @@ pub use record::{Front, Middle, RecordForm, read_back, read_front, read_middle};
 pub use texts::fault_text;
 pub use theorems::database_laws;
 pub use variants::ValuesForm;
-

@@ -10,12 +10,12 @@ use graph_core::{Compiler, Kinds};
 use json_readers::{
     AnyText, JsonFault, MapOf, NullOr, Reader, SetOf, Text, field, first_odd, members_of, none_odd,
 };
+use json_texts::{Name, Value as ValueText, VersionText};
 use plain_data::{List, Word};
 use reuse_db::Record;
 use serde_json::{Map, Value};
 use spec_hash::Hash;
 use std::alloc::Global;
-use json_texts::{Name, Value as ValueText, VersionText};
 
 /// The keys `compiler` and `dependencies`.
 #[derive(Drop)]

@@ -3,9 +3,9 @@
 ghost use Rattle.record_reader.specs.Records.{values_at};
 
 use json_readers::{Filled, JsonFault, Reader, SetOf, Text};
+use json_texts::Value as ValueText;
 use serde_json::Value;
 use std::alloc::Global;
-use json_texts::Value as ValueText;
 use variant_values::ValueSet;
 
 /// A list of values, at least one and none twice. `True` means `true`, and `False` means `false`.

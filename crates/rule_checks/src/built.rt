@@ -6,11 +6,10 @@ ghost use Rattle.condition_rules.specs.Words.{among, if_written};
 ghost use Rattle.problem.specs.Problems.{same_compiler};
 ghost use Rattle.graph_rules.specs.Built.{keeps_buildable, keeps_version, keeps_compiler, keeps_machine, supports};
 
-use recipe_data::VersionRow;
 use graph_core::{Compiler, Node};
 use plain_data::{List, Word};
-use problem::Problem;
-use problem::{is_buildable, recipe_at, same_compiler, versions_at};
+use problem::{Problem, is_buildable, recipe_at, same_compiler, versions_at};
+use recipe_data::VersionRow;
 use site_settings::CompilerEntry;
 use target_table::TargetEntry;
 

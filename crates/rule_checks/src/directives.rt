@@ -10,10 +10,9 @@ ghost use Rattle.problem.specs.Problems.{world_of, asked_by};
 ghost use Rattle.graph_rules.specs.Directives.{keeps_root, keeps_edge, keeps_constraint, keeps_conflict, keeps_requirement, has_choice};
 
 use condition_rules::{Paths, asked_node, holds, suits};
-use recipe_data::{ConflictRow, DependRow, RequireRow};
 use graph_core::{Kinds, Node};
-use problem::Problem;
-use problem::{Explored, applies, asked_by, covers};
+use problem::{Explored, Problem, applies, asked_by, covers};
+use recipe_data::{ConflictRow, DependRow, RequireRow};
 use spec_grammar::Spec;
 use std::alloc::{AllocError, Global};
 

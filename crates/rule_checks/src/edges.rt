@@ -9,10 +9,9 @@ ghost use Rattle.graph_rules.specs.Built.{asks, asked_kinds, is_asked, keeps_ext
 ghost use Rattle.rule_checks.specs.Kinds.{joined};
 
 use condition_rules::Paths;
-use recipe_data::DependRow;
 use graph_core::{Edge, Kinds, Node};
-use problem::Problem;
-use problem::{Explored, applies, asked_by, covers, depends_at};
+use problem::{Explored, Problem, applies, asked_by, covers, depends_at};
+use recipe_data::DependRow;
 use std::alloc::{AllocError, Global};
 
 fn is_asked_child(problem: &Problem, graph: &Explored, child: &str, row: &DependRow) -> bool

@@ -6,11 +6,10 @@ ghost use Rattle.variant_values.specs.Texts.{with_texts};
 ghost use Rattle.condition_rules.specs.Words.{find_last};
 ghost use Rattle.graph_rules.specs.Kept.{completed, default_in, external_node, first_text};
 
-use recipe_data::VariantRow;
 use graph_core::{Compiler, Node, Origin};
 use plain_data::{Duplicate, List, Word};
-use problem::Problem;
-use problem::{names_of, variants_at};
+use problem::{Problem, names_of, variants_at};
+use recipe_data::VariantRow;
 use site_settings::ExternalEntry;
 use std::alloc::{AllocError, Global};
 use target_table::TargetEntry;

@@ -15,12 +15,12 @@
 //! What it must not know: the order of the rules, which place is named, costs.
 #![tactic(auto)]
 
-mod external;
-mod kept;
-mod same;
 mod built;
 mod directives;
 mod edges;
+mod external;
+mod kept;
+mod same;
 mod variants;
 mod whole;
 
@@ -31,4 +31,3 @@ pub use external::external_node;
 pub use kept::keeps_kept;
 pub use variants::keeps_variant;
 pub use whole::{keeps_no_cycle, keeps_provider, keeps_reachable, keeps_used};
-

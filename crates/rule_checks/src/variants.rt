@@ -9,11 +9,10 @@ ghost use Rattle.problem.specs.Problems.{applies};
 ghost use Rattle.graph_rules.specs.Built.{governed, allows, is_allowed, has_governed, keeps_variant};
 
 use condition_rules::governing;
-use recipe_data::VariantRow;
 use graph_core::Node;
 use plain_data::{Duplicate, Word};
-use problem::Problem;
-use problem::{Explored, applies, names_of, variants_at};
+use problem::{Explored, Problem, applies, names_of, variants_at};
+use recipe_data::VariantRow;
 use std::alloc::{AllocError, Global};
 use variant_values::{ValueSet, VariantKind};
 

@@ -10,11 +10,10 @@ ghost use Rattle.problem.specs.Problems.{world_of, applies};
 ghost use Rattle.graph_rules.specs.Whole.{keeps_provider, keeps_used, keeps_no_cycle, keeps_reachable, uses, needs};
 
 use condition_rules::{Paths, provides};
-use recipe_data::DependRow;
 use graph_core::Node;
 use plain_data::Word;
-use problem::Problem;
-use problem::{Explored, applies, depends_at, is_built};
+use problem::{Explored, Problem, applies, depends_at, is_built};
+use recipe_data::DependRow;
 use spec_grammar::Spec;
 use std::alloc::{AllocError, Global};
 

@@ -7,11 +7,11 @@ ghost use Rattle.graph_formulas.specs.Words.{names_for, rule_said};
 ghost use Rattle.rule_formulas.specs.Paths.{path_by};
 ghost use Rattle.rule_formulas.specs.Terms.{apart_said};
 
+use crate::holds_formula;
 use clause_formulas::Formula;
 use condition_rules::World;
 use graph_levels::PathLits;
 use literal_table::LiteralTable;
-use crate::holds_formula;
 use spec_grammar::Spec;
 use std::alloc::{AllocError, Global};
 use word_formulas::some;

@@ -10,10 +10,10 @@ ghost use Rattle.rule_formulas.specs.Paths.{path_by};
 ghost use Rattle.rule_formulas.specs.Terms.{root_said, directives_said};
 
 use crate::directives::directive_formula;
+use crate::holds_formula;
 use clause_formulas::Formula;
 use graph_levels::PathLits;
 use literal_table::LiteralTable;
-use crate::holds_formula;
 use problem::{Demand, Problem};
 use spec_grammar::Spec;
 use std::alloc::{AllocError, Global};

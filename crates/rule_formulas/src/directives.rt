@@ -11,14 +11,13 @@ ghost use Rattle.rule_formulas.specs.Paths.{path_by};
 ghost use Rattle.rule_formulas.specs.Terms.{choice_said};
 
 use crate::choices::{one_formula, some_formula};
+use crate::holds_formula;
 use crate::loops::each_where;
 use clause_formulas::Formula;
-use recipe_data::{ConflictRow, DependRow, RequireRow};
 use graph_levels::PathLits;
 use literal_table::LiteralTable;
-use crate::holds_formula;
-use problem::Problem;
-use problem::{conflicts_at, depends_at, requirements_at};
+use problem::{Problem, conflicts_at, depends_at, requirements_at};
+use recipe_data::{ConflictRow, DependRow, RequireRow};
 use std::alloc::{AllocError, Global};
 use word_formulas::{MetConditions, constraint_formula, edge_formula};
 

@@ -13,12 +13,11 @@ use crate::loops::{each_where, some_where};
 use clause_formulas::Formula;
 use clause_store::Lit;
 use condition_rules::World;
-use recipe_data::DependRow;
 use graph_core::Kinds;
 use literal_table::{EdgeLits, LiteralTable};
 use plain_data::Word;
-use problem::Problem;
-use problem::depends_at;
+use problem::{Problem, depends_at};
+use recipe_data::DependRow;
 use std::alloc::{AllocError, Global};
 use word_formulas::{MetConditions, asks_formula, has_edge};
 

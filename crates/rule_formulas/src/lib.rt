@@ -12,11 +12,11 @@
 #![tactic(auto)]
 
 mod below;
-mod holds;
 mod choices;
 mod demands;
 mod directives;
 mod extra_edges;
+mod holds;
 mod loops;
 mod theorems;
 mod used;
@@ -29,4 +29,3 @@ pub use theorems::term_laws;
 pub use used::used_formula;
 pub use variants::variants_formula;
 pub use word_formulas::{MetConditions, where_built};
-

@@ -16,12 +16,11 @@ ghost use Rattle.rule_formulas.specs.Terms.{plain_term};
 use crate::loops::some_where;
 use clause_formulas::Formula;
 use clause_store::Lit;
-use recipe_data::DependRow;
 use graph_core::{Kinds, Origin};
 use literal_table::LiteralTable;
 use plain_data::Word;
-use problem::Problem;
-use problem::depends_at;
+use problem::{Problem, depends_at};
+use recipe_data::DependRow;
 use std::alloc::{AllocError, Global};
 use word_formulas::{MetConditions, each, given, has_edge, origin_passes, provider_formula};
 

@@ -10,11 +10,10 @@ ghost use Rattle.rule_formulas.specs.Governing.{met_said, governs_said, governed
 use crate::loops::some_where;
 use clause_formulas::Formula;
 use clause_store::Lit;
-use recipe_data::VariantRow;
 use literal_table::LiteralTable;
 use plain_data::{List, Word};
-use problem::Problem;
-use problem::variants_at;
+use problem::{Problem, variants_at};
+use recipe_data::VariantRow;
 use std::alloc::{AllocError, Global};
 use word_formulas::{MetConditions, allows_formula, each, has_variant};
 

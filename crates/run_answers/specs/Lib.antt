@@ -14,4 +14,5 @@ pub mod Exits
 pub mod Refusals
 pub mod Stages
 pub mod Stops
+
 -- what crates above need of the texts

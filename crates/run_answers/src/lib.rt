@@ -21,16 +21,16 @@
 //! What it must not know: which commands there are, and when they refuse.
 #![tactic(auto)]
 
+mod line_fault;
+mod lines;
 mod lock_faults;
 mod recipe_faults;
+mod refusal;
 mod settings_faults;
 mod spec_faults;
-mod worked;
-mod lines;
-mod line_fault;
-mod refusal;
 mod status;
 mod stop;
+mod worked;
 
 pub use graph_rules::Rule;
 pub use line_fault::LineFault;
@@ -50,4 +50,3 @@ pub use spec_grammar::SpecFault;
 pub use status::Status;
 pub use stop::{ReadStop, Stop, WriteStop};
 pub use worked::worked_fault_texts;
-

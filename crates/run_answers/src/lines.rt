@@ -6,8 +6,7 @@ ghost use Rattle.std.specs.List.{list_any};
 ghost use Rattle.problem.specs.Problems.{depends_at, conflicts_at};
 ghost use Rattle.run_answers.specs.Texts as texts;
 
-use problem::{Demand, Problem};
-use problem::{conflicts_at, depends_at};
+use problem::{Demand, Problem, conflicts_at, depends_at};
 use spec_grammar::{Spec, write_spec};
 use std::alloc::{AllocError, Global};
 

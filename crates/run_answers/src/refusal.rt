@@ -7,11 +7,11 @@ ghost use Rattle.run_answers.specs.Refusals as lines;
 
 use crate::line_fault::{LineFault, line_fault_name};
 use crate::status::Status;
-use plain_data::Word;
 use crate::{
     DbFault, LockFault, RecipeFault, Rule, SettingsFault, SpecFault, database_fault_text,
     lock_fault_text, recipe_fault_text, rule_name, settings_fault_text, spec_fault_text,
 };
+use plain_data::Word;
 use std::alloc::{AllocError, Global};
 
 /// Why input is refused.

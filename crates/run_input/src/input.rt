@@ -16,14 +16,13 @@ ghost use Rattle.run_input.specs.Inputs.{posed_by, closed_of, InputBy, Asked, Be
 
 use crate::repository::read_repository;
 use crate::roots::read_roots;
-use recipe_data::Recipe;
+use crate::{Command, ReadStop, Refusal, read_installed, read_site};
 use outside_desk::Desk;
 use plain_data::List;
 use possible_closure::{Closure, ClosureFault, closure};
 use problem::{Problem, ProblemFault, assemble};
+use recipe_data::Recipe;
 use reuse_db::Database;
-use crate::read_installed;
-use crate::{Command, ReadStop, Refusal, read_site};
 use site_settings::Settings;
 use spec_grammar::Spec;
 use std::alloc::Global;

@@ -9,12 +9,11 @@ ghost use Rattle.run_words.specs.Stops.{Gives, EndsByInput, EndsInReadFault, End
 ghost use Rattle.run_words.specs.Words.{is_dash};
 ghost use Rattle.run_input.specs.Installed.{DatabaseIn, DatabaseAt, FailsThere};
 
-use file_limits::database_count_laws;
-use record_reader::read_database;
-use outside_desk::Desk;
-use file_limits::value_laws;
-use reuse_db::{Database, DbFault};
 use crate::{WholeFile, read_bytes};
+use file_limits::{database_count_laws, value_laws};
+use outside_desk::Desk;
+use record_reader::read_database;
+use reuse_db::{Database, DbFault};
 use run_words::{ReadStop, Refusal, is_dash};
 use std::alloc::Global;
 

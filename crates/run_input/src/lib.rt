@@ -43,19 +43,19 @@
 
 mod bytes;
 mod file;
-mod site;
-mod theorems;
+mod input;
 mod installed;
-mod run_database_theorems;
 mod paths;
 mod read;
-mod sources;
 mod recipe_files_theorems;
-mod input;
 mod recipes;
 mod repository;
 mod roots;
+mod run_database_theorems;
 mod run_input_theorems;
+mod site;
+mod sources;
+mod theorems;
 
 pub use bytes::read_bytes;
 pub use file::WholeFile;
@@ -72,4 +72,3 @@ pub use run_words::{Command, Status, Stop, Work, WriteStop, is_dash, read_order}
 pub use site::read_site;
 pub use sources::Sources;
 pub use theorems::site_laws;
-

@@ -13,11 +13,11 @@ ghost use Rattle.run_input.specs.Sources.{bytes_in, source_of};
 ghost use Rattle.run_input.specs.Recipes.{recipes_of};
 ghost use Rattle.run_input.specs.Inputs.{apart_of};
 
-use recipe_data::Recipe;
-use plain_data::{Duplicate, List};
-use file_limits::size_laws;
-use recipe_reader::{RecipeFault, RecipeFile, read_recipes};
 use crate::{ReadStop, Refusal};
+use file_limits::size_laws;
+use plain_data::{Duplicate, List};
+use recipe_data::Recipe;
+use recipe_reader::{RecipeFault, RecipeFile, read_recipes};
 use std::alloc::{AllocError, Global};
 use std::thread::Threads;
 use virtuals::{Providers, ProvidersFault};

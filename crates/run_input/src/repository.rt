@@ -14,12 +14,11 @@ ghost use Rattle.run_input.specs.Sources.{bytes_in, names_of, source_of};
 ghost use Rattle.run_input.specs.Inputs.{Over, InRepository};
 
 use crate::recipes::{check_apart, recipes_of};
-use recipe_data::Recipe;
+use crate::{ReadStop, Sources, read_sources};
 use outside_desk::Desk;
 use plain_data::List;
-use crate::{Sources, read_sources};
+use recipe_data::Recipe;
 use recipe_reader::RecipeFile;
-use crate::ReadStop;
 use std::alloc::Global;
 use std::thread::Threads;
 

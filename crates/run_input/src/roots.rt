@@ -5,8 +5,8 @@ ghost use Rattle.run_input.specs.Stages.{Is, Then};
 ghost use Rattle.run_input.specs.Stops.{Gives, EndsInReadFault, EndsInUsage};
 ghost use Rattle.run_input.specs.Roots.{SpecsOf, RootsOf, are_named, roots_of};
 
-use plain_data::List;
 use crate::{ReadStop, Refusal};
+use plain_data::List;
 use spec_grammar::{Spec, SpecFault, read_specs, writing_laws};
 use std::alloc::Global;
 

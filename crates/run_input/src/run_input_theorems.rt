@@ -7,8 +7,7 @@ ghost use Rattle.run_input.specs.Words.{Command};
 ghost use Rattle.run_input.specs.declared.input.Input.{Input};
 ghost use Rattle.run_input.specs.Inputs.{Reads};
 
-use crate::installed_laws;
-use crate::site_laws;
+use crate::{installed_laws, site_laws};
 use spec_grammar::reading_laws;
 
 /// A command names one input at most over files, or is due one refusal at most.

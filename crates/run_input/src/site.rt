@@ -8,10 +8,10 @@ ghost use Rattle.run_words.specs.Stops.{Gives, EndsByInput, EndsInReadFault, End
 ghost use Rattle.run_words.specs.Words.{is_dash};
 ghost use Rattle.run_input.specs.Sites.{SettingsIn, SettingsAt, FailsThere};
 
-use outside_desk::Desk;
 use crate::{WholeFile, read_bytes};
-use run_words::{ReadStop, Refusal, is_dash};
 use file_limits::settings_count_laws;
+use outside_desk::Desk;
+use run_words::{ReadStop, Refusal, is_dash};
 use settings_reader::{SettingsFault, read_settings, settings_laws};
 use site_settings::Settings;
 use std::alloc::Global;

@@ -14,13 +14,13 @@ use crate::answer::Outcome;
 use crate::find::outcome_of;
 use crate::put::{put_cert, put_file};
 use crate::told::{answer_text, say};
+use crate::write_valid;
 use graph_core::Graph;
 use outside_desk::{Desk, Sink};
 use problem::Problem;
 use proof_log::Log;
 use run_task::{Answer, WriteStop};
 use std::alloc::Global;
-use crate::write_valid;
 
 /// Puts the certificate of a graph, and then its lock file.
 fn put_best<D: Desk>(

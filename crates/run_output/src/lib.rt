@@ -13,10 +13,10 @@
 //! What it must not know: words, and how the problem was read.
 #![tactic(auto)]
 
-mod lock;
 mod answer;
 mod find;
 mod found;
+mod lock;
 mod put;
 mod report;
 mod said;
@@ -28,6 +28,8 @@ pub use lock::write_valid;
 // What crates above answer with, and the log that they keep.
 pub use proof_log::Log;
 pub use report::worked_texts;
-pub use run_task::{Command, Progress, ReadStop, Refusal, Stage, Status, Stop, Task, Untold, Work, WriteStop, read_order, read_task, task_laws};
+pub use run_task::{
+    Command, Progress, ReadStop, Refusal, Stage, Status, Stop, Task, Untold, Work, WriteStop,
+    read_order, read_task, task_laws,
+};
 pub use theorems::budget_laws;
-

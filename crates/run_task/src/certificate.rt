@@ -19,9 +19,9 @@ ghost use Rattle.run_task.specs.Pieces.{FailsThere};
 
 use crate::pieces::take_all;
 use crate::run_certificate_verdict::verdict;
+use best_graph::{Encoded, Rules, encode, encode_rules, values_of, verdict_laws};
 use certified::{TextChecker, text_laws};
 use clause_store::{ClauseList, Lit};
-use best_graph::{Encoded, Rules, encode, encode_rules, values_of, verdict_laws};
 use outside_desk::Desk;
 use possible_closure::Closure;
 use problem::Problem;

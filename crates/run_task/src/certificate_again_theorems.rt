@@ -2,8 +2,8 @@
 
 ghost use Rattle.run_task.specs.Again.{BestIsAccepted, NothingIsAccepted};
 
-use certified::text_laws;
 use best_graph::verdict_laws;
+use certified::text_laws;
 use log_checker::checker_laws;
 
 /// The log of a best graph is accepted as a certificate of the graph's costs, and that of a problem without a graph as a

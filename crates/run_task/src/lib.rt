@@ -34,19 +34,19 @@
 //! What it must not know: how a problem is solved, and what is written.
 #![tactic(auto)]
 
+mod certificate;
+mod certificate_again_theorems;
 mod lock;
+mod looks;
+mod pieces;
 mod roots;
+mod run_certificate_theorems;
+mod run_certificate_verdict;
+mod run_task_theorems;
+mod task;
 mod theorems;
 mod verdict;
 mod whole;
-mod certificate;
-mod pieces;
-mod run_certificate_theorems;
-mod run_certificate_verdict;
-mod certificate_again_theorems;
-mod looks;
-mod task;
-mod run_task_theorems;
 
 // What crates above answer with.
 pub use best_graph::{Answer, Explanation, Progress, Stage, Untold, best_graph, explain};
@@ -55,9 +55,10 @@ pub use certificate_again_theorems::again_laws;
 // The cost vector, for crates above.
 pub use cost_vector::vector;
 pub use run_certificate_theorems::certificate_laws;
-pub use run_input::{Command, Input, ReadStop, Refusal, Status, Stop, Work, WriteStop, is_dash, read_order};
+pub use run_input::{
+    Command, Input, ReadStop, Refusal, Status, Stop, Work, WriteStop, is_dash, read_order,
+};
 pub use run_task_theorems::task_laws;
 pub use task::{Task, read_task};
 pub use theorems::verdict_laws;
 pub use verdict::read_verdict;
-

@@ -10,10 +10,9 @@ ghost use Rattle.run_task.specs.Shown.{IsBestLock};
 ghost use Rattle.run_task.specs.Tasks.{AcceptanceOf, CheckOf, ReportOf, IsReportTask, IsYes, FailsAtEither};
 
 use crate::task::Task;
+use crate::{read_certificate, read_verdict};
 use outside_desk::Desk;
-use crate::read_certificate;
 use run_input::{Input, ReadStop};
-use crate::read_verdict;
 use std::alloc::Global;
 use std::thread::Threads;
 

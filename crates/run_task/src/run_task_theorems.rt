@@ -8,9 +8,8 @@ ghost use Rattle.run_input.specs.Refusal.{Refusal};
 ghost use Rattle.run_task.specs.declared.task.Task.{Task};
 ghost use Rattle.run_task.specs.Tasks.{Poses};
 
-use crate::certificate_laws;
+use crate::{certificate_laws, verdict_laws};
 use run_input::input_laws;
-use crate::verdict_laws;
 
 /// Words name one task at most over files, or are due one refusal at most. What is posed by the verdicts of logs on certificates is
 /// among what any verdicts pose; and what is posed without a certificate is posed by these too.

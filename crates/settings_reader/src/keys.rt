@@ -6,12 +6,12 @@ ghost use Rattle.settings_reader.specs.Keys.{budget_at, compilers_at, os_at, pla
 
 use crate::lists::{CompilerList, OsList, ProviderList, TargetList};
 use json_readers::{JsonFault, KnownMapOf, Text, WholeNumber, may};
+use json_texts::{self, Name};
 use plain_data::{List, Word};
 use serde_json::{Map, Value};
 use site_settings::{CompilerEntry, standard};
 use std::alloc::Global;
 use target_table::TargetEntry;
-use json_texts::{self, Name};
 
 type Members = Map<String, Value>;
 

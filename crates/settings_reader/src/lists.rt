@@ -7,12 +7,12 @@ use graph_core::Compiler;
 use json_readers::{
     AnyText, JsonFault, ListOf, Reader, Text, distinct, known, may, need, not_empty,
 };
+use json_texts::{Name, PlainValue, VersionText};
 use plain_data::{Duplicate, List, Word};
 use serde_json::Value;
 use site_settings::CompilerEntry;
 use std::alloc::{AllocError, Global};
 use target_table::TargetEntry;
-use json_texts::{Name, PlainValue, VersionText};
 
 /// The operating systems.
 #[derive(Clone, Copy)]

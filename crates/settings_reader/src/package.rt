@@ -11,11 +11,11 @@ use crate::parser::list_at;
 use crate::stop::{Stop, below};
 use crate::versions::SetText;
 use json_readers::{TruthValue, known, may, member, named};
+use json_texts::Name;
 use plain_data::{List, Word};
 use serde_json::{Map, Value};
 use site_settings::PackageEntry;
 use std::alloc::Global;
-use json_texts::Name;
 
 /// The packages of the settings, whose platform is given.
 pub(crate) fn packages_at(

@@ -3,11 +3,11 @@ ghost use Rattle.std.specs.Prelude.{◌≡◌, ◌+◌, ◌*◌, [], ◌∷◌, 
 ghost use Rattle.table_plan.specs.Offers.{IsPlan};
 ghost use Rattle.table_plan.specs.Numbers.{lit_of, numbered, attribute, width_of, variants_from, values_in, width, widths, block_from, blocks_from, edge_from, edges_from, provider_from, providers_from, table_from, variables_of};
 
+use crate::{Plan, Possible};
 use clause_store::{Lit, Var};
 use literal_table::{Block, EdgeLits, LiteralTable, ProviderLits};
 use plain_data::{Duplicate, List, Word};
 use std::alloc::{AllocError, Global};
-use crate::{Plan, Possible};
 use variant_values::ValueSet;
 
 /// The table of a plan, whose variables go on from a number, the next one that is free.

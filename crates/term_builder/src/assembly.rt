@@ -7,9 +7,8 @@ ghost use Rattle.term_builder.specs.Criteria.{criterion_terms};
 
 use crate::blocks::criterion_terms;
 use crate::criteria::{Criterion, Summed, anywhere, criteria};
-use cost_terms::in_part;
 use clause_formulas::Defined;
-use cost_terms::Weighted;
+use cost_terms::{Weighted, in_part};
 use literal_table::LiteralTable;
 use plain_data::{List, Word};
 use problem::Problem;

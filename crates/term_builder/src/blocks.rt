@@ -10,17 +10,16 @@ ghost use Rattle.term_builder.specs.Criteria.{summed_terms, criterion_terms};
 
 use crate::criteria::{Criterion, Place, Summed};
 use crate::held::conditions_at;
+use crate::{Attribute, Counted, push_edges, push_providers, push_variants};
 use clause_formulas::{Defined, Formula};
-use crate::push_providers;
-use cost_terms::{compiler_terms, deprecated_terms, os_terms, target_terms, version_terms};
-use crate::{Attribute, push_edges};
-use cost_terms::Weighted;
+use cost_terms::{
+    Weighted, compiler_terms, deprecated_terms, os_terms, target_terms, version_terms,
+};
 use literal_table::{Block, LiteralTable};
 use plain_data::{List, Word};
 use problem::Problem;
 use spec_grammar::Spec;
 use std::alloc::{AllocError, Global};
-use crate::{Counted, push_variants};
 
 // ---- roots
 

@@ -3,8 +3,8 @@ ghost use Rattle.std.specs.Prelude.{◌≡◌, ◌++◌, IfOk, OnOk};
 ghost use Rattle.cost_terms.specs.Terms.{edge_said, child_terms, edge_terms, edges_terms};
 ghost use Rattle.term_builder.specs.Rows.{compared};
 
-use clause_formulas::Formula;
 use crate::{push_compilers_differ, push_texts_differ};
+use clause_formulas::Formula;
 use cost_terms::Weighted;
 use literal_table::{Block, EdgeLits, LiteralTable};
 use std::alloc::{AllocError, Global};

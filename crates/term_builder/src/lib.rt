@@ -17,19 +17,18 @@
 //! What it must not know: clauses and bits, and how the conditions' values were found.
 #![tactic(auto)]
 
-mod differs;
-mod compared;
-mod provided;
-mod governing;
-mod values;
 mod assembly;
 mod blocks;
+mod compared;
 mod criteria;
+mod differs;
+mod governing;
 mod held;
+mod provided;
+mod values;
 
 pub use assembly::cost_terms;
 pub use compared::{Attribute, push_edges};
 pub use differs::{push_compilers_differ, push_texts_differ};
 pub use provided::push_providers;
 pub use values::{Counted, push_variants};
-

@@ -8,8 +8,8 @@ ghost use Rattle.term_builder.specs.CostBuilderRows.{only_if};
 
 use clause_formulas::Formula;
 use clause_store::Lit;
-use cost_vector::provider_weight;
 use cost_terms::Weighted;
+use cost_vector::provider_weight;
 use literal_table::{Block, LiteralTable, ProviderLits};
 use plain_data::Word;
 use problem::Problem;

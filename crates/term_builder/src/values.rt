@@ -12,12 +12,11 @@ ghost use Rattle.term_builder.specs.VariantBuilderRows.{only_if, governs, counte
 use crate::governing::governs;
 use clause_formulas::{Defined, Formula};
 use clause_store::Lit;
-use recipe_data::VariantRow;
 use cost_terms::Weighted;
 use literal_table::{Block, any_choice};
 use plain_data::{List, Word};
-use problem::Problem;
-use problem::variants_at;
+use problem::{Problem, variants_at};
+use recipe_data::VariantRow;
 use std::alloc::{AllocError, Global};
 
 /// What is counted of a variant: values that are no default values, or default values that are not used.

@@ -1,9 +1,8 @@
 //! The laws of the layers below, together.
 ghost use Rattle.valid_models.specs.Closures.{ClosureIsRight, ClosureDecodes, ClosureStructured, ClosureTable, ClosureInRange, ClosureRanks};
 
-use crate::right_rules;
 use crate::{
-    encoding_laws, model_laws, plan_laws, ranking_laws, right_tables, spelling_laws,
+    encoding_laws, model_laws, plan_laws, ranking_laws, right_rules, right_tables, spelling_laws,
 };
 
 /// The table and the formulas of a closure are right. Models of its clauses meet the table's structure and decode to just the

@@ -15,13 +15,12 @@
 //! graphs, for each set of demands. It joins `right_tables` and `right_rules` with `graph_encoding`.
 #![tactic(auto)]
 
-mod theorems;
-mod right_rules_theorems;
 mod closure_encoding_theorems;
+mod right_rules_theorems;
+mod theorems;
 
 pub use closure_encoding_theorems::closure_laws;
 pub use graph_encoding::{encoding_laws, model_laws, ranking_laws};
 pub use right_rules_theorems::right_rules;
 pub use table_plan::{plan_laws, spelling_laws};
 pub use theorems::right_tables;
-

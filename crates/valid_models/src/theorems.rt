@@ -2,8 +2,7 @@
 ghost use Rattle.valid_models.specs.Tables.{ClosureTableIsRight};
 
 use graph_decoding::{decoding_laws, local_laws, structure_laws};
-use table_plan::spelling_laws;
-use table_plan::plan_laws;
+use table_plan::{plan_laws, spelling_laws};
 
 /// The table of a closure is right.
 pub fn right_tables()

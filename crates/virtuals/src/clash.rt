@@ -5,8 +5,8 @@ ghost use Rattle.virtuals.specs.Virtuals.{AreProviders, IsProvidersFault, clash,
 ghost use Rattle.virtuals.specs.declared.clash.ProvidersFault.TheVariants.{OutOfMemory};
 
 use crate::Providers;
-use recipe_data::Recipe;
 use plain_data::{Duplicate, Word};
+use recipe_data::Recipe;
 use std::alloc::{AllocError, Global};
 use thiserror::Error;
 

@@ -11,10 +11,10 @@ mod providers;
 mod theorems;
 
 pub use clash::ProvidersFault;
+pub use providers::Providers;
 pub use recipe_data::{
     Bits, Compiler, Condition, ConflictRow, DependRow, Graph, Node, Part, ProvideRow, Recipe,
     RequireRow, Spec, TargetItem, ValueSet, VariantRow, VersionSet, find, heads_of, reached,
     reaches,
 };
-pub use providers::Providers;
 pub use theorems::virtual_laws;

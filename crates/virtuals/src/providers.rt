@@ -7,8 +7,8 @@ ghost use Rattle.recipe_data.specs.OfGraphCore.Graphs.{pair_cmp};
 ghost use Rattle.virtuals.specs.Virtuals.{AreProviders, has_pair, pairs_of};
 ghost use Rattle.virtuals.specs.Pairs.{row_pairs, all_pairs};
 
-use recipe_data::{ProvideRow, Recipe};
 use plain_data::{Duplicate, Word};
+use recipe_data::{ProvideRow, Recipe};
 use std::alloc::{AllocError, Global};
 use std::marker::Model;
 

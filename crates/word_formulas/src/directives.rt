@@ -15,11 +15,11 @@ use crate::parts::{meets_formula, rest_formula};
 use crate::virtual_nodes::provides_formula;
 use clause_formulas::Formula;
 use condition_rules::World;
-use recipe_data::DependRow;
 use graph_core::Kinds;
 use literal_table::LiteralTable;
 use plain_data::Word;
 use problem::Problem;
+use recipe_data::DependRow;
 use spec_grammar::Part;
 use std::alloc::{AllocError, Global};
 
