@@ -18,11 +18,11 @@ module _ {T : Type 0} (p : T → Bool) where
   more : (xs : List T) (i : ℕ) (d : T) → i < length xs
       → find_last p (take (i + 1) xs) ≡ option_or (cond (p (get_or xs i d)) (Some (get_or xs i d)) None) (find_last p (take i xs))
   more [] i d lt = absurd (let wrong : i < 0 = lt in omega arith)
-  more (x ∷ xs) zero d lt = one (cond (p x) (Some x) None)
+  more (x ∷ xs) zero d lt = same_or_none (cond (p x) (Some x) None)
     where
-      one : (o : Option T) → o ≡ option_or o None
-      one None = refl
-      one (Some y) = refl
+      same_or_none : (o : Option T) → o ≡ option_or o None
+      same_or_none None = refl
+      same_or_none (Some y) = refl
   more (x ∷ xs) (suc i) d lt =
       rw (taken x xs i, more xs i d (omega arith))
       (or_assoc (cond (p (get_or xs i d)) (Some (get_or xs i d)) None) (find_last p (take i xs)) (cond (p x) (Some x) None))

@@ -22,16 +22,16 @@ use Rattle.keyed_lists.proofs.LookupLaws.{find_sound, same_lists}
 module _ {K X : Type 0} (given : K → Option X) where
   pub given_at : (ks : List K) (x : X) → Contains (filter_map given ks) x → (k : K) × Contains ks k × (given k ≡ Some x)
   given_at [] x there = absurd (omega (arith, there.1))
-  given_at (k ∷ ks) x there = go (given k) refl there (given_at ks x)
+  given_at (k ∷ ks) x there = given_by_key (given k) refl there (given_at ks x)
     where
       later : ((j : K) × Contains ks j × (given j ≡ Some x)) → (j : K) × Contains (k ∷ ks) j × (given j ≡ Some x)
       later w = (w.0, has_later k ks w.0 w.1, w.2)
 
-      go : (r : Option X) → given k ≡ r → Contains (cons_option r (filter_map given ks)) x
+      given_by_key : (r : Option X) → given k ≡ r → Contains (cons_option r (filter_map given ks)) x
           → (Contains (filter_map given ks) x → (j : K) × Contains ks j × (given j ≡ Some x)) → (j : K) × Contains (k ∷ ks) j
           × (given j ≡ Some x)
-      go None is there rest = later (rest there)
-      go (Some y) is there rest = ⊎_elim (λ e. (k, has_first k ks, is ∙ ap (λ z. Some z) e)) (λ in_rest. later (rest in_rest))
+      given_by_key None is there rest = later (rest there)
+      given_by_key (Some y) is there rest = ⊎_elim (λ e. (k, has_first k ks, is ∙ ap (λ z. Some z) e)) (λ in_rest. later (rest in_rest))
           (first_or_later y (filter_map given ks) x there)
 
   pub list_all-filter_map : (test : X → Bool) (ks : List K)
@@ -67,11 +67,11 @@ module _ {X K : Type 0} {R : K → K → Ordering} (o : IsTotalOrder R) (exact :
   module _ (given : K → Option X) (keyed : IsKeyed key given) where
     pub in_order-filter_map : (ks : List K) → IsStrictlySortedBy R ks → IsInOrder R key (filter_map given ks)
     in_order-filter_map [] rising = rises_none R
-    in_order-filter_map (k ∷ ks) rising = go (given k) refl (in_order-filter_map ks (rises_rest R k ks rising))
+    in_order-filter_map (k ∷ ks) rising = in_order_by_key (given k) refl (in_order-filter_map ks (rises_rest R k ks rising))
       where
-        go : (r : Option X) → given k ≡ r → IsInOrder R key (filter_map given ks) → IsInOrder R key (cons_option r (filter_map given ks))
-        go None is rest = rest
-        go (Some x) is rest = rises_more R (key x) (map key (filter_map given ks)) (λ j there.
+        in_order_by_key : (r : Option X) → given k ≡ r → IsInOrder R key (filter_map given ks) → IsInOrder R key (cons_option r (filter_map given ks))
+        in_order_by_key None is rest = rest
+        in_order_by_key (Some x) is rest = rises_more R (key x) (map key (filter_map given ks)) (λ j there.
             let from = image_of key (filter_map given ks) j there in
             let at = given_at given ks from.0 from.1 in
             let is_j : at.0 ≡ j = sym (keyed at.0 from.0 at.2) ∙ from.2 in

@@ -50,15 +50,15 @@ module _ {X K : Type 0} {R : K → K → Ordering} (o : IsTotalOrder R) (exact :
   turned a b r e = o.antisymm b a ∙ ap ordering_reverse e
 
   pub insert-at_gap : (xs : List X) (x : X) (i : ℕ) → IsGapFor R key xs (key x) i → insert xs i x ≡ with_one R key xs x
-  insert-at_gap xs x i gap = go xs i gap.within gap.parted
+  insert-at_gap xs x i gap = inserted_at xs i gap.within gap.parted
     where
-      go : (xs : List X) (i : ℕ) → i ≤ length xs → IsPartitionPoint (λ u. R (key u) (key x) ≡ Less) (λ u. R (key u) (key x) ≡ Greater) xs i
+      inserted_at : (xs : List X) (i : ℕ) → i ≤ length xs → IsPartitionPoint (λ u. R (key u) (key x) ≡ Less) (λ u. R (key u) (key x) ≡ Greater) xs i
           → insert xs i x ≡ with_one R key xs x
-      go [] zero le parted = refl
-      go [] (suc i) le parted = absurd (omega (arith, le))
-      go (y ∷ ys) zero le parted = rw (turned (key y) (key x) Greater (parted.1 0 x (omega arith) (omega arith))) refl
-      go (y ∷ ys) (suc i) le parted =
-          let rest = go ys i (omega (arith, le)) (
+      inserted_at [] zero le parted = refl
+      inserted_at [] (suc i) le parted = absurd (omega (arith, le))
+      inserted_at (y ∷ ys) zero le parted = rw (turned (key y) (key x) Greater (parted.1 0 x (omega arith) (omega arith))) refl
+      inserted_at (y ∷ ys) (suc i) le parted =
+          let rest = inserted_at ys i (omega (arith, le)) (
             λ n d a b. parted.0 (suc n) d (omega arith) (omega arith),
             λ n d a b. parted.1 (suc n) d
                 (omega arith) (omega arith),

@@ -16,15 +16,15 @@ module _ {X K : Type 0} {R : K → K → Ordering} (o : IsTotalOrder R) (exact :
   -- what is found is there, with the key
   pub find_sound : (xs : List X) (k : K) (x : X) → find_key R key xs k ≡ Some x → Contains xs x × (key x ≡ k)
   find_sound [] k x e = absurd (none-some x e)
-  find_sound (y ∷ ys) k x e = go (R (key y) k) refl e (find_sound ys k x)
+  find_sound (y ∷ ys) k x e = sound_by_order (R (key y) k) refl e (find_sound ys k x)
     where
-      go : (r : Ordering) → R (key y) k ≡ r → cond (is_eq r) (Some y) (find_key R key ys k) ≡ Some x
+      sound_by_order : (r : Ordering) → R (key y) k ≡ r → cond (is_eq r) (Some y) (find_key R key ys k) ≡ Some x
           → (find_key R key ys k ≡ Some x → Contains ys x × (key x ≡ k)) → Contains (y ∷ ys) x × (key x ≡ k)
-      go Less is found rest = (has_later y ys x (rest found).0, (rest found).1)
-      go Equal is found rest =
+      sound_by_order Less is found rest = (has_later y ys x (rest found).0, (rest found).1)
+      sound_by_order Equal is found rest =
           let same : y ≡ x = cc in
           (subst (Contains (y ∷ ys)) same (has_first y ys), ap key (sym same) ∙ exact (key y) k is)
-      go Greater is found rest = (has_later y ys x (rest found).0, (rest found).1)
+      sound_by_order Greater is found rest = (has_later y ys x (rest found).0, (rest found).1)
 
   pub found_iff : (xs : List X) (k : K) (x : X) → IsInOrder R key xs → (find_key R key xs k ≡ Some x) ↔ (Contains xs x × (key x ≡ k))
   found_iff xs k x ordered = (find_sound xs k x, λ h. find_some o exact key xs k x ordered h.0 (ap (λ u. R u k) h.1 ∙ tied_itself o k))

@@ -16,12 +16,12 @@ use Rattle.keyed_lists.proofs.KeyedLaws as keyed
 -- texts are one where they compare as equal
 pub texts_decide : (p q : List ℕ) → Decides (eq_by_cmp byte_cmp p q) (p ≡ q)
 texts_decide p q =
-    (λ e. go (byte_cmp p q) (ties_are_equal p q) e, λ e. ap is_eq (ap (byte_cmp p) (sym e) ∙ tied_itself nat_list_cmp_total p))
+    (λ e. equal_by_order (byte_cmp p q) (ties_are_equal p q) e, λ e. ap is_eq (ap (byte_cmp p) (sym e) ∙ tied_itself nat_list_cmp_total p))
   where
-    go : (r : Ordering) → (r ≡ Equal → p ≡ q) → is_eq r ≡ true → p ≡ q
-    go Less f e = absurd (cc)
-    go Equal f e = f refl
-    go Greater f e = absurd (cc)
+    equal_by_order : (r : Ordering) → (r ≡ Equal → p ≡ q) → is_eq r ≡ true → p ≡ q
+    equal_by_order Less f e = absurd (cc)
+    equal_by_order Equal f e = f refl
+    equal_by_order Greater f e = absurd (cc)
 
 module _ {X : Type 0} (key : X → List ℕ) (xs : List X) (k : List ℕ) where
   pub search_ends : (r : Result ℕ ℕ) → IsInOrder byte_cmp key xs → IsSearchInRange r (length xs)

@@ -11,11 +11,11 @@ module _ {X : Type 0} where
   has_later x xs q h = (suc h.0, omega arith, h.2)
 
   pub first_or_later : (x : X) (xs : List X) (q : X) → Contains (x ∷ xs) q → (x ≡ q) ⊎ Contains xs q
-  first_or_later x xs q h = go h.0 h.1 h.2
+  first_or_later x xs q h = at_place h.0 h.1 h.2
     where
-      go : (k : ℕ) → k < length (x ∷ xs) → get_or (x ∷ xs) k q ≡ q → (x ≡ q) ⊎ Contains xs q
-      go zero lt e = inl e
-      go (suc k) lt e = inr (k, omega arith, e)
+      at_place : (k : ℕ) → k < length (x ∷ xs) → get_or (x ∷ xs) k q ≡ q → (x ≡ q) ⊎ Contains xs q
+      at_place zero lt e = inl e
+      at_place (suc k) lt e = inr (k, omega arith, e)
 
   -- ---- counts by two tests, the first of which implies the second
 

@@ -69,10 +69,10 @@ module _ {K : Type 0} (same : K → K → Bool) (exact : (x y : K) → Decides (
 
     next : (p q : K) → Contains tails p → Path (HasArc arcs) p q → IsNext q
     next p q there path = ⊎_elim (λ is. is) (λ w. absurd (false≢true (sym w.0 ∙ (among_decides tails p).1 there)))
-        (along (HasArc arcs) (Begins q) q one more p path)
+        (along (HasArc arcs) (Begins q) q begins_by_arc more p path)
       where
-        one : (x : K) → HasArc arcs x q → Begins q x
-        one x arc = ⊎_elim
+        begins_by_arc : (x : K) → HasArc arcs x q → Begins q x
+        begins_by_arc x arc = ⊎_elim
             (λ here. inl (inl (head x q ((among_decides tails x).0 here) arc)))
             (λ elsewhere. inr (elsewhere, one_arc Others x q (other x q elsewhere arc)))
             (cases_Bool (among same tails x))

@@ -117,23 +117,23 @@ module _ (a b c : List ℕ) (n : ℕ) (differ : Differ (a ++ b ++ c)) (in_a : Be
 
 put_length : (acc : List ℕ) (k : ℕ) → Lacks k acc → length (insert_key nat_cmp acc k) ≡ length acc + 1
 put_length [] k lacks = refl
-put_length (x ∷ acc) k lacks = by (nat_cmp k x) refl (put_length acc k lacks.1)
+put_length (x ∷ acc) k lacks = longer_by_order (nat_cmp k x) refl (put_length acc k lacks.1)
   where
-    by : (r : Ordering) → nat_cmp k x ≡ r → length (insert_key nat_cmp acc k) ≡ length acc + 1
+    longer_by_order : (r : Ordering) → nat_cmp k x ≡ r → length (insert_key nat_cmp acc k) ≡ length acc + 1
         → length (match_ordering r (k ∷ x ∷ acc) (x ∷ acc) (x ∷ insert_key nat_cmp acc k)) ≡ length (x ∷ acc) + 1
-    by Less e rest = omega arith
-    by Equal e rest = absurd (lacks.0 (sym (nat_cmp-IsAntisymmetric k x e)))
-    by Greater e rest = omega (arith, rest)
+    longer_by_order Less e rest = omega arith
+    longer_by_order Equal e rest = absurd (lacks.0 (sym (nat_cmp-IsAntisymmetric k x e)))
+    longer_by_order Greater e rest = omega (arith, rest)
 
 put_lacks : (acc : List ℕ) (k j : ℕ) → Lacks j acc → (k ≢ j) → Lacks j (insert_key nat_cmp acc k)
 put_lacks [] k j lacks ne = (ne, tt)
-put_lacks (x ∷ acc) k j lacks ne = by (nat_cmp k x) (put_lacks acc k j lacks.1 ne)
+put_lacks (x ∷ acc) k j lacks ne = lacks_by_order (nat_cmp k x) (put_lacks acc k j lacks.1 ne)
   where
-    by : (r : Ordering) → Lacks j (insert_key nat_cmp acc k)
+    lacks_by_order : (r : Ordering) → Lacks j (insert_key nat_cmp acc k)
         → Lacks j (match_ordering r (k ∷ x ∷ acc) (x ∷ acc) (x ∷ insert_key nat_cmp acc k))
-    by Less rest = (ne, lacks)
-    by Equal rest = lacks
-    by Greater rest = (lacks.0, rest)
+    lacks_by_order Less rest = (ne, lacks)
+    lacks_by_order Equal rest = lacks
+    lacks_by_order Greater rest = (lacks.0, rest)
 
 all_lack : (acc ks : List ℕ) (k : ℕ) → Lacks k ks → AllByRecursion (λ j. Lacks j acc) ks
     → AllByRecursion (λ j. Lacks j (insert_key nat_cmp acc k)) ks

@@ -16,12 +16,12 @@ use Rattle.recipe_data.proofs.OfGraphCore.PairLaws.{tells_alike}
 use Rattle.virtuals.specs.Virtuals.{Pairs}
 
 not_above : (p q : Text) (s : Ordering) → ordering_then (byte_cmp p q) s ≡ Less → is_lt (byte_cmp q p) ≡ false
-not_above p q s e = rw (nat_list_cmp_total.antisymm q p) (go (byte_cmp p q) e)
+not_above p q s e = rw (nat_list_cmp_total.antisymm q p) (not_below_by_order (byte_cmp p q) e)
   where
-    go : (r : Ordering) → ordering_then r s ≡ Less → is_lt (ordering_reverse r) ≡ false
-    go Less e = refl
-    go Equal e = refl
-    go Greater e = absurd (cc)
+    not_below_by_order : (r : Ordering) → ordering_then r s ≡ Less → is_lt (ordering_reverse r) ≡ false
+    not_below_by_order Less e = refl
+    not_below_by_order Equal e = refl
+    not_below_by_order Greater e = absurd (cc)
 
 -- in the order of pairs their first texts rise
 pub firsts_rise : (pairs : Pairs) (name : Text) → IsStrictlySortedBy pair_cmp pairs

@@ -32,12 +32,12 @@ any_of p (y ∷ ys) x there passes = ⊎_elim
 module _ {X : Type 0} (p : X → Bool) where
   pub from_any : (xs : List X) → list_any p xs ≡ true → (x : X) × Contains xs x × (p x ≡ true)
   from_any [] e = absurd (false≢true e)
-  from_any (y ∷ ys) e = go (p y) refl e (from_any ys)
+  from_any (y ∷ ys) e = found_by_test (p y) refl e (from_any ys)
     where
-      go : (b : Bool) → p y ≡ b → (b || list_any p ys) ≡ true → (list_any p ys ≡ true → (x : X) × Contains ys x × (p x ≡ true)) → (x : X)
+      found_by_test : (b : Bool) → p y ≡ b → (b || list_any p ys) ≡ true → (list_any p ys ≡ true → (x : X) × Contains ys x × (p x ≡ true)) → (x : X)
           × Contains (y ∷ ys) x × (p x ≡ true)
-      go true is e rest = (y, has_first y ys, is)
-      go false is e rest = let found = rest e in (found.0, has_later y ys found.0 found.1, found.2)
+      found_by_test true is e rest = (y, has_first y ys, is)
+      found_by_test false is e rest = let found = rest e in (found.0, has_later y ys found.0 found.1, found.2)
 
 same_test : (a b : Bool) → (a ≡ true → b ≡ true) → (b ≡ true → a ≡ true) → a ≡ b
 same_test true b to from = sym (to refl)
@@ -146,19 +146,19 @@ pub first_found : (test : Recipe → Bool) (recipes : List Recipe) (first other 
     → find test recipes ≡ Some first → Contains recipes other → test other ≡ true → is_le (byte_cmp first.name other.name) ≡ true
 first_found test [] first other ordered found there passes = absurd (omega (arith, there.1))
 first_found test (recipe ∷ recipes) first other ordered found there passes =
-    go (test recipe) refl found (first_found test recipes first other (rises_rest byte_cmp recipe.name (map name_of recipes) ordered))
+    ordered_by_test (test recipe) refl found (first_found test recipes first other (rises_rest byte_cmp recipe.name (map name_of recipes) ordered))
   where
-    go : (b : Bool) → test recipe ≡ b → cond b (Some recipe) (find test recipes) ≡ Some first
+    ordered_by_test : (b : Bool) → test recipe ≡ b → cond b (Some recipe) (find test recipes) ≡ Some first
         → (find test recipes ≡ Some first → Contains recipes other → test other ≡ true → is_le (byte_cmp first.name other.name) ≡ true)
         → is_le (byte_cmp first.name other.name) ≡ true
-    go true is e rest =
+    ordered_by_test true is e rest =
         let same : recipe ≡ first = cc in
         subst (λ (r : Recipe). is_le (byte_cmp r.name other.name) ≡ true) same (⊎_elim
         (λ here. ap is_le (ap (λ (r : Recipe). byte_cmp recipe.name r.name) (sym here) ∙ tied_itself nat_list_cmp_total recipe.name))
         (λ later. ap is_le (rises_above byte_cmp recipe.name (map name_of recipes) ordered other.name
         (has_image name_of recipes other later)))
         (first_or_later recipe recipes other there))
-    go false is e rest = ⊎_elim
+    ordered_by_test false is e rest = ⊎_elim
         (λ here. absurd (false≢true (sym is ∙ ap test here ∙ passes)))
         (λ later. rest e later passes)
         (first_or_later recipe recipes other there)
