@@ -81,7 +81,8 @@ bytes_ascii (b ∷ w) h =
 pub bytes_utf8 : (w : List ℕ) → AreBytes w → IsUtf8 w
 bytes_utf8 w h = IsUtf8-from_ascii w (bytes_ascii w h)
 
-start_byte : (b : ℕ) → is_start b ≡ true → is_version_byte b ≡ true
+-- what may begin a version may stand in one
+pub start_byte : (b : ℕ) → is_start b ≡ true → is_version_byte b ≡ true
 start_byte b h = rw h refl
 
 pub version_bytes : (w : List ℕ) → IsVersion w → AreBytes w
