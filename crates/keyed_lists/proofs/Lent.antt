@@ -16,6 +16,7 @@ use Rattle.std.proofs.lemmas.Bool.Decides.{same_from_decides}
 
 -- ---- texts
 
+-- texts compare as equal where their bytes are the same
 pub tells_alike : (p q : List ℕ) → is_eq (byte_cmp p q) ≡ bytes_eq p q
 tells_alike p q = same_from_decides (eq_by_cmp byte_cmp p q) (bytes_eq p q) (texts_decide p q) (bytes_decides p q)
 
@@ -30,6 +31,7 @@ tie_is p q = rw (nat_list_cmp_total.antisymm p q) (tie_by_order (byte_cmp q p)) 
 
 -- ---- elements with a text
 
+-- what passes after a map is what would pass, mapped
 pub filter_mapped : {X Y : Type 0} (f : X → Y) (p : Y → Bool) (xs : List X) → filter p (map f xs) ≡ map f (filter (λ x. p (f x)) xs)
 filter_mapped f p [] = refl
 filter_mapped f p (x ∷ xs) = filtered_by_test (p (f x)) (filter_mapped f p xs)
@@ -48,6 +50,7 @@ module _ {X : Type 0} (text_of : X → List ℕ) where
     | false ↦ λ is later. first_passing p ys x rest later
   ] refl e
 
+  -- a stable sort by a text keeps the elements with one text as they stood
   pub same_text : (xs ys : List X) (text : List ℕ) → IsStableBy (λ a b. is_lt (byte_cmp (text_of a) (text_of b))) xs ys
       → filter (λ x. bytes_eq (text_of x) text) ys ≡ filter (λ x. bytes_eq (text_of x) text) xs
   same_text xs ys text stable = same_by_first _ refl _ refl
@@ -73,6 +76,7 @@ module _ {T : Type 0} (text_of : T → List ℕ) where
   seconds [] = refl
   seconds (x ∷ xs) = ap (λ l. x ∷ l) (seconds xs)
 
+  -- what has at each text what the lent list has with it is an index of the elements
   pub indexes : (items : List T) (entries : List (Bor (List ℕ) × Bor T)) (index : List (List ℕ × T))
       → lent entries ≡ map (λ x. (text_of x, x)) items → ((text : List ℕ) → with_text text index ≡ with_text text (lent entries))
       → IsIndexOf text_of items index
@@ -103,6 +107,7 @@ module _ {X : Type 0} (p : X → Bool) where
   first_in [] = None
   first_in (x ∷ xs) = Some x
 
+  -- the first that passes is the first of those that pass
   pub find_first : (xs : List X) → find p xs ≡ first_in (filter p xs)
   find_first [] = refl
   find_first (x ∷ xs) = found_by_test (p x) (find_first xs)
@@ -115,6 +120,7 @@ module _ {X : Type 0} (p : X → Bool) where
   not_none : (n : ℕ) → not (suc n == 0) ≡ true
   not_none n = grind arith
 
+  -- some are left where one passes
   pub some_kept : (xs : List X) → not (length (filter p xs) == 0) ≡ list_any p xs
   some_kept [] = refl
   some_kept (x ∷ xs) = step (p x) (filter p xs) (list_any p xs) (some_kept xs)

@@ -132,5 +132,6 @@ final_rest place.InLow h = inl ([], [], refl, tt, refl)
 final_rest place.High h = (None, [], tt, tt, refl)
 final_rest place.InHigh h = ([], [], refl, tt, refl)
 
+-- a text that the machine accepts is a LIST
 pub list_from_end : (text : List ℕ) (s : Place) → run step place.Item text ≡ Some s → is_final s ≡ true → IsList text
 list_from_end text s e h = from_rest text (rw append-nil at (back place.Item s text [] e (final_rest s h)))

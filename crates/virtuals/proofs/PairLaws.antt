@@ -30,6 +30,7 @@ firsts_rise pairs name ordered = searchable_from_sorted nat_list_cmp_total (λ (
     not_above (get_or pairs k d).0 (get_or pairs (k + 1) d).0 (byte_cmp (get_or pairs k d).1 (get_or pairs (k + 1) d).1)
     (Less-from_sorted pair_cmp pairs k (k + 1) d ordered (omega arith) b))
 
+-- pairs whose first text compares as equal are those whose first text is the same
 pub firsts_alike : (pairs : Pairs) (name : Text) → filter (λ p. is_eq (byte_cmp p.0 name)) pairs ≡ filter (λ p. bytes_eq p.0 name) pairs
 firsts_alike pairs name = filter_agree (λ (p : Text × Text). is_eq (byte_cmp p.0 name)) (λ p. bytes_eq p.0 name)
     (λ p. tells_alike p.0 name) pairs
@@ -39,6 +40,7 @@ not_none n = grind arith
 
 -- some element passes where the list of those that do is not empty
 module _ {X : Type 0} (p : X → Bool) where
+  -- some are left where one passes
   pub some_kept : (xs : List X) → not (length (filter p xs) == 0) ≡ list_any p xs
   some_kept [] = refl
   some_kept (x ∷ xs) = step (p x) (filter p xs) (list_any p xs) (some_kept xs)
