@@ -99,6 +99,7 @@ argument_local bytes s g h = local_by_keyword (keyword_of s)
     local_by_keyword None = any_then GivesLocal (positional bytes directive.Provides s g.positional) _ (λ p. h)
     local_by_keyword (Some t) = keyword_local (role directive.Provides (word bytes t)) bytes t.start (word bytes t) (without_keyword s) g h
 
+-- the condition of a `provides` has no `^`
 pub arguments_local : (bytes : List ℕ) (segments : List Segment) → IfOk (arguments bytes directive.Provides segments) GivesLocal
 unfolding arguments
 arguments_local bytes segments = steps_keep GivesLocal (argument bytes directive.Provides) (argument_local bytes) segments nothing_given tt
@@ -180,6 +181,7 @@ argument_named bytes d s g h = named_by_keyword (keyword_of s)
     named_by_keyword None = ok_then AreNamed GivesNamed (positional bytes d s g.positional) _ (positional_named bytes d s g.positional h) (λ p is. is)
     named_by_keyword (Some t) = keyword_named (role d (word bytes t)) bytes d t.start (word bytes t) (without_keyword s) g h
 
+-- what the arguments name has a NAME
 pub arguments_named : (bytes : List ℕ) (d : Directive) (segments : List Segment) → IfOk (arguments bytes d segments) GivesNamed
 unfolding arguments
 arguments_named bytes d segments = steps_keep GivesNamed (argument bytes d) (argument_named bytes d) segments nothing_given

@@ -250,6 +250,7 @@ finish_whole : (to : ℕ) (s : State) → Ready s → IfOk (finish to s) (λ t. 
 unfolding finish
 finish_whole to s r = finish_whole_by to s.brackets s refl r
 
+-- the lines, blocks and brackets of a file's tokens are whole
 pub tokens_whole : (bytes : List ℕ) → IfOk (tokens bytes) AreWhole
 unfolding text_tokens
 tokens_whole bytes =

@@ -38,6 +38,7 @@ not_false : (b : Bool) → not b ≡ true → b ≡ false
 not_false true e = absurd cc
 not_false false e = refl
 
+-- a new text behind texts that differ differs from them
 pub distinct_push : (texts : Texts) (v : List ℕ) → is_distinct texts ≡ true → list_any (bytes_eq v) texts ≡ false
     → is_distinct (texts ++ v ∷ []) ≡ true
 distinct_push [] v d none = refl
