@@ -42,7 +42,7 @@ use Rattle.directive_arguments.specs.Arguments.{nothing_given, note, keyword as 
 use Rattle.directive_arguments.proofs.ListLaws.{ok_then, any_then}
 use Rattle.recipe_lexer.proofs.Keeping.{cond_all}
 use Rattle.file_limits.proofs.Sizes.{scalar_size, value_size, atom_size, segment_size}
-use Rattle.file_limits.proofs.RecipeCountsSteps.{no-more}
+use Rattle.file_limits.proofs.TokenCounts.{no-more}
 use Rattle.file_limits.proofs.ValueSizes.{Fits, ReadFits, value-fits}
 
 -- ---- sizes

@@ -18,7 +18,7 @@ use Rattle.recipe_values.specs.Values.{is_empty, value_of}
 use Rattle.recipe_values.specs.Brackets.{without_last, segments_of, element, elements, many, bracketed, is_around, group, put, cut, enter, leave_by, leave, ends_bracket, begins_bracket, with_sign, with_kind, levels_of, arguments_of}
 use Rattle.recipe_lexer.proofs.Keeping.{cond_all}
 use Rattle.file_limits.proofs.Sizes.{token_size, tokens_size, read_size, atom_size, segment_size, level_size, levels_size}
-use Rattle.file_limits.proofs.RecipeCountsSteps.{Few, few-more, few-join}
+use Rattle.file_limits.proofs.TokenCounts.{Few, few-more, few-join}
 use Rattle.file_limits.proofs.ValueSizes.{ReadFits, value-fits}
 
 -- ---- what brackets stand for

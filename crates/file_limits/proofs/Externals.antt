@@ -19,7 +19,7 @@ use Rattle.spec_grammar.specs.declared.part.Part.{Part}
 use Rattle.spec_grammar.specs.declared.part.Spec.{Spec}
 use Rattle.spec_grammar.specs.declared.fault.SpecFault.{SpecFault}
 use Rattle.spec_grammar.proofs.StepLaws.{some_of, some_then}
-use Rattle.file_limits.specs.Counts.{spec_values, all_values, TextsBearValues}
+use Rattle.file_limits.specs.SpecSizes.{spec_values, all_values, TextsBearValues}
 use Rattle.settings_reader.specs.Told.{Below}
 use Rattle.settings_reader.specs.Parsed.{IsListAt, IsOptional}
 use Rattle.settings_reader.specs.Externals.{IsDescribed, IsExternal, IsReadAs, compiler_in, described_of, described_or_bad, is_alone, only_described, parts_of, target_in, version_in, with_prefix}

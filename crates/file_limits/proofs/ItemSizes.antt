@@ -21,7 +21,7 @@ use Rattle.recipe_reader.specs.declared.state.State.{State}
 use Rattle.recipe_reader.specs.Results.{as_step}
 use Rattle.recipe_reader.specs.Recipes.{between, byte_at, first_word, innermost, head, with_head, call_by, item, count, read_items}
 use Rattle.file_limits.proofs.Sizes.{size_by, token_size, tokens_size, segment_size}
-use Rattle.file_limits.proofs.RecipeCountsSteps.{no-more}
+use Rattle.file_limits.proofs.TokenCounts.{no-more}
 use Rattle.file_limits.proofs.StringSizes.{slice-few}
 use Rattle.file_limits.proofs.BracketSizes.{arguments-size}
 use Rattle.file_limits.proofs.RowSizes.{state_size, StateGrowsTo, call-grows, word-long}

@@ -10,7 +10,7 @@ use Rattle.std.proofs.lemmas.Slice.Eq.{bytes_eq-Decides}
 use Rattle.serde_json.specs.Data.{Data, Members, no_members, member}
 use Rattle.serde_json.specs.Find.{get_member}
 use Rattle.file_limits.specs.Weights.{weight, members_weight, weight_or_none, weight_at}
-use Rattle.file_limits.specs.Laws.{are_different, KeysShareWeight}
+use Rattle.file_limits.specs.WeightBounds.{are_different, KeysShareWeight}
 
 -- ---- one key
 

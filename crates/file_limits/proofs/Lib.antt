@@ -17,7 +17,7 @@ pub mod Lists
 pub mod Whole
 pub mod Sizes
 pub mod TokenSizes
-pub mod RecipeCountsSteps
+pub mod TokenCounts
 pub mod StringSizes
 pub mod ValueSizes
 pub mod BracketSizes

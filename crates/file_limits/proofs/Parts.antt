@@ -12,7 +12,7 @@ use Rattle.spec_grammar.specs.declared.part.Part.{Part}
 use Rattle.spec_grammar.specs.declared.item.Item.TheVariants.{Name, Versions, Variant, Compiler, Key, Caret}
 use Rattle.spec_grammar.specs.Meaning.{first_value}
 use Rattle.spec_grammar.proofs.StepLaws.{some_then}
-use Rattle.file_limits.specs.Counts.{part_values}
+use Rattle.file_limits.specs.SpecSizes.{part_values}
 use Rattle.file_limits.proofs.Items.{item_values}
 
 -- ---- sets of values

@@ -24,7 +24,7 @@ use Rattle.graph_core.specs.declared.node.Kinds.{Kinds}
 use Rattle.reuse_db.specs.declared.record.Record.{Record}
 use Rattle.record_reader.specs.Files.{file_keys, records_at, version_at}
 use Rattle.problem.specs.Limits.{record_members, variant_members}
-use Rattle.file_limits.specs.DatabaseCountsCounts.{DatabasesHoldRecords}
+use Rattle.file_limits.specs.DatabaseSizes.{DatabasesHoldRecords}
 
 -- ---- sets of texts have no more than what is put to them
 

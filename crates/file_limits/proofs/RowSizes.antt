@@ -32,7 +32,7 @@ use Rattle.recipe_reader.specs.Recipes.{may_stand, when_of, call}
 use Rattle.problem.specs.Limits.{set_members, size_of_recipe}
 use Rattle.recipe_lexer.proofs.Keeping.{cond_all}
 use Rattle.file_limits.proofs.Sizes.{segment_size}
-use Rattle.file_limits.proofs.RecipeCountsSteps.{no-more}
+use Rattle.file_limits.proofs.TokenCounts.{no-more}
 use Rattle.file_limits.proofs.ArgumentSizes.{options_size, given_size, arguments-fit}
 use Rattle.file_limits.proofs.ShapeSizes.{shape-fits}
 

@@ -7,7 +7,7 @@ use Rattle.recipe_lexer.specs.Pieces.{marks, opening}
 use Rattle.recipe_lexer.specs.declared.token.Token.{Token}
 use Rattle.recipe_values.specs.Strings.{escaped, escape, byte_text, decoded, prefix, marks_of, inside, string_by, string_in, string}
 use Rattle.recipe_lexer.proofs.Keeping.{cond_all}
-use Rattle.file_limits.proofs.RecipeCountsSteps.{Few, few-more, few-join}
+use Rattle.file_limits.proofs.TokenCounts.{Few, few-more, few-join}
 
 -- ---- escapes
 

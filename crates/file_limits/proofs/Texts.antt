@@ -10,7 +10,7 @@ use Rattle.json.proofs.Unique.Spelling.{value-json_tokens_back}
 use Rattle.serde_json.specs.Data.{Data, number, array, object, item, Members, no_members, member, put}
 use Rattle.serde_json.specs.Read.{number_of, of_json, of_items, of_members, max_depth, read}
 use Rattle.file_limits.specs.Weights.{weight, items_weight, members_weight}
-use Rattle.file_limits.specs.Laws.{TextsBearWeight}
+use Rattle.file_limits.specs.WeightBounds.{TextsBearWeight}
 use Rattle.file_limits.proofs.Lexemes.{lexemes-bear}
 use Rattle.file_limits.proofs.Tokens.{owed, tokens_weight, before-owed, before-closing, tokens-bear}
 

@@ -17,7 +17,7 @@ use Rattle.recipe_values.specs.Strings.{string, as_text}
 use Rattle.recipe_values.specs.Values.{is_empty, one, is_number, word_value, alone, atom_text, texts, text_value, plain_value, value_by, value_of}
 use Rattle.recipe_lexer.proofs.Keeping.{cond_all}
 use Rattle.file_limits.proofs.Sizes.{size_by, token_size, value_size, read_size, atom_size, segment_size}
-use Rattle.file_limits.proofs.RecipeCountsSteps.{Few, few-more, few-join}
+use Rattle.file_limits.proofs.TokenCounts.{Few, few-more, few-join}
 use Rattle.file_limits.proofs.StringSizes.{string-few}
 
 -- the value counts for n at most, and so does a name or a member

@@ -5,10 +5,10 @@ use Rattle.serde_json.specs.Data.{Data, Members, no_members}
 use Rattle.json_readers.specs.Faults.{Reading}
 use Rattle.json_readers.specs.Objects.{known}
 use Rattle.file_limits.specs.Weights.{weight, members_weight, weight_at}
-use Rattle.file_limits.specs.Laws.{TextsBearWeight, KeysShareWeight}
+use Rattle.file_limits.specs.WeightBounds.{TextsBearWeight, KeysShareWeight}
 use Rattle.file_limits.proofs.Steps.{bind_ok, known_ok}
 use Rattle.file_limits.proofs.Steps as step
-use Rattle.file_limits.specs.Counts.{TextsBearValues}
+use Rattle.file_limits.specs.SpecSizes.{TextsBearValues}
 use Rattle.target_table.specs.Faults.{fault_of}
 use Rattle.target_table.specs.declared.entry.TargetEntry.{TargetEntry}
 use Rattle.target_table.specs.declared.fault.TargetFault.{TargetFault}
@@ -20,7 +20,7 @@ use Rattle.site_settings.specs.declared.settings.PackageEntry.{PackageEntry}
 use Rattle.site_settings.specs.declared.settings.Settings.{Settings}
 use Rattle.problem.specs.Limits.{provider_names, size_of_settings}
 use Rattle.site_settings.specs.Standard.{standard}
-use Rattle.file_limits.specs.SettingsCountsCounts.{FilesBearSettings}
+use Rattle.file_limits.specs.SettingsSizes.{FilesBearSettings}
 use Rattle.file_limits.proofs.Externals.{packages_at_most}
 use Rattle.file_limits.proofs.Lists.{compilers_at_most, os_at_most, providers_at_most, targets_at_most}
 use Rattle.file_limits.proofs.Outcomes.{AtMost, ok_no, ok_same, said_ok, then_ok}

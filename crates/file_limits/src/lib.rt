@@ -43,16 +43,16 @@
 //! What it must not know: the limits themselves, and which problem keeps the records.
 #![tactic(auto)]
 
-mod database_counts_theorems;
-mod recipe_counts_theorems;
-mod recorded_values_theorems;
-mod settings_counts_theorems;
-mod spec_counts_theorems;
-mod theorems;
+mod database_sizes;
+mod recipe_sizes;
+mod recorded_values;
+mod settings_sizes;
+mod spec_sizes;
+mod weight_bounds;
 
-pub use database_counts_theorems::database_count_laws;
-pub use recipe_counts_theorems::size_laws;
-pub use recorded_values_theorems::value_laws;
-pub use settings_counts_theorems::settings_count_laws;
-pub use spec_counts_theorems::spec_count_laws;
-pub use theorems::count_laws;
+pub use database_sizes::database_count_laws;
+pub use recipe_sizes::size_laws;
+pub use recorded_values::value_laws;
+pub use settings_sizes::settings_count_laws;
+pub use spec_sizes::spec_count_laws;
+pub use weight_bounds::count_laws;

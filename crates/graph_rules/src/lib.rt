@@ -16,10 +16,10 @@
 //! What it must not know: clauses, bits of sums, and how a best graph is found.
 #![tactic(auto)]
 
-mod graph_costs_theorems;
+mod cost_order;
 mod rule;
 mod theorems;
 
-pub use graph_costs_theorems::{vector_laws, weights_are_places};
+pub use cost_order::{vector_laws, weights_are_places};
 pub use rule::{Rule, Verdict};
 pub use theorems::{closure_laws, kept_laws, rule_laws, valid_laws, variant_laws};

@@ -4,7 +4,7 @@ ghost use Rattle.lock_writer.specs.Texts.{CanBeWritten};
 ghost use Rattle.lockfile.specs.declared.fault.LockFault.TheVariants.{OutOfMemory};
 ghost use Rattle.lockfile.specs.Writable.{IsWritable, lock_of};
 
-use crate::lock_again_theorems::again_laws;
+use crate::written_again::again_laws;
 use crate::{Lock, LockFault, lock_laws, read_lock, write_lock};
 use graph_core::Graph;
 use reuse_db::Database;
