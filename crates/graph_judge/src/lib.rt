@@ -8,7 +8,7 @@
 //! What it must not know: costs, clauses, and how a graph is found.
 #![tactic(auto)]
 
-mod demanded;
+mod asked;
 mod nodes;
 mod others;
 mod places;

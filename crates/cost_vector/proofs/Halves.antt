@@ -1,4 +1,4 @@
--- The vector in its parts.
+-- The vector in its two halves.
 use Rattle.std.proofs.Common.{◌≡◌, refl, sym, ap, ◌∙◌, Bool, true, false, ℕ, List, [], ◌∷◌, ◌++◌, map, length, slice_index_or}
 use Rattle.std.specs.List.{filter, sum_by}
 use Rattle.std.proofs.lemmas.List.Sums.{length-filter}
@@ -9,7 +9,7 @@ use Rattle.problem.specs.Problems.{Problem}
 use Rattle.graph_rules.specs.Costs.{other_values, unused_defaults, provider_weights, stopped, criteria, sums, vector}
 use Rattle.std.specs.Str.{bytes_eq}
 use Rattle.graph_rules.specs.Weights.{provider_weight}
-use Rattle.cost_vector.specs.Terms.{variant_cost, weight_at, term_cost, in_part, part_cost, part_sum, part_sums}
+use Rattle.cost_vector.specs.Terms.{variant_cost, weight_at, term_cost, in_half, half_cost, half_sum, half_sums}
 use Rattle.cost_vector.specs.declared.terms.Term.{Term}
 use Rattle.cost_vector.specs.declared.terms.Term.TheVariants as terms
 use Rattle.cost_vector.specs.declared.terms.Place.TheVariants as places
@@ -39,32 +39,32 @@ map_same : {X Y : Type 0} (f g : X → Y) → ((x : X) → f x ≡ g x) → (xs 
 map_same f g same [] = refl
 map_same f g same (x ∷ xs) = rw (same x, map_same f g same xs) refl
 
-over_part : Bool → Content → (Node → ℕ) → ℕ
-over_part built graph cost = stopped (sum_by (part_cost built cost) graph.nodes)
+over_half : Bool → Content → (Node → ℕ) → ℕ
+over_half built graph cost = stopped (sum_by (half_cost built cost) graph.nodes)
 
 as_map : (built : Bool) (problem : Problem) (graph : Content)
-    → part_sums built problem graph ≡ map (over_part built graph) (criteria problem graph)
-unfolding criteria term_cost over_part
+    → half_sums built problem graph ≡ map (over_half built graph) (criteria problem graph)
+unfolding criteria term_cost over_half
 as_map built problem graph = refl
 
-one : (built : Bool) (graph : Content) (cost : Node → ℕ)
-    → over_part built graph cost ≡ stopped (sum_by cost (filter (in_part built) graph.nodes))
-unfolding over_part
-one built graph cost = ap stopped (sum_filter (in_part built) cost graph.nodes)
+sum-of-half : (built : Bool) (graph : Content) (cost : Node → ℕ)
+    → over_half built graph cost ≡ stopped (sum_by cost (filter (in_half built) graph.nodes))
+unfolding over_half
+sum-of-half built graph cost = ap stopped (sum_filter (in_half built) cost graph.nodes)
 
-part : (built : Bool) (problem : Problem) (graph : Content)
-    → part_sums built problem graph ≡ sums problem graph (filter (in_part built) graph.nodes)
-part built problem graph = as_map built problem graph ∙ map_same _ _ (one built graph) (criteria problem graph)
+sums-of-half : (built : Bool) (problem : Problem) (graph : Content)
+    → half_sums built problem graph ≡ sums problem graph (filter (in_half built) graph.nodes)
+sums-of-half built problem graph = as_map built problem graph ∙ map_same _ _ (sum-of-half built graph) (criteria problem graph)
 
 count : (problem : Problem) (graph : Content)
-    → part_sum true places.Anywhere terms.Node problem graph ≡ stopped (length (filter is_built graph.nodes))
+    → half_sum true places.Anywhere terms.Node problem graph ≡ stopped (length (filter is_built graph.nodes))
 unfolding term_cost
 count problem graph = ap stopped (sym (length-filter is_built graph.nodes))
 
-pub whole : (problem : Problem) (graph : Content) → part_sums true problem graph ++ part_sum true places.Anywhere terms.Node problem graph
-    ∷ part_sums false problem graph ≡ vector problem graph
+pub whole : (problem : Problem) (graph : Content) → half_sums true problem graph ++ half_sum true places.Anywhere terms.Node problem graph
+    ∷ half_sums false problem graph ≡ vector problem graph
 unfolding vector
-whole problem graph = λ i. part true problem graph i ++ count problem graph i ∷ part false problem graph i
+whole problem graph = λ i. sums-of-half true problem graph i ++ count problem graph i ∷ sums-of-half false problem graph i
 
 abbrev pub numbers : List ℕ → ℕ → List ℕ → List ℕ
 numbers a builds b =
@@ -76,7 +76,7 @@ numbers a builds b =
     ∷ slice_index_or b 5 0 ∷ slice_index_or b 6 0 ∷ slice_index_or b 7 0 ∷ slice_index_or b 8 0 ∷ slice_index_or b 9 0
     ∷ slice_index_or b 10 0 ∷ slice_index_or b 11 0 ∷ slice_index_or b 12 0 ∷ slice_index_or b 13 0 ∷ slice_index_or b 14 0 ∷ []
 
-pub listed : (problem : Problem) (graph : Content) (a b : List ℕ) (builds : ℕ) → a ≡ part_sums true problem graph
-    → builds ≡ part_sum true places.Anywhere terms.Node problem graph
-    → b ≡ part_sums false problem graph → numbers a builds b ≡ vector problem graph
+pub listed : (problem : Problem) (graph : Content) (a b : List ℕ) (builds : ℕ) → a ≡ half_sums true problem graph
+    → builds ≡ half_sum true places.Anywhere terms.Node problem graph
+    → b ≡ half_sums false problem graph → numbers a builds b ≡ vector problem graph
 listed problem graph a b builds first middle last = (λ i. numbers (first i) (middle i) (last i)) ∙ whole problem graph

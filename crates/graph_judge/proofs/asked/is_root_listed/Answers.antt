@@ -3,7 +3,7 @@ use Rattle.problem.specs.declared.demand.Demand.TheVariants.{Root}
 use Rattle.problem.specs.Demands.{demands}
 use Rattle.graph_rules.specs.Verdict.{same_demand}
 use Rattle.graph_judge.proofs.Lists.{any-filter_map}
-use Rattle.graph_judge.proofs.demanded.asks_root.Goals as goal
+use Rattle.graph_judge.proofs.asked.is_root_listed.Goals as goal
 
 pub returns : goal.returns
 returns c = c.some_root.ensures

@@ -1,4 +1,4 @@
-// What is demanded of a graph.
+//! What is asked of a graph: which of its problem's roots and directives.
 ghost use Rattle.std.specs.Prelude.{◌≡◌};
 ghost use Rattle.std.specs.List.{list_any};
 ghost use Rattle.std.specs.Option.{option_copied};
@@ -11,7 +11,7 @@ ghost use Rattle.graph_judge.specs.Asked.{asked_of, is_numbered};
 use problem::{Demand, Problem};
 
 /// The roots and directives that are asked.
-pub(crate) trait Demanded {
+pub(crate) trait AskedDemands {
     ghost use Rattle.std.specs.Prelude.{◌≡◌};
     ghost use Rattle.problem.specs.declared.demand.Demand.TheVariants.{Root, Directive};
     ghost use Rattle.graph_rules.specs.Verdict.{Asked};
@@ -19,11 +19,11 @@ pub(crate) trait Demanded {
     ghost asks: { Self → Asked };
 
     /// Whether the root of this place is asked.
-    fn root(&self, place: u64) -> bool
+    fn asks_root(&self, place: u64) -> bool
         ensures { result ≡ asks self.now (Root place) };
 
     /// Whether the directive of this number is asked at a package.
-    fn directive(&self, name: &str, number: u64) -> bool
+    fn asks_directive(&self, name: &str, number: u64) -> bool
         ensures { result ≡ asks self.now (Directive name.now number) };
 }
 
@@ -31,14 +31,14 @@ pub(crate) trait Demanded {
 #[derive(Drop)]
 pub(crate) struct All {}
 
-impl Demanded for All {
+impl AskedDemands for All {
     ghost asks = { λ all. all_asked };
 
-    fn root(&self, _: u64) -> bool {
+    fn asks_root(&self, _: u64) -> bool {
         true
     }
 
-    fn directive(&self, _: &str, _: u64) -> bool {
+    fn asks_directive(&self, _: &str, _: u64) -> bool {
         true
     }
 }
@@ -89,26 +89,26 @@ fn some_directive(problem: &Problem, ids: &[u64], name: &str, number: u64) -> bo
         .any(|id| is_directive(problem.demand(*id), name, number))
 }
 
-fn asks_root(problem: &Problem, ids: &[u64], place: u64) -> bool
+fn is_root_listed(problem: &Problem, ids: &[u64], place: u64) -> bool
     ensures { result ≡ is_among (asked_of problem.now ids.now) (Root place) }
 {
     some_root(problem, ids, place)
 }
 
-fn asks_directive(problem: &Problem, ids: &[u64], name: &str, number: u64) -> bool
+fn is_directive_listed(problem: &Problem, ids: &[u64], name: &str, number: u64) -> bool
     ensures { result ≡ is_among (asked_of problem.now ids.now) (Directive name.now number) }
 {
     some_directive(problem, ids, name, number)
 }
 
-impl<'a> Demanded for Listed<'a> {
+impl<'a> AskedDemands for Listed<'a> {
     ghost asks = { λ listed. is_among (asked_of listed.problem.now listed.ids.now) };
 
-    fn root(&self, place: u64) -> bool {
-        asks_root(self.problem, self.ids, place)
+    fn asks_root(&self, place: u64) -> bool {
+        is_root_listed(self.problem, self.ids, place)
     }
 
-    fn directive(&self, name: &str, number: u64) -> bool {
-        asks_directive(self.problem, self.ids, name, number)
+    fn asks_directive(&self, name: &str, number: u64) -> bool {
+        is_directive_listed(self.problem, self.ids, name, number)
     }
 }
