@@ -5,7 +5,6 @@ mod Tokens
 pub mod Texts
 -- what is read of a value
 pub mod Keys
-pub mod Steps
 pub mod Readers
 pub mod Items
 pub mod Parts

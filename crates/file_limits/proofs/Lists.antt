@@ -12,7 +12,7 @@ use Rattle.json_readers.specs.Texts.{text_of}
 use Rattle.json_readers.specs.Maps.{known_map_of}
 use Rattle.json_texts.specs.Forms.{name_meaning, plain_meaning}
 use Rattle.file_limits.specs.Weights.{weight_at}
-use Rattle.file_limits.proofs.Steps.{bind_ok, ok_same}
+use Rattle.json_readers.proofs.Steps.{bind_ok, ok_same}
 use Rattle.file_limits.proofs.Readers.{CountsWithin, count_or_none, known_map-counts, list-counts, may-counts, one-counts}
 use Rattle.settings_reader.specs.Keys.{may_or, os_at, targets_at, compilers_at, providers_at}
 use Rattle.settings_reader.specs.Lists.{os_list, target_at, target_list, compiler_at, compiler_list, pair_cmp, pairs_of, provider_list}

@@ -1,5 +1,5 @@
 -- A JSON text has the keys of each object in byte order.
-use Rattle.std.proofs.Common.{◌≡◌, refl, ap, subst, ℕ, List, [], ◌∷◌, Option, Some, None, option_map, option_and_then}
+use Rattle.std.proofs.Common.{◌≡◌, refl, ap, subst, ℕ, List, [], ◌∷◌, Option, Some, option_map, option_and_then}
 use Rattle.std.specs.Ordering.{match_ordering}
 use Rattle.std.specs.declared.cmp.Ordering.{Ordering}
 use Rattle.std.specs.declared.cmp.Ordering.TheVariants.{Less, Equal, Greater}
@@ -12,21 +12,13 @@ use Rattle.json.specs.Lex.{tokens}
 use Rattle.serde_json.specs.Data.{Data, null, boolean, number, string, array, object, Items, no_items, item, Members, no_members, member, put}
 use Rattle.serde_json.specs.Find.{get_member}
 use Rattle.serde_json.specs.Read.{max_depth, number_of, of_json, of_items, of_members}
+use Rattle.spec_grammar.proofs.StepLaws.{some_of, some_then}
 use Rattle.json_readers.specs.Json.{IsJson}
 
 -- ---- options
 
 some_same : {A : Type 0} (x y : A) → (let T : Type 0 = Option A in let l : T = Some x in let r : T = Some y in l ≡ r) → x ≡ y
 some_same x y e = cc
-
-some_map : {A B : Type 0} (f : A → B) (o : Option A) (y : B) → option_map f o ≡ Some y → (x : A) × (o ≡ Some x) × (f x ≡ y)
-some_map f None y e = absurd (none-some y e)
-some_map f (Some x) y e = (x, refl, some_same (f x) y e)
-
-some_then : {A B : Type 0} (f : A → Option B) (o : Option A) (y : B) → option_and_then f o ≡ Some y → (x : A) × (o ≡ Some x)
-    × (f x ≡ Some y)
-some_then f None y e = absurd (none-some y e)
-some_then f (Some x) y e = (x, refl, e)
 
 -- ---- objects in order
 
@@ -83,20 +75,20 @@ mutual
   json_ordered : (j : json.Json) (d : Data) → of_json j ≡ Some d → IsOrdered d
   json_ordered json.null d e = subst IsOrdered (some_same null d e) tt
   json_ordered (json.boolean b) d e = subst IsOrdered (some_same (boolean b) d e) tt
-  json_ordered (json.number s) d e = subst IsOrdered (some_map number (number_of s) d e).2 tt
+  json_ordered (json.number s) d e = subst IsOrdered (some_of number (number_of s) d e).2 tt
   json_ordered (json.string s) d e = subst IsOrdered (some_same (string s) d e) tt
   json_ordered (json.array js) d e =
-      let at = some_map array (of_items js) d e in
+      let at = some_of array (of_items js) d e in
       subst IsOrdered at.2 (items_ordered js at.0 at.1)
   json_ordered (json.object ms) d e =
-      let at = some_map object (of_members ms no_members) d e in
+      let at = some_of object (of_members ms no_members) d e in
       subst IsOrdered at.2 (members_ordered ms no_members at.0 (rises_none byte_cmp, tt) at.1)
 
   items_ordered : (js : json.Items) (ds : Items) → of_items js ≡ Some ds → AreOrderedItems ds
   items_ordered json.no_items ds e = subst AreOrderedItems (some_same no_items ds e) tt
   items_ordered (json.item j js) ds e =
       let first = some_then (λ d. option_map (item d) (of_items js)) (of_json j) ds e in
-      let rest = some_map (item first.0) (of_items js) ds first.2 in
+      let rest = some_of (item first.0) (of_items js) ds first.2 in
       subst AreOrderedItems rest.2 (json_ordered j first.0 first.1, items_ordered js rest.0 rest.1)
 
   members_ordered : (ms : json.Members) (found out : Members) → IsOrdered (object found) → of_members ms found ≡ Some out

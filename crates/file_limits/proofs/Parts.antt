@@ -17,17 +17,17 @@ use Rattle.file_limits.proofs.Items.{item_values}
 
 -- ---- sets of values
 
-with_few : (texts : List (List ℕ)) (w : List ℕ) → length (with_text texts w) ≤ length texts + 1
-with_few [] w = omega arith
-with_few (u ∷ texts) w =
-    let rest = with_few texts w in
+pub length-with_text : (texts : List (List ℕ)) (w : List ℕ) → length (with_text texts w) ≤ length texts + 1
+length-with_text [] w = omega arith
+length-with_text (u ∷ texts) w =
+    let rest = length-with_text texts w in
     elim (byte_cmp w u) as (λ r. length (match_ordering r (w ∷ u ∷ texts) (u ∷ texts) (u ∷ with_text texts w)) ≤ length (u ∷ texts) + 1)
     [ Less ↦ omega arith | Equal ↦ omega arith | Greater ↦ omega (arith, rest) ]
 
 put_few : (texts values : List (List ℕ)) → length (put_all texts values) ≤ length texts + length values
 unfolding put_all
 put_few texts [] = omega arith
-put_few texts (w ∷ values) = omega (arith, with_few texts (truth w), put_few (with_text texts (truth w)) values)
+put_few texts (w ∷ values) = omega (arith, length-with_text texts (truth w), put_few (with_text texts (truth w)) values)
 
 -- ---- a variant more
 

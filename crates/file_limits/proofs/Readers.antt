@@ -10,7 +10,7 @@ use Rattle.json_readers.specs.Maps.{and_entry, entries_of, entry_of, known_map_o
 use Rattle.json_readers.specs.Objects.{field, may, members_of, need, null_or}
 use Rattle.json_readers.specs.Sets.{filled, filled_by, set_of, unrepeated}
 use Rattle.file_limits.specs.Weights.{weight, items_weight, members_weight, weight_or_none, weight_at}
-use Rattle.file_limits.proofs.Steps.{below_ok, bind_ok, entry_ok, field_ok, items_ok, may_ok, members_ok, named_ok, need_ok, ok_same}
+use Rattle.json_readers.proofs.Steps.{below_ok, bind_ok, entry_ok, field_ok, items_ok, may_ok, members_ok, named_ok, need_ok, ok_same}
 
 -- what is read of a value counts no more than the value weighs
 abbrev pub CountsWithin : {T : Type 0} → (T → ℕ) → (Data → Reading T) → Type 0

@@ -6,8 +6,8 @@ use Rattle.json_readers.specs.Faults.{Reading}
 use Rattle.json_readers.specs.Objects.{known}
 use Rattle.file_limits.specs.Weights.{weight, members_weight, weight_at}
 use Rattle.file_limits.specs.WeightBounds.{TextsBearWeight, KeysShareWeight}
-use Rattle.file_limits.proofs.Steps.{bind_ok, known_ok}
-use Rattle.file_limits.proofs.Steps as step
+use Rattle.json_readers.proofs.Steps.{bind_ok, known_ok}
+use Rattle.json_readers.proofs.Steps as step
 use Rattle.file_limits.specs.SpecSizes.{TextsBearValues}
 use Rattle.target_table.specs.Faults.{fault_of}
 use Rattle.target_table.specs.declared.entry.TargetEntry.{TargetEntry}
@@ -23,7 +23,8 @@ use Rattle.site_settings.specs.Standard.{standard}
 use Rattle.file_limits.specs.SettingsSizes.{FilesBearSettings}
 use Rattle.file_limits.proofs.Externals.{packages_at_most}
 use Rattle.file_limits.proofs.Lists.{compilers_at_most, os_at_most, providers_at_most, targets_at_most}
-use Rattle.file_limits.proofs.Outcomes.{AtMost, ok_no, ok_same, said_ok, then_ok}
+use Rattle.settings_reader.proofs.Outcomes.{ok_no, ok_same, said_ok, then_ok}
+use Rattle.file_limits.proofs.Outcomes.{AtMost}
 
 -- the types of what is read before the table of targets and behind it, which their crate keeps to itself
 abbrev read : {T : Type 0} → Reading T → Type 0

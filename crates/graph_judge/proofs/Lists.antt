@@ -48,12 +48,6 @@ split xs i x lt is =
     let next : suc i ≡ i + 1 = omega arith in
     drop-cons xs i x lt ∙ ap (λ y. y ∷ drop (suc i) xs) (sym is) ∙ ap (λ (n : ℕ). x ∷ drop n xs) next
 
-pub flat_step : {X A : Type 0} (f : X → List A) (xs : List X) (i : ℕ) (x : X) (acc more whole : List A) → i < length xs → x ≡ get_or xs i x
-    → more ≡ acc ++ f x → acc ++ flat_map f (drop i xs) ≡ whole → more ++ flat_map f (drop (i + 1) xs) ≡ whole
-flat_step f xs i x acc more whole lt is grown before =
-    ap (λ l. l ++ flat_map f (drop (i + 1) xs)) grown ∙ append_assoc acc (f x) (flat_map f (drop (i + 1) xs))
-    ∙ ap (λ l. acc ++ flat_map f l) (sym (split xs i x lt is)) ∙ before
-
 -- ---- roots
 
 roots_cons : (test : ℕ → Spec → Bool) (place : ℕ) (spec : Spec) (more : List Spec)

@@ -231,9 +231,6 @@ requirement-number : (recipe : Recipe) (n : ℕ) → In n (map (λ row. row.numb
 requirement-number recipe n there =
     fold-has _ [] n (In-right (map (λ row. row.number) recipe.depends ++ map (λ row. row.number) recipe.conflicts) _ n there)
 
-itself : (n : ℕ) → (n == n) ≡ true
-itself n = eq-eqb n n refl
-
 module _ (problem : Problem) (graph : Content) (g : IsGraph graph) (v : valid_for (demands problem) problem graph ≡ true) where
   depend-from : (node : Node) → In node graph.nodes → is_built node ≡ true → (row : _) → In row (depends_at problem node.name)
       → (keeps_edge problem graph node row && keeps_constraint problem graph node row) ≡ true
@@ -242,7 +239,7 @@ module _ (problem : Problem) (graph : Content) (g : IsGraph graph) (v : valid_fo
       let kept = directive-from problem graph node of.0 row.number g v there built of.1
       (depend-number of.0 row.number (In-map (λ r. r.number) of.0.depends row of.2)) in
       implied (row.number == row.number) _ (list_all-each _ (depends_at problem node.name) row (and_parts _ _ (and_parts _ _ kept).0).0 is)
-      (itself row.number)
+      (eq-eqb row.number row.number refl)
 
   conflict-from : (node : Node) → In node graph.nodes → is_built node ≡ true → (row : _) → In row (conflicts_at problem node.name)
       → keeps_conflict problem graph node row ≡ true
@@ -251,7 +248,7 @@ module _ (problem : Problem) (graph : Content) (g : IsGraph graph) (v : valid_fo
       let kept = directive-from problem graph node of.0 row.number g v there built of.1
       (conflict-number of.0 row.number (In-map (λ r. r.number) of.0.conflicts row of.2)) in
       implied (row.number == row.number) _ (list_all-each _ (conflicts_at problem node.name) row (and_parts _ _ (and_parts _ _ kept).0).1
-      is) (itself row.number)
+      is) (eq-eqb row.number row.number refl)
 
   requirement-from : (node : Node) → In node graph.nodes → is_built node ≡ true → (row : _) → In row (requirements_at problem node.name)
       → keeps_requirement problem graph node row ≡ true
@@ -260,7 +257,7 @@ module _ (problem : Problem) (graph : Content) (g : IsGraph graph) (v : valid_fo
       let kept = directive-from problem graph node of.0 row.number g v there built of.1
       (requirement-number of.0 row.number (In-map (λ r. r.number) of.0.requirements row of.2)) in
       implied (row.number == row.number) _ (list_all-each _ (requirements_at problem node.name) row (and_parts _ _ kept).1 is)
-      (itself row.number)
+      (eq-eqb row.number row.number refl)
 
   edges-from : keeps rules.Edge problem graph ≡ true
   unfolding keeps

@@ -108,10 +108,6 @@ all_ends nodes g same = all_from (HasEnds g) (all_edges nodes nodes) (λ e has.
     let ends = ends_named nodes nodes e has in
     (has_name nodes g same e.parent ends.0, has_name nodes g same e.child ends.1))
 
--- what holds of all holds of the one at a place
-pub all_at : {X : Type 0} (P : X → Type 0) (xs : List X) (i : ℕ) (x : X) → All P xs → i < length xs → x ≡ get_or xs i x → P x
-all_at P xs i x each lt is = subst P (sym is) (each i x lt)
-
 pub given_ends : (nodes : List LockedNode) (g : Content) (edges made : List Edge) → edges ≡ made → made ≡ all_edges nodes nodes
     → ((name : Text) → node_of g name ≡ find_key byte_cmp name_of (graph_nodes nodes) name) → All (HasEnds g) edges
 given_ends nodes g edges made given is same = subst (All (HasEnds g)) (sym (given ∙ is)) (all_ends nodes g same)

@@ -30,7 +30,7 @@ use Rattle.json_readers.specs.Json.{IsJson}
 use Rattle.lockfile.specs.Locks.{IsLock, IsLockOf}
 use Rattle.lockfile.specs.declared.lock.Lock.{Lock}
 use Rattle.lockfile.specs.Formed.{IsFormed, IsFormedNode, locked, locked_file, locked_root}
-use Rattle.lockfile.proofs.Lists.{same_some}
+use Rattle.json_readers.proofs.Once.{some_one}
 use Rattle.lockfile.proofs.NodeLaws.{node_again}
 use Rattle.lockfile.proofs.WrittenLaws.{entries_again, written}
 
@@ -116,7 +116,7 @@ pub text_again : (g : Content) (records : List Record) (roots : List Spec) → I
     → IsJson text (lock_data g records roots) → (lock : Lock) → IsLock text lock
     → IsLockOf (locked_file g records roots) lock
 text_again g records roots graph fit text json lock is =
-    let value = same_some (read text) is.0 (lock_data g records roots) is.1.1 json.1 in
+    let value = some_one (read text) is.0 (lock_data g records roots) is.1.1 json.1 in
     let file = same_ok (file_at is.0) is.2.0 (locked_file g records roots) is.2.1 (ap file_at value
     ∙ file_again g records roots graph fit) in
     subst (λ f. IsLockOf f lock) file is.2.2

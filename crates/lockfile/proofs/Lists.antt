@@ -18,10 +18,6 @@ use Rattle.graph_core.specs.Graphs.{Text}
 
 -- ---- searches
 
--- what is found is one
-pub same_some : {X : Type 0} (o : Option X) (x y : X) → o ≡ Some x → o ≡ Some y → x ≡ y
-same_some o x y a b = let both : Some x ≡ Some y = sym a ∙ b in cc
-
 -- nothing passes a test that none passes
 pub find_no : {X : Type 0} (p : X → Bool) (xs : List X) → ((x : X) → Contains xs x → p x ≡ false) → find p xs ≡ None
 find_no p [] none = refl

@@ -27,7 +27,8 @@ use Rattle.lockfile.specs.Again.{by_hash, sorted}
 use Rattle.lockfile.specs.Formed.{locked, locked_file, locked_root}
 use Rattle.lockfile.specs.Writable.{IsWritable, children_in}
 use Rattle.lockfile.proofs.FileLaws.{names_same}
-use Rattle.lockfile.proofs.Lists.{find_no, find_one, from_flat, in_flat, in_given, same_some}
+use Rattle.json_readers.proofs.Once.{some_one}
+use Rattle.lockfile.proofs.Lists.{find_no, find_one, from_flat, in_flat, in_given}
 use Rattle.lockfile.proofs.NodeLaws.{same_hash}
 use Rattle.lockfile.proofs.OrderLaws.{same_dependencies}
 use Rattle.lockfile.proofs.WrittenLaws.{never_named_twice}
@@ -108,7 +109,7 @@ module _ (g : Content) (records : List Record) (graph : IsGraph g) (right : AreR
   edge_kept : (node : Node) → Contains g.nodes node → (e f : Edge) (d : Text × Kinds) → Contains (edges_from g node.name) e
       → child_of (node_hash g) e ≡ d → edge_to (locked g records node).described.name d (named_by nodes d.0) ≡ Some f → Contains g.edges f
   edge_kept node has e f d there is made =
-      let one = same_some (edge_to (locked g records node).described.name (child_of (node_hash g) e) (named_by nodes (node_hash g e.child)))
+      let one = some_one (edge_to (locked g records node).described.name (child_of (node_hash g) e) (named_by nodes (node_hash g e.child)))
       e f
       (edge_again node has e there) (subst (λ x. edge_to (locked g records node).described.name x (named_by nodes x.0) ≡ Some f)
       (sym is) made) in

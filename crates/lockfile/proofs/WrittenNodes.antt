@@ -34,7 +34,7 @@ use Rattle.lockfile.specs.Locks.{graph_node}
 use Rattle.lockfile.specs.Again.{Has, HasKind, IsDependency, IsOwn}
 use Rattle.lockfile.specs.Formed.{IsFormed, IsFormedNode, locked_root}
 use Rattle.lockfile.specs.Writable.{AreDependencies, HasForms, IsAsInstalled, IsWritable, children_in}
-use Rattle.lockfile.proofs.Lists.{same_some}
+use Rattle.json_readers.proofs.Once.{some_one}
 
 -- ---- hashes of records
 
@@ -131,7 +131,7 @@ module _ (g : Content) (records : List Record) (graph : IsGraph g) (right : AreR
 
   one_edge : (e f : Edge) → Contains g.edges e → Contains g.edges f → ends_of e ≡ ends_of f → e ≡ f
   one_edge e f has_e has_f same =
-      same_some (find_key pair_cmp ends_of g.edges (ends_of f)) e f (ap (find_key pair_cmp ends_of g.edges) (sym same) ∙ edge_found e has_e)
+      some_one (find_key pair_cmp ends_of g.edges (ends_of f)) e f (ap (find_key pair_cmp ends_of g.edges) (sym same) ∙ edge_found e has_e)
       (edge_found f has_f)
 
   one_to : (name : Text) (e f : Edge) → Contains (edges_from g name) e → Contains (edges_from g name) f

@@ -23,7 +23,7 @@ mod variants;
 
 pub use compiler::CompilerForm;
 pub use dependency::DependencyForm;
-pub use file::RecordsForm;
+pub use file::{RecordsForm, VersionOne};
 pub use hash::HashText;
 pub use kinds::KindsForm;
 pub use read::read_database;

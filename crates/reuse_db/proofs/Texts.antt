@@ -21,15 +21,18 @@ values_seen (e ∷ entries) = ap (item (view e.1)) (values_seen entries)
 
 -- ---- no floats
 
-none_of : (a b : Bool) → a ≡ false → b ≡ false → (a || b) ≡ false
+-- neither of two holds
+pub none_of : (a b : Bool) → a ≡ false → b ≡ false → (a || b) ≡ false
 none_of false b p q = q
 none_of true b p q = absurd (let wrong : true ≡ false = p in cc)
 
-first_of : (a b : Bool) → (a || b) ≡ false → a ≡ false
+-- the first of two that do not hold
+pub first_of : (a b : Bool) → (a || b) ≡ false → a ≡ false
 first_of false b p = refl
 first_of true b p = absurd (let wrong : true ≡ false = p in cc)
 
-second_of : (a b : Bool) → (a || b) ≡ false → b ≡ false
+-- the second of two that do not hold
+pub second_of : (a b : Bool) → (a || b) ≡ false → b ≡ false
 second_of false b p = p
 second_of true b p = absurd (let wrong : true ≡ false = p in cc)
 
@@ -37,7 +40,8 @@ texts_float : (texts : List Text) → items_have_float (items_of (map string tex
 texts_float [] = refl
 texts_float (text ∷ texts) = texts_float texts
 
-put_float : (k : Text) (d : Data) (ms : Members) → has_float d ≡ false → members_have_float ms ≡ false
+-- a member without floats adds none
+pub put_float : (k : Text) (d : Data) (ms : Members) → has_float d ≡ false → members_have_float ms ≡ false
     → members_have_float (put k d ms) ≡ false
 put_float k d no_members f h = none_of _ _ f refl
 put_float k d (member l e ms) f h =

@@ -1,13 +1,12 @@
 -- A file says one thing at most.
 use Rattle.std.proofs.Common.{◌≡◌, ◌≢◌, sym, ap, ◌∙◌, subst, ℕ, List, Some, Result, Ok, Err, codes, inl, inr}
-use Rattle.std.specs.Option.{unwrap_or}
 use Rattle.serde_json.specs.Data.{Data, Members}
 use Rattle.serde_json.specs.Find.{as_array, as_str, get_member}
-use Rattle.json_readers.specs.Json.{IsJson}
 use Rattle.json_readers.specs.Faults.{given}
 use Rattle.json_readers.specs.Maps.{named}
 use Rattle.json_readers.specs.Objects.{known, may, need}
 use Rattle.json_readers.specs.Texts.{text_of, truth_value}
+use Rattle.json_readers.proofs.Once.{json_one}
 use Rattle.json_texts.specs.Forms.{name_meaning}
 use Rattle.settings_reader.specs.Told.{Outcome, Told, Below, said}
 use Rattle.settings_reader.specs.Parsed.{IsList, IsListAt, IsOptional, items_at, members_of}
@@ -67,9 +66,6 @@ settings_one sets specs d =
     (get_member (codes "packages") ms))) (λ packages. done_one _)))))
 
 -- ---- files
-
-json_one : (bytes : List ℕ) (d e : Data) → IsJson bytes d → IsJson bytes e → d ≡ e
-json_one bytes d e h k = ap (λ o. unwrap_or o d) (sym h.1 ∙ k.1)
 
 abbrev ok_or : {T E : Type 0} → T → Result T E → T
 ok_or x (Ok y) = y

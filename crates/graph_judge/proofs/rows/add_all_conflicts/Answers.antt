@@ -3,7 +3,7 @@ use Rattle.graph_core.specs.declared.node.Node.{Node}
 use Rattle.problem.specs.Problems.{conflicts_at}
 use Rattle.graph_rules.specs.Directives.{keeps_conflict}
 use Rattle.graph_judge.specs.Places.{row_places}
-use Rattle.graph_judge.proofs.Lists.{flat_step}
+use Rattle.problem.proofs.NumberLaws.{flat_step}
 use Rattle.graph_judge.proofs.rows.add_all_conflicts.Goals as goal
 
 pub loop-node-preserved : goal.loop-node-preserved

@@ -2,7 +2,7 @@ use Rattle.recipe_data.specs.declared.recipe.DependRow.{DependRow}
 use Rattle.graph_core.specs.declared.node.Node.{Node}
 use Rattle.problem.specs.Problems.{depends_at}
 use Rattle.graph_judge.specs.Places.{depend_test, row_places}
-use Rattle.graph_judge.proofs.Lists.{flat_step}
+use Rattle.problem.proofs.NumberLaws.{flat_step}
 use Rattle.graph_judge.proofs.rows.add_all_depends.Goals as goal
 
 pub loop-node-preserved : goal.loop-node-preserved

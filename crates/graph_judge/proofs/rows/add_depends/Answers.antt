@@ -1,6 +1,6 @@
 use Rattle.recipe_data.specs.declared.recipe.DependRow.{DependRow}
 use Rattle.graph_judge.specs.Places.{depend_test, unless, keeps_row}
-use Rattle.graph_judge.proofs.Lists.{flat_step}
+use Rattle.problem.proofs.NumberLaws.{flat_step}
 use Rattle.graph_judge.proofs.rows.add_depends.Goals as goal
 
 pub loop-row-preserved : goal.loop-row-preserved

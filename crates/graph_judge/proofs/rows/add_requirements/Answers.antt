@@ -1,7 +1,7 @@
 use Rattle.recipe_data.specs.declared.recipe.RequireRow.{RequireRow}
 use Rattle.graph_rules.specs.Directives.{keeps_requirement}
 use Rattle.graph_judge.specs.Places.{unless, keeps_row}
-use Rattle.graph_judge.proofs.Lists.{flat_step}
+use Rattle.problem.proofs.NumberLaws.{flat_step}
 use Rattle.graph_judge.proofs.rows.add_requirements.Goals as goal
 
 pub loop-row-preserved : goal.loop-row-preserved

@@ -10,7 +10,8 @@ use Rattle.json_readers.specs.Faults.{Reading, ◌>>=◌, below, given, wrong_ki
 use Rattle.json_readers.specs.Maps.{entry_of, first_other, named}
 use Rattle.json_readers.specs.Objects.{field, first_unknown, known, may, members_of, need, read_needed, read_optional, unless_odd, unless_unknown}
 
-no_ok : {T E : Type 0} (m : E) (x : T) (r : Result T E) → r ≡ Err m → r ≡ Ok x → ⊥
+-- a reading is no fault and a value
+pub no_ok : {T E : Type 0} (m : E) (x : T) (r : Result T E) → r ≡ Err m → r ≡ Ok x → ⊥
 no_ok m x r is e = let wrong : Err m ≡ Ok x = sym is ∙ e in cc
 
 -- what was read is one value
@@ -32,7 +33,8 @@ pub form_ok : {T : Type 0} (b : Bool) (r : Reading T) (x : T) → cond b r wrong
 form_ok true r x e = e
 form_ok false r x e = absurd (no_ok _ x _ refl e)
 
-unless_ok : {T : Type 0} (b : Bool) (m : Misfit) (r : Reading T) (x : T) → cond b (Err m) r ≡ Ok x → r ≡ Ok x
+-- a value that was read where a step may refuse
+pub unless_ok : {T : Type 0} (b : Bool) (m : Misfit) (r : Reading T) (x : T) → cond b (Err m) r ≡ Ok x → r ≡ Ok x
 unless_ok true m r x e = absurd (no_ok m x _ refl e)
 unless_ok false m r x e = e
 
@@ -74,7 +76,8 @@ named_ok means d ms e =
 
 -- ---- what stands at a key
 
-needed_ok : {T : Type 0} (read : Data → Reading T) (found : Option Data) (x : T) → read_needed read found ≡ Ok x
+-- a value that was read of what must be there
+pub needed_ok : {T : Type 0} (read : Data → Reading T) (found : Option Data) (x : T) → read_needed read found ≡ Ok x
     → (d : Data) × (found ≡ Some d) × (read d ≡ Ok x)
 needed_ok read None x e = absurd (no_ok _ x _ refl e)
 needed_ok read (Some d) x e = (d, refl, e)
@@ -98,7 +101,8 @@ pub may_ok : {T : Type 0} (read : Data → Reading T) (key : List ℕ) (ms : Mem
     → (d : Data) × (get_member key ms ≡ Some d) × (read d ≡ Ok x)
 may_ok {T} read key ms x e = optional_ok read (get_member key ms) x (below_ok {T = Option T} key _ (Some x) e)
 
-odd_ok : {T : Type 0} (key : List ℕ) (odd : Option (List ℕ)) (r : Reading T) (x : T) → unless_odd key odd r ≡ Ok x → r ≡ Ok x
+-- a value that was read behind the check of odd keys
+pub odd_ok : {T : Type 0} (key : List ℕ) (odd : Option (List ℕ)) (r : Reading T) (x : T) → unless_odd key odd r ≡ Ok x → r ≡ Ok x
 odd_ok key None r x e = e
 odd_ok key (Some k) r x e = unless_ok (is_le (slice_cmp nat_cmp k key)) _ r x e
 
