@@ -17,16 +17,19 @@ use Rattle.cost_vector.proofs.Totals.{sum_filter}
 
 -- ---- one term at a node, by the list that it is summed over
 
+-- values that are no default, summed over the variants
 pub other_term : (added : Term) (problem : Problem) (graph : Content) (node : Node) → added ≡ terms.OtherValues
     → sum_by (variant_cost false problem graph node.name) node.variants ≡ term_cost added problem graph node
 unfolding term_cost other_values
 other_term added problem graph node is = ap (λ t. term_cost t problem graph node) (sym is)
 
+-- defaults that are not used, summed over the variants
 pub unused_term : (added : Term) (problem : Problem) (graph : Content) (node : Node) → added ≡ terms.UnusedDefaults
     → sum_by (variant_cost true problem graph node.name) node.variants ≡ term_cost added problem graph node
 unfolding term_cost unused_defaults
 unused_term added problem graph node is = ap (λ t. term_cost t problem graph node) (sym is)
 
+-- weights of the providers, summed over all
 pub provider_term : (added : Term) (problem : Problem) (graph : Content) (node : Node) → added ≡ terms.Providers
     → sum_by (weight_at problem node.name) graph.providers ≡ term_cost added problem graph node
 unfolding term_cost provider_weights
@@ -61,6 +64,7 @@ count : (problem : Problem) (graph : Content)
 unfolding term_cost
 count problem graph = ap stopped (sym (length-filter is_built graph.nodes))
 
+-- the two halves with the number of nodes between them are the vector
 pub whole : (problem : Problem) (graph : Content) → half_sums true problem graph ++ half_sum true places.Anywhere terms.Node problem graph
     ∷ half_sums false problem graph ≡ vector problem graph
 unfolding vector
@@ -76,6 +80,7 @@ numbers a builds b =
     ∷ slice_index_or b 5 0 ∷ slice_index_or b 6 0 ∷ slice_index_or b 7 0 ∷ slice_index_or b 8 0 ∷ slice_index_or b 9 0
     ∷ slice_index_or b 10 0 ∷ slice_index_or b 11 0 ∷ slice_index_or b 12 0 ∷ slice_index_or b 13 0 ∷ slice_index_or b 14 0 ∷ []
 
+-- so are the numbers that are written out one by one
 pub listed : (problem : Problem) (graph : Content) (a b : List ℕ) (builds : ℕ) → a ≡ half_sums true problem graph
     → builds ≡ half_sum true places.Anywhere terms.Node problem graph
     → b ≡ half_sums false problem graph → numbers a builds b ≡ vector problem graph

@@ -1,4 +1,4 @@
-// The vector.
+//! The vector.
 ghost use Rattle.std.specs.Prelude.{◌≡◌, IfOk, map, sum_by};
 ghost use Rattle.graph_rules.specs.Costs.{stopped, vector};
 ghost use Rattle.cost_vector.specs.Terms.{term_cost, placed, half_cost, half_sum, half_sums};
@@ -9,6 +9,7 @@ use graph_core::{Graph, Node};
 use problem::{Explored, Problem};
 use std::alloc::{AllocError, Global};
 
+/// One criterion over the nodes to build, or over the others.
 fn sum_over(
     alloc: Global,
     built: bool,
@@ -38,6 +39,7 @@ struct Half<'a> {
     graph: &'a Explored<'a>,
 }
 
+/// One criterion over this half of all nodes.
 fn half_sum(alloc: Global, half: &Half, place: Place, added: Term) -> Result<u64, AllocError>
     ensures { IfOk result (λ total. total ≡ half_sum half.now.built place added
         half.now.problem.now half.now.graph.now) }
@@ -81,8 +83,8 @@ fn half_sums(alloc: Global, half: &Half) -> Result<[u64; 15], AllocError>
     ])
 }
 
-/// The cost vector of a graph: the fifteen criteria over the nodes to build, the number of these nodes, and the
-/// fifteen criteria over the others. A sum stops at the greatest number of 64 bits.
+/// The cost vector of a graph: the fifteen criteria over the nodes to build, the number of these
+/// nodes, and the fifteen criteria over the others. A sum stops at the greatest number of 64 bits.
 pub fn vector(alloc: Global, problem: &Problem, graph: &Graph) -> Result<[u64; 31], AllocError>
     ensures { IfOk result (λ numbers. numbers ≡ vector problem.now graph.now) }
 {
@@ -92,6 +94,7 @@ pub fn vector(alloc: Global, problem: &Problem, graph: &Graph) -> Result<[u64; 3
     numbers
 }
 
+/// The vector, over a graph of which all paths were found.
 fn numbers_of(alloc: Global, problem: &Problem, graph: &Explored) -> Result<[u64; 31], AllocError>
     ensures { IfOk result (λ numbers. numbers ≡ vector problem.now graph.now) }
 {

@@ -1,4 +1,4 @@
-// What is summed over the nodes.
+//! What is summed over the nodes.
 ghost use Rattle.std.specs.Prelude.{◌≡◌, IfOk};
 ghost use Rattle.graph_rules.specs.Costs.{stopped};
 ghost use Rattle.cost_vector.specs.Terms.{term_cost, placed, in_half, half_cost};
@@ -51,6 +51,7 @@ pub(crate) enum Place {
     OffRoots,
 }
 
+/// What a node adds to a criterion, wherever it stands.
 #[tactic(auto, unfolding(crate::specs::Terms::term_cost))]
 fn term_cost(
     alloc: Global,
@@ -82,6 +83,7 @@ fn term_cost(
     }
 }
 
+/// The same at roots alone, at others alone, or at all nodes.
 fn placed(
     alloc: Global,
     place: Place,

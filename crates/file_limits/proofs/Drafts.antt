@@ -97,6 +97,7 @@ first_none Provision = refl
 
 -- ---- specs
 
+-- a text has two bytes at least for each value that it spells
 pub texts-bear-values : TextsBearValues
 texts-bear-values mode text specs s =
     let read = s.read in

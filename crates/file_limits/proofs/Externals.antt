@@ -120,6 +120,7 @@ packages_most bear platform d entries h =
       members_at_most package_size (λ name v. IsPackage name platform v) (λ name. package_most bear name platform) ms.0 entries ms.2,
     )
 
+-- what is said of packages weighs two for each external and each of its values
 pub packages_at_most : TextsBearValues → (platform : List ℕ) (ms : Members) (entries : List PackageEntry)
     → ArePackagesAt platform ms (Ok entries) → 2 * sum_by size_of_package entries ≤ weight_at ms (codes "packages")
 packages_at_most bear platform ms entries h =

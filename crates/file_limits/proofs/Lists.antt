@@ -91,17 +91,21 @@ may_or_most {T} size standard read within key ms x e =
       ap size (ok_same (unwrap_or found.0 standard) x found.2),
     )
 
+-- the list of OSs weighs two for each, but for the standard one
 pub os_at_most : (ms : Members) (os : List (List ℕ)) → os_at ms ≡ Ok os → 2 * length os ≤ weight_at ms (codes "os") + 2
 os_at_most = may_or_most twice_length standard.os os_list os_most (codes "os")
 
+-- so does that of targets
 pub targets_at_most : (ms : Members) (targets : List TargetEntry) → targets_at ms ≡ Ok targets
     → 2 * length targets ≤ weight_at ms (codes "targets") + 2
 targets_at_most = may_or_most twice_length standard.targets target_list targets_most (codes "targets")
 
+-- so does that of compilers
 pub compilers_at_most : (ms : Members) (compilers : List CompilerEntry) → compilers_at ms ≡ Ok compilers
     → 2 * length compilers ≤ weight_at ms (codes "compilers") + 2
 compilers_at_most = may_or_most twice_length standard.compilers compiler_list compilers_most (codes "compilers")
 
+-- the lists of providers weigh two for each name in them
 pub providers_at_most : (ms : Members) (lists : List (List ℕ × List (List ℕ))) → providers_at ms ≡ Ok lists
     → 2 * sum_by provider_names lists ≤ weight_at ms (codes "providers") + 0
 providers_at_most = may_or_most providers_size [] (known_map_of name_meaning provider_list) providers_most (codes "providers")

@@ -47,24 +47,24 @@ abbrev mutual
 
 keys_put : (k : List ℕ) (d : Data) (ms : Members) → keys_in (put k d ms) ≡ with_text (keys_in ms) k
 keys_put k d no_members = refl
-keys_put k d (member l e ms) = go (byte_cmp k l) (keys_put k d ms)
+keys_put k d (member l e ms) = keys_put-cases (byte_cmp k l) (keys_put k d ms)
   where
-    go : (r : Ordering) → keys_in (put k d ms) ≡ with_text (keys_in ms) k
+    keys_put-cases : (r : Ordering) → keys_in (put k d ms) ≡ with_text (keys_in ms) k
         → keys_in (match_ordering r (member k d (member l e ms)) (member l d ms) (member l e (put k d ms)))
         ≡ match_ordering r (k ∷ l ∷ keys_in ms) (l ∷ keys_in ms) (l ∷ with_text (keys_in ms) k)
-    go Less rest = refl
-    go Equal rest = refl
-    go Greater rest = ap (λ keys. l ∷ keys) rest
+    keys_put-cases Less rest = refl
+    keys_put-cases Equal rest = refl
+    keys_put-cases Greater rest = ap (λ keys. l ∷ keys) rest
 
 members_put : (k : List ℕ) (d : Data) (ms : Members) → IsOrdered d → AreOrderedMembers ms → AreOrderedMembers (put k d ms)
 members_put k d no_members here all = (here, tt)
-members_put k d (member l e ms) here all = go (byte_cmp k l) (members_put k d ms here all.1)
+members_put k d (member l e ms) here all = members_put-cases (byte_cmp k l) (members_put k d ms here all.1)
   where
-    go : (r : Ordering) → AreOrderedMembers (put k d ms)
+    members_put-cases : (r : Ordering) → AreOrderedMembers (put k d ms)
         → AreOrderedMembers (match_ordering r (member k d (member l e ms)) (member l d ms) (member l e (put k d ms)))
-    go Less rest = (here, all)
-    go Equal rest = (here, all.1)
-    go Greater rest = (all.0, rest)
+    members_put-cases Less rest = (here, all)
+    members_put-cases Equal rest = (here, all.1)
+    members_put-cases Greater rest = (all.0, rest)
 
 put_ordered : (k : List ℕ) (d : Data) (ms : Members) → IsOrdered d → IsOrdered (object ms) → IsOrdered (object (put k d ms))
 put_ordered k d ms here all = (rw (keys_put k d ms) (with_text_in_order (keys_in ms) k all.0), members_put k d ms here all.1)
@@ -98,6 +98,7 @@ mutual
       let first = some_then (λ d. of_members ms (put k d found)) (of_json j) out e in
       members_ordered ms (put k first.0 found) out (put_ordered k first.0 found (json_ordered j first.0 first.1) ordered) first.2
 
+-- the keys of each object of a text are in order
 pub text_ordered : (bytes : List ℕ) (d : Data) → IsJson bytes d → IsOrdered d
 text_ordered bytes d is =
     let parsed = option_and_then (λ p. json.if_last p.0 p.1) (json.value max_depth (tokens bytes)) in
@@ -107,10 +108,10 @@ text_ordered bytes d is =
 -- what stands at a key
 pub member_ordered : (key : List ℕ) (ms : Members) (d : Data) → AreOrderedMembers ms → get_member key ms ≡ Some d → IsOrdered d
 member_ordered key no_members d all e = absurd (none-some d e)
-member_ordered key (member l found ms) d all e = go (byte_cmp key l) (member_ordered key ms d all.1) e
+member_ordered key (member l found ms) d all e = member_ordered-cases (byte_cmp key l) (member_ordered key ms d all.1) e
   where
-    go : (r : Ordering) → (get_member key ms ≡ Some d → IsOrdered d)
+    member_ordered-cases : (r : Ordering) → (get_member key ms ≡ Some d → IsOrdered d)
         → match_ordering r (get_member key ms) (Some found) (get_member key ms) ≡ Some d → IsOrdered d
-    go Less rest is = rest is
-    go Equal rest is = subst IsOrdered (some_same found d is) all.0
-    go Greater rest is = rest is
+    member_ordered-cases Less rest is = rest is
+    member_ordered-cases Equal rest is = subst IsOrdered (some_same found d is) all.0
+    member_ordered-cases Greater rest is = rest is

@@ -52,6 +52,7 @@ module _ {T : Type 0} (size : T → ℕ) where
       → (ms : Members) → AtMost (sum_by size) (members_weight ms) (AreEach tells (members_of ms))
   members_at_most tells each ms xs h = omega (arith, each_most size tells each (members_of ms) xs h, members_most ms)
 
+  -- what may be missing
   pub optional_at_most : (tells : Data → Told (List T)) → ((d : Data) → AtMost (sum_by size) (weight d) (tells d)) → (found : Option Data)
       → AtMost (sum_by size) (weight_or_none found) (IsOptional tells found)
   optional_at_most tells each None xs h = omega (arith, ap (sum_by size) (ok_same xs [] h))

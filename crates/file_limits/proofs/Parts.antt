@@ -17,6 +17,7 @@ use Rattle.file_limits.proofs.Items.{item_values}
 
 -- ---- sets of values
 
+-- a set has one text more at most
 pub length-with_text : (texts : List (List ℕ)) (w : List ℕ) → length (with_text texts w) ≤ length texts + 1
 length-with_text [] w = omega arith
 length-with_text (u ∷ texts) w =
@@ -99,6 +100,7 @@ key_few key.Target w values part next e = kept _ part next (targets_same values 
 key_few key.Flags w values part next e = absurd (none-some next e)
 key_few key.Variant w values part next e = set_few w (put_all [] values) (length values) part next (omega (arith, put_few [] values)) e
 
+-- an item adds no more values to a part than it has
 pub add_few : (item : Item) (part next : Part) → add item part ≡ Some next → AtMost (item_values item) part next
 add_few (Name w) part next e = absurd (none-some next e)
 add_few (Versions items) part next e = kept _ part next (same_unless _ part _ next e refl)

@@ -110,5 +110,6 @@ records-count d records e =
     (subst (λ (entries : List Record). some entries ≤ 1 + members_weight ms.0) (ok_same list.0 records none.2)
     (omega (arith, key-weight ms.0 (codes "records"))))
 
+-- the records of a database count no more than its bytes
 pub databases-hold : DatabasesHoldRecords
 databases-hold bytes records (d, json, is) = omega (arith, records-count d records is.0, texts-bear bytes d json)

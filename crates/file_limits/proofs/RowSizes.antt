@@ -142,6 +142,7 @@ at-fit : (n : ℕ) (r : Result Given ArgumentFault) → IfOk r (λ g. given_size
 at-fit n (Ok g) h = h
 at-fit n (Err e) h = tt
 
+-- a call adds no more than its tokens have
 pub call-grows : (bytes : List ℕ) (d : Directive) (place number : ℕ) (segments : List Segment) (around : Option Head) (s : State)
     → StateGrowsTo (state_size s + (sum_by segment_size segments + 7)) (call bytes d place number segments around s)
 unfolding call

@@ -154,5 +154,6 @@ read-bears text =
     more None h le = tt
     more (Some d) h le = omega arith
 
+-- a text has as many bytes as its value weighs, at least
 pub texts-bear : TextsBearWeight
 texts-bear bytes d h = subst (AtMost weight (length bytes)) h.1 (read-bears bytes)

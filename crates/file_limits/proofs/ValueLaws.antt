@@ -31,12 +31,12 @@ use Rattle.file_limits.proofs.OrderLaws.{AreOrderedItems, AreOrderedMembers, IsO
 
 one_filled : (kept : List (List ℕ)) (word : List ℕ) → is_filled (with_text kept word) ≡ true
 one_filled [] word = refl
-one_filled (x ∷ xs) word = go (byte_cmp word x)
+one_filled (x ∷ xs) word = one_filled-cases (byte_cmp word x)
   where
-    go : (r : Ordering) → is_filled (match_ordering r (word ∷ x ∷ xs) (x ∷ xs) (x ∷ with_text xs word)) ≡ true
-    go Less = refl
-    go Equal = refl
-    go Greater = refl
+    one_filled-cases : (r : Ordering) → is_filled (match_ordering r (word ∷ x ∷ xs) (x ∷ xs) (x ∷ with_text xs word)) ≡ true
+    one_filled-cases Less = refl
+    one_filled-cases Equal = refl
+    one_filled-cases Greater = refl
 
 with_filled : (kept words : List (List ℕ)) → is_filled kept ≡ true → is_filled (with_texts kept words) ≡ true
 unfolding with_texts
@@ -151,6 +151,7 @@ value_valued d records ordered e =
     subst (λ (l : List Record). list_all has_values l ≡ true) (ok_same list.0 records none.2)
     (list_valued read.0 list.0 (member_ordered (codes "records") ms.0 read.0 inside.1 read.1) read.2)
 
+-- each record of a database has its variants in order, each with a value
 pub database_valued : (bytes : List ℕ) (records : List Record) → IsDatabase bytes records
     → list_all has_values records ≡ true
 database_valued bytes records (d, json, is) = value_valued d records (text_ordered bytes d json) is.0

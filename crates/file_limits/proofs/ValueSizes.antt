@@ -132,6 +132,7 @@ by-fits bytes (Inner place read ∷ more) stop =
     alone-fits (sum_by atom_size (Inner place read ∷ more)) place more read
     (inner-fits (sum_by atom_size (Inner place read ∷ more)) read (omega (arith, sum_by-cons atom_size (Inner place read) more)))
 
+-- a value is no larger than its segment
 pub value-fits : (bytes : List ℕ) (s : Segment) → ReadFits (segment_size s) (value_of bytes s)
 unfolding value_of
 value-fits bytes s = by-fits bytes s.atoms s.stop

@@ -124,6 +124,7 @@ settings_most bear share d settings h =
     (ok_same settings (settings_with head.0 targets.0 tail.0 packages.0) packages.2) in
     omega (arith, within, ap weight (known_ok keys d ms.0 (said_ok (known keys d) ms.0 ms.1)))
 
+-- a file has two bytes for each thing that is counted in its settings, but for six
 pub files-bear-settings : TextsBearWeight → KeysShareWeight → TextsBearValues → FilesBearSettings
 files-bear-settings texts share bear bytes settings (d, json, is) =
     omega (arith, texts bytes d json, settings_most bear share d settings is)

@@ -1,11 +1,12 @@
 //! No file within its limit gives a problem beyond its own.
 //!
 //! What it is: six laws, with empty bodies, on what can be read of a file of some length.
-//! What it promises: of recipes, settings and databases, what `problem` counts of a file is no more than
-//! the file's bytes, and so is within the problem's limit where the file is within its own; each record
-//! that was read has its variants in order, each with a value.
-//! What it stands on: the readers `recipe_reader`, `settings_reader` and `record_reader`; the grammars of
-//! `json` and `spec_grammar`, for how much text a value has at least; `problem` for the counts.
+//! What it promises: of recipes, settings and databases, what `problem` counts of a file is no more
+//! than the file's bytes, and so is within the problem's limit where the file is within its own;
+//! each record that was read has its variants in order, each with a value.
+//! What it stands on: the readers `recipe_reader`, `settings_reader` and `record_reader`; the
+//! grammars of `json` and `spec_grammar`, for how much text a value has at least; `problem` for the
+//! counts.
 //! What it must not know: where files come from, and what the limits are for.
 #![tactic(auto)]
 

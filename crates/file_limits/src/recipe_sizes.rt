@@ -6,8 +6,9 @@ ghost use Rattle.recipe_data.specs.declared.recipe.Recipe.{Recipe};
 ghost use Rattle.recipe_reader.specs.Recipes.{recipe_of};
 ghost use Rattle.problem.specs.Limits.{are_few_rows, size_of_recipe};
 
-/// A recipe has at most as many rows and members of value and default sets as its file has bytes, and the recipes of
-/// some files at most as many as these files have. So those of files of at most 2^28 bytes are within the limits of a problem.
+/// A recipe has at most as many rows and members of value and default sets as its file has bytes,
+/// and the recipes of some files at most as many as these files have. So those of files of at most
+/// 2^28 bytes are within the limits of a problem.
 pub fn size_laws()
     ensures file { (name bytes : List ℕ)
         → IfOk (recipe_of name bytes) (λ recipe. size_of_recipe recipe ≤ length bytes) }

@@ -1,4 +1,4 @@
-// What holds of the records of all databases.
+//! What holds of the records of all databases.
 ghost use Rattle.std.specs.Prelude.{◌≡◌, ℕ, List, true};
 ghost use Rattle.std.specs.List.{list_all};
 ghost use Rattle.record_reader.specs.Files.{IsDatabase};

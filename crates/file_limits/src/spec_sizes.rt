@@ -2,8 +2,8 @@
 
 ghost use Rattle.file_limits.specs.SpecSizes.{TextsBearValues};
 
-/// Whatever kind of text it is, the variants of the specs that it spells have together at most half as many
-/// values as it has bytes.
+/// Whatever kind of text it is, the variants of the specs that it spells have together at most half
+/// as many values as it has bytes.
 pub fn spec_count_laws()
     ensures bear { TextsBearValues }
 {}

@@ -1,9 +1,9 @@
 //! Graphs of packages: nodes by name, edges by their ends, and the provider of each virtual.
 //!
-//! It promises: a `Graph` is seen as three lists in order, so graphs with the same content are equal
-//! and each call is a look-up in them; `reaches` and `Reach` tell of paths of one or more edges; a
-//! graph is the one that its look-ups give. It stands on `keyed_lists`, `reachability` and the crates
-//! of its attributes. It must not know recipes, settings, or which graphs are valid.
+//! It promises: a `Graph` is seen as three lists in order, so graphs with the same content are
+//! equal and each call is a look-up in them; `reaches` and `Reach` tell of paths of one or more
+//! edges; a graph is the one that its look-ups give. It stands on `keyed_lists`, `reachability` and
+//! the crates of its attributes. It must not know recipes, settings, or which graphs are valid.
 #![tactic(auto)]
 
 mod exact;

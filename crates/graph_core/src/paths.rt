@@ -1,4 +1,4 @@
-// Paths of a graph.
+//! Paths of a graph.
 ghost use Rattle.std.specs.Prelude.{◌≡◌, map, IfOk};
 ghost use Rattle.keyed_lists.specs.OfReachability.Places.{AreNumbered, IsAt};
 ghost use Rattle.graph_core.specs.Graphs.{HasNode, name_of};

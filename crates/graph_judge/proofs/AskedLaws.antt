@@ -328,5 +328,6 @@ module _ (problem : Problem) (graph : Content) (g : IsGraph graph) (asked : List
         (λ rule there. structure-same (is_among asked) problem graph rule (structure-is rule there) ∙ unbroken rule))
         (list_all-from (keeps_demand problem graph) asked demand-kept)
 
+  -- a graph is valid for demands exactly where the verdict for them is Valid
   pub valid_for-verdict : (valid_for asked problem graph ≡ true) ↔ (verdict_for asked problem graph ≡ verdicts.Valid)
   valid_for-verdict = (said-valid, valid-said)

@@ -60,6 +60,7 @@ fn is_root(demand: Option<&Demand>, place: u64) -> bool
     }
 }
 
+/// Whether a demand is that of this directive.
 fn is_directive(demand: Option<&Demand>, name: &str, number: u64) -> bool
     ensures { result ≡ is_some_and (option_copied demand.entry)
         (same_demand (Directive name.now number)) }

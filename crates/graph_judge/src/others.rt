@@ -1,4 +1,4 @@
-// The rules of roots and of providers.
+//! The rules of roots and of providers.
 ghost use Rattle.std.specs.Prelude.{◌≡◌, ◌++◌, [], IfOk, OnOk, unwrap_or};
 ghost use Rattle.graph_rules.specs.Verdict.{keeps_asked_root, broken_roots, broken_providers};
 ghost use Rattle.graph_judge.specs.Places.{provider_test, providers_places};

@@ -1,4 +1,4 @@
-// The rules that are said of each directive at a node to build.
+//! The rules that are said of each directive at a node to build.
 ghost use Rattle.std.specs.Prelude.{◌≡◌, ◌++◌, IfOk, OnOk};
 ghost use Rattle.problem.specs.Problems.{depends_at, conflicts_at, requirements_at};
 ghost use Rattle.graph_rules.specs.Directives.{keeps_conflict, keeps_requirement};
@@ -35,6 +35,7 @@ fn depend_test(
     }
 }
 
+/// Whether a `depends_on` is kept at a node, where it is built and the directive is asked.
 fn keeps_depend<D: AskedDemands>(
     alloc: Global,
     constraint: bool,
@@ -117,6 +118,7 @@ pub(crate) fn depend_places<D: AskedDemands>(
 
 // ---- `conflicts`
 
+/// The same of a `conflicts`.
 fn keeps_conflict_asked<D: AskedDemands>(
     alloc: Global,
     problem: &Problem,
@@ -195,6 +197,7 @@ pub(crate) fn conflict_places<D: AskedDemands>(
 
 // ---- `requires`
 
+/// The same of a `requires`.
 fn keeps_requirement_asked<D: AskedDemands>(
     alloc: Global,
     problem: &Problem,

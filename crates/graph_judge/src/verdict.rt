@@ -1,8 +1,9 @@
-// The first broken rule.
+//! The first broken rule.
 ghost use Rattle.std.specs.Prelude.{◌≡◌, ◌↔◌, true, IfOk, filter_map, slice_get};
 ghost use Rattle.problem.specs.Demands.{demands};
 ghost use Rattle.graph_rules.specs.Valid.{valid, valid_for};
-ghost use Rattle.graph_rules.specs.Verdict.{breaks_of, first_broken, least, verdict, verdict_of, verdict_for};
+ghost use Rattle.graph_rules.specs.Verdict.{breaks_of, first_broken, least, verdict, verdict_of};
+ghost use Rattle.graph_rules.specs.Verdict.{verdict_for};
 ghost use Rattle.graph_rules.specs.declared.rule.Verdict.{Verdict};
 ghost use Rattle.graph_judge.specs.Places.{found_of};
 
@@ -91,6 +92,7 @@ fn broken<D: AskedDemands>(
     }
 }
 
+/// The verdict of the first rule that is broken.
 fn first_broken<D: AskedDemands>(
     alloc: Global,
     problem: &Problem,
@@ -123,8 +125,8 @@ fn verdict_of<D: AskedDemands>(
     first_broken(alloc, problem, &explored, asked, &RULES)
 }
 
-/// The verdict on a graph: Valid exactly where no rule is broken, else the first broken rule, there the least node by
-/// bytes, and there the least number.
+/// The verdict on a graph: Valid exactly where no rule is broken, else the first broken rule, there
+/// the least node by bytes, and there the least number.
 ///
 /// Finds all paths once and then goes over the graph once for each rule.
 pub fn judge(alloc: Global, problem: &Problem, graph: &Graph) -> Result<Verdict, AllocError>
@@ -136,8 +138,8 @@ pub fn judge(alloc: Global, problem: &Problem, graph: &Graph) -> Result<Verdict,
     Ok(said)
 }
 
-/// The same, where of roots and directives only those of these demands are asked, by their numbers from 0. A number
-/// that is no demand's asks nothing.
+/// The same, where of roots and directives only those of these demands are asked, by their numbers
+/// from 0. A number that is no demand's asks nothing.
 pub fn judge_for(
     alloc: Global,
     problem: &Problem,

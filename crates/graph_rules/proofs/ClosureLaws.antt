@@ -225,6 +225,7 @@ module _ (problem : Problem) (graph : Content) (g : IsGraph graph) (k : keeps_al
     path_closed [] from to start steps = edge_closed from to steps.0 start
     path_closed (next ∷ over) from to start steps = path_closed over next to (edge_closed from next steps.0 start) steps.1
 
+    -- the name of each node is one of the closed names
     pub node-closed : (node : Node) → In node graph.nodes → among names node.name ≡ true
     unfolding keeps keeps_reachable is_closed
     node-closed node there =

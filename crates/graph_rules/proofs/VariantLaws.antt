@@ -101,6 +101,7 @@ with_key key p (x ∷ xs) text =
     and_never true = refl
     and_never false = refl
 
+-- a variant is governed exactly where a row governs it
 pub governed-governing : (problem : Problem) (graph : Content) (node : Node) (variant : Text)
     → among (governed problem graph node) variant ≡ is_some (governing (world_of problem) graph node.name variant)
 unfolding governing

@@ -1,4 +1,4 @@
-// What holds of all weights and vectors.
+//! What holds of all weights and vectors.
 ghost use Rattle.std.specs.Prelude.{◌≡◌, ℕ, List, Some, None, find, length, slice_get};
 ghost use Rattle.std.specs.List.Sorted.{IsPermutation, IsStrictlySortedBy};
 ghost use Rattle.std.specs.Str.{bytes_eq};
@@ -12,8 +12,8 @@ ghost use Rattle.problem.specs.Nodes.{IsWellFormed};
 
 use version_order::laws;
 
-/// A version's weight is its row's place, from 0, in the sort of the declared versions, and the number of
-/// these where it is not declared.
+/// A version's weight is its row's place, from 0, in the sort of the declared versions, and the
+/// number of these where it is not declared.
 pub fn weights_are_places()
     ensures place { (problem : Problem) (name version : Text) (sorted : List VersionRow) (place : ℕ)
         (row : VersionRow) → IsPermutation (versions_at problem name) sorted

@@ -45,6 +45,7 @@ roots_float : (g : Content) (roots : List Spec) → items_have_float (items_of (
 roots_float g [] = refl
 roots_float g (root ∷ roots) = roots_float g roots
 
+-- a lock file has no floats
 pub lock_float : (g : Content) (records : List Record) (roots : List Spec) → has_float (lock_data g records roots) ≡ false
 unfolding lock_data
 lock_float g records roots =

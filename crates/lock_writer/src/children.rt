@@ -1,4 +1,4 @@
-// The places of each node's children.
+//! The places of each node's children.
 ghost use Rattle.std.specs.Prelude.{map, All, IfOk};
 ghost use Rattle.std.specs.List.{AllZip};
 ghost use Rattle.reachability.specs.Places.{IsAt};

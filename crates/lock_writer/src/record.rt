@@ -1,4 +1,4 @@
-// The records of nodes.
+//! The records of nodes.
 ghost use Rattle.std.specs.Prelude.{◌≡◌, [], length, map, All, IfOk};
 ghost use Rattle.graph_core.specs.Graphs.{HasNode};
 ghost use Rattle.reuse_db.specs.Canonical.{right_hash};

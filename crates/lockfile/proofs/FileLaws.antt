@@ -48,6 +48,7 @@ nodes_again g records fit = items_mapped node_at (data_of_node g records) (locke
     let is = All-contains (λ (n : Node). IsFormedNode n (node_record g records n)) g.nodes node fit has in
     node_again (node_record g records node) node.origin is.form is.own)
 
+-- the names in the file are those of the nodes
 pub names_same : (g : Content) (records : List Record) (nodes : List Node)
     → ((node : Node) → Contains nodes node → (node_record g records node).name ≡ node.name)
     → names_of (map (locked g records) nodes) ≡ map name_of nodes
@@ -95,6 +96,7 @@ roots_again g roots fit = items_mapped root_at (root_data g) (locked_root g) 0 r
 
 -- ---- the whole
 
+-- the value that is written is read as the locked file
 pub file_again : (g : Content) (records : List Record) (roots : List Spec) → IsGraph g → IsFormed g records roots
     → file_at (lock_data g records roots) ≡ Ok (locked_file g records roots)
 unfolding file_at roots_at lock_data

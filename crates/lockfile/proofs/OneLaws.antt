@@ -52,6 +52,7 @@ file_same d e f g same p q =
 lock_here : AnswersOnce → (f g : File) (a b : Lock) → f ≡ g → IsLockOf f a → IsLockOf g b → a ≡ b
 lock_here laws f g a b same p q = lock_of_one laws g a b (subst (λ (file : File). IsLockOf file a) same p) q
 
+-- bytes are one lock file at most
 pub lock_one : AnswersOnce → (bytes : List ℕ) (a b : Lock) → IsLock bytes a → IsLock bytes b → a ≡ b
 lock_one laws bytes a b (d, json, (f, is, lock)) (e, other, (g, too, as_well)) =
     lock_here laws f g a b (file_same d e f g (json_one bytes d e json other) is too) lock as_well
@@ -98,6 +99,7 @@ value_one : (d e : Data) (f g : LockFault) → d ≡ e → IsFaultOf d f → IsF
 value_one d e f g same p q other not = some_one (by_value (file_at e)) f g (ap (λ v. by_value (file_at v)) (sym same)
     ∙ is_by_value d f p other) (is_by_value e g q not)
 
+-- bytes have one fault at most besides want of memory
 pub fault_one : (bytes : List ℕ) (f g : LockFault) → IsLockFault bytes f → IsLockFault bytes g → f ≢ OutOfMemory → g ≢ OutOfMemory → f ≡ g
 fault_one bytes f g (inl is) q other not = absurd (other is)
 fault_one bytes f g (inr p) (inl is) other not = absurd (not is)
@@ -125,5 +127,6 @@ other_than (HashDiffers written computed) h = absurd (h (λ e. absurd cc))
 other_than (Dangling parent child) h = absurd (h (λ e. absurd cc))
 other_than OutOfMemory h = refl
 
+-- a lock file is refused for want of memory alone
 pub lock_right : (bytes : List ℕ) (lock : Lock) (f : LockFault) → IsLock bytes lock → IsLockFault bytes f → f ≡ OutOfMemory
 lock_right bytes lock f (d, json, (file, is, of)) fault = other_than f (λ other. lock_or_fault bytes d file f json is of.sound other fault)

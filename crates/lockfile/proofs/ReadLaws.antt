@@ -106,6 +106,7 @@ provider_ok nodes d providers e =
     let read = entries_ok name_meaning (text_of (among names)) members.0 providers members.2 provider has in
     of_names (names_of nodes) provider.1 (text_ok names (as_str read.0) provider.1 (given_ok _ provider.1 read.1)))
 
+-- each package that provides in a file that was read is one of its nodes
 pub provided : (d : Data) (file : File) → file_at d ≡ Ok file → AreProvided file
 unfolding file_at
 provided d file e =
@@ -120,6 +121,7 @@ provided d file e =
 
 -- ---- nodes
 
+-- what was read of a node, from its three runs of keys
 pub node_read : (d : Data) (ms : Members) (odd : Option Text) (head : Head) (body : Body) (described : Record) (origin : Origin)
     → members_of d ≡ Ok ms → odd ≡ first_odd node_keys ms → head_at odd ms ≡ Ok head
     → body_at odd ms ≡ Ok body → back_at head.front body.middle odd ms ≡ Ok described

@@ -115,6 +115,7 @@ module _ (g : Content) (records : List Record) (graph : IsGraph g) (right : AreR
       (sym is) made) in
       subst (Contains g.edges) one (from_node g node.name e there).0
 
+  -- each edge of the graph is read
   pub edge_read : (e : Edge) → Contains g.edges e → Contains (all_edges nodes nodes) e
   edge_read e has =
       let from = image_of name_of g.nodes e.parent (All-contains (λ (x : Edge). HasNode g x.parent) g.edges e graph.parents has) in
@@ -126,6 +127,7 @@ module _ (g : Content) (records : List Record) (graph : IsGraph g) (right : AreR
       (in_given (λ (d : Text × Kinds). edge_to (locked g records node).described.name d (named_by nodes d.0))
       (children_of (locked g records node)) (child_of (node_hash g) e) e child (edge_again node from.1 e here))
 
+  -- each edge that is read is one of the graph
   pub edge_of_graph : (e : Edge) → Contains (all_edges nodes nodes) e → Contains g.edges e
   edge_of_graph e has =
       let flat = from_flat (edges_of nodes) nodes e has in
@@ -159,6 +161,7 @@ module _ (g : Content) (records : List Record) (graph : IsGraph g) (right : AreR
       subst (λ (r : Record). not (bytes_eq r.hash (right_hash r)) ≡ false) is
       (rw ((bytes_decides own.hash (right_hash (sorted own))).1 same) refl))
 
+  -- the file of a writable graph has no fault
   pub is_sound : (roots : List Spec) → ((root : Spec) → Contains roots root → IsOfNode g root) → IsSound (locked_file g records roots)
   is_sound roots known = record {
     named = ap (λ names. twice_after [] names) (names_same g records g.nodes name_written)

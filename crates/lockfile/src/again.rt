@@ -1,4 +1,4 @@
-// A lock file, written and read.
+//! A lock file, written and read.
 ghost use Rattle.std.specs.Prelude.{◌≡◌, IfErr, IfOk};
 ghost use Rattle.lock_writer.specs.Texts.{CanBeWritten};
 ghost use Rattle.lockfile.specs.declared.fault.LockFault.TheVariants.{OutOfMemory};
@@ -11,7 +11,8 @@ use reuse_db::Database;
 use spec_grammar::Spec;
 use std::alloc::Global;
 
-/// Writes the lock file of a writable graph, and reads it again: as the graph itself, with its roots.
+/// Writes the lock file of a writable graph, and reads it again: as the graph itself, with its
+/// roots.
 ///
 /// # Errors
 ///

@@ -1,4 +1,4 @@
-// A whole lock file.
+//! A whole lock file.
 ghost use Rattle.std.specs.Prelude.{◌≡◌, [], IfOk, option_map};
 ghost use Rattle.std.specs.List.{list_any};
 ghost use Rattle.std.specs.Str.{bytes_eq};
@@ -52,6 +52,7 @@ impl Reader<File> for FileForm {
     }
 }
 
+/// Each virtual with its package, which is one of the nodes.
 fn read_providers(
     alloc: Global,
     members: &Map<String, Value>,

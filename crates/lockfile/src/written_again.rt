@@ -1,4 +1,4 @@
-// What is written is read again.
+//! What is written is read again.
 ghost use Rattle.std.specs.Prelude.{◌≡◌, All, Ok, List, ℕ};
 ghost use Rattle.keyed_lists.specs.Keyed.{IsInOrder};
 ghost use Rattle.variant_values.specs.Texts.{byte_cmp};
@@ -12,7 +12,8 @@ ghost use Rattle.graph_core.specs.Graphs.{Text, Content, IsGraph, node_of, provi
 ghost use Rattle.graph_core.specs.declared.node.Node.{Node};
 ghost use Rattle.graph_core.specs.declared.node.Kinds.{Kinds};
 ghost use Rattle.record_reader.specs.Records.{dependency_at, values_at};
-ghost use Rattle.reuse_db.specs.Canonical.{dependency_data, dependency_members, texts_data, values_of, variant_members};
+ghost use Rattle.reuse_db.specs.Canonical.{dependency_data, dependency_members, texts_data};
+ghost use Rattle.reuse_db.specs.Canonical.{values_of, variant_members};
 ghost use Rattle.graph_core.specs.declared.node.Origin.{Origin};
 ghost use Rattle.reuse_db.specs.Canonical.{right_hash};
 ghost use Rattle.reuse_db.specs.declared.record.Record.{Record};
@@ -37,7 +38,8 @@ pub fn written_laws()
         (array (values_of (dependency_members dependencies))) ≡ Ok dependencies }
 {}
 
-/// A node is read as it was written, with its dependencies in byte order of their hashes, and these have no part in its hash.
+/// A node is read as it was written, with its dependencies in byte order of their hashes, and these
+/// have no part in its hash.
 pub fn node_laws()
     ensures read { (entry : Record) (origin : Origin) → IsRecord entry → IsOwn origin entry.hash
         → node_at (node_data entry origin)
@@ -45,8 +47,8 @@ pub fn node_laws()
     ensures hash { (entry : Record) → right_hash (sorted entry) ≡ right_hash entry }
 {}
 
-/// The value that is written for a graph whose texts have their forms is read as its nodes, providers and roots, and so is each
-/// text of that value, as `write_lock` gives one.
+/// The value that is written for a graph whose texts have their forms is read as its nodes,
+/// providers and roots, and so is each text of that value, as `write_lock` gives one.
 pub fn file_laws()
     ensures value { (g : Content) (records : List Record) (roots : List Spec) → IsGraph g
         → IsFormed g records roots
@@ -58,7 +60,8 @@ pub fn file_laws()
         → IsLockOf (locked_file g records roots) lock }
 {}
 
-/// What is read of that file has the nodes, where each node is as its record says, and the providers and roots of the graph.
+/// What is read of that file has the nodes, where each node is as its record says, and the
+/// providers and roots of the graph.
 pub fn graph_laws()
     ensures nodes { (g : Content) (records : List Record) (roots : List Spec) (lock : Lock)
         → IsLockOf (locked_file g records roots) lock
@@ -72,8 +75,9 @@ pub fn graph_laws()
         → lock.roots ≡ map (locked_root g) roots }
 {}
 
-/// Where a writable graph can be written, each text of its value, as `write_lock` gives one, is the lock file of that graph with
-/// its roots. So it has no fault, and is read as no other (`crate::lock_laws`).
+/// Where a writable graph can be written, each text of its value, as `write_lock` gives one, is the
+/// lock file of that graph with its roots. So it has no fault, and is read as no other
+/// (`crate::lock_laws`).
 pub fn again_laws()
     ensures { (g : Content) (records : List Record) (roots : List Spec) → IsGraph g
         → AreRecords records

@@ -1,13 +1,14 @@
 //! What is asked of a run, as data; how large it may be; and what is looked up in it.
 //!
-//! What it is: the recipes, settings, installed packages and requested specs that decide which graphs are
-//! valid and what they cost; what may be demanded of a graph; the look-ups of rules and costs, with
-//! `Explored`, a graph of which all paths were found once.
+//! What it is: the recipes, settings, installed packages and requested specs that decide which
+//! graphs are valid and what they cost; what may be demanded of a graph; the look-ups of rules and
+//! costs, with `Explored`, a graph of which all paths were found once.
 //! What it promises: a `Problem` is put together from right parts alone, and by `assemble` refuses
-//! requested specs exactly as `roots_fault` says; each look-up answers what the definition of its name in
-//! `specs/` computes. The limits (`specs/Limits`) are definitions alone.
+//! requested specs exactly as `roots_fault` says; each look-up answers what the definition of its
+//! name in `specs/` computes. The limits (`specs/Limits`) are definitions alone.
 //! What it stands on: `condition_rules` for conditions and paths, `site_settings`, `reuse_db`.
-//! What it must not know: which graphs are valid, what they cost, clauses, and how a graph is found.
+//! What it must not know: which graphs are valid, what they cost, clauses, and how a graph is
+//! found.
 #![tactic(auto)]
 
 mod assembling;

@@ -14,6 +14,7 @@ use Rattle.record_reader.specs.Faults.{IsFaultOf, IsTextFault}
 
 -- ---- the records
 
+-- bytes are one database at most
 pub database_one : (bytes : List ℕ) (a b : List Record) → IsDatabase bytes a → IsDatabase bytes b → a ≡ b
 database_one bytes a b (d, json, p) (e, other, q) =
     ok_one (records_at e) a b (ap records_at (sym (json_one bytes d e json other)) ∙ p.0) q.0
@@ -107,6 +108,7 @@ value_one d f g (inr (inr (records, read, p))) (inr (inl (m, is, fault))) other 
 value_one d f g (inr (inr (records, read, p))) (inr (inr (others, too, q))) other not =
     records_one records f g p (subst (λ (l : List Record). IsDatabaseFault l g) (ok_one (records_at d) others records too read) q) other not
 
+-- bytes have one fault at most besides want of memory
 pub fault_one : (bytes : List ℕ) (f g : DbFault) → IsTextFault bytes f → IsTextFault bytes g → f ≢ OutOfMemory → g ≢ OutOfMemory → f ≡ g
 fault_one bytes f g (inl is) q other not = absurd (other is)
 fault_one bytes f g (inr p) (inl is) other not = absurd (not is)
@@ -124,6 +126,7 @@ value_right d records f is (inr (inl (m, wrong, q))) = ok_or_err (records_at d) 
 value_right d records f is (inr (inr (others, too, q))) =
     sound_none records f is.1 (subst (λ (l : List Record). IsDatabaseFault l f) (ok_one (records_at d) others records too is.0) q)
 
+-- a database is refused for want of memory alone
 pub database_right : (bytes : List ℕ) (records : List Record) (f : DbFault) → IsDatabase bytes records → IsTextFault bytes f
     → f ≡ OutOfMemory
 database_right bytes records f (d, json, is) (inl q) = q

@@ -47,12 +47,15 @@ module _ {K : Type 0} where
 -- ---- a map of places
 
 module _ (hashes : List (List ℕ)) (m : BTreeMap (String Global) ℕ) (are : ArePlaces hashes m) where
+  -- a hash without a place is none of them
   pub lacks_hash : (name : List ℕ) → get_by_text m name ≡ None → Contains hashes name → ⊥
   lacks_hash name none there = none-some _ (sym none ∙ (are name there.0).1 (there.1, there.2))
 
+  -- a hash with a place is one of them
   pub has_hash : (name : List ℕ) (i : ℕ) → get_by_text m name ≡ Some i → Contains hashes name
   has_hash name i some = let at = (are name i).0 some in (i, at.0, at.1)
 
+  -- the places with one hash more
   pub places_more : (n : BTreeMap (String Global) ℕ) (name : List ℕ) (i : ℕ) → i ≡ length hashes → get_by_text m name ≡ None
       → ((q : List ℕ) → get_by_text n q ≡ update bytes_eq (get_by_text m) name (Some i) q) → ArePlaces (hashes ++ name ∷ []) n
   places_more n name i last none updates q k = (
@@ -78,15 +81,18 @@ module _ (hashes : List (List ℕ)) (m : BTreeMap (String Global) ℕ) (are : Ar
 -- ---- entries one after another
 
 module _ (entries : List Record) (i : ℕ) (entry : Record) (lt : i < length entries) (is : entry ≡ get_or entries i entry) where
+  -- the hashes of one record more
   pub hashes_more : take (i + 1) (hashes_of entries) ≡ take i (hashes_of entries) ++ entry.hash ∷ []
   hashes_more = take_more (hashes_of entries) i entry.hash (omega (arith, lt, length-map entries (λ (e : Record). e.hash)))
       ∙ ap (λ l. take i (hashes_of entries) ++ l ∷ []) (get_or-map (λ (e : Record). e.hash) entries i entry entry.hash lt
       ∙ ap (λ (e : Record). e.hash) (sym is))
 
+  -- a hash that stood before stands twice
   pub twice : Contains (take i (hashes_of entries)) entry.hash → IsTwice entries i
   twice there =
       (lt, λ d. subst (λ (e : Record). Contains (take i (hashes_of entries)) e.hash) (is ∙ get_or_default entries i entry d lt) there)
 
+  -- a hash that did not stand before does not stand twice
   pub not_twice : (Contains (take i (hashes_of entries)) entry.hash → ⊥) → IsTwice entries i → ⊥
   not_twice lacks is_twice = lacks (subst (λ (e : Record). Contains (take i (hashes_of entries)) e.hash) (sym is) (is_twice.1 entry))
 

@@ -14,6 +14,7 @@ use Rattle.graph_core.specs.declared.node.Compiler.{Compiler}
 use Rattle.reuse_db.specs.Canonical.{texts_data, compiler_data, external_data, dependency_data, dependency_members, kind_texts, values_of, record_data}
 use Rattle.reuse_db.specs.declared.record.Record.{Record}
 
+-- the values of a map, in the order of its keys
 pub values_seen : (entries : List (String Global × Value))
     → items_of (map view (map (λ e. e.1) entries)) ≡ values_of (members_of (map (λ e. (e.0, view e.1)) entries))
 values_seen [] = refl
@@ -80,6 +81,7 @@ external_float : (external : Option Text) → has_float (external_data external)
 external_float None = refl
 external_float (Some prefix) = refl
 
+-- a record has no floats
 pub no_floats : (entry : Record) → has_float (record_data entry) ≡ false
 no_floats entry =
     none_of _ _ (compiler_float entry.compiler)

@@ -1,6 +1,7 @@
 //! The checks of the rules of a valid graph, at one node, one directive, one provider or one root.
 //!
-//! What it is: a call `keeps_..` for each definition of that name of `graph_rules`; `judge` runs them.
+//! What it is: a call `keeps_..` for each definition of that name of `graph_rules`; `judge` runs
+//! them.
 //! What it promises: each answers what its definition computes, and errs for want of memory alone.
 //! What it stands on: `graph_rules` for the definitions, `problem` for what is looked up,
 //! `condition_rules` for conditions.

@@ -55,6 +55,7 @@ packages_one : ReadsSetsOnce → ReadsSpecsOnce → (platform : List ℕ) (d : D
 packages_one sets specs platform d = then_one (said (named name_meaning d)) _ (said_one (named name_meaning d))
     (λ ms. each_one _ (λ name. package_one sets specs name platform) (members_of ms))
 
+-- the settings of a value have one outcome
 pub settings_one : ReadsSetsOnce → ReadsSpecsOnce → (d : Data) → IsOne (IsSettings d)
 settings_one sets specs d =
     then_one (said (known settings.keys d)) _ (said_one (known settings.keys d)) (λ ms.
@@ -79,6 +80,7 @@ err_or e (Err f) = f
 same_one : ReadsSetsOnce → ReadsSpecsOnce → (d e : Data) (a b : Outcome Settings) → d ≡ e → IsSettings d a → IsSettings e b → a ≡ b
 same_one sets specs d e a b is h k = let P : Data → Type 0 = λ v. IsSettings v a in settings_one sets specs e a b (subst P is h) k
 
+-- a file says one settings at most
 pub file_one : ReadsSetsOnce → ReadsSpecsOnce → (bytes : List ℕ) (a b : Settings) → IsOfFile bytes a → IsOfFile bytes b → a ≡ b
 file_one sets specs bytes a b h k = ap (ok_or a) (same_one sets specs h.0 k.0 (Ok a) (Ok b) (json_one bytes h.0 k.0 h.1 k.1) h.2 k.2)
 
@@ -87,6 +89,7 @@ first_one sets specs d e f g is h k =
     h.is ∙ ap (λ m. with_pointer m.what m.at) (ap (err_or h.misread)
     (same_one sets specs d e (Err h.misread) (Err k.misread) is h.first k.first)) ∙ sym k.is
 
+-- a file has one fault at most besides want of memory
 pub fault_one : ReadsSetsOnce → ReadsSpecsOnce → (bytes : List ℕ) (f g : SettingsFault) → IsFileFault bytes f → IsFileFault bytes g
     → f ≢ fault.OutOfMemory → g ≢ fault.OutOfMemory → f ≡ g
 fault_one sets specs bytes f g (inl h) k nf ng = absurd (nf h)
@@ -99,6 +102,7 @@ fault_one sets specs bytes f g (inr (inr h)) (inr (inr k)) nf ng = first_one set
 ok_is_not_err : {T E : Type 0} (x : T) (e : E) → Ok x ≡ Err e → ⊥
 ok_is_not_err x e h = cc
 
+-- a file of settings is refused for want of memory alone
 pub right_one : ReadsSetsOnce → ReadsSpecsOnce → (bytes : List ℕ) (settings : Settings) (f : SettingsFault) → IsOfFile bytes settings
     → IsFileFault bytes f → f ≡ fault.OutOfMemory
 right_one sets specs bytes settings f h (inl k) = k

@@ -158,5 +158,6 @@ settings_filled laws d settings h =
     (optional_ok has_values (ArePackages head.0.platform) (packages_filled laws head.0.platform) found packages.0
     (below_ok (codes "packages") (IsOptional (ArePackages head.0.platform) found) packages.0 packages.1))
 
+-- what a file says of externals has a value for each variant
 pub file_valued : SpecsAreValued → (bytes : List ℕ) (settings : Settings) → IsOfFile bytes settings → are_valued settings ≡ true
 file_valued laws bytes settings (d, json, is) = settings_filled laws d settings is

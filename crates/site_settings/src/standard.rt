@@ -2,7 +2,8 @@
 
 ghost use Rattle.std.specs.Prelude.{◌≡◌, IfOk, [], ◌∷◌, codes};
 ghost use Rattle.target_table.specs.Targets.{IsTargetFault};
-ghost use Rattle.site_settings.specs.Standard.{platform, conflict_budget, os, standard, targets, compilers};
+ghost use Rattle.site_settings.specs.Standard.{platform, conflict_budget, os, standard, targets};
+ghost use Rattle.site_settings.specs.Standard.{compilers};
 
 use crate::{CompilerEntry, Settings};
 use graph_core::{Compiler, Version, VersionFault, reading_laws};
@@ -79,6 +80,7 @@ pub fn compilers(alloc: Global) -> Result<List<CompilerEntry>, AllocError>
     Ok(entries)
 }
 
+/// The version of the standard compiler.
 fn version(alloc: Global) -> Result<Version, AllocError>
     ensures { IfOk result (λ version. version ≡ codes "12.3.0") }
 {
