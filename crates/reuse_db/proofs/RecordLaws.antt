@@ -10,8 +10,8 @@ use Rattle.std.proofs.lemmas.List.{get_or-map, get_or-take, get_or_default, leng
 use Rattle.graph_core.proofs.OfReachability.CountLaws.{has_first, has_later, first_or_later}
 use Rattle.graph_core.specs.Graphs.{Text}
 use Rattle.reuse_db.specs.declared.record.Record.{Record}
-use Rattle.reuse_db.specs.Places.{ArePlaces}
-use Rattle.reuse_db.proofs.PlaceLaws.{lacks_hash, has_hash}
+use Rattle.reachability.specs.TextPlaces.{ArePlaces}
+use Rattle.reachability.proofs.TextPlaces.{lacks_text, has_text}
 use Rattle.reuse_db.specs.Databases.{hashes_of, HasNoTwice, record_of}
 
 -- ---- a hash that none has
@@ -78,11 +78,11 @@ not_got (e ∷ es) (suc i) lt got = not_got es i (omega (arith, lt)) got
 module _ (records : List Record) (m : BTreeMap (String Global) ℕ) (are : ArePlaces (hashes_of records) m) where
   -- a hash without a place is unknown
   pub lost : (hash : Text) → get_by_text m hash ≡ None → list_any (bytes_eq hash) (hashes_of records) ≡ false
-  lost hash none = unknown_test (hashes_of records) hash (lacks_hash (hashes_of records) m are hash none)
+  lost hash none = unknown_test (hashes_of records) hash (lacks_text (hashes_of records) m are hash none)
 
   -- a hash with a place is known
   pub known : (hash : Text) (i : ℕ) → get_by_text m hash ≡ Some i → list_any (bytes_eq hash) (hashes_of records) ≡ true
-  known hash i some = known_test (hashes_of records) hash (has_hash (hashes_of records) m are hash i some)
+  known hash i some = known_test (hashes_of records) hash (has_text (hashes_of records) m are hash i some)
 
   -- the place of a hash is one of a record
   pub within : (hash : Text) (i : ℕ) → get_by_text m hash ≡ Some i → i < length records
@@ -90,7 +90,7 @@ module _ (records : List Record) (m : BTreeMap (String Global) ℕ) (are : ArePl
 
   -- a hash without a place has no record
   pub none_there : (hash : Text) → get_by_text m hash ≡ None → record_of records hash ≡ None
-  none_there hash none = not_found records hash (lacks_hash (hashes_of records) m are hash none)
+  none_there hash none = not_found records hash (lacks_text (hashes_of records) m are hash none)
 
   -- a hash with a place has the record there
   pub one_there : HasNoTwice records → (hash : Text) (i : ℕ) (entry : Record) → get_by_text m hash ≡ Some i → entry ≡ get_or records i entry

@@ -3,7 +3,7 @@ ghost use Rattle.std.specs.Prelude.{◌≡◌, [], None, find, slice_get, IfOk, 
 ghost use Rattle.std.specs.List.{list_any};
 ghost use Rattle.std.specs.Option.{option_copied};
 ghost use Rattle.std.specs.Str.{bytes_eq};
-ghost use Rattle.reuse_db.specs.Places.{ArePlaces};
+ghost use Rattle.reachability.specs.TextPlaces.{ArePlaces};
 ghost use Rattle.reuse_db.specs.Databases.{AreRecords, IsDatabaseFault, IsHashFault, hashes_of};
 ghost use Rattle.reuse_db.specs.Databases.{record_of, differing, dangling, is_lost};
 
@@ -28,7 +28,7 @@ pub struct Database {
 impl Model for Database {
     ghost use Rattle.std.specs.Prelude.{List};
     ghost use Rattle.reuse_db.specs.Databases.{AreRecords, hashes_of};
-    ghost use Rattle.reuse_db.specs.Places.{ArePlaces};
+    ghost use Rattle.reachability.specs.TextPlaces.{ArePlaces};
     ghost use Rattle.reuse_db.specs.declared.record.Record.{Record};
 
     ghost Value = { List Record };

@@ -16,7 +16,7 @@ use Rattle.target_table.specs.declared.fault.TargetFault.{TargetFault}
 use Rattle.target_table.specs.declared.fault.TargetFault.TheVariants.{TwiceNamed, UnknownParent, CyclicTargets, OutOfMemory}
 use Rattle.target_table.specs.Targets.{names_of, arcs_of, HasAncestor, IsTwice, IsUnknown, IsFirst, IsTargetFault, AreTargets}
 use Rattle.target_table.specs.Faults.{is_one_of, first_twice, first_unknown, is_cyclic, first_fault, fault_of}
-use Rattle.target_table.proofs.PlaceLaws.{none_more}
+use Rattle.reachability.proofs.TextPlaces.{none_more}
 use Rattle.target_table.proofs.TableLaws.{from_name}
 
 -- ---- tests of lists

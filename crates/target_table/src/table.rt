@@ -2,7 +2,7 @@
 ghost use Rattle.std.specs.Prelude.{◌≡◌, IfOk, IfErr, OnOk};
 ghost use Rattle.std.specs.Option.{option_copied};
 ghost use Rattle.reachability.specs.Places.{IsKeyTable};
-ghost use Rattle.target_table.specs.Places.{ArePlaces};
+ghost use Rattle.reachability.specs.TextPlaces.{ArePlaces};
 ghost use Rattle.target_table.specs.Targets.{IsTargetFault, AreTargets, names_of, arcs_of};
 ghost use Rattle.target_table.specs.Targets.{place_of, has_ancestor, at_least, keeps_end, in_range};
 
@@ -28,7 +28,7 @@ pub struct TargetTable {
 impl Model for TargetTable {
     ghost use Rattle.std.specs.Prelude.{List};
     ghost use Rattle.target_table.specs.declared.entry.TargetEntry.{TargetEntry};
-    ghost use Rattle.target_table.specs.Places.{ArePlaces};
+    ghost use Rattle.reachability.specs.TextPlaces.{ArePlaces};
     ghost use Rattle.reachability.specs.Places.{IsKeyTable};
     ghost use Rattle.target_table.specs.Targets.{AreTargets, names_of, arcs_of};
 
