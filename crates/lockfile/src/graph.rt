@@ -37,12 +37,12 @@ pub(crate) fn graph_of(
     let mut graph = graph_of_nodes(alloc, nodes)?;
     add_edges(alloc, &mut graph, edges.as_slice())?;
     add_providers(alloc, &mut graph, file.providers.as_slice())?;
-    whole(&graph);
+    graph_invariant(&graph);
     Ok(graph)
 }
 
-/// What each graph is.
-fn whole(graph: &Graph)
+/// Brings what is known of each graph.
+fn graph_invariant(graph: &Graph)
     ensures { IsGraph graph.now }
 {
     let _ = graph.nodes();

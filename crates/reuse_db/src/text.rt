@@ -28,11 +28,11 @@ pub fn record_value(alloc: Global, entry: &Record) -> Result<Value, AllocError>
     let dependencies = dependencies_value(alloc, entry.dependencies.as_slice())?;
     let external = external_value(alloc, &entry.external)?;
     let variants = variants_value(alloc, entry.variants.as_slice())?;
-    whole(alloc, entry, compiler, dependencies, external, variants)
+    record_object(alloc, entry, compiler, dependencies, external, variants)
 }
 
 /// The object of a record, its keys in byte order.
-fn whole(
+fn record_object(
     alloc: Global,
     entry: &Record,
     compiler: Value,

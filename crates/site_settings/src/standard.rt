@@ -70,7 +70,7 @@ pub fn compilers(alloc: Global) -> Result<List<CompilerEntry>, AllocError>
     ensures { IfOk result (λ entries. entries ≡ compilers) }
 {
     let name = Word::new(alloc, "gcc")?;
-    let version = version(alloc)?;
+    let version = compiler_version(alloc)?;
     let mut entries = List::new(alloc);
     entries.push(CompilerEntry {
         compiler: Compiler { name, version },
@@ -81,7 +81,7 @@ pub fn compilers(alloc: Global) -> Result<List<CompilerEntry>, AllocError>
 }
 
 /// The version of the standard compiler.
-fn version(alloc: Global) -> Result<Version, AllocError>
+fn compiler_version(alloc: Global) -> Result<Version, AllocError>
     ensures { IfOk result (λ version. version ≡ codes "12.3.0") }
 {
     reading_laws();
