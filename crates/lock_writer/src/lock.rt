@@ -12,12 +12,11 @@ ghost use Rattle.lock_writer.specs.Texts.{CanBeWritten, IsOfNode, IsRecorded, da
 ghost use Rattle.lock_writer.specs.Texts.{lock_data, lock_text, own_data, provider_members};
 ghost use Rattle.lock_writer.specs.Texts.{root_data, root_of};
 
-use crate::children::known_place;
 use crate::hashes::node_hashes;
 use crate::node::node_value;
 use crate::record::{dependencies_of, record_of_node};
 use crate::test::name_of;
-use graph_core::{Graph, Node, Origin};
+use graph_core::{Graph, Node, Origin, known_place};
 use plain_data::Word;
 use reuse_db::Database;
 use serde_json::{Map, Value, json, put};
