@@ -12,11 +12,11 @@ use Rattle.problem.specs.OfGraphCore.Node.{Node}
 use Rattle.problem.proofs.OfKeyedLists.TextLaws.{texts_decide}
 use Rattle.graph_rules.proofs.Lists.{In, list_all-each, list_all-from, find-in, node-itself, In-left, In-right, In-map, In-flat_map}
 use Rattle.problem.specs.OfConditionRules.Worlds.{recipe_of, rows}
-use Rattle.problem.specs.OfConditions.Recipe.{Recipe}
+use Rattle.problem.specs.OfRecipeData.Recipe.{Recipe}
 use Rattle.problem.specs.Problems.{recipe_at, depends_at, conflicts_at, requirements_at, Problem}
 use Rattle.graph_rules.specs.Directives.{keeps_root, keeps_edge, keeps_constraint, keeps_conflict, keeps_requirement}
 use Rattle.graph_rules.specs.Valid.{keeps, keeps_all, each_built, structure_rules, all_rules, valid, valid_for, keeps_demand, keeps_directive}
-use Rattle.problem.specs.OfConditions.Right.{numbers_of}
+use Rattle.problem.specs.OfRecipeData.Right.{numbers_of}
 use Rattle.problem.specs.Demands.{demands}
 use Rattle.graph_rules.specs.declared.rule.Rule.{Rule}
 use Rattle.graph_rules.specs.declared.rule.Rule.TheVariants as rules

@@ -12,7 +12,7 @@ use Rattle.problem.specs.OfGraphCore.Graphs.{Text, Content}
 use Rattle.problem.specs.OfConditionRules.Words.{among, find_last}
 use Rattle.problem.specs.OfGraphCore.Node.{Node}
 use Rattle.problem.specs.OfConditionRules.Holds.{governing}
-use Rattle.problem.specs.OfConditions.VariantRow.{VariantRow}
+use Rattle.problem.specs.OfRecipeData.VariantRow.{VariantRow}
 use Rattle.problem.specs.Problems.{world_of, variants_at, applies, Problem}
 use Rattle.graph_rules.specs.Built.{governed}
 

@@ -1,4 +1,4 @@
--- What is passed on of `conditions`, so that the crates above need not name it.
+-- What is passed on of `recipe_data`, so that the crates above need not name it.
 pub use Rattle.condition_rules.specs.OfConditions.Right
 pub use Rattle.condition_rules.specs.OfConditions.ConflictRow
 pub use Rattle.condition_rules.specs.OfConditions.DependRow
