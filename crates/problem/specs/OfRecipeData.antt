@@ -1,7 +1,7 @@
 -- What is passed on of `recipe_data`, so that the crates above need not name it.
-pub use Rattle.condition_rules.specs.OfConditions.Right
-pub use Rattle.condition_rules.specs.OfConditions.ConflictRow
-pub use Rattle.condition_rules.specs.OfConditions.DependRow
-pub use Rattle.condition_rules.specs.OfConditions.Recipe
-pub use Rattle.condition_rules.specs.OfConditions.RequireRow
-pub use Rattle.condition_rules.specs.OfConditions.VariantRow
+pub use Rattle.recipe_data.specs.Right
+pub use Rattle.recipe_data.specs.declared.recipe.ConflictRow
+pub use Rattle.recipe_data.specs.declared.recipe.DependRow
+pub use Rattle.recipe_data.specs.declared.recipe.Recipe
+pub use Rattle.recipe_data.specs.declared.recipe.RequireRow
+pub use Rattle.recipe_data.specs.declared.recipe.VariantRow
