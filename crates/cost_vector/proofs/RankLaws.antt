@@ -48,7 +48,8 @@ module _ {X : Type 0} where
 -- a sort is parted by what comes before one rank
 pub before_parts : (sorted : List Rank) (one : Rank) → IsSortedBy (λ a b. is_lt (rank_cmp a b)) sorted
     → IsPartitionedBy (λ other. is_lt (rank_cmp other one)) sorted
-before_parts sorted one rises = lt_parts (λ other. rank_cmp other one) sorted (searchable_from_sorted rank_total (λ (r : Rank). r) sorted one rises)
+before_parts sorted one rises = lt_parts (λ other. rank_cmp other one) sorted
+    (searchable_from_sorted rank_total (λ (r : Rank). r) sorted one rises)
 
 -- the place where it is parted is how many come before
 pub place_is : (sorted : List Rank) (one : Rank) (n : ℕ) → n ≤ length sorted
@@ -82,7 +83,8 @@ first_rank : (lists : List (List Range)) (p : VersionRow → Bool) (rows : List 
 first_rank lists p [] = refl
 first_rank lists p (row ∷ rows) = first_rank-cases (p row) (first_rank lists p rows)
   where
-    first_rank-cases : (b : Bool) → find (λ r. p r.row) (map (rank lists) rows) ≡ elim (find p rows) [ None ↦ None | Some r ↦ Some (rank lists r) ]
+    first_rank-cases : (b : Bool) → find (λ r. p r.row) (map (rank lists) rows)
+        ≡ elim (find p rows) [ None ↦ None | Some r ↦ Some (rank lists r) ]
         → cond b (Some (rank lists row)) (find (λ r. p r.row) (map (rank lists) rows))
         ≡ elim (cond b (Some row) (find p rows)) [ None ↦ None | Some r ↦ Some (rank lists r) ]
     first_rank-cases true e = refl

@@ -85,7 +85,8 @@ word-pays bytes ts first last less long = along (drop first ts) refl
     along [] is = absurd (let none = subst (λ (r : List Token). 7 ≤ length (first_word bytes r)) is long in omega arith)
     along (t ∷ more) is = along-cases (last - (first + 1)) refl
       where
-        along-cases : (k : ℕ) → last - (first + 1) ≡ k → tokens_size (drop 2 (between ts first last)) + 7 ≤ tokens_size (between ts first last)
+        along-cases : (k : ℕ) → last - (first + 1) ≡ k
+            → tokens_size (drop 2 (between ts first last)) + 7 ≤ tokens_size (between ts first last)
         along-cases k e =
             let all : last ≡ first + suc k = omega arith in
             let cut : between ts first last ≡ t ∷ take k more =

@@ -50,7 +50,8 @@ module _ {T : Type 0} (size : List T → ℕ) (read : Data → Reading (List T))
 os_most : CountsWithin twice_length os_list
 unfolding os_list
 os_most =
-    twice_tested twice_length (list_of (text_of plain_meaning)) (each_twice (text_of plain_meaning)) not_empty (distinct (slice_cmp nat_cmp))
+    twice_tested twice_length (list_of (text_of plain_meaning)) (each_twice (text_of plain_meaning)) not_empty
+        (distinct (slice_cmp nat_cmp))
 
 targets_most : CountsWithin twice_length target_list
 unfolding target_list

@@ -23,7 +23,8 @@ values_first : (v : List ℕ × Data) (vs : List (List ℕ × Data)) → values_
 values_first v vs = sum_by-cons (λ (u : List ℕ × Data). weight u.1) v vs
 
 each_most : {T : Type 0} (size : T → ℕ) (tells : List ℕ → Data → Told T)
-    → ((key : List ℕ) (d : Data) → AtMost size (weight d) (tells key d)) → (vs : List (List ℕ × Data)) → AtMost (sum_by size) (values_weight vs) (AreEach tells vs)
+    → ((key : List ℕ) (d : Data) → AtMost size (weight d) (tells key d)) → (vs : List (List ℕ × Data))
+    → AtMost (sum_by size) (values_weight vs) (AreEach tells vs)
 each_most size tells each [] xs h = omega (arith, ap (sum_by size) (ok_same xs [] h))
 each_most size tells each (v ∷ vs) xs h =
     let first = then_ok (Below v.0 (tells v.0 v.1)) _ xs h in

@@ -25,7 +25,8 @@ filter_map-few : {X Y : Type 0} (f : X → Option Y) (xs : List X) → length (f
 filter_map-few f [] = omega arith
 filter_map-few {Y = Y} f (x ∷ xs) = filter_map-few-cases (filter_map-few f xs) (f x)
   where
-    filter_map-few-cases : length (filter_map f xs) ≤ length xs → (o : Option Y) → length (cons_option o (filter_map f xs)) ≤ length (x ∷ xs)
+    filter_map-few-cases : length (filter_map f xs) ≤ length xs → (o : Option Y)
+        → length (cons_option o (filter_map f xs)) ≤ length (x ∷ xs)
     filter_map-few-cases rest None = omega arith
     filter_map-few-cases rest (Some y) = omega arith
 

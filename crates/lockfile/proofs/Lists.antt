@@ -45,7 +45,8 @@ pub find_alike : {X K : Type 0} {R : K → K → Ordering} (o : IsTotalOrder R) 
 find_alike {X = X} {R = R} o exact key xs ys order there back k = find_alike-cases (find_key R key xs k) refl
   where
     find_alike-cases : (r : Option X) → find_key R key xs k ≡ r → find_key R key ys k ≡ r
-    find_alike-cases (Some x) is = let has = find_sound o exact key xs k x is in (found_iff o exact key ys k x order).1 (there x has.0, has.1)
+    find_alike-cases (Some x) is = let has = find_sound o exact key xs k x is in
+        (found_iff o exact key ys k x order).1 (there x has.0, has.1)
     find_alike-cases None is = find_none o exact key ys k (λ y has tie.
         let known = find_known o exact key xs k (subst (Contains (map key xs)) (exact (key y) k tie) (has_image key xs y (back y has))) in
         none-some known.0 (sym is ∙ known.1))
