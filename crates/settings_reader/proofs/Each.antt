@@ -1,5 +1,6 @@
 -- Values that are read one after another, by a loop.
 use Rattle.std.proofs.Common.{◌≡◌, refl, sym, ap, subst, ℕ, List, [], ◌∷◌, ◌++◌, append_assoc, Ok, Err}
+use Rattle.std.proofs.lemmas.List.{append-nil}
 use Rattle.serde_json.specs.Data.{Data, Members, member, no_members}
 use Rattle.settings_reader.specs.Told.{Outcome, Told, Tells, Below}
 use Rattle.settings_reader.specs.Parsed.{AreEach, members_of}
@@ -14,10 +15,6 @@ after xs (Err m) = Err m
 -- some were read, and what the rest gives is what the whole gives
 pub record Continues {T : Type 0} (tells : List ℕ → Data → Told T) (whole rest : List (List ℕ × Data)) (read : List T) : Type 0 where
   pub to : (out : Outcome (List T)) → AreEach tells rest out → AreEach tells whole (after read out)
-
-append-nil : {T : Type 0} (xs : List T) → xs ++ [] ≡ xs
-append-nil [] = refl
-append-nil (x ∷ xs) = ap (λ l. x ∷ l) (append-nil xs)
 
 after_none : {T : Type 0} (out : Outcome (List T)) → after [] out ≡ out
 after_none (Ok xs) = refl
