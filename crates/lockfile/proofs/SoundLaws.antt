@@ -21,7 +21,7 @@ use Rattle.reuse_db.specs.declared.record.Record.{Record}
 use Rattle.lock_writer.specs.Hashes.{child_of, node_hash, node_record}
 use Rattle.lock_writer.specs.Texts.{IsOfNode}
 use Rattle.lockfile.specs.Children.{all_edges, children_by, children_of, edge_to, edges_of, is_needed, named_by, without_build}
-use Rattle.lockfile.specs.Faults.{IsSound, lost_child, lost_from, lost_root, records_of, twice_after, wrongly_hashed}
+use Rattle.lockfile.specs.Faults.{IsSound, lost_child, lost_from, lost_root, records_of, named_after, wrongly_hashed}
 use Rattle.lockfile.specs.declared.node.LockedNode.{LockedNode}
 use Rattle.lockfile.specs.Again.{by_hash, sorted}
 use Rattle.lockfile.specs.Formed.{locked, locked_file, locked_root}
@@ -164,7 +164,7 @@ module _ (g : Content) (records : List Record) (graph : IsGraph g) (right : AreR
   -- the file of a writable graph has no fault
   pub is_sound : (roots : List Spec) → ((root : Spec) → Contains roots root → IsOfNode g root) → IsSound (locked_file g records roots)
   is_sound roots known = record {
-    named = ap (λ names. twice_after [] names) (names_same g records g.nodes name_written)
+    named = ap (λ names. named_after [] names) (names_same g records g.nodes name_written)
         ∙ never_named_twice [] (map name_of g.nodes) (λ b k none has. absurd (lacks_all b none)) graph.nodes;
     hashed = hashes_right;
     known = rw (no_child_lost nodes nodes child_known)

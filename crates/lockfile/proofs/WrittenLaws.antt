@@ -16,7 +16,7 @@ use Rattle.json_readers.specs.Lists.{items_from, twice_after}
 use Rattle.json_readers.specs.Maps.{entries_of}
 use Rattle.reuse_db.specs.Canonical.{values_of}
 use Rattle.graph_core.specs.Graphs.{Text}
-use Rattle.lockfile.specs.Faults.{twice_after as named_after}
+use Rattle.lockfile.specs.Faults.{named_after}
 use Rattle.lockfile.specs.Again.{Has}
 
 above : (a b : Text) → byte_cmp a b ≡ Less → byte_cmp b a ≡ Greater

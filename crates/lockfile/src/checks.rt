@@ -2,7 +2,7 @@
 ghost use Rattle.std.specs.Prelude.{◌≡◌, [], None, IfOk, IfErr, OnOk, is_none};
 ghost use Rattle.lockfile.specs.Children.{named_by};
 ghost use Rattle.lockfile.specs.Faults.{IsFileFault, IsHashFault, IsSound, IsTwiceFault, dangling};
-ghost use Rattle.lockfile.specs.Faults.{lost_child, lost_from, lost_root, twice_after, twice_named};
+ghost use Rattle.lockfile.specs.Faults.{lost_child, lost_from, lost_root, named_after, twice_named};
 ghost use Rattle.lockfile.specs.Faults.{wrongly_hashed};
 ghost use Rattle.lockfile.specs.Named.{AreNames};
 
@@ -48,7 +48,7 @@ fn check_names(alloc: Global, nodes: &[LockedNode]) -> Result<(), LockFault>
 
 /// The first name that stood before.
 fn twice_in(alloc: Global, names: Vec<Word>) -> Result<Option<Word>, AllocError>
-    ensures { IfOk result (λ name. name ≡ twice_after [] names.items) }
+    ensures { IfOk result (λ name. name ≡ named_after [] names.items) }
 {
     let mut before = BTreeSet::new(alloc);
     for name in names {
