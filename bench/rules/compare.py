@@ -37,13 +37,13 @@ use Rattle.site_settings.specs.declared.settings.Settings.{Settings}
 use Rattle.site_settings.specs.declared.settings.CompilerEntry.{CompilerEntry}
 use Rattle.site_settings.specs.declared.settings.PackageEntry.{PackageEntry}
 use Rattle.site_settings.specs.declared.settings.ExternalEntry.{ExternalEntry}
-use Rattle.conditions.specs.declared.recipe.Recipe.{Recipe}
-use Rattle.conditions.specs.declared.recipe.VersionRow.{VersionRow}
-use Rattle.conditions.specs.declared.recipe.VariantRow.{VariantRow}
-use Rattle.conditions.specs.declared.recipe.DependRow.{DependRow}
-use Rattle.conditions.specs.declared.recipe.ProvideRow.{ProvideRow}
-use Rattle.conditions.specs.declared.recipe.ConflictRow.{ConflictRow}
-use Rattle.conditions.specs.declared.recipe.RequireRow.{RequireRow}
+use Rattle.recipe_data.specs.declared.recipe.Recipe.{Recipe}
+use Rattle.recipe_data.specs.declared.recipe.VersionRow.{VersionRow}
+use Rattle.recipe_data.specs.declared.recipe.VariantRow.{VariantRow}
+use Rattle.recipe_data.specs.declared.recipe.DependRow.{DependRow}
+use Rattle.recipe_data.specs.declared.recipe.ProvideRow.{ProvideRow}
+use Rattle.recipe_data.specs.declared.recipe.ConflictRow.{ConflictRow}
+use Rattle.recipe_data.specs.declared.recipe.RequireRow.{RequireRow}
 use Rattle.reuse_db.specs.declared.record.Record.{Record}
 use Rattle.problem.specs.Problems.{Problem}
 use Rattle.problem.specs.Demands.{demands}
@@ -51,7 +51,7 @@ use Rattle.problem.specs.Assembled.{is_assembled}
 use Rattle.graph_rules.specs.Valid.{keeps, keeps_demand, all_rules}
 use Rattle.graph_rules.specs.Verdict.{verdict}
 use Rattle.graph_rules.specs.declared.rule.Verdict.{Verdict}
-use Rattle.graph_costs.specs.Costs.{vector}
+use Rattle.graph_rules.specs.Costs.{vector}
 
 abbrev pub part : Option Text → Option (List Range) → List (Text × List Text) → Option (Text × Option (List Range)) → Option Text → Option Text → Option (List TargetItem) → Part
 part n v vs c p o t = record { name = n; versions = v; variants = vs; compiler = c; platform = p; os = o; targets = t }
