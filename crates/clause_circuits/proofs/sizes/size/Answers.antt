@@ -1,6 +1,6 @@
 use Rattle.std.proofs.Common.{◌-◌, arith}
 use Rattle.clause_circuits.proofs.AddLoops.{size-start, size-more}
-use Rattle.clause_circuits.proofs.binary.size.Goals as goal
+use Rattle.clause_circuits.proofs.sizes.size.Goals as goal
 
 pub loop-bits-init : goal.loop-bits-init
 loop-bits-init c = omega (arith, size-start c.args.number)
