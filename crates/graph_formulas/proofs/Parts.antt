@@ -22,7 +22,7 @@ use Rattle.literal_table.specs.Spells.{Spells}
 use Rattle.graph_formulas.specs.Facts.{Word, word_said, is_in}
 use Rattle.graph_formulas.specs.Parts.{meets_rule, provides_rule, holds_rule, condition_rule}
 use Rattle.graph_formulas.specs.Words.{SpellsPaths, names_for, says}
-use Rattle.graph_formulas.proofs.Said.{word-said}
+use Rattle.graph_formulas.proofs.WordsSaid.{word-said}
 use Rattle.graph_formulas.proofs.Kept.{meets-kept, provides-kept, holds-kept, condition-kept}
 
 -- what is chosen is one of the choices

@@ -8,17 +8,17 @@ use Rattle.problem.specs.Closure.{IsClosure}
 use Rattle.literal_table.specs.Tables.{Table}
 use Rattle.problem_formulas.specs.OfGraphEncoding.Encodings.{encode_on, told_in}
 use Rattle.problem_formulas.specs.OfGraphEncoding.Best.{values_for}
-use Rattle.problem_formulas.specs.OfGraphClauses.Ranges.{AreInRange}
-use Rattle.problem_formulas.specs.OfGraphClauses.ProblemClauses.{ProblemClauses}
-use Rattle.problem_formulas.proofs.OfGraphClauses.CallSteps.{ranges_of}
+use Rattle.problem_formulas.specs.OfGraphEncoding.Ranges.{AreInRange}
+use Rattle.problem_formulas.specs.OfGraphEncoding.ProblemClauses.{ProblemClauses}
+use Rattle.problem_formulas.proofs.OfGraphEncoding.CallSteps.{ranges_of}
 use Rattle.problem_formulas.specs.OfGraphDecoding.Decoding.{decode}
-use Rattle.ranked_costs.specs.OfClosureEncoding.Kept.{have_values}
-use Rattle.ranked_costs.specs.OfClosureEncoding.Tables.{table_for, size_for}
-use Rattle.ranked_costs.specs.OfClosureEncoding.Targets.{conditions_of, targets_of}
-use Rattle.ranked_costs.specs.OfClosureEncoding.Joined.{IsPlaced, holds_at}
-use Rattle.ranked_costs.specs.OfClosureEncoding.Closures.{closure_formulas, ClosureIsRight}
+use Rattle.ranked_costs.specs.OfTablePlan.Kept.{have_values}
+use Rattle.ranked_costs.specs.OfValidModels.Tables.{table_for, size_for}
+use Rattle.ranked_costs.specs.OfValidModels.Targets.{conditions_of, targets_of}
+use Rattle.ranked_costs.specs.OfValidModels.Joined.{IsPlaced, holds_at}
+use Rattle.ranked_costs.specs.OfValidModels.Closures.{closure_formulas, ClosureIsRight}
 use Rattle.problem_formulas.specs.Given.{no_place, formulas_given}
-use Rattle.ranked_costs.specs.OfClosureEncoding.Closures.{closure_clauses}
+use Rattle.ranked_costs.specs.OfValidModels.Closures.{closure_clauses}
 use Rattle.ranked_costs.specs.Ranked.{closure_values}
 use Rattle.possible_closure.specs.Closures.{closure_of}
 use Rattle.problem_encoding.specs.Encodings.{IsRuled}

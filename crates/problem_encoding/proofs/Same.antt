@@ -5,7 +5,7 @@ use Rattle.criteria_totals.specs.Totals.{Spelling}
 use Rattle.problem.specs.Problems.{Problem}
 use Rattle.literal_table.specs.Tables.{Table}
 use Rattle.ranked_costs.specs.Built.{rank_costs_on}
-use Rattle.problem_formulas.specs.OfGraphClauses.ProblemClauses.{ProblemClauses}
+use Rattle.problem_formulas.specs.OfGraphEncoding.ProblemClauses.{ProblemClauses}
 use Rattle.problem_encoding.specs.Built.{order_in, encoding_of}
 use Rattle.problem_encoding.specs.Encodings.{IsRuled}
 use Rattle.problem_encoding.specs.declared.encoded.Encoded.{Encoded}

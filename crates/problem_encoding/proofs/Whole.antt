@@ -8,14 +8,14 @@ use Rattle.problem.specs.Problems.{Problem}
 use Rattle.problem.specs.Closure.{IsClosure}
 use Rattle.criteria_totals.specs.Totals.{Spelling}
 use Rattle.literal_table.specs.Tables.{Table, name_of}
-use Rattle.ranked_costs.proofs.OfEncodingStages.Growing.{meets-parts}
-use Rattle.ranked_costs.specs.OfClosureEncoding.Kept.{have_values}
-use Rattle.ranked_costs.specs.OfClosureEncoding.Tables.{table_for}
-use Rattle.ranked_costs.specs.OfClosureEncoding.Targets.{conditions_of}
-use Rattle.ranked_costs.specs.OfClosureEncoding.Joined.{Places, IsPlaced}
-use Rattle.ranked_costs.specs.OfClosureEncoding.Closures.{closure_clauses, ClosureStructured}
-use Rattle.ranked_costs.specs.Least.{AreCostBits}
-use Rattle.ranked_costs.specs.OfGraphTerms.Held.{held_in}
+use Rattle.graph_levels.proofs.Growing.{meets-parts}
+use Rattle.ranked_costs.specs.OfTablePlan.Kept.{have_values}
+use Rattle.ranked_costs.specs.OfValidModels.Tables.{table_for}
+use Rattle.ranked_costs.specs.OfValidModels.Targets.{conditions_of}
+use Rattle.ranked_costs.specs.OfValidModels.Joined.{Places, IsPlaced}
+use Rattle.ranked_costs.specs.OfValidModels.Closures.{closure_clauses, ClosureStructured}
+use Rattle.ranked_costs.specs.CostBits.{AreCostBits}
+use Rattle.ranked_costs.specs.OfTermBuilder.Held.{held_in}
 use Rattle.ranked_costs.specs.Given.{held_for}
 use Rattle.clause_formulas.specs.Drafts.{value_at}
 use Rattle.problem_formulas.specs.OfGraphEncoding.Formulas.{MetBelow}

@@ -12,7 +12,7 @@ use Rattle.problem.specs.Problems.{Problem, world_of, variants_at, depends_at, c
 use Rattle.literal_table.specs.Tables.{Table, name_of}
 use Rattle.literal_table.specs.declared.block.Block.{Block}
 use Rattle.graph_formulas.specs.Words.{names_for}
-use Rattle.valid_models.specs.OfGraphEncoding.Formulas.{PathFormulas}
+use Rattle.graph_encoding.specs.Formulas.{PathFormulas}
 use Rattle.valid_models.specs.Targets.{spec_names, condition_names, conditions_at, specs_at, targets_at, asked_targets, conditions_of}
 use Rattle.valid_models.specs.Joined.{condition_said}
 use Rattle.problem_formulas.specs.Asked.{formulas_at, formulas_of}

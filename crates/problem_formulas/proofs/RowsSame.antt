@@ -8,12 +8,12 @@ use Rattle.problem.specs.Problems.{Problem}
 use Rattle.literal_table.specs.Tables.{Table}
 use Rattle.graph_formulas.specs.Facts.{has_origin}
 use Rattle.graph_formulas.specs.Words.{names_for}
-use Rattle.rule_formulas.specs.OfGraphFormulas.Terms.{builds, known_rule, where_built}
-use Rattle.rule_formulas.specs.OfGraphFormulas.Built.{version_rule, machine_rule}
-use Rattle.rule_formulas.specs.OfGraphFormulas.Edges.{extra_edges_rule, used_rule, of_provider}
-use Rattle.rule_formulas.specs.OfGraphFormulas.Variants.{variants_rule}
-use Rattle.rule_formulas.specs.OfGraphFormulas.Laws.{term_formula, names_of, virtuals_of, children_of, variants_of}
-use Rattle.problem_formulas.specs.OfRightRules.Joined.{rule_rows, row_said}
+use Rattle.graph_formulas.specs.Terms.{builds, known_rule, where_built}
+use Rattle.graph_formulas.specs.Built.{version_rule, machine_rule}
+use Rattle.graph_formulas.specs.Edges.{extra_edges_rule, used_rule, of_provider}
+use Rattle.graph_formulas.specs.Variants.{variants_rule}
+use Rattle.graph_formulas.specs.Laws.{term_formula, names_of, virtuals_of, children_of, variants_of}
+use Rattle.valid_models.specs.Joined.{rule_rows, row_said}
 use Rattle.rule_formulas.specs.OfWordFormulas.Builders.{node_said, plain_said}
 use Rattle.node_formulas.specs.Rows.{built_row}
 use Rattle.node_formulas.proofs.RowLaws.{buildable-row, compiler-row, kept-row, provider-row}

@@ -1,9 +1,9 @@
 //! Rows of rules over conditions, at all names of a table.
 ghost use Rattle.std.specs.Prelude.{◌≡◌, IfOk};
-ghost use Rattle.rule_formulas.specs.OfGraphFormulas.Variants.{variants_rule};
-ghost use Rattle.rule_formulas.specs.OfGraphFormulas.Edges.{extra_edges_rule};
-ghost use Rattle.rule_formulas.specs.OfGraphFormulas.Laws.{children_of, variants_of};
-ghost use Rattle.rule_formulas.specs.OfGraphFormulas.Terms.{where_built};
+ghost use Rattle.graph_formulas.specs.Variants.{variants_rule};
+ghost use Rattle.graph_formulas.specs.Edges.{extra_edges_rule};
+ghost use Rattle.graph_formulas.specs.Laws.{children_of, variants_of};
+ghost use Rattle.graph_formulas.specs.Terms.{where_built};
 ghost use Rattle.graph_formulas.specs.Words.{names_for};
 ghost use Rattle.rule_formulas.specs.Terms.{plain_term};
 ghost use Rattle.problem_formulas.specs.Rows.{variant_row, extra_row, used_row};

@@ -26,7 +26,7 @@ use Rattle.cost_terms.specs.Differ.{is_text, is_some_compiler, same_compilers}
 use Rattle.cost_terms.specs.Governing.{Row, of_variant, other_terms, unused_terms, variant_terms}
 use Rattle.cost_terms.specs.Terms.{Held, is_root_name, at_root_terms, off_root_terms, presence_terms, deprecated_terms, version_terms, os_terms, target_terms, compiler_terms, rows_at, over_variants_terms, other_values_terms, unused_defaults_terms, virtual_terms, provider_terms, edges_terms, compilers_differ, os_differ, targets_differ, criteria_terms}
 use Rattle.cost_terms.proofs.Lists.{sum-map, sum-flat}
-use Rattle.problem.specs.Limits.{set_members}
+use Rattle.problem.specs.Limits.{set_members, most_names}
 use Rattle.ranked_costs.proofs.Sums.{sum-le-in, sum-same, once, shared}
 use Rattle.ranked_costs.proofs.Digits.{weights-top}
 use Rattle.ranked_costs.proofs.Weights.{IsWithin, rows-in, deprecated-few, version-few, os-few, target-few, compiler-few, provider-few}
@@ -34,7 +34,7 @@ use Rattle.ranked_costs.proofs.Values.{values-few}
 use Rattle.ranked_costs.proofs.Tables.{run-length, run-sum, eq-same, virtuals-few, Own, own-block, own-edges}
 use Rattle.ranked_costs.proofs.Terms.{other-top, unused-top, governing-top, formulas-sum, differ-top, edges-top, passing-numbered}
 
-module _ (problem : Problem) (limits : IsWithin problem) (names : List Text) (rising : IsInByteOrder names) (few : length names ≤ 1024)
+module _ (problem : Problem) (limits : IsWithin problem) (names : List Text) (rising : IsInByteOrder names) (few : length names ≤ most_names)
     (n : ℕ) (held : Held) where
   -- the bound of all criteria: by the definitions of variants, and what is left
   abbrev pub Bounded : (Block → List Weighted) → Type 0

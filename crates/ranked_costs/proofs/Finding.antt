@@ -12,15 +12,15 @@ use Rattle.criteria_totals.specs.Totals.{values_at}
 use Rattle.literal_table.specs.Tables.{Table, IsTable, name_of}
 use Rattle.graph_levels.proofs.Growing.{meets-parts}
 use Rattle.graph_encoding.proofs.Ranking.{all-said}
-use Rattle.valid_models.specs.OfGraphEncoding.Formulas.{Formulas, IsRightTable, AreRightFormulas}
-use Rattle.valid_models.specs.OfGraphEncoding.Encodings.{edges_made, levels_made, rules_on, encode_on, told_in}
-use Rattle.valid_models.specs.OfGraphEncoding.Best.{SaysAll}
+use Rattle.graph_encoding.specs.Formulas.{Formulas, IsRightTable, AreRightFormulas}
+use Rattle.graph_encoding.specs.Encodings.{edges_made, levels_made, rules_on, encode_on, told_in}
+use Rattle.graph_encoding.specs.Best.{SaysAll}
 use Rattle.valid_models.specs.OfGraphDecoding.Decoding.{decode}
 use Rattle.valid_models.specs.Tables.{table_for, size_for}
 use Rattle.valid_models.specs.Targets.{conditions_of, targets_of}
 use Rattle.valid_models.specs.Joined.{Places, holds_at}
 use Rattle.valid_models.specs.Closures.{closure_formulas, closure_clauses}
-use Rattle.ranked_costs.specs.Least.{AreCostBits}
+use Rattle.ranked_costs.specs.CostBits.{AreCostBits}
 use Rattle.term_builder.specs.Held.{held_in}
 use Rattle.ranked_costs.specs.Given.{held_for}
 use Rattle.ranked_costs.specs.Ranked.{closure_values}

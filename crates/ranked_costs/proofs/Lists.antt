@@ -7,14 +7,14 @@ use Rattle.clause_formulas.specs.Drafts.{value_at}
 use Rattle.graph_core.specs.Graphs.{Text}
 use Rattle.problem.specs.Problems.{Problem}
 use Rattle.literal_table.specs.Tables.{Table}
-use Rattle.valid_models.specs.OfGraphEncoding.Formulas.{MetBelow}
+use Rattle.graph_encoding.specs.Formulas.{MetBelow}
 use Rattle.cost_terms.specs.declared.weighted.Weighted.{Weighted}
 use Rattle.criteria_totals.specs.Spellings.{AllSmall}
 use Rattle.cost_terms.specs.Weighed.{AllWeighedBelow, AreTotals, tops_said}
 use Rattle.cost_terms.specs.Ranges.{IsTableBelow}
 use Rattle.cost_terms.specs.Sums.{cost_terms}
 use Rattle.cost_terms.proofs.Ranges.{costs-below}
-use Rattle.ranked_costs.specs.Least.{AreCostBits}
+use Rattle.ranked_costs.specs.CostBits.{AreCostBits}
 use Rattle.term_builder.specs.Held.{HeldRow, held_in}
 use Rattle.criteria_totals.specs.Totals.{Spelling}
 use Rattle.cost_terms.specs.Built.{define_totals_on}

@@ -17,8 +17,8 @@ use Rattle.graph_rules.specs.Optimal.{IsOptimal}
 use Rattle.criteria_totals.specs.Spellings.{compare_numbers}
 use Rattle.graph_levels.specs.Rules.{asked_among}
 use Rattle.graph_levels.specs.Bits.{IsLeastModel}
-use Rattle.valid_models.specs.OfGraphEncoding.Encodings.{asked_demands, IsValid}
-use Rattle.valid_models.specs.OfGraphEncoding.Best.{RanksGraphs}
+use Rattle.graph_encoding.specs.Encodings.{asked_demands, IsValid}
+use Rattle.graph_encoding.specs.Best.{RanksGraphs}
 
 -- all demands are asked for
 all-asked : (k : ℕ) (ds : List Demand) → asked_among (λ d. true) k ds ≡ ds

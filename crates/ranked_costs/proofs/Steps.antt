@@ -16,8 +16,8 @@ use Rattle.literal_table.specs.Tables.{Table, IsTable, name_of, block_of}
 use Rattle.literal_table.specs.declared.block.Block.{Block}
 use Rattle.valid_models.proofs.OfGraphFormulas.AllVariants.{among-In}
 use Rattle.valid_models.proofs.Found.{found-passes}
-use Rattle.valid_models.specs.OfGraphEncoding.Formulas.{Formulas}
-use Rattle.valid_models.specs.OfGraphEncoding.Best.{SaysAll, OrdersBits}
+use Rattle.graph_encoding.specs.Formulas.{Formulas}
+use Rattle.graph_encoding.specs.Best.{SaysAll, OrdersBits}
 use Rattle.valid_models.specs.Tables.{table_for, size_for}
 use Rattle.valid_models.specs.Targets.{conditions_of, targets_of}
 use Rattle.valid_models.specs.Joined.{Places, holds_at}
@@ -25,12 +25,12 @@ use Rattle.valid_models.specs.Closures.{closure_formulas, closure_clauses}
 use Rattle.cost_terms.specs.Weighed.{sums_said}
 use Rattle.cost_terms.specs.Terms.{Held}
 use Rattle.cost_terms.specs.Sums.{cost_terms}
-use Rattle.ranked_costs.specs.Least.{AreCostBits}
+use Rattle.ranked_costs.specs.CostBits.{AreCostBits}
 use Rattle.term_builder.specs.Held.{held_in}
 use Rattle.ranked_costs.specs.Given.{held_for}
 use Rattle.ranked_costs.specs.Ranked.{closure_values}
 use Rattle.ranked_costs.proofs.HeldLaws.{as-many, told, held-says}
-use Rattle.ranked_costs.proofs.RankedCostsSums.{holding, sums-are}
+use Rattle.ranked_costs.proofs.VectorSums.{holding, sums-are}
 
 -- a name that is found is among the names
 found-among : (t : Table) (name : Text) (b : Block) → block_of t name ≡ Some b → among (map name_of t.blocks) name ≡ true

@@ -26,7 +26,7 @@ use Rattle.literal_table.specs.Tables as tables
 use Rattle.literal_table.specs.Tables.{Table}
 use Rattle.literal_table.specs.declared.block.Block.{Block}
 use Rattle.table_plan.specs.Numbers.{run, width, widths, block_from, blocks_from, edge_from, table_from}
-use Rattle.problem.specs.Limits.{size_of_recipe}
+use Rattle.problem.specs.Limits.{size_of_recipe, most_names}
 use Rattle.ranked_costs.proofs.Sums.{sum-le-in, sum-same, found}
 use Rattle.ranked_costs.proofs.Weights.{IsWithin}
 use Rattle.ranked_costs.proofs.Values.{texts-few}
@@ -109,15 +109,15 @@ module _ (problem : Problem) (limits : IsWithin problem) (names : List Text) (ri
 
 -- ---- the table
 
-pairs-few : (names : List Text) → length names ≤ 1024 → length (pairs_of names) ≤ 2 ^ 20
+pairs-few : (names : List Text) → length names ≤ most_names → length (pairs_of names) ≤ 2 ^ 20
 pairs-few names few =
     let each = sum-le-in (λ (parent : Text). length (map (λ child. let p : Text × Text = (parent, child) in p) names))
-    (λ parent. 1024) names
+    (λ parent. most_names) names
     (λ parent there. omega (arith, length-map names (λ child. let p : Text × Text = (parent, child) in p))) in
     omega (
       arith,
       each,
-      sum-same 1024 names,
+      sum-same most_names names,
       length-flat_map
           (λ (parent : Text). map (λ child. let p : Text × Text = (parent, child) in p) names) names,
     )
@@ -142,7 +142,7 @@ module _ (problem : Problem) (names : List Text) (n : ℕ) where
   unfolding table_from plan_of
   own-names = names-in n names
 
-  pub own-edges : length names ≤ 1024 → length Own.edges ≤ 2 ^ 20
+  pub own-edges : length names ≤ most_names → length Own.edges ≤ 2 ^ 20
   unfolding table_from plan_of possible_edges
   own-edges few =
       let test = λ (pair : Text × Text). among (next_names problem pair.0) pair.1 in

@@ -11,6 +11,7 @@ use Rattle.variant_values.specs.Texts.{byte_cmp, IsInByteOrder}
 use Rattle.keyed_lists.proofs.RiseLaws.{rises_decides}
 use Rattle.graph_core.specs.Graphs.{Text}
 use Rattle.problem.specs.Problems.{Problem, variants_at}
+use Rattle.problem.specs.Limits.{most_names}
 use Rattle.possible_closure.proofs.Lists.{found-there}
 use Rattle.literal_table.specs.Tables.{name_of, block_of}
 use Rattle.literal_table.specs.declared.block.Block.{Block}
@@ -36,7 +37,7 @@ all-joined p (x ∷ xs) ys front back =
 abbrev is_small : List Weighted → Bool
 is_small terms = ltb (top_said terms) (2 ^ 63)
 
-module _ (problem : Problem) (limits : IsWithin problem) (names : List Text) (rising : IsInByteOrder names) (few : length names ≤ 1024)
+module _ (problem : Problem) (limits : IsWithin problem) (names : List Text) (rising : IsInByteOrder names) (few : length names ≤ most_names)
     (n : ℕ) (held : Held)
     (order : List Text) (ordered : IsPermutation (map name_of (Own problem names n).blocks) order) where
   abbrev Rows : Text → ℕ
@@ -68,7 +69,7 @@ module _ (problem : Problem) (limits : IsWithin problem) (names : List Text) (ri
       let rows : sum_by Rows order ≤ 2 ^ 28 =
       subst (λ k. k ≤ 2 ^ 28) (sym (in-order Rows))
       (rows-shared problem limits names rising (λ recipe. recipe.variants) (λ recipe. omega arith)) in
-      let size : length order ≤ 1024 = subst (λ k. k ≤ 1024) (sym (sym (sum-ones order) ∙ in-order (λ name. 1) ∙ sum-ones names)) few in
+      let size : length order ≤ most_names = subst (λ k. k ≤ most_names) (sym (sym (sum-ones order) ∙ in-order (λ name. 1) ∙ sum-ones names)) few in
       omega (
         arith,
         each,

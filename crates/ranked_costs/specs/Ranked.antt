@@ -8,25 +8,26 @@ use Rattle.clause_formulas.specs.Drafts.{value_at}
 use Rattle.graph_core.specs.Graphs.{Text}
 use Rattle.problem.specs.Problems.{Problem}
 use Rattle.problem.specs.Closure.{IsClosure}
+use Rattle.problem.specs.Limits.{most_names}
 use Rattle.graph_rules.specs.Costs.{vector}
 use Rattle.graph_rules.specs.Optimal.{IsOptimal, HasNoGraph}
 use Rattle.literal_table.specs.Tables.{Table, name_of}
 use Rattle.criteria_totals.specs.Spellings.{bits_for}
 use Rattle.criteria_totals.specs.Totals.{values_at}
 use Rattle.graph_levels.specs.Bits.{IsLeastModel}
-use Rattle.valid_models.specs.OfTablePlan.Kept.{have_values}
+use Rattle.table_plan.specs.Kept.{have_values}
 use Rattle.valid_models.specs.OfGraphDecoding.Decoding.{decode}
-use Rattle.valid_models.specs.OfGraphEncoding.Formulas.{MetBelow}
-use Rattle.valid_models.specs.OfGraphEncoding.Encodings.{IsValid}
-use Rattle.valid_models.specs.OfGraphEncoding.Best.{values_for, RanksGraphs}
+use Rattle.graph_encoding.specs.Formulas.{MetBelow}
+use Rattle.graph_encoding.specs.Encodings.{IsValid}
+use Rattle.graph_encoding.specs.Best.{values_for, RanksGraphs}
 use Rattle.valid_models.specs.Tables.{table_for, size_for}
 use Rattle.valid_models.specs.Targets.{conditions_of, targets_of}
 use Rattle.valid_models.specs.Joined.{Places, IsPlaced}
 use Rattle.valid_models.specs.Closures.{closure_formulas, closure_clauses}
 use Rattle.cost_terms.specs.Ranges.{IsTableBelow}
-use Rattle.ranked_costs.specs.OfProblemLimits.Limits.{is_within_limits}
+use Rattle.problem.specs.Limits.{is_within_limits}
 use Rattle.ranked_costs.specs.Small.{are_small}
-use Rattle.ranked_costs.specs.Least.{AreCostBits}
+use Rattle.ranked_costs.specs.CostBits.{AreCostBits}
 use Rattle.term_builder.specs.Held.{held_in}
 use Rattle.ranked_costs.specs.Given.{held_for}
 use Rattle.ranked_costs.specs.Built.{terms_for}
@@ -47,7 +48,7 @@ ClosureInRange = (problem : Problem) (names : List Text) (place : Places) → Is
 -- within the limits the weights of each of the 31 lists of terms add up to less than 2^63
 abbrev pub ClosureSmall : Type 0
 ClosureSmall = (problem : Problem) (names : List Text) (values : List Defined) (order : List Text) → is_within_limits problem ≡ true
-    → IsClosure problem names → length names ≤ 1024 → IsPermutation (map name_of (table_for problem names).blocks) order
+    → IsClosure problem names → length names ≤ most_names → IsPermutation (map name_of (table_for problem names).blocks) order
     → are_small (terms_for problem (table_for problem names) values order) ≡ true
 
 -- the bits of costs rank the valid graphs by their cost vectors, whatever the order of the names

@@ -12,8 +12,8 @@ use Rattle.std.specs.Prelude.{flat_map}
 use Rattle.cost_terms.specs.Governing.{with_formulas, variant_terms}
 use Rattle.cost_terms.specs.Terms.{Held, criteria_terms, over_variants_terms}
 use Rattle.cost_terms.specs.Sums.{number_terms, cost_terms}
-use Rattle.term_builder.specs.declared.values.Counted.{Counted}
-use Rattle.term_builder.specs.VariantBuilderRows.{counted_terms}
+use Rattle.term_builder.specs.declared.variant_terms.Counted.{Counted}
+use Rattle.term_builder.specs.VariantTerms.{counted_terms}
 use Rattle.term_builder.specs.declared.criteria.Criterion.{Criterion}
 use Rattle.term_builder.specs.declared.criteria.Summed.TheVariants as summands
 use Rattle.term_builder.specs.declared.criteria.Place.TheVariants as places

@@ -5,7 +5,7 @@ use Rattle.std.specs.List.{filter}
 use Rattle.std.proofs.lemmas.Bool.{cases_Bool}
 use Rattle.std.proofs.lemmas.List.Concat.{flat_map-cons}
 use Rattle.cost_terms.specs.declared.weighted.Weighted.{Weighted}
-use Rattle.term_builder.specs.CostBuilderRows.{only_if}
+use Rattle.term_builder.specs.Tests.{only_if}
 
 -- those that pass a test are pushed if they pass
 pub pushed-if : {X : Type 0} (test : X → Bool) (term : X → Weighted) (xs : List X)

@@ -3,8 +3,8 @@ ghost use Rattle.std.specs.Prelude.{◌≡◌, IfOk};
 ghost use Rattle.std.specs.Str.{bytes_eq};
 ghost use Rattle.condition_rules.specs.Words.{is_some_and};
 ghost use Rattle.cost_terms.specs.Terms.{is_root_name, presence_terms, provider_terms, edges_terms, over_variants_terms};
-ghost use Rattle.term_builder.specs.Rows.{compared};
-ghost use Rattle.term_builder.specs.VariantBuilderRows.{counted_terms};
+ghost use Rattle.term_builder.specs.EdgeTerms.{compared};
+ghost use Rattle.term_builder.specs.VariantTerms.{counted_terms};
 ghost use Rattle.term_builder.specs.Held.{held_in};
 ghost use Rattle.term_builder.specs.Criteria.{summed_terms, criterion_terms};
 

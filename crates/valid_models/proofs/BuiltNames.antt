@@ -26,15 +26,15 @@ use Rattle.literal_table.specs.Choices as choices
 use Rattle.literal_table.specs.Tables.{name_of, variant_of, block_of}
 use Rattle.literal_table.specs.declared.block.Block.{Block}
 use Rattle.literal_table.proofs.Spelling.{found-named}
-use Rattle.valid_models.specs.OfTablePlan.Gathering.{gathered, listed}
-use Rattle.valid_models.specs.OfTablePlan.Kept.{external_nodes, kept_nodes}
-use Rattle.valid_models.specs.OfTablePlan.Plans.{same_origin, can_build, offered, variant_names, variant_values, possible_at, plan_of}
-use Rattle.valid_models.proofs.OfTablePlan.GatherLaws.{from_gathered}
-use Rattle.valid_models.proofs.OfTablePlan.NodeLaws.{origins_exact}
-use Rattle.valid_models.specs.OfTableNumbers.Numbers.{lit_of, numbered, attribute, variants_from, width, block_from, blocks_from, table_from}
-use Rattle.valid_models.specs.OfGraphFormulas.Terms.{builds}
-use Rattle.valid_models.specs.OfGraphFormulas.Laws.{variants_in, variants_of}
-use Rattle.valid_models.proofs.OfGraphFormulas.AllVariants.{among-In}
+use Rattle.table_plan.specs.Gathering.{gathered, listed}
+use Rattle.table_plan.specs.Kept.{external_nodes, kept_nodes}
+use Rattle.table_plan.specs.Plans.{same_origin, can_build, offered, variant_names, variant_values, possible_at, plan_of}
+use Rattle.table_plan.proofs.GatherLaws.{from_gathered}
+use Rattle.table_plan.proofs.NodeLaws.{origins_exact}
+use Rattle.table_plan.specs.Numbers.{lit_of, numbered, attribute, variants_from, width, block_from, blocks_from, table_from}
+use Rattle.graph_formulas.specs.Terms.{builds}
+use Rattle.graph_formulas.specs.Laws.{variants_in, variants_of}
+use Rattle.graph_formulas.proofs.AllVariants.{among-In}
 use Rattle.valid_models.specs.Tables.{table_for}
 use Rattle.valid_models.specs.Joined.{HasBuiltVariants}
 

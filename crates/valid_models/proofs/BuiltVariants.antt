@@ -24,14 +24,14 @@ use Rattle.literal_table.specs.declared.block.Block.{Block}
 use Rattle.literal_table.proofs.Spelling.{named-so}
 use Rattle.graph_formulas.specs.Facts.{Word, word_said, is_in}
 use Rattle.graph_formulas.specs.Words.{names_for}
-use Rattle.graph_formulas.proofs.Said.{word-said}
+use Rattle.graph_formulas.proofs.WordsSaid.{word-said}
 use Rattle.graph_formulas.proofs.Rules.{each-kept}
 use Rattle.graph_formulas.proofs.Kept.{by_node}
 use Rattle.graph_formulas.specs.Terms.{Term, known, met, is_true, term_said, builds, where_built}
 use Rattle.graph_formulas.specs.Variants.{variant_rule, variants_rule, keeps_one_variant}
 use Rattle.graph_formulas.specs.Laws.{SpellsProblem, rule_says, names_of, variants_in, variants_of}
 use Rattle.graph_formulas.proofs.Names.{all-same, each-node-said}
-use Rattle.graph_formulas.proofs.GraphFormulasVariants.{variant-kept}
+use Rattle.graph_formulas.proofs.VariantRule.{variant-kept}
 use Rattle.graph_formulas.proofs.AllVariants.{spelled-variants, among-In}
 use Rattle.valid_models.specs.Joined.{HasBuiltVariants}
 

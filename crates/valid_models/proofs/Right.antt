@@ -39,7 +39,7 @@ use Rattle.graph_formulas.specs.Variants.{variants_rule}
 use Rattle.graph_formulas.specs.Kept.{kept_rule, origins_of}
 use Rattle.graph_formulas.specs.Demands.{demand_rule, directive_rule}
 use Rattle.graph_formulas.specs.Laws.{SpellsProblem, term_formula, rule_says, has_name, names_of, virtuals_of, children_of, variants_of}
-use Rattle.graph_formulas.proofs.GraphFormulasSaid.{demand-said, all-buildable, all-version, all-compiler, all-machine, all-extra_edge, all-kept, all-provider, all-used}
+use Rattle.graph_formulas.proofs.RulesSaid.{demand-said, all-buildable, all-version, all-compiler, all-machine, all-extra_edge, all-kept, all-provider, all-used}
 use Rattle.graph_decoding.specs.Range.{IsTableBelow}
 use Rattle.graph_encoding.specs.Formulas.{PathFormulas, PathsTold, ConditionsTold, PathsBelow, MetBelow, AreRightFormulas, other_rules, part_of}
 use Rattle.graph_encoding.specs.Encodings.{told_in}

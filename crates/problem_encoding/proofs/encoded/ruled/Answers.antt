@@ -1,9 +1,9 @@
 use Rattle.std.proofs.Common.{◌≡◌, sym, subst, ◌∙◌, true}
 use Rattle.problem.specs.Closure.{IsClosure}
-use Rattle.problem_formulas.proofs.OfGraphClauses.CallSteps.{if_both}
+use Rattle.problem_formulas.proofs.OfGraphEncoding.CallSteps.{if_both}
 use Rattle.possible_closure.specs.Closures.{closure_of}
 use Rattle.problem_formulas.specs.Given.{no_place}
-use Rattle.ranked_costs.specs.OfClosureEncoding.Kept.{have_values}
+use Rattle.ranked_costs.specs.OfTablePlan.Kept.{have_values}
 use Rattle.problem_encoding.proofs.Ruled.{either_way, in-range, ruled, unplaced}
 use Rattle.problem_encoding.proofs.encoded.ruled.Goals as goal
 

@@ -1,9 +1,9 @@
 use Rattle.std.proofs.Common.{rules}
 use Rattle.graph_core.specs.Graphs.{Text}
 use Rattle.graph_formulas.specs.Words.{names_for}
-use Rattle.rule_formulas.specs.OfGraphFormulas.Terms.{where_built}
-use Rattle.rule_formulas.specs.OfGraphFormulas.Edges.{extra_edges_rule}
-use Rattle.rule_formulas.specs.OfGraphFormulas.Laws.{children_of}
+use Rattle.graph_formulas.specs.Terms.{where_built}
+use Rattle.graph_formulas.specs.Edges.{extra_edges_rule}
+use Rattle.graph_formulas.specs.Laws.{children_of}
 use Rattle.rule_formulas.specs.Terms.{plain_term}
 use Rattle.problem_formulas.proofs.rows.extra_row.Goals as goal
 

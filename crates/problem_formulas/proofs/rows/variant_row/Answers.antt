@@ -1,9 +1,9 @@
 use Rattle.std.proofs.Common.{rules}
 use Rattle.graph_core.specs.Graphs.{Text}
-use Rattle.rule_formulas.specs.OfGraphFormulas.Terms.{where_built}
+use Rattle.graph_formulas.specs.Terms.{where_built}
 use Rattle.rule_formulas.specs.Terms.{plain_term}
-use Rattle.rule_formulas.specs.OfGraphFormulas.Laws.{variants_of}
-use Rattle.rule_formulas.specs.OfGraphFormulas.Variants.{variants_rule}
+use Rattle.graph_formulas.specs.Laws.{variants_of}
+use Rattle.graph_formulas.specs.Variants.{variants_rule}
 use Rattle.problem_formulas.proofs.rows.variant_row.Goals as goal
 
 pub returns : goal.returns

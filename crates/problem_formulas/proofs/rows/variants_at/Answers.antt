@@ -2,12 +2,12 @@ use Rattle.std.proofs.Common.{ap, ◌∙◌}
 use Rattle.clause_formulas.specs.Statements.{implies}
 use Rattle.graph_core.specs.Graphs.{Text}
 use Rattle.graph_formulas.specs.Facts.{has_origin}
-use Rattle.rule_formulas.specs.OfGraphFormulas.Terms.{builds}
+use Rattle.graph_formulas.specs.Terms.{builds}
 use Rattle.rule_formulas.specs.OfWordFormulas.Builders.{node_said}
 use Rattle.rule_formulas.proofs.OfWordFormulas.Steps.{ok-same, ok-is, implies-same}
 use Rattle.rule_formulas.specs.Terms.{plain_term}
-use Rattle.rule_formulas.specs.OfGraphFormulas.Laws.{variants_of}
-use Rattle.rule_formulas.specs.OfGraphFormulas.Variants.{variants_rule}
+use Rattle.graph_formulas.specs.Laws.{variants_of}
+use Rattle.graph_formulas.specs.Variants.{variants_rule}
 use Rattle.problem_formulas.proofs.rows.variants_at.Goals as goal
 
 pub returns : goal.returns
