@@ -16,9 +16,8 @@ use Rattle.graph_core.specs.Graphs.{Text, Content}
 use Rattle.problem.specs.Problems.{Problem}
 use Rattle.problem.specs.Demands.{demands}
 use Rattle.problem.specs.declared.demand.Demand.{Demand}
-use Rattle.literal_table.specs.Tables.{Table}
+use Rattle.literal_table.specs.Tables.{Table, names_of}
 use Rattle.graph_levels.specs.Stages.{Decodes}
-use Rattle.graph_levels.specs.Numbers.{names_of}
 use Rattle.graph_levels.specs.Edges.{edges_on}
 use Rattle.graph_levels.specs.Levels.{input_for, root_names, places_of, PathTable, path_table}
 use Rattle.graph_encoding.specs.Formulas.{Formulas, PathFormulas, PathsBelow, IsRightTable, AreRightFormulas}

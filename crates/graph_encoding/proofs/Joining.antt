@@ -33,13 +33,12 @@ use Rattle.problem.specs.declared.demand.Demand.{Demand}
 use Rattle.graph_rules.specs.Valid.{keeps, keeps_all, keeps_demand, structure_rules, valid_for}
 use Rattle.graph_rules.specs.declared.rule.Rule.{Rule}
 use Rattle.graph_rules.specs.declared.rule.Rule.TheVariants as rules
-use Rattle.literal_table.specs.Tables.{Table, IsTable}
+use Rattle.literal_table.specs.Tables.{Table, IsTable, names_of}
 use Rattle.literal_table.specs.Spells.{Spells}
 use Rattle.graph_levels.specs.Stages.{Nothing, Both, IsLocal, Models, Stage, Decodes}
 use Rattle.graph_levels.specs.Rules.{Says, Holds, FitsGates, ValuesSay, asked_among, KeepsAsked}
 use Rattle.graph_levels.proofs.Growing.{added, joined, restated, named, decodes, local-le, local-both}
 use Rattle.graph_levels.proofs.Adapters.{asserted, defined, demanded, begun}
-use Rattle.graph_levels.specs.Numbers.{names_of}
 use Rattle.graph_levels.specs.Edges.{EdgesSay, EdgesBelow, edges_on}
 use Rattle.graph_levels.specs.Levels.{SpellsEdges, AGraph, KeepsLevelRules, PathsSay, input_for, places_of, path_said, root_names}
 use Rattle.graph_levels.proofs.EdgeLaws.{edges-are, edge-stage}

@@ -22,9 +22,8 @@ use Rattle.problem.specs.Problems.{Problem}
 use Rattle.problem.specs.Demands.{demands}
 use Rattle.problem.specs.declared.demand.Demand.{Demand}
 use Rattle.problem.specs.declared.demand.Demand.TheVariants as demand
-use Rattle.literal_table.specs.Tables.{Table}
+use Rattle.literal_table.specs.Tables.{Table, names_of}
 use Rattle.literal_table.specs.declared.block.EdgeLits.{EdgeLits}
-use Rattle.graph_levels.specs.Numbers.{names_of}
 use Rattle.graph_levels.specs.Edges.{edges_on, EdgesBelow}
 use Rattle.graph_levels.specs.Levels.{input_for, root_names, places_of, PresentBelow, PathTable, path_table}
 use Rattle.graph_levels.proofs.EdgeLaws.{edges-are, Told}

@@ -5,7 +5,7 @@ ghost use Rattle.graph_levels.specs.Stages.{Decodes};
 ghost use Rattle.graph_encoding.specs.Formulas.{IsRightTable, AreRightFormulas, PathsBelow};
 ghost use Rattle.graph_encoding.specs.Encodings.{levels_made, encode_on, told_in, IsValid};
 ghost use Rattle.graph_encoding.specs.Best.{values_for};
-ghost use Rattle.graph_levels.specs.Numbers.{names_of};
+ghost use Rattle.literal_table.specs.Tables.{names_of};
 ghost use Rattle.graph_levels.specs.Levels.{places_of};
 ghost use Rattle.graph_encoding.specs.Ranges.{AreInRange, path_words};
 

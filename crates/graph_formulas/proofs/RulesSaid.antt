@@ -33,7 +33,7 @@ use Rattle.graph_rules.specs.Valid.{keeps, each_built, keeps_demand}
 use Rattle.graph_rules.specs.declared.rule.Rule.TheVariants as rules
 use Rattle.graph_rules.proofs.Lists.{In, list_all-from}
 use Rattle.literal_table.specs.Choices.{Choices, chosen, offered}
-use Rattle.literal_table.specs.Tables.{Table, block_of, edge_lits_of}
+use Rattle.literal_table.specs.Tables.{Table, block_of, edge_lits_of, names_of, children_of}
 use Rattle.literal_table.specs.Spells.{SpellsNode, SpellsAt, SpellsEdge, chosen_kinds}
 use Rattle.literal_table.specs.declared.block.Block.{Block}
 use Rattle.literal_table.specs.declared.block.EdgeLits.{EdgeLits}
@@ -51,7 +51,7 @@ use Rattle.graph_formulas.specs.Edges.{extra_edge_rule, extra_edges_rule, use_ru
 use Rattle.graph_formulas.specs.Variants.{variant_rule, variants_rule, keeps_one_variant}
 use Rattle.graph_formulas.specs.Kept.{origins_in, origins_of, kept_rule}
 use Rattle.graph_formulas.specs.Demands.{demand_rule}
-use Rattle.graph_formulas.specs.Laws.{SpellsProblem, HasVariants, rule_says, if_built, has_name, names_of, virtuals_of, children_of, variants_in, variants_of}
+use Rattle.graph_formulas.specs.Laws.{SpellsProblem, HasVariants, rule_says, if_built, has_name, virtuals_of, variants_in, variants_of}
 use Rattle.graph_formulas.proofs.Names.{all-same, found-ends, each-node-said, each-provider-said, each-edge-said}
 use Rattle.graph_formulas.proofs.Directives.{LeadsToNodes, root-kept, edge-kept, constraint-kept, conflict-kept, requirement-kept, built-kept}
 use Rattle.graph_formulas.proofs.Demands.{demand-kept}

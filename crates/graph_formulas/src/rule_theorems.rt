@@ -12,7 +12,7 @@ ghost use Rattle.problem.specs.declared.demand.Demand.{Demand};
 ghost use Rattle.graph_rules.specs.Directives.{keeps_root, keeps_edge, keeps_constraint, keeps_conflict, keeps_requirement};
 ghost use Rattle.graph_rules.specs.Valid.{keeps, keeps_demand};
 ghost use Rattle.graph_rules.specs.declared.rule.Rule.TheVariants as rules;
-ghost use Rattle.literal_table.specs.Tables.{Table};
+ghost use Rattle.literal_table.specs.Tables.{Table, names_of, children_of};
 ghost use Rattle.graph_formulas.specs.Words.{names_for};
 ghost use Rattle.graph_formulas.specs.Terms.{known_rule, where_built, where_there};
 ghost use Rattle.graph_formulas.specs.Directives.{root_rule, edge_rule, constraint_rule, conflict_rule, requirement_rule};
@@ -21,7 +21,7 @@ ghost use Rattle.graph_formulas.specs.Edges.{extra_edges_rule, used_rule, of_pro
 ghost use Rattle.graph_formulas.specs.Variants.{variants_rule};
 ghost use Rattle.graph_formulas.specs.Kept.{kept_rule, origins_of};
 ghost use Rattle.graph_formulas.specs.Demands.{demand_rule};
-ghost use Rattle.graph_formulas.specs.Laws.{SpellsProblem, HasVariants, rule_says, all_say, if_built, has_name, names_of, virtuals_of, children_of, variants_of};
+ghost use Rattle.graph_formulas.specs.Laws.{SpellsProblem, HasVariants, rule_says, all_say, if_built, has_name, virtuals_of, variants_of};
 
 /// The formula of a demand says whether it is kept, and so do those of each root and directive.
 pub fn demand_laws()

@@ -5,14 +5,14 @@ use Rattle.clause_formulas.specs.Statements.{Statement, all_of, implies}
 use Rattle.graph_core.specs.Graphs.{Text}
 use Rattle.recipe_data.specs.declared.recipe.Condition.{Condition}
 use Rattle.problem.specs.Problems.{Problem}
-use Rattle.literal_table.specs.Tables.{Table}
+use Rattle.literal_table.specs.Tables.{Table, names_of, children_of}
 use Rattle.graph_formulas.specs.Facts.{has_origin}
 use Rattle.graph_formulas.specs.Words.{names_for}
 use Rattle.graph_formulas.specs.Terms.{builds, known_rule, where_built}
 use Rattle.graph_formulas.specs.Built.{version_rule, machine_rule}
 use Rattle.graph_formulas.specs.Edges.{extra_edges_rule, used_rule, of_provider}
 use Rattle.graph_formulas.specs.Variants.{variants_rule}
-use Rattle.graph_formulas.specs.Laws.{term_formula, names_of, virtuals_of, children_of, variants_of}
+use Rattle.graph_formulas.specs.Laws.{term_formula, virtuals_of, variants_of}
 use Rattle.valid_models.specs.Joined.{rule_rows, row_said}
 use Rattle.rule_formulas.specs.OfWordFormulas.Builders.{node_said, plain_said}
 use Rattle.node_formulas.specs.Rows.{built_row}

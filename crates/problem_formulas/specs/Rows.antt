@@ -4,14 +4,14 @@ use Rattle.clause_formulas.specs.Statements.{Statement, all_of}
 use Rattle.graph_core.specs.Graphs.{Text}
 use Rattle.recipe_data.specs.declared.recipe.Condition.{Condition}
 use Rattle.problem.specs.Problems.{Problem}
-use Rattle.literal_table.specs.Tables.{Table}
+use Rattle.literal_table.specs.Tables.{Table, names_of, children_of}
 use Rattle.graph_formulas.specs.Words.{names_for}
 use Rattle.graph_formulas.specs.Terms.{where_built}
 use Rattle.graph_formulas.specs.Built.{buildable_rule, version_rule, compiler_rule, machine_rule, provider_rule}
 use Rattle.graph_formulas.specs.Edges.{extra_edges_rule, used_rule, of_provider}
 use Rattle.graph_formulas.specs.Variants.{variants_rule}
 use Rattle.graph_formulas.specs.Kept.{kept_rule, origins_of}
-use Rattle.graph_formulas.specs.Laws.{names_of, virtuals_of, children_of, variants_of}
+use Rattle.graph_formulas.specs.Laws.{virtuals_of, variants_of}
 use Rattle.rule_formulas.specs.OfWordFormulas.Builders.{plain_said}
 use Rattle.node_formulas.specs.Rows.{built_row, there_row, provided_row}
 use Rattle.rule_formulas.specs.Terms.{plain_term}

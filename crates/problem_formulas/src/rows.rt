@@ -2,7 +2,8 @@
 ghost use Rattle.std.specs.Prelude.{◌≡◌, IfOk};
 ghost use Rattle.graph_formulas.specs.Variants.{variants_rule};
 ghost use Rattle.graph_formulas.specs.Edges.{extra_edges_rule};
-ghost use Rattle.graph_formulas.specs.Laws.{children_of, variants_of};
+ghost use Rattle.literal_table.specs.Tables.{children_of};
+ghost use Rattle.graph_formulas.specs.Laws.{variants_of};
 ghost use Rattle.graph_formulas.specs.Terms.{where_built};
 ghost use Rattle.graph_formulas.specs.Words.{names_for};
 ghost use Rattle.rule_formulas.specs.Terms.{plain_term};

@@ -15,7 +15,7 @@ use Rattle.problem.specs.Problems.{Problem, variants_at, depends_at, conflicts_a
 use Rattle.literal_table.specs.Choices.{Choices, lits_of}
 use Rattle.literal_table.specs.Tables.{Table, name_of}
 use Rattle.graph_encoding.specs.Formulas.{MetBelow}
-use Rattle.table_plan.specs.Ranges as numbers
+use Rattle.literal_table.specs.Ranges as numbers
 use Rattle.cost_terms.specs.Ranges.{IsTableBelow, AreHeldBelow}
 use Rattle.term_builder.specs.Held.{defined_in, held_in}
 use Rattle.ranked_costs.specs.Given.{passed, held_from, held_for}

@@ -17,7 +17,8 @@ use Rattle.cost_terms.specs.declared.weighted.Weighted.{Weighted}
 use Rattle.cost_terms.specs.Weighed.{top_said}
 use Rattle.cost_terms.specs.Differ.{differ_said, differ_terms, can_differ}
 use Rattle.cost_terms.specs.Governing.{Row, with_formulas, formulas_of, governing_rows, once as once_term, other_terms, unused_terms}
-use Rattle.cost_terms.specs.Terms.{edge_said, child_terms, edge_terms, edges_terms}
+use Rattle.literal_table.specs.Edges.{edge_there}
+use Rattle.cost_terms.specs.Terms.{child_terms, edge_terms, edges_terms}
 use Rattle.cost_terms.proofs.Lists.{sum-map, sum-flat}
 use Rattle.ranked_costs.proofs.Sums.{sum-le-in, sum-ones}
 
@@ -89,9 +90,9 @@ edge-top : (terms : Statement → Block → Block → List Weighted) → ((there
     → (table : Table) (b : Block) (e : EdgeLits) → top_said (edge_terms terms table b e) ≤ 1
 edge-top terms le table b e = by (bytes_eq e.parent b.name) (block_of table e.child)
   where
-    by : (c : Bool) (o : Option Block) → top_said (cond c (child_terms terms (edge_said e) b o) []) ≤ 1
+    by : (c : Bool) (o : Option Block) → top_said (cond c (child_terms terms (edge_there e) b o) []) ≤ 1
     by true None = omega arith
-    by true (Some child) = le (edge_said e) b child
+    by true (Some child) = le (edge_there e) b child
     by false o = omega arith
 
 pub edges-top : (terms : Statement → Block → Block → List Weighted) → ((there : Statement) (a b : Block) → top_said (terms there a b) ≤ 1)

@@ -9,8 +9,8 @@ use Rattle.std.proofs.lemmas.Bool.{cases_Bool}
 use Rattle.std.proofs.lemmas.List.Sorted.{IsPermutation-refl, IsPermutation-sym, IsPermutation-trans, IsPermutation-cons, IsPermutation-middle, IsPermutation-append_right}
 use Rattle.graph_core.specs.Graphs.{Text}
 use Rattle.condition_rules.specs.Words.{among}
-use Rattle.literal_table.specs.Tables.{Table}
-use Rattle.ranked_costs.specs.Walks.{Walk, without, entered, leaving, visit, children_of, all_names, start, post_order}
+use Rattle.literal_table.specs.Tables.{Table, children_of}
+use Rattle.ranked_costs.specs.Walks.{Walk, without, entered, leaving, visit, all_names, start, post_order}
 
 -- what is taken out stood there
 taken : (name : Text) (names : List Text) → among names name ≡ true → IsPermutation names (name ∷ without name names)

@@ -6,7 +6,7 @@ ghost use Rattle.problem.specs.Problems.{depends_at};
 ghost use Rattle.graph_formulas.specs.Lists.{some};
 ghost use Rattle.graph_formulas.specs.Words.{names_for};
 ghost use Rattle.graph_formulas.specs.Edges.{asks_rule, may_ask, kind_rule, extra_edge_rule, extra_edges_rule};
-ghost use Rattle.graph_formulas.specs.Laws.{children_of};
+ghost use Rattle.literal_table.specs.Tables.{children_of};
 ghost use Rattle.rule_formulas.specs.Terms.{plain_term, kinds_of, has_of, is_asked};
 
 use crate::loops::{each_where, some_where};

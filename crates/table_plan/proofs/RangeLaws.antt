@@ -13,7 +13,7 @@ use Rattle.literal_table.specs.declared.block.ProviderLits.{ProviderLits}
 use Rattle.table_plan.specs.declared.plan.Possible.{Possible}
 use Rattle.table_plan.specs.declared.plan.Plan.{Plan}
 use Rattle.table_plan.specs.Numbers.{lit_of, numbered, attribute, width_of, variants_from, values_in, total, width, widths, block_from, blocks_from, edges_from, edge_from, provider_from, providers_from, table_from, variables_of}
-use Rattle.table_plan.specs.Ranges.{AreBelow, IsBlockBelow, IsTableBelow}
+use Rattle.literal_table.specs.Ranges.{AreBelow, IsBlockBelow, IsTableBelow}
 use Rattle.table_plan.proofs.Runs.{threes}
 
 append_below : (m : ℕ) (ls ks : List Lit) → AllBelow m ls → AllBelow m ks → AllBelow m (ls ++ ks)

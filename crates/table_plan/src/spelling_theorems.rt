@@ -6,7 +6,7 @@ ghost use Rattle.literal_table.specs.Spells.{Spells};
 ghost use Rattle.table_plan.specs.Offers.{IsOffered, IsPlan};
 ghost use Rattle.table_plan.specs.declared.plan.Plan.{Plan};
 ghost use Rattle.table_plan.specs.Numbers.{table_from, variables_of};
-ghost use Rattle.table_plan.specs.Ranges.{IsTableBelow};
+ghost use Rattle.literal_table.specs.Ranges.{IsTableBelow};
 ghost use Rattle.table_plan.specs.Spellings.{spelling, AgreeOutside};
 
 /// Each graph that a plan offers is spelled, and the variables before and after those of the table stay.

@@ -9,7 +9,8 @@ use Rattle.graph_core.specs.Graphs.{Text}
 use Rattle.recipe_data.specs.declared.recipe.VariantRow.{VariantRow}
 use Rattle.cost_terms.proofs.PartLaws.{opposite-any}
 use Rattle.cost_terms.specs.declared.weighted.Weighted.{Weighted}
-use Rattle.term_builder.specs.VariantTerms.{only_if, later, governs}
+use Rattle.term_builder.specs.Tests.{only_if}
+use Rattle.term_builder.specs.VariantTerms.{later, governs}
 
 pub governs-is : (variant : Text) (f said some none : Statement) (rows : List VariantRow) (fs start parts : List Statement) → said ≡ f
     → start ≡ [] → parts ≡ start ++ later variant rows fs → some ≡ any_of parts → none ≡ opposite some → both said none ≡ governs variant f rows fs

@@ -13,10 +13,6 @@ use Rattle.term_builder.specs.declared.variant_terms.Counted.TheVariants as coun
 abbrev pub said_if : Bool → Statement → List Statement
 said_if counts f = if counts then f ∷ [] else []
 
--- a term, if it counts
-abbrev pub only_if : Bool → Weighted → List Weighted
-only_if counts t = if counts then t ∷ [] else []
-
 -- the conditions of the variant's definitions
 abbrev pub later : Text → List VariantRow → List Statement → List Statement
 later variant rows fs = formulas_of (of_variant variant (with_formulas rows fs))

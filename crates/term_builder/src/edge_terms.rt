@@ -1,6 +1,7 @@
 //! The terms of edges whose ends differ.
 ghost use Rattle.std.specs.Prelude.{◌≡◌, ◌++◌, IfOk, OnOk};
-ghost use Rattle.cost_terms.specs.Terms.{edge_said, child_terms, edge_terms, edges_terms};
+ghost use Rattle.literal_table.specs.Edges.{edge_there};
+ghost use Rattle.cost_terms.specs.Terms.{child_terms, edge_terms, edges_terms};
 ghost use Rattle.term_builder.specs.EdgeTerms.{compared};
 
 use crate::{push_compilers_differ, push_texts_differ};
@@ -18,8 +19,8 @@ pub enum Attribute {
 }
 
 // The edge is there.
-fn edge_said(alloc: Global, edge: &EdgeLits) -> Result<Formula, AllocError>
-    ensures { IfOk result (λ formula. formula ≡ edge_said edge.now) }
+fn edge_there(alloc: Global, edge: &EdgeLits) -> Result<Formula, AllocError>
+    ensures { IfOk result (λ formula. formula ≡ edge_there edge.now) }
 {
     let mut parts = Vec::new(alloc);
     parts.push(Formula::lit(edge.build))?;
@@ -82,7 +83,7 @@ fn push_edge(
     }
     match table.block(edge.child.as_str()) {
         Some(child) => {
-            let there = edge_said(alloc, edge)?;
+            let there = edge_there(alloc, edge)?;
             push_compared(alloc, terms, attribute, there, block, child)
         }
         None => Ok(()),

@@ -7,7 +7,8 @@ ghost use Rattle.clause_formulas.specs.Drafts.{said_of};
 ghost use Rattle.literal_table.specs.Choices.{any_choice as any_choice_on};
 ghost use Rattle.cost_terms.specs.Governing.{once, other_terms, unused_terms, with_formulas, variant_terms};
 ghost use Rattle.cost_terms.specs.Terms.{over_variants_terms};
-ghost use Rattle.term_builder.specs.VariantTerms.{only_if, governs, counted_terms, terms_if};
+ghost use Rattle.term_builder.specs.Tests.{only_if};
+ghost use Rattle.term_builder.specs.VariantTerms.{governs, counted_terms, terms_if};
 
 use crate::governing::governs;
 use clause_formulas::{Defined, Formula};

@@ -18,7 +18,7 @@ use Rattle.graph_rules.specs.Valid.{keeps}
 use Rattle.graph_rules.specs.declared.rule.Rule.TheVariants as rules
 use Rattle.graph_rules.proofs.Lists.{In, list_all-from}
 use Rattle.literal_table.specs.Choices.{Choices, chosen, offered}
-use Rattle.literal_table.specs.Tables.{Table, block_of}
+use Rattle.literal_table.specs.Tables.{Table, block_of, names_of}
 use Rattle.literal_table.specs.Spells.{SpellsNode, SpellsAt}
 use Rattle.literal_table.specs.declared.block.Block.{Block}
 use Rattle.literal_table.proofs.Spelling.{named-so}
@@ -29,7 +29,7 @@ use Rattle.graph_formulas.proofs.Rules.{each-kept}
 use Rattle.graph_formulas.proofs.Kept.{by_node}
 use Rattle.graph_formulas.specs.Terms.{Term, known, met, is_true, term_said, builds, where_built}
 use Rattle.graph_formulas.specs.Variants.{variant_rule, variants_rule, keeps_one_variant}
-use Rattle.graph_formulas.specs.Laws.{SpellsProblem, rule_says, names_of, variants_in, variants_of}
+use Rattle.graph_formulas.specs.Laws.{SpellsProblem, rule_says, variants_in, variants_of}
 use Rattle.graph_formulas.proofs.Names.{all-same, each-node-said}
 use Rattle.graph_formulas.proofs.VariantRule.{variant-kept}
 use Rattle.graph_formulas.proofs.AllVariants.{spelled-variants, among-In}

@@ -25,7 +25,7 @@ use Rattle.literal_table.specs.declared.block.Block.{Block}
 use Rattle.literal_table.specs.declared.block.EdgeLits.{EdgeLits}
 use Rattle.literal_table.specs.declared.block.ProviderLits.{ProviderLits}
 use Rattle.graph_decoding.specs.Structure.{value_lits, kind_lits}
-use Rattle.graph_decoding.specs.Range.{AreBelow, IsBlockBelow, IsTableBelow}
+use Rattle.literal_table.specs.Ranges.{AreBelow, IsBlockBelow, IsTableBelow}
 use Rattle.graph_formulas.specs.Facts as facts
 use Rattle.graph_formulas.specs.Facts.{Word, Fact, Variants, just_parts, some_parts, variant_parts, fact_said, said_in, kind_parts, edge_said, word_said, node_has, provides_as, has_edge, has_path}
 use Rattle.graph_encoding.specs.Formulas.{PathFormulas, PathsBelow}

@@ -23,7 +23,7 @@ use Rattle.graph_rules.specs.Valid.{keeps, keeps_all, keeps_demand}
 use Rattle.graph_rules.specs.declared.rule.Rule.TheVariants as rules
 use Rattle.graph_rules.proofs.Lists.{In, In-map, contains-In, list_all-each}
 use Rattle.literal_table.specs.Tables as tables
-use Rattle.literal_table.specs.Tables.{Table, IsTable, block_of}
+use Rattle.literal_table.specs.Tables.{Table, IsTable, block_of, names_of, children_of}
 use Rattle.literal_table.specs.Spells.{Spells}
 use Rattle.literal_table.specs.declared.block.Block.{Block}
 use Rattle.graph_formulas.specs.Facts.{Word, word_said, fact_said, said_in, has_origin}
@@ -38,9 +38,9 @@ use Rattle.graph_formulas.specs.Edges.{extra_edges_rule, used_rule, of_provider}
 use Rattle.graph_formulas.specs.Variants.{variants_rule}
 use Rattle.graph_formulas.specs.Kept.{kept_rule, origins_of}
 use Rattle.graph_formulas.specs.Demands.{demand_rule, directive_rule}
-use Rattle.graph_formulas.specs.Laws.{SpellsProblem, term_formula, rule_says, has_name, names_of, virtuals_of, children_of, variants_of}
+use Rattle.graph_formulas.specs.Laws.{SpellsProblem, term_formula, rule_says, has_name, virtuals_of, variants_of}
 use Rattle.graph_formulas.proofs.RulesSaid.{demand-said, all-buildable, all-version, all-compiler, all-machine, all-extra_edge, all-kept, all-provider, all-used}
-use Rattle.graph_decoding.specs.Range.{IsTableBelow}
+use Rattle.literal_table.specs.Ranges.{IsTableBelow}
 use Rattle.graph_encoding.specs.Formulas.{PathFormulas, PathsTold, ConditionsTold, PathsBelow, MetBelow, AreRightFormulas, other_rules, part_of}
 use Rattle.graph_encoding.specs.Encodings.{told_in}
 use Rattle.valid_models.specs.Targets.{conditions_at, conditions_of, targets_at, asked_targets, targets_of, condition_names, spec_names}

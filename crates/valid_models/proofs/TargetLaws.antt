@@ -7,8 +7,8 @@ use Rattle.graph_core.specs.Graphs.{Text}
 use Rattle.variant_values.specs.Texts.{with_texts}
 use Rattle.possible_closure.proofs.Lists.{in_texts}
 use Rattle.graph_rules.proofs.Lists.{In, In-contains, contains-In, list_all-each, list_all-from}
-use Rattle.literal_table.specs.Tables.{Table}
-use Rattle.graph_levels.specs.Numbers.{names_of, place_in}
+use Rattle.literal_table.specs.Tables.{Table, names_of}
+use Rattle.graph_levels.specs.Numbers.{place_in}
 use Rattle.graph_levels.specs.Levels.{among_places}
 use Rattle.graph_encoding.specs.Encodings.{told_in}
 

@@ -7,7 +7,7 @@ use Rattle.problem.specs.Nodes.{IsWellFormed}
 use Rattle.problem.specs.Problems.{Problem}
 use Rattle.problem.specs.Closure.{IsClosure}
 use Rattle.table_plan.specs.Kept.{have_values}
-use Rattle.table_plan.specs.Ranges.{IsTableBelow}
+use Rattle.literal_table.specs.Ranges.{IsTableBelow}
 use Rattle.graph_decoding.specs.Structure.{structure}
 use Rattle.graph_decoding.specs.Decoding.{decode, IsStructured}
 use Rattle.literal_table.specs.Tables.{IsTable}

@@ -1,5 +1,5 @@
 use Rattle.level_encoding.specs.Input.{chosen}
-use Rattle.graph_levels.specs.Numbers.{names_of}
+use Rattle.literal_table.specs.Tables.{names_of}
 use Rattle.graph_levels.proofs.PlaceLaws.{place-at, names-once}
 use Rattle.graph_levels.proofs.ArcLaws.{path-law}
 use Rattle.graph_levels.proofs.level_theorems.path_laws.Goals as goal

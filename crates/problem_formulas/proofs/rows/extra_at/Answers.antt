@@ -5,7 +5,7 @@ use Rattle.graph_formulas.specs.Facts.{has_origin}
 use Rattle.graph_formulas.specs.Words.{names_for}
 use Rattle.graph_formulas.specs.Terms.{builds}
 use Rattle.graph_formulas.specs.Edges.{extra_edges_rule}
-use Rattle.graph_formulas.specs.Laws.{children_of}
+use Rattle.literal_table.specs.Tables.{children_of}
 use Rattle.rule_formulas.specs.OfWordFormulas.Builders.{node_said}
 use Rattle.rule_formulas.proofs.OfWordFormulas.Steps.{ok-same, ok-is, implies-same}
 use Rattle.rule_formulas.specs.Terms.{plain_term}

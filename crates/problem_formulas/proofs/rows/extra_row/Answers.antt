@@ -3,7 +3,7 @@ use Rattle.graph_core.specs.Graphs.{Text}
 use Rattle.graph_formulas.specs.Words.{names_for}
 use Rattle.graph_formulas.specs.Terms.{where_built}
 use Rattle.graph_formulas.specs.Edges.{extra_edges_rule}
-use Rattle.graph_formulas.specs.Laws.{children_of}
+use Rattle.literal_table.specs.Tables.{children_of}
 use Rattle.rule_formulas.specs.Terms.{plain_term}
 use Rattle.problem_formulas.proofs.rows.extra_row.Goals as goal
 

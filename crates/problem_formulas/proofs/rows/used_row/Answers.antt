@@ -2,7 +2,7 @@ use Rattle.std.proofs.Common.{rules}
 use Rattle.graph_core.specs.Graphs.{Text}
 use Rattle.graph_formulas.specs.Words.{names_for}
 use Rattle.graph_formulas.specs.Edges.{used_rule, of_provider}
-use Rattle.graph_formulas.specs.Laws.{names_of}
+use Rattle.literal_table.specs.Tables.{names_of}
 use Rattle.rule_formulas.specs.Terms.{plain_term}
 use Rattle.problem_formulas.proofs.rows.used_row.Goals as goal
 

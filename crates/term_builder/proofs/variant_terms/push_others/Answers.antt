@@ -4,7 +4,8 @@ use Rattle.condition_rules.specs.Words.{among}
 use Rattle.clause_formulas.specs.Statements.{atom, both}
 use Rattle.clause_formulas.specs.Drafts.{said_of}
 use Rattle.cost_terms.specs.Governing.{once}
-use Rattle.term_builder.specs.VariantTerms.{only_if, governs}
+use Rattle.term_builder.specs.Tests.{only_if}
+use Rattle.term_builder.specs.VariantTerms.{governs}
 use Rattle.term_builder.proofs.Later.{pushed-if, ended}
 use Rattle.term_builder.proofs.variant_terms.push_others.Goals as goal
 

@@ -3,11 +3,10 @@ use Rattle.std.specs.Cmp.Lexicographic.{nat_list_cmp_total}
 use Rattle.variant_values.specs.Texts.{byte_cmp}
 use Rattle.keyed_lists.proofs.RiseLaws.{rises_decides}
 use Rattle.table_plan.specs.Plans.{plan_of}
-use Rattle.table_plan.specs.Ranges.{IsTableBelow}
+use Rattle.literal_table.specs.Ranges.{IsTableBelow}
 use Rattle.graph_decoding.specs.Structure.{structure}
 use Rattle.graph_decoding.specs.Decoding.{decode}
 use Rattle.valid_models.specs.Tables.{table_for, size_for}
-use Rattle.valid_models.proofs.RightTable.{same-below}
 use Rattle.valid_models.specs.Targets.{conditions_of, targets_of}
 use Rattle.valid_models.specs.Joined.{holds_at}
 use Rattle.valid_models.specs.Closures.{closure_formulas, ClosureIsRight}
@@ -28,7 +27,7 @@ returns c =
     let table = c.spelling_laws.ensures.table 0 plan right in
     let below = subst (λ k. IsTableBelow k t) (zero-more n) (c.spelling_laws.ensures.below 0 plan) in (
       c.right_tables.ensures problem names f closure has refl,
-      c.right_rules.ensures problem t n (structure t) place table (same-below n t below) (has-built-variants problem names) placed,
+      c.right_rules.ensures problem t n (structure t) place table below (has-built-variants problem names) placed,
     ) in
     record {
       right = both;
