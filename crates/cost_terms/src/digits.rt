@@ -73,6 +73,7 @@ fn plain_terms(alloc: Global, choices: &[(u64, Lit)]) -> Result<Vec<Weighted>, A
     Ok(terms)
 }
 
+// The greatest weight; 0 where there is none.
 fn greatest(choices: &[(u64, Lit)]) -> u64
     ensures { result ≡ greatest choices.now }
 {

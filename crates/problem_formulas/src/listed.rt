@@ -106,6 +106,7 @@ fn push_requirements(
     Ok(())
 }
 
+// The formulas of the conditions of a package's directives, list by list.
 fn push_package(
     alloc: Global,
     problem: &Problem,

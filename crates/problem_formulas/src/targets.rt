@@ -32,6 +32,8 @@ fn push_packages(
     Ok(())
 }
 
+// The names of the nodes that may be what is asked for: the packages of a virtual, or the name
+// itself.
 fn push_nodes(
     alloc: Global,
     world: &World,
@@ -197,6 +199,7 @@ fn push_required(
     Ok(())
 }
 
+// The names to which the directives of a package ask for paths.
 fn push_targets(
     alloc: Global,
     problem: &Problem,

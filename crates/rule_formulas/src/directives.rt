@@ -103,6 +103,7 @@ fn requirement_formula<C: MetConditions>(
     Formula::implies(alloc, met, choice)
 }
 
+// Each dependency of this number is met, and so is what it asks of its child.
 fn depends_formula<C: MetConditions>(
     alloc: Global,
     problem: &Problem,
@@ -126,6 +127,7 @@ fn depends_formula<C: MetConditions>(
     )
 }
 
+// No conflict of this number holds.
 fn conflicts_formula<C: MetConditions>(
     alloc: Global,
     problem: &Problem,
@@ -148,6 +150,7 @@ fn conflicts_formula<C: MetConditions>(
     )
 }
 
+// Each requirement of this number is met.
 fn requirements_formula<C: MetConditions>(
     alloc: Global,
     problem: &Problem,

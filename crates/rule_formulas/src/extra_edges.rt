@@ -29,6 +29,7 @@ enum Kind {
     Run,
 }
 
+// The kind alone.
 fn kinds_of(kind: Kind) -> Kinds
     ensures { result ≡ kinds_of kind }
 {

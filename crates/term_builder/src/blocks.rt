@@ -41,6 +41,7 @@ fn is_root_name(problem: &Problem, name: &str) -> bool
 
 // ---- what is summed
 
+// One for the node.
 fn presence_terms(alloc: Global, block: &Block) -> Result<Vec<Weighted>, AllocError>
     ensures { IfOk result (λ terms. terms.items ≡ presence_terms block.now) }
 {
@@ -96,6 +97,7 @@ fn edge_terms(
     Ok(terms)
 }
 
+// What the node adds to one sum, wherever it stands.
 #[tactic(auto, unfolding(crate::specs::Criteria::summed_terms))]
 fn summed_terms(
     alloc: Global,

@@ -12,6 +12,7 @@ use cost_terms::Weighted;
 use graph_core::Compiler;
 use literal_table::any_choice;
 use plain_data::Word;
+use problem::same_compiler;
 use std::alloc::{AllocError, Global};
 
 // What is always true.
@@ -48,6 +49,7 @@ fn push_differ(
 
 // ---- texts
 
+// For each text at one end: it is chosen, and the same at the other end.
 fn same_texts(
     alloc: Global,
     xs: &[(Word, Lit)],
@@ -102,13 +104,12 @@ pub fn push_texts_differ(
 
 // ---- compilers
 
+// Two compilers, and the same; none is no compiler's same.
 fn same_compilers(a: &Option<Compiler>, b: &Option<Compiler>) -> bool
     ensures { result ≡ same_compilers a.now b.now }
 {
     match (a, b) {
-        (Some(a), Some(b)) => {
-            a.name.as_str() == b.name.as_str() && a.version.text() == b.version.text()
-        }
+        (Some(a), Some(b)) => same_compiler(a, b),
         (Some(_), None) => false,
         (None, _) => false,
     }
@@ -136,6 +137,7 @@ fn any_compiler(
     any_choice(alloc, ys, |y| same_compilers(compiler, y))
 }
 
+// For each compiler at one end: it is chosen, and the same at the other end.
 fn same_compiler_parts(
     alloc: Global,
     xs: &[(Option<Compiler>, Lit)],

@@ -29,6 +29,7 @@ fn edge_there(alloc: Global, edge: &EdgeLits) -> Result<Formula, AllocError>
     Ok(Formula::any(parts))
 }
 
+// One where the edge is there and the attribute differs at its ends.
 fn push_compared(
     alloc: Global,
     terms: &mut Vec<Weighted>,
@@ -67,6 +68,7 @@ fn push_compared(
     }
 }
 
+// The same of an edge of the block's node; other edges add nothing.
 fn push_edge(
     alloc: Global,
     terms: &mut Vec<Weighted>,

@@ -35,6 +35,7 @@ fn among(texts: &[Word], text: &str) -> bool
 
 // ---- values that are no default values
 
+// One where the value is chosen and the definition governs, if the value counts.
 fn push_other(
     alloc: Global,
     terms: &mut Vec<Weighted>,
@@ -58,6 +59,7 @@ fn push_other(
     Ok(())
 }
 
+// One for each chosen value that is no default of the definition, where that governs.
 fn push_others(
     alloc: Global,
     terms: &mut Vec<Weighted>,
@@ -112,6 +114,7 @@ fn unused_said(
     Formula::all(alloc, parts)
 }
 
+// One for each default value of the definition that is not chosen, where that governs.
 fn push_unused(
     alloc: Global,
     terms: &mut Vec<Weighted>,
@@ -136,6 +139,7 @@ fn push_unused(
 
 // ---- either, over all definitions and variants
 
+// What a definition adds to the values of a variant; those of other variants add nothing.
 fn push_counted(
     alloc: Global,
     terms: &mut Vec<Weighted>,
