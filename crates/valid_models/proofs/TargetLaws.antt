@@ -13,9 +13,9 @@ use Rattle.graph_levels.specs.Levels.{among_places}
 use Rattle.graph_encoding.specs.Encodings.{told_in}
 
 module _ (place : Text → Option ℕ) where
-  first : (o : Option ℕ) (x : Text) (ys : List Text) → place x ≡ o → among_places (filter_map place (x ∷ ys)) o ≡ true
-  first None x ys e = refl
-  first (Some q) x ys e = rw (e, eq-eqb q q refl) refl
+  told-first : (o : Option ℕ) (x : Text) (ys : List Text) → place x ≡ o → among_places (filter_map place (x ∷ ys)) o ≡ true
+  told-first None x ys e = refl
+  told-first (Some q) x ys e = rw (e, eq-eqb q q refl) refl
 
   later : (o r : Option ℕ) (y : Text) (ys : List Text) → place y ≡ r → among_places (filter_map place ys) o ≡ true
       → among_places (filter_map place (y ∷ ys)) o ≡ true
@@ -25,7 +25,7 @@ module _ (place : Text → Option ℕ) where
 
   pub there : (x : Text) (ys : List Text) → In x ys → among_places (filter_map place ys) (place x) ≡ true
   there x [] none = absurd none
-  there x (y ∷ ys) (inl same) = ap (λ z. among_places (filter_map place (z ∷ ys)) (place x)) (sym same) ∙ first (place x) x ys refl
+  there x (y ∷ ys) (inl same) = ap (λ z. among_places (filter_map place (z ∷ ys)) (place x)) (sym same) ∙ told-first (place x) x ys refl
   there x (y ∷ ys) (inr more) = later (place x) (place y) y ys refl (there x ys more)
 
 pub all-told : (t : Table) (targets : List Text) → list_all (told_in t targets) targets ≡ true
