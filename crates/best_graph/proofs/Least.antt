@@ -40,12 +40,12 @@ bits-long v (l ∷ bits) = omega (arith, bits-long v bits)
 
 -- no vector is smaller than one that is greater than none
 not-smaller : (xs ys : List ℕ) → (compare_numbers xs ys ≡ Greater → ⊥) → is_lt (compare_numbers ys xs) ≡ false
-not-smaller xs ys least = not-smaller-at (compare_numbers ys xs) (nat_list_cmp_total.antisymm xs ys)
+not-smaller xs ys least = not-smaller-cases (compare_numbers ys xs) (nat_list_cmp_total.antisymm xs ys)
   where
-    not-smaller-at : (o : Ordering) → compare_numbers xs ys ≡ ordering_reverse o → is_lt o ≡ false
-    not-smaller-at Less turned = absurd (least turned)
-    not-smaller-at Equal turned = refl
-    not-smaller-at Greater turned = refl
+    not-smaller-cases : (o : Ordering) → compare_numbers xs ys ≡ ordering_reverse o → is_lt o ≡ false
+    not-smaller-cases Less turned = absurd (least turned)
+    not-smaller-cases Equal turned = refl
+    not-smaller-cases Greater turned = refl
 
 -- ---- all demands
 
@@ -85,8 +85,8 @@ module _ (problem : Problem) (s : Clauses) (bits : List Lit) (decode : (ℕ → 
 -- where no assignment meets the clauses, no graph is valid
 pub nothing : (problem : Problem) (s : Clauses) (decode : (ℕ → Bool) → Content) → Decodes s decode (IsValid problem)
     → ((v : ℕ → Bool) → MeetsAll v s → ⊥) → HasNoGraph problem
-nothing problem s decode decodes none g formed = nothing-at (valid problem g) refl
+nothing problem s decode decodes none g formed = nothing-cases (valid problem g) refl
   where
-    nothing-at : (b : Bool) → valid problem g ≡ b → b ≡ false
-    nothing-at true ok = let w = decodes.complete all g (is-valid problem g formed ok) in absurd (none w.0 w.2)
-    nothing-at false ok = refl
+    nothing-cases : (b : Bool) → valid problem g ≡ b → b ≡ false
+    nothing-cases true ok = let w = decodes.complete all g (is-valid problem g formed ok) in absurd (none w.0 w.2)
+    nothing-cases false ok = refl

@@ -56,12 +56,12 @@ module _ {T : Type 0} (v : ℕ → Bool) (filled : T → Bool) (same : T → T �
       → sum_said v (differ_terms filled same there xs ys) ≡ bit (differ filled same x y)
   differ-some there xs ys x y is p q = elim (cases_Bool (can_differ filled same xs ys)) [
     | inl can ↦ rw can (one-term (differ_said filled same there xs ys)
-        ∙ rw (said-is there xs ys, is, filled-is xs x p, filled-is ys y q, same-is xs ys x y p q) (differ-some-at (filled x) (filled y) (same x y)))
+        ∙ rw (said-is there xs ys, is, filled-is xs x p, filled-is ys y q, same-is xs ys x y p q) (differ-some-cases (filled x) (filled y) (same x y)))
     | inr cannot ↦ rw (cannot, cannot-is xs ys x y p q cannot) refl
   ]
     where
-      differ-some-at : (a b c : Bool) → bit (true && (a && (b && (not c && true)))) ≡ bit (a && b && not c)
-      differ-some-at true true true = refl
-      differ-some-at true true false = refl
-      differ-some-at true false c = refl
-      differ-some-at false b c = refl
+      differ-some-cases : (a b c : Bool) → bit (true && (a && (b && (not c && true)))) ≡ bit (a && b && not c)
+      differ-some-cases true true true = refl
+      differ-some-cases true true false = refl
+      differ-some-cases true false c = refl
+      differ-some-cases false b c = refl

@@ -17,11 +17,11 @@ use Rattle.cost_terms.specs.Parts.{builds, is_of, part_said, only_where, in_part
 use Rattle.cost_terms.proofs.SpreadLaws.{said-cons}
 
 pub or-false : {T : Type 0} (f : T → Bool) (x : T) → list_any f (x ∷ []) ≡ f x
-or-false f x = or-false-at (f x)
+or-false f x = or-false-cases (f x)
   where
-    or-false-at : (b : Bool) → list_any (λ (c : Bool). c) (b ∷ []) ≡ b
-    or-false-at true = refl
-    or-false-at false = refl
+    or-false-cases : (b : Bool) → list_any (λ (c : Bool). c) (b ∷ []) ≡ b
+    or-false-cases true = refl
+    or-false-cases false = refl
 
 module _ (v : ℕ → Bool) where
   -- what is chosen is offered

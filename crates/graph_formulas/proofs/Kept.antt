@@ -74,11 +74,11 @@ asked-off false r G V R asks off rest = off-right _ R (rest asks)
 
 -- the name has a node, or none
 pub by_node : (graph : Content) (name : Text) (P : Option Node → Type 0) → ((node : Node) → node_of graph name ≡ Some node → P (Some node)) → (node_of graph name ≡ None → P None) → P (node_of graph name)
-by_node graph name P some none = by_node-at (node_of graph name) refl
+by_node graph name P some none = by_node-cases (node_of graph name) refl
   where
-    by_node-at : (o : Option Node) → node_of graph name ≡ o → P o
-    by_node-at None e = none e
-    by_node-at (Some node) e = some node e
+    by_node-cases : (o : Option Node) → node_of graph name ≡ o → P o
+    by_node-cases None e = none e
+    by_node-cases (Some node) e = some node e
 
 module _ (world : World) (graph : Content) where
   abbrev pub keeps : Rule Word → Bool
@@ -94,13 +94,13 @@ module _ (world : World) (graph : Content) where
         unless-kept (is_in graph) (is_filled wanted.1) (fact (node_has name (has_variant wanted.0))),
         there (has_variant wanted.0),
         each-kept (is_in graph) _ (among (values_at node.variants wanted.0)) (λ x. there (has_value wanted.0 (bytes_eq x))) wanted.1,
-      ) (values-there-at (find (λ w. bytes_eq w.0 wanted.0) node.variants) wanted.1)
+      ) (values-there-cases (find (λ w. bytes_eq w.0 wanted.0) node.variants) wanted.1)
         where
-          values-there-at : (o : Option (Text × List Text)) (xs : List Text) → ((is_filled xs || is_some o) && includes (values_or_none o) xs) ≡ is_some_and o (λ v. includes v.1 xs)
-          values-there-at None [] = refl
-          values-there-at None (x ∷ xs) = refl
-          values-there-at (Some v) [] = refl
-          values-there-at (Some v) (x ∷ xs) = refl
+          values-there-cases : (o : Option (Text × List Text)) (xs : List Text) → ((is_filled xs || is_some o) && includes (values_or_none o) xs) ≡ is_some_and o (λ v. includes v.1 xs)
+          values-there-cases None [] = refl
+          values-there-cases None (x ∷ xs) = refl
+          values-there-cases (Some v) [] = refl
+          values-there-cases (Some v) (x ∷ xs) = refl
 
       rest-there : (part : Part) → keeps (rest_rule world name part) ≡ meets_rest world part node
       unfolding rest_rule meets_rest
@@ -135,12 +135,12 @@ module _ (world : World) (graph : Content) where
           ) refl
 
           row-there : (row : ProvideRow) → keeps (row_rule world name virtual wanted row) ≡ row_provides world node virtual wanted row
-          row-there row = row-there-at (bytes_eq row.name virtual) (lists_overlap row.versions wanted) (tops_rule world name row.when.specs) _ (tops-there row.when.specs)
+          row-there row = row-there-cases (bytes_eq row.name virtual) (lists_overlap row.versions wanted) (tops_rule world name row.when.specs) _ (tops-there row.when.specs)
             where
-              row-there-at : (a c : Bool) (rule : Rule Word) (b : Bool) → keeps rule ≡ b → keeps (if a && c then rule else nowhere) ≡ (a && b && c)
-              row-there-at true true rule b same = same ∙ sym (and-true b)
-              row-there-at true false rule b same = sym (off-right b false refl)
-              row-there-at false c rule b same = refl
+              row-there-cases : (a c : Bool) (rule : Rule Word) (b : Bool) → keeps rule ≡ b → keeps (if a && c then rule else nowhere) ≡ (a && b && c)
+              row-there-cases true true rule b same = same ∙ sym (and-true b)
+              row-there-cases true false rule b same = sym (off-right b false refl)
+              row-there-cases false c rule b same = refl
 
       suits-there : (part : Part) (asked : Text) → keeps (suits_rule world part asked name) ≡ suits world part asked node
       unfolding suits
@@ -154,11 +154,11 @@ module _ (world : World) (graph : Content) where
       none-there f = ap (λ o. is_some_and o (λ node. is_so node f)) absent
 
       values-absent : (wanted : Text × List Text) → keeps (values_rule name wanted) ≡ false
-      values-absent wanted = values-absent-at wanted.1
+      values-absent wanted = values-absent-cases wanted.1
         where
-          values-absent-at : (xs : List Text) → keeps (unless (is_filled xs) (fact (node_has name (has_variant wanted.0))) and each (λ value. fact (node_has name (has_value wanted.0 (bytes_eq value)))) xs) ≡ false
-          values-absent-at [] = rw (none-there (has_variant wanted.0)) refl
-          values-absent-at (x ∷ xs) = rw (none-there (has_value wanted.0 (bytes_eq x))) refl
+          values-absent-cases : (xs : List Text) → keeps (unless (is_filled xs) (fact (node_has name (has_variant wanted.0))) and each (λ value. fact (node_has name (has_value wanted.0 (bytes_eq value)))) xs) ≡ false
+          values-absent-cases [] = rw (none-there (has_variant wanted.0)) refl
+          values-absent-cases (x ∷ xs) = rw (none-there (has_value wanted.0 (bytes_eq x))) refl
 
       each-absent : (xs : List (Text × List Text)) → is_filled xs ≡ true → keeps (each (values_rule name) xs) ≡ false
       each-absent [] asks = cc
@@ -234,14 +234,14 @@ module _ (world : World) (graph : Content) where
     asked-kept asked rule test same = elim (cases_Bool (is_virtual world.recipes asked)) [
       | inl virtual ↦ rw virtual (
           some-kept (is_in graph) _ (λ name. is_some_and (provider_of graph asked) (λ p. bytes_eq p name) && is_some_and (node_of graph name) test) (λ name. ap (λ b. is_in graph (provides_as asked name) && b) (same name)) (packages asked)
-          ∙ asked-kept-at (provider_of graph asked) (listed asked))
+          ∙ asked-kept-cases (provider_of graph asked) (listed asked))
       | inr plain ↦ rw plain (same asked)
     ]
       where
-        asked-kept-at : (o : Option Text) → ((p : Text) → o ≡ Some p → among (packages asked) p ≡ true)
+        asked-kept-cases : (o : Option Text) → ((p : Text) → o ≡ Some p → among (packages asked) p ≡ true)
             → list_any (λ name. is_some_and o (λ p. bytes_eq p name) && is_some_and (node_of graph name) test) (packages asked) ≡ is_some_and (option_and_then (node_of graph) o) test
-        asked-kept-at None has = none-picked (λ name. is_some_and (node_of graph name) test) (packages asked)
-        asked-kept-at (Some p) has = picked (λ name. is_some_and (node_of graph name) test) p (packages asked) ∙ ap (λ b. b && is_some_and (node_of graph p) test) (has p refl)
+        asked-kept-cases None has = none-picked (λ name. is_some_and (node_of graph name) test) (packages asked)
+        asked-kept-cases (Some p) has = picked (λ name. is_some_and (node_of graph name) test) p (packages asked) ∙ ap (λ b. b && is_some_and (node_of graph p) test) (has p refl)
 
     pub holds-kept : (name : Text) (spec : Spec) → keeps (holds_rule world packages name spec) ≡ holds world spec graph name
     unfolding holds_rule holds

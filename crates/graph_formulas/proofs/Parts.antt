@@ -29,13 +29,13 @@ use Rattle.graph_formulas.proofs.Kept.{meets-kept, provides-kept, holds-kept, co
 chosen-among : (v : ℕ → Bool) (choices : Choices Text) (x : Text) → among (chosen v choices) x ≡ true → among (offered choices) x ≡ true
 chosen-among v [] x h = h
 chosen-among v (c ∷ cs) x h = elim (cases_Bool (lit_true v c.1)) [
-  | inl t ↦ chosen-among-at (bytes_eq x c.0) (among (chosen v cs) x) (among (offered cs) x) (chosen-among v cs x) (rw t at h)
+  | inl t ↦ chosen-among-cases (bytes_eq x c.0) (among (chosen v cs) x) (among (offered cs) x) (chosen-among v cs x) (rw t at h)
   | inr f ↦ or_right (bytes_eq x c.0) (among (offered cs) x) (chosen-among v cs x (rw f at h))
 ]
   where
-    chosen-among-at : (a b c : Bool) → (b ≡ true → c ≡ true) → (a || b) ≡ true → (a || c) ≡ true
-    chosen-among-at true b c f h = refl
-    chosen-among-at false b c f h = f h
+    chosen-among-cases : (a b c : Bool) → (b ≡ true → c ≡ true) → (a || b) ≡ true → (a || c) ≡ true
+    chosen-among-cases true b c f h = refl
+    chosen-among-cases false b c f h = f h
 
 pub provider-listed : (v : ℕ → Bool) (table : Table) (graph : Content) → Spells v table graph → (virtual p : Text) → provider_of graph virtual ≡ Some p → among (names_for table virtual) p ≡ true
 provider-listed v table graph s virtual p is =

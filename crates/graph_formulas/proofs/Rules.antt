@@ -9,13 +9,13 @@ use Rattle.graph_formulas.specs.Lists.{given, unless, written, named, each, some
 
 pub any-last : {T : Type 0} (f : T → Bool) (xs : List T) → list_any f xs ≡ is_some (find_last f xs)
 any-last f [] = refl
-any-last f (x ∷ xs) = rw (any-last f xs) (any-last-at (find_last f xs) (f x))
+any-last f (x ∷ xs) = rw (any-last f xs) (any-last-cases (find_last f xs) (f x))
   where
-    any-last-at : (o : Option _) (b : Bool) → (b || is_some o) ≡ is_some (option_or o (if b then Some x else None))
-    any-last-at None true = refl
-    any-last-at None false = refl
-    any-last-at (Some y) true = refl
-    any-last-at (Some y) false = refl
+    any-last-cases : (o : Option _) (b : Bool) → (b || is_some o) ≡ is_some (option_or o (if b then Some x else None))
+    any-last-cases None true = refl
+    any-last-cases None false = refl
+    any-last-cases (Some y) true = refl
+    any-last-cases (Some y) false = refl
 
 not-nor : (a b : Bool) → not (not a || b) ≡ (a && not b)
 not-nor true b = refl
@@ -60,9 +60,9 @@ module _ {W : Type 0} (p : W → Bool) where
     pub last-kept : (passes : T → Rule W) (f : T → Bool) → ((x : T) → keeps_rule p (passes x) ≡ f x) → (xs : List T)
         → keeps_rule p (last_one passes rule xs) ≡ is_some_and (find_last f xs) test
     last-kept passes f each [] = refl
-    last-kept passes f each (x ∷ xs) = rw (last-kept passes f each xs, some-kept passes f each xs, any-last f xs, each x, same x) (last-kept-at (find_last f xs) (f x))
+    last-kept passes f each (x ∷ xs) = rw (last-kept passes f each xs, some-kept passes f each xs, any-last f xs, each x, same x) (go (find_last f xs) (f x))
       where
-        last-kept-at : (o : Option T) (b : Bool) → (((not (is_some o) && b) && test x) || is_some_and o test) ≡ is_some_and (option_or o (if b then Some x else None)) test
-        last-kept-at None true = or-false (test x)
-        last-kept-at None false = refl
-        last-kept-at (Some y) b = refl
+        go : (o : Option T) (b : Bool) → (((not (is_some o) && b) && test x) || is_some_and o test) ≡ is_some_and (option_or o (if b then Some x else None)) test
+        go None true = or-false (test x)
+        go None false = refl
+        go (Some y) b = refl

@@ -67,11 +67,11 @@ some-injective same = cc
 -- a spelled edge has a kind
 spelled-kind : (v : ℕ → Bool) (c : Option EdgeLits) (e : Edge) → SpellsEdge v c (Some e) → has_kind e.kinds ≡ true
 spelled-kind v None e s = absurd (let none : Some e ≡ None = s in cc)
-spelled-kind v (Some b) e s = spelled-kind-at (has_kind (chosen_kinds v b)) refl s
+spelled-kind v (Some b) e s = spelled-kind-cases (has_kind (chosen_kinds v b)) refl s
   where
-    spelled-kind-at : (a : Bool) → has_kind (chosen_kinds v b) ≡ a → Some e.kinds ≡ (if a then Some (chosen_kinds v b) else None) → has_kind e.kinds ≡ true
-    spelled-kind-at true is same = let k : e.kinds ≡ chosen_kinds v b = some-injective same in ap has_kind k ∙ is
-    spelled-kind-at false is same = absurd (let none : Some e.kinds ≡ None = same in cc)
+    spelled-kind-cases : (a : Bool) → has_kind (chosen_kinds v b) ≡ a → Some e.kinds ≡ (if a then Some (chosen_kinds v b) else None) → has_kind e.kinds ≡ true
+    spelled-kind-cases true is same = let k : e.kinds ≡ chosen_kinds v b = some-injective same in ap has_kind k ∙ is
+    spelled-kind-cases false is same = absurd (let none : Some e.kinds ≡ None = same in cc)
 
 edge-child : (graph : Content) (parent child : Text) (e : Edge) → edge_of graph parent child ≡ Some e → e.child ≡ child
 edge-child graph parent child e here = ap (λ p. p.1) (found-ends ends_of graph.edges parent child e here).1
@@ -97,11 +97,11 @@ module _ (problem : Problem) (v : ℕ → Bool) (path : Text → Text → Statem
   listed = provider-listed v table graph s.whole.facts
 
   leads : LeadsToNodes graph
-  leads parent child absent = leads-at (edge_of graph parent child) refl
+  leads parent child absent = leads-cases (edge_of graph parent child) refl
     where
-      leads-at : (o : Option Edge) → edge_of graph parent child ≡ o → edge_of graph parent child ≡ None
-      leads-at None is = is
-      leads-at (Some e) is =
+      leads-cases : (o : Option Edge) → edge_of graph parent child ≡ o → edge_of graph parent child ≡ None
+      leads-cases None is = is
+      leads-cases (Some e) is =
           let found = find_sound pair_total pair_exact ends_of graph.edges (parent, child) e is in
           let there = subst (HasNode graph) (ap (λ p. p.1) found.1) (All-contains (λ (d : Edge). HasNode graph d.child) graph.edges e s.is_graph.children found.0) in
           absurd (let both : true ≡ false = sym ((has_decides graph child).1 there) ∙ ap is_some absent in cc)
@@ -193,11 +193,11 @@ module _ (problem : Problem) (v : ℕ → Bool) (path : Text → Text → Statem
 
   -- a name that the table does not have has no node
   unnamed : (name : Text) → has_name table name ≡ false → node_of graph name ≡ None
-  unnamed name = unnamed-at (block_of table name) (s.whole.facts.nodes name)
+  unnamed name = unnamed-cases (block_of table name) (s.whole.facts.nodes name)
     where
-      unnamed-at : (o : Option Block) → SpellsAt v o (node_of graph name) → is_some o ≡ false → node_of graph name ≡ None
-      unnamed-at None spelled h = spelled
-      unnamed-at (Some b) spelled h = cc
+      unnamed-cases : (o : Option Block) → SpellsAt v o (node_of graph name) → is_some o ≡ false → node_of graph name ≡ None
+      unnamed-cases None spelled h = spelled
+      unnamed-cases (Some b) spelled h = cc
 
   pub demand-said : (d : Demand) → rule_says v path condition table (demand_rule problem (names_for table) (has_name table) d) ≡ keeps_demand problem graph d
   demand-said d =

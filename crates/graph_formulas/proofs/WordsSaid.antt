@@ -68,33 +68,33 @@ at-node (Some node) variant test none = refl
 module _ (v : ℕ → Bool) (variant : Text) where
   filled : (us : List (Text × Choices Text)) → list_any (λ value. true) (values_at (chosen_variants v us) variant) ≡ variant_there (chosen_variants v us) variant
   filled [] = refl
-  filled (u ∷ us) = filled-at (chosen v u.1) (filled us)
+  filled (u ∷ us) = filled-cases (chosen v u.1) (filled us)
     where
-      filled-at : (xs : List Text) → list_any (λ value. true) (values_at (chosen_variants v us) variant) ≡ variant_there (chosen_variants v us) variant
+      filled-cases : (xs : List Text) → list_any (λ value. true) (values_at (chosen_variants v us) variant) ≡ variant_there (chosen_variants v us) variant
           → list_any (λ value. true) (values_at (cons_option (with_values u.0 xs) (chosen_variants v us)) variant)
           ≡ variant_there (cons_option (with_values u.0 xs) (chosen_variants v us)) variant
-      filled-at [] rest = rest
-      filled-at (x ∷ xs) rest = elim (cases_Bool (bytes_eq u.0 variant)) [ inl same ↦ rw same refl | inr other ↦ rw other rest ]
+      filled-cases [] rest = rest
+      filled-cases (x ∷ xs) rest = elim (cases_Bool (bytes_eq u.0 variant)) [ inl same ↦ rw same refl | inr other ↦ rw other rest ]
 
 module _ (v : ℕ → Bool) (b : Block) (o : Option Node) (s : SpellsNode v b o) where
   variant-said : (variant : Text) → eval v (any_choice (λ value. true) (values_of b variant)) ≡ is_some_and o (λ node. variant_there node.variants variant)
   variant-said variant =
       values-said v b o s variant (λ value. true)
       ∙ subst (λ ws. list_any (λ value. true) (values_at ws variant) ≡ variant_there ws variant) s.variants (filled v variant b.variants)
-      ∙ variant-said-at o
+      ∙ variant-said-cases o
     where
-      variant-said-at : (o : Option Node) → variant_there (variants_of o) variant ≡ is_some_and o (λ node. variant_there node.variants variant)
-      variant-said-at None = refl
-      variant-said-at (Some node) = refl
+      variant-said-cases : (o : Option Node) → variant_there (variants_of o) variant ≡ is_some_and o (λ node. variant_there node.variants variant)
+      variant-said-cases None = refl
+      variant-said-cases (Some node) = refl
 
   variants-said : (variants : Variants) → eval v (all_of (atom b.present ∷ variant_parts b.variants variants)) ≡ is_some_and o (λ node. same_variants node.variants variants)
   variants-said variants =
       eval-all_of v (atom b.present ∷ variant_parts b.variants variants)
-      ∙ rw (s.present, variants-chosen v b.variants variants s.ordered.names s.ordered.values, s.variants) (variants-said-at o)
+      ∙ rw (s.present, variants-chosen v b.variants variants s.ordered.names s.ordered.values, s.variants) (variants-said-cases o)
     where
-      variants-said-at : (o : Option Node) → (is_some o && same_variants (variants_of o) variants) ≡ is_some_and o (λ node. same_variants node.variants variants)
-      variants-said-at None = refl
-      variants-said-at (Some node) = refl
+      variants-said-cases : (o : Option Node) → (is_some o && same_variants (variants_of o) variants) ≡ is_some_and o (λ node. same_variants node.variants variants)
+      variants-said-cases None = refl
+      variants-said-cases (Some node) = refl
 
   pub fact-said : (fact : Fact) → eval v (fact_said b fact) ≡ is_some_and o (λ node. is_so node fact)
   fact-said is_there = s.present ∙ there-and o

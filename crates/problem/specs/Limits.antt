@@ -53,6 +53,10 @@ size_of_database records = length records + sum_by record_members records
 
 -- ---- the limits
 
+-- how many names nodes of a problem's graphs may have
+abbrev pub most_names : ℕ
+most_names = 1024
+
 abbrev pub are_few_rows : List Recipe → Bool
 are_few_rows recipes = nat_le (size_of_recipes recipes) (2 ^ 28)
 
@@ -64,10 +68,6 @@ are_few_records records = nat_le (size_of_database records) (2 ^ 26)
 
 unfoldable pub is_within_limits : Problem → Bool
 is_within_limits problem = are_few_rows problem.recipes && are_small problem.settings && are_few_records problem.database
-
--- how many names nodes of a problem's graphs may have
-abbrev pub most_names : ℕ
-most_names = 1024
 
 -- a count that stops at the largest number of 64 bits
 abbrev pub stopped : ℕ → ℕ

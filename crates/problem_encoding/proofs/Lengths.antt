@@ -11,8 +11,8 @@ as-long (t ∷ ts) (n ∷ ns) h = omega (arith, as-long ts ns (and_parts (leb n 
 
 pub unspelled : (tops numbers : List ℕ) → (length numbers ≡ length tops → ⊥) → bits_for tops numbers ≡ None
 unfolding bits_for
-unspelled tops numbers other = unspelled-at (within tops numbers) refl
+unspelled tops numbers other = unspelled-cases (within tops numbers) refl
   where
-    unspelled-at : (b : Bool) → within tops numbers ≡ b → bits_for tops numbers ≡ None
-    unspelled-at true is = absurd (other (as-long tops numbers is))
-    unspelled-at false is = rw is refl
+    unspelled-cases : (b : Bool) → within tops numbers ≡ b → bits_for tops numbers ≡ None
+    unspelled-cases true is = absurd (other (as-long tops numbers is))
+    unspelled-cases false is = rw is refl

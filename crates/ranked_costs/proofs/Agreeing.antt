@@ -19,17 +19,17 @@ module _ (problem : Problem) (table : Table) (order : List Text) (held other : H
   Alike f g = (name : Text) (b : Block) → block_of table name ≡ Some b → f b ≡ g b
 
   number-alike : (built : Bool) (f g : Block → List Weighted) → Alike f g → number_terms built table order f ≡ number_terms built table order g
-  number-alike built f g alike = number-alike-at order
+  number-alike built f g alike = number-alike-cases order
     where
       at : (name : Text) (o : Option Block) → block_of table name ≡ o → part_terms built f o ≡ part_terms built g o
       at name None e = refl
       at name (Some b) e = ap (in_part built b.origins) (alike name b e)
 
-      number-alike-at : (names : List Text) → flat_map (λ name. part_terms built f (block_of table name)) names
+      number-alike-cases : (names : List Text) → flat_map (λ name. part_terms built f (block_of table name)) names
           ≡ flat_map (λ name. part_terms built g (block_of table name)) names
-      number-alike-at [] = refl
-      number-alike-at (n ∷ ns) =
-          flat_map-cons (λ name. part_terms built f (block_of table name)) n ns ∙ (λ i. at n (block_of table n) refl i ++ number-alike-at ns i)
+      number-alike-cases [] = refl
+      number-alike-cases (n ∷ ns) =
+          flat_map-cons (λ name. part_terms built f (block_of table name)) n ns ∙ (λ i. at n (block_of table n) refl i ++ number-alike-cases ns i)
           ∙ sym (flat_map-cons (λ name. part_terms built g (block_of table name)) n ns)
 
   variants-alike : (terms : Row → Choices Text → List Weighted) → Alike (over_variants_terms terms problem held) (over_variants_terms terms problem other)

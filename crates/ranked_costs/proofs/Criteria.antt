@@ -44,18 +44,18 @@ module _ (problem : Problem) (limits : IsWithin problem) (names : List Text) (ri
   -- ---- roots, presence and weights
 
   at-root : (terms : Block → List Weighted) → Bounded terms → Bounded (at_root_terms problem terms)
-  at-root terms le b there = at-root-at (is_root_name problem b.name)
+  at-root terms le b there = at-root-cases (is_root_name problem b.name)
     where
-      at-root-at : (c : Bool) → top_said (cond c (terms b) []) ≤ length (variants_at problem b.name) * 2 ^ 29 + 2 ^ 52
-      at-root-at true = le b there
-      at-root-at false = omega arith
+      at-root-cases : (c : Bool) → top_said (cond c (terms b) []) ≤ length (variants_at problem b.name) * 2 ^ 29 + 2 ^ 52
+      at-root-cases true = le b there
+      at-root-cases false = omega arith
 
   off-root : (terms : Block → List Weighted) → Bounded terms → Bounded (off_root_terms problem terms)
-  off-root terms le b there = off-root-at (is_root_name problem b.name)
+  off-root terms le b there = off-root-cases (is_root_name problem b.name)
     where
-      off-root-at : (c : Bool) → top_said (cond c [] (terms b)) ≤ length (variants_at problem b.name) * 2 ^ 29 + 2 ^ 52
-      off-root-at true = omega arith
-      off-root-at false = le b there
+      off-root-cases : (c : Bool) → top_said (cond c [] (terms b)) ≤ length (variants_at problem b.name) * 2 ^ 29 + 2 ^ 52
+      off-root-cases true = omega arith
+      off-root-cases false = le b there
 
   pub presence : Bounded presence_terms
   presence b there = omega arith

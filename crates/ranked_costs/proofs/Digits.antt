@@ -38,12 +38,12 @@ size-top zero n = elim (cases_eq n 0) [
   | inl is ↦ inl (is, refl)
   | inr other ↦ inr (omega arith)
 ]
-size-top (suc k) n = size-top-at (size-top k (n / 2)) (eqb n 0) refl
+size-top (suc k) n = size-top-cases (size-top k (n / 2)) (eqb n 0) refl
   where
-    size-top-at : ((n / 2 ≡ 0) × (size_below k (n / 2) ≡ 0)) ⊎ (2 ^ size_below k (n / 2) ≤ 2 * (n / 2)) → (b : Bool) → eqb n 0 ≡ b
+    size-top-cases : ((n / 2 ≡ 0) × (size_below k (n / 2) ≡ 0)) ⊎ (2 ^ size_below k (n / 2) ≤ 2 * (n / 2)) → (b : Bool) → eqb n 0 ≡ b
         → ((n ≡ 0) × (cond b 0 (suc (size_below k (n / 2))) ≡ 0)) ⊎ (2 ^ cond b 0 (suc (size_below k (n / 2))) ≤ 2 * n)
-    size-top-at rest true is = inl (eqb-true n 0 is, refl)
-    size-top-at rest false is = let some : n ≡ 0 → ⊥ = eqb-false n 0 is in inr (⊎_elim
+    size-top-cases rest true is = inl (eqb-true n 0 is, refl)
+    size-top-cases rest false is = let some : n ≡ 0 → ⊥ = eqb-false n 0 is in inr (⊎_elim
         (λ none. let one : 2 ^ suc (size_below k (n / 2)) ≡ 2 = ap (λ j. 2 ^ suc j) none.1 in omega arith)
         (λ more. omega (arith, pow-suc 2 (size_below k (n / 2))))
         rest)
@@ -76,11 +76,11 @@ weights-top weight most le small choices =
 
 pub part-top : (built : Bool) (origins : Choices Origin) (ts : List Weighted) → top_said (in_part built origins ts) ≤ top_said ts
 unfolding in_part
-part-top built origins ts = part-top-at (list_all (λ c. is_of built c.0) origins) (list_any (λ c. is_of built c.0) origins)
+part-top built origins ts = part-top-cases (list_all (λ c. is_of built c.0) origins) (list_any (λ c. is_of built c.0) origins)
     (map (only_where (part_said built origins)) ts)
     (sum-map (λ (t : Weighted). t.weight) (only_where (part_said built origins)) ts)
   where
-    part-top-at : (a b : Bool) (us : List Weighted) → top_said us ≡ top_said ts → top_said (cond a ts (cond b us [])) ≤ top_said ts
-    part-top-at true b us e = omega arith
-    part-top-at false true us e = omega arith
-    part-top-at false false us e = omega arith
+    part-top-cases : (a b : Bool) (us : List Weighted) → top_said us ≡ top_said ts → top_said (cond a ts (cond b us [])) ≤ top_said ts
+    part-top-cases true b us e = omega arith
+    part-top-cases false true us e = omega arith
+    part-top-cases false false us e = omega arith

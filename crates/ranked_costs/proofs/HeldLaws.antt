@@ -115,22 +115,22 @@ module _ (v : ℕ → Bool) (problem : Problem) (graph : Content) where
       e ∙ ap (map tested) (flat_map-cons (λ name. map (λ when. (name, when)) (conditions_at problem name)) n ns)
       ∙ map-append tested (map (λ when. (n, when)) (conditions_at problem n)) (listed ns)
       ∙ ap (λ xs. xs ++ map tested (listed ns)) (map-twice tested (λ when. (n, when)) (conditions_at problem n)) in
-      held-says-at (bytes_eq name n) refl split there
+      held-says-cases (bytes_eq name n) refl split there
       (held-says ns (passed problem n values) name (rest-is n values (map tested (listed ns)) split))
     where
-      held-says-at : (b : Bool) → bytes_eq name n ≡ b → map said values ≡ tests n (conditions_at problem n) ++ map tested (listed ns)
+      held-says-cases : (b : Bool) → bytes_eq name n ≡ b → map said values ≡ tests n (conditions_at problem n) ++ map tested (listed ns)
           → (bytes_eq name n || among ns name) ≡ true
           → (among ns name ≡ true → map (eval v) (held_in (held_from problem ns (passed problem n values)) name)
           ≡ map (λ row. all_hold (world_of problem) row.when graph name) (variants_at problem name))
           → map (eval v) (held_in (held_from problem (n ∷ ns) values) name)
           ≡ map (λ row. all_hold (world_of problem) row.when graph name) (variants_at problem name)
-      held-says-at true is split there later =
+      held-says-cases true is split there later =
           let shape : Bool → List Bool = λ b. map (eval v) (map said_of (defined_in (cond b (Some (n, take (length (variants_at problem n)) values))
           (find (λ h. bytes_eq name h.0) (held_from problem ns (passed problem n values)))))) in
           ap shape is ∙ subst (λ m. map (eval v) (map said_of (take (length (variants_at problem n)) values))
           ≡ map (λ row. all_hold (world_of problem) row.when graph m) (variants_at problem m)) (sym (bytes_eq-same name n is))
           (map-twice (eval v) said_of (take (length (variants_at problem n)) values) ∙ first-are n values (map tested (listed ns)) split)
-      held-says-at false is split there later =
+      held-says-cases false is split there later =
           let shape : Bool → List Bool = λ b. map (eval v) (map said_of (defined_in (cond b (Some (n, take (length (variants_at problem n)) values))
           (find (λ h. bytes_eq name h.0) (held_from problem ns (passed problem n values)))))) in
           ap shape is ∙ later (sym (ap (λ b. b || among ns name) is) ∙ there)

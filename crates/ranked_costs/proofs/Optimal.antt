@@ -27,12 +27,12 @@ all-asked k (d ∷ ds) = ap (λ es. d ∷ es) (all-asked (k + 1) ds)
 
 -- what is not greater has nothing below it
 not-smaller : (x y : List ℕ) → (compare_numbers x y ≡ Greater → ⊥) → is_lt (compare_numbers y x) ≡ false
-not-smaller x y never = not-smaller-at (compare_numbers y x) (nat_list_cmp_total.antisymm x y)
+not-smaller x y never = not-smaller-cases (compare_numbers y x) (nat_list_cmp_total.antisymm x y)
   where
-    not-smaller-at : (r : Ordering) → compare_numbers x y ≡ ordering_reverse r → is_lt r ≡ false
-    not-smaller-at Less e = absurd (never e)
-    not-smaller-at Equal e = refl
-    not-smaller-at Greater e = refl
+    not-smaller-cases : (r : Ordering) → compare_numbers x y ≡ ordering_reverse r → is_lt r ≡ false
+    not-smaller-cases Less e = absurd (never e)
+    not-smaller-cases Equal e = refl
+    not-smaller-cases Greater e = refl
 
 module _ (problem : Problem) (fewer : (graph : Content) (asked : List Demand) → valid problem graph ≡ true → valid_for asked problem graph ≡ true)
     (all : (graph : Content) → IsGraph graph → valid_for (demands problem) problem graph ≡ true → valid problem graph ≡ true)
@@ -50,8 +50,8 @@ module _ (problem : Problem) (fewer : (graph : Content) (asked : List Demand) �
       }
 
   pub none : ((v : ℕ → Bool) → Meets each v new.entries → ⊥) → (graph : Content) → IsWellFormed graph → valid problem graph ≡ false
-  none empty graph formed = none-at (valid problem graph) refl
+  none empty graph formed = none-cases (valid problem graph) refl
     where
-      none-at : (b : Bool) → valid problem graph ≡ b → b ≡ false
-      none-at true is = let w = ranks.decodes.complete each graph (formed, fewer graph (asked_demands problem each) is) in absurd (empty w.0 w.2)
-      none-at false is = refl
+      none-cases : (b : Bool) → valid problem graph ≡ b → b ≡ false
+      none-cases true is = let w = ranks.decodes.complete each graph (formed, fewer graph (asked_demands problem each) is) in absurd (empty w.0 w.2)
+      none-cases false is = refl

@@ -79,15 +79,15 @@ passed-below n problem name ds b =
 from-below : (n : ℕ) (problem : Problem) (names : List Text) (values : List Defined) → ValuesBelow n values
     → AreHeldBelow n (held_in (held_from problem names values))
 from-below n problem [] values b name = tt
-from-below n problem (x ∷ names) values b name = from-below-at (bytes_eq name x) refl (from-below n problem names (passed problem x values) (passed-below n problem x values b) name)
+from-below n problem (x ∷ names) values b name = from-below-cases (bytes_eq name x) refl (from-below n problem names (passed problem x values) (passed-below n problem x values b) name)
   where
-    from-below-at : (same : Bool) → bytes_eq name x ≡ same → SaidBelow n (any_of (held_in (held_from problem names (passed problem x values)) name))
+    from-below-cases : (same : Bool) → bytes_eq name x ≡ same → SaidBelow n (any_of (held_in (held_from problem names (passed problem x values)) name))
         → SaidBelow n (any_of (held_in (held_from problem (x ∷ names) values) name))
-    from-below-at true is later =
+    from-below-cases true is later =
         let there : Bool → Type 0 = λ same. SaidBelow n (any_of (map said_of (defined_in (cond same (Some (x, take (length (variants_at problem x)) values))
         (find (λ h. bytes_eq name h.0) (held_from problem names (passed problem x values))))))) in
         subst there (sym is) (take-below n (length (variants_at problem x)) values b)
-    from-below-at false is later =
+    from-below-cases false is later =
         let there : Bool → Type 0 = λ same. SaidBelow n (any_of (map said_of (defined_in (cond same (Some (x, take (length (variants_at problem x)) values))
         (find (λ h. bytes_eq name h.0) (held_from problem names (passed problem x values))))))) in
         subst there (sym is) later

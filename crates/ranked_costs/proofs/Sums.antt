@@ -53,10 +53,10 @@ module _ (same : Text → Text → Bool) (exact : (a b : Text) → same a b ≡ 
   -- a number that is added at one key alone
   pub once : (t : Text) (n : ℕ) (ks : List Text) → IsInByteOrder ks → sum_by (λ k. cond (same t k) n 0) ks ≤ n
   once t n [] rising = omega arith
-  once t n (k ∷ ks) rising = once-at (once t n ks (rises_rest byte_cmp k ks rising)) (same t k) refl
+  once t n (k ∷ ks) rising = once-cases (once t n ks (rises_rest byte_cmp k ks rising)) (same t k) refl
     where
-      once-at : sum_by (λ j. cond (same t j) n 0) ks ≤ n → (b : Bool) → same t k ≡ b → sum_by (λ j. cond (same t j) n 0) (k ∷ ks) ≤ n
-      once-at others true is =
+      once-cases : sum_by (λ j. cond (same t j) n 0) ks ≤ n → (b : Bool) → same t k ≡ b → sum_by (λ j. cond (same t j) n 0) (k ∷ ks) ≤ n
+      once-cases others true is =
           let here : cond (same t k) n 0 ≡ n = ap (λ b. cond b n 0) is in
           let rest = none-passes n (same t) ks (λ j there. false_from_ne_true (same t j) (λ also.
           let twice : k ≡ j = sym (exact t k is) ∙ exact t j also in
@@ -64,19 +64,19 @@ module _ (same : Text → Text → Bool) (exact : (a b : Text) → same a b ≡ 
           let both : Less ≡ Equal = sym less ∙ tied_itself nat_list_cmp_total k in
           cc)) in
           omega (arith, here, rest, sum_by-cons (λ j. cond (same t j) n 0) k ks)
-      once-at others false is =
+      once-cases others false is =
           let here : cond (same t k) n 0 ≡ 0 = ap (λ b. cond b n 0) is in
           omega (arith, here, sum_by-cons (λ j. cond (same t j) n 0) k ks)
 
   module _ {X : Type 0} (f : X → ℕ) (key : X → Text) where
     one-more : (x : X) (xs : List X) (k : Text)
         → sum_by f (filter (λ y. same (key y) k) (x ∷ xs)) ≡ cond (same (key x) k) (f x) 0 + sum_by f (filter (λ y. same (key y) k) xs)
-    one-more x xs k = one-more-at (same (key x) k)
+    one-more x xs k = one-more-cases (same (key x) k)
       where
-        one-more-at : (b : Bool) → sum_by f (cond b (x ∷ filter (λ y. same (key y) k) xs) (filter (λ y. same (key y) k) xs))
+        one-more-cases : (b : Bool) → sum_by f (cond b (x ∷ filter (λ y. same (key y) k) xs) (filter (λ y. same (key y) k) xs))
             ≡ cond b (f x) 0 + sum_by f (filter (λ y. same (key y) k) xs)
-        one-more-at true = sum_by-cons f x (filter (λ y. same (key y) k) xs)
-        one-more-at false = omega arith
+        one-more-cases true = sum_by-cons f x (filter (λ y. same (key y) k) xs)
+        one-more-cases false = omega arith
 
     -- what each key has of a list is no more than the list
     pub shared : (ks : List Text) → IsInByteOrder ks → (xs : List X)
@@ -101,10 +101,10 @@ module _ (same : Text → Text → Bool) (exact : (a b : Text) → same a b ≡ 
       where
         first-of : (k : Text) (ys : List X) → adds_or_none f (find (λ x. same (key x) k) ys) ≤ sum_by f (filter (λ x. same (key x) k) ys)
         first-of k [] = omega arith
-        first-of k (y ∷ ys) = first-of-at (same (key y) k) (first-of k ys)
+        first-of k (y ∷ ys) = first-of-cases (same (key y) k) (first-of k ys)
           where
-            first-of-at : (b : Bool) → adds_or_none f (find (λ x. same (key x) k) ys) ≤ sum_by f (filter (λ x. same (key x) k) ys)
+            first-of-cases : (b : Bool) → adds_or_none f (find (λ x. same (key x) k) ys) ≤ sum_by f (filter (λ x. same (key x) k) ys)
                 → adds_or_none f (cond b (Some y) (find (λ x. same (key x) k) ys))
                 ≤ sum_by f (cond b (y ∷ filter (λ x. same (key x) k) ys) (filter (λ x. same (key x) k) ys))
-            first-of-at true rest = omega (arith, sum_by-cons f y (filter (λ x. same (key x) k) ys))
-            first-of-at false rest = rest
+            first-of-cases true rest = omega (arith, sum_by-cons f y (filter (λ x. same (key x) k) ys))
+            first-of-cases false rest = rest

@@ -55,11 +55,11 @@ module _ {X Y : Type 0} (make : ℕ → X → Y) (wide : X → ℕ) where
 
 filter_map-le : {X Y : Type 0} (f : X → Option Y) (xs : List X) → length (filter_map f xs) ≤ length xs
 filter_map-le f [] = omega arith
-filter_map-le {Y = Y} f (x ∷ xs) = filter_map-le-at (filter_map-le f xs) (f x)
+filter_map-le {Y = Y} f (x ∷ xs) = filter_map-le-cases (filter_map-le f xs) (f x)
   where
-    filter_map-le-at : length (filter_map f xs) ≤ length xs → (o : Option Y) → length (cons_option o (filter_map f xs)) ≤ length (x ∷ xs)
-    filter_map-le-at rest None = omega arith
-    filter_map-le-at rest (Some y) = omega arith
+    filter_map-le-cases : length (filter_map f xs) ≤ length xs → (o : Option Y) → length (cons_option o (filter_map f xs)) ≤ length (x ∷ xs)
+    filter_map-le-cases rest None = omega arith
+    filter_map-le-cases rest (Some y) = omega arith
 
 -- ---- what is found at names that stand once
 

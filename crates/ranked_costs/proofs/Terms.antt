@@ -80,20 +80,20 @@ formulas-sum f (row ∷ rows) (said ∷ fs) =
 
 pub differ-top : {T : Type 0} (filled : T → Bool) (same : T → T → Bool) (there : Statement) (xs ys : Choices T)
     → top_said (differ_terms filled same there xs ys) ≤ 1
-differ-top filled same there xs ys = differ-top-at (can_differ filled same xs ys)
+differ-top filled same there xs ys = differ-top-cases (can_differ filled same xs ys)
   where
-    differ-top-at : (b : Bool) → top_said (cond b (record { weight = 1; formula = differ_said filled same there xs ys } ∷ []) []) ≤ 1
-    differ-top-at true = omega arith
-    differ-top-at false = omega arith
+    differ-top-cases : (b : Bool) → top_said (cond b (record { weight = 1; formula = differ_said filled same there xs ys } ∷ []) []) ≤ 1
+    differ-top-cases true = omega arith
+    differ-top-cases false = omega arith
 
 edge-top : (terms : Statement → Block → Block → List Weighted) → ((there : Statement) (a b : Block) → top_said (terms there a b) ≤ 1)
     → (table : Table) (b : Block) (e : EdgeLits) → top_said (edge_terms terms table b e) ≤ 1
-edge-top terms le table b e = edge-top-at (bytes_eq e.parent b.name) (block_of table e.child)
+edge-top terms le table b e = edge-top-cases (bytes_eq e.parent b.name) (block_of table e.child)
   where
-    edge-top-at : (c : Bool) (o : Option Block) → top_said (cond c (child_terms terms (edge_there e) b o) []) ≤ 1
-    edge-top-at true None = omega arith
-    edge-top-at true (Some child) = le (edge_there e) b child
-    edge-top-at false o = omega arith
+    edge-top-cases : (c : Bool) (o : Option Block) → top_said (cond c (child_terms terms (edge_there e) b o) []) ≤ 1
+    edge-top-cases true None = omega arith
+    edge-top-cases true (Some child) = le (edge_there e) b child
+    edge-top-cases false o = omega arith
 
 pub edges-top : (terms : Statement → Block → Block → List Weighted) → ((there : Statement) (a b : Block) → top_said (terms there a b) ≤ 1)
     → (table : Table) (b : Block) → top_said (edges_terms terms table b) ≤ length table.edges
@@ -105,10 +105,10 @@ edges-top terms le table b =
 
 pub passing-numbered : (test : Text → Bool) (m : ℕ) (xs : List Text) → length (passing test (numbered m xs)) ≡ length (filter test xs)
 passing-numbered test m [] = refl
-passing-numbered test m (x ∷ xs) = passing-numbered-at (passing-numbered test (m + 1) xs) (test x)
+passing-numbered test m (x ∷ xs) = passing-numbered-cases (passing-numbered test (m + 1) xs) (test x)
   where
-    passing-numbered-at : length (passing test (numbered (m + 1) xs)) ≡ length (filter test xs) → (b : Bool)
+    passing-numbered-cases : length (passing test (numbered (m + 1) xs)) ≡ length (filter test xs) → (b : Bool)
         → length (cond b ((x, lit_of m) ∷ passing test (numbered (m + 1) xs)) (passing test (numbered (m + 1) xs)))
         ≡ length (cond b (x ∷ filter test xs) (filter test xs))
-    passing-numbered-at rest true = omega arith
-    passing-numbered-at rest false = rest
+    passing-numbered-cases rest true = omega arith
+    passing-numbered-cases rest false = rest

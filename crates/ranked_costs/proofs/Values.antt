@@ -32,13 +32,13 @@ use Rattle.ranked_costs.proofs.Weights.{IsWithin, rows-in}
 
 length-insert : (texts : Texts) (text : Text) → length (with_text texts text) ≤ length texts + 1
 length-insert [] text = omega arith
-length-insert (x ∷ xs) text = length-insert-at (length-insert xs text) (byte_cmp text x)
+length-insert (x ∷ xs) text = length-insert-cases (length-insert xs text) (byte_cmp text x)
   where
-    length-insert-at : length (with_text xs text) ≤ length xs + 1 → (o : Ordering)
+    length-insert-cases : length (with_text xs text) ≤ length xs + 1 → (o : Ordering)
         → length (match_ordering o (text ∷ x ∷ xs) (x ∷ xs) (x ∷ with_text xs text)) ≤ length (x ∷ xs) + 1
-    length-insert-at rest Less = omega arith
-    length-insert-at rest Equal = omega arith
-    length-insert-at rest Greater = omega arith
+    length-insert-cases rest Less = omega arith
+    length-insert-cases rest Equal = omega arith
+    length-insert-cases rest Greater = omega arith
 
 pub texts-few : (texts words : Texts) → length (with_texts texts words) ≤ length texts + length words
 unfolding with_texts

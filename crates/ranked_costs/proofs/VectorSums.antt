@@ -71,11 +71,11 @@ module _ (problem : Problem) (t : Table) (held : Held) (order : List Text) (v : 
 
   module _ (says : (name : Text) (b : Block) → block_of t name ≡ Some b → map (eval v) (held name) ≡ holding name) where
     all-said : HoldSaid v problem filled g
-    all-said name = all-said-at (block_of t name) refl
+    all-said name = all-said-cases (block_of t name) refl
       where
-        all-said-at : (o : Option Block) → block_of t name ≡ o → map (eval v) (fill name o) ≡ holding name
-        all-said-at None e = fixed-all name (variants_at problem name)
-        all-said-at (Some b) e = says name b e
+        all-said-cases : (o : Option Block) → block_of t name ≡ o → map (eval v) (fill name o) ≡ holding name
+        all-said-cases None e = fixed-all name (variants_at problem name)
+        all-said-cases (Some b) e = says name b e
 
     agree : (name : Text) (b : Block) → block_of t name ≡ Some b → held b.name ≡ filled b.name
     agree name b e =

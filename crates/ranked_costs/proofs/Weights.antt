@@ -72,19 +72,19 @@ module _ (problem : Problem) (limits : IsWithin problem) where
   -- ---- weights
 
   pub deprecated-few : (name version : Text) → cond (is_deprecated problem name version) 1 0 ≤ 2 ^ 28
-  deprecated-few name version = deprecated-few-at (is_deprecated problem name version)
+  deprecated-few name version = deprecated-few-cases (is_deprecated problem name version)
     where
-      deprecated-few-at : (b : Bool) → cond b 1 0 ≤ 2 ^ 28
-      deprecated-few-at true = omega arith
-      deprecated-few-at false = omega arith
+      deprecated-few-cases : (b : Bool) → cond b 1 0 ≤ 2 ^ 28
+      deprecated-few-cases true = omega arith
+      deprecated-few-cases false = omega arith
 
   pub version-few : (name version : Text) → version_weight problem name version ≤ 2 ^ 28
   unfolding version_weight
-  version-few name version = version-few-at (listed_in (entry_of problem name)) (find (λ row. bytes_eq row.version version) (versions_at problem name))
+  version-few name version = version-few-cases (listed_in (entry_of problem name)) (find (λ row. bytes_eq row.version version) (versions_at problem name))
     where
-      version-few-at : (lists : List (List Range)) (o : Option VersionRow) → place_or_number lists (versions_at problem name) o ≤ 2 ^ 28
-      version-few-at lists None = versions-few name
-      version-few-at lists (Some row) =
+      version-few-cases : (lists : List (List Range)) (o : Option VersionRow) → place_or_number lists (versions_at problem name) o ≤ 2 ^ 28
+      version-few-cases lists None = versions-few name
+      version-few-cases lists (Some row) =
           omega (arith, versions-few name, count_by-le-length (λ other. is_lt (row_cmp lists other row)) (versions_at problem name))
 
   pub os-few : (name : Text) → os_weight problem name ≤ 2 ^ 28
@@ -99,12 +99,12 @@ module _ (problem : Problem) (limits : IsWithin problem) where
       omega (arith, limits.settings, place-le (λ entry. same_compiler entry.compiler compiler) problem.settings.compilers)
 
   pub provider-few : (p : Text × Text) → provider_weight problem p ≤ 2 ^ 24
-  provider-few p = provider-few-at (find (λ q. bytes_eq q.0 p.0) problem.settings.providers) refl
+  provider-few p = provider-few-cases (find (λ q. bytes_eq q.0 p.0) problem.settings.providers) refl
     where
-      provider-few-at : (o : Option (Text × List Text)) → find (λ q. bytes_eq q.0 p.0) problem.settings.providers ≡ o
+      provider-few-cases : (o : Option (Text × List Text)) → find (λ q. bytes_eq q.0 p.0) problem.settings.providers ≡ o
           → position_or_len (bytes_eq p.1) (packages_in o) ≤ 2 ^ 24
-      provider-few-at None is = omega arith
-      provider-few-at (Some q) is = omega (
+      provider-few-cases None is = omega arith
+      provider-few-cases (Some q) is = omega (
         arith,
         limits.settings,
         place-le (bytes_eq p.1) q.1,

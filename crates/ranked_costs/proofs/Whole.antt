@@ -49,11 +49,11 @@ module _ (problem : Problem) (limits : IsWithin problem) (names : List Text) (ri
 
   part-bounded : (built : Bool) (terms : Block → List Weighted) → Bounded problem limits names rising few n held terms → (name : Text)
       → top_said (part_terms built terms (block_of (Own problem names n) name)) ≤ Rows name * 2 ^ 29 + 2 ^ 52
-  part-bounded built terms le name = part-bounded-at (block_of (Own problem names n) name) refl
+  part-bounded built terms le name = part-bounded-cases (block_of (Own problem names n) name) refl
     where
-      part-bounded-at : (o : Option Block) → block_of (Own problem names n) name ≡ o → top_said (part_terms built terms o) ≤ Rows name * 2 ^ 29 + 2 ^ 52
-      part-bounded-at None is = omega arith
-      part-bounded-at (Some b) is =
+      part-bounded-cases : (o : Option Block) → block_of (Own problem names n) name ≡ o → top_said (part_terms built terms o) ≤ Rows name * 2 ^ 29 + 2 ^ 52
+      part-bounded-cases None is = omega arith
+      part-bounded-cases (Some b) is =
           let there = (found-there (λ (c : Block). eq_by_cmp byte_cmp c.name name) (Own problem names n).blocks b is).0 in
           let here = subst (λ key. top_said (terms b) ≤ Rows key * 2 ^ 29 + 2 ^ 52)
           (found-named name_of (Own problem names n).blocks name b is) (le b there) in

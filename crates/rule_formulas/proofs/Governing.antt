@@ -37,13 +37,13 @@ module _ (t : Table) (condition : Text → Condition → Statement) (name varian
 
   pub last-said : (rows : List VariantRow) → any_of (last_parts t condition name variant rows) ≡ in_words g (governing (filter (λ row. bytes_eq row.name variant) rows))
   last-said [] = refl
-  last-said (row ∷ rows) = last-said-at (bytes_eq row.name variant) (last-said rows)
+  last-said (row ∷ rows) = go (bytes_eq row.name variant) (last-said rows)
     where
-      last-said-at : (b : Bool) → any_of (last_parts t condition name variant rows) ≡ in_words g (governing (filter (λ row. bytes_eq row.name variant) rows))
+      go : (b : Bool) → any_of (last_parts t condition name variant rows) ≡ in_words g (governing (filter (λ row. bytes_eq row.name variant) rows))
           → any_of ((if b then governs_said t condition name variant row rows ∷ [] else []) ++ last_parts t condition name variant rows)
           ≡ in_words g (governing (if b then row ∷ filter (λ row. bytes_eq row.name variant) rows else filter (λ row. bytes_eq row.name variant) rows))
-      last-said-at true rest = rw (met-said rows, rest) refl
-      last-said-at false rest = rest
+      go true rest = rw (met-said rows, rest) refl
+      go false rest = rest
 
 last-case : (a b c d e f m : Statement) → a ≡ b → c ≡ d → e ≡ f → or (both (both (opposite a) m) c) e ≡ or (both (both (opposite b) m) d) f
 last-case a b c d e f m p q r = rw (p, q, r) refl

@@ -48,13 +48,13 @@ over-mapped f g (x ∷ xs) = ap (λ l. f (g x) ∷ l) (over-mapped f g xs)
 pub filter-mapped : {A B : Type 0} (f : B → Statement) (g : A → B) (p : B → Bool) (xs : List A)
     → map (λ x. f (g x)) (filter (λ x. p (g x)) xs) ≡ map f (filter p (map g xs))
 filter-mapped f g p [] = refl
-filter-mapped f g p (x ∷ xs) = filter-mapped-at (p (g x)) (filter-mapped f g p xs)
+filter-mapped f g p (x ∷ xs) = filter-mapped-cases (p (g x)) (filter-mapped f g p xs)
   where
-    filter-mapped-at : (b : Bool) → map (λ x. f (g x)) (filter (λ x. p (g x)) xs) ≡ map f (filter p (map g xs))
+    filter-mapped-cases : (b : Bool) → map (λ x. f (g x)) (filter (λ x. p (g x)) xs) ≡ map f (filter p (map g xs))
         → map (λ x. f (g x)) (if b then x ∷ filter (λ x. p (g x)) xs else filter (λ x. p (g x)) xs)
         ≡ map f (if b then g x ∷ filter p (map g xs) else filter p (map g xs))
-    filter-mapped-at true rest = ap (λ l. f (g x) ∷ l) rest
-    filter-mapped-at false rest = rest
+    filter-mapped-cases true rest = ap (λ l. f (g x) ∷ l) rest
+    filter-mapped-cases false rest = rest
 
 -- rules of what is known
 module _ (path : Text → Text → Statement) (condition : Text → Condition → Statement) (table : Table) where
@@ -109,14 +109,14 @@ module _ (path : Text → Text → Statement) (condition : Text → Condition �
 
   pub choice-known : (problem : Problem) (name : Text) (row : RequireRow)
       → choice_said path table (world_of problem) name row ≡ term_formula path condition table (choice_rule problem (names_for table) name row)
-  choice-known problem name row = choice-known-at row.one_of
+  choice-known problem name row = choice-known-cases row.one_of
     where
-      choice-known-at : (b : Bool) → (if b then rule_said path table (just_one (holds_rule (world_of problem) (names_for table) name) row.specs)
+      choice-known-cases : (b : Bool) → (if b then rule_said path table (just_one (holds_rule (world_of problem) (names_for table) name) row.specs)
           else rule_said path table (some (holds_rule (world_of problem) (names_for table) name) row.specs))
           ≡ in_words (term_said path condition table) (if b then just_one (λ spec. known_rule (holds_rule (world_of problem) (names_for table) name spec)) row.specs
           else some (λ spec. known_rule (holds_rule (world_of problem) (names_for table) name spec)) row.specs)
-      choice-known-at true = one-known (holds_rule (world_of problem) (names_for table) name) row.specs
-      choice-known-at false = some-known (holds_rule (world_of problem) (names_for table) name) row.specs
+      choice-known-cases true = one-known (holds_rule (world_of problem) (names_for table) name) row.specs
+      choice-known-cases false = some-known (holds_rule (world_of problem) (names_for table) name) row.specs
 
 module _ (path : Text → Text → Statement) (table : Table) (world : World) (name : Text) (row : RequireRow) where
   pub chosen-one : row.one_of ≡ true → rule_said path table (just_one (holds_rule world (names_for table) name) row.specs) ≡ choice_said path table world name row

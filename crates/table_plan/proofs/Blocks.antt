@@ -121,12 +121,12 @@ length-node_bits p o =
 module _ (v : ℕ → Bool) (n : ℕ) (p : Possible) (o : Option Node) (is : IsPossible p) (offers : (node : Node) → o ≡ Some node → Offers p node) where
   variants_case : (variants_of o ≡ []) ⊎ (IsInOrder byte_cmp (λ w. w.0) (variants_of o)
       × ((w : Text × List Text) → Contains (variants_of o) w → OffersVariant p.variants w))
-  variants_case = variants_case-at o offers
+  variants_case = variants_case-cases o offers
     where
-      variants_case-at : (r : Option Node) → ((node : Node) → r ≡ Some node → Offers p node) → (variants_of r ≡ [])
+      variants_case-cases : (r : Option Node) → ((node : Node) → r ≡ Some node → Offers p node) → (variants_of r ≡ [])
           ⊎ (IsInOrder byte_cmp (λ w. w.0) (variants_of r) × ((w : Text × List Text) → Contains (variants_of r) w → OffersVariant p.variants w))
-      variants_case-at None f = inl refl
-      variants_case-at (Some node) f = let has = f node refl in inr (has.variant_order, has.variants)
+      variants_case-cases None f = inl refl
+      variants_case-cases (Some node) f = let has = f node refl in inr (has.variant_order, has.variants)
 
   pub node_read : Reads v n (node_bits p o) → SpellsNode v (block_from n p) o
   unfolding block_from

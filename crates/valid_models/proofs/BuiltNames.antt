@@ -111,13 +111,13 @@ found-block : (problem : Problem) (names : List Text) (n : ℕ) (name : Text) (b
     → (k : ℕ) × (m : Text) × (block_from k (possible_at problem m) ≡ b)
 found-block problem [] n name b e = absurd (none-some b e)
 found-block problem (m ∷ ms) n name b e =
-    found-block-at (eq_by_cmp byte_cmp (name_of (block_from n (possible_at problem m))) name) e (found-block problem ms (n + width (possible_at problem m)) name b)
+    found-block-cases (eq_by_cmp byte_cmp (name_of (block_from n (possible_at problem m))) name) e (found-block problem ms (n + width (possible_at problem m)) name b)
   where
-    found-block-at : (d : Bool) → cond d (Some (block_from n (possible_at problem m))) (find_key byte_cmp name_of (blocks_from (n + width (possible_at problem m)) (map (possible_at problem) ms)) name) ≡ Some b
+    found-block-cases : (d : Bool) → cond d (Some (block_from n (possible_at problem m))) (find_key byte_cmp name_of (blocks_from (n + width (possible_at problem m)) (map (possible_at problem) ms)) name) ≡ Some b
         → (find_key byte_cmp name_of (blocks_from (n + width (possible_at problem m)) (map (possible_at problem) ms)) name ≡ Some b → (k : ℕ) × (m : Text) × (block_from k (possible_at problem m) ≡ b))
         → (k : ℕ) × (m : Text) × (block_from k (possible_at problem m) ≡ b)
-    found-block-at true is rest = let same : block_from n (possible_at problem m) ≡ b = cc in (n, m, same)
-    found-block-at false is rest = rest is
+    found-block-cases true is rest = let same : block_from n (possible_at problem m) ≡ b = cc in (n, m, same)
+    found-block-cases false is rest = rest is
 
 block-name : (problem : Problem) (k : ℕ) (m : Text) → name_of (block_from k (possible_at problem m)) ≡ m
 unfolding block_from possible_at

@@ -39,13 +39,13 @@ use Rattle.valid_models.specs.Joined.{HasBuiltVariants}
 any-offered : {T : Type 0} (v : ℕ → Bool) (p : T → Bool) (cs : Choices T) → list_any p (chosen v cs) ≡ true → list_any p (offered cs) ≡ true
 any-offered v p [] h = h
 any-offered v p (c ∷ cs) h = elim (cases_Bool (lit_true v c.1)) [
-  | inl t ↦ any-offered-at (p c.0) (list_any p (chosen v cs)) (list_any p (offered cs)) (any-offered v p cs) (rw t at h)
+  | inl t ↦ any-offered-cases (p c.0) (list_any p (chosen v cs)) (list_any p (offered cs)) (any-offered v p cs) (rw t at h)
   | inr f ↦ or_right (p c.0) (list_any p (offered cs)) (any-offered v p cs (rw f at h))
 ]
   where
-    any-offered-at : (a b c : Bool) → (b ≡ true → c ≡ true) → (a || b) ≡ true → (a || c) ≡ true
-    any-offered-at true b c f h = refl
-    any-offered-at false b c f h = f h
+    any-offered-cases : (a b c : Bool) → (b ≡ true → c ≡ true) → (a || b) ≡ true → (a || c) ≡ true
+    any-offered-cases true b c f h = refl
+    any-offered-cases false b c f h = f h
 
 all-among : (xs : List Text) → list_all (among xs) xs ≡ true
 all-among xs = list_all-from (among xs) xs (λ x there. among-In xs x there)
@@ -85,13 +85,13 @@ module _ (problem : Problem) (v : ℕ → Bool) (path : Text → Text → Statem
       rule-said v (term_said path condition table) (is_true (world_of problem) graph) term-said (where_built name (variants_rule problem (variants_of table name) name))
       ∙ by_node graph name (λ o. (not (is_some_and o is_built) || holds_here (variants_rule problem (variants_of table name) name))
       ≡ if_written o (λ node. implies (is_built node) (keeps_variant problem graph node)))
-      (λ node here. at-name-at node (is_built node) (at-node name node here))
+      (λ node here. at-name-cases node (is_built node) (at-node name node here))
       (λ absent. refl)
     where
-      at-name-at : (node : Node) (b : Bool) → (b ≡ true → holds_here (variants_rule problem (variants_of table name) name) ≡ keeps_variant problem graph node)
+      at-name-cases : (node : Node) (b : Bool) → (b ≡ true → holds_here (variants_rule problem (variants_of table name) name) ≡ keeps_variant problem graph node)
           → (not b || holds_here (variants_rule problem (variants_of table name) name)) ≡ implies b (keeps_variant problem graph node)
-      at-name-at node true h = h refl
-      at-name-at node false h = refl
+      at-name-cases node true h = h refl
+      at-name-cases node false h = refl
 
   pub all-built-variant : list_all (λ name. rule_says v path condition table (where_built name (variants_rule problem (variants_of table name) name))) (names_of table)
       ≡ keeps rules.Variant problem graph

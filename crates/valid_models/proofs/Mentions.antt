@@ -65,14 +65,14 @@ module _ (v : ℕ → Bool) (t : Table) (path other : PathFormulas) (told : Text
     )
 
     row-alike : (name virtual : Text) (wanted : Option (List Item)) (row : ProvideRow) → AllWords Alike (row_rule world name virtual wanted row)
-    row-alike name virtual wanted row = row-alike-at (bytes_eq row.name virtual && lists_overlap row.versions wanted)
+    row-alike name virtual wanted row = row-alike-cases (bytes_eq row.name virtual && lists_overlap row.versions wanted)
       where
-        row-alike-at : (b : Bool) → AllWords Alike (if b then tops_rule world name row.when.specs else nowhere)
-        row-alike-at true = (
+        row-alike-cases : (b : Bool) → AllWords Alike (if b then tops_rule world name row.when.specs else nowhere)
+        row-alike-cases true = (
           unless-all Alike (is_filled row.when.specs) (there_rule name) refl,
           each-all Alike (λ (spec : Spec). meets_rule world name spec.top) (λ spec. meets-alike name spec.top) row.when.specs,
         )
-        row-alike-at false = tt
+        row-alike-cases false = tt
 
     pub provides-alike : (name virtual : Text) (wanted : Option (List Item)) → AllWords Alike (provides_rule world name virtual wanted)
     unfolding provides_rule
@@ -81,18 +81,18 @@ module _ (v : ℕ → Bool) (t : Table) (path other : PathFormulas) (told : Text
 
     module _ (packages : Text → List Text) where
       pub asked-alike : (asked : Text) (rule : Text → Rule Word) → ((name : Text) → AllWords Alike (rule name)) → AllWords Alike (asked_rule world packages asked rule)
-      asked-alike asked rule h = asked-alike-at (is_virtual world.recipes asked)
+      asked-alike asked rule h = asked-alike-cases (is_virtual world.recipes asked)
         where
-          asked-alike-at : (b : Bool) → AllWords Alike (if b then some (λ name. fact (provides_as asked name) and rule name) (packages asked) else rule asked)
-          asked-alike-at true = some-all Alike (λ name. fact (provides_as asked name) and rule name) (λ name. (refl, h name)) (packages asked)
-          asked-alike-at false = h asked
+          asked-alike-cases : (b : Bool) → AllWords Alike (if b then some (λ name. fact (provides_as asked name) and rule name) (packages asked) else rule asked)
+          asked-alike-cases true = some-all Alike (λ name. fact (provides_as asked name) and rule name) (λ name. (refl, h name)) (packages asked)
+          asked-alike-cases false = h asked
 
       pub suits-alike : (part : Part) (asked name : Text) → AllWords Alike (suits_rule world part asked name)
-      suits-alike part asked name = suits-alike-at (is_virtual world.recipes asked)
+      suits-alike part asked name = suits-alike-cases (is_virtual world.recipes asked)
         where
-          suits-alike-at : (b : Bool) → AllWords Alike (if b then provides_rule world name asked part.versions and rest_rule world name part else meets_rule world name part)
-          suits-alike-at true = (provides-alike name asked part.versions, rest-alike name part)
-          suits-alike-at false = meets-alike name part
+          suits-alike-cases : (b : Bool) → AllWords Alike (if b then provides_rule world name asked part.versions and rest_rule world name part else meets_rule world name part)
+          suits-alike-cases true = (provides-alike name asked part.versions, rest-alike name part)
+          suits-alike-cases false = meets-alike name part
 
       -- paths to what is asked for
       below-rule : (from : Text) (part : Part) (asked : Text) (b : Bool)
@@ -105,12 +105,12 @@ module _ (v : ℕ → Bool) (t : Table) (path other : PathFormulas) (told : Text
       below-rule from part asked false e = (suits-alike part asked asked, same from asked (and_parts (told asked) true e).0)
 
       below-alike : (from : Text) (part : Part) → list_all told (asked_names world packages part.name) ≡ true → AllWords Alike (below_rule world packages from part)
-      below-alike from part e = below-alike-at part.name e
+      below-alike from part e = below-alike-cases part.name e
         where
-          below-alike-at : (o : Option Text) → list_all told (asked_names world packages o) ≡ true
+          below-alike-cases : (o : Option Text) → list_all told (asked_names world packages o) ≡ true
               → AllWords Alike (named o (λ asked. asked_rule world packages asked (λ name. suits_rule world part asked name and fact (has_path from name))))
-          below-alike-at None h = tt
-          below-alike-at (Some asked) h = below-rule from part asked (is_virtual world.recipes asked) h
+          below-alike-cases None h = tt
+          below-alike-cases (Some asked) h = below-rule from part asked (is_virtual world.recipes asked) h
 
       pub holds-alike : (name : Text) (spec : Spec) → list_all told (spec_names world packages spec) ≡ true → AllWords Alike (holds_rule world packages name spec)
       unfolding holds_rule

@@ -63,11 +63,11 @@ constant-is v false = refl
 
 -- a formula of a list says each
 all-said : {X : Type 0} (v : ℕ → Bool) (f : X → Statement) (xs : List X) → eval v (all_of (map f xs)) ≡ list_all (λ x. eval v (f x)) xs
-all-said v f xs = eval-all_of v (map f xs) ∙ all-said-at xs
+all-said v f xs = eval-all_of v (map f xs) ∙ all-said-cases xs
   where
-    all-said-at : (xs : List _) → all_eval v (map f xs) ≡ list_all (λ x. eval v (f x)) xs
-    all-said-at [] = refl
-    all-said-at (x ∷ xs) = rw (all-said-at xs) refl
+    all-said-cases : (xs : List _) → all_eval v (map f xs) ≡ list_all (λ x. eval v (f x)) xs
+    all-said-cases [] = refl
+    all-said-cases (x ∷ xs) = rw (all-said-cases xs) refl
 
 -- what two tests say of a list
 all-alike : {X : Type 0} (p q test : X → Bool) → ((x : X) → test x ≡ true → p x ≡ q x) → (xs : List X) → list_all test xs ≡ true → list_all p xs ≡ list_all q xs
@@ -133,11 +133,11 @@ module _ (problem : Problem) (t : Table) (told : Text → Bool) (all : list_all 
     same from to is = rw is refl
 
     exact-says : (from to : Text) → eval v (exact from to) ≡ reaches_in g from to
-    exact-says from to = exact-says-at (told to) refl
+    exact-says from to = exact-says-cases (told to) refl
       where
-        exact-says-at : (b : Bool) → told to ≡ b → eval v (if b then path from to else constant (reaches_in g from to)) ≡ reaches_in g from to
-        exact-says-at true is = paths from to is
-        exact-says-at false is = constant-is v (reaches_in g from to)
+        exact-says-cases : (b : Bool) → told to ≡ b → eval v (if b then path from to else constant (reaches_in g from to)) ≡ reaches_in g from to
+        exact-says-cases true is = paths from to is
+        exact-says-cases false is = constant-is v (reaches_in g from to)
 
     whole : SpellsPaths v exact t g
     whole = record { facts = spells; paths = exact-says }
@@ -164,18 +164,18 @@ module _ (problem : Problem) (t : Table) (told : Text → Bool) (all : list_all 
       cond_exact = condition_by problem t place exact met_by
 
       same-met : (name : Text) (when : Condition) → is_told_when when ≡ true → eval v (cond_path name when) ≡ eval v (cond_exact name when)
-      same-met name when e = same-met-at (place name when)
+      same-met name when e = same-met-cases (place name when)
         where
-          same-met-at : (o : Option ℕ) → eval v (placed_or met_by (condition_said problem t path name when) o) ≡ eval v (placed_or met_by (condition_said problem t exact name when) o)
-          same-met-at None = when-alike name when e
-          same-met-at (Some k) = refl
+          same-met-cases : (o : Option ℕ) → eval v (placed_or met_by (condition_said problem t path name when) o) ≡ eval v (placed_or met_by (condition_said problem t exact name when) o)
+          same-met-cases None = when-alike name when e
+          same-met-cases (Some k) = refl
 
       met-says : (name : Text) (when : Condition) → eval v (cond_exact name when) ≡ all_hold (world_of problem) when g name
-      met-says name when = met-says-at (place name when) refl
+      met-says name when = met-says-cases (place name when) refl
         where
-          met-says-at : (o : Option ℕ) → place name when ≡ o → eval v (placed_or met_by (condition_said problem t exact name when) o) ≡ all_hold (world_of problem) when g name
-          met-says-at None at = when-says name when
-          met-says-at (Some k) at = conds k ∙ ap (λ c. condition_holds problem c g) (placed name when k at)
+          met-says-cases : (o : Option ℕ) → place name when ≡ o → eval v (placed_or met_by (condition_said problem t exact name when) o) ≡ all_hold (world_of problem) when g name
+          met-says-cases None at = when-says name when
+          met-says-cases (Some k) at = conds k ∙ ap (λ c. condition_holds problem c g) (placed name when k at)
 
       spelled : SpellsProblem problem v exact cond_exact t g
       spelled = record { whole = whole; conditions = met-says; is_table = table; is_graph = formed.is_graph }
@@ -251,13 +251,13 @@ module _ (problem : Problem) (t : Table) (told : Text → Bool) (all : list_all 
       roots-alike (spec ∷ specs) e (suc k) = roots-alike specs (and_parts _ _ e).1 k
 
       directive-alike : (name : Text) (rule : Rule Term) → (is_told_name name ≡ true → AllWords T rule) → says_path (where_built name rule) ≡ says_exact (where_built name rule)
-      directive-alike name rule h = directive-alike-at (block_of t name) refl
+      directive-alike name rule h = directive-alike-cases (block_of t name) refl
         where
-          directive-alike-at : (o : Option Block) → block_of t name ≡ o → says_path (where_built name rule) ≡ says_exact (where_built name rule)
-          directive-alike-at None at =
+          directive-alike-cases : (o : Option Block) → block_of t name ≡ o → says_path (where_built name rule) ≡ says_exact (where_built name rule)
+          directive-alike-cases None at =
               subst (λ o. eval v (implies (said_in (λ b. fact_said b (has_origin builds)) o) (term_formula path cond_path t rule))
               ≡ eval v (implies (said_in (λ b. fact_said b (has_origin builds)) o) (term_formula exact cond_exact t rule))) (sym at) refl
-          directive-alike-at (Some b) at = alike (where_built name rule) (refl, h (found-passes is_told_name t.blocks name b told-names at))
+          directive-alike-cases (Some b) at = alike (where_built name rule) (refl, h (found-passes is_told_name t.blocks name b told-names at))
 
       -- of a name that the table does not have both say nothing
       named-alike : (name : Text) (number : ℕ) (b : Bool) → says_path (if b then where_built name (directive_rule problem (names_for t) number name) else given true)
@@ -281,11 +281,11 @@ module _ (problem : Problem) (t : Table) (n : ℕ) (words : WordsBelow n t) (m :
   module _ (place : Places) (met_by : ℕ → Statement) (mets : MetBelow m met_by) where
     term-below : (w : Term) → SaidBelow m (term_said path (condition_by problem t place path met_by) t w)
     term-below (known rule) = rule-below m (word_said path t) (words m path le paths) rule
-    term-below (met name when) = term-below-at (place name when)
+    term-below (met name when) = term-below-cases (place name when)
       where
-        term-below-at : (o : Option ℕ) → SaidBelow m (placed_or met_by (condition_said problem t path name when) o)
-        term-below-at None = when-below name when
-        term-below-at (Some k) = mets k
+        term-below-cases : (o : Option ℕ) → SaidBelow m (placed_or met_by (condition_said problem t path name when) o)
+        term-below-cases None = when-below name when
+        term-below-cases (Some k) = mets k
 
     formula-below : (rule : Rule Term) → SaidBelow m (term_formula path (condition_by problem t place path met_by) t rule)
     formula-below rule = rule-below m (term_said path (condition_by problem t place path met_by) t) term-below rule
