@@ -23,28 +23,28 @@ use word_formulas::{MetConditions, asks_formula, has_edge};
 
 /// What an edge is for.
 #[derive(Clone, Copy)]
-enum Kind {
+enum EdgeKind {
     Build,
     Link,
     Run,
 }
 
 // The kind alone.
-fn kinds_of(kind: Kind) -> Kinds
+fn kinds_of(kind: EdgeKind) -> Kinds
     ensures { result ≡ kinds_of kind }
 {
     match kind {
-        Kind::Build => Kinds {
+        EdgeKind::Build => Kinds {
             build: true,
             link: false,
             run: false,
         },
-        Kind::Link => Kinds {
+        EdgeKind::Link => Kinds {
             build: false,
             link: true,
             run: false,
         },
-        Kind::Run => Kinds {
+        EdgeKind::Run => Kinds {
             build: false,
             link: false,
             run: true,
@@ -52,13 +52,13 @@ fn kinds_of(kind: Kind) -> Kinds
     }
 }
 
-fn has(kind: Kind, kinds: &Kinds) -> bool
+fn has(kind: EdgeKind, kinds: &Kinds) -> bool
     ensures { result ≡ has_of kind kinds.now }
 {
     match kind {
-        Kind::Build => kinds.build,
-        Kind::Link => kinds.link,
-        Kind::Run => kinds.run,
+        EdgeKind::Build => kinds.build,
+        EdgeKind::Link => kinds.link,
+        EdgeKind::Run => kinds.run,
     }
 }
 
@@ -93,7 +93,7 @@ fn may_ask(problem: &Problem, table: &LiteralTable, child: &str, row: &DependRow
 fn may_ask_as(
     problem: &Problem,
     table: &LiteralTable,
-    kind: Kind,
+    kind: EdgeKind,
     child: &str,
     row: &DependRow,
 ) -> bool
@@ -126,7 +126,7 @@ fn asking_formula<C: MetConditions>(
     problem: &Problem,
     table: &LiteralTable,
     conditions: &C,
-    kind: Kind,
+    kind: EdgeKind,
     name: &str,
     child: &str,
 ) -> Result<Formula, AllocError>
@@ -149,7 +149,7 @@ fn kind_formula<C: MetConditions>(
     problem: &Problem,
     table: &LiteralTable,
     conditions: &C,
-    kind: Kind,
+    kind: EdgeKind,
     name: &str,
     child: &str,
 ) -> Result<Formula, AllocError>
@@ -174,9 +174,9 @@ fn extra_edge_formula<C: MetConditions>(
     ensures { IfOk result (λ formula. formula ≡ plain_term table.now (C.condition_of conditions.now)
         (extra_edge_rule problem.now (names_for table.now) name.now child.now)) }
 {
-    let build = kind_formula(alloc, problem, table, conditions, Kind::Build, name, child)?;
-    let link = kind_formula(alloc, problem, table, conditions, Kind::Link, name, child)?;
-    let run = kind_formula(alloc, problem, table, conditions, Kind::Run, name, child)?;
+    let build = kind_formula(alloc, problem, table, conditions, EdgeKind::Build, name, child)?;
+    let link = kind_formula(alloc, problem, table, conditions, EdgeKind::Link, name, child)?;
+    let run = kind_formula(alloc, problem, table, conditions, EdgeKind::Run, name, child)?;
     let most = Formula::both(alloc, build, link)?;
     Formula::both(alloc, most, run)
 }
