@@ -7,7 +7,8 @@ use Rattle.literal_table.specs.Choices.{Choices, any_choice}
 use Rattle.cost_terms.specs.declared.weighted.Weighted.{Weighted}
 use Rattle.cost_terms.specs.Spread.{weighed, is_odd, half_of, digit_terms}
 
-doubled : (unit k : ℕ) → 2 * unit * 2 ^ k ≡ unit * 2 ^ suc k
+-- twice the unit, one digit less
+pub doubled : (unit k : ℕ) → 2 * unit * 2 ^ k ≡ unit * 2 ^ suc k
 doubled unit k = rw (mul_comm 2 unit) (mul_assoc unit 2 (2 ^ k) ∙ ap (λ p. unit * p) (mul_comm 2 (2 ^ k) ∙ sym (pow-suc 2 k)))
 
 at-least-one : (k : ℕ) → 1 ≤ 2 ^ k

@@ -218,7 +218,8 @@ all-picked f p (n ∷ names) = elim (cases_Bool (bytes_eq p n)) [
     absorb true false = refl
     absorb false b = refl
 
-all-true : {T : Type 0} (xs : List T) → list_all (λ x. true) xs ≡ true
+-- nothing is asked of the elements
+pub all-true : {T : Type 0} (xs : List T) → list_all (λ x. true) xs ≡ true
 all-true [] = refl
 all-true (x ∷ xs) = all-true xs
 

@@ -77,7 +77,8 @@ edge-child : (graph : Content) (parent child : Text) (e : Edge) → edge_of grap
 edge-child graph parent child e here = ap (λ p. p.1) (found-ends ends_of graph.edges parent child e here).1
 
 -- each of a list is among it
-all-among : (xs : List Text) → list_all (among xs) xs ≡ true
+-- each text of a list is among them
+pub all-among : (xs : List Text) → list_all (among xs) xs ≡ true
 all-among xs = list_all-from (among xs) xs (λ x there. among-In xs x there)
 
 one-more : {T : Type 0} (x y : T) (ys zs : List T) → (In x ys → In x zs) → In x (y ∷ ys) → In x (y ∷ zs)

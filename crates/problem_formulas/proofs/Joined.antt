@@ -4,6 +4,7 @@ use Rattle.std.specs.List.{flat_map}
 use Rattle.std.proofs.lemmas.List.{append_assoc, map-append}
 use Rattle.std.proofs.lemmas.List.Folds.{flat_map-map}
 use Rattle.std.proofs.lemmas.Grind.{flat_map-append}
+use Rattle.std.proofs.lemmas.Simd.{map-map}
 use Rattle.clause_formulas.specs.Statements.{Statement}
 use Rattle.spec_grammar.specs.declared.part.Spec.{Spec}
 use Rattle.graph_core.specs.Graphs.{Text}
@@ -30,10 +31,6 @@ flat-flat : {X Y Z : Type 0} (g : Y → List Z) (f : X → List Y) (xs : List X)
 flat-flat g f [] = refl
 flat-flat g f (x ∷ xs) = flat_map-append g (f x) (flat_map f xs) ∙ ap (λ zs. flat_map g (f x) ++ zs) (flat-flat g f xs)
 
-mapped : {X Y Z : Type 0} (g : Y → Z) (f : X → Y) (xs : List X) → map g (map f xs) ≡ map (λ x. g (f x)) xs
-mapped g f [] = refl
-mapped g f (x ∷ xs) = ap (λ zs. g (f x) ∷ zs) (mapped g f xs)
-
 module _ (problem : Problem) where
   abbrev when-lists : {Z : Type 0} → (Condition → Z) → Text → List Z
   when-lists g name =
@@ -47,13 +44,13 @@ module _ (problem : Problem) where
       ∙ ap (λ zs. map g (map (λ row. row.when) (variants_at problem name)) ++ zs) (map-append g (map (λ row. row.when) (depends_at problem name)) _
       ∙ ap (λ zs. map g (map (λ row. row.when) (depends_at problem name)) ++ zs) (map-append g (map (λ row. row.when) (conflicts_at problem name)) _))
       ∙ ap (λ zs. zs ++ (map g (map (λ row. row.when) (depends_at problem name)) ++ (map g (map (λ row. row.when) (conflicts_at problem name))
-      ++ map g (map (λ row. row.when) (requirements_at problem name))))) (mapped g (λ row. row.when) (variants_at problem name))
+      ++ map g (map (λ row. row.when) (requirements_at problem name))))) (map-map g (λ row. row.when) (variants_at problem name))
       ∙ ap (λ zs. map (λ row. g row.when) (variants_at problem name) ++ (zs ++ (map g (map (λ row. row.when) (conflicts_at problem name))
-      ++ map g (map (λ row. row.when) (requirements_at problem name))))) (mapped g (λ row. row.when) (depends_at problem name))
+      ++ map g (map (λ row. row.when) (requirements_at problem name))))) (map-map g (λ row. row.when) (depends_at problem name))
       ∙ ap (λ zs. map (λ row. g row.when) (variants_at problem name) ++ (map (λ row. g row.when) (depends_at problem name) ++ (zs
-      ++ map g (map (λ row. row.when) (requirements_at problem name))))) (mapped g (λ row. row.when) (conflicts_at problem name))
+      ++ map g (map (λ row. row.when) (requirements_at problem name))))) (map-map g (λ row. row.when) (conflicts_at problem name))
       ∙ ap (λ zs. map (λ row. g row.when) (variants_at problem name) ++ (map (λ row. g row.when) (depends_at problem name)
-      ++ (map (λ row. g row.when) (conflicts_at problem name) ++ zs))) (mapped g (λ row. row.when) (requirements_at problem name)))
+      ++ (map (λ row. g row.when) (conflicts_at problem name) ++ zs))) (map-map g (λ row. row.when) (requirements_at problem name)))
 
 -- ---- formulas
 
@@ -73,7 +70,7 @@ module _ (problem : Problem) (t : Table) (path : PathFormulas) where
       ap (λ zs. formulas_at problem t path b.name ++ zs) (all-formulas bs)
       ∙ ap (λ zs. zs ++ map (λ (c : Text × Condition). condition_said problem t path c.0 c.1)
       (flat_map (λ name. map (λ when. (name, when)) (conditions_at problem name)) (map name_of bs)))
-      (sym (mapped (λ (c : Text × Condition). condition_said problem t path c.0 c.1) (λ when. (b.name, when)) (conditions_at problem b.name)))
+      (sym (map-map (λ (c : Text × Condition). condition_said problem t path c.0 c.1) (λ when. (b.name, when)) (conditions_at problem b.name)))
       ∙ sym (map-append (λ (c : Text × Condition). condition_said problem t path c.0 c.1) (map (λ when. (b.name, when)) (conditions_at problem b.name)) _)
 
 -- ---- targets

@@ -1,8 +1,7 @@
 -- What the terms of choices add up to.
 use Prim.Native.Nat.{suc, zero}
-use Rattle.std.proofs.Common.{◌≡◌, refl, sym, ap, ◌∙◌, ℕ, ◌+◌, ◌*◌, ◌/◌, ◌^◌, ◌<◌, ◌≤◌, Bool, true, false, cond, List, [], ◌∷◌, map, eqb, ◌⊎◌, inl, inr, ⊎_elim, arith, pow-suc}
+use Rattle.std.proofs.Common.{◌≡◌, refl, ap, ◌∙◌, ℕ, ◌+◌, ◌*◌, ◌/◌, ◌^◌, ◌<◌, ◌≤◌, Bool, true, false, cond, List, [], ◌∷◌, map, eqb, ◌⊎◌, inl, inr, ⊎_elim, arith, pow-suc}
 use Rattle.std.specs.List.{list_all, list_any}
-use Rattle.std.proofs.Math.Nat.{mul_comm, mul_assoc}
 use Rattle.std.proofs.lemmas.Bool.{cases_eq, eqb-true, eqb-false, lt-ltb}
 use Rattle.std.proofs.lemmas.List.Sums.{sum_by-cons}
 use Rattle.clause_circuits.specs.Binary.{size, size_below}
@@ -14,11 +13,9 @@ use Rattle.cost_terms.specs.Spread.{weighed, is_odd, half_of, digit_terms, great
 use Rattle.cost_terms.specs.Parts.{part_said, only_where, is_of, in_part}
 use Rattle.cost_terms.specs.Terms.{weight_terms}
 use Rattle.cost_terms.proofs.Lists.{sum-map}
+use Rattle.cost_terms.proofs.DigitSteps.{doubled}
 
 -- ---- digits
-
-doubled : (unit k : ℕ) → 2 * unit * 2 ^ k ≡ unit * 2 ^ suc k
-doubled unit k = rw (mul_comm 2 unit) (mul_assoc unit 2 (2 ^ k) ∙ ap (λ p. unit * p) (mul_comm 2 (2 ^ k) ∙ sym (pow-suc 2 k)))
 
 -- so many digits spell less than the next
 digits-top : (k unit : ℕ) (choices : Choices ℕ) → top_said (digit_terms k unit choices) + unit ≡ unit * 2 ^ k

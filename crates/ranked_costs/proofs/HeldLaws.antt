@@ -7,6 +7,7 @@ use Rattle.std.proofs.Math.Seq.{take-append_seam, drop-append_seam}
 use Rattle.std.proofs.lemmas.Bool.{false≢true}
 use Rattle.std.proofs.lemmas.List.{map-append, length-map, take-map, drop-map}
 use Rattle.std.proofs.lemmas.List.Concat.{flat_map-cons}
+use Rattle.std.proofs.lemmas.Simd.{map-map}
 use Rattle.clause_store.specs.Clauses.{Clauses}
 use Rattle.clause_formulas.specs.Statements.{Statement, eval}
 use Rattle.clause_formulas.specs.declared.defined.Defined.{Defined}
@@ -28,10 +29,6 @@ use Rattle.ranked_costs.specs.Given.{passed, held_from}
 pub as-many : (s : Gated) (fs : List Statement) → length (define_all_in s fs).answer ≡ length fs
 as-many s [] = refl
 as-many s (f ∷ fs) = ap (λ k. suc k) (as-many (define_in s f).state fs)
-
-map-twice : {X Y Z : Type 0} (f : Y → Z) (g : X → Y) (xs : List X) → map f (map g xs) ≡ map (λ x. f (g x)) xs
-map-twice f g [] = refl
-map-twice f g (x ∷ xs) = ap (λ ys. f (g x) ∷ ys) (map-twice f g xs)
 
 seam-take : (k : ℕ) (xs ys : List Bool) → length xs ≡ k → take k (xs ++ ys) ≡ xs
 seam-take k xs ys e = ap (λ j. take j (xs ++ ys)) (sym e) ∙ take-append_seam xs ys
@@ -88,7 +85,7 @@ module _ (v : ℕ → Bool) (problem : Problem) (graph : Content) where
       first-are =
           sym (take-map said (length (variants_at problem name)) values) ∙ ap (take (length (variants_at problem name))) (e ∙ parts rest)
           ∙ seam-take (length (variants_at problem name)) variants _ (length-map _ _ ∙ length-map (variants_at problem name) _)
-          ∙ map-twice _ _ (variants_at problem name)
+          ∙ map-map _ _ (variants_at problem name)
 
       rest-is : map said (passed problem name values) ≡ rest
       rest-is =
@@ -114,7 +111,7 @@ module _ (v : ℕ → Bool) (problem : Problem) (graph : Content) where
       let split : map said values ≡ tests n (conditions_at problem n) ++ map tested (listed ns) =
       e ∙ ap (map tested) (flat_map-cons (λ name. map (λ when. (name, when)) (conditions_at problem name)) n ns)
       ∙ map-append tested (map (λ when. (n, when)) (conditions_at problem n)) (listed ns)
-      ∙ ap (λ xs. xs ++ map tested (listed ns)) (map-twice tested (λ when. (n, when)) (conditions_at problem n)) in
+      ∙ ap (λ xs. xs ++ map tested (listed ns)) (map-map tested (λ when. (n, when)) (conditions_at problem n)) in
       held-says-cases (bytes_eq name n) refl split there
       (held-says ns (passed problem n values) name (rest-is n values (map tested (listed ns)) split))
     where
@@ -129,7 +126,7 @@ module _ (v : ℕ → Bool) (problem : Problem) (graph : Content) where
           (find (λ h. bytes_eq name h.0) (held_from problem ns (passed problem n values)))))) in
           ap shape is ∙ subst (λ m. map (eval v) (map said_of (take (length (variants_at problem n)) values))
           ≡ map (λ row. all_hold (world_of problem) row.when graph m) (variants_at problem m)) (sym (bytes_eq-same name n is))
-          (map-twice (eval v) said_of (take (length (variants_at problem n)) values) ∙ first-are n values (map tested (listed ns)) split)
+          (map-map (eval v) said_of (take (length (variants_at problem n)) values) ∙ first-are n values (map tested (listed ns)) split)
       held-says-cases false is split there later =
           let shape : Bool → List Bool = λ b. map (eval v) (map said_of (defined_in (cond b (Some (n, take (length (variants_at problem n)) values))
           (find (λ h. bytes_eq name h.0) (held_from problem ns (passed problem n values)))))) in

@@ -174,9 +174,33 @@ fn extra_edge_formula<C: MetConditions>(
     ensures { IfOk result (λ formula. formula ≡ plain_term table.now (C.condition_of conditions.now)
         (extra_edge_rule problem.now (names_for table.now) name.now child.now)) }
 {
-    let build = kind_formula(alloc, problem, table, conditions, EdgeKind::Build, name, child)?;
-    let link = kind_formula(alloc, problem, table, conditions, EdgeKind::Link, name, child)?;
-    let run = kind_formula(alloc, problem, table, conditions, EdgeKind::Run, name, child)?;
+    let build = kind_formula(
+        alloc,
+        problem,
+        table,
+        conditions,
+        EdgeKind::Build,
+        name,
+        child,
+    )?;
+    let link = kind_formula(
+        alloc,
+        problem,
+        table,
+        conditions,
+        EdgeKind::Link,
+        name,
+        child,
+    )?;
+    let run = kind_formula(
+        alloc,
+        problem,
+        table,
+        conditions,
+        EdgeKind::Run,
+        name,
+        child,
+    )?;
     let most = Formula::both(alloc, build, link)?;
     Formula::both(alloc, most, run)
 }

@@ -2,8 +2,7 @@
 use Rattle.std.proofs.Common.{◌≡◌, refl, sym, ap, subst, ◌∙◌, ℕ, ◌+◌, ◌*◌, ◌<◌, ◌≤◌, Bool, true, false, ◌||◌, cond, List, [], ◌∷◌, ◌++◌, map, filter, length, Option, Some, None, Contains, All, ◌⊎◌, inl, inr, ⊎_elim, arith}
 use Rattle.std.specs.Option.{option_map, option_to_list, is_some}
 use Rattle.std.specs.Ordering.{eq_by_cmp, is_eq}
-use Rattle.std.specs.declared.cmp.Ordering.{Ordering}
-use Rattle.std.specs.declared.cmp.Ordering.TheVariants.{Less, Equal, Greater}
+use Rattle.std.specs.declared.cmp.Ordering.TheVariants.{Less, Equal}
 use Rattle.std.specs.Str.{bytes_eq}
 use Rattle.std.specs.Cmp.{tied_itself}
 use Rattle.std.specs.Cmp.Lexicographic.{bytes_decides, nat_list_cmp_total}
@@ -23,12 +22,12 @@ use Rattle.graph_core.specs.declared.node.Edge.{Edge}
 use Rattle.graph_core.specs.declared.node.Kinds.{Kinds}
 use Rattle.condition_rules.specs.Words.{is_some_and}
 use Rattle.problem.specs.Nodes.{has_kind}
-use Rattle.possible_closure.proofs.Lists.{found-there}
 use Rattle.literal_table.specs.Choices.{Choices, chosen}
 use Rattle.literal_table.specs.Tables.{Table, IsTable, AreVariantsInOrder, name_of, ends_of, virtual_of, block_of, edge_lits_of, packages_of, packages_in}
 use Rattle.literal_table.specs.Spells.{SpellsNode, SpellsAt, SpellsEdge, Spells, chosen_kinds, with_kind}
 use Rattle.literal_table.specs.declared.block.Block.{Block}
 use Rattle.literal_table.specs.declared.block.EdgeLits.{EdgeLits}
+use Rattle.literal_table.proofs.Spelling.{named-so}
 use Rattle.table_plan.specs.Gathering.{EachOnce}
 use Rattle.table_plan.specs.Offers.{Offers, IsOffered, IsPossible, IsPlan}
 use Rattle.table_plan.specs.declared.plan.Possible.{Possible}
@@ -39,6 +38,7 @@ use Rattle.table_plan.specs.Spellings.{node_bits, nodes_bits, edge_bits, edges_b
 use Rattle.table_plan.proofs.ReadLaws.{Reads, reads_parts, reads_bits, bits_before, bits_after}
 use Rattle.table_plan.proofs.Choices.{numbered_reads, nothing_kept}
 use Rattle.table_plan.proofs.Blocks.{length-node_bits, block_ordered, block_named, node_read}
+use Rattle.table_plan.proofs.PlanLaws.{ties}
 
 -- ---- lengths
 
@@ -86,11 +86,6 @@ length-graph_bits plan graph = omega (
 
 -- ---- small facts
 
-ties : (o : Ordering) → is_eq o ≡ true → o ≡ Equal
-ties Less h = absurd cc
-ties Equal h = refl
-ties Greater h = absurd cc
-
 apart : (a b : Text) → byte_cmp a b ≡ Less → a ≡ b → ⊥
 apart a b less e = let both : Less ≡ Equal = sym less ∙ ap (byte_cmp a) (sym e) ∙ tied_itself nat_list_cmp_total a in cc
 
@@ -102,10 +97,6 @@ texts_once (x ∷ xs) rising =
 nothing_there : {X : Type 0} (o : Option X) → ((x : X) → o ≡ Some x → ⊥) → o ≡ None
 nothing_there None f = refl
 nothing_there (Some x) f = absurd (f x refl)
-
-node_named : (graph : Content) (name : Text) (node : Node) → node_of graph name ≡ Some node → node.name ≡ name
-node_named graph name node e =
-    (texts_decide node.name name).0 (found-there (λ (n : Node). eq_by_cmp byte_cmp n.name name) graph.nodes node e).1
 
 -- ---- nodes, edges and providers
 
@@ -218,7 +209,7 @@ module _ (n : ℕ) (plan : Plan) (graph : Content) (is : IsPlan plan) (has : IsO
       record {
         nodes = λ name. nodes_read v graph n plan.nodes is.nodes is.possible nodes.0 name (λ node e.
             let at = has.nodes name node e in
-            (at.0, at.1, sym at.2.name ∙ node_named graph name node e, at.2));
+            (at.0, at.1, sym at.2.name ∙ named-so graph name node e, at.2));
         edges = λ parent child. edges_read v graph (n + widths plan.nodes) plan.edges edges.0 parent child (has.edges parent child);
         providers = λ name. providers_read v graph (n + widths plan.nodes + 3 * length plan.edges) plan.providers is.providers is.packages last name
             (has.providers name);

@@ -1,5 +1,5 @@
 -- The rule of variants, where the table has all variants of the names that it offers to build.
-use Rattle.std.proofs.Common.{◌≡◌, refl, sym, ap, subst, ◌∙◌, Bool, true, false, not, ◌||◌, ℕ, List, [], ◌∷◌, map, Option, Some, None, inl, inr}
+use Rattle.std.proofs.Common.{◌≡◌, refl, sym, ap, subst, ◌∙◌, Bool, true, false, not, ◌||◌, ℕ, [], ◌∷◌, map, Option, Some, None, inl, inr}
 use Rattle.std.specs.List.{list_all, list_any}
 use Rattle.std.proofs.lemmas.Bool.{cases_Bool, or_left, or_right}
 use Rattle.clause_store.specs.Lits.{lit_true}
@@ -16,7 +16,7 @@ use Rattle.problem.specs.Problems.{Problem, world_of, variants_at}
 use Rattle.graph_rules.specs.Built.{keeps_variant}
 use Rattle.graph_rules.specs.Valid.{keeps}
 use Rattle.graph_rules.specs.declared.rule.Rule.TheVariants as rules
-use Rattle.graph_rules.proofs.Lists.{In, list_all-from}
+use Rattle.graph_rules.proofs.Lists.{In}
 use Rattle.literal_table.specs.Choices.{Choices, chosen, offered}
 use Rattle.literal_table.specs.Tables.{Table, block_of, names_of}
 use Rattle.literal_table.specs.Spells.{SpellsNode, SpellsAt}
@@ -32,7 +32,8 @@ use Rattle.graph_formulas.specs.Variants.{variant_rule, variants_rule, keeps_one
 use Rattle.graph_formulas.specs.Laws.{SpellsProblem, rule_says, variants_in, variants_of}
 use Rattle.graph_formulas.proofs.Names.{all-same, each-node-said}
 use Rattle.graph_formulas.proofs.VariantRule.{variant-kept}
-use Rattle.graph_formulas.proofs.AllVariants.{spelled-variants, among-In}
+use Rattle.graph_formulas.proofs.AllVariants.{spelled-variants}
+use Rattle.graph_formulas.proofs.RulesSaid.{all-among}
 use Rattle.valid_models.specs.Joined.{HasBuiltVariants}
 
 -- what is chosen is offered
@@ -46,9 +47,6 @@ any-offered v p (c ∷ cs) h = elim (cases_Bool (lit_true v c.1)) [
     any-offered-cases : (a b c : Bool) → (b ≡ true → c ≡ true) → (a || b) ≡ true → (a || c) ≡ true
     any-offered-cases true b c f h = refl
     any-offered-cases false b c f h = f h
-
-all-among : (xs : List Text) → list_all (among xs) xs ≡ true
-all-among xs = list_all-from (among xs) xs (λ x there. among-In xs x there)
 
 module _ (problem : Problem) (v : ℕ → Bool) (path : Text → Text → Statement) (condition : Text → Condition → Statement) (table : Table) (graph : Content)
     (s : SpellsProblem problem v path condition table graph) (has : HasBuiltVariants problem table) where

@@ -25,15 +25,12 @@ use Rattle.literal_table.specs.declared.block.Block.{Block}
 use Rattle.literal_table.specs.declared.block.EdgeLits.{EdgeLits}
 use Rattle.literal_table.specs.declared.block.ProviderLits.{ProviderLits}
 use Rattle.graph_decoding.specs.Structure.{value_lits, kind_lits}
+use Rattle.graph_decoding.proofs.LocalLaws.{below-parts}
 use Rattle.literal_table.specs.Ranges.{AreBelow, IsBlockBelow, IsTableBelow}
 use Rattle.graph_formulas.specs.Facts as facts
 use Rattle.graph_formulas.specs.Facts.{Word, Fact, Variants, just_parts, some_parts, variant_parts, fact_said, said_in, kind_parts, edge_said, word_said, node_has, provides_as, has_edge, has_path}
 use Rattle.graph_encoding.specs.Formulas.{PathFormulas, PathsBelow}
 use Rattle.valid_models.specs.Joined.{WordsBelow}
-
-below-parts : (m : ℕ) (ls ks : List Lit) → AllBelow m (ls ++ ks) → AllBelow m ls × AllBelow m ks
-below-parts m [] ks h = (tt, h)
-below-parts m (l ∷ ls) ks h = let r = below-parts m ls ks h.1 in ((h.0, r.0), r.1)
 
 -- ---- choices
 

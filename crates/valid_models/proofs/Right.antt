@@ -40,6 +40,7 @@ use Rattle.graph_formulas.specs.Kept.{kept_rule, origins_of}
 use Rattle.graph_formulas.specs.Demands.{demand_rule, directive_rule}
 use Rattle.graph_formulas.specs.Laws.{SpellsProblem, term_formula, rule_says, has_name, virtuals_of, variants_of}
 use Rattle.graph_formulas.proofs.RulesSaid.{demand-said, all-buildable, all-version, all-compiler, all-machine, all-extra_edge, all-kept, all-provider, all-used}
+use Rattle.graph_formulas.proofs.Edges.{all-true}
 use Rattle.literal_table.specs.Ranges.{IsTableBelow}
 use Rattle.graph_encoding.specs.Formulas.{PathFormulas, PathsTold, ConditionsTold, PathsBelow, MetBelow, AreRightFormulas, other_rules, part_of}
 use Rattle.graph_encoding.specs.Encodings.{told_in}
@@ -73,10 +74,6 @@ all-said v f xs = eval-all_of v (map f xs) ∙ all-said-cases xs
 all-alike : {X : Type 0} (p q test : X → Bool) → ((x : X) → test x ≡ true → p x ≡ q x) → (xs : List X) → list_all test xs ≡ true → list_all p xs ≡ list_all q xs
 all-alike p q test same [] e = refl
 all-alike p q test same (x ∷ xs) e = let h = and_parts (test x) (list_all test xs) e in rw (same x h.0, all-alike p q test same xs h.1) refl
-
-always : {X : Type 0} (xs : List X) → list_all (λ x. true) xs ≡ true
-always [] = refl
-always (x ∷ xs) = always xs
 
 all-from : {X : Type 0} (p q : X → Bool) → ((x : X) → p x ≡ true → q x ≡ true) → (xs : List X) → list_all p xs ≡ true → list_all q xs ≡ true
 all-from p q h [] e = refl
@@ -205,7 +202,7 @@ module _ (problem : Problem) (t : Table) (told : Text → Bool) (all : list_all 
       -- at all names
       row-free : (rule : Text → Rule Term) → ((name : Text) → AllWords T (rule name)) → (names : List Text)
           → eval v (row_said problem t path cond_path (rule, names)) ≡ list_all (λ name. says_exact (rule name)) names
-      row-free rule h names = row-says rule (λ name. true) (λ name is. h name) names (always names)
+      row-free rule h names = row-says rule (λ name. true) (λ name is. h name) names (all-true names)
 
       rules-say : HasBuiltVariants problem t → eval v (all_of (map (row_said problem t path cond_path) (rule_rows problem t))) ≡ keeps_all other_rules problem g
       rules-say has =

@@ -6,7 +6,7 @@ use Rattle.clause_formulas.specs.Drafts.{said_of}
 use Rattle.cost_terms.specs.Governing.{once}
 use Rattle.term_builder.specs.Tests.{only_if}
 use Rattle.term_builder.specs.VariantTerms.{governs}
-use Rattle.term_builder.proofs.Later.{pushed-if, ended}
+use Rattle.term_builder.proofs.Pushed.{pushed-if, ended}
 use Rattle.term_builder.proofs.variant_terms.push_others.Goals as goal
 
 pub returns : goal.returns

@@ -4,7 +4,7 @@ use Rattle.clause_formulas.specs.Drafts.{said_of}
 use Rattle.problem.specs.Problems.{variants_at}
 use Rattle.cost_terms.specs.Governing.{with_formulas, variant_terms}
 use Rattle.term_builder.specs.VariantTerms.{counted_terms}
-use Rattle.term_builder.proofs.Later.{ended}
+use Rattle.term_builder.proofs.Pushed.{ended}
 use Rattle.term_builder.proofs.variant_terms.push_variants.Goals as goal
 
 pub returns : goal.returns
