@@ -55,7 +55,8 @@ pub fn best_graph<P: Progress>(
     }
 }
 
-/// The answer where the rules alone decide it: no graph is valid, or the budget was spent. None where there is a graph.
+/// The answer where the rules alone decide it: no graph is valid, or the budget was spent. None
+/// where there is a graph.
 fn settled(
     _problem: &Problem,
     _rules: &Rules,

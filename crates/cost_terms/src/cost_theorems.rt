@@ -13,8 +13,8 @@ ghost use Rattle.cost_terms.specs.Sums.{cost_terms, HoldSaid, held_by, SpellsCos
 ghost use Rattle.cost_terms.specs.Weighed.{AllWeighedBelow};
 ghost use Rattle.cost_terms.specs.Ranges.{IsTableBelow, AreHeldBelow};
 
-/// Where an assignment says what a graph has, the sums of the weights of true formulas are the graph's
-/// cost vector.
+/// Where an assignment says what a graph has, the sums of the weights of true formulas are the
+/// graph's cost vector.
 pub fn cost_laws()
     ensures vector { (v : ℕ → Bool) (problem : Problem) (table : Table) (held : Held)
         (order : List Text) (graph : Content) → SpellsCosts v problem table held order graph

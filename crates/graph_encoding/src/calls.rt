@@ -27,7 +27,8 @@ pub struct ProblemClauses {
     pub values: List<Defined>,
 }
 
-/// The clauses of a problem over a table with so many variables. To the targets, conditions may speak of paths.
+/// The clauses of a problem over a table with so many variables. To the targets, conditions may
+/// speak of paths.
 pub fn encode<F: RuleFormulas>(
     alloc: Global,
     problem: &Problem,

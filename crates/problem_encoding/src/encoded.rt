@@ -25,8 +25,8 @@ use table_building::table_of;
 #[derive(Drop)]
 pub struct Encoded {
     pub clauses: ClauseList,
-    /// The bits of the 31 numbers, one number behind the other, the first bit counting most; and the
-    /// greatest value of each number.
+    /// The bits of the 31 numbers, one number behind the other, the first bit counting most; and
+    /// the greatest value of each number.
     pub bits: Bits,
     pub table: LiteralTable,
 }
@@ -40,7 +40,8 @@ pub struct Rules {
     pub values: List<Defined>,
 }
 
-/// The clauses of the rules over the names that nodes may have: they alone say whether there is a graph.
+/// The clauses of the rules over the names that nodes may have: they alone say whether there is a
+/// graph.
 ///
 /// Externals and records have values for their variants, as all that are read do.
 ///

@@ -129,8 +129,8 @@ fn push_package(
     Ok(())
 }
 
-/// The formula of each condition of the directives of the table's packages: package by package, and of each those of variants,
-/// dependencies, conflicts and requirements, in the order of the recipe.
+/// The formula of each condition of the directives of the table's packages: package by package, and
+/// of each those of variants, dependencies, conflicts and requirements, in the order of the recipe.
 pub fn condition_formulas(
     alloc: Global,
     problem: &Problem,

@@ -239,7 +239,8 @@ fn push_all(
     Ok(())
 }
 
-/// The names to which the directives of the table's packages and the requested specs ask for paths, in byte order, each once.
+/// The names to which the directives of the table's packages and the requested specs ask for paths,
+/// in byte order, each once.
 pub fn targets_of(
     alloc: Global,
     problem: &Problem,

@@ -53,9 +53,9 @@ fn held_row(
     Ok((name.duplicate(alloc)?, List::from_vec(conditions)))
 }
 
-/// For each name of the table, the values of the conditions of its definitions of variants, where the
-/// values are those of all directives, name by name: of each package the definitions of variants come
-/// first, then dependencies, conflicts and requirements.
+/// For each name of the table, the values of the conditions of its definitions of variants, where
+/// the values are those of all directives, name by name: of each package the definitions of
+/// variants come first, then dependencies, conflicts and requirements.
 pub(crate) fn held_for(
     alloc: Global,
     problem: &Problem,

@@ -5,8 +5,9 @@ use crate::limit_laws;
 use graph_rules::valid_laws;
 use valid_models::closure_laws;
 
-/// Behind the clauses of a closure, what `rank_costs` asks for holds, and its bits rank the graphs by
-/// their cost vectors. In each model they spell the vector of its graph. Within the limits its sums are small.
+/// Behind the clauses of a closure, what `rank_costs` asks for holds, and its bits rank the graphs
+/// by their cost vectors. In each model they spell the vector of its graph. Within the limits its
+/// sums are small.
 pub fn costs_laws()
     ensures range { ClosureInRange }
     ensures small { ClosureSmall }
@@ -17,7 +18,8 @@ pub fn costs_laws()
     limit_laws();
 }
 
-/// A model with the least bits decodes to an optimal graph; where there is no model, no graph is valid.
+/// A model with the least bits decodes to an optimal graph; where there is no model, no graph is
+/// valid.
 pub fn optimum_laws()
     ensures least { LeastIsOptimal }
     ensures none { NoModelNoGraph }

@@ -23,9 +23,9 @@ use term_builder::cost_terms;
 
 /// Bits of the 31 numbers of the cost vector, the first to compare first, behind the clauses.
 ///
-/// `values` are those of the conditions of all directives of the table's packages, name by name, and
-/// `order` has the names of the table in any order. The weights of each number add up to less than 2^63, as those of
-/// each problem within the limits do (`costs_laws`).
+/// `values` are those of the conditions of all directives of the table's packages, name by name,
+/// and `order` has the names of the table in any order. The weights of each number add up to less
+/// than 2^63, as those of each problem within the limits do (`costs_laws`).
 pub fn rank_costs(
     alloc: Global,
     clauses: &mut ClauseList,

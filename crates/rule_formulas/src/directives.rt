@@ -21,7 +21,8 @@ use recipe_data::{ConflictRow, DependRow, RequireRow};
 use std::alloc::{AllocError, Global};
 use word_formulas::{MetConditions, constraint_formula, edge_formula};
 
-/// Where the condition of the row is met, its edge is there, and the node that it asks for suits it.
+/// Where the condition of the row is met, its edge is there, and the node that it asks for suits
+/// it.
 fn depend_formula<C: MetConditions>(
     alloc: Global,
     problem: &Problem,

@@ -10,8 +10,8 @@ use problem::Problem;
 use std::alloc::{AllocError, Global};
 use table_plan::table_from;
 
-/// The literals of what may be chosen at the names of a closure, over variables from a number on, the next one
-/// that is free.
+/// The literals of what may be chosen at the names of a closure, over variables from a number on,
+/// the next one that is free.
 pub fn table_of(
     alloc: Global,
     problem: &Problem,

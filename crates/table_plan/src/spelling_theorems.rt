@@ -9,7 +9,8 @@ ghost use Rattle.table_plan.specs.Numbers.{table_from, variables_of};
 ghost use Rattle.literal_table.specs.Ranges.{IsTableBelow};
 ghost use Rattle.table_plan.specs.Spellings.{spelling, AgreeOutside};
 
-/// Each graph that a plan offers is spelled, and the variables before and after those of the table stay.
+/// Each graph that a plan offers is spelled, and the variables before and after those of the table
+/// stay.
 pub fn spelling_laws()
     ensures spelled { (n : ℕ) (plan : Plan) (graph : Content) → IsPlan plan → IsOffered plan graph
         → (v : ℕ → Bool) → Spells (spelling n plan graph v) (table_from n plan) graph }

@@ -95,9 +95,9 @@ fn push_numbers(
 
 /// The lists of terms whose sums are the numbers of the cost vector, the first to compare first.
 ///
-/// `held` has, for each name of the table, the values of the conditions of the package's definitions
-/// of variants, in the order of these; `order` has the names of the table in the order in which
-/// their terms are to stand. An error is want of memory.
+/// `held` has, for each name of the table, the values of the conditions of the package's
+/// definitions of variants, in the order of these; `order` has the names of the table in the order
+/// in which their terms are to stand. An error is want of memory.
 pub fn cost_terms(
     alloc: Global,
     problem: &Problem,

@@ -20,7 +20,8 @@ use problem::{Problem, variants_at};
 use recipe_data::VariantRow;
 use std::alloc::{AllocError, Global};
 
-/// What is counted of a variant: values that are no default values, or default values that are not used.
+/// What is counted of a variant: values that are no default values, or default values that are not
+/// used.
 #[derive(Clone, Copy)]
 pub enum Counted {
     Others,
@@ -204,8 +205,8 @@ fn push_variant(
     Ok(())
 }
 
-/// The terms of the variants of a block's node, where the conditions of the package's definitions are
-/// given in their order.
+/// The terms of the variants of a block's node, where the conditions of the package's definitions
+/// are given in their order.
 pub fn push_variants(
     alloc: Global,
     terms: &mut Vec<Weighted>,

@@ -5,8 +5,9 @@ use crate::{
     encoding_laws, model_laws, plan_laws, ranking_laws, right_rules, right_tables, spelling_laws,
 };
 
-/// The table and the formulas of a closure are right. Models of its clauses meet the table's structure and decode to just the
-/// valid graphs, and bits behind them rank these. The variables of the table, and of the conditions' values, are among those of the clauses.
+/// The table and the formulas of a closure are right. Models of its clauses meet the table's
+/// structure and decode to just the valid graphs, and bits behind them rank these. The variables of
+/// the table, and of the conditions' values, are among those of the clauses.
 pub fn closure_laws()
     ensures right { ClosureIsRight }
     ensures decodes { ClosureDecodes }
