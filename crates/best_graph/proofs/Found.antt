@@ -41,7 +41,8 @@ module _ (problem : Problem) (rules : Rules) (ruled : AreRules problem rules) (b
   }
 
 -- the encoding: a best graph, or that the budget was spent
-module _ (problem : Problem) (e : Encoded) (encoded : IsEncoded problem e) (built : e ≡ encoding_of problem) (budget : ℕ) (log : List Line) where
+module _ (problem : Problem) (e : Encoded) (encoded : IsEncoded problem e) (built : e ≡ encoding_of problem) (budget : ℕ)
+    (log : List Line) where
   module _ (writable : AllLines (λ line. may_write line ≡ true) log) where
     pub best-answer : (model : List Bool) (graph : Content) → IsFound e.clauses e.bits.lits budget (Optimal model log)
         → IsBest e.clauses e.bits.lits budget (Optimal model log) → graph ≡ decode (values_in model) e.table

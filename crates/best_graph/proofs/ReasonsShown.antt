@@ -48,7 +48,8 @@ module _ (problem : Problem) (rules : Rules) (ruled : AreRules problem rules) (d
 
   -- a graph that is valid for the reasons would have a model
   pub unmet : NoModel → HasModels → (log : List Line) (numbers : List ℕ) → AllClauses (clauses_of rules.clauses.entries)
-      → IsFound rules.clauses [] budget (Refuted log) → IsBest rules.clauses [] budget (Refuted log) → AreReasons rules.clauses.entries log numbers
+      → IsFound rules.clauses [] budget (Refuted log) → IsBest rules.clauses [] budget (Refuted log)
+      → AreReasons rules.clauses.entries log numbers
       → IsUnmet problem numbers
   unmet no_model has_models log numbers ordered found best reasons =
       let own = rule_clauses problem in
@@ -58,7 +59,8 @@ module _ (problem : Problem) (rules : Rules) (ruled : AreRules problem rules) (d
       let rising = subst (λ (s : Clauses). AllClauses (clauses_of s.entries)) ruled.clauses ordered in
       record {
         alone = λ graph well ok.
-            let w = has_models problem own (λ v. decode v (table_of problem)) (demands_at problem numbers) (stands numbers) graph decodes well ok
+            let w = has_models problem own (λ v. decode v (table_of problem)) (demands_at problem numbers) (stands numbers) graph
+            decodes well ok
             (asked_at problem numbers) in
             no_model own log numbers w.0 rising ([], refuted) rests w.2;
         none = nothing problem own (λ v. decode v (table_of problem)) decodes
@@ -66,7 +68,8 @@ module _ (problem : Problem) (rules : Rules) (ruled : AreRules problem rules) (d
       }
 
   -- it is a refutation of the problem's own rules
-  pub refuted : (log : List Line) (numbers : List ℕ) → IsFound rules.clauses [] budget (Refuted log) → AreReasons rules.clauses.entries log numbers
+  pub refuted : (log : List Line) (numbers : List ℕ) → IsFound rules.clauses [] budget (Refuted log)
+      → AreReasons rules.clauses.entries log numbers
       → grounds.IsRefuted problem numbers
   refuted log numbers found reasons = record {
     log = log;

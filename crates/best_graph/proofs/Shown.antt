@@ -35,7 +35,8 @@ module _ (problem : Problem) (e : Encoded) (encoded : IsEncoded problem e) where
       some-same (bits_at v e.bits.lits) values
       (sym (encoded.spells v meets) ∙ ap (λ g. bits_for e.bits.tops (vector problem g)) same ∙ spelled)
 
-  pub least-optimal : (graph : Content) (values : List Bool) → IsWellFormed graph → valid problem graph ≡ true → SpellsCost problem e graph values
+  pub least-optimal : (graph : Content) (values : List Bool) → IsWellFormed graph → valid problem graph ≡ true
+      → SpellsCost problem e graph values
       → ((v : ℕ → Bool) → MeetsAll v e.clauses → IsBelow (bits_at v e.bits.lits) values → ⊥) → IsOptimal problem graph
   least-optimal graph values formed ok spelled least =
       let w = encoded.encodes.decodes.complete all graph (is-valid problem graph formed ok) in
@@ -45,7 +46,8 @@ module _ (problem : Problem) (e : Encoded) (encoded : IsEncoded problem e) where
       subst (IsOptimal problem) w.1 best.1
 
   module _ (ordered : AllClauses (clauses_of e.clauses.entries)) (log : List Line) where
-    pub certified : (graph : Content) (values : List Bool) → IsWellFormed graph → valid problem graph ≡ true → SpellsCost problem e graph values
+    pub certified : (graph : Content) (values : List Bool) → IsWellFormed graph → valid problem graph ≡ true
+        → SpellsCost problem e graph values
         → Certifies e values log → IsOptimal problem graph
     certified graph values formed ok spelled certificate =
         least-optimal graph values formed ok spelled (λ v meets below.

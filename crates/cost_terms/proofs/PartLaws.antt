@@ -25,7 +25,8 @@ or-false f x = or-false-cases (f x)
 
 module _ (v : ℕ → Bool) where
   -- what is chosen is offered
-  pub chosen-any : {T : Type 0} (test : T → Bool) (choices : Choices T) (x : T) → chosen v choices ≡ x ∷ [] → list_any (λ c. test c.0) choices ≡ false
+  pub chosen-any : {T : Type 0} (test : T → Bool) (choices : Choices T) (x : T) → chosen v choices ≡ x ∷ []
+      → list_any (λ c. test c.0) choices ≡ false
       → test x ≡ false
   chosen-any test [] x is h = absurd (cc)
   chosen-any test (c ∷ cs) x is h = elim (cases_Bool (lit_true v c.1)) [
@@ -41,7 +42,8 @@ module _ (v : ℕ → Bool) where
       or-second false b h = h
       or-second true b h = absurd (cc)
 
-  pub chosen-all : {T : Type 0} (test : T → Bool) (choices : Choices T) (x : T) → chosen v choices ≡ x ∷ [] → list_all (λ c. test c.0) choices ≡ true
+  pub chosen-all : {T : Type 0} (test : T → Bool) (choices : Choices T) (x : T) → chosen v choices ≡ x ∷ []
+      → list_all (λ c. test c.0) choices ≡ true
       → test x ≡ true
   chosen-all test [] x is h = absurd (cc)
   chosen-all test (c ∷ cs) x is h = elim (cases_Bool (lit_true v c.1)) [
@@ -53,13 +55,15 @@ module _ (v : ℕ → Bool) where
   where-is part [] = elim (cases_Bool (eval v part)) [ inl h ↦ rw h refl | inr h ↦ rw h refl ]
   where-is part (t ∷ ts) =
       said-cons v (only_where part t) (map (only_where part) ts)
-      ∙ rw (where-is part ts, eval-both v part t.formula, said-cons v t ts) (by-part (eval v part) (eval v t.formula) t.weight (sum_said v ts))
+      ∙ rw (where-is part ts, eval-both v part t.formula, said-cons v t ts)
+      (by-part (eval v part) (eval v t.formula) t.weight (sum_said v ts))
     where
       by-part : (a b : Bool) (w n : ℕ) → w * bit (a && b) + (if a then n else 0) ≡ (if a then w * bit b + n else 0)
       by-part true b w n = refl
       by-part false b w n = omega arith
 
-  part-is : (built : Bool) (origins : Choices Origin) (x : Origin) → chosen v origins ≡ x ∷ [] → eval v (part_said built origins) ≡ is_of built x
+  part-is : (built : Bool) (origins : Choices Origin) (x : Origin) → chosen v origins ≡ x ∷ []
+      → eval v (part_said built origins) ≡ is_of built x
   part-is true origins x is = any-chosen v builds origins ∙ ap (list_any builds) is ∙ or-false builds x
   part-is false origins x is = ap not (any-chosen v builds origins ∙ ap (list_any builds) is ∙ or-false builds x)
 
@@ -68,7 +72,8 @@ module _ (v : ℕ → Bool) where
   zero-either false n e = refl
 
   -- where there is no node, and nothing is added
-  pub in_part-none : (built : Bool) (origins : Choices Origin) (ts : List Weighted) → sum_said v ts ≡ 0 → sum_said v (in_part built origins ts) ≡ 0
+  pub in_part-none : (built : Bool) (origins : Choices Origin) (ts : List Weighted) → sum_said v ts ≡ 0
+      → sum_said v (in_part built origins ts) ≡ 0
   unfolding in_part
   in_part-none built origins ts none = elim (cases_Bool (list_all (λ c. is_of built c.0) origins)) [
     | inl whole ↦ rw whole none

@@ -55,7 +55,8 @@ structure_made problem t n f targets old made shaped edged new fs ls lits paths 
     levels_step problem t n f targets shaped edged new fs lits paths (a ∙ ap (λ s. assert_all s fs) (base_made old made n o m)) b
     (e ∙ ap (λ xs. record { list = edged; answer = xs }) (sym same)) c d
 
-pub rules_fit : (t : Table) (n : ℕ) (f : Formulas) (old mid : Gated) (path : PathFormulas) (ds xs : List Defined) (fs : List Statement) (rule : Statement)
+pub rules_fit : (t : Table) (n : ℕ) (f : Formulas) (old mid : Gated) (path : PathFormulas) (ds xs : List Defined) (fs : List Statement)
+    (rule : Statement)
     → AreInRange t n f → n ≤ old.list.vars → PathsBelow old.list.vars path → DefinesValues old mid ds fs → xs ≡ ds
     → rule ≡ f.rules path (value_at xs) → SaidBelow mid.list.vars rule
 rules_fit t n f old mid path ds xs fs rule range more paths values same e =
@@ -78,7 +79,8 @@ rules_made problem f path old none mid late new fs ds xs ys rule empty a b same 
     (ap (λ zs. demand_all_in late 0 (map (f.demand path (value_at zs)) (demands problem))) (sym same_too) ∙ e)
 
 pub decodes_step : (problem : Problem) (t : Table) (n : ℕ) (f : Formulas) (targets : List Text) (new : Clauses)
-    → encode_on problem t n f targets ≡ new → (decode : (ℕ → Bool) → Content) (holds : ℕ → Content → Bool) → IsRightTable problem t n f decode
+    → encode_on problem t n f targets ≡ new → (decode : (ℕ → Bool) → Content) (holds : ℕ → Content → Bool)
+    → IsRightTable problem t n f decode
     → AreRightFormulas problem t n f (told_in t targets) holds → Decodes {X = Content} new decode (IsValid problem)
 decodes_step problem t n f targets new e decode holds right says =
     subst (λ s. Decodes {X = Content} s decode (IsValid problem)) e (encoded problem t n f decode right targets holds says)

@@ -53,7 +53,8 @@ rules-join : (problem : Problem) (g : Content) → keeps_all other_rules problem
     → keeps_all structure_rules problem g ≡ true
 rules-join problem g others kept =
     list_all-append (λ rule. keeps rule problem g) other_rules (rules.Cycle ∷ rules.Unreachable ∷ [])
-    ∙ and_from (keeps_all other_rules problem g) _ others (and_from (keeps rules.Cycle problem g) _ kept.0 (and_from (keeps rules.Unreachable problem g) true kept.1 refl))
+    ∙ and_from (keeps_all other_rules problem g) _ others
+    (and_from (keeps rules.Cycle problem g) _ kept.0 (and_from (keeps rules.Unreachable problem g) true kept.1 refl))
 
 rules-part : (problem : Problem) (g : Content) → keeps_all structure_rules problem g ≡ true
     → (keeps_all other_rules problem g ≡ true) × KeepsLevelRules problem (λ d. true) g
@@ -70,7 +71,8 @@ demands-below n f each (d ∷ ds) = (each d, demands-below n f each ds)
 
 -- ---- the stages
 
-module _ (problem : Problem) (t : Table) (n : ℕ) (f : Formulas) (decode : (ℕ → Bool) → Content) (right : IsRightTable problem t n f decode) where
+module _ (problem : Problem) (t : Table) (n : ℕ) (f : Formulas) (decode : (ℕ → Bool) → Content)
+    (right : IsRightTable problem t n f decode) where
   -- a graph of which some assignment spells all
   abbrev pub R0 : (ℕ → Bool) → Content → Type 0
   R0 asked g = IsWellFormed g × IsSpelled t g
@@ -170,7 +172,8 @@ module _ (problem : Problem) (t : Table) (n : ℕ) (f : Formulas) (decode : (ℕ
       met = value_at valued.answer
 
       values-are : DefinesValues (bare levelled) valued.state valued.answer (f.conditions path)
-      values-are = define_all_is (bare levelled) (f.conditions path) tt (says.conditions_below levelled.vars path levelled-more (paths-below levelled.vars (omega arith)))
+      values-are = define_all_is (bare levelled) (f.conditions path) tt
+          (says.conditions_below levelled.vars path levelled-more (paths-below levelled.vars (omega arith)))
 
       abbrev pub S3 : (ℕ → Bool) → Content → Type 0
       S3 v g = S2 v g × (ValuesSay valued.answer holds v g × FitsGates valued.state.gates v g)
@@ -205,7 +208,8 @@ module _ (problem : Problem) (t : Table) (n : ℕ) (f : Formulas) (decode : (ℕ
 
       rules-said : SaysIn valued.state ruled (where_asked Structure (λ v. eval v (f.rules path met)))
       rules-said = assert_in_is Structure (f.rules path met) true valued.state values-are.keeps.below
-          (says.rules_below defined-list.vars path met (omega (arith, levelled-more, valued-more)) (paths-below defined-list.vars valued-more)
+          (says.rules_below defined-list.vars path met (omega (arith, levelled-more, valued-more))
+          (paths-below defined-list.vars valued-more)
           (met-below defined-list.vars (omega arith)))
 
       rules-stage : Stage defined-list ruled.list S3 (FitsGates ruled.gates) R3 (Holds (keeps_all other_rules problem))
@@ -213,7 +217,8 @@ module _ (problem : Problem) (t : Table) (n : ℕ) (f : Formulas) (decode : (ℕ
           (λ asked v g s r. says.rules_say v g path met s.0.0.0 r.0.0.0.0 s.0.1 s.1.0)
 
       pub rules-models : Models ruled.list S4 R4
-      rules-models = added defined-list ruled.list S3 (FitsGates ruled.gates) R3 (Holds (keeps_all other_rules problem)) values-models rules-stage
+      rules-models = added defined-list ruled.list S3 (FitsGates ruled.gates) R3 (Holds (keeps_all other_rules problem))
+          values-models rules-stage
 
       ruled-more : defined-list.vars ≤ ruled.list.vars
       ruled-more = rules-stage.grows.more
@@ -258,7 +263,8 @@ module _ (problem : Problem) (t : Table) (n : ℕ) (f : Formulas) (decode : (ℕ
       pub valid-is : (asked : ℕ → Bool) (g : Content) → IsValid problem asked g → R5 asked g
       unfolding valid_for
       valid-is asked g ok =
-          let p = and_parts (keeps_all structure_rules problem g) (list_all (keeps_demand problem g) (asked_among asked 0 (demands problem))) ok.1 in
+          let p = and_parts (keeps_all structure_rules problem g)
+          (list_all (keeps_demand problem g) (asked_among asked 0 (demands problem))) ok.1 in
           let q = rules-part problem g p.0 in
           (((((((ok.0, right.spelled (asked_among asked 0 (demands problem)) g ok.0 ok.1), tt), q.1), tt), q.0), p.1))
 

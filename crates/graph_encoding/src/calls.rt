@@ -38,7 +38,8 @@ pub fn encode<F: RuleFormulas>(
     targets: &[Word],
 ) -> Result<ProblemClauses, AllocError>
     requires { AreInRange table.now vars (F.formulas formulas.now table.now) }
-    ensures built { IfOk result (λ made. encode_on problem.now table.now vars (F.formulas formulas.now table.now)
+    ensures built { IfOk result (λ made. encode_on problem.now table.now vars
+        (F.formulas formulas.now table.now)
         targets.now ≡ made.list) }
     ensures values { IfOk result (λ made. made.values ≡ values_for problem.now table.now vars
         (F.formulas formulas.now table.now) targets.now) }
@@ -70,7 +71,8 @@ fn add_structure<F: RuleFormulas>(
 ) -> Result<PathLits, AllocError>
     requires range { AreInRange table.now vars (F.formulas formulas.now table.now) }
     requires start { clauses.old ≡ record { entries = []; vars = 0 } }
-    ensures built { IfOk result (λ paths. levels_made problem.now table.now vars (F.formulas formulas.now table.now)
+    ensures built { IfOk result (λ paths. levels_made problem.now table.now vars
+        (F.formulas formulas.now table.now)
         targets.now ≡ record { list = clauses.new; answer = paths.paths }) }
     ensures targets { IfOk result (λ paths. paths.targets
         ≡ places_of (names_of table.now) targets.now) }

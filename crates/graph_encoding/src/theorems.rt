@@ -60,7 +60,8 @@ pub fn model_laws()
         → AreRightFormulas problem t n f (told_in t targets) holds
         → (asked v : ℕ → Bool) → Meets asked v (encode_on problem t n f targets).entries
         → list_all (eval v) f.structure ≡ true }
-    ensures range { (problem : Problem) (t : Table) (n : ℕ) (f : Formulas) (decode : (ℕ → Bool) → Content)
+    ensures range { (problem : Problem) (t : Table) (n : ℕ) (f : Formulas)
+        (decode : (ℕ → Bool) → Content)
         (targets : List Text)
         (holds : ℕ → Content → Bool) → IsRightTable problem t n f decode
         → AreRightFormulas problem t n f (told_in t targets) holds

@@ -1,4 +1,4 @@
-// What the formulas of rules say. The bodies are empty: what is proved are the contracts.
+//! What the formulas of rules say. The bodies are empty: what is proved are the contracts.
 ghost use Rattle.std.specs.Prelude.{◌≡◌, ℕ, Bool, List};
 ghost use Rattle.clause_formulas.specs.Statements.{Statement};
 ghost use Rattle.spec_grammar.specs.declared.part.Spec.{Spec};

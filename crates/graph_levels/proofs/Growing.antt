@@ -8,10 +8,12 @@ use Rattle.clause_circuits.proofs.Composed.{since, whole, Grows-trans, MeetsSinc
 use Rattle.graph_levels.specs.Stages.{Both, Nothing, IsLocal, Models, Stage, Decodes}
 
 -- what is asked for of a longer list
-pub meets-parts : (a b : Clauses) (asked v : ℕ → Bool) → Grows a b → Meets asked v b.entries → Meets asked v a.entries × MeetsSince asked v a b
+pub meets-parts : (a b : Clauses) (asked v : ℕ → Bool) → Grows a b → Meets asked v b.entries → Meets asked v a.entries
+    × MeetsSince asked v a b
 meets-parts a b asked v g m = Meets-parts asked v a.entries (since a b) (rw (whole a b g) at m)
 
-pub meets-join : (a b : Clauses) (asked v : ℕ → Bool) → Grows a b → Meets asked v a.entries → MeetsSince asked v a b → Meets asked v b.entries
+pub meets-join : (a b : Clauses) (asked v : ℕ → Bool) → Grows a b → Meets asked v a.entries → MeetsSince asked v a b
+    → Meets asked v b.entries
 meets-join a b asked v g m n = rw (whole a b g) (Meets-append asked v a.entries (since a b) m n)
 
 agree-le : (m n : ℕ) (v w : ℕ → Bool) → m ≤ n → Agree n v w → Agree m v w

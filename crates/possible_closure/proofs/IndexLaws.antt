@@ -18,7 +18,8 @@ module _ {T : Type 0} where
   pub first_found : (p : T → Bool) (xs : List T) (run : List (Bor (List ℕ) × Bor T)) (e : Bor (List ℕ) × Bor T) → seen run ≡ filter p xs
       → 1 ≤ length run → e ≡ get_or run 0 e → find p xs ≡ Some e.1.now
   first_found p xs [] e is long at = absurd (omega (arith, long))
-  first_found p xs (f ∷ run) e is long at = find_first p xs ∙ ap (first_in p) (sym is) ∙ ap (λ (g : Bor (List ℕ) × Bor T). Some g.1.now) (sym at)
+  first_found p xs (f ∷ run) e is long at = find_first p xs ∙ ap (first_in p) (sym is)
+      ∙ ap (λ (g : Bor (List ℕ) × Bor T). Some g.1.now) (sym at)
 
   pub some_found : (p : T → Bool) (xs : List T) (run : List (Bor (List ℕ) × Bor T)) → seen run ≡ filter p xs
       → not (length run == 0) ≡ list_any p xs

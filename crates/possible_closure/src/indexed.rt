@@ -1,4 +1,4 @@
-// A problem in which names are found by search.
+//! A problem in which names are found by search.
 ghost use Rattle.std.specs.Prelude.{◌≡◌, map, filter, IfOk};
 ghost use Rattle.std.specs.List.{list_any};
 ghost use Rattle.std.specs.Option.{option_copied};

@@ -64,10 +64,12 @@ module _ (problem : Problem) (names : List Text) (closure : IsClosure problem na
 
   pub ruled : names ≡ closure_of problem → (t : Table) (n : ℕ) (targets : List Text) (made : ProblemClauses)
       → t ≡ table_for problem names → n ≡ size_for problem names → targets ≡ targets_of problem t
-      → encode_on problem t n (formulas_given problem t) targets ≡ made.list → made.values ≡ values_for problem t n (formulas_given problem t) targets
+      → encode_on problem t n (formulas_given problem t) targets ≡ made.list
+      → made.values ≡ values_for problem t n (formulas_given problem t) targets
       → IsRuled problem t made
   ruled same t n targets made e s w built values =
-      let all : Over problem t made (closure_of problem) = subst (Over problem t made) same (over t n targets made e s w built values) in record {
+      let all : Over problem t made (closure_of problem) = subst (Over problem t made) same (over t n targets made e s w built values) in
+      record {
         closure = all.0;
         has = all.1;
         is_table = all.2;

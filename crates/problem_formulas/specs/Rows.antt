@@ -18,19 +18,24 @@ use Rattle.rule_formulas.specs.Terms.{plain_term}
 
 module _ (problem : Problem) (t : Table) (condition : Text → Condition → Statement) where
   abbrev pub variant_row : Statement
-  variant_row = all_of (map (λ name. plain_term t condition (where_built name (variants_rule problem (variants_of t name) name))) (names_of t))
+  variant_row =
+      all_of (map (λ name. plain_term t condition (where_built name (variants_rule problem (variants_of t name) name))) (names_of t))
 
   abbrev pub extra_row : Statement
-  extra_row = all_of (map (λ name. plain_term t condition (where_built name (extra_edges_rule problem (names_for t) (children_of t name) name))) (names_of t))
+  extra_row = all_of
+      (map (λ name. plain_term t condition (where_built name (extra_edges_rule problem (names_for t) (children_of t name) name)))
+      (names_of t))
 
   abbrev pub used_row : Statement
   used_row = all_of (map (λ name. plain_term t condition (of_provider (names_for t) (used_rule problem (names_of t)) name)) (virtuals_of t))
 
   abbrev pub first_rows : List Statement
-  first_rows = built_row t (λ name. plain_said t (buildable_rule problem name)) ∷ built_row t (λ name. plain_said t (version_rule problem name)) ∷ variant_row ∷ []
+  first_rows = built_row t (λ name. plain_said t (buildable_rule problem name))
+      ∷ built_row t (λ name. plain_said t (version_rule problem name)) ∷ variant_row ∷ []
 
   abbrev pub more_rows : List Statement
-  more_rows = built_row t (λ name. plain_said t (compiler_rule problem name)) ∷ built_row t (λ name. plain_said t (machine_rule problem name)) ∷ extra_row ∷ []
+  more_rows = built_row t (λ name. plain_said t (compiler_rule problem name))
+      ∷ built_row t (λ name. plain_said t (machine_rule problem name)) ∷ extra_row ∷ []
 
   abbrev pub last_rows : List Statement
   last_rows =

@@ -27,7 +27,8 @@ fn variants_at<C: MetConditions>(
     name: &Word,
 ) -> Result<Formula, AllocError>
     ensures { IfOk result (λ formula. formula ≡ plain_term table.now (C.condition_of conditions.now)
-        (where_built name.now (variants_rule problem.now (variants_of table.now name.now) name.now))) }
+        (where_built name.now (variants_rule problem.now
+        (variants_of table.now name.now) name.now))) }
 {
     let rule = variants_formula(alloc, problem, table, conditions, name.as_str())?;
     where_built(alloc, table, name.as_str(), rule)

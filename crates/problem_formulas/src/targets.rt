@@ -191,7 +191,8 @@ fn push_required(
     names: &mut Vec<Word>,
 ) -> Result<(), AllocError>
     ensures { OnOk result (names.new.items ≡ names.old.items
-        ++ flat_map (λ row. flat_map (spec_names world.now (names_for table.now)) row.specs) rows.now) }
+        ++ flat_map (λ row. flat_map (spec_names world.now (names_for table.now)) row.specs)
+        rows.now) }
 {
     for row in rows {
         push_specs(alloc, world, table, row.specs.as_slice(), names)?;

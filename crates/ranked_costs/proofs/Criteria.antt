@@ -34,7 +34,8 @@ use Rattle.ranked_costs.proofs.Values.{values-few}
 use Rattle.ranked_costs.proofs.Tables.{run-length, run-sum, eq-same, virtuals-few, Own, own-block, own-edges}
 use Rattle.ranked_costs.proofs.Terms.{other-top, unused-top, governing-top, formulas-sum, differ-top, edges-top, passing-numbered}
 
-module _ (problem : Problem) (limits : IsWithin problem) (names : List Text) (rising : IsInByteOrder names) (few : length names ≤ most_names)
+module _ (problem : Problem) (limits : IsWithin problem) (names : List Text) (rising : IsInByteOrder names)
+    (few : length names ≤ most_names)
     (n : ℕ) (held : Held) where
   -- the bound of all criteria: by the definitions of variants, and what is left
   abbrev pub Bounded : (Block → List Weighted) → Type 0

@@ -47,13 +47,17 @@ module _ (problem : Problem) (names : List Text) (place : Places) (order : List 
   all d = true
 
   pub found : IsRightTable problem t (size_for problem names) f (λ v. decode v t)
-      → AreRightFormulas problem t (size_for problem names) f (told_in t (targets_of problem t)) (holds_at problem (conditions_of problem t))
+      → AreRightFormulas problem t (size_for problem names) f (told_in t (targets_of problem t))
+      (holds_at problem (conditions_of problem t))
       → (new : Clauses) (bits : List Lit) (tops : List ℕ)
-      → AreCostBits (closure_clauses problem names place) new bits tops problem t (held_in (held_for problem t (closure_values problem names place))) order
+      → AreCostBits (closure_clauses problem names place) new bits tops problem t
+      (held_in (held_for problem t (closure_values problem names place))) order
       → IsTable t → IsPermutation (map name_of t.blocks) order → (v : ℕ → Bool) → Meets all v new.entries
       → bits_for tops (vector problem (decode v t)) ≡ Some (values_at v bits)
   found right says new bits tops costs table ordered v meets =
       let p = meets-parts (closure_clauses problem names place) new all v costs.totals.defines.says.grows meets in
-      let w = model-says problem t (size_for problem names) f (λ v. decode v t) right (targets_of problem t) (holds_at problem (conditions_of problem t)) says
+      let w = model-says problem t (size_for problem names) f (λ v. decode v t) right (targets_of problem t)
+      (holds_at problem (conditions_of problem t)) says
       all v p.0 in
-      ap (bits_for tops) (sym (same problem names place order new bits tops costs table ordered v (decode v t) w.0 w.1)) ∙ costs.totals.found all v p.1
+      ap (bits_for tops) (sym (same problem names place order new bits tops costs table ordered v (decode v t) w.0 w.1))
+      ∙ costs.totals.found all v p.1

@@ -70,7 +70,8 @@ module _ (v : ℕ → Bool) (problem : Problem) (graph : Content) where
     abbrev requirements : List Bool
     requirements = tests name (map (λ row. row.when) (requirements_at problem name))
 
-    parts : (rest : List Bool) → tests name (conditions_at problem name) ++ rest ≡ variants ++ (depends ++ (conflicts ++ (requirements ++ rest)))
+    parts : (rest : List Bool) → tests name (conditions_at problem name) ++ rest ≡ variants
+        ++ (depends ++ (conflicts ++ (requirements ++ rest)))
     parts rest =
         ap (λ xs. xs ++ rest) (map-append _ (map (λ row. row.when) (variants_at problem name)) _
         ∙ ap (λ xs. variants ++ xs) (map-append _ (map (λ row. row.when) (depends_at problem name)) _
@@ -94,16 +95,20 @@ module _ (v : ℕ → Bool) (problem : Problem) (graph : Content) where
           let c = length (conflicts_at problem name) in
           let d = length (requirements_at problem name) in
           let one : map said (drop a values) ≡ depends ++ (conflicts ++ (requirements ++ rest)) =
-          sym (drop-map said a values) ∙ ap (drop a) (e ∙ parts rest) ∙ seam-drop a variants _ (length-map _ _ ∙ length-map (variants_at problem name) _) in
+          sym (drop-map said a values) ∙ ap (drop a) (e ∙ parts rest)
+          ∙ seam-drop a variants _ (length-map _ _ ∙ length-map (variants_at problem name) _) in
           let two : map said (drop b (drop a values)) ≡ conflicts ++ (requirements ++ rest) =
-          sym (drop-map said b (drop a values)) ∙ ap (drop b) one ∙ seam-drop b depends _ (length-map _ _ ∙ length-map (depends_at problem name) _) in
+          sym (drop-map said b (drop a values)) ∙ ap (drop b) one
+          ∙ seam-drop b depends _ (length-map _ _ ∙ length-map (depends_at problem name) _) in
           let three : map said (drop c (drop b (drop a values))) ≡ requirements ++ rest =
-          sym (drop-map said c (drop b (drop a values))) ∙ ap (drop c) two ∙ seam-drop c conflicts _ (length-map _ _ ∙ length-map (conflicts_at problem name) _) in
+          sym (drop-map said c (drop b (drop a values))) ∙ ap (drop c) two
+          ∙ seam-drop c conflicts _ (length-map _ _ ∙ length-map (conflicts_at problem name) _) in
           sym (drop-map said d (drop c (drop b (drop a values)))) ∙ ap (drop d) three
           ∙ seam-drop d requirements rest (length-map _ _ ∙ length-map (requirements_at problem name) _)
 
   -- what is given for a name says where its definitions' conditions hold
-  pub held-says : (names : List Text) (values : List Defined) (name : Text) → map said values ≡ map tested (listed names) → among names name ≡ true
+  pub held-says : (names : List Text) (values : List Defined) (name : Text) → map said values ≡ map tested (listed names)
+      → among names name ≡ true
       → map (eval v) (held_in (held_from problem names values) name)
       ≡ map (λ row. all_hold (world_of problem) row.when graph name) (variants_at problem name)
   held-says [] values name e there = absurd (false≢true there)
@@ -122,12 +127,14 @@ module _ (v : ℕ → Bool) (problem : Problem) (graph : Content) where
           → map (eval v) (held_in (held_from problem (n ∷ ns) values) name)
           ≡ map (λ row. all_hold (world_of problem) row.when graph name) (variants_at problem name)
       held-says-cases true is split there later =
-          let shape : Bool → List Bool = λ b. map (eval v) (map said_of (defined_in (cond b (Some (n, take (length (variants_at problem n)) values))
+          let shape : Bool → List Bool =
+          λ b. map (eval v) (map said_of (defined_in (cond b (Some (n, take (length (variants_at problem n)) values))
           (find (λ h. bytes_eq name h.0) (held_from problem ns (passed problem n values)))))) in
           ap shape is ∙ subst (λ m. map (eval v) (map said_of (take (length (variants_at problem n)) values))
           ≡ map (λ row. all_hold (world_of problem) row.when graph m) (variants_at problem m)) (sym (bytes_eq-same name n is))
           (map-map (eval v) said_of (take (length (variants_at problem n)) values) ∙ first-are n values (map tested (listed ns)) split)
       held-says-cases false is split there later =
-          let shape : Bool → List Bool = λ b. map (eval v) (map said_of (defined_in (cond b (Some (n, take (length (variants_at problem n)) values))
+          let shape : Bool → List Bool =
+          λ b. map (eval v) (map said_of (defined_in (cond b (Some (n, take (length (variants_at problem n)) values))
           (find (λ h. bytes_eq name h.0) (held_from problem ns (passed problem n values)))))) in
           ap shape is ∙ later (sym (ap (λ b. b || among ns name) is) ∙ there)

@@ -34,9 +34,11 @@ not-smaller x y never = not-smaller-cases (compare_numbers y x) (nat_list_cmp_to
     not-smaller-cases Equal e = refl
     not-smaller-cases Greater e = refl
 
-module _ (problem : Problem) (fewer : (graph : Content) (asked : List Demand) → valid problem graph ≡ true → valid_for asked problem graph ≡ true)
+module _ (problem : Problem) (fewer : (graph : Content) (asked : List Demand) → valid problem graph ≡ true
+    → valid_for asked problem graph ≡ true)
     (all : (graph : Content) → IsGraph graph → valid_for (demands problem) problem graph ≡ true → valid problem graph ≡ true)
-    (new : Clauses) (bits : List Lit) (decode : (ℕ → Bool) → Content) (ranks : RanksGraphs new decode (IsValid problem) bits (vector problem)) where
+    (new : Clauses) (bits : List Lit) (decode : (ℕ → Bool) → Content)
+    (ranks : RanksGraphs new decode (IsValid problem) bits (vector problem)) where
   abbrev each : ℕ → Bool
   each d = true
 
@@ -53,5 +55,6 @@ module _ (problem : Problem) (fewer : (graph : Content) (asked : List Demand) �
   none empty graph formed = none-cases (valid problem graph) refl
     where
       none-cases : (b : Bool) → valid problem graph ≡ b → b ≡ false
-      none-cases true is = let w = ranks.decodes.complete each graph (formed, fewer graph (asked_demands problem each) is) in absurd (empty w.0 w.2)
+      none-cases true is = let w = ranks.decodes.complete each graph (formed, fewer graph (asked_demands problem each) is) in
+          absurd (empty w.0 w.2)
       none-cases false is = refl

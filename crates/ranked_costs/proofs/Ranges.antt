@@ -33,9 +33,11 @@ right-below n (k ∷ ks) ls b = right-below n ks ls b.1
 values-below : (n : ℕ) (ws : List (Text × Choices Text)) → AllBelow n (flat_map (λ w. lits_of w.1) ws)
     → All (λ (w : Text × Choices Text). AllBelow n (lits_of w.1)) ws
 values-below n [] b k d lt = absurd (omega (arith, lt))
-values-below n (w ∷ ws) b zero d lt = left-below n (lits_of w.1) (flat_map (λ w. lits_of w.1) ws) (subst (AllBelow n) (flat_map-cons (λ w. lits_of w.1) w ws) b)
+values-below n (w ∷ ws) b zero d lt = left-below n (lits_of w.1) (flat_map (λ w. lits_of w.1) ws)
+    (subst (AllBelow n) (flat_map-cons (λ w. lits_of w.1) w ws) b)
 values-below n (w ∷ ws) b (suc k) d lt =
-    values-below n ws (right-below n (lits_of w.1) (flat_map (λ w. lits_of w.1) ws) (subst (AllBelow n) (flat_map-cons (λ w. lits_of w.1) w ws) b)) k d (omega (arith, lt))
+    values-below n ws (right-below n (lits_of w.1) (flat_map (λ w. lits_of w.1) ws)
+    (subst (AllBelow n) (flat_map-cons (λ w. lits_of w.1) w ws) b)) k d (omega (arith, lt))
 
 pub table-below : (m n : ℕ) (t : Table) → m ≤ n → numbers.IsTableBelow m t → IsTableBelow n t
 table-below m n t h below = record {
@@ -79,16 +81,20 @@ passed-below n problem name ds b =
 from-below : (n : ℕ) (problem : Problem) (names : List Text) (values : List Defined) → ValuesBelow n values
     → AreHeldBelow n (held_in (held_from problem names values))
 from-below n problem [] values b name = tt
-from-below n problem (x ∷ names) values b name = from-below-cases (bytes_eq name x) refl (from-below n problem names (passed problem x values) (passed-below n problem x values b) name)
+from-below n problem (x ∷ names) values b name =
+    from-below-cases (bytes_eq name x) refl (from-below n problem names (passed problem x values) (passed-below n problem x values b) name)
   where
-    from-below-cases : (same : Bool) → bytes_eq name x ≡ same → SaidBelow n (any_of (held_in (held_from problem names (passed problem x values)) name))
+    from-below-cases : (same : Bool) → bytes_eq name x ≡ same
+        → SaidBelow n (any_of (held_in (held_from problem names (passed problem x values)) name))
         → SaidBelow n (any_of (held_in (held_from problem (x ∷ names) values) name))
     from-below-cases true is later =
-        let there : Bool → Type 0 = λ same. SaidBelow n (any_of (map said_of (defined_in (cond same (Some (x, take (length (variants_at problem x)) values))
+        let there : Bool → Type 0 =
+        λ same. SaidBelow n (any_of (map said_of (defined_in (cond same (Some (x, take (length (variants_at problem x)) values))
         (find (λ h. bytes_eq name h.0) (held_from problem names (passed problem x values))))))) in
         subst there (sym is) (take-below n (length (variants_at problem x)) values b)
     from-below-cases false is later =
-        let there : Bool → Type 0 = λ same. SaidBelow n (any_of (map said_of (defined_in (cond same (Some (x, take (length (variants_at problem x)) values))
+        let there : Bool → Type 0 =
+        λ same. SaidBelow n (any_of (map said_of (defined_in (cond same (Some (x, take (length (variants_at problem x)) values))
         (find (λ h. bytes_eq name h.0) (held_from problem names (passed problem x values))))))) in
         subst there (sym is) later
 

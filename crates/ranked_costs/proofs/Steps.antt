@@ -62,7 +62,8 @@ module _ (problem : Problem) (names : List Text) (place : Places) (order : List 
       (told v problem g values (conditions_of problem t) (as-many _ _ ∙ length-map (conditions_of problem t) _) all.conditions)
       (found-among t name b found)
 
-  module _ (new : Clauses) (bits : List Lit) (tops : List ℕ) (costs : AreCostBits (closure_clauses problem names place) new bits tops problem t held order) where
+  module _ (new : Clauses) (bits : List Lit) (tops : List ℕ)
+      (costs : AreCostBits (closure_clauses problem names place) new bits tops problem t held order) where
     abbrev pub sums : (ℕ → Bool) → List ℕ
     sums v = sums_said v (cost_terms problem t held order)
 

@@ -30,10 +30,18 @@ at-most false w = omega arith
 -- a sum is at most its greatest value
 within-top : (v : ℕ → Bool) (ts : List Weighted) → sum_said v ts ≤ top_said ts
 within-top v [] = omega arith
-within-top v (t ∷ ts) = omega (arith, within-top v ts, at-most (eval v t.formula) t.weight, sum_by-cons (weight_said v) t ts, sum_by-cons (λ (t : Weighted). t.weight) t ts)
+within-top v (t ∷ ts) =
+    omega (
+      arith,
+      within-top v ts,
+      at-most (eval v t.formula) t.weight,
+      sum_by-cons (weight_said v) t ts,
+      sum_by-cons (λ (t : Weighted). t.weight) t ts,
+    )
 
 -- no sum is stopped
-pub unstopped : (v : ℕ → Bool) (lists : List (List Weighted)) → AllSmall (tops_said lists) → map stopped (sums_said v lists) ≡ sums_said v lists
+pub unstopped : (v : ℕ → Bool) (lists : List (List Weighted)) → AllSmall (tops_said lists)
+    → map stopped (sums_said v lists) ≡ sums_said v lists
 unstopped v [] small = refl
 unstopped v (ts ∷ lists) small =
     let low = within-top v ts in

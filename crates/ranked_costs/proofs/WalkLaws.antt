@@ -27,7 +27,8 @@ taken name (n ∷ ns) there = elim (cases_Bool (bytes_eq name n)) [
 abbrev pub Keeps : Walk → Walk → Type 0
 Keeps w u = IsPermutation (w.left ++ w.rest) (u.left ++ u.rest)
 
-fold-keeps : (f : Walk → Text → Walk) → ((w : Walk) (name : Text) → Keeps w (f w name)) → (w : Walk) (names : List Text) → Keeps w (fold f w names)
+fold-keeps : (f : Walk → Text → Walk) → ((w : Walk) (name : Text) → Keeps w (f w name)) → (w : Walk) (names : List Text)
+    → Keeps w (fold f w names)
 fold-keeps f each w [] = IsPermutation-refl (w.left ++ w.rest)
 fold-keeps f each w (n ∷ ns) =
     let one = f w n in
@@ -38,10 +39,13 @@ fold-keeps f each w (n ∷ ns) =
 entered-left : (name : Text) (w u : Walk) → among w.rest name ≡ true → Keeps (entered name w) u → Keeps w (leaving name u)
 entered-left name w u there inside =
     let out : List Text = without name w.rest in
-    let first : IsPermutation (w.left ++ w.rest) (w.left ++ name ∷ out) = IsPermutation-append_right w.left w.rest (name ∷ out) (taken name w.rest there) in
+    let first : IsPermutation (w.left ++ w.rest) (w.left ++ name ∷ out) =
+    IsPermutation-append_right w.left w.rest (name ∷ out) (taken name w.rest there) in
     let front : IsPermutation (w.left ++ name ∷ out) (name ∷ (w.left ++ out)) = IsPermutation-middle w.left name out in
-    let within : IsPermutation (name ∷ (w.left ++ out)) (name ∷ (u.left ++ u.rest)) = IsPermutation-cons name (w.left ++ out) (u.left ++ u.rest) inside in
-    let back : IsPermutation (name ∷ (u.left ++ u.rest)) (u.left ++ name ∷ u.rest) = IsPermutation-sym (u.left ++ name ∷ u.rest) (name ∷ (u.left ++ u.rest)) (IsPermutation-middle u.left name u.rest) in
+    let within : IsPermutation (name ∷ (w.left ++ out)) (name ∷ (u.left ++ u.rest)) =
+    IsPermutation-cons name (w.left ++ out) (u.left ++ u.rest) inside in
+    let back : IsPermutation (name ∷ (u.left ++ u.rest)) (u.left ++ name ∷ u.rest) =
+    IsPermutation-sym (u.left ++ name ∷ u.rest) (name ∷ (u.left ++ u.rest)) (IsPermutation-middle u.left name u.rest) in
     let whole = IsPermutation-trans (w.left ++ w.rest) (w.left ++ name ∷ out) (u.left ++ name ∷ u.rest) first
     (IsPermutation-trans (w.left ++ name ∷ out) (name ∷ (w.left ++ out)) (u.left ++ name ∷ u.rest) front
     (IsPermutation-trans (name ∷ (w.left ++ out)) (name ∷ (u.left ++ u.rest)) (u.left ++ name ∷ u.rest) within back)) in

@@ -80,7 +80,8 @@ module _ (problem : Problem) (limits : IsWithin problem) where
 
   pub version-few : (name version : Text) → version_weight problem name version ≤ 2 ^ 28
   unfolding version_weight
-  version-few name version = version-few-cases (listed_in (entry_of problem name)) (find (λ row. bytes_eq row.version version) (versions_at problem name))
+  version-few name version = version-few-cases (listed_in (entry_of problem name))
+      (find (λ row. bytes_eq row.version version) (versions_at problem name))
     where
       version-few-cases : (lists : List (List Range)) (o : Option VersionRow) → place_or_number lists (versions_at problem name) o ≤ 2 ^ 28
       version-few-cases lists None = versions-few name

@@ -37,7 +37,8 @@ all-joined p (x ∷ xs) ys front back =
 abbrev is_small : List Weighted → Bool
 is_small terms = ltb (top_said terms) (2 ^ 63)
 
-module _ (problem : Problem) (limits : IsWithin problem) (names : List Text) (rising : IsInByteOrder names) (few : length names ≤ most_names)
+module _ (problem : Problem) (limits : IsWithin problem) (names : List Text) (rising : IsInByteOrder names)
+    (few : length names ≤ most_names)
     (n : ℕ) (held : Held)
     (order : List Text) (ordered : IsPermutation (map name_of (Own problem names n).blocks) order) where
   abbrev Rows : Text → ℕ
@@ -51,7 +52,8 @@ module _ (problem : Problem) (limits : IsWithin problem) (names : List Text) (ri
       → top_said (part_terms built terms (block_of (Own problem names n) name)) ≤ Rows name * 2 ^ 29 + 2 ^ 52
   part-bounded built terms le name = part-bounded-cases (block_of (Own problem names n) name) refl
     where
-      part-bounded-cases : (o : Option Block) → block_of (Own problem names n) name ≡ o → top_said (part_terms built terms o) ≤ Rows name * 2 ^ 29 + 2 ^ 52
+      part-bounded-cases : (o : Option Block) → block_of (Own problem names n) name ≡ o
+          → top_said (part_terms built terms o) ≤ Rows name * 2 ^ 29 + 2 ^ 52
       part-bounded-cases None is = omega arith
       part-bounded-cases (Some b) is =
           let there = (found-there (λ (c : Block). eq_by_cmp byte_cmp c.name name) (Own problem names n).blocks b is).0 in
@@ -69,7 +71,8 @@ module _ (problem : Problem) (limits : IsWithin problem) (names : List Text) (ri
       let rows : sum_by Rows order ≤ 2 ^ 28 =
       subst (λ k. k ≤ 2 ^ 28) (sym (in-order Rows))
       (rows-shared problem limits names rising (λ recipe. recipe.variants) (λ recipe. omega arith)) in
-      let size : length order ≤ most_names = subst (λ k. k ≤ most_names) (sym (sym (sum-ones order) ∙ in-order (λ name. 1) ∙ sum-ones names)) few in
+      let size : length order ≤ most_names = subst (λ k. k ≤ most_names)
+      (sym (sym (sum-ones order) ∙ in-order (λ name. 1) ∙ sum-ones names)) few in
       omega (
         arith,
         each,

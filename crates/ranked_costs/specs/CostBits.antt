@@ -11,6 +11,7 @@ use Rattle.cost_terms.specs.Terms.{Held}
 use Rattle.cost_terms.specs.Sums.{cost_terms}
 
 -- bits of a problem's costs: what the longer list of clauses defines, where no sum is too large
-pub record AreCostBits (old new : Clauses) (bits : List Lit) (tops : List ℕ) (problem : Problem) (table : Table) (held : Held) (order : List Text) : Type 0 where
+pub record AreCostBits (old new : Clauses) (bits : List Lit) (tops : List ℕ) (problem : Problem) (table : Table) (held : Held)
+    (order : List Text) : Type 0 where
   pub totals : AreTotals old new bits tops (cost_terms problem table held order)
   pub small : AllSmall (tops_said (cost_terms problem table held order))

@@ -1,4 +1,4 @@
-// Where numbers end among their bits.
+//! Where numbers end among their bits.
 ghost use Rattle.std.specs.Prelude.{◌≡◌, IfOk};
 ghost use Rattle.ranked_costs.specs.Built.{width_of, ends_from};
 

@@ -1,4 +1,4 @@
-// The conditions of definitions of variants, out of those of all directives.
+//! The conditions of definitions of variants, out of those of all directives.
 ghost use Rattle.std.specs.Prelude.{◌≡◌, take, drop, length, map, IfOk};
 ghost use Rattle.problem.specs.Problems.{variants_at};
 ghost use Rattle.ranked_costs.specs.Given.{passed, held_for};

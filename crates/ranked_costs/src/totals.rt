@@ -1,4 +1,4 @@
-// The totals of the costs.
+//! The totals of the costs.
 ghost use Rattle.std.specs.Prelude.{◌≡◌, true, IfOk};
 ghost use Rattle.clause_formulas.specs.Drafts.{value_at};
 ghost use Rattle.clause_circuits.specs.Growth.{Extends};

@@ -1,4 +1,4 @@
-// The table of a problem.
+//! The table of a problem.
 ghost use Rattle.std.specs.Prelude.{◌≡◌, ◌+◌, IfOk, OnOk};
 ghost use Rattle.table_plan.specs.Plans.{plan_of};
 ghost use Rattle.table_plan.specs.Numbers.{table_from, variables_of};

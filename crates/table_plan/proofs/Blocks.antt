@@ -51,7 +51,8 @@ variant_keys : (n : ℕ) (vs : List (Text × List Text)) → map variant_of (var
 variant_keys n [] = refl
 variant_keys n (v ∷ vs) = ap (λ ys. v.0 ∷ ys) (variant_keys (n + length v.1) vs)
 
-pair_keys : (names : List Text) (values : Text → List Text) → map (λ (p : Text × List Text). p.0) (map (λ name. (name, values name)) names) ≡ names
+pair_keys : (names : List Text) (values : Text → List Text)
+    → map (λ (p : Text × List Text). p.0) (map (λ name. (name, values name)) names) ≡ names
 pair_keys [] values = refl
 pair_keys (name ∷ names) values = ap (λ ys. name ∷ ys) (pair_keys names values)
 
@@ -66,7 +67,8 @@ values_in_order n (v ∷ vs) each w there = ⊎_elim
 
 sets_in_order : (vs : List (Text × List Text)) → AreVariants vs → (v : Text × List Text) → Contains vs v → IsInByteOrder v.1
 sets_in_order vs a v there =
-    let from = image_of (λ (name : Text). let p : Text × List Text = (name, a.values name) in p) a.names v (subst (λ us. Contains us v) a.are there) in
+    let from = image_of (λ (name : Text). let p : Text × List Text = (name, a.values name) in
+    p) a.names v (subst (λ us. Contains us v) a.are there) in
     subst (λ (u : Text × List Text). IsInByteOrder u.1) from.2 (a.sets from.0)
 
 names_in_order : (n : ℕ) (vs : List (Text × List Text)) → AreVariants vs → IsInOrder byte_cmp variant_of (variants_from n vs)
@@ -118,13 +120,15 @@ length-node_bits p o =
       length-bits_of (option_eq bytes_eq) (λ (node : Node). node.prefix) p.prefixes o,
     )
 
-module _ (v : ℕ → Bool) (n : ℕ) (p : Possible) (o : Option Node) (is : IsPossible p) (offers : (node : Node) → o ≡ Some node → Offers p node) where
+module _ (v : ℕ → Bool) (n : ℕ) (p : Possible) (o : Option Node) (is : IsPossible p) (offers : (node : Node) → o ≡ Some node
+    → Offers p node) where
   variants_case : (variants_of o ≡ []) ⊎ (IsInOrder byte_cmp (λ w. w.0) (variants_of o)
       × ((w : Text × List Text) → Contains (variants_of o) w → OffersVariant p.variants w))
   variants_case = variants_case-cases o offers
     where
       variants_case-cases : (r : Option Node) → ((node : Node) → r ≡ Some node → Offers p node) → (variants_of r ≡ [])
-          ⊎ (IsInOrder byte_cmp (λ w. w.0) (variants_of r) × ((w : Text × List Text) → Contains (variants_of r) w → OffersVariant p.variants w))
+          ⊎ (IsInOrder byte_cmp (λ w. w.0) (variants_of r)
+          × ((w : Text × List Text) → Contains (variants_of r) w → OffersVariant p.variants w))
       variants_case-cases None f = inl refl
       variants_case-cases (Some node) f = let has = f node refl in inr (has.variant_order, has.variants)
 
@@ -140,7 +144,8 @@ module _ (v : ℕ → Bool) (n : ℕ) (p : Possible) (o : Option Node) (is : IsP
       let g = bits_of (option_eq bytes_eq) (λ (node : Node). node.prefix) p.prefixes o in
       let ra = next_part v (n + 1) a (b ++ (c ++ (d ++ (e ++ (f ++ g))))) (width_of p.origins)
       (length-bits_of same_origin (λ (node : Node). node.origin) p.origins o) r.1 in
-      let rb = next_part v _ b (c ++ (d ++ (e ++ (f ++ g)))) (width_of p.versions) (length-bits_of bytes_eq (λ (node : Node). node.version) p.versions o) ra.1 in
+      let rb = next_part v _ b (c ++ (d ++ (e ++ (f ++ g)))) (width_of p.versions)
+      (length-bits_of bytes_eq (λ (node : Node). node.version) p.versions o) ra.1 in
       let rc = next_part v _ c (d ++ (e ++ (f ++ g))) (values_in p.variants) (length-value_bits p.variants (variants_of o)) rb.1 in
       let rd = next_part v _ d (e ++ (f ++ g)) (width_of p.compilers)
       (length-bits_of (option_eq same_compiler) (λ (node : Node). node.compiler) p.compilers o) rc.1 in
@@ -149,16 +154,19 @@ module _ (v : ℕ → Bool) (n : ℕ) (p : Possible) (o : Option Node) (is : IsP
       let ordered = block_ordered n p is in
       record {
         present = r.0;
-        origin = attribute_reads v same_origin origins_exact (λ node. node.origin) (lit_of n) _ p.origins o is.origins r.0 (λ node s. (offers node s).origin) ra.0;
+        origin = attribute_reads v same_origin origins_exact (λ node. node.origin) (lit_of n) _ p.origins o is.origins r.0
+            (λ node s. (offers node s).origin) ra.0;
         version = attribute_reads v bytes_eq bytes_decides (λ node. node.version) (lit_of n) _ p.versions o is.versions r.0
             (λ node s. (offers node s).version) rb.0;
         ordered = ordered;
         variants = variants_spelled v _ p.variants (variants_of o) is.variants variants_case rc.0;
-        compiler = attribute_reads v (option_eq same_compiler) (options_exact same_compiler compilers_exact) (λ node. node.compiler) (lit_of n) _
+        compiler = attribute_reads v (option_eq same_compiler) (options_exact same_compiler compilers_exact)
+            (λ node. node.compiler) (lit_of n) _
             p.compilers o is.compilers r.0 (λ node s. (offers node s).compiler) rd.0;
         os = attribute_reads v bytes_eq bytes_decides (λ node. node.os) (lit_of n) _ p.os o is.os r.0 (λ node s. (offers node s).os) re.0;
         target = attribute_reads v bytes_eq bytes_decides (λ node. node.target) (lit_of n) _ p.targets o is.targets r.0
             (λ node s. (offers node s).target) rf.0;
-        prefix = attribute_reads v (option_eq bytes_eq) (options_exact bytes_eq bytes_decides) (λ node. node.prefix) (lit_of n) _ p.prefixes o
+        prefix = attribute_reads v (option_eq bytes_eq) (options_exact bytes_eq bytes_decides) (λ node. node.prefix) (lit_of n)
+            _ p.prefixes o
             is.prefixes r.0 (λ node s. (offers node s).prefix) rf.1;
       }

@@ -29,7 +29,8 @@ attribute_below m p n [] lt le = tt
 attribute_below m p n (x ∷ []) lt le = (lt, tt)
 attribute_below m p n (x ∷ y ∷ more) lt le = numbered_below m n (x ∷ y ∷ more) le
 
-variants_below : (m n : ℕ) (vs : List (Text × List Text)) → n + values_in vs ≤ m → AllBelow m (flat_map (λ w. lits_of w.1) (variants_from n vs))
+variants_below : (m n : ℕ) (vs : List (Text × List Text)) → n + values_in vs ≤ m
+    → AllBelow m (flat_map (λ w. lits_of w.1) (variants_from n vs))
 variants_below m n [] le = tt
 variants_below m n (v ∷ vs) le = append_below m (lits_of (numbered n v.1)) (flat_map (λ w. lits_of w.1) (variants_from (n + length v.1) vs))
     (numbered_below m n v.1 (omega (arith, le))) (variants_below m (n + length v.1) vs (omega (arith, le)))
@@ -80,6 +81,7 @@ table_below n plan =
       blocks = all_from (IsBlockBelow m) (blocks_from n plan.nodes) (blocks_below m n plan.nodes (omega arith));
       edges = all_from (EdgeBelow m) (edges_from (n + widths plan.nodes) plan.edges)
           (edges_below m (n + widths plan.nodes) plan.edges (omega (arith, threes plan.edges)));
-      providers = all_from (λ (p : ProviderLits). AreBelow m p.packages) (providers_from (n + widths plan.nodes + 3 * length plan.edges) plan.providers)
+      providers = all_from (λ (p : ProviderLits). AreBelow m p.packages)
+          (providers_from (n + widths plan.nodes + 3 * length plan.edges) plan.providers)
           (providers_below m (n + widths plan.nodes + 3 * length plan.edges) plan.providers (omega arith));
     }

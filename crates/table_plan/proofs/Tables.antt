@@ -110,7 +110,8 @@ module _ (v : ℕ → Bool) (graph : Content) where
       let later = subst (λ m. Reads v (n + m) (nodes_bits graph ps)) (length-node_bits p (node_of graph p.name)) parts.1 in
       let all = λ (q : Possible) (there : Contains ps q). All-contains IsPossible (p ∷ ps) q is (has_later p ps q there) in
       let first : IsPossible p = All-contains IsPossible (p ∷ ps) p is (has_first p ps) in
-      let rest = nodes_read (n + width p) ps (rises_rest byte_cmp p.name (map (λ q. q.name) ps) rising) (all_from IsPossible ps all) later name in
+      let rest = nodes_read (n + width p) ps (rises_rest byte_cmp p.name (map (λ q. q.name) ps) rising)
+      (all_from IsPossible ps all) later name in
       ⊎_elim
       (λ hit.
       let key : p.name ≡ name = sym (block_named n p) ∙ (texts_decide (block_from n p).name name).0 hit in
@@ -158,7 +159,8 @@ module _ (v : ℕ → Bool) (graph : Content) where
       ))))
       (cases_Bool (eq_by_cmp pair_cmp pair (parent, child)))
 
-  packages_read : (n : ℕ) (packages : List Text) (o : Option Text) → IsInByteOrder packages → ((p : Text) → o ≡ Some p → Contains packages p)
+  packages_read : (n : ℕ) (packages : List Text) (o : Option Text) → IsInByteOrder packages
+      → ((p : Text) → o ≡ Some p → Contains packages p)
       → Reads v n (map (λ one. is_some_and o (λ p. bytes_eq p one)) packages) → chosen v (numbered n packages) ≡ option_to_list o
   packages_read n packages None rising f r = numbered_reads v (λ one. false) n packages r ∙ nothing_kept packages
   packages_read n packages (Some p) rising f r =
@@ -190,7 +192,8 @@ module _ (v : ℕ → Bool) (graph : Content) where
       (subst (λ m. Reads v n (map (λ one. is_some_and (provider_of graph m) (λ p. bytes_eq p one)) w.1)) key parts.0)))
       (λ miss. rw miss (rest (λ p e. let at = f p e in (
         at.0,
-        ⊎_elim (λ same. absurd (false≢true (sym miss ∙ (texts_decide w.0 name).1 (ap (λ (u : Text × List Text). u.0) same)))) (λ in_ws. in_ws)
+        ⊎_elim (λ same. absurd (false≢true (sym miss ∙ (texts_decide w.0 name).1 (ap (λ (u : Text × List Text). u.0) same))))
+            (λ in_ws. in_ws)
             (first_or_later w ws (name, at.0) at.1),
         at.2,
       ))))
@@ -203,15 +206,18 @@ module _ (n : ℕ) (plan : Plan) (graph : Content) (is : IsPlan plan) (has : IsO
   unfolding graph_bits table_from
   table_read v r =
       let nodes = reads_parts v n (nodes_bits graph plan.nodes) (edges_bits graph plan.edges ++ providers_bits graph plan.providers) r in
-      let after = subst (λ m. Reads v (n + m) (edges_bits graph plan.edges ++ providers_bits graph plan.providers)) (length-nodes_bits graph plan.nodes) nodes.1 in
+      let after = subst (λ m. Reads v (n + m) (edges_bits graph plan.edges ++ providers_bits graph plan.providers))
+      (length-nodes_bits graph plan.nodes) nodes.1 in
       let edges = reads_parts v (n + widths plan.nodes) (edges_bits graph plan.edges) (providers_bits graph plan.providers) after in
-      let last = subst (λ m. Reads v (n + widths plan.nodes + m) (providers_bits graph plan.providers)) (length-edges_bits graph plan.edges) edges.1 in
+      let last = subst (λ m. Reads v (n + widths plan.nodes + m) (providers_bits graph plan.providers))
+      (length-edges_bits graph plan.edges) edges.1 in
       record {
         nodes = λ name. nodes_read v graph n plan.nodes is.nodes is.possible nodes.0 name (λ node e.
             let at = has.nodes name node e in
             (at.0, at.1, sym at.2.name ∙ named-so graph name node e, at.2));
         edges = λ parent child. edges_read v graph (n + widths plan.nodes) plan.edges edges.0 parent child (has.edges parent child);
-        providers = λ name. providers_read v graph (n + widths plan.nodes + 3 * length plan.edges) plan.providers is.providers is.packages last name
+        providers = λ name. providers_read v graph (n + widths plan.nodes + 3 * length plan.edges) plan.providers is.providers
+            is.packages last name
             (has.providers name);
       }
 
@@ -236,7 +242,8 @@ made_keys make width key from same n (x ∷ xs) =
     let rest = made_keys make width key from same (n + width x) xs in
     λ i. first i ∷ rest i
 
-blocks_ordered : (n : ℕ) (ps : List Possible) → ((p : Possible) → Contains ps p → IsPossible p) → (b : Block) → Contains (blocks_from n ps) b
+blocks_ordered : (n : ℕ) (ps : List Possible) → ((p : Possible) → Contains ps p → IsPossible p) → (b : Block)
+    → Contains (blocks_from n ps) b
     → AreVariantsInOrder b
 blocks_ordered n [] is b there = absurd (omega (arith, there.1))
 blocks_ordered n (p ∷ ps) is b there = ⊎_elim

@@ -1,4 +1,4 @@
-// The table of a plan.
+//! The table of a plan.
 ghost use Rattle.std.specs.Prelude.{◌≡◌, ◌+◌, ◌*◌, [], ◌∷◌, length, IfOk, OnOk};
 ghost use Rattle.table_plan.specs.Offers.{IsPlan};
 ghost use Rattle.table_plan.specs.Numbers.{lit_of, numbered, attribute, width_of, variants_from, values_in, width, widths, block_from, blocks_from, edge_from, edges_from, provider_from, providers_from, table_from, variables_of};
@@ -215,7 +215,8 @@ fn providers_from(
     next: &mut u64,
     virtuals: &[(Word, List<Word>)],
 ) -> Result<Vec<ProviderLits>, AllocError>
-    ensures providers { IfOk result (λ providers. providers.items ≡ providers_from next.old virtuals.now) }
+    ensures providers { IfOk result
+        (λ providers. providers.items ≡ providers_from next.old virtuals.now) }
     ensures next { OnOk result (next.new ≡ next.old + values_in virtuals.now) }
 {
     let mut providers = Vec::new(alloc);

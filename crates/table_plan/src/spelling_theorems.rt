@@ -1,4 +1,4 @@
-// What holds of all plans and their tables. The bodies are empty: what is proved are the contracts.
+//! What holds of all plans and their tables. The bodies are empty: what is proved are the contracts.
 ghost use Rattle.std.specs.Prelude.{ℕ, ◌+◌, Bool};
 ghost use Rattle.graph_core.specs.Graphs.{Content};
 ghost use Rattle.literal_table.specs.Tables.{IsTable};
@@ -15,7 +15,8 @@ pub fn spelling_laws()
     ensures spelled { (n : ℕ) (plan : Plan) (graph : Content) → IsPlan plan → IsOffered plan graph
         → (v : ℕ → Bool) → Spells (spelling n plan graph v) (table_from n plan) graph }
     ensures table { (n : ℕ) (plan : Plan) → IsPlan plan → IsTable (table_from n plan) }
-    ensures below { (n : ℕ) (plan : Plan) → IsTableBelow (n + variables_of plan) (table_from n plan) }
+    ensures below { (n : ℕ) (plan : Plan)
+        → IsTableBelow (n + variables_of plan) (table_from n plan) }
     ensures others { (n : ℕ) (plan : Plan) (graph : Content) (v : ℕ → Bool)
         → AgreeOutside n (variables_of plan) (spelling n plan graph v) v }
 {}

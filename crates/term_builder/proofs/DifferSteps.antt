@@ -23,7 +23,8 @@ module _ {T : Type 0} (filled : T → Bool) (same : T → T → Bool) (there : S
       → old ≡ old ++ differ_terms filled same there xs ys
   cannot-step can old told wrong = rw (sym told ∙ wrong) (sym (append-nil old))
 
-  pub can-step : (can : Bool) (old new : List Weighted) (left right : Statement) (parts : List Statement) → can ≡ can_differ filled same xs ys → can ≡ true
+  pub can-step : (can : Bool) (old new : List Weighted) (left right : Statement) (parts : List Statement)
+      → can ≡ can_differ filled same xs ys → can ≡ true
       → left ≡ filled_said filled same xs → right ≡ filled_said filled same ys
       → parts ≡ map (λ x. both (atom x.1) (any_choice (same x.0) ys)) xs
       → new ≡ old ++ record { weight = 1; formula = all_of (there ∷ left ∷ right ∷ no (any_of parts) ∷ []) } ∷ []
@@ -31,6 +32,7 @@ module _ {T : Type 0} (filled : T → Bool) (same : T → T → Bool) (there : S
   can-step can old new left right parts told right-so l r p n =
       rw (sym told ∙ right-so) (n ∙ λ i. old ++ record { weight = 1; formula = all_of (there ∷ l i ∷ r i ∷ no (any_of (p i)) ∷ []) } ∷ [])
 
-pub some-step : {T : Type 0} (filled : T → Bool) (same : T → T → Bool) (xs : Choices T) (all : Bool) → all ≡ list_all (λ x. filled x.0) xs → all ≡ false
+pub some-step : {T : Type 0} (filled : T → Bool) (same : T → T → Bool) (xs : Choices T) (all : Bool)
+    → all ≡ list_all (λ x. filled x.0) xs → all ≡ false
     → any_choice filled xs ≡ filled_said filled same xs
 some-step filled same xs all is wrong = sym (ap (λ b. if b then no never else any_choice filled xs) (sym is ∙ wrong))

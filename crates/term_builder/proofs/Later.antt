@@ -8,7 +8,8 @@ use Rattle.term_builder.specs.VariantTerms.{later, governs}
 
 -- a condition that holds, and none of the later definitions' that was gathered, is the formula that governs
 pub governs-is : (variant : Text) (f said some none : Statement) (rows : List VariantRow) (fs start parts : List Statement) → said ≡ f
-    → start ≡ [] → parts ≡ start ++ later variant rows fs → some ≡ any_of parts → none ≡ opposite some → both said none ≡ governs variant f rows fs
+    → start ≡ [] → parts ≡ start ++ later variant rows fs → some ≡ any_of parts → none ≡ opposite some
+    → both said none ≡ governs variant f rows fs
 governs-is variant f said some none rows fs start parts s z p a n =
     let is : parts ≡ later variant rows fs = p ∙ ap (λ ts. ts ++ later variant rows fs) z in
     let last : none ≡ no (any_of (later variant rows fs)) = n ∙ ap opposite (a ∙ ap any_of is) ∙ opposite-any (later variant rows fs) in

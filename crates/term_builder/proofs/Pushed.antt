@@ -17,7 +17,8 @@ pushed-if test term (x ∷ xs) = flat_map-cons (λ x. only_if (test x) (term x))
 ]
 
 -- all were pushed
-pub ended : {X : Type 0} (g : X → List Weighted) (xs items : List X) (i : ℕ) (terms old whole : List Weighted) → items ≡ xs → drop i items ≡ []
+pub ended : {X : Type 0} (g : X → List Weighted) (xs items : List X) (i : ℕ) (terms old whole : List Weighted) → items ≡ xs
+    → drop i items ≡ []
     → terms ++ flat_map g (drop i xs) ≡ old ++ flat_map g xs → flat_map g xs ≡ whole → terms ≡ old ++ whole
 ended g xs items i terms old whole told over done is =
     sym (append-nil terms) ∙ ap (λ rest. terms ++ flat_map g rest) (sym over ∙ ap (drop i) told) ∙ done ∙ ap (λ ts. old ++ ts) is

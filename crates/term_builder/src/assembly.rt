@@ -1,4 +1,4 @@
-// The lists of all criteria.
+//! The lists of all criteria.
 ghost use Rattle.std.specs.Prelude.{◌≡◌, ◌++◌, ◌∷◌, [], true, false, map, IfOk, OnOk};
 ghost use Rattle.literal_table.specs.Tables.{block_of};
 ghost use Rattle.cost_terms.specs.Sums.{part_terms, number_terms, cost_terms};

@@ -1,4 +1,4 @@
-// What the node of a block adds to each criterion.
+//! What the node of a block adds to each criterion.
 ghost use Rattle.std.specs.Prelude.{◌≡◌, IfOk};
 ghost use Rattle.std.specs.Str.{bytes_eq};
 ghost use Rattle.condition_rules.specs.Words.{is_some_and};

@@ -132,7 +132,8 @@ fn any_compiler(
     compiler: &Option<Compiler>,
     ys: &[(Option<Compiler>, Lit)],
 ) -> Result<Formula, AllocError>
-    ensures { IfOk result (λ formula. formula ≡ any_choice_on (same_compilers compiler.now) ys.now) }
+    ensures { IfOk result (λ formula. formula
+        ≡ any_choice_on (same_compilers compiler.now) ys.now) }
 {
     any_choice(alloc, ys, |y| same_compilers(compiler, y))
 }

@@ -14,7 +14,8 @@ fn push_said(
     counts: bool,
     condition: Defined,
 ) -> Result<(), AllocError>
-    ensures { OnOk result (parts.new.items ≡ parts.old.items ++ said_if counts (said_of condition)) }
+    ensures { OnOk result (parts.new.items ≡ parts.old.items
+        ++ said_if counts (said_of condition)) }
 {
     if !counts {
         return Ok(());

@@ -19,6 +19,7 @@ returns g c =
     let name = c.args.name.now in
     let said = λ (n : Text). plain_term table condition (extra_edges_rule problem (names_for table) (children_of table n) n) in
     let built = λ (n : Text). node_said table n (has_origin builds) in
-    let rule = ok-is c.extra_edges_formula.result c.in_ok-rule.rule (said c.as_str.result.now) c.in_ok-rule.was c.extra_edges_formula.ensures ∙ ap said c.as_str.ensures in
+    let rule = ok-is c.extra_edges_formula.result c.in_ok-rule.rule (said c.as_str.result.now) c.in_ok-rule.was
+    c.extra_edges_formula.ensures ∙ ap said c.as_str.ensures in
     ok-same c.where_built.result (implies (built c.as_str-2.result.now) c.in_ok-rule.rule) (implies (built name) (said name))
     (implies-same _ _ _ _ (ap built c.as_str-2.ensures) rule) c.where_built.ensures

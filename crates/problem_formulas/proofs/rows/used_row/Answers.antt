@@ -11,4 +11,5 @@ returns g c =
     let table = c.args.table.now in
     let problem = c.args.problem.now in
     let condition = g.C.MetConditions.condition_of c.args.conditions.now in
-    c.each_virtual.ensures (λ (name : Text). plain_term table condition (of_provider (names_for table) (used_rule problem (names_of table)) name)) (λ x r says. search rules)
+    c.each_virtual.ensures (λ (name : Text). plain_term table condition
+    (of_provider (names_for table) (used_rule problem (names_of table)) name)) (λ x r says. search rules)

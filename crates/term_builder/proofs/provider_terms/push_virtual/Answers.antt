@@ -8,9 +8,12 @@ use Rattle.term_builder.proofs.provider_terms.push_virtual.Goals as goal
 
 pub returns : goal.returns
 returns c =
-    ended (λ choice. only_if (bytes_eq choice.0 c.args.name.now) (record { weight = provider_weight c.args.problem.now (c.args.virtuals.now.name, choice.0); formula = atom choice.1 }))
-    c.args.virtuals.now.packages c.as_slice-choice-items.result.now c.loop-choice.choice-index c.loop-choice.terms.items c.args.terms.now.items _
+    ended (λ choice. only_if (bytes_eq choice.0 c.args.name.now)
+    (record { weight = provider_weight c.args.problem.now (c.args.virtuals.now.name, choice.0); formula = atom choice.1 }))
+    c.args.virtuals.now.packages c.as_slice-choice-items.result.now c.loop-choice.choice-index c.loop-choice.terms.items
+    c.args.terms.now.items _
     c.as_slice-choice-items.ensures (drop_all c.loop-choice.choice-index c.as_slice-choice-items.result.now c.loop-choice-test.false)
     c.loop-choice.invariant
-    (pushed-if (λ choice. bytes_eq choice.0 c.args.name.now) (λ choice. record { weight = provider_weight c.args.problem.now (c.args.virtuals.now.name, choice.0); formula = atom choice.1 })
+    (pushed-if (λ choice. bytes_eq choice.0 c.args.name.now)
+    (λ choice. record { weight = provider_weight c.args.problem.now (c.args.virtuals.now.name, choice.0); formula = atom choice.1 })
     c.args.virtuals.now.packages)

@@ -6,5 +6,7 @@ use Rattle.term_builder.proofs.variant_terms.push_variant.Given as goal
 
 abbrev pub invariant-loop-i : goal.invariant-loop-i
 invariant-loop-i l =
-    l.terms.items ++ variant_terms (counted_terms l.which) (with_formulas (drop l.i l.rows) (map said_of l.left)) (l.fn.variant, l.fn.values)
-    ≡ l.fn.terms.items ++ variant_terms (counted_terms l.which) (with_formulas l.fn.rows (map said_of l.fn.conditions)) (l.fn.variant, l.fn.values)
+    l.terms.items ++ variant_terms (counted_terms l.which) (with_formulas (drop l.i l.rows) (map said_of l.left))
+    (l.fn.variant, l.fn.values)
+    ≡ l.fn.terms.items ++ variant_terms (counted_terms l.which) (with_formulas l.fn.rows (map said_of l.fn.conditions))
+    (l.fn.variant, l.fn.values)

@@ -7,7 +7,11 @@ use Rattle.term_builder.proofs.variant_terms.push_variants.Given as goal
 
 abbrev pub invariant-loop-variant : goal.invariant-loop-variant
 invariant-loop-variant l =
-    l.terms.items ++ flat_map (variant_terms (counted_terms l.which) (with_formulas (variants_at l.fn.problem l.fn.block.name) (map said_of l.fn.conditions)))
+    l.terms.items
+    ++ flat_map (variant_terms (counted_terms l.which)
+    (with_formulas (variants_at l.fn.problem l.fn.block.name) (map said_of l.fn.conditions)))
     (drop l.variant-index l.fn.block.variants)
-    ≡ l.fn.terms.items ++ flat_map (variant_terms (counted_terms l.which) (with_formulas (variants_at l.fn.problem l.fn.block.name) (map said_of l.fn.conditions)))
+    ≡ l.fn.terms.items
+    ++ flat_map (variant_terms (counted_terms l.which)
+    (with_formulas (variants_at l.fn.problem l.fn.block.name) (map said_of l.fn.conditions)))
     l.fn.block.variants

@@ -15,5 +15,6 @@ returns c =
     let problem = c.args.self.now.problem.now in
     let path = path_by table c.args.paths.now in
     let condition = condition_said problem table path in
-    ok-same c.all_rules.result (all_of (rows_said problem table condition)) ((formulas_given problem table).rules path (value_at c.args._values.now))
+    ok-same c.all_rules.result (all_of (rows_said problem table condition))
+    ((formulas_given problem table).rules path (value_at c.args._values.now))
     (sym (ap all_of (rows-same path condition table problem))) c.all_rules.ensures
