@@ -57,9 +57,11 @@ all-asked {D = D} id [] = refl
 all-asked {D = D} id (d ∷ ds) = ap (λ (es : List D). d ∷ es) (all-asked (id + 1) ds)
 
 module _ (problem : Problem) where
+  -- a valid graph is valid for all demands
   pub is-valid : (g : Content) → IsWellFormed g → valid problem g ≡ true → IsValid problem all g
   is-valid g formed ok = (formed, valid-for_any problem g (asked_demands problem all) ok)
 
+  -- and the other way
   pub valid-is : (g : Content) → IsValid problem all g → valid problem g ≡ true
   valid-is g ok = valid-from_demands problem g ok.0.is_graph
       (subst (λ ds. valid_for ds problem g ≡ true) (all-asked 0 (demands problem)) ok.1)

@@ -77,6 +77,7 @@ module _ (problem : Problem) (rules : Rules) (ruled : AreRules problem rules) (d
     reasons = subst (λ (s : Clauses). AreReasons s.entries log numbers) ruled.clauses reasons;
   }
 
+  -- a spent budget
   pub spent : (log : List Line) → IsFound rules.clauses [] budget (Spent log) → IsBest rules.clauses [] budget (Spent log)
       → IsSpent problem budget
   spent log found best = record {

@@ -16,6 +16,7 @@ use Rattle.cost_terms.specs.Weighed.{weight_said, sum_said}
 use Rattle.cost_terms.specs.Parts.{builds, is_of, part_said, only_where, in_part}
 use Rattle.cost_terms.proofs.SpreadLaws.{said-cons}
 
+-- some of one element
 pub or-false : {T : Type 0} (f : T → Bool) (x : T) → list_any f (x ∷ []) ≡ f x
 or-false f x = or-false-cases (f x)
   where
@@ -42,6 +43,7 @@ module _ (v : ℕ → Bool) where
       or-second false b h = h
       or-second true b h = absurd (cc)
 
+  -- what all choices pass, the chosen one passes
   pub chosen-all : {T : Type 0} (test : T → Bool) (choices : Choices T) (x : T) → chosen v choices ≡ x ∷ []
       → list_all (λ c. test c.0) choices ≡ true
       → test x ≡ true

@@ -51,6 +51,7 @@ module _ (v : ℕ → Bool) where
     | inr l ↦ rw l (chosen-weighed weight cs)
   ]
 
+  -- the weight of the one that is chosen
   pub one-weighed : {T : Type 0} (weight : T → ℕ) (choices : Choices T) (one : Option T) → chosen v choices ≡ option_to_list one
       → chosen v (weighed weight choices) ≡ option_to_list (option_map weight one)
   one-weighed weight choices one is = chosen-weighed weight choices ∙ ap (map weight) is ∙ mapped one
@@ -101,6 +102,7 @@ module _ (v : ℕ → Bool) where
     | inr l ↦ (let rest : chosen v cs ≡ n ∷ [] = rw l at is in let low = below-greatest cs n rest in omega arith)
   ]
 
+  -- the digits add up to it
   pub spread-sum : (choices : Choices ℕ) (one : Option ℕ) → chosen v choices ≡ option_to_list one
       → sum_said v (spread choices) ≡ adds_or_none (λ n. n) one
   unfolding spread

@@ -86,6 +86,7 @@ module _ (problem : Problem) (t : Table) (n : ℕ) (f : Formulas) (decode : (ℕ
   shaped-says : ClausesSay (base n) shaped (λ asked v. list_all (eval v) f.structure)
   shaped-says = assert_all-says f.structure (base n) right.structure_below
 
+  -- models of the structure
   pub shaped-models : Models shaped S0 R0
   shaped-models = begun (base n) shaped S0 R0 (λ asked v. list_all (eval v) f.structure) refl right.local shaped-says
       (λ asked v h. let r = right.reads v h in (decode v, r.0, (r.1, (v, r.0))))
@@ -112,6 +113,7 @@ module _ (problem : Problem) (t : Table) (n : ℕ) (f : Formulas) (decode : (ℕ
   edges-stage = restated shaped edged.list S0 (EdgesSay t.edges edged.answer) AGraph Nothing S0 R0 (λ asked v g s r. s)
       (λ asked v g s r. r.0.is_graph) (edge-stage t right.table shaped edges-below)
 
+  -- with the literals of edges
   pub edges-models : Models edged.list S1 R1
   edges-models = added shaped edged.list S0 (EdgesSay t.edges edged.answer) R0 Nothing shaped-models edges-stage
 
@@ -147,6 +149,7 @@ module _ (problem : Problem) (t : Table) (n : ℕ) (f : Formulas) (decode : (ℕ
     levels-stage = restated edged.list levelled (SpellsEdges t edged.answer) P AGraph (KeepsLevelRules problem) S1 R1 (λ asked v g s r. s)
         (λ asked v g s r. r.0.0.is_graph) (level-stage problem t edged.answer targets edged.list levelled paths right.table levels-kept)
 
+    -- with levels
     pub levels-models : Models levelled S2 R2
     levels-models = added edged.list levelled S1 P R1 (KeepsLevelRules problem) edges-models levels-stage
 
@@ -185,6 +188,7 @@ module _ (problem : Problem) (t : Table) (n : ℕ) (f : Formulas) (decode : (ℕ
       values-stage = defined (bare levelled) valued.state S2 R2 (λ v g s. tt) valued.answer (f.conditions path) holds values-are
           (λ k asked v g s r. says.conditions_say v g path s.0.0 r.0.0.0 s.1 k)
 
+      -- with the values of conditions
       pub values-models : Models defined-list S3 R3
       values-models = added levelled defined-list S2 (Both (ValuesSay valued.answer holds) (FitsGates valued.state.gates)) R2 Nothing
           levels-models values-stage
@@ -216,6 +220,7 @@ module _ (problem : Problem) (t : Table) (n : ℕ) (f : Formulas) (decode : (ℕ
       rules-stage = asserted valued.state ruled S3 R3 (λ v g s. s.1.1) (f.rules path met) (keeps_all other_rules problem) rules-said
           (λ asked v g s r. says.rules_say v g path met s.0.0.0 r.0.0.0.0 s.0.1 s.1.0)
 
+      -- with the rules
       pub rules-models : Models ruled.list S4 R4
       rules-models = added defined-list ruled.list S3 (FitsGates ruled.gates) R3 (Holds (keeps_all other_rules problem))
           values-models rules-stage
@@ -247,11 +252,13 @@ module _ (problem : Problem) (t : Table) (n : ℕ) (f : Formulas) (decode : (ℕ
           (met-below ruled.list.vars ruled-more)) (demands problem)))
           (λ d asked v g s r. says.demand_says v g path met d s.0.0.0.0 r.0.0.0.0.0 s.0.0.1 s.0.1.0)
 
+      -- and with the demands
       pub whole-models : Models whole S5 R5
       whole-models = added ruled.list whole S4 (FitsGates demanding.gates) R4 K rules-models demands-stage
 
       -- ---- valid graphs
 
+      -- what all stages say of a graph is that it is valid
       pub is-valid : (asked : ℕ → Bool) (g : Content) → R5 asked g → IsValid problem asked g
       unfolding valid_for
       is-valid asked g r = (
@@ -260,6 +267,7 @@ module _ (problem : Problem) (t : Table) (n : ℕ) (f : Formulas) (decode : (ℕ
             (rules-join problem g r.0.1 r.0.0.0.1) r.1,
       )
 
+      -- and the other way
       pub valid-is : (asked : ℕ → Bool) (g : Content) → IsValid problem asked g → R5 asked g
       unfolding valid_for
       valid-is asked g ok =
@@ -268,6 +276,7 @@ module _ (problem : Problem) (t : Table) (n : ℕ) (f : Formulas) (decode : (ℕ
           let q = rules-part problem g p.0 in
           (((((((ok.0, right.spelled (asked_among asked 0 (demands problem)) g ok.0 ok.1), tt), q.1), tt), q.0), p.1))
 
+      -- so models decode to just the valid graphs
       pub whole-decodes : Decodes whole decode (IsValid problem)
       whole-decodes = record {
         sound = λ asked v m.
@@ -279,6 +288,7 @@ module _ (problem : Problem) (t : Table) (n : ℕ) (f : Formulas) (decode : (ℕ
             (w.0, right.decoded w.0 g w.1.0.0.0.0.0 ok.0, w.2);
       }
 
+      -- of the whole encoding
       pub encoded : Decodes (encode_on problem t n f targets) decode (IsValid problem)
       unfolding encode_on rules_on levels_made edges_made
       encoded = whole-decodes
@@ -288,6 +298,7 @@ module _ (problem : Problem) (t : Table) (n : ℕ) (f : Formulas) (decode : (ℕ
       whole-later : defined-list.vars ≤ whole.vars
       whole-later = omega (arith, ruled-more, demands-stage.grows.more)
 
+      -- its variables are in range
       pub in-range : (n ≤ (encode_on problem t n f targets).vars) × MetBelow (encode_on problem t n f targets).vars met
       unfolding encode_on rules_on levels_made edges_made
       in-range = (omega (arith, levelled-more, valued-more, whole-later), met-below whole.vars whole-later)

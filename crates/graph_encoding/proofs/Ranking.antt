@@ -90,6 +90,7 @@ module _ (problem : Problem) (t : Table) (n : ℕ) (f : Formulas) (decode : (ℕ
     new-order asked v w m k = orders.order asked v w (parts asked v m).1 (parts asked w k).1
         ∙ ap (λ x. compare_numbers x (sums w)) (sums-are asked v m) ∙ ap (compare_numbers (numbers (decode v))) (sums-are asked w k)
 
+    -- bits that compare as numbers rank the graphs
     pub ranks : RanksGraphs new decode (IsValid problem) bits numbers
     ranks = record {
       decodes = new-decodes;
@@ -101,6 +102,7 @@ module _ (problem : Problem) (t : Table) (n : ℕ) (f : Formulas) (decode : (ℕ
           small w.0 w.2 (new-order asked v w.0 m w.2 ∙ ap (λ h. compare_numbers (numbers (decode v)) (numbers h)) w.1 ∙ more);
     }
 
+-- so do bits of sums behind an encoding
 pub ranked : (problem : Problem) (t : Table) (n : ℕ) (f : Formulas) (decode : (ℕ → Bool) → Content)
     (right : IsRightTable problem t n f decode)
     (targets : List Text) (holds : ℕ → Content → Bool) (says : AreRightFormulas problem t n f (told_in t targets) holds) (new : Clauses)

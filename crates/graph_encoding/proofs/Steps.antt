@@ -41,6 +41,7 @@ zip-length s t [] (l ∷ ls) all = elim all [ ]
 zip-length s t (e ∷ es) [] all = elim all [ ]
 zip-length s t (e ∷ es) (l ∷ ls) all = ap (λ k. suc k) (zip-length s t es ls all.1)
 
+-- the literals of edges are known behind them
 pub edges_known : (t : Table) (old new : Clauses) (ls : List Lit) → EdgesBelow old.vars t.edges
     → edges_on old t.edges ≡ record { list = new; answer = ls } → AllBelow new.vars ls × (length ls ≡ length t.edges)
     × (old.vars ≤ new.vars)
@@ -52,14 +53,17 @@ edges_known t old new ls below e =
       a.0.says.grows.more,
     )
 
+-- what is below a number is below a greater one
 pub edges_later : (t : Table) (m n : ℕ) → m ≤ n → EdgesBelow m t.edges → EdgesBelow n t.edges
 edges_later t m n h below = λ k d lt. let e = below k d lt in (omega (arith, h, e.0), omega (arith, h, e.1), omega (arith, h, e.2))
 
+-- so with nodes
 pub nodes_later : (t : Table) (m n : ℕ) → m ≤ n → PresentBelow m t → PresentBelow n t
 nodes_later t m n h below = λ k d lt. let e = below k d lt in omega (arith, h, e)
 
 -- ---- the structure, edges and levels
 
+-- the levels are those of the definition
 pub levels_step : (problem : Problem) (t : Table) (n : ℕ) (f : Formulas) (targets : List Text) (shaped edged new : Clauses)
     (fs : List Statement)
     (ls : List Lit) (made : PathTable) → shaped ≡ assert_all (base n) fs → fs ≡ f.structure
@@ -77,6 +81,7 @@ levels_step problem t n f targets shaped edged new fs ls made a b e c d =
 
 -- ---- the rules
 
+-- the formulas of conditions are in range
 pub conditions_range : (t : Table) (n : ℕ) (f : Formulas) (old : Clauses) (path : PathFormulas) (fs : List Statement) → AreInRange t n f
     → n ≤ old.vars
     → PathsBelow old.vars path → fs ≡ f.conditions path → SaidBelow old.vars (any_of fs)
@@ -86,6 +91,7 @@ conditions_range t n f old path fs range more paths e =
 paths-later : (m n : ℕ) (path : PathFormulas) → m ≤ n → PathsBelow m path → PathsBelow n path
 paths-later m n path h below from to = SaidBelow-le m n (path from to) h (below from to)
 
+-- that of the rules
 pub rules_range : (t : Table) (n : ℕ) (f : Formulas) (old mid : Gated) (path : PathFormulas) (ds : List Defined) (fs : List Statement)
     (rule : Statement)
     → AreInRange t n f → n ≤ old.list.vars → PathsBelow old.list.vars path → DefinesValues old mid ds fs
@@ -95,6 +101,7 @@ rules_range t n f old mid path ds fs rule range more paths values e =
     subst (SaidBelow mid.list.vars) (sym e) (range.rules mid.list.vars path (value_at ds) (omega (arith, more, later))
     (paths-later old.list.vars mid.list.vars path later paths) (λ k. value-below old mid ds fs values.means k))
 
+-- those of the demands
 pub demand_range : (t : Table) (n : ℕ) (f : Formulas) (old mid : Gated) (late : ℕ) (path : PathFormulas) (ds : List Defined)
     (fs : List Statement) → AreInRange t n f → n ≤ old.list.vars → PathsBelow old.list.vars path → DefinesValues old mid ds fs
     → mid.list.vars ≤ late → (d : Demand) → SaidBelow late (f.demand path (value_at ds) d)
@@ -104,6 +111,7 @@ demand_range t n f old mid late path ds fs range more paths values h d =
     (paths-later old.list.vars late path (omega (arith, later, h)) paths)
     (λ k. SaidBelow-le mid.list.vars late (value_at ds k) h (value-below old mid ds fs values.means k))
 
+-- the rules are those of the definition
 pub rules_step : (problem : Problem) (f : Formulas) (path : PathFormulas) (old : Clauses) (none : List Gate) (mid late new : Gated)
     (fs : List Statement) (ds : List Defined) (rule : Statement) → none ≡ [] → fs ≡ f.conditions path
     → define_all_in (gated old none) fs ≡ record { state = mid; answer = ds }
@@ -120,6 +128,7 @@ rules_step problem f path old none mid late new fs ds rule empty a b c d g =
 
 -- ---- demands, one by one
 
+-- one demand more
 pub demand_more : (say : Demand → Statement) (ds : List Demand) (old new all : Gated) (i : ℕ) (d : Demand) → slice_get ds i ≡ Some d
     → demand_in old (say d) i ≡ new → demand_all_in old i (map say (drop i ds)) ≡ all
     → demand_all_in new (i + 1) (map say (drop (i + 1) ds)) ≡ all
@@ -129,11 +138,13 @@ demand_more say ds old new all i d e b rest =
     ap (λ s. demand_all_in s (i + 1) (map say (drop (i + 1) ds))) (sym b)
     ∙ sym (ap (λ xs. demand_all_in old i (map say xs)) cut) ∙ rest
 
+-- no demand is left out
 pub demand_gap : (ds : List Demand) (i : ℕ) → i < length ds → slice_get ds i ≡ None → ⊥
 demand_gap ds i h e = none-some (get_or ds i (demand.Root 0)) (sym e ∙ slice_get-get_or ds i (demand.Root 0) h)
 
 -- ---- all of it
 
+-- the whole is that of the definition
 pub encode_step : (problem : Problem) (t : Table) (n : ℕ) (f : Formulas) (targets : List Text) (mid new : Clauses) (made : PathTable)
     → levels_made problem t n f targets ≡ record { list = mid; answer = made.paths } → made.targets ≡ places_of (names_of t) targets
     → rules_on problem f (path_words t made) mid ≡ new → encode_on problem t n f targets ≡ new

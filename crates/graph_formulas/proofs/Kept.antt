@@ -86,6 +86,7 @@ module _ (world : World) (graph : Content) where
 
   module _ (name : Text) where
     module _ (node : Node) (here : node_of graph name ≡ Some node) where
+      -- a fact of a node that is there
       pub there : (f : Fact) → is_in graph (node_has name f) ≡ is_so node f
       there f = ap (λ o. is_some_and o (λ node. is_so node f)) here
 
@@ -207,13 +208,16 @@ module _ (world : World) (graph : Content) where
         | inr plain ↦ rw plain (meets-absent part)
       ]
 
+    -- what a part asks of a node
     pub meets-kept : (part : Part) → keeps (meets_rule world name part) ≡ is_some_and (node_of graph name) (meets world part)
     meets-kept part = by_node graph name (λ o. keeps (meets_rule world name part) ≡ is_some_and o (meets world part)) (λ node here. meets-there node here part) (λ absent. meets-absent absent part)
 
+    -- what a virtual asks of its provider
     pub provides-kept : (virtual : Text) (wanted : Option (List Item)) → keeps (provides_rule world name virtual wanted) ≡ is_some_and (node_of graph name) (λ node. provides world node virtual wanted)
     provides-kept virtual wanted =
         by_node graph name (λ o. keeps (provides_rule world name virtual wanted) ≡ is_some_and o (λ node. provides world node virtual wanted)) (λ node here. provides-there node here virtual wanted) (λ absent. provides-absent absent virtual wanted)
 
+    -- what a part asks of the node that it names
     pub suits-kept : (part : Part) (asked : Text) → keeps (suits_rule world part asked name) ≡ is_some_and (node_of graph name) (suits world part asked)
     suits-kept part asked = by_node graph name (λ o. keeps (suits_rule world part asked name) ≡ is_some_and o (suits world part asked)) (λ node here. suits-there node here part asked) (λ absent. suits-absent absent part asked)
 
@@ -228,6 +232,7 @@ module _ (world : World) (graph : Content) where
   -- ---- specs and conditions, where the lists have each provider
 
   module _ (packages : Text → List Text) (listed : (virtual p : Text) → provider_of graph virtual ≡ Some p → among (packages virtual) p ≡ true) where
+    -- a rule at the node that a name asks for
     pub asked-kept : (asked : Text) (rule : Text → Rule Word) (test : Node → Bool) → ((name : Text) → keeps (rule name) ≡ is_some_and (node_of graph name) test)
         → keeps (asked_rule world packages asked rule) ≡ is_some_and (asked_node world graph asked) test
     unfolding asked_node
@@ -243,6 +248,7 @@ module _ (world : World) (graph : Content) where
         asked-kept-cases None has = none-picked (λ name. is_some_and (node_of graph name) test) (packages asked)
         asked-kept-cases (Some p) has = picked (λ name. is_some_and (node_of graph name) test) p (packages asked) ∙ ap (λ b. b && is_some_and (node_of graph p) test) (has p refl)
 
+    -- a spec holds
     pub holds-kept : (name : Text) (spec : Spec) → keeps (holds_rule world packages name spec) ≡ holds world spec graph name
     unfolding holds_rule holds
     holds-kept name spec = rw (meets-kept name spec.top, each-kept (is_in graph) (below_rule world packages name) (holds_below world graph name) each-below spec.below) refl
@@ -250,6 +256,7 @@ module _ (world : World) (graph : Content) where
         each-below : (part : Part) → keeps (below_rule world packages name part) ≡ holds_below world graph name part
         each-below part = named-kept (is_in graph) _ _ (λ asked. asked-kept asked _ _ (λ n. below-kept n name part asked)) part.name
 
+    -- a condition holds
     pub condition-kept : (name : Text) (condition : Condition) → keeps (condition_rule world packages name condition) ≡ all_hold world condition graph name
     unfolding condition_rule all_hold
     condition-kept name condition = each-kept (is_in graph) _ (λ spec. holds world spec graph name) (holds-kept name) condition.specs

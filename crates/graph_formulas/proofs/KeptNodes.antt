@@ -29,6 +29,7 @@ use Rattle.graph_formulas.specs.Kept.{same_origin, installs, same_rule, kinds_ru
 
 -- ---- origins
 
+-- the same origin is an equal one
 pub origins-same : (a b : Origin) → same_origin a b ≡ true → a ≡ b
 origins-same Built Built h = refl
 origins-same Built (External place) h = absurd (cc)
@@ -40,6 +41,7 @@ origins-same (Installed hash) Built h = absurd (cc)
 origins-same (Installed hash) (External place) h = absurd (cc)
 origins-same (Installed hash) (Installed other) h = ap Installed (bytes_eq-same hash other h)
 
+-- an origin is the same as itself
 pub origin-itself : (a : Origin) → same_origin a a ≡ true
 origin-itself Built = refl
 origin-itself (External place) = eq-eqb place place refl
@@ -177,6 +179,7 @@ module _ (problem : Problem) (graph : Content) (name : Text) (node : Node) (here
       ∙ ap (λ n. is_some_and (record_at problem hash) (λ entry. same_attributes node (installed_node entry)
       && list_all (keeps_child problem graph n) (kept_dependencies entry) && list_all (is_child problem entry) (edges_from graph n))) (sym (named-so graph name node here))
 
+  -- the rule of a kept node
   pub kept-kept : (origins : List Origin) → In node.origin origins → in_graph (kept_rule problem children origins name) ≡ keeps_kept problem graph node
   unfolding keeps_kept
   kept-kept origins there =

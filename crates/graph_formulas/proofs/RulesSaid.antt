@@ -125,6 +125,7 @@ module _ (problem : Problem) (v : ℕ → Bool) (path : Text → Text → Statem
   at-name name rule test same =
       where-built name (rule name) test (λ node here. ap (λ n. keeps_rule (is_true (world_of problem) graph) (rule n)) (sym (named-so graph name node here)) ∙ same node)
 
+  -- the formula of a root's rule says whether the graph keeps it; so do those of the other rules
   pub root-said : (spec : Spec) → rule_says v path condition table (known_rule (root_rule problem (names_for table) spec)) ≡ keeps_root problem graph spec
   root-said spec = said (known_rule (root_rule problem (names_for table) spec)) ∙ root-kept problem (names_for table) graph listed spec
 
@@ -224,6 +225,7 @@ module _ (problem : Problem) (v : ℕ → Bool) (path : Text → Text → Statem
       → list_all (λ name. rule_says v path condition table (where_there name (rule name))) (names_of table) ≡ list_all test graph.nodes
   each-there rule test same = all-same _ (λ name. if_written (node_of graph name) test) same (names_of table) ∙ sym (nodes-said test)
 
+  -- the formulas of a rule at all names say whether the graph keeps the rule
   pub all-buildable : list_all (λ name. rule_says v path condition table (where_built name (known_rule (buildable_rule problem name)))) (names_of table) ≡ keeps rules.Buildable problem graph
   unfolding keeps
   all-buildable = each-built (λ name. known_rule (buildable_rule problem name)) (keeps_buildable problem) buildable-said

@@ -64,6 +64,7 @@ module _ (problem : Problem) (graph : Content) (name : Text) (node : Node) (here
     count-kept row.kind,
   ) refl
 
+  -- the rule of one variant
   pub variant-kept : keeps_rule (is_true (world_of problem) graph) (variant_rule problem name variant) ≡ keeps_one_variant problem graph node variant
   unfolding governing
   variant-kept =

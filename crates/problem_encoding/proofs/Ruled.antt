@@ -62,6 +62,7 @@ module _ (problem : Problem) (names : List Text) (closure : IsClosure problem na
     values ∙ (λ i. values_for problem (e i) (s i) (formulas_given problem (e i)) ((w ∙ ap (targets_of problem) e) i)),
   )
 
+  -- the clauses that are made are those of the closure
   pub ruled : names ≡ closure_of problem → (t : Table) (n : ℕ) (targets : List Text) (made : ProblemClauses)
       → t ≡ table_for problem names → n ≡ size_for problem names → targets ≡ targets_of problem t
       → encode_on problem t n (formulas_given problem t) targets ≡ made.list

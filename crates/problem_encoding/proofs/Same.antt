@@ -11,6 +11,7 @@ use Rattle.problem_encoding.specs.Encodings.{IsRuled}
 use Rattle.problem_encoding.specs.declared.encoded.Encoded.{Encoded}
 
 module _ (problem : Problem) (t : Table) (made : ProblemClauses) (ruled : IsRuled problem t made) where
+  -- what is made is the encoding of the definition
   pub encoded-is : (new : Clauses) (bits : Spelling)
       → rank_costs_on made.list problem t made.values (order_in problem t) ≡ record { list = new; answer = bits }
       → (e : Encoded) → e ≡ record { clauses = new; bits = bits; table = t } → e ≡ encoding_of problem

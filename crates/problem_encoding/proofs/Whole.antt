@@ -41,6 +41,7 @@ module _ (problem : Problem) (names : List Text) (place : Places) (closure : IsC
     spells = spells problem names place new bits.lits bits.tops order closure has placed each are;
   }
 
+  -- clauses with the bits behind them are an encoding
   pub whole : (t : Table) (old : Clauses) (values : List Defined) → t ≡ table_for problem names → old ≡ closure_clauses problem names place
       → values ≡ closure_values problem names place → FromBits problem t old values
   whole t old values e o w =

@@ -59,6 +59,7 @@ module _ (problem : Problem) where
 -- ---- formulas
 
 module _ (problem : Problem) (t : Table) (path : PathFormulas) where
+  -- the conditions of one package
   pub package-formulas : (name : Text) (old : List Statement)
       → (((old ++ map (λ row. condition_said problem t path name row.when) (variants_at problem name))
       ++ map (λ row. condition_said problem t path name row.when) (depends_at problem name))
@@ -67,6 +68,7 @@ module _ (problem : Problem) (t : Table) (path : PathFormulas) where
       ≡ old ++ formulas_at problem t path name
   package-formulas name old = four old _ _ _ _ ∙ ap (λ zs. old ++ zs) (of-conditions problem (condition_said problem t path name) name)
 
+  -- of all
   pub all-formulas : (blocks : List Block) → flat_map (λ (block : Block). formulas_at problem t path block.name) blocks
       ≡ map (λ (c : Text × Condition). condition_said problem t path c.0 c.1)
       (flat_map (λ name. map (λ when. (name, when)) (conditions_at problem name)) (map name_of blocks))
@@ -124,6 +126,7 @@ module _ (problem : Problem) (t : Table) where
       ∙ ap (λ zs. flat_map (λ row. specs row.spec) (conflicts_at problem name) ++ zs)
       (flat-flat specs (λ row. row.specs) (requirements_at problem name)))
 
+  -- the targets of one package
   pub package-targets : (name : Text) (old : List Text)
       → (((((old ++ flat_map (λ row. whens row.when) (variants_at problem name))
       ++ flat_map (λ row. whens row.when) (depends_at problem name))
@@ -137,6 +140,7 @@ module _ (problem : Problem) (t : Table) where
       ++ flat_map (λ row. flat_map specs row.specs) (requirements_at problem name)))) (flat-conditions name)
       ∙ ap (λ zs. old ++ (flat_map whens (conditions_at problem name) ++ zs)) (flat-specs name)
 
+  -- of all
   pub all-targets : flat_map (λ (block : Block). targets_at problem t block.name) t.blocks
       ++ flat_map specs problem.roots ≡ asked_targets problem t
   all-targets = ap (λ zs. zs ++ flat_map specs problem.roots) (sym (flat_map-map (targets_at problem t) name_of t.blocks))

@@ -66,6 +66,7 @@ module _ (path : Text → Text → Statement) (condition : Text → Condition �
       (names_of t)) ≡ built_row t (λ name. plain_said t (machine_rule problem name))
   machine-same = refl
 
+  -- the rows that are built are those of the rules
   pub rows-same : map (row_said problem t path condition) (rule_rows problem t) ≡ rows_said problem t condition
   rows-same =
       cons-same _ _ _ _ (buildable-row path condition t problem)

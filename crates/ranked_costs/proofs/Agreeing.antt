@@ -68,6 +68,7 @@ module _ (problem : Problem) (table : Table) (order : List Text) (held other : H
       ∷ number (off_root_terms problem (version_terms problem)) ∷ d i ∷ number (compiler_terms problem)
       ∷ number (edges_terms targets_differ table) ∷ number (target_terms problem) ∷ []
 
+  -- formulas that agree at the table's names make the same terms
   pub same-terms : cost_terms problem table held order ≡ cost_terms problem table other order
   unfolding cost_terms
   same-terms = λ i. numbers-alike true i ++ (number_terms true table order presence_terms ∷ numbers-alike false i)

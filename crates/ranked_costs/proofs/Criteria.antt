@@ -58,6 +58,7 @@ module _ (problem : Problem) (limits : IsWithin problem) (names : List Text) (ri
       off-root-cases true = omega arith
       off-root-cases false = le b there
 
+  -- one for the node
   pub presence : Bounded presence_terms
   presence b there = omega arith
 
@@ -226,6 +227,7 @@ module _ (problem : Problem) (limits : IsWithin problem) (names : List Text) (ri
   EachBounded [] = Unit {0}
   EachBounded (terms ∷ more) = Bounded terms × EachBounded more
 
+  -- each criterion is bounded
   pub criteria-bounded : EachBounded (criteria_terms problem (Own problem names n) held)
   unfolding criteria_terms
   criteria-bounded =

@@ -63,6 +63,7 @@ greatest-top : {T : Type 0} (weight : T → ℕ) (most : ℕ) → ((x : T) → w
 greatest-top weight most le [] = omega arith
 greatest-top weight most le (c ∷ cs) = omega (arith, le c.0, greatest-top weight most le cs)
 
+-- digits add up to less than twice the greatest weight
 pub weights-top : {T : Type 0} (weight : T → ℕ) (most : ℕ) → ((x : T) → weight x ≤ most) → most < 2 ^ 63 → (choices : Choices T)
     → top_said (weight_terms weight choices) ≤ 2 * most
 weights-top weight most le small choices =
@@ -71,6 +72,7 @@ weights-top weight most le small choices =
 
 -- ---- parts
 
+-- a half has no more than the whole
 pub part-top : (built : Bool) (origins : Choices Origin) (ts : List Weighted) → top_said (in_part built origins ts) ≤ top_said ts
 unfolding in_part
 part-top built origins ts = part-top-cases (list_all (λ c. is_of built c.0) origins) (list_any (λ c. is_of built c.0) origins)

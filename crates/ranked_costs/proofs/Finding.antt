@@ -29,6 +29,7 @@ use Rattle.ranked_costs.proofs.Steps.{same}
 -- a model of an encoding says all of the graph that it decodes to
 module _ (problem : Problem) (t : Table) (n : ℕ) (f : Formulas) (read : (ℕ → Bool) → Content) (right : IsRightTable problem t n f read)
     (targets : List Text) (holds : ℕ → Content → Bool) (says : AreRightFormulas problem t n f (told_in t targets) holds) where
+  -- a model says all of the graph that it decodes to
   pub model-says : (asked v : ℕ → Bool) → Meets asked v (encode_on problem t n f targets).entries
       → SaysAll problem t n f targets holds v (read v) × IsWellFormed (read v)
   unfolding encode_on rules_on levels_made edges_made
@@ -46,6 +47,7 @@ module _ (problem : Problem) (names : List Text) (place : Places) (order : List 
   abbrev all : ℕ → Bool
   all d = true
 
+  -- and its bits spell the graph's cost vector
   pub found : IsRightTable problem t (size_for problem names) f (λ v. decode v t)
       → AreRightFormulas problem t (size_for problem names) f (told_in t (targets_of problem t))
       (holds_at problem (conditions_of problem t))

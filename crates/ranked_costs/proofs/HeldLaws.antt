@@ -50,6 +50,7 @@ module _ (v : ℕ → Bool) (problem : Problem) (graph : Content) where
   abbrev pub listed : List Text → List (Text × Condition)
   listed names = flat_map (λ name. map (λ when. (name, when)) (conditions_at problem name)) names
 
+  -- values of conditions say where these hold
   pub told : (values : List Defined) (cs : List (Text × Condition)) → length values ≡ length cs
       → ((k : ℕ) → eval v (value_at values k) ≡ holds_at problem cs k graph) → map said values ≡ map tested cs
   told [] [] e h = refl

@@ -31,14 +31,17 @@ module _ (problem : Problem) (t : Table) (values : List Defined) (order : List T
   items-are : items ≡ cost_terms problem t (held_in (held_for problem t values)) order
   items-are = taken ∙ built ∙ ap (λ held. cost_terms problem t (held_in held) order) (seen ∙ made)
 
+  -- the lists are over the variables
   pub items-below : (n : ℕ) → IsTableBelow n t → MetBelow n (value_at values) → AllWeighedBelow n items
   items-below n table below =
       subst (AllWeighedBelow n) (sym items-are)
       (costs-below n problem t (held_in (held_for problem t values)) table (held-below n problem t values below) order)
 
+  -- their sums are small
   pub items-small : are_small (terms_for problem t values order) ≡ true → AllSmall (tops_said items)
   items-small small = subst (λ ls. AllSmall (tops_said ls)) (sym items-are) (all-small (terms_for problem t values order) small)
 
+  -- so the bits are those of the costs
   pub are-cost-bits : (old new : Clauses) (bits : List Lit) (tops : List ℕ) → are_small (terms_for problem t values order) ≡ true
       → AreTotals old new bits tops items → AreCostBits old new bits tops problem t (held_in (held_for problem t values)) order
   are-cost-bits old new bits tops small totals = record {

@@ -42,6 +42,7 @@ module _ (problem : Problem) (fewer : (graph : Content) (asked : List Demand) �
   abbrev each : ℕ → Bool
   each d = true
 
+  -- the least bits are an optimal graph's
   pub least : (v : ℕ → Bool) → Meets each v new.entries → IsLeastModel new bits each v → IsOptimal problem (decode v)
   least v meets small =
       let ok = ranks.decodes.sound each v meets in record {
@@ -51,6 +52,7 @@ module _ (problem : Problem) (fewer : (graph : Content) (asked : List Demand) �
             (ranks.best each v meets small other (formed, fewer other (asked_demands problem each) is));
       }
 
+  -- where there is no model no graph is valid
   pub none : ((v : ℕ → Bool) → Meets each v new.entries → ⊥) → (graph : Content) → IsWellFormed graph → valid problem graph ≡ false
   none empty graph formed = none-cases (valid problem graph) refl
     where

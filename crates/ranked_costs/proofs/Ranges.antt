@@ -39,6 +39,7 @@ values-below n (w ∷ ws) b (suc k) d lt =
     values-below n ws (right-below n (lits_of w.1) (flat_map (λ w. lits_of w.1) ws)
     (subst (AllBelow n) (flat_map-cons (λ w. lits_of w.1) w ws) b)) k d (omega (arith, lt))
 
+-- a table below a number is below a greater one
 pub table-below : (m n : ℕ) (t : Table) → m ≤ n → numbers.IsTableBelow m t → IsTableBelow n t
 table-below m n t h below = record {
   blocks = λ k d lt. let b = below.blocks k d lt in record {
@@ -98,6 +99,7 @@ from-below n problem (x ∷ names) values b name =
         (find (λ h. bytes_eq name h.0) (held_from problem names (passed problem x values))))))) in
         subst there (sym is) later
 
+-- so are the formulas of conditions
 pub held-below : (n : ℕ) (problem : Problem) (t : Table) (values : List Defined) → MetBelow n (value_at values)
     → AreHeldBelow n (held_in (held_for problem t values))
 held-below n problem t values b = from-below n problem (map name_of t.blocks) values (all-below n values b)

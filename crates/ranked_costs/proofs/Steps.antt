@@ -67,9 +67,11 @@ module _ (problem : Problem) (names : List Text) (place : Places) (order : List 
     abbrev pub sums : (ℕ → Bool) → List ℕ
     sums v = sums_said v (cost_terms problem t held order)
 
+    -- the bits compare as the sums
     pub orders : OrdersBits (closure_clauses problem names place) new bits sums
     orders = record { defines = costs.totals.defines; order = costs.totals.order; equal = costs.totals.equal }
 
+    -- which are the cost vector
     pub same : IsTable t → IsPermutation (map name_of t.blocks) order → (v : ℕ → Bool) (g : Content) → Says v g → IsWellFormed g
         → sums v ≡ vector problem g
     same table ordered v g all formed =

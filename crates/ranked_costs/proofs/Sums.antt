@@ -14,6 +14,7 @@ use Rattle.graph_core.specs.Graphs.{Text}
 
 -- ---- bounds
 
+-- a sum of smaller terms
 pub sum-le-in : {X : Type 0} (f g : X → ℕ) (xs : List X) → ((x : X) → Contains xs x → f x ≤ g x) → sum_by f xs ≤ sum_by g xs
 sum-le-in f g [] le = omega arith
 sum-le-in f g (x ∷ xs) le =
@@ -21,6 +22,7 @@ sum-le-in f g (x ∷ xs) le =
     let rest = sum-le-in f g xs (λ y h. le y (has_later x xs y h)) in
     omega (arith, sum_by-cons f x xs, sum_by-cons g x xs)
 
+-- one term is at most the sum
 pub sum-at : {X : Type 0} (f : X → ℕ) (xs : List X) (x : X) → Contains xs x → f x ≤ sum_by f xs
 sum-at f [] x there = absurd (omega (arith, there.1))
 sum-at f (y ∷ ys) x there = ⊎_elim
@@ -28,14 +30,17 @@ sum-at f (y ∷ ys) x there = ⊎_elim
     (λ later. let rest = sum-at f ys x later in omega (arith, sum_by-cons f y ys))
     (first_or_later y ys x there)
 
+-- a sum of sums
 pub sum-add : {X : Type 0} (f g : X → ℕ) (xs : List X) → sum_by (λ x. f x + g x) xs ≡ sum_by f xs + sum_by g xs
 sum-add f g [] = refl
 sum-add f g (x ∷ xs) = omega (arith, sum-add f g xs, sum_by-cons f x xs, sum_by-cons g x xs, sum_by-cons (λ y. f y + g y) x xs)
 
+-- a sum of ones
 pub sum-ones : {X : Type 0} (xs : List X) → sum_by (λ x. 1) xs ≡ length xs
 sum-ones [] = refl
 sum-ones (x ∷ xs) = omega (arith, sum-ones xs, sum_by-cons (λ y. 1) x xs)
 
+-- a sum of equal terms
 pub sum-same : {X : Type 0} (k : ℕ) (xs : List X) → sum_by (λ x. k) xs ≡ length xs * k
 sum-same k [] = omega arith
 sum-same k (x ∷ xs) = omega (arith, sum-same k xs, sum_by-cons (λ y. k) x xs)

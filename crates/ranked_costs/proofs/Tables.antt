@@ -34,6 +34,7 @@ use Rattle.ranked_costs.proofs.Values.{texts-few}
 -- ---- what is numbered one after another
 
 module _ {X Y : Type 0} (make : ℕ → X → Y) (wide : X → ℕ) where
+  -- an element of a run is made of one of the list
   pub run-from : (n : ℕ) (xs : List X) (y : Y) → Contains (run make wide n xs) y → (m : ℕ) × (x : X) × Contains xs x × (make m x ≡ y)
   run-from n [] y there = absurd (omega (arith, there.1))
   run-from n (x ∷ xs) y there = ⊎_elim
@@ -41,10 +42,12 @@ module _ {X Y : Type 0} (make : ℕ → X → Y) (wide : X → ℕ) where
       (λ later. let rest = run-from (n + wide x) xs y later in (rest.0, rest.1, has_later x xs rest.1 rest.2, rest.3))
       (first_or_later (make n x) (run make wide (n + wide x) xs) y there)
 
+  -- a run is as long as its list
   pub run-length : (n : ℕ) (xs : List X) → length (run make wide n xs) ≡ length xs
   run-length n [] = refl
   run-length n (x ∷ xs) = omega (arith, run-length (n + wide x) xs)
 
+  -- a bound for the sum over a run
   pub run-sum : (f : Y → ℕ) (g : X → ℕ) (n : ℕ) (xs : List X) → ((m : ℕ) (x : X) → Contains xs x → f (make m x) ≤ g x)
       → sum_by f (run make wide n xs) ≤ sum_by g xs
   run-sum f g n [] le = omega arith
@@ -63,6 +66,7 @@ filter_map-le {Y = Y} f (x ∷ xs) = filter_map-le-cases (filter_map-le f xs) (f
 
 -- ---- what is found at names that stand once
 
+-- texts that test equal
 pub eq-same : (a b : Text) → bytes_eq a b ≡ true → a ≡ b
 eq-same a b = (bytes_decides a b).0
 
@@ -89,6 +93,7 @@ module _ (problem : Problem) (limits : IsWithin problem) (names : List Text) (ri
 
   -- ---- virtuals
 
+  -- few virtuals are asked for
   pub virtuals-few : length (asked_virtuals problem names) ≤ 2 ^ 28
   unfolding asked_virtuals
   virtuals-few =
@@ -126,6 +131,7 @@ module _ (problem : Problem) (names : List Text) (n : ℕ) where
   abbrev pub Own : Table
   Own = table_from n (plan_of problem names)
 
+  -- a block of the own table is made of what may be chosen
   pub own-block : (b : Block) → Contains Own.blocks b → (m : ℕ) × (name : Text) × (block_from m (possible_at problem name) ≡ b)
   unfolding table_from plan_of
   own-block b there =
@@ -138,10 +144,12 @@ module _ (problem : Problem) (names : List Text) (n : ℕ) where
   names-in m [] = refl
   names-in m (name ∷ rest) = ap (λ more. name ∷ more) (names-in (m + width (possible_at problem name)) rest)
 
+  -- its names are those of the closure
   pub own-names : map tables.name_of Own.blocks ≡ names
   unfolding table_from plan_of
   own-names = names-in n names
 
+  -- it has few edges
   pub own-edges : length names ≤ most_names → length Own.edges ≤ 2 ^ 20
   unfolding table_from plan_of possible_edges
   own-edges few =

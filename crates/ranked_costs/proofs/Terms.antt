@@ -28,6 +28,7 @@ use Rattle.ranked_costs.proofs.Sums.{sum-le-in, sum-ones}
 ones-top : {X : Type 0} (said : X → Statement) (xs : List X) → top_said (map (λ x. once_term (said x)) xs) ≡ length xs
 ones-top said xs = sum-map (λ (t : Weighted). t.weight) (λ x. once_term (said x)) xs ∙ sum-ones xs
 
+-- values that are no defaults
 pub other-top : (r : Row) (values : Choices Text) → top_said (other_terms r values) ≤ length values
 other-top r values =
     let test = λ (c : Text × Lit). not (among r.0.default c.0) in
@@ -38,6 +39,7 @@ other-top r values =
       count_by-le-length test values,
     )
 
+-- defaults that are not used
 pub unused-top : (r : Row) (values : Choices Text) → top_said (unused_terms r values) ≤ length r.0.default
 unused-top r values =
     omega (
@@ -63,11 +65,13 @@ module _ (terms : Row → Choices Text → List Weighted) (f : VariantRow → �
             (λ (s : Row). f s.0) r rs,
       )
 
+  -- all definitions
   pub governing-top : (values : Choices Text) → ((r : Row) → top_said (terms r values) ≤ f r.0) → (rs : List Row)
       → top_said (flat_map (λ r. terms r values) (governing_rows rs)) ≤ sum_by (λ (r : Row). f r.0) rs
   governing-top values le rs =
       omega (arith, governing-sum values le rs, sum-flat (λ (t : Weighted). t.weight) (λ r. terms r values) (governing_rows rs))
 
+-- definitions with formulas are no more than the rows
 pub formulas-sum : (f : VariantRow → ℕ) (rows : List VariantRow) (fs : List Statement)
     → sum_by (λ (r : Row). f r.0) (with_formulas rows fs) ≤ sum_by f rows
 formulas-sum f [] fs = omega arith
@@ -78,6 +82,7 @@ formulas-sum f (row ∷ rows) (said ∷ fs) =
 
 -- ---- edges
 
+-- one edge adds one at most
 pub differ-top : {T : Type 0} (filled : T → Bool) (same : T → T → Bool) (there : Statement) (xs ys : Choices T)
     → top_said (differ_terms filled same there xs ys) ≤ 1
 differ-top filled same there xs ys = differ-top-cases (can_differ filled same xs ys)
@@ -95,6 +100,7 @@ edge-top terms le table b e = edge-top-cases (bytes_eq e.parent b.name) (block_o
     edge-top-cases true (Some child) = le (edge_there e) b child
     edge-top-cases false o = omega arith
 
+-- so the edges
 pub edges-top : (terms : Statement → Block → Block → List Weighted) → ((there : Statement) (a b : Block) → top_said (terms there a b) ≤ 1)
     → (table : Table) (b : Block) → top_said (edges_terms terms table b) ≤ length table.edges
 edges-top terms le table b =
@@ -103,6 +109,7 @@ edges-top terms le table b =
 
 -- ---- providers
 
+-- numbered literals that pass a test
 pub passing-numbered : (test : Text → Bool) (m : ℕ) (xs : List Text) → length (passing test (numbered m xs)) ≡ length (filter test xs)
 passing-numbered test m [] = refl
 passing-numbered test m (x ∷ xs) = passing-numbered-cases (passing-numbered test (m + 1) xs) (test x)

@@ -40,6 +40,7 @@ length-insert (x ∷ xs) text = length-insert-cases (length-insert xs text) (byt
     length-insert-cases rest Equal = omega arith
     length-insert-cases rest Greater = omega arith
 
+-- a set has no more texts than were put in
 pub texts-few : (texts words : Texts) → length (with_texts texts words) ≤ length texts + length words
 unfolding with_texts
 texts-few texts [] = omega arith
@@ -242,6 +243,7 @@ module _ (problem : Problem) (limits : IsWithin problem) where
       (λ e there. omega (arith, length-values e.variants)) in
       omega (arith, each, limits.database, length-flat_map (λ (e : Record). values_of e.variants) problem.database)
 
+  -- a variant has at most 2^29 values
   pub values-few : (name variant : Text) → length (variant_values problem name variant) ≤ 2 ^ 29
   values-few name variant =
       omega (

@@ -90,6 +90,7 @@ module _ (problem : Problem) (t : Table) (held : Held) (order : List Text) (v : 
         let here : block_of t b.name ≡ Some b = ap (block_of t) (found-named name_of t.blocks name b e) ∙ e in
         sym (ap (fill b.name) here)
 
+    -- the sums are the cost vector
     pub sums-are : IsTable t → IsGraph g → Spells v t g → IsPermutation (map name_of t.blocks) order
         → AllSmall (tops_said (cost_terms problem t held order)) → sums_said v (cost_terms problem t held order) ≡ vector problem g
     sums-are table graph spells ordered small =

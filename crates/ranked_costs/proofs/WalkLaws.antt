@@ -59,6 +59,7 @@ visit-keeps (suc fuel) table w name = elim (cases_Bool (among w.rest name)) [
   | inr gone ↦ rw gone (IsPermutation-refl (w.left ++ w.rest))
 ]
 
+-- each name of the table stands in the order once
 pub each-name : (table : Table) (roots : List Text) → IsPermutation (all_names table) (post_order table roots)
 unfolding post_order
 each-name table roots =

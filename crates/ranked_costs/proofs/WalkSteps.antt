@@ -89,15 +89,18 @@ module _ (table : Table) (name : Text) (rest left slice : List Text) (at len : �
   within : at < len → position_or_len (bytes_eq name) rest < length rest
   within h = omega (arith, here, long, h)
 
+  -- a name that was entered is left alone
   pub not-there : (fuel : ℕ) → len ≤ at → walk_at rest left ≡ visit fuel table (walk_at rest left) name
   not-there fuel le = visit-none fuel table (walk_at rest left) name (absent name rest (omega (arith, here, long, le)))
 
+  -- one that is entered leaves the rest
   pub entering : (more : ℕ) (out : List Text) (edges : List EdgeLits) → out ≡ remove rest at
       → visit_all more table name (walk_at out left) edges ≡ visit_all more table name (entered name (walk_at rest left)) edges
   entering more out edges gone =
       let same : out ≡ without name rest = gone ∙ ap (remove rest) here ∙ removed name rest in
       ap (λ names. visit_all more table name (walk_at names left) edges) same
 
+  -- and comes behind its children
   pub returned : (fuel i : ℕ) (word : Text) (rest2 left2 new : List Text) (items : List EdgeLits) → (fuel ≡ 0 → ⊥) → at < len
       → word ≡ slice_index_or rest at word
       → visit_all (fuel - 1) table name (walk_at rest2 left2) (drop i table.edges) ≡ visit_all (fuel - 1) table name

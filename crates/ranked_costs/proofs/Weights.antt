@@ -27,10 +27,13 @@ place-le p xs = prefix_len-le-length (λ x. not (p x)) xs
 -- ---- the limits
 
 pub record IsWithin (problem : Problem) : Type 0 where
+  -- rows of recipes
   pub recipes : size_of_recipes problem.recipes ≤ 2 ^ 28
+  -- rows of settings
   pub settings : size_of_settings problem.settings ≤ 2 ^ 24
   pub database : size_of_database problem.database ≤ 2 ^ 26
 
+-- a problem within the limits
 pub within : (problem : Problem) → is_within_limits problem ≡ true → IsWithin problem
 unfolding is_within_limits
 within problem is =
@@ -59,6 +62,7 @@ module _ (problem : Problem) (limits : IsWithin problem) where
             (found-there (λ (r : Recipe). eq_by_cmp byte_cmp r.name name) problem.recipes recipe is).0,
       )
 
+  -- a field of one recipe
   pub rows-in : {R : Type 0} (field : Recipe → List R) (measure : List R → ℕ) → measure [] ≡ 0
       → ((recipe : Recipe) → measure (field recipe) ≤ size_of_recipe recipe) → (name : Text)
       → measure (rows field (recipe_at problem name)) ≤ 2 ^ 28
@@ -71,6 +75,7 @@ module _ (problem : Problem) (limits : IsWithin problem) where
 
   -- ---- weights
 
+  -- weights of deprecated versions; so with the others
   pub deprecated-few : (name version : Text) → cond (is_deprecated problem name version) 1 0 ≤ 2 ^ 28
   deprecated-few name version = deprecated-few-cases (is_deprecated problem name version)
     where

@@ -108,6 +108,7 @@ module _ (problem : Problem) (limits : IsWithin problem) (names : List Text) (ri
       (list_all is_small (map (number_terms false (Own problem names n) order) criteria))
       (number-small true presence_terms (presence problem limits names rising few n held)) (numbers-small false criteria all))
 
+-- within the limits all sums are small
 pub limits-keep-small : LimitsKeepSmall
 limits-keep-small problem names n held order limits closed few ordered =
     costs-small problem (within problem limits) names ((rises_decides byte_cmp nat_list_cmp_total names).0 closed.rising) few n

@@ -26,12 +26,14 @@ use Rattle.table_plan.proofs.Choices.{attribute_reads, variants_spelled}
 
 -- ---- how many values
 
+-- an attribute has as many bits as variables
 pub length-bits_of : {T : Type 0} (same : T → T → Bool) (part : Node → T) (xs : List T) (o : Option Node)
     → length (bits_of same part xs o) ≡ width_of xs
 length-bits_of same part [] o = refl
 length-bits_of same part (x ∷ []) o = refl
 length-bits_of same part (x ∷ y ∷ more) o = length-map (x ∷ y ∷ more) (λ z. is_some_and o (λ node. same (part node) z))
 
+-- so have the values
 pub length-value_bits : (vs variants : List (Text × List Text)) → length (value_bits vs variants) ≡ values_in vs
 length-value_bits [] variants = refl
 length-value_bits (v ∷ vs) variants = omega (
@@ -75,6 +77,7 @@ names_in_order : (n : ℕ) (vs : List (Text × List Text)) → AreVariants vs �
 names_in_order n vs a =
     subst IsInByteOrder (sym (variant_keys n vs ∙ ap (map (λ (v : Text × List Text). v.0)) a.are ∙ pair_keys a.names a.values)) a.order
 
+-- the variants of a block are in order
 pub block_ordered : (n : ℕ) (p : Possible) → IsPossible p → AreVariantsInOrder (block_from n p)
 unfolding block_from
 block_ordered n p is = record {
@@ -83,6 +86,7 @@ block_ordered n p is = record {
       (values_in_order _ p.variants (sets_in_order p.variants is.variants));
 }
 
+-- a block has the name that it is made for
 pub block_named : (n : ℕ) (p : Possible) → (block_from n p).name ≡ p.name
 unfolding block_from
 block_named n p = refl
@@ -94,6 +98,7 @@ next_part v m bs cs k e r =
     let parts = reads_parts v m bs cs r in
     (parts.0, subst (λ j. Reads v (m + j) cs) e parts.1)
 
+-- a node has as many bits as its block has variables
 pub length-node_bits : (p : Possible) (o : Option Node) → length (node_bits p o) ≡ width p
 length-node_bits p o =
     let a = bits_of same_origin (λ (node : Node). node.origin) p.origins o in
@@ -132,6 +137,7 @@ module _ (v : ℕ → Bool) (n : ℕ) (p : Possible) (o : Option Node) (is : IsP
       variants_case-cases None f = inl refl
       variants_case-cases (Some node) f = let has = f node refl in inr (has.variant_order, has.variants)
 
+  -- bits of a node at the variables of its block spell it
   pub node_read : Reads v n (node_bits p o) → SpellsNode v (block_from n p) o
   unfolding block_from
   node_read r =

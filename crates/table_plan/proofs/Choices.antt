@@ -30,6 +30,7 @@ use Rattle.table_plan.specs.Numbers.{lit_of, numbered, attribute, variants_from}
 use Rattle.table_plan.specs.Spellings.{bits_of, value_bits}
 use Rattle.table_plan.proofs.ReadLaws.{Reads, reads_parts}
 
+-- no element passes what is always false
 pub nothing_kept : {T : Type 0} (xs : List T) → filter (λ x. false) xs ≡ []
 nothing_kept [] = refl
 nothing_kept (x ∷ xs) = nothing_kept xs
@@ -39,6 +40,7 @@ abbrev kept_values : List (Text × List Text) → Text × List Text → Option (
 kept_values variants w = with_values w.0 (filter (among (values_at variants w.0)) w.1)
 
 module _ (v : ℕ → Bool) where
+  -- bits that are tests choose what passes
   pub numbered_reads : {T : Type 0} (test : T → Bool) (n : ℕ) (xs : List T) → Reads v n (map test xs)
       → chosen v (numbered n xs) ≡ filter test xs
   numbered_reads test n [] r = refl
@@ -53,6 +55,7 @@ module _ (v : ℕ → Bool) where
   -- ---- an attribute
 
   module _ {T : Type 0} (same : T → T → Bool) (exact : IsExact same) (part : Node → T) (present : Lit) where
+    -- the bits of an attribute choose what the node has
     pub attribute_reads : (n : ℕ) (xs : List T) (o : Option Node) → EachOnce xs → lit_true v present ≡ is_some o
         → ((node : Node) → o ≡ Some node → Contains xs (part node)) → Reads v n (bits_of same part xs o)
         → SpellsOne v (attribute present n xs) part o
@@ -128,6 +131,7 @@ module _ (names : List Text) (values : Text → List Text) (order : IsInByteOrde
     at_name : (name : Text) → kept_values variants (name, values name) ≡ find_key byte_cmp (λ w. w.0) variants name
     at_name name = at_found name (find (λ w. bytes_eq w.0 name) variants) refl ∙ sym (λ i. find (λ w. tells_alike w.0 name i) variants)
 
+    -- all variants are kept with their values
     pub kept_all : filter_map (kept_values variants) Pairs ≡ variants
     kept_all =
         mapped_kept variants names

@@ -74,6 +74,7 @@ providers_below m n (w ∷ ws) le p there = ⊎_elim
     (λ later. providers_below m (n + length w.1) ws (omega (arith, le)) p later)
     (first_or_later (provider_from n w) (providers_from (n + length w.1) ws) p there)
 
+-- the literals of a table are over its variables
 pub table_below : (n : ℕ) (plan : Plan) → IsTableBelow (n + variables_of plan) (table_from n plan)
 unfolding table_from variables_of
 table_below n plan =

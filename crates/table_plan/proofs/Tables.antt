@@ -221,10 +221,12 @@ module _ (n : ℕ) (plan : Plan) (graph : Content) (is : IsPlan plan) (has : IsO
             (has.providers name);
       }
 
+  -- what a plan offers is spelled
   pub spelled : (v : ℕ → Bool) → Spells (spelling n plan graph v) (table_from n plan) graph
   unfolding spelling
   spelled v = table_read (with_bits n (graph_bits plan graph) v) (reads_bits n (graph_bits plan graph) v)
 
+-- the other variables stay
 pub others_stay : (n : ℕ) (plan : Plan) (graph : Content) (v : ℕ → Bool) → AgreeOutside n (variables_of plan) (spelling n plan graph v) v
 unfolding spelling
 others_stay n plan graph v k = (
@@ -255,6 +257,7 @@ pair_itself : (pairs : List (Text × Text)) → map (λ pair. pair) pairs ≡ pa
 pair_itself [] = refl
 pair_itself (pair ∷ pairs) = ap (λ ps. pair ∷ ps) (pair_itself pairs)
 
+-- the table of a plan is in order
 pub table_right : (n : ℕ) (plan : Plan) → IsPlan plan → IsTable (table_from n plan)
 unfolding table_from
 table_right n plan is = record {

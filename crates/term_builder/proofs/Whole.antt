@@ -10,10 +10,12 @@ use Rattle.term_builder.specs.VariantTerms.{counted_terms}
 use Rattle.term_builder.specs.declared.variant_terms.Counted.TheVariants as counted
 
 module _ (problem : Problem) (held : Held) (b : Block) (fs : List Statement) (here : held b.name ≡ fs) where
+  -- values that are no defaults
   pub others-are : over_variants_terms (counted_terms counted.Others) problem (λ name. fs) b ≡ other_values_terms problem held b
   others-are = ap (λ gs. flat_map (variant_terms (counted_terms counted.Others) (with_formulas (variants_at problem b.name) gs)) b.variants)
       (sym here)
 
+  -- defaults that are not used
   pub unused-are : over_variants_terms (counted_terms counted.Unused) problem (λ name. fs) b ≡ unused_defaults_terms problem held b
   unused-are = ap (λ gs. flat_map (variant_terms (counted_terms counted.Unused) (with_formulas (variants_at problem b.name) gs)) b.variants)
       (sym here)

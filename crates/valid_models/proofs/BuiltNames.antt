@@ -123,6 +123,7 @@ block-name : (problem : Problem) (k : ℕ) (m : Text) → name_of (block_from k 
 unfolding block_from possible_at
 block-name problem k m = refl
 
+-- a name that may be built has all variants of its recipe
 pub has-built-variants : (problem : Problem) (names : List Text) → HasBuiltVariants problem (table_for problem names)
 unfolding table_from plan_of
 has-built-variants problem names name b at offers =

@@ -91,6 +91,7 @@ module _ (problem : Problem) (v : ℕ → Bool) (path : Text → Text → Statem
       at-name-cases node true h = h refl
       at-name-cases node false h = refl
 
+  -- the formulas of variants say whether the graph keeps the rule
   pub all-built-variant : list_all (λ name. rule_says v path condition table (where_built name (variants_rule problem (variants_of table name) name))) (names_of table)
       ≡ keeps rules.Variant problem graph
   unfolding keeps

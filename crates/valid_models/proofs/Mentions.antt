@@ -38,6 +38,7 @@ module _ (v : ℕ → Bool) (t : Table) (path other : PathFormulas) (told : Text
   Alike w = eval v (word_said path t w) ≡ eval v (word_said other t w)
 
   module _ (world : World) where
+    -- the words of a part
     pub rest-alike : (name : Text) (part : Part) → AllWords Alike (rest_rule world name part)
     unfolding rest_rule
     rest-alike name part = (
@@ -54,6 +55,7 @@ module _ (v : ℕ → Bool) (t : Table) (path other : PathFormulas) (told : Text
       written-all Alike (λ items. fact (node_has name (has_target (λ target. list_any (is_target world target) items)))) (λ items. refl) part.targets,
     )
 
+    -- of what a node meets
     pub meets-alike : (name : Text) (part : Part) → AllWords Alike (meets_rule world name part)
     unfolding meets_rule
     meets-alike name part = (
@@ -74,12 +76,14 @@ module _ (v : ℕ → Bool) (t : Table) (path other : PathFormulas) (told : Text
         )
         row-alike-cases false = tt
 
+    -- of a provider
     pub provides-alike : (name virtual : Text) (wanted : Option (List Item)) → AllWords Alike (provides_rule world name virtual wanted)
     unfolding provides_rule
     provides-alike name virtual wanted =
         some-all Alike (row_rule world name virtual wanted) (row-alike name virtual wanted) (rows (λ recipe. recipe.provides) (recipe_of world name))
 
     module _ (packages : Text → List Text) where
+      -- of the node that a name asks for
       pub asked-alike : (asked : Text) (rule : Text → Rule Word) → ((name : Text) → AllWords Alike (rule name)) → AllWords Alike (asked_rule world packages asked rule)
       asked-alike asked rule h = asked-alike-cases (is_virtual world.recipes asked)
         where
@@ -87,6 +91,7 @@ module _ (v : ℕ → Bool) (t : Table) (path other : PathFormulas) (told : Text
           asked-alike-cases true = some-all Alike (λ name. fact (provides_as asked name) and rule name) (λ name. (refl, h name)) (packages asked)
           asked-alike-cases false = h asked
 
+      -- of a node that a part names
       pub suits-alike : (part : Part) (asked name : Text) → AllWords Alike (suits_rule world part asked name)
       suits-alike part asked name = suits-alike-cases (is_virtual world.recipes asked)
         where
@@ -112,6 +117,7 @@ module _ (v : ℕ → Bool) (t : Table) (path other : PathFormulas) (told : Text
           below-alike-cases None h = tt
           below-alike-cases (Some asked) h = below-rule from part asked (is_virtual world.recipes asked) h
 
+      -- of a spec whose targets are told
       pub holds-alike : (name : Text) (spec : Spec) → list_all told (spec_names world packages spec) ≡ true → AllWords Alike (holds_rule world packages name spec)
       unfolding holds_rule
       holds-alike name spec e = (
@@ -120,6 +126,7 @@ module _ (v : ℕ → Bool) (t : Table) (path other : PathFormulas) (told : Text
             (sym (all-flat told (λ (part : Part). asked_names world packages part.name) spec.below) ∙ e),
       )
 
+      -- of a condition whose targets are
       pub condition-alike : (name : Text) (when : Condition) → list_all told (condition_names world packages when) ≡ true
           → AllWords Alike (condition_rule world packages name when)
       unfolding condition_rule

@@ -291,6 +291,7 @@ module _ (problem : Problem) (t : Table) (n : ℕ) (words : WordsBelow n t) (m :
     row-below row = all_of-below m (map (λ name. term_formula path (condition_by problem t place path met_by) t (row.0 name)) row.1)
         (listed-below m (λ name. term_formula path (condition_by problem t place path met_by) t (row.0 name)) (λ name. formula-below (row.0 name)) row.1)
 
+-- the formulas of a problem are right
 pub rules-right : (problem : Problem) (t : Table) (n : ℕ) (structure : List Statement) (place : Places) → IsTable t → IsTableBelow n t
     → HasBuiltVariants problem t → IsPlaced (conditions_of problem t) place
     → AreRightFormulas problem t n (formulas_for problem t structure (conditions_of problem t) place) (told_in t (targets_of problem t))

@@ -23,11 +23,13 @@ module _ (place : Text → Option ℕ) where
   later (Some q) None y ys e h = rw e h
   later (Some q) (Some k) y ys e h = rw e (or_right (k == q) (list_any (λ j. j == q) (filter_map place ys)) h)
 
+  -- the place of a target is among the places
   pub there : (x : Text) (ys : List Text) → In x ys → among_places (filter_map place ys) (place x) ≡ true
   there x [] none = absurd none
   there x (y ∷ ys) (inl same) = ap (λ z. among_places (filter_map place (z ∷ ys)) (place x)) (sym same) ∙ told-first (place x) x ys refl
   there x (y ∷ ys) (inr more) = later (place x) (place y) y ys refl (there x ys more)
 
+-- all targets are told
 pub all-told : (t : Table) (targets : List Text) → list_all (told_in t targets) targets ≡ true
 all-told t targets = list_all-from (told_in t targets) targets (λ x at. there (place_in (names_of t)) x targets at)
 
