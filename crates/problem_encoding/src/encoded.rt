@@ -8,13 +8,12 @@ ghost use Rattle.ranked_costs.specs.Built.{rank_costs_on};
 ghost use Rattle.problem_encoding.specs.Built.{order_in, encoding_of};
 ghost use Rattle.problem_encoding.specs.Encodings.{AreCosted, AreRules, IsEncoded, IsRuled, RulesDecode};
 
-use crate::roots::root_names;
 use clause_formulas::Defined;
 use clause_store::ClauseList;
 use criteria_totals::Bits;
 use literal_table::LiteralTable;
 use plain_data::List;
-use possible_closure::{Closure, possible_laws};
+use possible_closure::{Closure, possible_laws, root_names};
 use problem::Problem;
 use problem_formulas::{ProblemClauses, ProblemFormulas, targets_of};
 use ranked_costs::{closure_laws, costs_laws, order_laws, plan_laws, post_order, rank_costs};

@@ -11,7 +11,6 @@
 #![tactic(auto)]
 
 mod encoded;
-mod roots;
 mod spelled;
 
 pub use encoded::{Encoded, Rules, encode, encode_rules, with_costs};
