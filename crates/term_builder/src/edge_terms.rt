@@ -1,13 +1,12 @@
 //! The terms of edges whose ends differ.
-ghost use Rattle.std.specs.Prelude.{◌≡◌, ◌++◌, IfOk, OnOk};
-ghost use Rattle.literal_table.specs.Edges.{edge_there};
+ghost use Rattle.std.specs.Prelude.{◌≡◌, ◌++◌, OnOk};
 ghost use Rattle.cost_terms.specs.Terms.{child_terms, edge_terms, edges_terms};
 ghost use Rattle.term_builder.specs.EdgeTerms.{compared};
 
 use crate::{push_compilers_differ, push_texts_differ};
 use clause_formulas::Formula;
 use cost_terms::Weighted;
-use literal_table::{Block, EdgeLits, LiteralTable};
+use literal_table::{Block, EdgeLits, LiteralTable, edge_there};
 use std::alloc::{AllocError, Global};
 
 /// What is compared at the ends of an edge.
@@ -16,17 +15,6 @@ pub enum Attribute {
     Compiler,
     Os,
     Target,
-}
-
-// The edge is there.
-fn edge_there(alloc: Global, edge: &EdgeLits) -> Result<Formula, AllocError>
-    ensures { IfOk result (λ formula. formula ≡ edge_there edge.now) }
-{
-    let mut parts = Vec::new(alloc);
-    parts.push(Formula::lit(edge.build))?;
-    parts.push(Formula::lit(edge.link))?;
-    parts.push(Formula::lit(edge.run))?;
-    Ok(Formula::any(parts))
 }
 
 // One where the edge is there and the attribute differs at its ends.
