@@ -16,4 +16,3 @@ pub mod Lists
 pub mod SmallSums
 pub mod Finding
 pub mod Steps
-pub mod Optimal

@@ -4,9 +4,8 @@
 //! adds the totals of the 31 numbers to the clauses; `number_ends`, where each number ends among
 //! the bits.
 //! What it promises: behind the clauses of a closure the bits rank the valid graphs by cost, and
-//! spell their cost vectors; the least are an optimal graph's. Within the limits of a problem each
-//! list of weights adds up to less than 2^63, whatever formulas stand for the conditions, and in
-//! whatever order the names are.
+//! spell their cost vectors. Within the limits of a problem each list of weights adds up to less
+//! than 2^63, whatever formulas stand for the conditions, and in whatever order the names are.
 //! What it stands on: `term_builder` for the terms, `cost_terms` for their totals, `valid_models`
 //! for the clauses, `problem` for the limits.
 //! What it must not know: how models are found.
@@ -23,7 +22,7 @@ mod walk;
 pub use ends::number_ends;
 pub use limit_theorems::limit_laws;
 pub use order_theorems::order_laws;
-pub use rank_theorems::{costs_laws, optimum_laws};
+pub use rank_theorems::costs_laws;
 pub use totals::rank_costs;
 pub use valid_models::{closure_laws, plan_laws};
 pub use walk::post_order;

@@ -1,8 +1,7 @@
 //! What holds of the bits of costs behind the clauses of a closure.
-ghost use Rattle.ranked_costs.specs.Ranked.{ClosureInRange, ClosureSmall, ClosureCosts, ClosureSpells, LeastIsOptimal, NoModelNoGraph};
+ghost use Rattle.ranked_costs.specs.Ranked.{ClosureInRange, ClosureSmall, ClosureCosts, ClosureSpells};
 
 use crate::limit_laws;
-use graph_rules::valid_laws;
 use valid_models::closure_laws;
 
 /// Behind the clauses of a closure, what `rank_costs` asks for holds, and its bits rank the graphs
@@ -16,13 +15,4 @@ pub fn costs_laws()
 {
     closure_laws();
     limit_laws();
-}
-
-/// A model with the least bits decodes to an optimal graph; where there is no model, no graph is
-/// valid.
-pub fn optimum_laws()
-    ensures least { LeastIsOptimal }
-    ensures none { NoModelNoGraph }
-{
-    valid_laws();
 }
