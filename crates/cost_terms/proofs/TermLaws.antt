@@ -71,10 +71,12 @@ sum-append : {A : Type 0} (f : A → ℕ) (xs ys : List A) → sum_by f (xs ++ y
 sum-append f [] ys = omega arith
 sum-append f (x ∷ xs) ys = omega (arith, sum_by-cons f x (xs ++ ys), sum_by-cons f x xs, sum-append f xs ys)
 
+-- what is below a number is below a greater one
 pub WeighedBelow-le : (m n : ℕ) (ts : List Weighted) → m ≤ n → WeighedBelow m ts → WeighedBelow n ts
 WeighedBelow-le m n [] h b = tt
 WeighedBelow-le m n (t ∷ ts) h b = (SaidBelow-le m n t.formula h b.0, WeighedBelow-le m n ts h b.1)
 
+-- the terms of a list weigh what its formulas do
 pub terms_is : (s : Clauses) (ts : List Weighted) → WeighedBelow s.vars ts
     → DefinesTerms s (terms_on s ts).list (terms_on s ts).answer ts
 terms_is s [] b = record { defines = Defines-refl s; below = tt; small = omega arith; weighs = λ asked v m. refl }
@@ -85,13 +87,29 @@ terms_is s (t ∷ ts) b =
     let y = terms_is m.list ts (WeighedBelow-le s.vars m.list.vars ts x.defines.says.grows.more b.1) in
     let head = option_to_list m.answer in record {
       defines = Defines-trans s m.list n.list x.defines y.defines;
-      below = TermsBelow-append n.list.vars head n.answer (TermsBelow-le m.list.vars n.list.vars head y.defines.says.grows.more x.below) y.below;
-      small = omega (arith, x.small, y.small, sum-append (λ (t : ℕ × Lit). t.0) head n.answer, sum_by-cons (λ (t : Weighted). t.weight) t ts);
+      below = TermsBelow-append n.list.vars head n.answer (TermsBelow-le m.list.vars n.list.vars head y.defines.says.grows.more x.below)
+          y.below;
+      small = omega (
+        arith,
+        x.small,
+        y.small,
+        sum-append (λ (t : ℕ × Lit). t.0) head n.answer,
+        sum_by-cons
+            (λ (t : Weighted). t.weight) t ts,
+      );
       weighs = λ asked v h.
           let p = MeetsSince-parts asked v s m.list n.list x.defines.says.grows y.defines.says.grows h in
-          omega (arith, x.weighs asked v p.0, y.weighs asked v p.1, sum-append (weight_of v) head n.answer, sum_by-cons (weight_said v) t ts);
+          omega (
+            arith,
+            x.weighs asked v p.0,
+            y.weighs asked v p.1,
+            sum-append (weight_of v) head n.answer,
+            sum_by-cons
+                (weight_said v) t ts,
+          );
     }
 
+-- so with all lists
 pub AllWeighedBelow-le : (m n : ℕ) (lists : List (List Weighted)) → m ≤ n → AllWeighedBelow m lists → AllWeighedBelow n lists
 AllWeighedBelow-le m n [] h b = tt
 AllWeighedBelow-le m n (ts ∷ lists) h b = (WeighedBelow-le m n ts h b.0, AllWeighedBelow-le m n lists h b.1)
@@ -102,11 +120,16 @@ AllTermsBelow-from m n ts lists h a b = (TermsBelow-le m n ts h a, b)
 
 -- the longer list defines terms for some lists of formulas
 pub record DefinesLists (old new : Clauses) (terms : List (List (ℕ × Lit))) (lists : List (List Weighted)) : Type 0 where
+  -- the clauses define
   pub defines : Defines old new
+  -- over their variables
   pub below : AllTermsBelow new.vars terms
+  -- sums stay small
   pub small : AllSmall (tops_said lists) → AllSmall (tops terms)
+  -- and weigh the same
   pub weigh : (asked v : ℕ → Bool) → MeetsSince asked v old new → sums v terms ≡ sums_said v lists
 
+-- the terms of all lists weigh what their formulas do
 pub lists_is : (s : Clauses) (lists : List (List Weighted)) → AllWeighedBelow s.vars lists
     → DefinesLists s (lists_on s lists).list (lists_on s lists).answer lists
 lists_is s [] b = record { defines = Defines-refl s; below = tt; small = λ h. h; weigh = λ asked v m. refl }

@@ -53,6 +53,10 @@ size_of_database records = length records + sum_by record_members records
 
 -- ---- the limits
 
+-- how many names nodes of a problem's graphs may have
+abbrev pub most_names : ℕ
+most_names = 1024
+
 abbrev pub are_few_rows : List Recipe → Bool
 are_few_rows recipes = nat_le (size_of_recipes recipes) (2 ^ 28)
 
