@@ -39,7 +39,7 @@ pub sum_filter : {X : Type 0} (test : X → Bool) (cost : X → ℕ) (xs : List 
 sum_filter test cost [] = refl
 sum_filter test cost (x ∷ xs) =
     sum_by-cons (λ y. cond (test y) (cost y) 0) x xs ∙ ap (λ s. cond (test x) (cost x) 0 + s) (sum_filter test cost xs)
-        ∙ sum_filter-cases (test x)
+    ∙ sum_filter-cases (test x)
   where
     sum_filter-cases : (b : Bool) → cond b (cost x) 0 + sum_by cost (filter test xs)
         ≡ sum_by cost (cond b (x ∷ filter test xs) (filter test xs))

@@ -51,7 +51,7 @@ os_most : CountsWithin twice_length os_list
 unfolding os_list
 os_most =
     twice_tested twice_length (list_of (text_of plain_meaning)) (each_twice (text_of plain_meaning)) not_empty
-        (distinct (slice_cmp nat_cmp))
+    (distinct (slice_cmp nat_cmp))
 
 targets_most : CountsWithin twice_length target_list
 unfolding target_list

@@ -7,4 +7,4 @@ pub returns : goal.returns
 returns c =
     let all = rw (take_all c.loop-row.row-index c.args.rows.now c.loop-row-test.false) at c.loop-row.invariant in
     IfOk-weaker c.new.result _ _ (λ index same. indexes (λ row. row.version) c.args.rows.now c.loop-row.entries.items index all same)
-        c.new.ensures
+    c.new.ensures
