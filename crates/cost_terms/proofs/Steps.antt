@@ -28,14 +28,12 @@ after ts m = record { list = m.list; answer = ts ++ m.answer }
 pub rest-at : {A : Type 0} (xs : List A) (i : ℕ) (x : A) → i < length xs → x ≡ get_or xs i x → drop i xs ≡ x ∷ drop (i + 1) xs
 rest-at xs i x h e = rw add-one (drop-cons xs i x h ∙ ap (λ y. y ∷ drop (suc i) xs) (sym e))
 
--- the term of one formula
 pub one-step : (s t u : Clauses) (w : Weighted) (d : Defined) (r : Option (ℕ × Lit))
     → define_on s w.formula ≡ record { list = t; answer = d }
     → term_on t w.weight d ≡ record { list = u; answer = r } → one_on s w ≡ record { list = u; answer = r }
 unfolding one_on
 one-step s t u w d r e f = ap (λ (m : Grown Defined). term_on m.list w.weight m.answer) e ∙ f
 
--- a formula of the list is in range
 pub weighed-at : (m n : ℕ) (ts : List Weighted) (i : ℕ) (t : Weighted) → m ≤ n → i < length ts → t ≡ get_or ts i t → WeighedBelow m ts
     → SaidBelow n t.formula
 weighed-at m n ts i t h k e b = subst (λ (u : Weighted). SaidBelow n u.formula) (sym e) (part m n ts i t h k b)
@@ -46,7 +44,6 @@ weighed-at m n ts i t h k e b = subst (λ (u : Weighted). SaidBelow n u.formula)
     part m n (t ∷ ts) zero d h k b = SaidBelow-le m n t.formula h b.0
     part m n (t ∷ ts) (suc i) d h k b = part m n ts i d h (omega (arith, k)) b.1
 
--- so is each list
 pub all-weighed-at : (m n : ℕ) (lists : List (List Weighted)) (i : ℕ) (ts : List Weighted) → m ≤ n → i < length lists
     → ts ≡ get_or lists i ts
     → AllWeighedBelow m lists → WeighedBelow n ts
@@ -58,7 +55,6 @@ all-weighed-at m n lists i ts h k e b = subst (WeighedBelow n) (sym e) (part m n
     part m n (ts ∷ lists) zero d h k b = WeighedBelow-le m n ts h b.0
     part m n (ts ∷ lists) (suc i) d h k b = part m n lists i d h (omega (arith, k)) b.1
 
--- the terms of all lists are those of the definition
 pub lists_at : (s t : Clauses) (lists : List (List Weighted)) (terms : List (List (ℕ × Lit))) → AllWeighedBelow s.vars lists
     → lists_on s lists ≡ record { list = t; answer = terms } → DefinesLists s t terms lists
 lists_at s t lists terms b q = let P : Grown (List (List (ℕ × Lit))) → Type 0 = λ m. DefinesLists s m.list m.answer lists in

@@ -71,12 +71,10 @@ sum-append : {A : Type 0} (f : A → ℕ) (xs ys : List A) → sum_by f (xs ++ y
 sum-append f [] ys = omega arith
 sum-append f (x ∷ xs) ys = omega (arith, sum_by-cons f x (xs ++ ys), sum_by-cons f x xs, sum-append f xs ys)
 
--- what is below a number is below a greater one
 pub WeighedBelow-le : (m n : ℕ) (ts : List Weighted) → m ≤ n → WeighedBelow m ts → WeighedBelow n ts
 WeighedBelow-le m n [] h b = tt
 WeighedBelow-le m n (t ∷ ts) h b = (SaidBelow-le m n t.formula h b.0, WeighedBelow-le m n ts h b.1)
 
--- the terms of a list weigh what its formulas do
 pub terms_is : (s : Clauses) (ts : List Weighted) → WeighedBelow s.vars ts
     → DefinesTerms s (terms_on s ts).list (terms_on s ts).answer ts
 terms_is s [] b = record { defines = Defines-refl s; below = tt; small = omega arith; weighs = λ asked v m. refl }
@@ -109,7 +107,6 @@ terms_is s (t ∷ ts) b =
           );
     }
 
--- so with all lists
 pub AllWeighedBelow-le : (m n : ℕ) (lists : List (List Weighted)) → m ≤ n → AllWeighedBelow m lists → AllWeighedBelow n lists
 AllWeighedBelow-le m n [] h b = tt
 AllWeighedBelow-le m n (ts ∷ lists) h b = (WeighedBelow-le m n ts h b.0, AllWeighedBelow-le m n lists h b.1)
@@ -120,16 +117,11 @@ AllTermsBelow-from m n ts lists h a b = (TermsBelow-le m n ts h a, b)
 
 -- the longer list defines terms for some lists of formulas
 pub record DefinesLists (old new : Clauses) (terms : List (List (ℕ × Lit))) (lists : List (List Weighted)) : Type 0 where
-  -- the clauses define
   pub defines : Defines old new
-  -- over their variables
   pub below : AllTermsBelow new.vars terms
-  -- sums stay small
   pub small : AllSmall (tops_said lists) → AllSmall (tops terms)
-  -- and weigh the same
   pub weigh : (asked v : ℕ → Bool) → MeetsSince asked v old new → sums v terms ≡ sums_said v lists
 
--- the terms of all lists weigh what their formulas do
 pub lists_is : (s : Clauses) (lists : List (List Weighted)) → AllWeighedBelow s.vars lists
     → DefinesLists s (lists_on s lists).list (lists_on s lists).answer lists
 lists_is s [] b = record { defines = Defines-refl s; below = tt; small = λ h. h; weigh = λ asked v m. refl }

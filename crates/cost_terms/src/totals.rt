@@ -24,7 +24,8 @@ pub fn define_totals(
     requires in_range { AllWeighedBelow clauses.old.vars lists.now }
     requires small { AllSmall (tops_said lists.now) }
     ensures built { IfOk result (λ bits. define_totals_on clauses.old lists.now ≡ record {
-      list = clauses.new;
+      list =
+          clauses.new;
       answer = bits;
     }) }
     ensures totals { IfOk result (λ bits. AreTotals clauses.old clauses.new bits.lits bits.tops lists.now) }
@@ -42,7 +43,8 @@ fn lists_of(
 ) -> Result<Vec<Terms>, AllocError>
     requires { AllWeighedBelow clauses.old.vars lists.now }
     ensures built { IfOk result (λ terms. lists_on clauses.old lists.now ≡ record {
-      list = clauses.new;
+      list =
+          clauses.new;
       answer = terms.items;
     }) }
     ensures extends { Extends clauses.old clauses.new }
@@ -62,7 +64,8 @@ fn terms_of(
 ) -> Result<Terms, AllocError>
     requires { WeighedBelow clauses.old.vars weighted.now }
     ensures built { IfOk result (λ terms. terms_on clauses.old weighted.now ≡ record {
-      list = clauses.new;
+      list =
+          clauses.new;
       answer = terms;
     }) }
     ensures extends { Extends clauses.old clauses.new }
@@ -84,7 +87,8 @@ fn term_of(
 ) -> Result<Option<(u64, Lit)>, AllocError>
     requires { SaidBelow clauses.old.vars one.now.formula }
     ensures built { IfOk result (λ term. one_on clauses.old one.now ≡ record {
-      list = clauses.new;
+      list =
+          clauses.new;
       answer = term;
     }) }
     ensures extends { Extends clauses.old clauses.new }
@@ -102,7 +106,8 @@ fn term_for(
 ) -> Result<Option<(u64, Lit)>, AllocError>
     requires { DefinedBelow clauses.old.vars value }
     ensures built { IfOk result (λ term. term_on clauses.old weight value ≡ record {
-      list = clauses.new;
+      list =
+          clauses.new;
       answer = term;
     }) }
     ensures extends { Extends clauses.old clauses.new }
