@@ -5,7 +5,7 @@ use Rattle.graph_core.specs.Paths.{JoinedIn}
 use Rattle.reuse_db.specs.declared.record.Record.{Record}
 use Rattle.lock_writer.specs.Texts.{CanBeWritten}
 use Rattle.lockfile.specs.Writable.{IsWritable}
-use Rattle.lock_rows.proofs.nothing.nothing_answer.Goals as goal
+use Rattle.json_rows.proofs.nothing.nothing_answer.Goals as goal
 
 no-path : (p q : Text) (over : List Text) → JoinsEach (JoinedIn no_content) p (over ++ q ∷ []) → ⊥
 no-path p q [] h = let l = h.0.1 in absurd (omega (arith, l))

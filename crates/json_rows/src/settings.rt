@@ -1,4 +1,4 @@
-//! What is read, as one line of text.
+//! What settings are read as, as one line of text.
 
 use graph_core::Compiler;
 use plain_data::{List, Word};

@@ -1,14 +1,15 @@
 //! A table: its rows, one after the other.
 //!
-//! A row is a line with a letter and a text, and then a line `= ANSWER`. The letters: `C` a record, `D` a list of
-//! records, `B` a whole database, `L` a lock file, `W` alone: the last lock file, written again with the last
-//! list of records; `N` alone: the lock file of no node, written and read again. A line that begins with `#` is a
-//! comment.
+//! A row is a line with a letter and a text, and then a line `= ANSWER`. The letters: `S` settings, `C` a record,
+//! `D` a list of records, `B` a whole database, `L` a lock file, `W` alone: the last lock file, written again
+//! with the last list of records; `N` alone: the lock file of no node, written and read again. The word
+//! `standard` alone: the standard settings. A line that begins with `#` is a comment.
 
-use crate::answer::{
+use crate::locks::{
     Kept, database_answer, file_answer, lock_answer, record_answer, written_answer,
 };
 use crate::nothing::nothing_answer;
+use crate::settings::{answer_text, standard_text};
 use reuse_db::Database;
 use std::alloc::{AllocError, Global};
 use std::{fs, io};
@@ -36,7 +37,9 @@ fn compare(rt: &HostRuntime, tally: &mut Tally, wanted: &str) -> io::Result<()> 
 }
 
 fn answer(alloc: Global, kept: &mut Kept, line: &str) -> Result<String, AllocError> {
-    if let Some(text) = line.strip_prefix("C ") {
+    if let Some(text) = line.strip_prefix("S ") {
+        answer_text(alloc, text.as_bytes())
+    } else if let Some(text) = line.strip_prefix("C ") {
         record_answer(alloc, text)
     } else if let Some(text) = line.strip_prefix("D ") {
         database_answer(alloc, kept, text)
@@ -46,6 +49,8 @@ fn answer(alloc: Global, kept: &mut Kept, line: &str) -> Result<String, AllocErr
         lock_answer(alloc, kept, text)
     } else if line == "N" {
         nothing_answer(alloc)
+    } else if line == "standard" {
+        standard_text(alloc)
     } else {
         written_answer(alloc, kept)
     }

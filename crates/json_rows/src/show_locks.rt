@@ -1,4 +1,4 @@
-//! What is read, as one line of text.
+//! What lock files and databases are read as, as one line of text.
 
 use graph_core::{Edge, Graph, Kinds, Node, Origin};
 use lockfile::{Lock, LockFault, read_lock};

@@ -1,6 +1,6 @@
-//! What the rows ask: records, databases, and lock files that are read and written again.
+//! What the rows ask of records, databases, and lock files that are read and written again.
 
-use crate::show::{database_fault, database_text, fault_text, lock_text};
+use crate::show_locks::{database_fault, database_text, fault_text, lock_text};
 use json_readers::{JsonFault, ListOf, Reader, read_json};
 use lockfile::{Lock, can_be_written, read_lock, write_lock};
 use plain_data::List;

@@ -1,6 +1,6 @@
 //! A graph without nodes, which is writable whatever is installed.
 
-use crate::show::{fault_text, lock_text};
+use crate::show_locks::{fault_text, lock_text};
 use graph_core::Graph;
 use lockfile::write_and_read;
 use reuse_db::Database;
