@@ -1,17 +1,32 @@
-// Rows of targets.
-//
-// Each item is `NAME` or `NAME:PARENT,PARENT`, an entry of the table, which is answered by how many
-// entries it has, or by its fault. Questions: `least TARGET LOW`, `range TARGET LOW HIGH` with `-` for
-// an end that is left out, `place TARGET`.
+//! Rows of targets.
+//!
+//! Each item is `NAME` or `NAME:PARENT,PARENT`, an entry of the table, which is answered by how many
+//! entries it has, or by its fault. Questions: `least TARGET LOW`, `range TARGET LOW HIGH` with `-` for
+//! an end that is left out, `place TARGET`.
 
-use crate::read::target_of;
 use crate::show::{push_bool, push_word};
-use plain_data::List;
+use plain_data::{List, Word};
 use std::alloc::{AllocError, Global};
-use target_table::{TargetFault, TargetTable};
+use target_table::{TargetEntry, TargetFault, TargetTable};
+
+/// `NAME` or `NAME:PARENT,PARENT`: a target and its parents.
+fn target_of(alloc: Global, word: &str) -> Result<TargetEntry, AllocError> {
+    let mut parents = List::new(alloc);
+    let (name, rest) = match word.split_once(':') {
+        Some((name, rest)) => (name, Some(rest)),
+        None => (word, None),
+    };
+    if let Some(rest) = rest {
+        for parent in rest.split(',') {
+            parents.push(Word::new(alloc, parent)?)?;
+        }
+    }
+    let name = Word::new(alloc, name)?;
+    Ok(TargetEntry { name, parents })
+}
 
 /// What the table of these entries answers, or its fault.
-pub fn answer(
+pub(crate) fn answer(
     alloc: Global,
     text: &mut String,
     items: &[&str],

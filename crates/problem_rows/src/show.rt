@@ -1,28 +1,28 @@
-// Answers as text.
+//! Nodes, edges and truth values as text.
 
 use graph_core::{Edge, Kinds, Node};
 use std::alloc::AllocError;
 
 /// A word behind a space.
-pub fn push_word(text: &mut String, word: &str) -> Result<(), AllocError> {
+pub(crate) fn push_word(text: &mut String, word: &str) -> Result<(), AllocError> {
     text.push_str(" ")?;
     text.push_str(word)
 }
 
 /// A truth value behind a space.
-pub fn push_bool(text: &mut String, value: bool) -> Result<(), AllocError> {
+pub(crate) fn push_bool(text: &mut String, value: bool) -> Result<(), AllocError> {
     push_word(text, if value { "true" } else { "false" })
 }
 
 /// A node as its name and version.
-pub fn push_node(text: &mut String, node: &Node) -> Result<(), AllocError> {
+pub(crate) fn push_node(text: &mut String, node: &Node) -> Result<(), AllocError> {
     push_word(text, node.name.as_str())?;
     text.push_str("@")?;
     text.push_str(node.version.text())
 }
 
 /// An edge as its ends and kinds.
-pub fn push_edge(text: &mut String, edge: &Edge) -> Result<(), AllocError> {
+pub(crate) fn push_edge(text: &mut String, edge: &Edge) -> Result<(), AllocError> {
     push_word(text, edge.parent.as_str())?;
     text.push_str(">")?;
     text.push_str(edge.child.as_str())?;

@@ -1,19 +1,27 @@
-// Rows of graphs.
-//
-// The items are put one after another: `NAME` or `NAME@VERSION` is a node, `PARENT>CHILD` an edge,
-// `VIRTUAL=PACKAGE` a provider. Those that were not put are answered, and how many nodes there are.
-// Questions: `nodes`, `edges`, `providers`, `node NAME`, `from NAME`, `provider VIRTUAL`,
-// `reaches FROM TO`, `leads FROM TO` (asked of all paths at once), `copy NAME` (a node and its copy).
+//! Rows of graphs.
+//!
+//! The items are put one after another: `NAME` or `NAME@VERSION` is a node with one variant and a
+//! compiler, at 1.0 without a version, `PARENT>CHILD` an edge for linking, `VIRTUAL=PACKAGE` a provider.
+//! Those that were not put are answered, and how many nodes there are.
+//! Questions: `nodes`, `edges`, `providers`, `node NAME`, `from NAME`, `provider VIRTUAL`,
+//! `reaches FROM TO`, `leads FROM TO` (asked of all paths at once), `copy NAME` (a node and its copy).
 
-use crate::read::{edge_of, node_of};
+use crate::nodes::{compiler_of, edge_of, plain_node};
 use crate::show::{push_bool, push_edge, push_node, push_word};
-use graph_core::{Graph, Node, Reach, reaches};
+use graph_core::{Graph, Kinds, Node, Reach, reaches};
 use plain_data::{Duplicate, Same, Word};
 use std::alloc::{AllocError, Global};
-use version_order::VersionFault;
+use variant_values::ValueSet;
+use version_order::{Version, VersionFault};
+
+const LINKED: Kinds = Kinds {
+    build: false,
+    link: true,
+    run: false,
+};
 
 /// What the graph of these items answers.
-pub fn answer(
+pub(crate) fn answer(
     alloc: Global,
     text: &mut String,
     items: &[&str],
@@ -70,10 +78,30 @@ fn ask_each(
     Ok(())
 }
 
-// Puts one item; whether it was put.
+fn node_of(alloc: Global, word: &str) -> Result<Node, VersionFault> {
+    let (name, version) = word.split_once('@').unwrap_or((word, "1.0"));
+    let mut node = plain_node(alloc, name, Version::read(alloc, version)?)?;
+    match choose(alloc, &mut node) {
+        Ok(()) => Ok(node),
+        Err(fault) => {
+            drop(node);
+            Err(fault)
+        }
+    }
+}
+
+fn choose(alloc: Global, node: &mut Node) -> Result<(), VersionFault> {
+    let mut values = ValueSet::new(alloc);
+    values.insert(Word::new(alloc, "true")?)?;
+    node.variants.push((Word::new(alloc, "shared")?, values))?;
+    node.compiler = Some(compiler_of(alloc)?);
+    Ok(())
+}
+
+/// Puts one item; whether it was put.
 fn put(alloc: Global, graph: &mut Graph, item: &str) -> Result<bool, AllocError> {
     if let Some((parent, child)) = item.split_once('>') {
-        return graph.add_edge(edge_of(alloc, parent, child)?);
+        return graph.add_edge(edge_of(alloc, parent, child, LINKED)?);
     }
     if let Some((name, provider)) = item.split_once('=') {
         return graph.set_provider(Word::new(alloc, name)?, Word::new(alloc, provider)?);
@@ -145,7 +173,7 @@ fn look_up(text: &mut String, graph: &Graph, what: &str, name: &str) -> Result<(
     }
 }
 
-// A node's copy, and whether it is the same as the node.
+/// A node's copy, and whether it is the same as the node.
 fn copy(alloc: Global, text: &mut String, graph: &Graph, name: &str) -> Result<(), AllocError> {
     match graph.node(name) {
         Some(node) => {
