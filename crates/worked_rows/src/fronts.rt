@@ -1,8 +1,6 @@
-// Where a text that is no set goes wrong, by a second definition and by brute force.
-use crate::same::check_same;
+//! Where a text that is no set goes wrong, by a second definition and by brute force.
+use crate::stop::Stop;
 use std::alloc::{AllocError, Global};
-use std::process::Abort;
-use std::test::Fail;
 use version_order::{VersionSet, VersionSetFault, list_front};
 
 const SIGNS: [u8; 6] = [b'1', b'2', b'.', b'=', b':', b','];
@@ -118,30 +116,34 @@ fn wanted_fault(text: &[u8], longest: usize) -> Option<VersionSetFault> {
     }
 }
 
-fn check_text(rt: &impl Abort, alloc: Global, text: &[u8]) -> Result<(), AllocError> {
+/// Whether the readers say of a text what the second definition says.
+fn is_as_defined(alloc: Global, text: &[u8]) -> Result<bool, AllocError> {
     let longest = longest_front(alloc, text)?;
     let (front, whole) = list_front(text);
-    check_same(rt, &(text, front), &(text, longest));
-    let wanted = wanted_fault(text, longest);
-    check_same(rt, &(text, fault_of(alloc, text)), &(text, wanted));
-    if longest == text.len() {
-        check_same(rt, &(text, whole), &(text, is_list(text)));
-    }
-    Ok(())
+    let is_same_fault = fault_of(alloc, text) == wanted_fault(text, longest);
+    let is_same_end = longest < text.len() || whole == is_list(text);
+    Ok(front == longest && is_same_fault && is_same_end)
 }
 
-#[test]
-fn the_longest_front_by_brute_force(rt: HostRuntime) -> Result<(), Fail> {
-    let alloc = rt.alloc();
-    let mut texts = 0u64;
-    for (length, count) in COUNTS.iter().enumerate() {
-        for number in 0..*count {
-            let mut text = Vec::new(alloc);
-            spell(&mut text, length, number)?;
-            check_text(&rt, alloc, &text)?;
-            texts = texts.saturating_add(1);
+/// How many texts of that many signs there are, or the first of which the readers say something else.
+fn count_of(alloc: Global, length: usize, count: usize) -> Result<String, AllocError> {
+    for number in 0..count {
+        let mut text = Vec::new(alloc);
+        spell(&mut text, length, number)?;
+        if !is_as_defined(alloc, &text)? {
+            return String::from_utf8_lossy(alloc, &text);
         }
     }
-    assert_eq!(rt; texts, 9331);
-    Ok(())
+    format!(in alloc; "{count}")
+}
+
+/// The same for a length as a text.
+pub(crate) fn answer(alloc: Global, length: &str) -> Result<String, Stop> {
+    let Ok(length) = length.parse::<usize>() else {
+        return Err(Stop::NoRow);
+    };
+    match COUNTS.get(length) {
+        Some(count) => Ok(count_of(alloc, length, *count)?),
+        None => Err(Stop::NoRow),
+    }
 }
