@@ -51,7 +51,7 @@ use Rattle.problem.specs.Assembled.{is_assembled}
 use Rattle.graph_rules.specs.Valid.{keeps, keeps_demand, all_rules}
 use Rattle.graph_rules.specs.Verdict.{verdict}
 use Rattle.graph_rules.specs.declared.rule.Verdict.{Verdict}
-use Rattle.graph_costs.specs.Costs.{vector}
+use Rattle.graph_rules.specs.Costs.{vector}
 
 abbrev pub part : Option Text → Option (List Range) → List (Text × List Text) → Option (Text × Option (List Range)) → Option Text → Option Text → Option (List TargetItem) → Part
 part n v vs c p o t = record { name = n; versions = v; variants = vs; compiler = c; platform = p; os = o; targets = t }
