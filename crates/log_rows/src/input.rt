@@ -45,7 +45,8 @@ pub fn clauses_of(alloc: Global, vars: u64, words: &[&str]) -> Result<ClauseList
     Ok(clauses)
 }
 
-fn add(alloc: Global, clauses: &mut ClauseList, lits: &[Lit]) -> Result<(), AllocError> {
+/// One more clause, if its literals are in range and of no variable twice with both signs.
+pub fn add(alloc: Global, clauses: &mut ClauseList, lits: &[Lit]) -> Result<(), AllocError> {
     if let Some(clause) = Clause::new(alloc, lits)? {
         if are_below(clause.lits(), clauses.vars()) {
             let demand = clauses.len();
@@ -81,6 +82,21 @@ pub fn lits_of<'a>(
         }
     }
     Ok((lits, &[]))
+}
+
+/// The numbers before the first word that is none or 0, and the words after it.
+pub fn places_of<'a>(
+    alloc: Global,
+    words: &'a [&'a str],
+) -> Result<(Vec<usize>, &'a [&'a str]), AllocError> {
+    let mut places = Vec::new(alloc);
+    for (place, word) in words.iter().enumerate() {
+        match number_of(word) {
+            0 => return Ok((places, &words[place + 1..])),
+            number => places.push(number as usize)?,
+        }
+    }
+    Ok((places, &[]))
 }
 
 /// The values that a word spells, as `=10`; none where it is another.

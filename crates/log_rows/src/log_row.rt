@@ -1,4 +1,4 @@
-//! `log VALUES VARS BITS.. 0 CLAUSES.. | TEXT`: what the checkers answer to a text over these clauses and bits.
+//! `check_log VALUES VARS BITS.. 0 CLAUSES.. | TEXT`: what the checkers answer to a text over these clauses and bits.
 //!
 //! VALUES are the bits' values, each 0 or 1, after `=`; or `-` for a refutation. TEXT is that of a log, its
 //! words parted by white space and each of its lines ended by a word `/`. It is read in one piece and in

@@ -1,4 +1,4 @@
-//! `search BUDGET VARS BITS.. 0 CLAUSES..`: what the checkers answer to the log that a search writes. Each
+//! `check_search BUDGET VARS BITS.. 0 CLAUSES..`: what the checkers answer to the log that a search writes. Each
 //! clause is a demand, numbered from 0; a refutation is answered with its reasons.
 
 use crate::answers::{joined, step_text, text_answer};

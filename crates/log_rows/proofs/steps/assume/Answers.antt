@@ -1,7 +1,7 @@
 use Rattle.std.proofs.Common.{◌<◌, length, ap, sym, ◌∙◌, subst}
 use Rattle.clause_store.specs.Lits.{var_of}
 use Rattle.clause_solver.specs.Solvers.{Answers}
-use Rattle.solver_rows.proofs.steps.assume.Goals as goal
+use Rattle.log_rows.proofs.steps.assume.Goals as goal
 
 pub fix-requires-clause-next : goal.fix-requires-clause-next
 fix-requires-clause-next c =
