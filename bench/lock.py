@@ -1,9 +1,9 @@
 #!/usr/bin/env python3
 """Times the writing and reading of lock files, and the refusal of hostile ones.
 
-    (cd crates/lock_rows && rt run) && bench/lock.py [FOLDER]
+    (cd crates/json_rows && rt run) && bench/lock.py [FOLDER]
 
-It runs the program that `rt run` built in FOLDER, which is crates/lock_rows/out unless it is given. A lock file of 1,024
+It runs the program that `rt run` built in FOLDER, which is crates/json_rows/out unless it is given. A lock file of 1,024
 nodes is to be read in under 50 ms, and written again in under 50 ms: of each shape the program reads one file once and 11
 times, and reads and writes it once and 11 times, and what is printed is a tenth of the difference. Hostile JSON is to
 be refused in linear time: the time and its ratio at each doubling (near 2) up to 100 MB are printed. All times are
@@ -90,22 +90,22 @@ def hostile(program, folder):
         for size in (25_000_000, 50_000_000, 100_000_000):
             with open(path, "w") as file:
                 file.write(make(size))
-            seconds, said = timed(program, ["read", path])
+            seconds, said = timed(program, ["lock", path])
             ratio = "" if before is None else f" ratio {seconds / before:.2f}"
             before = seconds
             print(f"{kind}: {size // 1_000_000} MB {seconds:.2f} s{ratio}; {said[:50]}", flush=True)
 
 
 def main():
-    folder = sys.argv[1] if len(sys.argv) > 1 else os.path.join(TOP, "crates", "lock_rows", "out")
-    program = os.path.join(folder, "lock_rows")
+    folder = sys.argv[1] if len(sys.argv) > 1 else os.path.join(TOP, "crates", "json_rows", "out")
+    program = os.path.join(folder, "json_rows")
     with tempfile.TemporaryDirectory() as work:
         path = os.path.join(work, "lock.json")
         for shape, text in shapes(1024):
             with open(path, "w") as file:
                 file.write(text)
-            said = timed(program, ["write", path])[1]
-            read, both = tenth(program, "read", path), tenth(program, "write", path)
+            said = timed(program, ["again", path])[1]
+            read, both = tenth(program, "lock", path), tenth(program, "again", path)
             print(f"{shape}: {len(text)} bytes; read {read:.1f} ms, written again {both - read:.1f} ms; {said}", flush=True)
         hostile(program, work)
 

@@ -3,10 +3,10 @@
 at each doubling (near 2), and the memory over the size of the file are printed. A kind `JSON alone` has its fault
 in the first key, so that it shows what the JSON values need.
 
-    (cd crates/settings_rows && rt run) && bench/settings.py [FOLDER]
+    (cd crates/json_rows && rt run) && bench/settings.py [FOLDER]
     bench/settings.py cases FILE.jsonl[.gz] [FOLDER]
 
-It runs the program that `rt run` built in FOLDER, which is crates/settings_rows/out unless it is given. A file of
+It runs the program that `rt run` built in FOLDER, which is crates/json_rows/out unless it is given. A file of
 16 MiB is to be read in under 2 s and in 20 times its size.
 
 With `cases` it compares faults with those of whole runs. A case is a line of JSON: `files`, from paths to base64 texts,
@@ -73,7 +73,7 @@ def run(program, text):
         with open(path, "w") as file:
             file.write(text)
         del text
-        done = subprocess.run([sys.executable, "-S", "-c", STARTER, program, "read", path], capture_output=True, check=True)
+        done = subprocess.run([sys.executable, "-S", "-c", STARTER, program, "settings_fault", path], capture_output=True, check=True)
         said, measured = done.stdout.decode().rstrip("\n").rsplit("\n", 1)
         status, wall, seconds, memory = measured.split()
         return float(wall), float(seconds), int(memory), said, int(status)
@@ -121,7 +121,7 @@ def cases(program, path):
             case = json.loads(line)
             with open(text, "wb") as settings:
                 settings.write(base64.b64decode(case["files"]["s"]))
-            said = subprocess.run([program, text], capture_output=True, timeout=120)
+            said = subprocess.run([program, "settings", text], capture_output=True, timeout=120)
             got, want = fault_in(said.stdout.decode()), wanted_in(case["want"])
             count += 1
             if said.returncode != 0 or got != want:
@@ -135,7 +135,7 @@ def main():
     words = sys.argv[1:]
     path = words[1] if words[:1] == ["cases"] else None
     rest = words[2:] if path else words
-    program = os.path.join(rest[0] if rest else os.path.join(TOP, "crates", "settings_rows", "out"), "settings_rows")
+    program = os.path.join(rest[0] if rest else os.path.join(TOP, "crates", "json_rows", "out"), "json_rows")
     return cases(program, path) if path else times(program)
 
 

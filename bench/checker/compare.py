@@ -1,7 +1,7 @@
 #!/usr/bin/env python3
 """Compares the checkers with a second one, written from docs/formats/proof_log.md alone: compare.py PROGRAM [SEED [SEARCHES [LOGS]]].
 
-PROGRAM is `checker_rows`, as `rt run` or `rt try` builds it. It answers rows of searches over random clauses, whose logs are to be
+PROGRAM is `log_rows`, as `rt run` or `rt try` builds it. It answers rows of searches over random clauses, whose logs are to be
 accepted and whose reasons are to have no model; and rows of logs that were made here by resolution and then changed: an id, a sign, a
 number, a line left out, doubled or swapped, a literal more or less, a number of 30 digits, a line feed left out.
 """
@@ -240,14 +240,14 @@ def spelled(numbers):
 
 def run(program, rows):
     out = subprocess.run([program], input="".join(r + "\n" for r in rows), capture_output=True, text=True, check=True).stdout
-    answers = out.split("\n")[:-1]
+    answers = out.split("\n--\n")[:-1]
     assert len(answers) == len(rows), f"{len(answers)} answers to {len(rows)} rows"
     return answers
 
 
 def searches(program, rng, count):
     cases = [random_clauses(rng) for _ in range(count)]
-    rows = [f"search 100000 {v} {spelled(bits)} {' '.join(map(spelled, clauses))}" for v, clauses, bits in cases]
+    rows = [f"check_search 100000 {v} {spelled(bits)} {' '.join(map(spelled, clauses))}" for v, clauses, bits in cases]
     wrong, refuted = 0, 0
     for (variables, clauses, bits), row, answer in zip(cases, rows, run(program, rows)):
         if models(variables, clauses):
@@ -285,7 +285,7 @@ def logs(program, rng, count):
             text = "\n".join(changed) + feed
             spelt = "-" if told is None else "=" + "".join(map(str, map(int, told)))
             shown = text.replace("\n", " / ")
-            rows.append(f"log {spelt} {variables} {spelled(bits)} {' '.join(map(spelled, clauses))} | {shown}")
+            rows.append(f"check_log {spelt} {variables} {spelled(bits)} {' '.join(map(spelled, clauses))} | {shown}")
             wanted.append(Second(variables, clauses, bits, told).answer(text))
     wrong = 0
     for row, want, answer in zip(rows, wanted, run(program, rows)):

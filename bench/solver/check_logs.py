@@ -1,5 +1,5 @@
 #!/usr/bin/env python3
-"""Checks what `solver_rows` answered, line by line and by itself: check_logs.py ROWS ANSWERS [--sat SOLVER].
+"""Checks what `log_rows` answered, line by line and by itself: check_logs.py ROWS ANSWERS [--sat SOLVER].
 
 Each row is a problem of `sets.py`, each answer ends with a line `--`. Every log is checked: ids, bits in order, exactly one
 pivot a step, containment, no learnt clause that an input or earlier learnt one equals, and of a spent log the count and that

@@ -1,5 +1,5 @@
 #!/bin/sh
-# The outside checks of the search crates: run.sh [SOLVER]. Builds the proved program `solver_rows` and asks it for
+# The outside checks of the search crates: run.sh [SOLVER]. Builds the proved program `log_rows` and asks it for
 # 5,000 small sets (all assignments tried), 3-SAT of 50 to 150 variables, pigeon holes to 7 and sets with bits (beside
 # SOLVER, minisat by default: `apt-get install minisat`, or cadical), sums as bits among them; `check_logs.py` checks each
 # answer, each line of each log and each model. PROGRAM=FILE takes a build that is there.
@@ -9,8 +9,8 @@ solver=${1:-minisat}
 out=$(mktemp -d)
 program=${PROGRAM:-}
 if [ -z "$program" ]; then
-    (cd "$here/../../crates/solver_rows" && rt run < /dev/null > /dev/null)
-    program="$here/../../crates/solver_rows/out/solver_rows"
+    (cd "$here/../../crates/log_rows" && rt run < /dev/null > /dev/null)
+    program="$here/../../crates/log_rows/out/log_rows"
 fi
 check() {
     name=$1

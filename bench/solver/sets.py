@@ -1,5 +1,5 @@
 #!/usr/bin/env python3
-"""Rows for `solver_rows`: sets.py KIND COUNT SEED [SIZE [VERSIONS]].
+"""Rows for `log_rows`: sets.py KIND COUNT SEED [SIZE [VERSIONS]].
 
 small     random clauses over 4 to 12 variables, with bits and the budgets 0, 1, 5, 100 (brute force tells the answer)
 ends      the same, with random places where numbers end, some of them out of order or out of range

@@ -4,25 +4,18 @@
 //! operating system and target that the condition asks for (`gcc@12.2`, `ubuntu22.04` and `x86_64` where it asks for none), `PARENT > CHILD` an edge,
 //! `VIRTUAL = PACKAGE` a provider. An item that cannot be put is left out.
 
-use graph_core::{Compiler, Edge, Graph, Kinds, Node, Origin};
-use plain_data::{Duplicate, List, Word};
+use crate::nodes::{compiler_of, edge_of, plain_node};
+use graph_core::{Graph, Kinds, Node};
+use plain_data::{Duplicate, Word};
 use spec_grammar::{Part, Spec, read_condition};
 use std::alloc::{AllocError, Global};
 use version_order::Version;
 
-fn edge_of(alloc: Global, parent: &str, child: &str) -> Result<Edge, AllocError> {
-    let parent = Word::new(alloc, parent)?;
-    let child = Word::new(alloc, child)?;
-    Ok(Edge {
-        parent,
-        child,
-        kinds: Kinds {
-            build: true,
-            link: true,
-            run: false,
-        },
-    })
-}
+const BUILT_AND_LINKED: Kinds = Kinds {
+    build: true,
+    link: true,
+    run: false,
+};
 
 fn word_or(alloc: Global, word: &Option<Word>, other: &str) -> Result<Word, AllocError> {
     match word {
@@ -38,29 +31,6 @@ fn target_of(alloc: Global, part: &Part) -> Result<Word, AllocError> {
         return word_or(alloc, &item.low, "x86_64");
     }
     Word::new(alloc, "x86_64")
-}
-
-fn compiler_of(alloc: Global) -> Result<Compiler, AllocError> {
-    let Ok(version) = Version::read(alloc, "12.2") else {
-        return Err(AllocError);
-    };
-    Ok(Compiler {
-        name: Word::new(alloc, "gcc")?,
-        version,
-    })
-}
-
-fn plain_node(alloc: Global, name: &str, version: Version) -> Result<Node, AllocError> {
-    Ok(Node {
-        name: Word::new(alloc, name)?,
-        version,
-        variants: List::new(alloc),
-        compiler: None,
-        os: Word::new(alloc, "ubuntu22.04")?,
-        target: Word::new(alloc, "x86_64")?,
-        prefix: None,
-        origin: Origin::Built,
-    })
 }
 
 fn set_asked(alloc: Global, node: &mut Node, part: &Part) -> Result<(), AllocError> {
@@ -113,7 +83,7 @@ fn put_node(alloc: Global, graph: &mut Graph, item: &str) -> Result<(), AllocErr
 
 fn put(alloc: Global, graph: &mut Graph, item: &str) -> Result<(), AllocError> {
     if let Some((parent, child)) = item.split_once(" > ") {
-        graph.add_edge(edge_of(alloc, parent, child)?)?;
+        graph.add_edge(edge_of(alloc, parent, child, BUILT_AND_LINKED)?)?;
         return Ok(());
     }
     if let Some((name, provider)) = item.split_once(" = ") {

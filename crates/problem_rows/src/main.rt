@@ -1,20 +1,28 @@
-//! Rows of problems: what calls on recipes, on a graph and on requested specs answer, compared with a table.
+//! Rows of targets, graphs and problems: what calls on them, on recipes and on requested specs answer,
+//! compared with tables.
 //!
-//! It goes over `rows.txt`, which lies where it runs, and prints each row that differs and how many there are. `table` says how
-//! a row is written, `ask` which questions there are.
-//! The answers in the table come from the rules, never from what the crates answer.
-//! It stands on `virtuals`, `condition_rules`, `problem` and `possible_closure`, and reads recipes, specs and graphs for them. Nothing stands on it.
+//! It goes over `rows.txt` and `graphs.txt`, which lie where it runs, and prints each row that differs and
+//! how many there are. `table` says how a row is written, `ask` and `over` which questions there are.
+//! The answers in the tables come from the rules, never from what the crates answer.
+//! It stands on `target_table`, `graph_core`, `virtuals`, `condition_rules`, `problem` and
+//! `possible_closure`, and reads recipes, specs and graphs for them. Nothing stands on it.
 #![tactic(auto)]
 
 mod ask;
 mod graph;
+mod graphs;
+mod nodes;
+mod over;
 mod recipes;
 mod roots;
+mod show;
 mod site;
 mod table;
+mod targets;
 
 use std::io;
 
 fn main(rt: HostRuntime) -> io::Result<()> {
-    table::go_over(&rt, "rows.txt")
+    table::go_over(&rt, "rows.txt")?;
+    table::go_over(&rt, "graphs.txt")
 }

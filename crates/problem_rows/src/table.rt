@@ -1,9 +1,11 @@
 //! A table: its rows, one after the other.
 //!
-//! `recipe NAME: STATEMENT; STATEMENT` adds a recipe, `site LINE` a line of the site, `graph ITEM..` makes the graph, and `new` forgets all. A row is a line
-//! `ask QUESTION` and then a line `= ANSWER`. Other lines are comments.
+//! `recipe NAME: STATEMENT; STATEMENT` adds a recipe, `site LINE` a line of the site, `graph ITEM..` makes
+//! the graph, and `new` forgets all. A row is a line `ask QUESTION`, or `over` with what it is over and its
+//! questions, and then a line `= ANSWER`. Other lines are comments.
 
 use crate::ask::answer;
+use crate::over;
 use plain_data::Word;
 use recipe_reader::RecipeFile;
 use std::alloc::{AllocError, Global};
@@ -65,6 +67,8 @@ fn take_line(rt: &HostRuntime, tally: &mut Tally, line: &str) -> io::Result<()> 
         tally.site.push_str("\n")?;
     } else if let Some(items) = line.strip_prefix("graph ") {
         tally.graph = String::from_str(alloc, items)?;
+    } else if let Some(made) = line.strip_prefix("over ") {
+        tally.shown = over::answer(alloc, made)?;
     } else if let Some(question) = line.strip_prefix("ask ") {
         tally.shown = answer(
             alloc,

@@ -1,4 +1,5 @@
 // Desks and sinks, and whole files.
+use crate::one_byte_desk::OneByteDesk;
 use crate::same::check_same;
 use outside_desk::{
     Desk, DeskFault, MemoryDesk, MemorySink, ReadFault, RealSink, Sink, SinkFault, SteadyDesk,
@@ -8,7 +9,6 @@ use std::alloc::{AllocError, Global};
 use std::io;
 use std::process::Abort;
 use std::test::Fail;
-use test_desks::OneByteDesk;
 
 /// Where to read in a file of `hello`, how many bytes are asked for, and what is got.
 pub(crate) const PIECES: &[(u64, usize, &[u8])] = &[

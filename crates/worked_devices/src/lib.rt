@@ -10,6 +10,8 @@ mod devices;
 #[cfg(test)]
 mod machine;
 #[cfg(test)]
+mod one_byte_desk;
+#[cfg(test)]
 mod plain;
 #[cfg(test)]
 mod same;

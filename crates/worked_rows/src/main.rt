@@ -7,6 +7,7 @@
 #![tactic(auto)]
 
 mod fields;
+mod fronts;
 mod hashes;
 mod rows;
 mod sets;

@@ -1,5 +1,6 @@
 //! Rows of sets of versions.
 use crate::fields::{Field, text_of, truth};
+use crate::fronts;
 use crate::stop::Stop;
 use plain_data::{Duplicate, Same};
 use std::alloc::Global;
@@ -87,6 +88,7 @@ fn both(alloc: Global, there: bool, back: bool) -> Result<String, Stop> {
 pub(crate) fn answer(alloc: Global, name: &str, args: &[Field]) -> Result<String, Stop> {
     match (name, args) {
         ("read", [text]) => read(alloc, text_of(text)?),
+        ("fronts", [length]) => fronts::answer(alloc, text_of(length)?),
         ("contains", [a, version]) => contains(alloc, &set_of(alloc, a)?, version),
         ("overlaps", [a, b]) => {
             let (a, b) = (set_of(alloc, a)?, set_of(alloc, b)?);

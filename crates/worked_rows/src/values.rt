@@ -3,7 +3,7 @@ use crate::fields::{Field, text_of, truth};
 use crate::stop::Stop;
 use plain_data::{Duplicate, Same, Word};
 use std::alloc::Global;
-use variant_values::ValueSet;
+use variant_values::{ValueSet, VariantKind};
 
 /// The texts of fields.
 fn words_of(alloc: Global, texts: &[Field]) -> Result<Vec<Word>, Stop> {
@@ -69,10 +69,26 @@ fn pair(alloc: Global, a: &ValueSet, b: &ValueSet) -> Result<String, Stop> {
     Ok(format!(in alloc; "{there} {back}")?)
 }
 
-pub(crate) fn answer(alloc: Global, name: &str, args: &[Field]) -> Result<String, Stop> {
-    if name == "insert" {
-        return insert(alloc, args);
+fn kind_of(name: &Field) -> Result<VariantKind, Stop> {
+    match text_of(name)? {
+        "Bool" => Ok(VariantKind::Bool),
+        "Single" => Ok(VariantKind::Single),
+        "Multi" => Ok(VariantKind::Multi),
+        _ => Err(Stop::NoRow),
     }
+}
+
+/// Whether two kinds are the same, and so is a copy of the first.
+fn kinds(alloc: Global, a: VariantKind, b: VariantKind) -> Result<String, Stop> {
+    let is_same = a.same(&b);
+    if b.same(&a) != is_same || a.duplicate(alloc)?.same(&b) != is_same {
+        return Err(Stop::TwoAnswers);
+    }
+    truth(alloc, is_same)
+}
+
+/// Answers of sets: the first texts stand before a field `/`, and those of the set behind it.
+fn answer_of_sets(alloc: Global, name: &str, args: &[Field]) -> Result<String, Stop> {
     let Some(at) = args
         .iter()
         .position(|field| field.as_slice() == b"/".as_slice())
@@ -84,5 +100,13 @@ pub(crate) fn answer(alloc: Global, name: &str, args: &[Field]) -> Result<String
         ("has", [text]) => truth(alloc, set.contains(text_of(text)?)),
         ("pair", texts) => pair(alloc, &set_of(alloc, texts)?, &set),
         _ => Err(Stop::NoRow),
+    }
+}
+
+pub(crate) fn answer(alloc: Global, name: &str, args: &[Field]) -> Result<String, Stop> {
+    match (name, args) {
+        ("kinds", [a, b]) => kinds(alloc, kind_of(a)?, kind_of(b)?),
+        ("insert", texts) => insert(alloc, texts),
+        _ => answer_of_sets(alloc, name, args),
     }
 }

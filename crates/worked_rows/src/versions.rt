@@ -3,7 +3,7 @@ use crate::fields::{Field, text_of, truth};
 use crate::stop::{Stop, agreed};
 use plain_data::{Duplicate, Same};
 use std::alloc::Global;
-use version_order::{Version, VersionFault};
+use version_order::{Version, VersionFault, cutting_laws, laws, reading_laws, worked_order};
 
 /// The text of the version that is read, or the fault.
 fn shown(alloc: Global, read: Result<Version, VersionFault>) -> Result<String, Stop> {
@@ -55,6 +55,28 @@ fn are_apart(alloc: Global, versions: &[Version]) -> Result<bool, Stop> {
     Ok(true)
 }
 
+/// The message of a fault, by its name, or by the place of the wrong byte.
+fn message(alloc: Global, fault: &str) -> Result<String, Stop> {
+    let fault = match fault {
+        "Empty" => VersionFault::Empty,
+        "OutOfMemory" => VersionFault::OutOfMemory,
+        at => match at.parse::<u64>() {
+            Ok(at) => VersionFault::BadByte(at),
+            Err(_) => return Err(Stop::NoRow),
+        },
+    };
+    Ok(fault.to_string(alloc)?)
+}
+
+/// Calls the laws: their bodies are empty, and so they can be called.
+fn call_laws(alloc: Global) -> Result<String, Stop> {
+    laws();
+    reading_laws();
+    cutting_laws();
+    worked_order();
+    truth(alloc, true)
+}
+
 fn answer_over(alloc: Global, name: &str, versions: &[Version]) -> Result<String, Stop> {
     match (name, versions) {
         ("rise", _) => truth(alloc, are_rising(versions)),
@@ -70,6 +92,8 @@ pub(crate) fn answer(alloc: Global, name: &str, args: &[Field]) -> Result<String
     match (name, args) {
         ("read", [text]) => read(alloc, text_of(text)?),
         ("read_bytes", [bytes]) => shown(alloc, Version::from_bytes(alloc, bytes.as_slice())),
+        ("message", [fault]) => message(alloc, text_of(fault)?),
+        ("laws", []) => call_laws(alloc),
         _ => answer_over(alloc, name, &versions_of(alloc, args)?),
     }
 }
