@@ -1,5 +1,5 @@
 -- The words of a command line as a command.
-use Rattle.std.specs.Prelude.{ℕ, List, [], ◌∷◌, ◌++◌, map, Bool, false, ◌&&◌, ◌||◌, nat_lt, nat_le, if◌then◌else◌, Option, Some, None, option_and_then, String, codes}
+use Rattle.std.specs.Prelude.{ℕ, List, [], ◌∷◌, ◌++◌, map, Bool, true, false, ◌&&◌, ◌||◌, nat_lt, nat_le, if◌then◌else◌, Option, Some, None, option_and_then, String, codes}
 use Rattle.std.specs.List.{flat_map, list_all}
 use Rattle.std.specs.Str.{bytes_eq}
 use Rattle.std.specs.String.{string_bytes}
@@ -8,6 +8,9 @@ use Rattle.spec_grammar.specs.Signs.{is_white}
 use Rattle.run_words.specs.Numbers.{number_in}
 use Rattle.run_words.specs.declared.command.Work.{Work}
 use Rattle.run_words.specs.declared.command.Work.TheVariants as works
+use Rattle.run_words.specs.declared.verbs.FileWord.{FileWord}
+use Rattle.run_words.specs.declared.verbs.FileWord.TheVariants.{Absent, Optional, Needed}
+use Rattle.run_words.specs.declared.verbs.Verb.{Verb}
 
 -- words by their bytes
 abbrev pub words_of : List (String Global) → List (List ℕ)
@@ -38,35 +41,74 @@ pub record Command : Type 0 where
   pub cert : List ℕ
   pub spec : List ℕ
 
--- whether a file is missing that the command needs, or one stands for both
-abbrev pub lacks_file : Work → List ℕ → List ℕ → Bool
-lacks_file works.Concretize lock cert = is_dash lock || is_same lock cert
-lacks_file works.Judge lock cert = is_dash lock
-lacks_file works.Check lock cert = is_dash lock || (is_dash cert || is_same lock cert)
-lacks_file works.Refute lock cert = is_dash cert
-lacks_file works.Explain lock cert = false
-lacks_file (works.Trial packages seed) lock cert = false
+-- ---- verbs
+
+-- a row of the table of verbs
+abbrev pub row : Work → FileWord → FileWord → Option Verb
+row work lock cert = Some (record { work = work; lock = lock; cert = cert })
+
+-- the verbs over files, by their names: whether LOCK and whether CERT is a word, and whether `-` may stand there for none
+unfoldable pub verb_of : List ℕ → Option Verb
+verb_of name =
+    if is_same name (codes "concretize") then row works.Concretize Needed Optional
+    else if is_same name (codes "judge") then row works.Judge Needed Absent
+    else if is_same name (codes "check") then row works.Check Needed Needed
+    else if is_same name (codes "refute") then row works.Refute Absent Needed
+    else if is_same name (codes "explain") then row works.Explain Absent Absent
+    else None
+
+-- ---- the words behind a verb
+
+abbrev pub no_file : List ℕ
+no_file = codes "-"
+
+-- the path of a file: the first word, where one stands there
+unfoldable pub path_in : FileWord → List (List ℕ) → Option (List ℕ)
+path_in Absent words = Some no_file
+path_in file [] = None
+path_in file (word ∷ more) = Some word
+
+-- the words behind it
+unfoldable pub words_behind : FileWord → List (List ℕ) → List (List ℕ)
+words_behind Absent words = words
+words_behind file [] = []
+words_behind file (word ∷ more) = more
+
+-- whether a file stands among the words
+abbrev pub is_word : FileWord → Bool
+is_word Absent = false
+is_word file = true
+
+-- whether a file is missing that is needed
+abbrev pub lacks : FileWord → List ℕ → Bool
+lacks Needed path = is_dash path
+lacks file path = false
+
+-- whether a file is missing, or one stands for both
+abbrev pub lacks_file : Verb → List ℕ → List ℕ → Bool
+lacks_file verb lock cert =
+    lacks verb.lock lock || (lacks verb.cert cert || (is_word verb.lock && (is_word verb.cert && is_same lock cert)))
 
 -- whether a command lacks a file, or a spec
-abbrev pub is_wrong : Command → Bool
-is_wrong c = lacks_file c.work c.lock c.cert || is_blank c.spec
+abbrev pub is_wrong : Verb → Command → Bool
+is_wrong verb c = lacks_file verb c.lock c.cert || is_blank c.spec
 
-unfoldable pub unless_wrong : Command → Option Command
-unless_wrong c = if is_wrong c then None else Some c
+unfoldable pub unless_wrong : Verb → Command → Option Command
+unless_wrong verb c = if is_wrong verb c then None else Some c
 
 -- the paths of a command
-pub record Paths : Type 0 where
+pub record FilePaths : Type 0 where
   pub repo : List ℕ
   pub settings : List ℕ
   pub database : List ℕ
   pub lock : List ℕ
   pub cert : List ℕ
 
--- the command over these paths with these words of the spec
-unfoldable pub command_over : Work → Paths → List ℕ → List (List ℕ) → Option Command
-command_over work p first more =
-    unless_wrong (record {
-      work = work;
+-- the command of a verb over these paths with these words of the spec
+unfoldable pub command_over : Verb → FilePaths → List ℕ → List (List ℕ) → Option Command
+command_over verb p first more =
+    unless_wrong verb (record {
+      work = verb.work;
       repo = p.repo;
       settings = p.settings;
       database = p.database;
@@ -76,35 +118,24 @@ command_over work p first more =
           joined_words first more;
     })
 
-abbrev pub no_file : List ℕ
-no_file = codes "-"
+-- a spec has one word at least
+unfoldable pub with_spec : Verb → FilePaths → List (List ℕ) → Option Command
+with_spec verb paths [] = None
+with_spec verb paths (first ∷ more) = command_over verb paths first more
 
--- ---- the command that the words behind each verb make
-
-unfoldable pub concretize_of : List (List ℕ) → Option Command
-concretize_of (repo ∷ settings ∷ database ∷ lock ∷ cert ∷ first ∷ more) =
-    command_over works.Concretize (record { repo = repo; settings = settings; database = database; lock = lock; cert = cert }) first more
-concretize_of few = None
-
-unfoldable pub check_of : List (List ℕ) → Option Command
-check_of (repo ∷ settings ∷ database ∷ lock ∷ cert ∷ first ∷ more) =
-    command_over works.Check (record { repo = repo; settings = settings; database = database; lock = lock; cert = cert }) first more
-check_of few = None
-
-unfoldable pub judge_of : List (List ℕ) → Option Command
-judge_of (repo ∷ settings ∷ database ∷ lock ∷ first ∷ more) =
-    command_over works.Judge (record { repo = repo; settings = settings; database = database; lock = lock; cert = no_file }) first more
-judge_of few = None
-
-unfoldable pub refute_of : List (List ℕ) → Option Command
-refute_of (repo ∷ settings ∷ database ∷ cert ∷ first ∷ more) =
-    command_over works.Refute (record { repo = repo; settings = settings; database = database; lock = no_file; cert = cert }) first more
-refute_of few = None
-
-unfoldable pub explain_of : List (List ℕ) → Option Command
-explain_of (repo ∷ settings ∷ database ∷ first ∷ more) =
-    command_over works.Explain (record { repo = repo; settings = settings; database = database; lock = no_file; cert = no_file }) first more
-explain_of few = None
+-- the command of a verb over the words behind it: REPO SETTINGS DATABASE, then LOCK and CERT where they are words of it, then
+-- those of the spec
+unfoldable pub command_by : Verb → List (List ℕ) → Option Command
+command_by verb (repo ∷ settings ∷ database ∷ files) =
+    let more = words_behind verb.lock files in
+    option_and_then
+    (λ lock. option_and_then
+    (λ cert. with_spec verb
+    (record { repo = repo; settings = settings; database = database; lock = lock; cert = cert })
+    (words_behind verb.cert more))
+    (path_in verb.cert more))
+    (path_in verb.lock files)
+command_by verb few = None
 
 -- a trial of 1 to 1,000 packages, whose repository is made in memory
 unfoldable pub trial_over : ℕ → ℕ → Option Command
@@ -128,14 +159,9 @@ trial_of others = None
 -- the command that the words are
 abbrev pub command_of : List (List ℕ) → Option Command
 command_of [] = None
-command_of (verb ∷ more) =
-    if is_same verb (codes "concretize") then concretize_of more
-    else if is_same verb (codes "judge") then judge_of more
-    else if is_same verb (codes "check") then check_of more
-    else if is_same verb (codes "refute") then refute_of more
-    else if is_same verb (codes "explain") then explain_of more
-    else if is_same verb (codes "trial") then trial_of more
-    else None
+command_of (name ∷ more) =
+    if is_same name (codes "trial") then trial_of more
+    else option_and_then (λ verb. command_by verb more) (verb_of name)
 
 -- the path of the lock file that the words name: `-` where there is none
 abbrev pub lock_of_command : Option Command → List ℕ

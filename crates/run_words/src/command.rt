@@ -2,9 +2,10 @@
 
 ghost use Rattle.std.specs.Prelude.{◌≡◌, ◌∷◌, ◌++◌, IfOk};
 ghost use Rattle.std.specs.String.{string_bytes};
-ghost use Rattle.run_words.specs.Words.{words_of, joined_words, command_over, is_wrong, unless_wrong, is_blank, is_same, is_dash};
+ghost use Rattle.run_words.specs.Words.{words_of, joined_words, command_over, is_word, is_wrong, unless_wrong, is_blank, is_same, is_dash};
 ghost use Rattle.run_words.specs.Words as words;
 
+use crate::verbs::{FileWord, Verb};
 use spec_grammar::is_white;
 use std::alloc::{AllocError, Global};
 use std::marker::Model;
@@ -85,33 +86,47 @@ pub fn is_dash(path: &str) -> bool
     path == "-"
 }
 
-/// Whether a file is missing that the command needs, or one stands for both.
-fn lacks_file(command: &Command<'_>) -> bool
-    ensures { result ≡ words.lacks_file command.now.work command.now.lock command.now.cert }
+/// Whether a file stands among the words.
+fn is_word(file: FileWord) -> bool
+    ensures { result ≡ is_word file }
 {
-    match command.work {
-        Work::Concretize => is_dash(command.lock) || is_same(command.lock, command.cert),
-        Work::Judge => is_dash(command.lock),
-        Work::Check => {
-            is_dash(command.lock) || is_dash(command.cert) || is_same(command.lock, command.cert)
-        }
-        Work::Refute => is_dash(command.cert),
-        Work::Explain | Work::Trial { .. } => false,
+    match file {
+        FileWord::Absent => false,
+        FileWord::Optional | FileWord::Needed => true,
     }
 }
 
-/// Whether a command lacks a file, or a spec.
-fn is_wrong(command: &Command<'_>) -> bool
-    ensures { result ≡ is_wrong command.now }
+/// Whether a file is missing that is needed.
+fn lacks(file: FileWord, path: &str) -> bool
+    ensures { result ≡ words.lacks file path.now }
 {
-    lacks_file(command) || is_blank(command.spec.as_bytes())
+    match file {
+        FileWord::Needed => is_dash(path),
+        FileWord::Absent | FileWord::Optional => false,
+    }
+}
+
+/// Whether a file is missing that the verb needs, or one stands for both.
+fn lacks_file(verb: Verb, lock: &str, cert: &str) -> bool
+    ensures { result ≡ words.lacks_file verb lock.now cert.now }
+{
+    lacks(verb.lock, lock)
+        || lacks(verb.cert, cert)
+        || is_word(verb.lock) && is_word(verb.cert) && is_same(lock, cert)
+}
+
+/// Whether a command lacks a file, or a spec.
+fn is_wrong(verb: Verb, command: &Command<'_>) -> bool
+    ensures { result ≡ is_wrong verb command.now }
+{
+    lacks_file(verb, command.lock, command.cert) || is_blank(command.spec.as_bytes())
 }
 
 #[tactic(auto, unfolding(crate::specs::Words::unless_wrong))]
-fn unless_wrong(command: Command<'_>) -> Option<Command<'_>>
-    ensures { result ≡ unless_wrong command.entry }
+fn unless_wrong(verb: Verb, command: Command<'_>) -> Option<Command<'_>>
+    ensures { result ≡ unless_wrong verb command.entry }
 {
-    if is_wrong(&command) {
+    if is_wrong(verb, &command) {
         None
     } else {
         Some(command)
@@ -120,7 +135,7 @@ fn unless_wrong(command: Command<'_>) -> Option<Command<'_>>
 
 /// The paths of a command.
 #[derive(Clone, Copy)]
-pub(crate) struct Paths<'a> {
+pub(crate) struct FilePaths<'a> {
     pub(crate) repo: &'a str,
     pub(crate) settings: &'a str,
     pub(crate) database: &'a str,
@@ -128,16 +143,16 @@ pub(crate) struct Paths<'a> {
     pub(crate) cert: &'a str,
 }
 
-/// The command over these paths with these words of the spec.
+/// The command of a verb over these paths with these words of the spec.
 #[tactic(auto, unfolding(crate::specs::Words::command_over))]
 pub(crate) fn command_over<'a>(
     alloc: Global,
-    work: Work,
-    paths: Paths<'a>,
+    verb: Verb,
+    paths: FilePaths<'a>,
     first: &str,
     more: &[String],
 ) -> Result<Option<Command<'a>>, AllocError>
-    ensures { IfOk result (λ command. command ≡ command_over work (record {
+    ensures { IfOk result (λ command. command ≡ command_over verb (record {
       repo = paths.entry.repo.now;
       settings = paths.entry.settings.now;
       database = paths.entry.database.now;
@@ -146,13 +161,14 @@ pub(crate) fn command_over<'a>(
     }) first.now (words_of more.now)) }
 {
     let spec = join_words(alloc, first, more)?;
-    Ok(unless_wrong(Command {
-        work,
+    let command = Command {
+        work: verb.work,
         repo: paths.repo,
         settings: paths.settings,
         database: paths.database,
         lock: paths.lock,
         cert: paths.cert,
         spec,
-    }))
+    };
+    Ok(unless_wrong(verb, command))
 }

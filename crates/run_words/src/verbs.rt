@@ -1,103 +1,137 @@
 //! The command that the words behind each verb make.
 
 ghost use Rattle.std.specs.Prelude.{◌≡◌, IfOk};
-ghost use Rattle.run_words.specs.Words.{words_of, concretize_of, check_of, judge_of, refute_of, explain_of, trial_over, trial_of, command_of};
+ghost use Rattle.std.specs.Option.{option_map};
+ghost use Rattle.run_words.specs.Words.{words_of, row, verb_of, path_in, words_behind, with_spec, command_by, trial_over, trial_of, command_of};
 
-use crate::command::{Command, Paths, Work, command_over, is_same};
+use crate::command::{Command, FilePaths, Work, command_over, is_same};
 use crate::number::number_in;
 use std::alloc::{AllocError, Global};
 
-/// The command that the words behind `concretize` make.
-#[tactic(auto, unfolding(crate::specs::Words::concretize_of))]
-fn read_concretize<'a>(
+/// Whether a file stands among the words of a verb.
+#[derive(Clone, Copy, Debug, PartialEq, Eq)]
+pub enum FileWord {
+    /// It does not.
+    Absent,
+    /// It does, and `-` stands for none.
+    Optional,
+    /// It does, and has to be a file.
+    Needed,
+}
+
+/// A verb over files: what its command does, and which files stand among the words behind it, which are
+/// `REPO SETTINGS DATABASE`, LOCK and CERT where they are words of it, and `SPEC..`.
+#[derive(Clone, Copy, Debug)]
+pub struct Verb {
+    pub work: Work,
+    pub lock: FileWord,
+    pub cert: FileWord,
+}
+
+/// A row of the table of verbs: whether LOCK, and whether CERT is a word.
+fn row(work: Work, lock: FileWord, cert: FileWord) -> Option<Verb>
+    ensures { result ≡ row work lock cert }
+{
+    Some(Verb { work, lock, cert })
+}
+
+/// The table of verbs: the verb over files of a name.
+#[tactic(auto, unfolding(crate::specs::Words::verb_of))]
+fn verb_of(name: &str) -> Option<Verb>
+    ensures { result ≡ verb_of name.now }
+{
+    if is_same(name, "concretize") {
+        row(Work::Concretize, FileWord::Needed, FileWord::Optional)
+    } else if is_same(name, "judge") {
+        row(Work::Judge, FileWord::Needed, FileWord::Absent)
+    } else if is_same(name, "check") {
+        row(Work::Check, FileWord::Needed, FileWord::Needed)
+    } else if is_same(name, "refute") {
+        row(Work::Refute, FileWord::Absent, FileWord::Needed)
+    } else if is_same(name, "explain") {
+        row(Work::Explain, FileWord::Absent, FileWord::Absent)
+    } else {
+        None
+    }
+}
+
+/// The path of a file, where its word stands in front, or is none; `-` for a file that is no word.
+#[tactic(auto, unfolding(crate::specs::Words::path_in))]
+fn path_in<'a>(file: FileWord, words: &'a [String]) -> Option<&'a str>
+    ensures { option_map (λ path. path.now) result ≡ path_in file (words_of words.now) }
+{
+    if matches!(file, FileWord::Absent) {
+        return Some("-");
+    }
+    match words {
+        [word, ..] => Some(word.as_str()),
+        [] => None,
+    }
+}
+
+/// The words behind that of a file.
+#[tactic(auto, unfolding(crate::specs::Words::words_behind))]
+fn words_behind<'a>(file: FileWord, words: &'a [String]) -> &'a [String]
+    ensures { words_of result.now ≡ words_behind file (words_of words.now) }
+{
+    if matches!(file, FileWord::Absent) {
+        return words;
+    }
+    match words {
+        [_, more @ ..] => more,
+        [] => words,
+    }
+}
+
+/// The command of a verb over these paths with the words of the spec, of which there is one at least.
+#[tactic(auto, unfolding(crate::specs::Words::with_spec))]
+fn with_spec<'a>(
     alloc: Global,
+    verb: Verb,
+    paths: FilePaths<'a>,
+    words: &[String],
+) -> Result<Option<Command<'a>>, AllocError>
+    ensures { IfOk result (λ command. command ≡ with_spec verb (record {
+      repo = paths.entry.repo.now;
+      settings = paths.entry.settings.now;
+      database = paths.entry.database.now;
+      lock = paths.entry.lock.now;
+      cert = paths.entry.cert.now;
+    }) (words_of words.now)) }
+{
+    match words {
+        [first, more @ ..] => command_over(alloc, verb, paths, first.as_str(), more),
+        [] => Ok(None),
+    }
+}
+
+/// The command that the words behind a verb make.
+#[tactic(auto, unfolding(crate::specs::Words::command_by))]
+fn read_verb<'a>(
+    alloc: Global,
+    verb: Verb,
     words: &'a [String],
 ) -> Result<Option<Command<'a>>, AllocError>
-    ensures { IfOk result (λ command. command ≡ concretize_of (words_of words.now)) }
+    ensures { IfOk result (λ command. command ≡ command_by verb (words_of words.now)) }
 {
-    let [repo, settings, database, lock, cert, first, more @ ..] = words else {
+    let [repo, settings, database, files @ ..] = words else {
         return Ok(None);
     };
-    let paths = Paths {
+    let Some(lock) = path_in(verb.lock, files) else {
+        return Ok(None);
+    };
+    let more = words_behind(verb.lock, files);
+    let Some(cert) = path_in(verb.cert, more) else {
+        return Ok(None);
+    };
+    let paths = FilePaths {
         repo: repo.as_str(),
         settings: settings.as_str(),
         database: database.as_str(),
-        lock: lock.as_str(),
-        cert: cert.as_str(),
+        lock,
+        cert,
     };
-    command_over(alloc, Work::Concretize, paths, first.as_str(), more)
-}
-
-/// The command that the words behind `check` make.
-#[tactic(auto, unfolding(crate::specs::Words::check_of))]
-fn read_check<'a>(alloc: Global, words: &'a [String]) -> Result<Option<Command<'a>>, AllocError>
-    ensures { IfOk result (λ command. command ≡ check_of (words_of words.now)) }
-{
-    let [repo, settings, database, lock, cert, first, more @ ..] = words else {
-        return Ok(None);
-    };
-    let paths = Paths {
-        repo: repo.as_str(),
-        settings: settings.as_str(),
-        database: database.as_str(),
-        lock: lock.as_str(),
-        cert: cert.as_str(),
-    };
-    command_over(alloc, Work::Check, paths, first.as_str(), more)
-}
-
-/// The command that the words behind `judge` make.
-#[tactic(auto, unfolding(crate::specs::Words::judge_of))]
-fn read_judge<'a>(alloc: Global, words: &'a [String]) -> Result<Option<Command<'a>>, AllocError>
-    ensures { IfOk result (λ command. command ≡ judge_of (words_of words.now)) }
-{
-    let [repo, settings, database, lock, first, more @ ..] = words else {
-        return Ok(None);
-    };
-    let paths = Paths {
-        repo: repo.as_str(),
-        settings: settings.as_str(),
-        database: database.as_str(),
-        lock: lock.as_str(),
-        cert: "-",
-    };
-    command_over(alloc, Work::Judge, paths, first.as_str(), more)
-}
-
-/// The command that the words behind `refute` make.
-#[tactic(auto, unfolding(crate::specs::Words::refute_of))]
-fn read_refute<'a>(alloc: Global, words: &'a [String]) -> Result<Option<Command<'a>>, AllocError>
-    ensures { IfOk result (λ command. command ≡ refute_of (words_of words.now)) }
-{
-    let [repo, settings, database, cert, first, more @ ..] = words else {
-        return Ok(None);
-    };
-    let paths = Paths {
-        repo: repo.as_str(),
-        settings: settings.as_str(),
-        database: database.as_str(),
-        lock: "-",
-        cert: cert.as_str(),
-    };
-    command_over(alloc, Work::Refute, paths, first.as_str(), more)
-}
-
-/// The command that the words behind `explain` make.
-#[tactic(auto, unfolding(crate::specs::Words::explain_of))]
-fn read_explain<'a>(alloc: Global, words: &'a [String]) -> Result<Option<Command<'a>>, AllocError>
-    ensures { IfOk result (λ command. command ≡ explain_of (words_of words.now)) }
-{
-    let [repo, settings, database, first, more @ ..] = words else {
-        return Ok(None);
-    };
-    let paths = Paths {
-        repo: repo.as_str(),
-        settings: settings.as_str(),
-        database: database.as_str(),
-        lock: "-",
-        cert: "-",
-    };
-    command_over(alloc, Work::Explain, paths, first.as_str(), more)
+    with_spec(alloc, verb, paths, words_behind(verb.cert, more))
 }
 
 /// A trial of so many packages.
@@ -148,23 +182,14 @@ pub fn read_command<'a>(
 ) -> Result<Option<Command<'a>>, AllocError>
     ensures { IfOk result (λ command. command ≡ command_of (words_of words.now)) }
 {
-    let [verb, more @ ..] = words else {
+    let [name, more @ ..] = words else {
         return Ok(None);
     };
-    let verb = verb.as_str();
-    if is_same(verb, "concretize") {
-        read_concretize(alloc, more)
-    } else if is_same(verb, "judge") {
-        read_judge(alloc, more)
-    } else if is_same(verb, "check") {
-        read_check(alloc, more)
-    } else if is_same(verb, "refute") {
-        read_refute(alloc, more)
-    } else if is_same(verb, "explain") {
-        read_explain(alloc, more)
-    } else if is_same(verb, "trial") {
-        read_trial(alloc, more)
-    } else {
-        Ok(None)
+    if is_same(name.as_str(), "trial") {
+        return read_trial(alloc, more);
+    }
+    match verb_of(name.as_str()) {
+        Some(verb) => read_verb(alloc, verb, more),
+        None => Ok(None),
     }
 }
