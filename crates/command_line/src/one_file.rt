@@ -1,6 +1,6 @@
 //! Files that a run would lose: LOCK or CERT where it is another file of the command, by another spelling or by a link.
 
-use concretizer::{Command, Work, read_order};
+use concretizer::{Command, Work, read_command};
 use outside_desk::{Desk, DeskFault, FileId, RealDesk, file_id};
 use std::alloc::{AllocError, Global};
 use std::fs;
@@ -82,7 +82,7 @@ pub fn one_file<R: Files>(
     rt: &R,
     words: &[String],
 ) -> Result<Option<String>, AllocError> {
-    let command = match read_order(alloc, words) {
+    let command = match read_command(alloc, words) {
         Ok(command) => command,
         Err(_) => return Ok(None),
     };

@@ -72,7 +72,7 @@ module _ (words : List (List ℕ)) (files : Option Files × Option Files) (stop 
       write_fault evidence words stop puts says files out err errs statuses.WriteFault reports follows left unsaid put said refl
   stopped_shown statuses.NoMemory reports =
       no_memory evidence words stop says files out err errs statuses.NoMemory reports follows left unsaid said refl
-  stopped_shown statuses.Usage reports = refused evidence files.0 words stop files.1 out err errs statuses.Usage left reports tt
+  stopped_shown statuses.Usage reports = tt
   stopped_shown statuses.BadInput reports = refused evidence files.0 words stop files.1 out err errs statuses.BadInput left reports tt
   stopped_shown statuses.TooLarge reports = refused evidence files.0 words stop files.1 out err errs statuses.TooLarge left reports tt
   stopped_shown statuses.Refused reports = refused evidence files.0 words stop files.1 out err errs statuses.Refused left reports tt

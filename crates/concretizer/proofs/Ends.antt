@@ -21,23 +21,23 @@ use Rattle.run_output.specs.Status.TheVariants as statuses
 use Rattle.run_output.specs.ReadStop.TheVariants.{Refused, Fault, NoMemory}
 use Rattle.run_output.specs.WriteStop.TheVariants as writes
 use Rattle.run_output.specs.Stop.{Stop}
-use Rattle.run_output.specs.Stop.TheVariants.{Read, Write}
+use Rattle.concretizer.proofs.Stages.{not_refused}
+use Rattle.run_output.specs.Stop.TheVariants.{Usage, Read, Write}
 
 -- words name one problem at most, or are due one refusal
 abbrev pub PosesOnce : Type 0
 PosesOnce = (files : Files) (words : List (List ℕ)) (a b : Result Task Refusal) → Poses log_verdict files words a → Poses log_verdict files words b → a ≡ b
 
--- ---- words that are refused
+-- ---- words that are no command
 
--- what is reported of words that are refused
-pub reports_words : (refusal : Refusal) (stop : Stop) (said : Spoken) (faults : ℕ × ℕ) (result : Status)
-    → StopsAtOnce refusal (Err stop) → Reports (stop_status stop) (stop_line stop) said faults result
-    → ReportsWords refusal said faults result
-reports_words refusal (Read (Refused given)) said faults result same reports =
-    inl (subst (λ (r : Refusal). Reports (status_of r) (line_of r) said faults result) same reports)
-reports_words refusal (Read (Fault path)) said faults result no_fault reports = absurd no_fault
-reports_words refusal (Read NoMemory) said faults result h reports = inr reports
-reports_words refusal (Write stop) said faults result no_write reports = absurd no_write
+-- what is reported of words that are no command
+pub reports_words : (stop : Stop) (said : Spoken) (faults : ℕ × ℕ) (result : Status)
+    → StopsAtOnce (Err stop) → Reports (stop_status stop) (stop_line stop) said faults result → ReportsWords said faults result
+reports_words Usage said faults result at_once reports = inl reports
+reports_words (Read (Refused given)) said faults result no_refusal reports = absurd no_refusal
+reports_words (Read (Fault path)) said faults result no_fault reports = absurd no_fault
+reports_words (Read NoMemory) said faults result at_once reports = inr reports
+reports_words (Write stop) said faults result no_write reports = absurd no_write
 
 -- ---- answers that a refusal has
 
@@ -54,6 +54,7 @@ report_said status line said faults result (inr (inr (is, silent))) refuses = ab
 refused_here : (sense : Sense) (files : Files) (words : List (List ℕ)) (stop : Stop) (after : Option Files) (out err : Spoken) (result : Status)
     → Attempts sense files words after out.0 out.1 (Err stop) → Said (stop_status stop) (stop_line stop) err result → IsRefusalStatus result
     → IsRefused sense files words result after out err
+refused_here sense files words Usage after out err result left (is, said) refuses = absurd (rw is at refuses)
 refused_here sense files words (Read (Refused refusal)) after out err result (poses, left) (is, said) refuses =
     record { refusal = refusal; read = poses; status = is; unchanged = left.unchanged; output = left.out; errors = said }
 refused_here sense files words (Read (Fault path)) after out err result left (is, said) refuses = absurd (rw is at refuses)
@@ -91,6 +92,8 @@ settles_here : PosesOnce → (files : Files) (words : List (List ℕ)) (stop : S
     → Attempts evidence files words after out.0 out.1 (Err stop) → AreCounted stop reads puts says
     → Reports (stop_status stop) (stop_line stop) err errs result
     → (task : Task) → Poses log_verdict files words (Ok task) → AreStill reads puts says errs → Settles result
+settles_here laws files words Usage after out err reads puts says errs result left counts reports task poses still =
+    not_refused words poses.0 poses.1 left.0
 settles_here laws files words (Read (Refused refusal)) after out err reads puts says errs result left counts reports task poses still =
     absurd (let same : (let T : Type 0 = Result Task Refusal in let l : T = Ok task in let r : T = Err refusal in l ≡ r) =
     laws files words (Ok task) (Err refusal) poses left.0 in cc)
@@ -166,6 +169,8 @@ due_here : PosesOnce → (files : Files) (words : List (List ℕ)) (stop : Stop)
     → Attempts evidence files words after out.0 out.1 (Err stop) → AreCounted stop reads puts says
     → Reports (stop_status stop) (stop_line stop) err errs result
     → (refusal : Refusal) → Poses log_verdict files words (Err refusal) → AreStill reads puts says errs → IsAnsweredBy (status_of refusal) result
+due_here laws files words Usage after out err reads puts says errs result left counts reports refusal poses still =
+    not_refused words poses.0 poses.1 left.0
 due_here laws files words (Read (Refused given)) after out err reads puts says errs result left counts reports refusal poses still =
     subst (λ (r : Refusal). IsAnsweredBy (status_of r) result) (same_refusal laws files words given refusal left.0 poses)
     (reported (status_of given) (line_of given) err errs result reports still.err)
@@ -215,6 +220,7 @@ refusals_due laws (Some files) words reads puts says errs result answered = λ r
 
 -- a stop that is reported as the input's own
 concluded : (stop : Stop) → IsOfInput (stop_status stop) → Concludes (Err stop)
+concluded Usage of = tt
 concluded (Read (Refused refusal)) of = tt
 concluded (Read (Fault path)) of = absurd of
 concluded (Read NoMemory) of = absurd of

@@ -11,7 +11,7 @@ use Rattle.run_output.specs.Status.TheVariants as statuses
 use Rattle.run_output.specs.ReadStop.TheVariants.{Refused, Fault, NoMemory}
 use Rattle.run_output.specs.WriteStop.TheVariants as writes
 use Rattle.run_output.specs.Stop.{Stop}
-use Rattle.run_output.specs.Stop.TheVariants.{Read, Write}
+use Rattle.run_output.specs.Stop.TheVariants.{Usage, Read, Write}
 use Rattle.concretizer.specs.Attempts.{Attempts, Follows, StopsBefore, FailsToRead, FailsToPut, FailsToSay}
 use Rattle.concretizer.specs.Headline.{
   IsOutOfMemory,
@@ -36,6 +36,10 @@ pub read_fault : (words : List (List ℕ)) (stop : Stop) (reads : ℕ × ℕ) (f
     → Reports (stop_status stop) (stop_line stop) err errs result → Follows files.0 words (Err stop)
     → (FailsToRead (Err stop) → files.1 ≡ files.0) → (StopsBefore (Err stop) → out.1 ≡ out.0) → Counts reads.0 reads.1 (FailsToRead (Err stop))
     → result ≡ statuses.ReadFault → IsReadFault words reads files out err
+read_fault words Usage reads files out err errs result reports follows unread unsaid counts is =
+    by_report _ _ err errs result reports (λ same says. absurd (let no : statuses.Usage ≡ statuses.ReadFault = sym same ∙ is in cc))
+    (λ late rose. absurd (let no : statuses.WriteFault ≡ statuses.ReadFault = sym late ∙ is in cc))
+    (λ none silent. absurd (let no : statuses.NoMemory ≡ statuses.ReadFault = sym none ∙ is in cc))
 read_fault words (Read (Refused refusal)) reads files out err errs result reports follows unread unsaid counts is =
     by_report _ _ err errs result reports (λ same says. absurd (unlike refusal result statuses.ReadFault same is (λ h. h)))
     (λ late rose. absurd (let no : statuses.WriteFault ≡ statuses.ReadFault = sym late ∙ is in cc))
@@ -90,6 +94,7 @@ half_left sense path (Some files) after words out_before out_after outcome =
 -- nothing was said of an answer, or its sink failed
 silent_or_rose : (stop : Stop) (says : ℕ × ℕ) (out : Spoken) → (StopsBefore (Err stop) → out.1 ≡ out.0)
     → Counts says.0 says.1 (FailsToSay (Err stop)) → IsSilent out ⊎ Rose says.0 says.1
+silent_or_rose Usage says out unsaid said = inl (unsaid tt)
 silent_or_rose (Read stop) says out unsaid said = inl (unsaid tt)
 silent_or_rose (Write (writes.Put path)) says out unsaid said = inl (unsaid tt)
 silent_or_rose (Write writes.Output) says out unsaid said = inr (said.cause tt)
@@ -119,6 +124,9 @@ pub write_fault : (sense : Sense) (words : List (List ℕ)) (stop : Stop) (puts 
     → (StopsBefore (Err stop) → out.1 ≡ out.0) → Counts puts.0 puts.1 (FailsToPut (Err stop)) → Counts says.0 says.1 (FailsToSay (Err stop))
     → result ≡ statuses.WriteFault
     → IsPutFault sense words files puts out err ⊎ (IsOutputFault sense words files says out err ⊎ IsReportFault sense words files says errs out err)
+write_fault sense words Usage puts says files out err errs result reports follows outcome unsaid put said is =
+    late sense words puts says files out err errs result (stopped sense words Usage says files out follows outcome unsaid said)
+    (λ no. let same : statuses.Usage ≡ statuses.WriteFault = no in cc) reports is
 write_fault sense words (Read (Refused refusal)) puts says files out err errs result reports follows outcome unsaid put said is =
     late sense words puts says files out err errs result (stopped sense words (Read (Refused refusal)) says files out follows outcome unsaid said)
     (λ no. unlike refusal (status_of refusal) statuses.WriteFault refl no (λ h. h)) reports is
@@ -166,6 +174,7 @@ write_fault sense words (Write writes.NoMemory) puts says files out err errs res
 -- ---- NoMemory
 
 no_memory_said : (stop : Stop) (err : Spoken) → stop_status stop ≡ statuses.NoMemory → Says err (stop_line stop) → Says err no_memory_line
+no_memory_said Usage err is says = absurd (let no : statuses.Usage ≡ statuses.NoMemory = is in cc)
 no_memory_said (Read (Refused refusal)) err is says = absurd (unlike refusal (status_of refusal) statuses.NoMemory refl is (λ h. h))
 no_memory_said (Read (Fault path)) err is says = absurd (let no : statuses.ReadFault ≡ statuses.NoMemory = is in cc)
 no_memory_said (Read NoMemory) err is says = says

@@ -9,15 +9,13 @@ use Rattle.run_output.specs.Certificates.{log_verdict}
 use Rattle.run_output.specs.Evidence.{evidence}
 use Rattle.run_output.specs.declared.answer.Outcome.{Outcome}
 use Rattle.run_output.specs.Input.{Input}
-use Rattle.run_output.specs.Orders.{command_in}
-use Rattle.run_output.specs.Stages.{Is}
 use Rattle.run_output.specs.Stops.{Gives}
 use Rattle.run_output.specs.Stop.{Stop}
 use Rattle.run_output.specs.Stop.TheVariants.{Write}
 use Rattle.run_output.specs.Task.{Task}
 use Rattle.run_output.specs.Task.TheVariants as tasks
 use Rattle.run_output.specs.Tasks.{Named, IsOf}
-use Rattle.run_output.specs.Words.{Command, is_dash, lock_path, cert_path}
+use Rattle.run_output.specs.Words.{Command, command_of, is_dash, lock_path, cert_path}
 use Rattle.run_output.specs.Work.{Work}
 use Rattle.run_output.specs.Work.TheVariants as works
 use Rattle.run_output.specs.WriteStop.{WriteStop}
@@ -39,7 +37,7 @@ by_paths A lock cert lock_of cert_of at certified left = subst (λ (q : List ℕ
 -- a writing that stopped, of a task that was read
 pub stopped : (words : List (List ℕ)) (command : Command) (lock cert : List ℕ) (task : Task) (stop : WriteStop)
     (result : Result Outcome Stop) (before between after : Option Files) (said_before said_after : Option (List ℕ))
-    → IsErrAnd result (λ given. given ≡ Write stop) → Is (command_in words) (Ok command)
+    → IsErrAnd result (λ given. given ≡ Write stop) → command_of words ≡ Some command
     → IfSome before (λ files. Gives {T = Task} (Ok task) (Named log_verdict files command)) → between ≡ before
     → lock ≡ lock_path words → cert ≡ cert_path words → Writes evidence lock cert task between after said_before said_after (Err stop)
     → IfSome before (λ files. Attempts evidence files words after said_before said_after result)
@@ -55,7 +53,7 @@ stopped words command lock cert task stop result (Some files) between after said
 
 -- a writing that answered
 pub answered : (words : List (List ℕ)) (command : Command) (lock cert : List ℕ) (task : Task) (outcome : Outcome)
-    (before between after : Option Files) (said_before said_after : Option (List ℕ)) → Is (command_in words) (Ok command)
+    (before between after : Option Files) (said_before said_after : Option (List ℕ)) → command_of words ≡ Some command
     → IfSome before (λ files. Gives {T = Task} (Ok task) (Named log_verdict files command)) → between ≡ before
     → lock ≡ lock_path words → cert ≡ cert_path words → Writes evidence lock cert task between after said_before said_after (Ok outcome)
     → IfSome before (λ files. Attempts evidence files words after said_before said_after (Ok outcome))
@@ -71,7 +69,7 @@ answered words command lock cert task outcome (Some files) between after said_be
 
 -- what any end of writing keeps
 pub held : (words : List (List ℕ)) (command : Command) (lock cert : List ℕ) (task : Task) (before between after : Option Files)
-    → Is (command_in words) (Ok command) → IfSome before (λ files. Gives {T = Task} (Ok task) (Named log_verdict files command)) → between ≡ before
+    → command_of words ≡ Some command → IfSome before (λ files. Gives {T = Task} (Ok task) (Named log_verdict files command)) → between ≡ before
     → lock ≡ lock_path words → cert ≡ cert_path words → (after ≡ between) ⊎ KeepsWhole evidence lock cert task between after
     → IfSome before (λ files. Keeps evidence files words after)
 held words command lock cert task None between after ordered read same at certified kept = tt
@@ -127,10 +125,10 @@ follows told words lock cert task stop result before after said_before said_afte
     (follows_here told words lock cert task stop before after said_before said_after asked work is_lock is_cert left)
 
 -- what a command's yes shows
-pub has_shown : (words : List (List ℕ)) (command : Command) (before : Option Files) → Is (command_in words) (Ok command)
+pub has_shown : (words : List (List ℕ)) (command : Command) (before : Option Files) → command_of words ≡ Some command
     → IfSome before (λ files. IsShown files command) → IfSome before (λ files. HasShown files words)
 has_shown words command None ordered shown = tt
-has_shown words command (Some files) ordered shown = record { command = command; ordered = ordered; shown = shown }
+has_shown words command (Some files) ordered shown = record { command = command; named = ordered; shown = shown }
 
 -- what is said by a writing that stopped before
 quiet : (lock cert : List ℕ) (task : Task) (stop : WriteStop) (before after : Option Files) (said_before said_after : Option (List ℕ))

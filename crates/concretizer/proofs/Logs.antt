@@ -7,18 +7,16 @@ use Rattle.run_output.specs.Certificates.{log_verdict}
 use Rattle.run_output.specs.declared.answer.Outcome.{Outcome}
 use Rattle.run_output.specs.Kept.{HoldsLog, KeepsAny, KeepsLog}
 use Rattle.run_output.specs.Line.{Line}
-use Rattle.run_output.specs.Orders.{command_in}
 use Rattle.run_output.specs.ReadStop.TheVariants as reads
 use Rattle.run_output.specs.Refusals.{status_of}
-use Rattle.run_output.specs.Stages.{Is}
 use Rattle.run_output.specs.Status.{Status}
 use Rattle.run_output.specs.Status.TheVariants as statuses
 use Rattle.run_output.specs.Stop.{Stop}
-use Rattle.run_output.specs.Stop.TheVariants.{Read, Write}
+use Rattle.run_output.specs.Stop.TheVariants.{Usage, Read, Write}
 use Rattle.run_output.specs.Stops.{Gives, stop_status, stop_line}
 use Rattle.run_output.specs.Task.{Task}
 use Rattle.run_output.specs.Tasks.{Named}
-use Rattle.run_output.specs.Words.{Command, lock_path, cert_path}
+use Rattle.run_output.specs.Words.{Command, command_of, lock_path, cert_path}
 use Rattle.run_output.specs.WriteStop.{WriteStop}
 use Rattle.run_output.specs.WriteStop.TheVariants.{Put, Output, NoMemory}
 use Rattle.concretizer.specs.Headline.{IsRefusalStatus, Reports, Spoken}
@@ -27,7 +25,7 @@ use Rattle.concretizer.proofs.Left.{by_paths, write_carried}
 use Rattle.concretizer.proofs.Reported.{refuses}
 
 module _ (words : List (List ℕ)) (command : Command) (lock cert : List ℕ) (task : Task) (kept : List Line) where
-  pub answered_log : (outcome : Outcome) (before between after : Option Files) → Is (command_in words) (Ok command)
+  pub answered_log : (outcome : Outcome) (before between after : Option Files) → command_of words ≡ Some command
       → IfSome before (λ files. Gives {T = Task} (Ok task) (Named log_verdict files command)) → between ≡ before
       → lock ≡ lock_path words → cert ≡ cert_path words → KeepsAny lock cert task between after kept (Ok outcome)
       → IfSome before (λ files. AttemptKeeps files words after kept (Ok outcome))
@@ -39,11 +37,11 @@ module _ (words : List (List ℕ)) (command : Command) (lock cert : List ℕ) (t
         (subst (λ (m : Option Files). KeepsLog lock cert task outcome m after kept) same keeps);
   }
 
-  found : (files : Files) → Is (command_in words) (Ok command) → Gives {T = Task} (Ok task) (Named log_verdict files command) → HoldsLog task kept
+  found : (files : Files) → command_of words ≡ Some command → Gives {T = Task} (Ok task) (Named log_verdict files command) → HoldsLog task kept
       → MayKeep files words kept
   found files ordered read holds = inr (record { task = task; read = (command, ordered, read); holds = holds })
 
-  stopped_here : (stop : WriteStop) (files : Files) (between after : Option Files) → Is (command_in words) (Ok command)
+  stopped_here : (stop : WriteStop) (files : Files) (between after : Option Files) → command_of words ≡ Some command
       → Gives {T = Task} (Ok task) (Named log_verdict files command) → KeepsAny lock cert task between after kept (Err stop) → MayKeep files words kept
   stopped_here (Put at) files between after ordered read keeps = found files ordered read keeps
   stopped_here Output files between after ordered read keeps = found files ordered read keeps
@@ -51,7 +49,7 @@ module _ (words : List (List ℕ)) (command : Command) (lock cert : List ℕ) (t
   stopped_here NoMemory files between after ordered read (inr holds) = found files ordered read holds
 
   pub stopped_log : (stop : WriteStop) (result : Result Outcome Stop) (before between after : Option Files)
-      → IsErrAnd result (λ given. given ≡ Write stop) → Is (command_in words) (Ok command)
+      → IsErrAnd result (λ given. given ≡ Write stop) → command_of words ≡ Some command
       → IfSome before (λ files. Gives {T = Task} (Ok task) (Named log_verdict files command)) → between ≡ before
       → lock ≡ lock_path words → cert ≡ cert_path words → KeepsAny lock cert task between after kept (Err stop)
       → IfSome before (λ files. AttemptKeeps files words after kept result)
@@ -63,13 +61,14 @@ module _ (words : List (List ℕ)) (command : Command) (lock cert : List ℕ) (t
 
 module _ (files : Files) (words : List (List ℕ)) (after : Option Files) (kept : List Line) where
   may_keep : (stop : Stop) → AttemptKeeps files words after kept (Err stop) → MayKeep files words kept
+  may_keep Usage keeps = inl keeps
   may_keep (Read stop) keeps = inl keeps
   may_keep (Write stop) keeps = keeps
 
   of_refusal : (status : Status) → IsRefusalStatus status → kept ≡ [] → KeepsFor status files words after kept
   of_refusal statuses.Done refuses empty = absurd refuses
   of_refusal statuses.Unsatisfiable refuses empty = absurd refuses
-  of_refusal statuses.Usage refuses empty = empty
+  of_refusal statuses.Usage refuses empty = absurd refuses
   of_refusal statuses.Undecided refuses empty = absurd refuses
   of_refusal statuses.BadInput refuses empty = empty
   of_refusal statuses.ReadFault refuses empty = empty
@@ -79,6 +78,7 @@ module _ (files : Files) (words : List (List ℕ)) (after : Option Files) (kept 
   of_refusal statuses.NoMemory refuses empty = absurd refuses
 
   of_stop : (stop : Stop) → AttemptKeeps files words after kept (Err stop) → KeepsFor (stop_status stop) files words after kept
+  of_stop Usage keeps = keeps
   of_stop (Read (reads.Refused refusal)) keeps = of_refusal (status_of refusal) (refuses refusal) keeps
   of_stop (Read (reads.Fault path)) keeps = keeps
   of_stop (Read reads.NoMemory) keeps = inl keeps

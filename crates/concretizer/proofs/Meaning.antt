@@ -9,7 +9,7 @@ use Rattle.run_output.specs.ReadStop.TheVariants as reads
 use Rattle.run_output.specs.Refusal.{Refusal}
 use Rattle.run_output.specs.Senses.{meaning}
 use Rattle.run_output.specs.Stop.{Stop}
-use Rattle.run_output.specs.Stop.TheVariants.{Read, Write}
+use Rattle.run_output.specs.Stop.TheVariants.{Usage, Read, Write}
 use Rattle.run_output.specs.Task.{Task}
 use Rattle.run_output.specs.Tasks.{Poses}
 use Rattle.run_output.specs.Words.{lock_path, cert_path}
@@ -30,6 +30,7 @@ module _ (laws : AnyPosed) (words : List (List ℕ)) (after : Option Files) wher
     read = laws files words (Ok w.task) w.read;
     left = writes_meant (Some files) after said more (lock_path words) (cert_path words) w.task (Ok outcome) w.left;
   }
+  attempt_meant files said more (Err Usage) left = left
   attempt_meant files said more (Err (Read (reads.Refused refusal))) left = (laws files words (Err refusal) left.0, left.1)
   attempt_meant files said more (Err (Read (reads.Fault path))) left = left
   attempt_meant files said more (Err (Read reads.NoMemory)) left = left

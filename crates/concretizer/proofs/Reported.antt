@@ -14,7 +14,7 @@ use Rattle.run_output.specs.Status.TheVariants as statuses
 use Rattle.run_output.specs.ReadStop.TheVariants.{Refused, Fault, NoMemory}
 use Rattle.run_output.specs.WriteStop.TheVariants as writes
 use Rattle.run_output.specs.Stop.{Stop}
-use Rattle.run_output.specs.Stop.TheVariants.{Read, Write}
+use Rattle.run_output.specs.Stop.TheVariants.{Usage, Read, Write}
 use Rattle.concretizer.specs.Attempts.{Follows}
 use Rattle.concretizer.specs.Headline.{IsRefusalStatus, IsSilent, Reports, Says, SaysFront, Spoken}
 
@@ -29,7 +29,6 @@ lock_refuses (faults.Dangling parent child) = tt
 lock_refuses faults.OutOfMemory = tt
 
 pub refuses : (refusal : Refusal) → IsRefusalStatus (status_of refusal)
-refuses refusals.Usage = tt
 refuses refusals.DatabaseTooLarge = tt
 refuses (refusals.BadDatabase fault) = tt
 refuses (refusals.MissingInput path) = tt
@@ -90,6 +89,7 @@ no_answer statuses.WriteFault refuses answers = answers
 no_answer statuses.NoMemory refuses answers = answers
 
 stops : (stop : Stop) → IsAnswer (stop_status stop) → ⊥
+stops Usage answers = answers
 stops (Read (Refused refusal)) answers = no_answer (status_of refusal) (refuses refusal) answers
 stops (Read (Fault path)) answers = answers
 stops (Read NoMemory) answers = answers
@@ -110,43 +110,21 @@ abbrev IsOther : Status → Type 0
 IsOther statuses.Usage = ⊥
 IsOther other = Unit {0}
 
-lock_other : (fault : LockFault) → IsOther (lock_status fault)
-lock_other faults.NotJson = tt
-lock_other (faults.WrongKind at) = tt
-lock_other (faults.TwiceNamed name) = tt
-lock_other (faults.HashDiffers written computed) = tt
-lock_other (faults.Dangling parent child) = tt
-lock_other faults.OutOfMemory = tt
-
-by_words : (told : Option Files) (words : List (List ℕ)) (refusal : Refusal) → Follows told words (Err (Read (Refused refusal)))
-    → (command_of words ≡ None) ⊎ IsOther (status_of refusal)
-by_words told words refusals.Usage follows = inl follows
-by_words told words refusals.DatabaseTooLarge follows = inr tt
-by_words told words (refusals.BadDatabase fault) follows = inr tt
-by_words told words (refusals.MissingInput path) follows = inr tt
-by_words told words refusals.SettingsTooLarge follows = inr tt
-by_words told words (refusals.BadSettings fault) follows = inr tt
-by_words told words refusals.TooManyRecipes follows = inr tt
-by_words told words (refusals.RecipeTooLarge name) follows = inr tt
-by_words told words refusals.RecipesTooLarge follows = inr tt
-by_words told words (refusals.BadRecipe name fault) follows = inr tt
-by_words told words (refusals.NameClash name) follows = inr tt
-by_words told words refusals.SpecsTooLarge follows = inr tt
-by_words told words (refusals.BadSpecs fault) follows = inr tt
-by_words told words refusals.TooManyRoots follows = inr tt
-by_words told words (refusals.UnknownRoot name) follows = inr tt
-by_words told words (refusals.VirtualRoot name) follows = inr tt
-by_words told words (refusals.WrongPlatform platform) follows = inr tt
-by_words told words refusals.TooManyPackages follows = inr tt
-by_words told words refusals.LockTooLarge follows = inr tt
-by_words told words (refusals.BadLock fault) follows = inr (lock_other fault)
-by_words told words refusals.OtherRoots follows = inr tt
-by_words told words (refusals.BrokenRule rule node number) follows = inr tt
-by_words told words refusals.CertificateTooLarge follows = inr tt
-by_words told words (refusals.BadCertificate number fault) follows = inr tt
+no_other : (status : Status) → IsRefusalStatus status → IsOther status
+no_other statuses.Done refuses = absurd refuses
+no_other statuses.Unsatisfiable refuses = absurd refuses
+no_other statuses.Undecided refuses = absurd refuses
+no_other statuses.Usage refuses = refuses
+no_other statuses.BadInput refuses = tt
+no_other statuses.TooLarge refuses = tt
+no_other statuses.Refused refuses = tt
+no_other statuses.ReadFault refuses = absurd refuses
+no_other statuses.WriteFault refuses = absurd refuses
+no_other statuses.NoMemory refuses = absurd refuses
 
 stops_by_words : (told : Option Files) (words : List (List ℕ)) (stop : Stop) → Follows told words (Err stop) → (command_of words ≡ None) ⊎ IsOther (stop_status stop)
-stops_by_words told words (Read (Refused refusal)) follows = by_words told words refusal follows
+stops_by_words told words Usage follows = inl follows
+stops_by_words told words (Read (Refused refusal)) follows = inr (no_other (status_of refusal) (refuses refusal))
 stops_by_words told words (Read (Fault path)) follows = inr tt
 stops_by_words told words (Read NoMemory) follows = inr tt
 stops_by_words told words (Write (writes.Put path)) follows = inr tt

@@ -1,37 +1,32 @@
--- Words that are refused.
-use Rattle.std.proofs.Common.{◌≡◌, ℕ, List, sym, ap, ◌∙◌, Result, Ok, Err}
+-- Words that are no command.
+use Rattle.std.proofs.Common.{◌≡◌, ℕ, List, sym, ap, ◌∙◌, Option, Some, None, Result, Ok, Err}
 use Rattle.std.specs.Result.{IsErrAnd}
-use Rattle.run_output.specs.Stages.{Is}
-use Rattle.run_output.specs.Stops.{Gives, EndsInReadFault}
-use Rattle.run_output.specs.Refusal.{Refusal}
-use Rattle.run_output.specs.ReadStop.{ReadStop}
 use Rattle.run_output.specs.ReadStop.TheVariants.{Refused, Fault, NoMemory}
 use Rattle.run_output.specs.Stop.{Stop}
-use Rattle.run_output.specs.Stop.TheVariants.{Read}
-use Rattle.run_output.proofs.StageLaws.{ok_not_err, err_same}
-use Rattle.run_output.specs.Words.{Command}
-use Rattle.run_output.specs.Orders.{command_in}
+use Rattle.run_output.specs.Stop.TheVariants.{Usage, Read, Write}
+use Rattle.run_output.specs.Words.{Command, command_of}
+use Rattle.run_output.specs.Reading.{GivesCommand}
 use Rattle.run_output.specs.declared.answer.Outcome.{Outcome}
 use Rattle.concretizer.specs.Attempts.{StopsAtOnce}
 
--- words that are a command are not refused
-pub not_refused : {A : Type 0} (words : List (List ℕ)) (command : Command) → Is (command_in words) (Ok command) → (refusal : Refusal)
-    → Is (command_in words) (Err refusal) → A
-not_refused words command ordered refusal refused = ok_not_err command refusal (ordered ∙ sym refused)
+some_not_none : {A B : Type 0} (x : A) → (let T : Type 0 = Option A in let a : T = Some x in let b : T = None in a ≡ b) → B
+some_not_none x same = absurd cc
 
-stops : (words : List (List ℕ)) (stop : ReadStop) → Gives {T = Command} (Err stop) (Is (command_in words))
-    → (EndsInReadFault {T = Command} (Err stop) → ⊥) → (refusal : Refusal) → Is (command_in words) (Err refusal)
-    → StopsAtOnce refusal (Err (Read stop))
-stops words (Refused given) read fault refusal refused = err_same given refusal (read ∙ sym refused)
-stops words (Fault path) read fault refusal refused = absurd (fault tt)
-stops words NoMemory read fault refusal refused = tt
+-- words that are a command are not none
+pub not_refused : {A : Type 0} (words : List (List ℕ)) (command : Command) → command_of words ≡ Some command → command_of words ≡ None → A
+not_refused words command named none = some_not_none command (sym named ∙ none)
 
-stop_carried : (stop : ReadStop) (result : Result Outcome Stop) → IsErrAnd result (λ given. given ≡ Read stop) → result ≡ Err (Read stop)
-stop_carried stop (Ok outcome) h = absurd h
-stop_carried stop (Err given) h = ap Err h
+stops : (words : List (List ℕ)) (stop : Stop) → GivesCommand words (Err stop) → StopsAtOnce (Err stop)
+stops words Usage read = tt
+stops words (Read (Refused refusal)) read = absurd read
+stops words (Read (Fault path)) read = absurd read
+stops words (Read NoMemory) read = tt
+stops words (Write stop) read = absurd read
 
-pub stops_at_once : (words : List (List ℕ)) (stop : ReadStop) (result : Result Outcome Stop) → IsErrAnd result (λ given. given ≡ Read stop)
-    → Gives {T = Command} (Err stop) (Is (command_in words)) → (EndsInReadFault {T = Command} (Err stop) → ⊥)
-    → (refusal : Refusal) → Is (command_in words) (Err refusal) → StopsAtOnce refusal result
-stops_at_once words stop result carried read fault refusal refused =
-    rw (stop_carried stop result carried) (stops words stop read fault refusal refused)
+carried : (stop : Stop) (result : Result Outcome Stop) → IsErrAnd result (λ given. given ≡ stop) → result ≡ Err stop
+carried stop (Ok outcome) h = absurd h
+carried stop (Err given) h = ap Err h
+
+pub stops_at_once : (words : List (List ℕ)) (stop : Stop) (result : Result Outcome Stop) → IsErrAnd result (λ given. given ≡ stop)
+    → GivesCommand words (Err stop) → StopsAtOnce result
+stops_at_once words stop result is read = rw (carried stop result is) (stops words stop read)

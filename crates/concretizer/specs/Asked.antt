@@ -1,18 +1,16 @@
 -- What the words say of a run, for any desk.
-use Rattle.std.specs.Prelude.{◌≡◌, ◌⊎◌, ℕ, false, List, Option, Ok}
+use Rattle.std.specs.Prelude.{◌≡◌, ◌⊎◌, ℕ, false, List, Option, Some, Ok}
 use Rattle.outside_desk.specs.Files.{Files}
 use Rattle.spec_grammar.specs.declared.part.Spec.{Spec}
-use Rattle.run_output.specs.Orders.{command_in}
 use Rattle.run_output.specs.Roots.{RootsOf}
-use Rattle.run_output.specs.Stages.{Is}
 use Rattle.run_output.specs.Tasks.{IsTaskPath}
-use Rattle.run_output.specs.Words.{Command, is_dash, lock_path, cert_path}
+use Rattle.run_output.specs.Words.{Command, command_of, is_dash, lock_path, cert_path}
 use Rattle.run_output.specs.Work.TheVariants as works
 
 -- the words are a command whose specs are read
 pub record IsAsked (words : List (List ℕ)) : Type 0 where
   pub command : Command
-  pub ordered : Is (command_in words) (Ok command)
+  pub named : command_of words ≡ Some command
   pub roots : List Spec
   pub asks : RootsOf command.spec (Ok roots)
 
@@ -29,5 +27,5 @@ IsPutPath words path = (path ≡ lock_path words) ⊎ ((path ≡ cert_path words
 -- the desk tells its files
 pub record IsRead (told : Option Files) (words : List (List ℕ)) (path : List ℕ) : Type 0 where
   pub command : Command
-  pub ordered : Is (command_in words) (Ok command)
+  pub named : command_of words ≡ Some command
   pub inside : IsTaskPath told command path

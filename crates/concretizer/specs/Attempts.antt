@@ -7,13 +7,11 @@ use Rattle.run_output.specs.Senses.{Sense}
 use Rattle.run_output.specs.Words.{command_of, lock_path, cert_path}
 use Rattle.run_output.specs.Task.{Task}
 use Rattle.run_output.specs.Tasks.{Poses}
-use Rattle.run_output.specs.Refusal.{Refusal}
-use Rattle.run_output.specs.Refusal.TheVariants.{Usage}
 use Rattle.run_output.specs.ReadStop.TheVariants as reads
 use Rattle.run_output.specs.WriteStop.{WriteStop}
 use Rattle.run_output.specs.WriteStop.TheVariants as writes
 use Rattle.run_output.specs.Stop.{Stop}
-use Rattle.run_output.specs.Stop.TheVariants.{Read, Write}
+use Rattle.run_output.specs.Stop.TheVariants.{Usage, Read, Write}
 use Rattle.concretizer.specs.Asked.{IsAsked, IsLocking, IsPutPath, IsRead}
 
 -- ---- for a desk that tells its files
@@ -32,6 +30,8 @@ pub record IsUnwritten (files : Files) (after : Option Files) (out_before out_af
 
 abbrev pub Attempts : Sense → Files → List (List ℕ) → Option Files → Option (List ℕ) → Option (List ℕ) → Result Outcome Stop → Type 0
 Attempts sense files words after out_before out_after (Ok outcome) = IsWritten sense files words after out_before out_after (Ok outcome)
+Attempts sense files words after out_before out_after (Err Usage) = (command_of words ≡ None)
+    × IsUnwritten files after out_before out_after
 Attempts sense files words after out_before out_after (Err (Read (reads.Refused refusal))) = Poses sense.verdicts files words (Err refusal)
     × IsUnwritten files after out_before out_after
 Attempts sense files words after out_before out_after (Err (Read (reads.Fault path))) = IsUnwritten files after out_before out_after
@@ -43,17 +43,17 @@ Attempts sense files words after out_before out_after (Err (Write stop)) = IsWri
 -- what the words say of how an attempt ended, and where the desk tells its files, what these say of what was read
 abbrev pub Follows : Option Files → List (List ℕ) → Result Outcome Stop → Type 0
 Follows told words (Ok outcome) = IsAsked words
-Follows told words (Err (Read (reads.Refused Usage))) = command_of words ≡ None
+Follows told words (Err Usage) = command_of words ≡ None
 Follows told words (Err (Read (reads.Fault path))) = IsRead told words path
 Follows told words (Err (Write (writes.Put path))) = IsLocking words × IsPutPath words path
 Follows told words (Err (Write writes.Output)) = IsAsked words
 Follows told words other = Unit {0}
 
--- the words alone were refused, or memory ran out over them
-abbrev pub StopsAtOnce : Refusal → Result Outcome Stop → Type 0
-StopsAtOnce refusal (Err (Read (reads.Refused given))) = given ≡ refusal
-StopsAtOnce refusal (Err (Read reads.NoMemory)) = Unit {0}
-StopsAtOnce refusal other = ⊥
+-- the words are no command, or memory ran out over them
+abbrev pub StopsAtOnce : Result Outcome Stop → Type 0
+StopsAtOnce (Err Usage) = Unit {0}
+StopsAtOnce (Err (Read reads.NoMemory)) = Unit {0}
+StopsAtOnce other = ⊥
 
 -- the device that made an attempt fail
 abbrev pub FailsToRead : Result Outcome Stop → Type 0
@@ -71,6 +71,7 @@ FailsToSay other = ⊥
 -- an attempt that came to an answer, or to a refusal
 abbrev pub Concludes : Result Outcome Stop → Type 0
 Concludes (Ok outcome) = Unit {0}
+Concludes (Err Usage) = Unit {0}
 Concludes (Err (Read (reads.Refused refusal))) = Unit {0}
 Concludes other = ⊥
 

@@ -6,16 +6,14 @@
 use Rattle.std.specs.Prelude.{◌≡◌, ◌⊎◌, ℕ, List, Option, Some, Ok, Err, IfSome}
 use Rattle.outside_desk.specs.Causes.{Rose}
 use Rattle.outside_desk.specs.Files.{Files, and_said, SaysPart}
-use Rattle.run_output.specs.Orders.{command_in}
 use Rattle.run_output.specs.Senses.{Sense}
 use Rattle.run_output.specs.Shown.{IsShown}
-use Rattle.run_output.specs.Stages.{Is}
-use Rattle.run_output.specs.Words.{Command, lock_path, cert_path}
+use Rattle.run_output.specs.Words.{Command, command_of, lock_path, cert_path}
 use Rattle.run_output.specs.Task.{Task}
 use Rattle.run_output.specs.Tasks.{Poses}
 use Rattle.run_output.specs.Refusals.{status_of, line_of}
 use Rattle.run_output.specs.Stop.{Stop}
-use Rattle.run_output.specs.Stops.{read_fault_line, write_fault_line, output_fault_line, no_memory_line, stop_line}
+use Rattle.run_output.specs.Stops.{read_fault_line, write_fault_line, output_fault_line, no_memory_line, stop_line, usage_line}
 use Rattle.run_output.specs.Answers.{IsFinished, HasNone, HasSpent, IsHalfDone, IsUntold, KeepsWhole}
 use Rattle.run_output.specs.Refusal.{Refusal}
 use Rattle.run_output.specs.Status.{Status}
@@ -54,7 +52,7 @@ pub record IsDone (sense : Sense) (files : Files) (words : List (List ℕ)) (aft
 -- the roots that are asked for, and that its graph is optimal for the problem that was read; of `refute`, that no graph is valid
 pub record HasShown (files : Files) (words : List (List ℕ)) : Type 0 where
   pub command : Command
-  pub ordered : Is (command_in words) (Ok command)
+  pub named : command_of words ≡ Some command
   pub shown : IsShown files command
 
 -- Unsatisfiable, by `concretize`: no graph is valid, CERT holds the text of a log (as evidence, it refutes the problem), and every
@@ -74,7 +72,7 @@ pub record IsUndecided (sense : Sense) (files : Files) (words : List (List ℕ))
   pub spent : HasSpent sense (cert_path words) task (Some files) after out.0 out.1
   pub errors : IsSilent err
 
--- Usage, BadInput, TooLarge and Refused: reading refuses, in its order; no file changed, and the refusal was said
+-- BadInput, TooLarge and Refused: reading refuses, in its order; no file changed, and the refusal was said
 pub record IsRefused (sense : Sense) (files : Files) (words : List (List ℕ)) (answer : Status) (after : Option Files) (out err : Spoken) : Type 0 where
   pub refusal : Refusal
   pub read : Poses sense.verdicts files words (Err refusal)
@@ -167,7 +165,6 @@ Settles other = ⊥
 
 -- the answers that a refusal has
 abbrev pub IsRefusalStatus : Status → Type 0
-IsRefusalStatus statuses.Usage = Unit {0}
 IsRefusalStatus statuses.BadInput = Unit {0}
 IsRefusalStatus statuses.TooLarge = Unit {0}
 IsRefusalStatus statuses.Refused = Unit {0}
@@ -191,7 +188,7 @@ Reports status line said faults result =
     ((result ≡ status) × Says said line × (faults.1 ≡ faults.0))
     ⊎ (((result ≡ statuses.WriteFault) × SaysFront said line × Rose faults.0 faults.1) ⊎ ((result ≡ statuses.NoMemory) × IsSilent said))
 
--- what a refusal of the words alone is answered by, whatever the desk tells: it is reported, or want of memory is
-abbrev pub ReportsWords : Refusal → Spoken → ℕ × ℕ → Status → Type 0
-ReportsWords refusal said faults result =
-    Reports (status_of refusal) (line_of refusal) said faults result ⊎ Reports statuses.NoMemory no_memory_line said faults result
+-- what words that are no command are answered by, whatever the desk tells: Usage is reported, or want of memory is
+abbrev pub ReportsWords : Spoken → ℕ × ℕ → Status → Type 0
+ReportsWords said faults result =
+    Reports statuses.Usage usage_line said faults result ⊎ Reports statuses.NoMemory no_memory_line said faults result

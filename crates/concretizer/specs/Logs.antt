@@ -13,7 +13,7 @@ use Rattle.run_output.specs.declared.answer.Outcome.TheVariants as outcomes
 use Rattle.run_output.specs.Status.{Status}
 use Rattle.run_output.specs.Status.TheVariants as statuses
 use Rattle.run_output.specs.Stop.{Stop}
-use Rattle.run_output.specs.Stop.TheVariants.{Read, Write}
+use Rattle.run_output.specs.Stop.TheVariants.{Usage, Read, Write}
 use Rattle.run_output.specs.Task.{Task}
 use Rattle.run_output.specs.Tasks.{Poses}
 use Rattle.run_output.specs.Words.{lock_path, cert_path}
@@ -28,6 +28,7 @@ IsShownByLogs statuses.Unsatisfiable words files puts says errs out err =
     IfSome files.0 (λ before. IsUnsatisfiable evidence before words files.1 out err)
 IsShownByLogs statuses.Undecided words files puts says errs out err =
     IfSome files.0 (λ before. IsUndecided evidence before words files.1 out err)
+IsShownByLogs statuses.Usage words files puts says errs out err = Unit {0}
 IsShownByLogs statuses.ReadFault words files puts says errs out err = Unit {0}
 IsShownByLogs statuses.WriteFault words files puts says errs out err = IsWriteFault evidence words files puts says errs out err
 IsShownByLogs statuses.NoMemory words files puts says errs out err = IsOutOfMemory evidence words files says out err
@@ -81,5 +82,6 @@ KeepsFor other files words after kept = kept ≡ []
 -- what an attempt keeps of a search
 abbrev pub AttemptKeeps : Files → List (List ℕ) → Option Files → List Line → Result Outcome Stop → Type 0
 AttemptKeeps files words after kept (Ok outcome) = HasKept files words outcome after kept
+AttemptKeeps files words after kept (Err Usage) = kept ≡ []
 AttemptKeeps files words after kept (Err (Read stop)) = kept ≡ []
 AttemptKeeps files words after kept (Err (Write stop)) = MayKeep files words kept

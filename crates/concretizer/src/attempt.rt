@@ -1,20 +1,18 @@
 //! The reading of a task, and the writing of its answer.
 
-ghost use Rattle.std.specs.Prelude.{◌≡◌, ◌≤◌, Err, IfSome, OnOk};
+ghost use Rattle.std.specs.Prelude.{◌≡◌, ◌≤◌, None, IfSome, OnOk};
 ghost use Rattle.outside_desk.specs.Causes.{Counts};
 ghost use Rattle.run_output.specs.Evidence.{evidence};
-ghost use Rattle.run_output.specs.Orders.{command_in};
-ghost use Rattle.run_output.specs.Refusal.{Refusal};
-ghost use Rattle.run_output.specs.Stages.{Is};
 ghost use Rattle.run_output.specs.Stops.{stop_status, stop_line};
-ghost use Rattle.run_output.specs.Words.{words_of};
+ghost use Rattle.run_output.specs.Words.{words_of, command_of};
 ghost use Rattle.concretizer.specs.Attempts.{Attempts, Concludes, Follows, StopsAtOnce, StopsBefore, FailsToRead, FailsToPut, FailsToSay};
 ghost use Rattle.concretizer.specs.Logs.{AttemptKeeps};
 ghost use Rattle.concretizer.specs.Headline.{HasShown, Keeps, Reports};
 
 use outside_desk::{Desk, Sink, SinkFault};
 use run_output::{
-    Command, Log, Outcome, Progress, Stage, Status, Stop, Work, read_order, read_task, write_answer,
+    Command, Log, Outcome, Progress, Stage, Status, Stop, Work, read_command, read_task,
+    write_answer,
 };
 use std::alloc::Global;
 use std::thread::Threads;
@@ -44,8 +42,7 @@ pub fn attempt<R: Threads + Sync, D: Desk, O: Sink, P: Progress>(
     ensures shown { OnOk result (IfSome (D.files desk.old)
         (λ files. HasShown files (words_of words.now))) }
     ensures follows { Follows (D.files desk.old) (words_of words.now) result }
-    ensures at_once { (refusal : Refusal) → Is (command_in (words_of words.now)) (Err refusal)
-        → StopsAtOnce refusal result
+    ensures at_once { command_of (words_of words.now) ≡ None → StopsAtOnce result
         × (D.files desk.new ≡ D.files desk.old) × (O.said out.new ≡ O.said out.old)
         × (D.faults desk.new ≡ D.faults desk.old) × (D.put_faults desk.new ≡ D.put_faults desk.old)
         × (O.faults out.new ≡ O.faults out.old) }
@@ -63,7 +60,7 @@ pub fn attempt<R: Threads + Sync, D: Desk, O: Sink, P: Progress>(
     ensures said { Counts (O.faults out.old) (O.faults out.new) (FailsToSay result) }
 {
     *kept = Log::new(alloc);
-    let command = read_order(alloc, words)?;
+    let command = read_command(alloc, words)?;
     progress.tell(reading_of(&command));
     let task = read_task(rt, alloc, desk, &command)?;
     let answer = write_answer(

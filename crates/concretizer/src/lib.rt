@@ -10,6 +10,6 @@ mod attempt;
 mod steady;
 mod top;
 
-pub use run_output::{Command, Log, Progress, Stage, Status, Untold, Work, read_order};
+pub use run_output::{Command, Log, Progress, Stage, Status, Untold, Work, read_command};
 pub use steady::run_steady;
 pub use top::run;

@@ -1,12 +1,12 @@
 //! Runs over devices that never fail.
 
-ghost use Rattle.std.specs.Prelude.{◌≡◌, ◌≢◌, Ok, Err, Some};
+ghost use Rattle.std.specs.Prelude.{◌≡◌, ◌≢◌, None, Ok, Err, Some};
 ghost use Rattle.run_output.specs.CertificateVerdicts.{no_verdict};
 ghost use Rattle.run_output.specs.Senses.{meaning};
-ghost use Rattle.run_output.specs.Words.{words_of};
+ghost use Rattle.run_output.specs.Words.{command_of, words_of};
 ghost use Rattle.run_output.specs.Task.{Task};
 ghost use Rattle.run_output.specs.Tasks.{Poses};
-ghost use Rattle.concretizer.specs.Headline.{IsDone, HasShown, IsUnsatisfiable, IsUndecided, IsRefused, Settles, IsRefusalStatus, IsAnsweredBy};
+ghost use Rattle.concretizer.specs.Headline.{IsDone, HasShown, IsUnsatisfiable, IsUndecided, IsRefused, Settles, IsRefusalStatus, IsAnsweredBy, ReportsWords};
 ghost use Rattle.concretizer.specs.Logs.{IsLogged, KeepsFor};
 ghost use Rattle.run_output.specs.Refusals.{status_of};
 ghost use Rattle.run_output.specs.Refusal.{Refusal};
@@ -28,6 +28,10 @@ pub fn run_steady<R: Threads + Sync>(
     err: &mut SteadySink,
     kept: &mut Log,
 ) -> Status
+    ensures words { command_of (words_of words.now) ≡ None
+        → (desk.new ≡ desk.old) × (Some out.new ≡ Some out.old)
+        × ReportsWords (Some err.old, Some err.new) (0, 0) result }
+    ensures usage { result ≡ Status.Usage → command_of (words_of words.now) ≡ None }
     ensures done { result ≡ Status.Done
         → IsDone meaning desk.old (words_of words.now) (Some desk.new) (Some out.old, Some out.new)
         (Some err.old, Some err.new) }

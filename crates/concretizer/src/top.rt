@@ -4,11 +4,9 @@ ghost use Rattle.std.specs.Prelude.{◌≡◌, ◌≤◌, None, Ok, Err, IfSome}
 ghost use Rattle.outside_desk.specs.Causes.{Rose};
 ghost use Rattle.run_output.specs.CertificateVerdicts.{no_verdict};
 ghost use Rattle.run_output.specs.Changes.{ChangesOnly};
-ghost use Rattle.run_output.specs.Orders.{command_in};
 ghost use Rattle.run_output.specs.Refusal.{Refusal};
 ghost use Rattle.run_output.specs.Refusals.{status_of};
 ghost use Rattle.run_output.specs.Senses.{meaning};
-ghost use Rattle.run_output.specs.Stages.{Is};
 ghost use Rattle.run_output.specs.Task.{Task};
 ghost use Rattle.run_output.specs.Tasks.{Poses};
 ghost use Rattle.run_output.specs.Words.{words_of, command_of, lock_path, cert_path};
@@ -52,11 +50,11 @@ pub fn run<R: Threads + Sync, D: Desk, O: Sink, E: Sink, P: Progress>(
 ) -> Status
     // Words that are no command are answered so whatever the desk tells, and only words are Usage. No call on the
     // desk or on `out` failed, no file changed and nothing was said but the refusal, or that memory ran out.
-    ensures words { (refusal : Refusal) → Is (command_in (words_of words.now)) (Err refusal)
+    ensures words { command_of (words_of words.now) ≡ None
         → (D.files desk.new ≡ D.files desk.old) × (O.said out.new ≡ O.said out.old)
         × (D.faults desk.new ≡ D.faults desk.old) × (D.put_faults desk.new ≡ D.put_faults desk.old)
         × (O.faults out.new ≡ O.faults out.old)
-        × ReportsWords refusal (E.said err.old, E.said err.new) (E.faults err.old, E.faults err.new)
+        × ReportsWords (E.said err.old, E.said err.new) (E.faults err.old, E.faults err.new)
         result }
     ensures usage { result ≡ Status.Usage → command_of (words_of words.now) ≡ None }
 

@@ -2,20 +2,19 @@
 --
 -- `files` are the files at entry of a desk that tells them, `words` the words behind the program's name, and `out` and `err` what the two
 -- sinks tell before and after.
-use Rattle.std.specs.Prelude.{◌≡◌, ◌⊎◌, ℕ, List, [], ◌∷◌, ◌++◌, Option, Result, Ok, Err, codes}
+use Rattle.std.specs.Prelude.{◌≡◌, ◌⊎◌, ℕ, List, [], ◌∷◌, ◌++◌, Option, Some, None, Result, Ok, Err, codes}
 use Rattle.outside_desk.specs.Files.{Files, and_said}
 use Rattle.problem.specs.Problems.{Problem}
 use Rattle.problem_encoding.specs.Built.{encoding_of, rule_clauses}
 use Rattle.dimacs_text.specs.Clauses.{rules_line}
 use Rattle.dimacs_text.specs.Texts.{dimacs_text}
 use Rattle.run_input.specs.Inputs.{Reads}
-use Rattle.run_input.specs.Orders.{command_in}
 use Rattle.run_input.specs.Refusal.{Refusal}
-use Rattle.run_input.specs.Refusal.TheVariants.{Usage}
 use Rattle.run_input.specs.Refusals as lines
 use Rattle.run_input.specs.Stages.{Is, Then}
 use Rattle.run_input.specs.Status.{Status}
 use Rattle.run_input.specs.Status.TheVariants as statuses
+use Rattle.run_input.specs.Words.{Command, command_of}
 use Rattle.run_input.specs.declared.input.Input.{Input}
 
 -- the text of the one encoding of a problem, in front of which a comment says how many of the clauses are those of the rules
@@ -26,40 +25,46 @@ text_of problem = let e = encoding_of problem in rules_line (rule_clauses proble
 unfoldable pub explained : List (List ℕ) → List (List ℕ)
 explained words = codes "explain" ∷ words
 
--- the problem that the words name over the files
-abbrev pub Asks : Files → List (List ℕ) → Result Input Refusal → Type 0
-Asks files words = Then (Is (command_in (explained words))) (Reads files)
+-- what words pose: a text, or the refusal that is due first; or nothing, where they are no command
+abbrev pub Posed : Type 0
+Posed = Option (Result (List ℕ) Refusal)
 
--- the text that the words ask for, or the refusal that is due first
-abbrev pub Poses : Files → List (List ℕ) → Result (List ℕ) Refusal → Type 0
-Poses files words = Then (Asks files words) (λ input. Is (Ok (text_of input.problem)))
+-- the text that a command asks for, or the refusal that is due first
+abbrev pub Asks : Files → Command → Result (List ℕ) Refusal → Type 0
+Asks files command = Then (Reads files command) (λ input. Is (Ok (text_of input.problem)))
+
+-- what the words of a command pose over the files
+abbrev pub PosesBy : Files → List (List ℕ) → Posed → Type 0
+PosesBy files words None = command_of words ≡ None
+PosesBy files words (Some asked) = (command : Command) × (command_of words ≡ Some command) × Asks files command asked
+
+-- what the words behind the program's name pose
+abbrev pub Poses : Files → List (List ℕ) → Posed → Type 0
+Poses files words = PosesBy files (explained words)
 
 -- ---- what is answered
 
 unfoldable pub usage_line : List ℕ
 usage_line = codes "usage: encode_dimacs REPO SETTINGS DATABASE SPEC...\n"
 
--- the line of a refusal: of wrong words it is the program's own
-abbrev pub refusal_line : Refusal → List ℕ
-refusal_line Usage = usage_line
-refusal_line other = lines.line_of other
-
-abbrev pub status_of : Result (List ℕ) Refusal → Status
-status_of (Ok text) = statuses.Done
-status_of (Err refusal) = lines.status_of refusal
+abbrev pub status_of : Posed → Status
+status_of None = statuses.Usage
+status_of (Some (Ok text)) = statuses.Done
+status_of (Some (Err refusal)) = lines.status_of refusal
 
 -- what a sink tells of what was said, before and after
 abbrev pub Spoken : Type 0
 Spoken = Option (List ℕ) × Option (List ℕ)
 
 -- the text was said, and nothing else
-abbrev pub SaysText : Spoken → Spoken → Result (List ℕ) Refusal → Type 0
-SaysText out err (Ok text) = (out.1 ≡ and_said out.0 text) × (err.1 ≡ err.0)
-SaysText out err (Err refusal) = (out.1 ≡ out.0) × (err.1 ≡ and_said err.0 (refusal_line refusal))
+abbrev pub SaysText : Spoken → Spoken → Posed → Type 0
+SaysText out err None = (out.1 ≡ out.0) × (err.1 ≡ and_said err.0 usage_line)
+SaysText out err (Some (Ok text)) = (out.1 ≡ and_said out.0 text) × (err.1 ≡ err.0)
+SaysText out err (Some (Err refusal)) = (out.1 ≡ out.0) × (err.1 ≡ and_said err.0 (lines.line_of refusal))
 
 -- the words pose this, which has the status, and just that was said
 pub record IsSaid (files : Files) (words : List (List ℕ)) (out err : Spoken) (status : Status) : Type 0 where
-  pub posed : Result (List ℕ) Refusal
+  pub posed : Posed
   pub poses : Poses files words posed
   pub has_status : status ≡ status_of posed
   pub said : SaysText out err posed

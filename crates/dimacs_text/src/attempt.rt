@@ -3,18 +3,16 @@
 ghost use Rattle.std.specs.Prelude.{◌≡◌, true, IfOk, IfSome, OnOk};
 ghost use Rattle.outside_desk.specs.Causes.{Counts};
 ghost use Rattle.outside_desk.specs.Files.{and_said};
-ghost use Rattle.run_input.specs.Inputs.{IsPosed, Reads};
-ghost use Rattle.run_input.specs.Orders.{command_in};
-ghost use Rattle.run_input.specs.Stages.{Is, Then};
-ghost use Rattle.run_input.specs.Stops.{Gives, EndsInReadFault, EndsInOutputFault, EndsInPutFault};
+ghost use Rattle.run_input.specs.Inputs.{IsPosed};
+ghost use Rattle.run_input.specs.Stops.{EndsInOutputFault, EndsInPutFault};
 ghost use Rattle.run_input.specs.Words.{words_of};
-ghost use Rattle.dimacs_text.specs.Answers.{Asks, explained, text_of};
-ghost use Rattle.dimacs_text.specs.Attempts.{Attempts, IsReadStop, FailsToRead, FailsToPut, FailsToSay};
+ghost use Rattle.dimacs_text.specs.Answers.{explained, text_of};
+ghost use Rattle.dimacs_text.specs.Attempts.{Attempts, AttemptsBy, StopsBefore, FailsToRead, FailsToPut, FailsToSay};
 
 use crate::{dimacs_text, rules_line};
 use outside_desk::{Desk, Sink, SinkFault};
 use problem_encoding::{encode_rules, with_costs};
-use run_input::{Input, ReadStop, Stop, WriteStop, read_input, read_order};
+use run_input::{Command, Input, ReadStop, Stop, WriteStop, read_command, read_input};
 use std::alloc::{AllocError, Global};
 use std::thread::Threads;
 
@@ -84,7 +82,7 @@ fn say_input<O: Sink>(alloc: Global, out: &mut O, input: &Input) -> Result<(), S
         ≡ and_said (O.said out.old) (text_of input.now.problem)) }
     ensures cause { Counts (O.faults out.old) (O.faults out.new) (FailsToSay result) }
     ensures no_put { FailsToPut result → ⊥ }
-    ensures no_read { IsReadStop result → ⊥ }
+    ensures no_read { StopsBefore result → ⊥ }
 {
     match say_encoded(alloc, out, input) {
         Ok(()) => Ok(()),
@@ -92,49 +90,36 @@ fn say_input<O: Sink>(alloc: Global, out: &mut O, input: &Input) -> Result<(), S
     }
 }
 
-/// The problem that words name, which are those of a command.
-fn read_ordered<R: Threads + Sync, D: Desk>(
-    rt: &R,
-    alloc: Global,
-    words: &[String],
-    desk: &mut D,
-) -> Result<Input, ReadStop>
-    ensures read { IfSome (D.files desk.old) (λ files. Gives result
-        (Then (Is (command_in (words_of words.now))) (Reads files))) }
-    ensures posed { IfOk result IsPosed }
-    ensures cause { Counts (D.faults desk.old) (D.faults desk.new) (EndsInReadFault result) }
-    ensures same { D.files desk.new ≡ D.files desk.old }
-    ensures put_faults { D.put_faults desk.new ≡ D.put_faults desk.old }
-{
-    match read_order(alloc, words) {
-        Ok(command) => read_input(rt, alloc, desk, &command),
-        Err(stop) => Err(stop),
-    }
-}
-
-/// The problem that the words name.
-fn read_asked<R: Threads + Sync, D: Desk>(
-    rt: &R,
-    alloc: Global,
-    words: &[String],
-    desk: &mut D,
-) -> Result<Input, ReadStop>
-    ensures read { IfSome (D.files desk.old)
-        (λ files. Gives result (Asks files (words_of words.now))) }
-    ensures posed { IfOk result IsPosed }
-    ensures cause { Counts (D.faults desk.old) (D.faults desk.new) (EndsInReadFault result) }
-    ensures same { D.files desk.new ≡ D.files desk.old }
-    ensures put_faults { D.put_faults desk.new ≡ D.put_faults desk.old }
-{
-    match explained(alloc, words) {
-        Ok(all) => read_ordered(rt, alloc, all.as_slice(), desk),
-        Err(AllocError) => Err(ReadStop::NoMemory),
-    }
-}
-
-/// Reads the problem that the words name, and says its encoding.
+/// Reads the problem that a command names, and says its encoding.
 #[tactic(auto, using(crate::proofs::Ends::was_said, crate::proofs::Ends::was_stopped))]
-pub fn attempt<R: Threads + Sync, D: Desk, O: Sink>(
+fn attempt_by<R: Threads + Sync, D: Desk, O: Sink>(
+    rt: &R,
+    alloc: Global,
+    command: &Command<'_>,
+    desk: &mut D,
+    out: &mut O,
+) -> Result<(), Stop>
+    ensures outcome { IfSome (D.files desk.old) (λ files. AttemptsBy files command.now
+        (O.said out.old) (O.said out.new) result) }
+    ensures read { Counts (D.faults desk.old) (D.faults desk.new) (FailsToRead result) }
+    ensures said { Counts (O.faults out.old) (O.faults out.new) (FailsToSay result) }
+    ensures no_put { FailsToPut result → ⊥ }
+    ensures same { D.files desk.new ≡ D.files desk.old }
+    ensures put_faults { D.put_faults desk.new ≡ D.put_faults desk.old }
+{
+    match read_input(rt, alloc, desk, command) {
+        Ok(input) => {
+            let said = say_input(alloc, out, &input);
+            drop(input);
+            said
+        }
+        Err(stop) => Err(Stop::Read(stop)),
+    }
+}
+
+/// The same by the words of the command.
+#[tactic(auto, using(crate::proofs::Ends::was_named, crate::proofs::Ends::was_none))]
+fn attempt_over<R: Threads + Sync, D: Desk, O: Sink>(
     rt: &R,
     alloc: Global,
     words: &[String],
@@ -149,12 +134,31 @@ pub fn attempt<R: Threads + Sync, D: Desk, O: Sink>(
     ensures same { D.files desk.new ≡ D.files desk.old }
     ensures put_faults { D.put_faults desk.new ≡ D.put_faults desk.old }
 {
-    match read_asked(rt, alloc, words, desk) {
-        Ok(input) => {
-            let said = say_input(alloc, out, &input);
-            drop(input);
-            said
-        }
-        Err(stop) => Err(Stop::Read(stop)),
+    match read_command(alloc, words) {
+        Ok(command) => attempt_by(rt, alloc, &command, desk, out),
+        Err(Stop::Usage) => Err(Stop::Usage),
+        Err(_) => Err(Stop::Read(ReadStop::NoMemory)),
+    }
+}
+
+/// Reads the problem that the words behind the program's name ask for, and says its encoding.
+pub fn attempt<R: Threads + Sync, D: Desk, O: Sink>(
+    rt: &R,
+    alloc: Global,
+    words: &[String],
+    desk: &mut D,
+    out: &mut O,
+) -> Result<(), Stop>
+    ensures outcome { IfSome (D.files desk.old) (λ files. Attempts files
+        (explained (words_of words.now)) (O.said out.old) (O.said out.new) result) }
+    ensures read { Counts (D.faults desk.old) (D.faults desk.new) (FailsToRead result) }
+    ensures said { Counts (O.faults out.old) (O.faults out.new) (FailsToSay result) }
+    ensures no_put { FailsToPut result → ⊥ }
+    ensures same { D.files desk.new ≡ D.files desk.old }
+    ensures put_faults { D.put_faults desk.new ≡ D.put_faults desk.old }
+{
+    match explained(alloc, words) {
+        Ok(all) => attempt_over(rt, alloc, all.as_slice(), desk, out),
+        Err(AllocError) => Err(Stop::Read(ReadStop::NoMemory)),
     }
 }

@@ -1,18 +1,17 @@
 //! The top call.
 
-ghost use Rattle.std.specs.Prelude.{◌≡◌, ◌⊎◌, ℕ, List, IfOk, IfSome, Result};
+ghost use Rattle.std.specs.Prelude.{◌≡◌, ◌⊎◌, IfOk, IfSome};
 ghost use Rattle.std.specs.String.{string_bytes};
 ghost use Rattle.outside_desk.specs.Causes.{Counts, Rose};
 ghost use Rattle.outside_desk.specs.Files.{and_said};
-ghost use Rattle.run_input.specs.Refusal.{Refusal};
 ghost use Rattle.run_input.specs.Stops.{stop_status};
 ghost use Rattle.run_input.specs.Words.{words_of};
-ghost use Rattle.dimacs_text.specs.Answers.{Answers, IsAnsweredBy, Poses, refusal_line, status_of, usage_line};
+ghost use Rattle.dimacs_text.specs.Answers.{Answers, IsAnsweredBy, Posed, Poses, status_of, usage_line};
 ghost use Rattle.dimacs_text.specs.Attempts.{Reports, line_of};
 
 use crate::attempt::attempt;
 use outside_desk::{Desk, Sink, SinkFault};
-use run_input::{ReadStop, Refusal, Status, Stop, input_laws};
+use run_input::{Status, Stop, input_laws};
 use std::alloc::{AllocError, Global};
 use std::thread::Threads;
 
@@ -26,22 +25,12 @@ fn usage_line(alloc: Global) -> Result<String, AllocError>
     )
 }
 
-/// The line of a refusal.
-fn refusal_line(alloc: Global, refusal: &Refusal) -> Result<String, AllocError>
-    ensures { IfOk result (λ line. string_bytes line ≡ refusal_line refusal.now) }
-{
-    match refusal {
-        Refusal::Usage => usage_line(alloc),
-        other => other.line(alloc),
-    }
-}
-
-/// The line of a stop.
+/// The line of a stop: of wrong words it is the program's own.
 fn line_of(alloc: Global, stop: &Stop) -> Result<String, AllocError>
     ensures { IfOk result (λ line. string_bytes line ≡ line_of stop.now) }
 {
     match stop {
-        Stop::Read(ReadStop::Refused(refusal)) => refusal_line(alloc, refusal),
+        Stop::Usage => usage_line(alloc),
         other => other.line(alloc),
     }
 }
@@ -78,7 +67,7 @@ pub fn run<R: Threads + Sync, D: Desk, O: Sink, E: Sink>(
         (O.said out.old, O.said out.new) (E.said err.old, E.said err.new) result) }
 
     // What the words pose is answered, where no device fails.
-    ensures settles { IfSome (D.files desk.old) (λ files. (posed : Result (List ℕ) Refusal)
+    ensures settles { IfSome (D.files desk.old) (λ files. (posed : Posed)
         → Poses files (words_of words.now) posed
         → ¬ Rose (D.faults desk.old) (D.faults desk.new)
         → ¬ Rose (O.faults out.old) (O.faults out.new)

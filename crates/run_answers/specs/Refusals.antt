@@ -27,7 +27,6 @@ lock_status (faults.Dangling parent child) = statuses.Refused
 lock_status faults.OutOfMemory = statuses.BadInput
 
 abbrev pub status_of : Refusal → Status
-status_of refusals.Usage = statuses.Usage
 status_of refusals.DatabaseTooLarge = statuses.TooLarge
 status_of (refusals.BadDatabase fault) = statuses.BadInput
 status_of (refusals.MissingInput path) = statuses.BadInput
@@ -114,7 +113,6 @@ bad_certificate_line number fault =
 
 -- the line that is said
 unfoldable pub line_of : Refusal → List ℕ
-line_of refusals.Usage = line (codes "usage: spack_concretize COMMAND ARGUMENT..." ∷ [])
 line_of refusals.DatabaseTooLarge = line (codes "too large: database" ∷ [])
 line_of (refusals.BadDatabase fault) = bad_database_line fault
 line_of (refusals.MissingInput path) = missing_line path

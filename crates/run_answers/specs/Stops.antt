@@ -3,13 +3,12 @@ use Rattle.std.specs.Prelude.{ℕ, List, [], ◌∷◌, Result, Ok, Err, codes}
 use Rattle.run_answers.specs.Lines.{line}
 use Rattle.run_answers.specs.Refusals.{status_of, line_of}
 use Rattle.run_answers.specs.declared.refusal.Refusal.{Refusal}
-use Rattle.run_answers.specs.declared.refusal.Refusal.TheVariants.{Usage}
 use Rattle.run_answers.specs.declared.stop.ReadStop.{ReadStop}
 use Rattle.run_answers.specs.declared.stop.ReadStop.TheVariants as reads
 use Rattle.run_answers.specs.declared.stop.WriteStop.{WriteStop}
 use Rattle.run_answers.specs.declared.stop.WriteStop.TheVariants as writes
 use Rattle.run_answers.specs.declared.stop.Stop.{Stop}
-use Rattle.run_answers.specs.declared.stop.Stop.TheVariants.{Read, Write}
+use Rattle.run_answers.specs.declared.stop.Stop.TheVariants.{Usage, Read, Write}
 use Rattle.run_answers.specs.declared.status.Status.{Status}
 use Rattle.run_answers.specs.declared.status.Status.TheVariants as statuses
 
@@ -40,12 +39,10 @@ abbrev pub EndsInOutputFault : {T : Type 0} → Result T WriteStop → Type 0
 EndsInOutputFault (Err writes.Output) = Unit {0}
 EndsInOutputFault other = ⊥
 
--- a refusal of the words
-abbrev pub EndsInUsage : {T : Type 0} → Result T ReadStop → Type 0
-EndsInUsage (Err (reads.Refused Usage)) = Unit {0}
-EndsInUsage other = ⊥
-
 -- ---- what is answered and said
+
+unfoldable pub usage_line : List ℕ
+usage_line = line (codes "usage: spack_concretize COMMAND ARGUMENT..." ∷ [])
 
 unfoldable pub read_fault_line : List ℕ → List ℕ
 read_fault_line path = line (codes "read fault: " ∷ path ∷ [])
@@ -60,6 +57,7 @@ unfoldable pub no_memory_line : List ℕ
 no_memory_line = line (codes "no memory" ∷ [])
 
 abbrev pub stop_status : Stop → Status
+stop_status Usage = statuses.Usage
 stop_status (Read (reads.Refused refusal)) = status_of refusal
 stop_status (Read (reads.Fault path)) = statuses.ReadFault
 stop_status (Read reads.NoMemory) = statuses.NoMemory
@@ -68,6 +66,7 @@ stop_status (Write writes.Output) = statuses.WriteFault
 stop_status (Write writes.NoMemory) = statuses.NoMemory
 
 abbrev pub stop_line : Stop → List ℕ
+stop_line Usage = usage_line
 stop_line (Read (reads.Refused refusal)) = line_of refusal
 stop_line (Read (reads.Fault path)) = read_fault_line path
 stop_line (Read reads.NoMemory) = no_memory_line

@@ -17,8 +17,6 @@ use std::alloc::{AllocError, Global};
 /// Why input is refused.
 #[derive(Debug, Drop)]
 pub enum Refusal {
-    /// The words are no command.
-    Usage,
     /// The database is longer than 64 MiB.
     DatabaseTooLarge,
     /// The database has the fault.
@@ -72,7 +70,6 @@ impl Refusal {
         ensures { result ≡ status_of self.now }
     {
         match self {
-            Refusal::Usage => Status::Usage,
             Refusal::MissingInput(_)
             | Refusal::BadSettings(_)
             | Refusal::BadRecipe(_, _)
@@ -104,7 +101,6 @@ impl Refusal {
         ensures { IfOk result (λ line. string_bytes line ≡ lines.line_of self.now) }
     {
         match self {
-            Refusal::Usage => { format!(in alloc; "usage: spack_concretize COMMAND ARGUMENT...\n") }
             Refusal::DatabaseTooLarge => format!(in alloc; "too large: database\n"),
             Refusal::BadDatabase(fault) => bad_database_line(alloc, fault),
             Refusal::MissingInput(path) => missing_line(alloc, path.as_str()),

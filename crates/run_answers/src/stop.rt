@@ -52,8 +52,18 @@ impl From<AllocError> for WriteStop {
 /// Why a run stops.
 #[derive(Debug, Drop)]
 pub enum Stop {
+    /// The words are no command.
+    Usage,
     Read(ReadStop),
     Write(WriteStop),
+}
+
+impl From<AllocError> for Stop {
+    ghost from_gives = { λ _ stop. stop ≡ stops.Read reads.NoMemory };
+
+    fn from(_: AllocError) -> Stop {
+        Stop::Read(ReadStop::NoMemory)
+    }
 }
 
 impl From<ReadStop> for Stop {
@@ -77,6 +87,7 @@ impl Stop {
         ensures { result ≡ stop_status self.now }
     {
         match self {
+            Stop::Usage => Status::Usage,
             Stop::Read(ReadStop::Refused(refusal)) => refusal.status(),
             Stop::Read(ReadStop::Fault(_)) => Status::ReadFault,
             Stop::Write(WriteStop::Put(_) | WriteStop::Output) => Status::WriteFault,
@@ -89,6 +100,7 @@ impl Stop {
         ensures { IfOk result (λ line. string_bytes line ≡ stop_line self.now) }
     {
         match self {
+            Stop::Usage => usage_line(alloc),
             Stop::Read(ReadStop::Refused(refusal)) => refusal.line(alloc),
             Stop::Read(ReadStop::Fault(path)) => read_fault_line(alloc, path.as_str()),
             Stop::Write(WriteStop::Put(path)) => write_fault_line(alloc, path.as_str()),
@@ -98,6 +110,13 @@ impl Stop {
             }
         }
     }
+}
+
+#[tactic(auto, unfolding(crate::specs::Stops::usage_line))]
+fn usage_line(alloc: Global) -> Result<String, AllocError>
+    ensures { IfOk result (λ line. string_bytes line ≡ lines.usage_line) }
+{
+    String::from_str(alloc, "usage: spack_concretize COMMAND ARGUMENT...\n")
 }
 
 #[tactic(auto, unfolding(crate::specs::Stops::read_fault_line))]

@@ -19,7 +19,7 @@ pub use Rattle.run_words.specs.ReadStop
 pub use Rattle.run_words.specs.WriteStop
 pub use Rattle.run_words.specs.Stop
 pub use Rattle.run_words.specs.Words
-pub use Rattle.run_words.specs.Orders
+pub use Rattle.run_words.specs.Reading
 pub use Rattle.run_words.specs.declared.command.Work
 pub mod Installed
 pub use Rattle.file_limits.specs.Values

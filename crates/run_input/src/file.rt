@@ -1,7 +1,7 @@
 //! The files that a run reads as a whole.
 
 ghost use Rattle.std.specs.Prelude.{◌≡◌, Err};
-ghost use Rattle.run_answers.specs.Stops.{EndsInReadFault, EndsInUsage};
+ghost use Rattle.run_answers.specs.Stops.{EndsInReadFault};
 ghost use Rattle.run_input.specs.Bytes.{limit_of, too_large};
 
 use run_answers::{ReadStop, Refusal};
@@ -32,7 +32,6 @@ impl WholeFile {
     /// What is answered where it has more.
     pub(crate) fn refused(self) -> Result<Vec<u8>, ReadStop>
         ensures refusal { result ≡ Err (ReadStop.Refused (too_large self)) }
-        ensures no_usage { EndsInUsage result → ⊥ }
         ensures no_fault { EndsInReadFault result → ⊥ }
     {
         match self {

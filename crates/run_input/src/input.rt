@@ -10,7 +10,7 @@ ghost use Rattle.table_plan.specs.Kept.{has_right_values};
 ghost use Rattle.run_input.specs.Values.{are_valued};
 ghost use Rattle.run_input.specs.Values.{has_values};
 ghost use Rattle.run_input.specs.Stages.{Is};
-ghost use Rattle.run_input.specs.Stops.{Gives, EndsByInput, EndsInReadFault, EndsInUsage};
+ghost use Rattle.run_input.specs.Stops.{Gives, EndsByInput, EndsInReadFault};
 ghost use Rattle.run_input.specs.Roots.{RootsOf, are_named};
 ghost use Rattle.run_input.specs.Inputs.{posed_by, closed_of, InputBy, Asked, Behind, IsPosed, OverSettings, Reads, FailsAtInput};
 
@@ -58,7 +58,6 @@ fn posed(
     ensures roots { IfOk result (λ problem. problem.roots ≡ roots) }
     ensures values { IfOk result (λ problem. has_right_values problem ≡ true) }
     ensures limits { IfOk result (λ problem. is_within_limits problem ≡ true) }
-    ensures no_usage { EndsInUsage result → ⊥ }
     ensures no_fault { EndsInReadFault result → ⊥ }
 {
     match assemble(alloc, recipes, settings, database, roots) {
@@ -80,7 +79,6 @@ fn closed(alloc: Global, problem: Problem) -> Result<Input, ReadStop>
     ensures read { Gives result (Is (closed_of problem)) }
     ensures roots { IfOk result (λ input. input.problem.roots ≡ problem.roots) }
     ensures posed { IfOk result IsPosed }
-    ensures no_usage { EndsInUsage result → ⊥ }
     ensures no_fault { EndsInReadFault result → ⊥ }
 {
     match closure(alloc, &problem) {
@@ -109,7 +107,6 @@ fn put_together(
     ensures read { Gives result (InputBy recipes settings database roots) }
     ensures roots { IfOk result (λ input. input.problem.roots ≡ roots) }
     ensures posed { IfOk result IsPosed }
-    ensures no_usage { EndsInUsage result → ⊥ }
     ensures no_fault { EndsInReadFault result → ⊥ }
 {
     let problem = posed(alloc, recipes, settings, database, roots)?;
@@ -134,7 +131,6 @@ fn read_asked(
     ensures read { Gives result (Asked recipes settings spec.now database) }
     ensures roots { IfOk result (λ input. RootsOf spec.now (Ok input.problem.roots)) }
     ensures posed { IfOk result IsPosed }
-    ensures no_usage { EndsInUsage result → ⊥ }
     ensures no_fault { EndsInReadFault result → ⊥ }
 {
     match read_roots(alloc, spec) {
@@ -162,7 +158,6 @@ fn read_behind<D: Desk>(
     ensures roots { IfOk result (λ input. RootsOf command.now.spec (Ok input.problem.roots)) }
     ensures posed { IfOk result IsPosed }
     ensures path { FailsAtInput (D.files desk.old) command.now result }
-    ensures no_usage { EndsInUsage result → ⊥ }
     ensures same { D.files desk.new ≡ D.files desk.old }
     ensures cause { Counts (D.faults desk.old) (D.faults desk.new) (EndsInReadFault result) }
     ensures steady { EndsByInput result → D.faults desk.new ≡ D.faults desk.old }
@@ -190,7 +185,6 @@ fn read_over<R: Threads + Sync, D: Desk>(
     ensures roots { IfOk result (λ input. RootsOf command.now.spec (Ok input.problem.roots)) }
     ensures posed { IfOk result IsPosed }
     ensures path { FailsAtInput (D.files desk.old) command.now result }
-    ensures no_usage { EndsInUsage result → ⊥ }
     ensures same { D.files desk.new ≡ D.files desk.old }
     ensures cause { Counts (D.faults desk.old) (D.faults desk.new) (EndsInReadFault result) }
     ensures steady { EndsByInput result → D.faults desk.new ≡ D.faults desk.old }
@@ -219,7 +213,6 @@ pub fn read_input<R: Threads + Sync, D: Desk>(
     ensures roots { IfOk result (λ input. RootsOf command.now.spec (Ok input.problem.roots)) }
     ensures posed { IfOk result IsPosed }
     ensures path { FailsAtInput (D.files desk.old) command.now result }
-    ensures no_usage { EndsInUsage result → ⊥ }
     ensures same { D.files desk.new ≡ D.files desk.old }
     ensures cause { Counts (D.faults desk.old) (D.faults desk.new) (EndsInReadFault result) }
     ensures steady { EndsByInput result → D.faults desk.new ≡ D.faults desk.old }

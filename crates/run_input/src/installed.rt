@@ -5,7 +5,7 @@ ghost use Rattle.std.specs.List.{list_all};
 ghost use Rattle.file_limits.specs.Values.{has_values};
 ghost use Rattle.problem.specs.Limits.{are_few_records};
 ghost use Rattle.outside_desk.specs.Causes.{Counts};
-ghost use Rattle.run_words.specs.Stops.{Gives, EndsByInput, EndsInReadFault, EndsInUsage};
+ghost use Rattle.run_words.specs.Stops.{Gives, EndsByInput, EndsInReadFault};
 ghost use Rattle.run_words.specs.Words.{is_dash};
 ghost use Rattle.run_input.specs.Installed.{DatabaseIn, DatabaseAt, FailsThere};
 
@@ -23,7 +23,6 @@ fn database_in(alloc: Global, bytes: &[u8]) -> Result<Database, ReadStop>
     ensures read { Gives result (DatabaseIn bytes.now) }
     ensures values { IfOk result (λ database. list_all has_values database ≡ true) }
     ensures few { IfOk result (λ database. are_few_records database ≡ true) }
-    ensures no_usage { EndsInUsage result → ⊥ }
     ensures no_fault { EndsInReadFault result → ⊥ }
 {
     value_laws();
@@ -50,7 +49,6 @@ pub fn read_installed<D: Desk>(
     ensures values { IfOk result (λ database. list_all has_values database ≡ true) }
     ensures few { IfOk result (λ database. are_few_records database ≡ true) }
     ensures path { FailsThere path.now result }
-    ensures no_usage { EndsInUsage result → ⊥ }
     ensures same { D.files desk.new ≡ D.files desk.old }
     ensures cause { Counts (D.faults desk.old) (D.faults desk.new) (EndsInReadFault result) }
     ensures steady { EndsByInput result → D.faults desk.new ≡ D.faults desk.old }

@@ -68,7 +68,7 @@ pub use run_answers::{ReadStop, Refusal};
 pub use run_database_theorems::installed_laws;
 pub use run_input_theorems::input_laws;
 // What crates above answer with.
-pub use run_words::{Command, Status, Stop, Work, WriteStop, is_dash, read_order};
+pub use run_words::{Command, Status, Stop, Work, WriteStop, is_dash, read_command};
 pub use site::read_site;
 pub use sources::Sources;
 pub use theorems::site_laws;

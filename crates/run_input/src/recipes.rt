@@ -1,14 +1,13 @@
 //! The recipes of files, and that their names are not provided.
 
-ghost use Rattle.std.specs.Prelude.{◌≡◌, ◌≢◌, ◌≤◌, ◌^◌, true, map, Err, IfOk};
+ghost use Rattle.std.specs.Prelude.{◌≡◌, ◌≤◌, ◌^◌, true, map, Err, IfOk};
 ghost use Rattle.std.specs.List.{list_all};
 ghost use Rattle.recipe_data.specs.Right.{is_right_recipe};
 ghost use Rattle.problem.specs.Limits.{are_few_rows};
 ghost use Rattle.virtuals.specs.Virtuals.{name_of};
 ghost use Rattle.recipe_reader.specs.Files.{FailsAt, IsFirstFault};
-ghost use Rattle.run_input.specs.Refusal.{Refusal};
 ghost use Rattle.run_input.specs.Stages.{Is};
-ghost use Rattle.run_input.specs.Stops.{Gives, EndsInReadFault, EndsInUsage};
+ghost use Rattle.run_input.specs.Stops.{Gives, EndsInReadFault};
 ghost use Rattle.run_input.specs.Sources.{bytes_in, source_of};
 ghost use Rattle.run_input.specs.Recipes.{recipes_of};
 ghost use Rattle.run_input.specs.Inputs.{apart_of};
@@ -32,7 +31,6 @@ fn refused(
 ) -> Result<Refusal, AllocError>
     requires { IsFirstFault place fault files.now }
     ensures refusal { IfOk result (λ refusal. recipes_of (map source_of files.now) ≡ Err refusal) }
-    ensures no_usage { IfOk result (λ refusal. refusal ≢ Refusal.Usage) }
 {
     match files.get(place as usize) {
         Some(file) => Ok(Refusal::BadRecipe(file.name.duplicate(alloc)?, fault)),
@@ -50,7 +48,6 @@ fn stop_at(
     requires { FailsAt place fault files.now }
     ensures read { Gives result (Is (recipes_of (map source_of files.now))) }
     ensures stops { IfOk result (λ _. ⊥) }
-    ensures no_usage { EndsInUsage result → ⊥ }
     ensures no_fault { EndsInReadFault result → ⊥ }
 {
     match fault {
@@ -72,7 +69,6 @@ pub fn recipes_of<R: Threads + Sync>(
     ensures few_rows { IfOk result (λ recipes. are_few_rows recipes ≡ true) }
     ensures names { IfOk result (λ recipes. map name_of recipes ≡ map (λ source. source.0)
         (map source_of files.now)) }
-    ensures no_usage { EndsInUsage result → ⊥ }
     ensures no_fault { EndsInReadFault result → ⊥ }
 {
     size_laws();
@@ -86,7 +82,6 @@ pub fn recipes_of<R: Threads + Sync>(
 #[tactic(auto, unfolding(crate::specs::Inputs::apart_of))]
 pub fn check_apart(alloc: Global, recipes: &[Recipe]) -> Result<(), ReadStop>
     ensures read { Gives result (Is (apart_of recipes.now)) }
-    ensures no_usage { EndsInUsage result → ⊥ }
     ensures no_fault { EndsInReadFault result → ⊥ }
 {
     match Providers::new(alloc, recipes) {

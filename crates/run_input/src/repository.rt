@@ -7,7 +7,7 @@ ghost use Rattle.recipe_data.specs.Right.{is_right_recipe};
 ghost use Rattle.problem.specs.Limits.{are_few_rows};
 ghost use Rattle.virtuals.specs.Virtuals as virtuals;
 ghost use Rattle.virtuals.specs.Virtuals.{AreInOrder};
-ghost use Rattle.run_input.specs.Stops.{Gives, EndsByInput, EndsInReadFault, EndsInUsage};
+ghost use Rattle.run_input.specs.Stops.{Gives, EndsByInput, EndsInReadFault};
 ghost use Rattle.run_input.specs.Paths.{FailsInside};
 ghost use Rattle.variant_values.specs.Texts.{IsInByteOrder};
 ghost use Rattle.run_input.specs.Sources.{bytes_in, names_of, source_of};
@@ -34,7 +34,6 @@ fn read_over<R: Threads + Sync>(
     ensures few_rows { IfOk result (λ recipes. are_few_rows recipes ≡ true) }
     ensures names { IfOk result (λ recipes. map virtuals.name_of recipes ≡ map (λ source. source.0)
         (map source_of files.now)) }
-    ensures no_usage { EndsInUsage result → ⊥ }
     ensures no_fault { EndsInReadFault result → ⊥ }
 {
     let recipes = recipes_of(rt, alloc, files)?;
@@ -55,7 +54,6 @@ fn read_pile<R: Threads + Sync>(
     ensures order { IfOk result (λ recipes. AreInOrder recipes) }
     ensures right { IfOk result (λ recipes. list_all is_right_recipe recipes ≡ true) }
     ensures few_rows { IfOk result (λ recipes. are_few_rows recipes ≡ true) }
-    ensures no_usage { EndsInUsage result → ⊥ }
     ensures no_fault { EndsInReadFault result → ⊥ }
 {
     match read_over(rt, alloc, sources.as_slice()) {
@@ -76,7 +74,6 @@ pub fn read_repository<R: Threads + Sync, D: Desk>(
     ensures right { IfOk result (λ recipes. list_all is_right_recipe recipes ≡ true) }
     ensures few_rows { IfOk result (λ recipes. are_few_rows recipes ≡ true) }
     ensures path { FailsInside (D.files desk.old) repo.now result }
-    ensures no_usage { EndsInUsage result → ⊥ }
     ensures same { D.files desk.new ≡ D.files desk.old }
     ensures cause { Counts (D.faults desk.old) (D.faults desk.new) (EndsInReadFault result) }
     ensures steady { EndsByInput result → D.faults desk.new ≡ D.faults desk.old }

@@ -2,7 +2,7 @@
 
 ghost use Rattle.std.specs.Prelude.{◌≡◌, true, IfOk};
 ghost use Rattle.run_input.specs.Stages.{Is, Then};
-ghost use Rattle.run_input.specs.Stops.{Gives, EndsInReadFault, EndsInUsage};
+ghost use Rattle.run_input.specs.Stops.{Gives, EndsInReadFault};
 ghost use Rattle.run_input.specs.Roots.{SpecsOf, RootsOf, are_named, roots_of};
 
 use crate::{ReadStop, Refusal};
@@ -21,7 +21,6 @@ const ROOTS_LIMIT: usize = 64;
 fn specs_of(alloc: Global, text: &str) -> Result<List<Spec>, ReadStop>
     ensures read { Gives result (SpecsOf text.now) }
     ensures named { IfOk result (λ specs. are_named specs ≡ true) }
-    ensures no_usage { EndsInUsage result → ⊥ }
     ensures no_fault { EndsInReadFault result → ⊥ }
 {
     writing_laws();
@@ -37,7 +36,6 @@ fn specs_of(alloc: Global, text: &str) -> Result<List<Spec>, ReadStop>
 fn checked(specs: List<Spec>) -> Result<List<Spec>, ReadStop>
     ensures read { Gives result (Is (roots_of specs)) }
     ensures same { IfOk result (λ roots. roots ≡ specs) }
-    ensures no_usage { EndsInUsage result → ⊥ }
     ensures no_fault { EndsInReadFault result → ⊥ }
 {
     if specs.as_slice().len() > ROOTS_LIMIT {
@@ -50,7 +48,6 @@ fn checked(specs: List<Spec>) -> Result<List<Spec>, ReadStop>
 fn roots_in(alloc: Global, text: &str) -> Result<List<Spec>, ReadStop>
     ensures read { Gives result (Then (SpecsOf text.now) (λ specs. Is (roots_of specs))) }
     ensures named { IfOk result (λ roots. are_named roots ≡ true) }
-    ensures no_usage { EndsInUsage result → ⊥ }
     ensures no_fault { EndsInReadFault result → ⊥ }
 {
     let specs = specs_of(alloc, text)?;
@@ -61,7 +58,6 @@ fn roots_in(alloc: Global, text: &str) -> Result<List<Spec>, ReadStop>
 pub fn read_roots(alloc: Global, text: &str) -> Result<List<Spec>, ReadStop>
     ensures read { Gives result (RootsOf text.now) }
     ensures named { IfOk result (λ roots. are_named roots ≡ true) }
-    ensures no_usage { EndsInUsage result → ⊥ }
     ensures no_fault { EndsInReadFault result → ⊥ }
 {
     if text.len() > SPECS_LIMIT {

@@ -4,7 +4,7 @@ ghost use Rattle.std.specs.Prelude.{◌≡◌, ◌≤◌, ◌^◌, true, false, 
 ghost use Rattle.settings_reader.specs.Values.{are_valued};
 ghost use Rattle.problem.specs.Limits.{are_small};
 ghost use Rattle.outside_desk.specs.Causes.{Counts};
-ghost use Rattle.run_words.specs.Stops.{Gives, EndsByInput, EndsInReadFault, EndsInUsage};
+ghost use Rattle.run_words.specs.Stops.{Gives, EndsByInput, EndsInReadFault};
 ghost use Rattle.run_words.specs.Words.{is_dash};
 ghost use Rattle.run_input.specs.Sites.{SettingsIn, SettingsAt, FailsThere};
 
@@ -22,7 +22,6 @@ fn settings_in(alloc: Global, bytes: &[u8]) -> Result<Settings, ReadStop>
     ensures read { Gives result (SettingsIn bytes.now) }
     ensures values { IfOk result (λ settings. are_valued settings ≡ true) }
     ensures small { IfOk result (λ settings. are_small settings ≡ true) }
-    ensures no_usage { EndsInUsage result → ⊥ }
     ensures no_fault { EndsInReadFault result → ⊥ }
 {
     settings_laws();
@@ -45,7 +44,6 @@ pub fn read_site<D: Desk>(alloc: Global, desk: &mut D, path: &str) -> Result<Set
     ensures values { IfOk result (λ settings. are_valued settings ≡ true) }
     ensures small { IfOk result (λ settings. are_small settings ≡ true) }
     ensures path { FailsThere path.now result }
-    ensures no_usage { EndsInUsage result → ⊥ }
     ensures same { D.files desk.new ≡ D.files desk.old }
     ensures cause { Counts (D.faults desk.old) (D.faults desk.new) (EndsInReadFault result) }
     ensures steady { EndsByInput result → D.faults desk.new ≡ D.faults desk.old }

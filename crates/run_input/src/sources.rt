@@ -1,7 +1,7 @@
 //! Recipe files.
 
 ghost use Rattle.std.specs.Prelude.{◌≡◌, ◌≤◌, ◌<◌, ◌^◌, ◌∷◌, ◌++◌, [], ℕ, List, map, length, OnErr, OnOk};
-ghost use Rattle.run_answers.specs.Stops.{EndsInReadFault, EndsInUsage};
+ghost use Rattle.run_answers.specs.Stops.{EndsInReadFault};
 ghost use Rattle.run_input.specs.Sources.{Leaves, bytes_in, no_files, source_of, with_file};
 
 use plain_data::{List, Word};
@@ -68,7 +68,6 @@ impl Sources {
     pub(crate) fn add(&mut self, alloc: Global, name: &str, bytes: Vec<u8>) -> Result<(), ReadStop>
         ensures left { Leaves (with_file self.old name.now bytes.items) self.new result }
         ensures no_fault { EndsInReadFault result → ⊥ }
-        ensures no_usage { EndsInUsage result → ⊥ }
     {
         if self.files.as_slice().len() >= FILES_LIMIT {
             return Err(ReadStop::Refused(Refusal::TooManyRecipes));
@@ -92,7 +91,6 @@ impl Sources {
             → Leaves (with_file self.now name.now bytes) self.now result }
         ensures stops { OnOk result ⊥ }
         ensures no_fault { EndsInReadFault result → ⊥ }
-        ensures no_usage { EndsInUsage result → ⊥ }
     {
         if self.files.as_slice().len() >= FILES_LIMIT {
             return Err(ReadStop::Refused(Refusal::TooManyRecipes));

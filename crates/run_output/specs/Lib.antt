@@ -21,7 +21,7 @@ pub use Rattle.run_task.specs.ReadStop
 pub use Rattle.run_task.specs.WriteStop
 pub use Rattle.run_task.specs.Stop
 pub use Rattle.run_task.specs.Words
-pub use Rattle.run_task.specs.Orders
+pub use Rattle.run_task.specs.Reading
 pub use Rattle.run_task.specs.Work
 pub use Rattle.run_task.specs.Input
 pub use Rattle.run_task.specs.Roots

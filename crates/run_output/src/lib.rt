@@ -30,6 +30,6 @@ pub use proof_log::Log;
 pub use report::worked_texts;
 pub use run_task::{
     Command, Progress, ReadStop, Refusal, Stage, Status, Stop, Task, Untold, Work, WriteStop,
-    read_order, read_task, task_laws,
+    read_command, read_task, task_laws,
 };
 pub use theorems::budget_laws;

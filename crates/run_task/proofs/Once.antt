@@ -1,11 +1,11 @@
 -- The words name one task at most.
-use Rattle.std.proofs.Common.{ℕ, List, Option, Some, None, Ok}
+use Rattle.std.proofs.Common.{◌≡◌, sym, subst, ◌∙◌, ℕ, List, Option, Some, None, Result, Ok}
 use Rattle.outside_desk.specs.Files.{Files}
 use Rattle.run_task.specs.Problems.{Problem}
 use Rattle.run_input.specs.Stages.{Is}
 use Rattle.run_input.proofs.StageLaws.{IsOne, one_is, one_then}
-use Rattle.run_input.specs.Words.{Command}
-use Rattle.run_input.specs.Orders.{command_in}
+use Rattle.run_input.specs.Refusal.{Refusal}
+use Rattle.run_input.specs.Words.{Command, command_of}
 use Rattle.run_input.specs.Work.{Work}
 use Rattle.run_input.specs.Work.TheVariants as works
 use Rattle.run_input.specs.Inputs.{Reads}
@@ -13,6 +13,7 @@ use Rattle.run_input.specs.declared.input.Input.{Input}
 use Rattle.run_task.specs.Verdicts.{Judges}
 use Rattle.run_task.specs.Certificates.{certified_at, log_verdict}
 use Rattle.run_task.specs.Tasks.{AcceptanceOf, TaskBy, Named, Poses, files_for}
+use Rattle.run_task.specs.declared.task.Task.{Task}
 use Rattle.run_task.specs.declared.task.Task.TheVariants as tasks
 
 abbrev OneVerdict : Type 0
@@ -35,9 +36,19 @@ one_by one_verdict works.Refute files command input = one_acceptance files comma
 one_by one_verdict works.Explain files command input = one_is (Ok (tasks.Explain input))
 one_by one_verdict (works.Trial packages seed) files command input = one_is (Ok (tasks.Try input))
 
+some_same : {A : Type 0} (x y : A) → (let T : Type 0 = Option A in let a : T = Some x in let b : T = Some y in a ≡ b) → x ≡ y
+some_same x y e = cc
+
+one_named : ((files : Files) (command : Command) → IsOne (Reads files command)) → OneVerdict → (files : Files) (command : Command)
+    → IsOne (Named log_verdict files command)
+one_named one_read one_verdict files command =
+    let over = files_for command.work files in
+    one_then (Reads over command) (TaskBy log_verdict command.work over command) (one_read over command)
+    (one_by one_verdict command.work over command)
+
+-- the words are one command
 pub one_posed : ((files : Files) (command : Command) → IsOne (Reads files command)) → OneVerdict → (files : Files) (words : List (List ℕ))
-    → IsOne (Poses log_verdict files words)
-one_posed one_read one_verdict files words =
-    one_then (Is (command_in words)) (Named log_verdict files) (one_is (command_in words))
-    (λ command. let over = files_for command.work files in
-    one_then (Reads over command) (TaskBy log_verdict command.work over command) (one_read over command) (one_by one_verdict command.work over command))
+    (a b : Result Task Refusal) → Poses log_verdict files words a → Poses log_verdict files words b → a ≡ b
+one_posed one_read one_verdict files words a b (command, is, named) (other, as_well, named_too) =
+    one_named one_read one_verdict files command a b named
+    (subst (λ (c : Command). Named log_verdict files c b) (some_same other command (sym as_well ∙ is)) named_too)

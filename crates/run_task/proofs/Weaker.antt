@@ -4,7 +4,6 @@ use Rattle.outside_desk.specs.Files.{Files}
 use Rattle.run_input.specs.Stages.{Is, Then}
 use Rattle.run_input.specs.Refusal.{Refusal}
 use Rattle.run_input.specs.Words.{Command}
-use Rattle.run_input.specs.Orders.{command_in}
 use Rattle.run_input.specs.Work.{Work}
 use Rattle.run_input.specs.Work.TheVariants as works
 use Rattle.run_input.specs.Inputs.{Reads}
@@ -13,7 +12,7 @@ use Rattle.run_task.specs.Problems.{Problem}
 use Rattle.run_task.specs.Verdicts.{Judges}
 use Rattle.run_task.specs.CertificateVerdicts.{CertificateVerdicts, MayBeSaid, any_verdict, no_verdict}
 use Rattle.run_task.specs.Certificates.{certified_at, log_verdict}
-use Rattle.run_task.specs.Tasks.{AcceptanceOf, Named, Poses, TaskBy, files_for}
+use Rattle.run_task.specs.Tasks.{AcceptanceOf, Poses, TaskBy, files_for}
 use Rattle.run_task.specs.declared.task.Task.{Task}
 use Rattle.run_task.specs.declared.task.Task.TheVariants as tasks
 
@@ -50,11 +49,13 @@ module _ (some more : CertificateVerdicts) (allows : Allows some more) where
   by_work (works.Trial packages seed) files command input r is = is
 
   poses : (files : Files) (words : List (List ℕ)) (r : Result Task Refusal) → Poses some files words r → Poses more files words r
-  poses files words =
-      then_more (Is (command_in words)) (Is (command_in words)) (Named some files) (Named more files) (λ s is. is)
-      (λ command. let over = files_for command.work files in
-      then_more (Reads over command) (Reads over command) (TaskBy some command.work over command) (TaskBy more command.work over command)
-      (λ s read. read) (by_work command.work over command))
+  poses files words r (command, is, named) =
+      let over = files_for command.work files in (
+        command,
+        is,
+        then_more (Reads over command) (Reads over command) (TaskBy some command.work over command)
+            (TaskBy more command.work over command) (λ s read. read) (by_work command.work over command) r named,
+      )
 
 -- each verdict of a log is some verdict
 pub any_posed : ((files : Files) (path : List ℕ) (problem : Problem) (numbers : Option (List ℕ))

@@ -31,7 +31,7 @@ pub use Rattle.run_input.specs.ReadStop
 pub use Rattle.run_input.specs.WriteStop
 pub use Rattle.run_input.specs.Stop
 pub use Rattle.run_input.specs.Words
-pub use Rattle.run_input.specs.Orders
+pub use Rattle.run_input.specs.Reading
 pub use Rattle.run_input.specs.Work
 pub use Rattle.run_input.specs.Inputs
 pub use Rattle.run_input.specs.Roots

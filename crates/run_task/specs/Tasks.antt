@@ -7,8 +7,7 @@ use Rattle.run_input.specs.Stages.{Is, Then}
 use Rattle.run_input.specs.Refusal.{Refusal}
 use Rattle.run_input.specs.ReadStop.{ReadStop}
 use Rattle.run_input.specs.ReadStop.TheVariants as reads
-use Rattle.run_input.specs.Words.{Command}
-use Rattle.run_input.specs.Orders.{command_in}
+use Rattle.run_input.specs.Words.{Command, command_of}
 use Rattle.run_input.specs.Work.{Work}
 use Rattle.run_input.specs.Work.TheVariants as works
 use Rattle.run_input.specs.Inputs.{Reads, IsInputPath, IsPosed}
@@ -68,9 +67,9 @@ module _ (verdicts : CertificateVerdicts) where
   abbrev pub Named : Files → Command → Result Task Refusal → Type 0
   Named files command = Over (files_for command.work files) command
 
-  -- the task of the words over the files
+  -- the task of the words over the files: words that are no command pose nothing
   abbrev pub Poses : Files → List (List ℕ) → Result Task Refusal → Type 0
-  Poses files words = Then (Is (command_in words)) (Named files)
+  Poses files words posed = (command : Command) × (command_of words ≡ Some command) × Named files command posed
 
 -- the task is of this work
 abbrev pub IsOf : Work → Task → Type 0

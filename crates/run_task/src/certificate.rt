@@ -13,7 +13,7 @@ ghost use Rattle.best_graph.specs.OfProblemEncoding.Encodings.{AreRules, IsEncod
 ghost use Rattle.best_graph.specs.OfProblemEncoding.Kept.{has_right_values};
 ghost use Rattle.best_graph.specs.OfProblemEncoding.Limits.{is_within_limits};
 ghost use Rattle.run_answers.specs.Stages.{Is};
-ghost use Rattle.run_answers.specs.Stops.{Gives, EndsByInput, EndsInReadFault, EndsInUsage};
+ghost use Rattle.run_answers.specs.Stops.{Gives, EndsByInput, EndsInReadFault};
 ghost use Rattle.run_task.specs.Certificates.{said_at, certified_at, ShowsOf};
 ghost use Rattle.run_task.specs.Pieces.{FailsThere};
 
@@ -51,7 +51,6 @@ fn check_text<R: Threads + Sync, D: Desk>(
     ensures read { (s : State) → IsAfter s [] checker.old
         → IfSome (D.files desk.old) (λ files. Gives result (Is (said_at files path.now s))) }
     ensures path { FailsThere path.now result }
-    ensures no_usage { EndsInUsage result → ⊥ }
     ensures same { D.files desk.new ≡ D.files desk.old }
     ensures cause { Counts (D.faults desk.old) (D.faults desk.new) (EndsInReadFault result) }
     ensures steady { EndsByInput result → D.faults desk.new ≡ D.faults desk.old }
@@ -79,7 +78,6 @@ fn check_log<R: Threads + Sync, D: Desk>(
         (begun clauses.now bits.now (option_map (λ v. v.now) values.entry))))) }
     ensures in_order { OnOk result (AllClauses (clauses_of clauses.now.entries)) }
     ensures path { FailsThere path.now result }
-    ensures no_usage { EndsInUsage result → ⊥ }
     ensures same { D.files desk.new ≡ D.files desk.old }
     ensures cause { Counts (D.faults desk.old) (D.faults desk.new) (EndsInReadFault result) }
     ensures steady { EndsByInput result → D.faults desk.new ≡ D.faults desk.old }
@@ -104,7 +102,6 @@ fn check_refutation<R: Threads + Sync, D: Desk>(
         _problem.now None))) }
     ensures shown { OnOk result (IfSome (D.files desk.old) (λ files. ShowsOf _problem.now None)) }
     ensures path { FailsThere path.now result }
-    ensures no_usage { EndsInUsage result → ⊥ }
     ensures same { D.files desk.new ≡ D.files desk.old }
     ensures cause { Counts (D.faults desk.old) (D.faults desk.new) (EndsInReadFault result) }
     ensures steady { EndsByInput result → D.faults desk.new ≡ D.faults desk.old }
@@ -132,7 +129,6 @@ fn check_costs<R: Threads + Sync, D: Desk>(
     ensures shown { OnOk result (IfSome (D.files desk.old)
         (λ files. ShowsOf _problem.now (Some numbers.now))) }
     ensures path { FailsThere path.now result }
-    ensures no_usage { EndsInUsage result → ⊥ }
     ensures same { D.files desk.new ≡ D.files desk.old }
     ensures cause { Counts (D.faults desk.old) (D.faults desk.new) (EndsInReadFault result) }
     ensures steady { EndsByInput result → D.faults desk.new ≡ D.faults desk.old }
@@ -185,7 +181,6 @@ pub fn read_certificate<R: Threads + Sync, D: Desk>(
         (λ files. ShowsOf problem.now
         (option_map (λ n. n.now) numbers.entry))) }
     ensures path { FailsThere path.now result }
-    ensures no_usage { EndsInUsage result → ⊥ }
     ensures same { D.files desk.new ≡ D.files desk.old }
     ensures cause { Counts (D.faults desk.old) (D.faults desk.new) (EndsInReadFault result) }
     ensures steady { EndsByInput result → D.faults desk.new ≡ D.faults desk.old }

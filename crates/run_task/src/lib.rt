@@ -56,7 +56,7 @@ pub use certificate_again_theorems::again_laws;
 pub use cost_vector::vector;
 pub use run_certificate_theorems::certificate_laws;
 pub use run_input::{
-    Command, Input, ReadStop, Refusal, Status, Stop, Work, WriteStop, is_dash, read_order,
+    Command, Input, ReadStop, Refusal, Status, Stop, Work, WriteStop, is_dash, read_command,
 };
 pub use run_task_theorems::task_laws;
 pub use task::{Task, read_task};

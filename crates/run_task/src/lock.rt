@@ -2,7 +2,7 @@
 
 ghost use Rattle.std.specs.Prelude.{◌≡◌, IfSome};
 ghost use Rattle.outside_desk.specs.Causes.{Counts};
-ghost use Rattle.run_input.specs.Stops.{Gives, EndsByInput, EndsInReadFault, EndsInUsage};
+ghost use Rattle.run_input.specs.Stops.{Gives, EndsByInput, EndsInReadFault};
 ghost use Rattle.run_input.specs.Bytes.{FailsAt};
 ghost use Rattle.run_task.specs.Locks.{LockIn, LockAt};
 
@@ -14,7 +14,6 @@ use std::alloc::Global;
 /// The lock file that bytes are.
 fn lock_in(alloc: Global, bytes: &[u8]) -> Result<Lock, ReadStop>
     ensures read { Gives result (LockIn bytes.now) }
-    ensures no_usage { EndsInUsage result → ⊥ }
     ensures no_fault { EndsInReadFault result → ⊥ }
 {
     match read_lock(alloc, bytes) {
@@ -33,7 +32,6 @@ fn lock_in(alloc: Global, bytes: &[u8]) -> Result<Lock, ReadStop>
 pub fn read_lock_at<D: Desk>(alloc: Global, desk: &mut D, path: &str) -> Result<Lock, ReadStop>
     ensures read { IfSome (D.files desk.old) (λ files. Gives result (LockAt files path.now)) }
     ensures path { FailsAt path.now result }
-    ensures no_usage { EndsInUsage result → ⊥ }
     ensures same { D.files desk.new ≡ D.files desk.old }
     ensures cause { Counts (D.faults desk.old) (D.faults desk.new) (EndsInReadFault result) }
     ensures steady { EndsByInput result → D.faults desk.new ≡ D.faults desk.old }

@@ -4,7 +4,7 @@ ghost use Rattle.std.specs.Prelude.{◌≡◌, true, Some, None, IfOk, IfSome, O
 ghost use Rattle.std.specs.Option.{option_map};
 ghost use Rattle.outside_desk.specs.Causes.{Counts};
 ghost use Rattle.run_input.specs.Inputs.{IsPosed};
-ghost use Rattle.run_input.specs.Stops.{Gives, EndsByInput, EndsInReadFault, EndsInUsage};
+ghost use Rattle.run_input.specs.Stops.{Gives, EndsByInput, EndsInReadFault};
 ghost use Rattle.run_task.specs.Certificates.{ShowsOf, log_verdict};
 ghost use Rattle.run_task.specs.Shown.{IsBestLock};
 ghost use Rattle.run_task.specs.Tasks.{AcceptanceOf, CheckOf, ReportOf, IsReportTask, IsYes, FailsAtEither};
@@ -28,7 +28,6 @@ pub(crate) fn read_report<D: Desk>(
         (λ files. Gives result (ReportOf files lock.now input.now.problem)) }
     ensures report { IfOk result IsReportTask }
     ensures path { FailsAtEither lock.now lock.now result }
-    ensures no_usage { EndsInUsage result → ⊥ }
     ensures same { D.files desk.new ≡ D.files desk.old }
     ensures cause { Counts (D.faults desk.old) (D.faults desk.new) (EndsInReadFault result) }
     ensures steady { EndsByInput result → D.faults desk.new ≡ D.faults desk.old }
@@ -58,7 +57,6 @@ pub(crate) fn read_acceptance<R: Threads + Sync, D: Desk>(
         (λ files. ShowsOf input.now.problem (option_map (λ n. n.now) numbers.entry))) }
     ensures yes { IfOk result IsYes }
     ensures path { FailsAtEither cert.now cert.now result }
-    ensures no_usage { EndsInUsage result → ⊥ }
     ensures same { D.files desk.new ≡ D.files desk.old }
     ensures cause { Counts (D.faults desk.old) (D.faults desk.new) (EndsInReadFault result) }
     ensures steady { EndsByInput result → D.faults desk.new ≡ D.faults desk.old }
@@ -94,7 +92,6 @@ pub(crate) fn read_check<R: Threads + Sync, D: Desk>(
         (λ files. IsBestLock files lock.now input.now.problem)) }
     ensures yes { IfOk result IsYes }
     ensures path { FailsAtEither lock.now cert.now result }
-    ensures no_usage { EndsInUsage result → ⊥ }
     ensures same { D.files desk.new ≡ D.files desk.old }
     ensures cause { Counts (D.faults desk.old) (D.faults desk.new) (EndsInReadFault result) }
     ensures steady { EndsByInput result → D.faults desk.new ≡ D.faults desk.old }

@@ -4,7 +4,7 @@ ghost use Rattle.std.specs.Prelude.{◌≡◌, ◌≤◌, ◌<◌, ◌-◌, min,
 ghost use Rattle.std.specs.FinMap.{get};
 ghost use Rattle.outside_desk.specs.Causes.{Counts};
 ghost use Rattle.log_checker.specs.Steps.{State};
-ghost use Rattle.run_answers.specs.Stops.{EndsByInput, EndsInReadFault, EndsInUsage};
+ghost use Rattle.run_answers.specs.Stops.{EndsByInput, EndsInReadFault};
 ghost use Rattle.run_task.specs.Certificates.{most};
 ghost use Rattle.run_task.specs.Pieces.{GivesPiece, TakesNext, TakesAll, Moves, FailsThere};
 
@@ -40,7 +40,6 @@ fn read_piece<D: Desk>(
     ensures read { IfSome (D.files desk.old)
         (λ files. GivesPiece (get files path.now) from out.new path.now result) }
     ensures path { FailsThere path.now result }
-    ensures no_usage { EndsInUsage result → ⊥ }
     ensures same { D.files desk.new ≡ D.files desk.old }
     ensures cause { Counts (D.faults desk.old) (D.faults desk.new) (EndsInReadFault result) }
     ensures steady { EndsByInput result → D.faults desk.new ≡ D.faults desk.old }
@@ -86,7 +85,6 @@ pub(crate) fn take_next<R: Threads + Sync, D: Desk>(
     ensures taken { IfSome (D.files desk.old) (λ files. (s : State)
         → TakesNext s (get files path.now) from path.now checker.old checker.new result) }
     ensures path { FailsThere path.now result }
-    ensures no_usage { EndsInUsage result → ⊥ }
     ensures same { D.files desk.new ≡ D.files desk.old }
     ensures cause { Counts (D.faults desk.old) (D.faults desk.new) (EndsInReadFault result) }
     ensures steady { EndsByInput result → D.faults desk.new ≡ D.faults desk.old }
@@ -120,7 +118,6 @@ pub(crate) fn take_all<R: Threads + Sync, D: Desk>(
     ensures taken { IfSome (D.files desk.old) (λ files. (s : State)
         → TakesAll s (get files path.now) path.now checker.old checker.new result) }
     ensures path { FailsThere path.now result }
-    ensures no_usage { EndsInUsage result → ⊥ }
     ensures same { D.files desk.new ≡ D.files desk.old }
     ensures cause { Counts (D.faults desk.old) (D.faults desk.new) (EndsInReadFault result) }
     ensures steady { EndsByInput result → D.faults desk.new ≡ D.faults desk.old }

@@ -3,7 +3,7 @@
 ghost use Rattle.std.specs.Prelude.{◌≡◌};
 ghost use Rattle.certified.specs.Texts.{answer_at};
 ghost use Rattle.run_answers.specs.Stages.{Is};
-ghost use Rattle.run_answers.specs.Stops.{Gives, EndsInReadFault, EndsInUsage};
+ghost use Rattle.run_answers.specs.Stops.{Gives, EndsInReadFault};
 ghost use Rattle.run_task.specs.Certificates.{fault_of, verdict_of};
 
 use certified::{TextAnswer, TextChecker};
@@ -29,7 +29,6 @@ fn fault_of(why: Why) -> LineFault
 
 fn verdict_of(answer: TextAnswer) -> Result<(), ReadStop>
     ensures read { Gives result (Is (verdict_of answer)) }
-    ensures no_usage { EndsInUsage result → ⊥ }
     ensures no_fault { EndsInReadFault result → ⊥ }
 {
     match answer {
@@ -47,7 +46,6 @@ fn verdict_of(answer: TextAnswer) -> Result<(), ReadStop>
 pub(crate) fn verdict(checker: &TextChecker) -> Result<(), ReadStop>
     ensures read { Gives result (Is (verdict_of (answer_at checker.now.progress
         checker.now.failed checker.now.place.rest))) }
-    ensures no_usage { EndsInUsage result → ⊥ }
     ensures no_fault { EndsInReadFault result → ⊥ }
 {
     verdict_of(checker.finish())

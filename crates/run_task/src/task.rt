@@ -6,7 +6,7 @@ ghost use Rattle.outside_desk.specs.Causes.{Counts};
 ghost use Rattle.run_input.specs.Inputs.{IsPosed};
 ghost use Rattle.spec_grammar.specs.Canonical.{spec_text};
 ghost use Rattle.spec_grammar.specs.declared.part.Spec.{Spec};
-ghost use Rattle.run_input.specs.Stops.{Gives, EndsByInput, EndsInReadFault, EndsInUsage};
+ghost use Rattle.run_input.specs.Stops.{Gives, EndsByInput, EndsInReadFault};
 ghost use Rattle.run_input.specs.Roots.{RootsOf};
 ghost use Rattle.run_task.specs.Certificates.{log_verdict};
 ghost use Rattle.trial_input.specs.Inputs.{input_files};
@@ -53,7 +53,6 @@ fn task_by<R: Threads + Sync, D: Desk>(
     ensures work { IfOk result (λ task. IsOf command.now.work task) }
     ensures ready { IfOk result (λ task. IsReady task) }
     ensures path { FailsAtTask (D.files desk.old) command.now result }
-    ensures no_usage { EndsInUsage result → ⊥ }
     ensures same { D.files desk.new ≡ D.files desk.old }
     ensures cause { Counts (D.faults desk.old) (D.faults desk.new) (EndsInReadFault result) }
     ensures steady { EndsByInput result → D.faults desk.new ≡ D.faults desk.old }
@@ -97,7 +96,6 @@ fn read_over<R: Threads + Sync, D: Desk>(
     ensures roots { IfOk result (λ task. (roots : List Spec)
         × RootsOf command.now.spec (Ok roots)) }
     ensures path { FailsAtTask (D.files desk.old) command.now result }
-    ensures no_usage { EndsInUsage result → ⊥ }
     ensures same { D.files desk.new ≡ D.files desk.old }
     ensures cause { Counts (D.faults desk.old) (D.faults desk.new) (EndsInReadFault result) }
     ensures steady { EndsByInput result → D.faults desk.new ≡ D.faults desk.old }
@@ -133,7 +131,6 @@ fn read_made<R: Threads + Sync>(
     ensures ready { IfOk result (λ task. IsReady task) }
     ensures roots { IfOk result (λ task. (roots : List Spec)
         × RootsOf command.now.spec (Ok roots)) }
-    ensures no_usage { EndsInUsage result → ⊥ }
     ensures no_fault { EndsInReadFault result → ⊥ }
 {
     let mut made = make(alloc, packages, seed)?;
@@ -162,7 +159,6 @@ pub fn read_task<R: Threads + Sync, D: Desk>(
     ensures roots { IfOk result (λ task. (roots : List Spec)
         × RootsOf command.now.spec (Ok roots)) }
     ensures path { FailsAtTask (D.files desk.old) command.now result }
-    ensures no_usage { EndsInUsage result → ⊥ }
     ensures same { D.files desk.new ≡ D.files desk.old }
     ensures cause { Counts (D.faults desk.old) (D.faults desk.new) (EndsInReadFault result) }
     ensures steady { EndsByInput result → D.faults desk.new ≡ D.faults desk.old }

@@ -4,7 +4,7 @@ ghost use Rattle.std.specs.Prelude.{◌≡◌, IfOk, IfSome};
 ghost use Rattle.outside_desk.specs.Causes.{Counts};
 ghost use Rattle.graph_rules.specs.Verdict.{verdict};
 ghost use Rattle.run_input.specs.Stages.{Is};
-ghost use Rattle.run_input.specs.Stops.{Gives, EndsByInput, EndsInReadFault, EndsInUsage};
+ghost use Rattle.run_input.specs.Stops.{Gives, EndsByInput, EndsInReadFault};
 ghost use Rattle.run_input.specs.Bytes.{FailsAt};
 ghost use Rattle.run_task.specs.Verdicts.{unless_broken, weighed, judged, Judges, IsRight, IsValidLock};
 
@@ -24,7 +24,6 @@ use std::alloc::Global;
 /// Refuses a graph that breaks a rule.
 fn check_rules(alloc: Global, problem: &Problem, graph: &Graph) -> Result<(), ReadStop>
     ensures read { Gives result (Is (unless_broken (verdict problem.now graph.now))) }
-    ensures no_usage { EndsInUsage result → ⊥ }
     ensures no_fault { EndsInReadFault result → ⊥ }
 {
     match judge(alloc, problem, graph)? {
@@ -41,7 +40,6 @@ fn check_rules(alloc: Global, problem: &Problem, graph: &Graph) -> Result<(), Re
 #[tactic(auto, unfolding(crate::specs::Verdicts::weighed))]
 fn weighed(alloc: Global, problem: &Problem, graph: &Graph) -> Result<[u64; 31], ReadStop>
     ensures read { Gives result (Is (weighed problem.now graph.now)) }
-    ensures no_usage { EndsInUsage result → ⊥ }
     ensures no_fault { EndsInReadFault result → ⊥ }
 {
     check_rules(alloc, problem, graph)?;
@@ -52,7 +50,6 @@ fn weighed(alloc: Global, problem: &Problem, graph: &Graph) -> Result<[u64; 31],
 #[tactic(auto, unfolding(crate::specs::Verdicts::judged))]
 fn judged(alloc: Global, problem: &Problem, lock: &Lock) -> Result<[u64; 31], ReadStop>
     ensures read { Gives result (Is (judged problem.now lock.now)) }
-    ensures no_usage { EndsInUsage result → ⊥ }
     ensures no_fault { EndsInReadFault result → ⊥ }
 {
     let (hashes, roots) = (lock.hashes.as_slice(), lock.roots.as_slice());
@@ -66,7 +63,6 @@ fn judged(alloc: Global, problem: &Problem, lock: &Lock) -> Result<[u64; 31], Re
 fn judge_lock(alloc: Global, problem: &Problem, lock: &Lock) -> Result<[u64; 31], ReadStop>
     ensures read { Gives result (Is (judged problem.now lock.now)) }
     ensures right { IfOk result (λ numbers. IsRight problem.now lock.now numbers) }
-    ensures no_usage { EndsInUsage result → ⊥ }
     ensures no_fault { EndsInReadFault result → ⊥ }
 {
     rule_laws();
@@ -91,7 +87,6 @@ pub fn read_verdict<D: Desk>(
     ensures lock { IfOk result (λ numbers. IfSome (D.files desk.old)
         (λ files. IsValidLock files path.now problem.now numbers)) }
     ensures path { FailsAt path.now result }
-    ensures no_usage { EndsInUsage result → ⊥ }
     ensures same { D.files desk.new ≡ D.files desk.old }
     ensures cause { Counts (D.faults desk.old) (D.faults desk.new) (EndsInReadFault result) }
     ensures steady { EndsByInput result → D.faults desk.new ≡ D.faults desk.old }

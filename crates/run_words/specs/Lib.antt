@@ -1,6 +1,6 @@
 pub mod Numbers
 pub mod Words
-pub mod Orders
+pub mod Reading
 -- what is answered, for crates above
 pub use Rattle.run_answers.specs.Exits
 pub use Rattle.run_answers.specs.Lines

@@ -1,17 +1,18 @@
 //! The words of a command line.
 //!
-//! What it is: `read_order`, the command that the words are.
+//! What it is: `read_command`, the command that the words are; `VERBS`, the table that says which words a verb has, is
+//! `verb_of` of `verbs.rt`.
 //! What it promises: exactly the command, or that the words are none.
-//! What it stands on: `run_answers` for refusals.
+//! What it stands on: `run_answers` for why a run stops.
 //! What it must not know: files, and what stands in the text of the specs.
 #![tactic(auto)]
 
 mod command;
 mod number;
-mod order;
+mod read;
 mod verbs;
 
 pub use command::{Command, Work, is_dash};
-pub use order::read_order;
+pub use read::read_command;
 // What crates above answer with.
 pub use run_answers::{ReadStop, Refusal, Status, Stop, WriteStop};

@@ -176,7 +176,7 @@ fn read_trial<'a>(alloc: Global, words: &'a [String]) -> Result<Option<Command<'
 }
 
 /// The command that the words are; `None` where they are none.
-pub fn read_command<'a>(
+pub(crate) fn command_of<'a>(
     alloc: Global,
     words: &'a [String],
 ) -> Result<Option<Command<'a>>, AllocError>

@@ -7,9 +7,9 @@ use Rattle.concretizer.proofs.Stages.{stops_at_once, not_refused}
 use Rattle.concretizer.proofs.attempt.attempt.Goals as goal
 
 pub returns-in_err-command-clause-at_once : goal.returns-in_err-command-clause-at_once
-returns-in_err-command-clause-at_once g c = λ refusal refused. (
+returns-in_err-command-clause-at_once g c = λ none. (
   stops_at_once (words_of c.args.words.now) c.in_err-command.field-0.0 c.from_residual.result c.from_residual.ensures.1
-      c.in_err-command.ensures.read c.in_err-command.ensures.no_fault refusal refused,
+      c.in_err-command.ensures.read,
   refl,
   refl,
   refl,
@@ -18,8 +18,8 @@ returns-in_err-command-clause-at_once g c = λ refusal refused. (
 )
 
 pub returns-in_err-task-clause-at_once : goal.returns-in_err-task-clause-at_once
-returns-in_err-task-clause-at_once g c = λ refusal refused. not_refused (words_of c.args.words.now) c.in_ok-command.command
-    c.in_ok-command.ensures.read refusal refused
+returns-in_err-task-clause-at_once g c = λ none. not_refused (words_of c.args.words.now) c.in_ok-command.command
+    c.in_ok-command.ensures.read none
 
 pub returns-in_err-answer-clause-outcome : goal.returns-in_err-answer-clause-outcome
 returns-in_err-answer-clause-outcome g c =
@@ -31,18 +31,18 @@ returns-in_err-answer-clause-outcome g c =
 
 pub returns-in_err-answer-clause-at_once : goal.returns-in_err-answer-clause-at_once
 returns-in_err-answer-clause-at_once g c =
-    λ refusal refused. not_refused (words_of c.args.words.now) c.in_ok-command.command c.in_ok-command.ensures.read refusal refused
+    λ none. not_refused (words_of c.args.words.now) c.in_ok-command.command c.in_ok-command.ensures.read none
 
 pub returns-clause-at_once : goal.returns-clause-at_once
-returns-clause-at_once g c = λ refusal refused. not_refused (words_of c.args.words.now) c.in_ok-command.command c.in_ok-command.ensures.read
-    refusal refused
+returns-clause-at_once g c = λ none. not_refused (words_of c.args.words.now) c.in_ok-command.command c.in_ok-command.ensures.read
+    none
 
 pub returns-in_err-answer-clause-follows : goal.returns-in_err-answer-clause-follows
 returns-in_err-answer-clause-follows g c =
     let asked : IsAsked (words_of c.args.words.now) =
     record {
       command = c.in_ok-command.command;
-      ordered = c.in_ok-command.ensures.read;
+      named = c.in_ok-command.ensures.read;
       roots = c.in_ok-task.ensures.roots.0;
       asks =
           c.in_ok-task.ensures.roots.1;
@@ -56,7 +56,7 @@ pub returns-clause-follows : goal.returns-clause-follows
 returns-clause-follows g c =
     record {
       command = c.in_ok-command.command;
-      ordered = c.in_ok-command.ensures.read;
+      named = c.in_ok-command.ensures.read;
       roots = c.in_ok-task.ensures.roots.0;
       asks =
           c.in_ok-task.ensures.roots.1;

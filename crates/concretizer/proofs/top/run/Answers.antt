@@ -15,7 +15,7 @@ use Rattle.concretizer.proofs.top.run.Goals as goal
 -- ---- Done
 
 pub returns-in-Ok-Solved-clause-words : goal.returns-in-Ok-Solved-clause-words
-returns-in-Ok-Solved-clause-words g c = λ refusal asks. absurd ((c.in-Ok-Solved.ensures.at_once refusal asks).0)
+returns-in-Ok-Solved-clause-words g c = λ none. absurd ((c.in-Ok-Solved.ensures.at_once none).0)
 
 pub returns-in-Ok-Solved-clause-done : goal.returns-in-Ok-Solved-clause-done
 returns-in-Ok-Solved-clause-done g c = λ is.
@@ -44,7 +44,7 @@ returns-in-Ok-Solved-clause-due g c =
 -- ---- Unsatisfiable
 
 pub returns-in-Ok-Unsolved-clause-words : goal.returns-in-Ok-Unsolved-clause-words
-returns-in-Ok-Unsolved-clause-words g c = λ refusal asks. absurd ((c.in-Ok-Unsolved.ensures.at_once refusal asks).0)
+returns-in-Ok-Unsolved-clause-words g c = λ none. absurd ((c.in-Ok-Unsolved.ensures.at_once none).0)
 
 pub returns-in-Ok-Unsolved-clause-unsatisfiable : goal.returns-in-Ok-Unsolved-clause-unsatisfiable
 returns-in-Ok-Unsolved-clause-unsatisfiable g c = λ is.
@@ -73,7 +73,7 @@ returns-in-Ok-Unsolved-clause-due g c =
 -- ---- Undecided
 
 pub returns-in-Ok-Undecided-clause-words : goal.returns-in-Ok-Undecided-clause-words
-returns-in-Ok-Undecided-clause-words g c = λ refusal asks. absurd ((c.in-Ok-Undecided.ensures.at_once refusal asks).0)
+returns-in-Ok-Undecided-clause-words g c = λ none. absurd ((c.in-Ok-Undecided.ensures.at_once none).0)
 
 pub returns-in-Ok-Undecided-clause-undecided : goal.returns-in-Ok-Undecided-clause-undecided
 returns-in-Ok-Undecided-clause-undecided g c = λ is.
@@ -102,9 +102,9 @@ returns-in-Ok-Undecided-clause-due g c =
 -- ---- a stop
 
 pub returns-in-Err-clause-words : goal.returns-in-Err-clause-words
-returns-in-Err-clause-words g c = λ refusal asks.
-    let at_once = c.in-Err.ensures.at_once refusal asks in
-    (at_once.1, at_once.2, at_once.3, at_once.4, at_once.5, reports_words refusal c.in-Err.stop _ _ _ at_once.0 c.report.ensures.reports)
+returns-in-Err-clause-words g c = λ none.
+    let at_once = c.in-Err.ensures.at_once none in
+    (at_once.1, at_once.2, at_once.3, at_once.4, at_once.5, reports_words c.in-Err.stop _ _ _ at_once.0 c.report.ensures.reports)
 
 pub returns-in-Err-clause-usage : goal.returns-in-Err-clause-usage
 returns-in-Err-clause-usage g c = λ is.
