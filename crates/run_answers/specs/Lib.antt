@@ -14,5 +14,6 @@ pub mod Exits
 pub mod Refusals
 pub mod Stages
 pub mod Stops
+pub mod Reads
 
 -- what crates above need of the texts

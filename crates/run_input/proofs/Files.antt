@@ -9,7 +9,7 @@ use Rattle.recipe_reader.specs.Files.{recipe_in_file, IsFirstFault}
 use Rattle.recipe_reader.specs.Recipes.{recipe_of}
 use Rattle.recipe_reader.specs.declared.fault.RecipeFault.{RecipeFault}
 use Rattle.recipe_reader.specs.declared.files.RecipeFile.{RecipeFile}
-use Rattle.run_input.specs.Refusal.TheVariants as refusals
+use Rattle.run_answers.specs.declared.refusal.Refusal.TheVariants as refusals
 use Rattle.run_input.specs.Sources.{Source, bytes_in, source_of}
 use Rattle.run_input.specs.Recipes.{recipes_of}
 

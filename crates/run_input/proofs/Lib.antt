@@ -1,6 +1,6 @@
+pub use Rattle.run_answers.proofs.ReadLaws
 pub use Rattle.run_answers.proofs.StageLaws
 pub mod OneSite
-pub use Rattle.run_words.proofs.StageLaws
 pub mod OneDatabase
 pub mod Ends
 pub mod InOrder

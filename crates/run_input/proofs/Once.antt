@@ -7,16 +7,16 @@ use Rattle.spec_grammar.specs.declared.part.Spec.{Spec}
 use Rattle.spec_grammar.specs.declared.fault.SpecFault.{SpecFault}
 use Rattle.spec_grammar.specs.declared.fault.SpecFault.TheVariants as fault
 use Rattle.outside_desk.specs.Files.{Files}
-use Rattle.run_input.specs.Stages.{Is, Then}
-use Rattle.run_input.specs.Refusal.TheVariants as refusals
-use Rattle.run_input.proofs.StageLaws.{IsOne, one_is, one_then}
+use Rattle.run_answers.specs.Stages.{Is, Then}
+use Rattle.run_answers.specs.declared.refusal.Refusal.TheVariants as refusals
+use Rattle.run_answers.proofs.StageLaws.{IsOne, one_is, one_then}
 use Rattle.recipe_data.specs.declared.recipe.Recipe.{Recipe}
 use Rattle.site_settings.specs.declared.settings.Settings.{Settings}
 use Rattle.run_input.specs.Sites.{SettingsAt}
 use Rattle.run_input.specs.Installed.{DatabaseAt}
 use Rattle.reuse_db.specs.declared.record.Record.{Record}
 use Rattle.run_input.specs.Sources.{Source, pile_of}
-use Rattle.run_input.specs.Words.{Command}
+use Rattle.run_words.specs.Words.{Command}
 use Rattle.run_input.specs.Recipes.{recipes_of}
 use Rattle.run_input.specs.Roots.{SpecsOf, RootsOf, short, roots_of}
 use Rattle.run_input.specs.Inputs.{apart_of, Over, InRepository, posed_by, closed_of, InputBy, Asked, Behind, OverSettings, Reads}

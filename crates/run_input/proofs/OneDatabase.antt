@@ -6,9 +6,9 @@ use Rattle.record_reader.specs.Files.{IsDatabase}
 use Rattle.record_reader.specs.Faults.{IsTextFault}
 use Rattle.reuse_db.specs.declared.fault.DbFault.{DbFault}
 use Rattle.reuse_db.specs.declared.fault.DbFault.TheVariants.{OutOfMemory}
-use Rattle.run_words.specs.Stages.{Is}
-use Rattle.run_words.specs.Refusal.TheVariants.{BadDatabase}
-use Rattle.run_words.proofs.StageLaws.{IsOne, one_is, one_then}
+use Rattle.run_answers.specs.Stages.{Is}
+use Rattle.run_answers.specs.declared.refusal.Refusal.TheVariants.{BadDatabase}
+use Rattle.run_answers.proofs.StageLaws.{IsOne, one_is, one_then}
 use Rattle.run_words.specs.Words.{is_dash}
 use Rattle.run_input.specs.Installed.{database_bytes, DatabaseIn, DatabaseBy, DatabaseAt}
 

@@ -6,9 +6,9 @@ use Rattle.site_settings.specs.declared.settings.Settings.{Settings}
 use Rattle.settings_reader.specs.Files.{IsOfFile, IsFileFault}
 use Rattle.settings_reader.specs.declared.fault.SettingsFault.{SettingsFault}
 use Rattle.settings_reader.specs.declared.fault.SettingsFault.TheVariants.{OutOfMemory}
-use Rattle.run_words.specs.Stages.{Is}
-use Rattle.run_words.specs.Refusal.TheVariants.{BadSettings}
-use Rattle.run_words.proofs.StageLaws.{IsOne, one_is, one_then}
+use Rattle.run_answers.specs.Stages.{Is}
+use Rattle.run_answers.specs.declared.refusal.Refusal.TheVariants.{BadSettings}
+use Rattle.run_answers.proofs.StageLaws.{IsOne, one_is, one_then}
 use Rattle.run_words.specs.Words.{is_dash}
 use Rattle.run_input.specs.Sites.{settings_bytes, SettingsIn, SettingsBy, SettingsAt}
 

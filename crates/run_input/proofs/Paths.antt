@@ -1,9 +1,9 @@
 -- Where a device fails.
 use Rattle.std.proofs.Common.{◌≡◌, subst, Option, Result, Err, inl, inr}
 use Rattle.outside_desk.specs.Files.{Files}
-use Rattle.run_input.specs.ReadStop.{ReadStop}
-use Rattle.run_input.specs.ReadStop.TheVariants.{Refused, Fault, NoMemory}
-use Rattle.run_input.specs.Words.{Command}
+use Rattle.run_answers.specs.declared.stop.ReadStop.{ReadStop}
+use Rattle.run_answers.specs.declared.stop.ReadStop.TheVariants.{Refused, Fault, NoMemory}
+use Rattle.run_words.specs.Words.{Command}
 use Rattle.run_input.specs.Sites as settings
 use Rattle.run_input.specs.Installed as database
 use Rattle.run_input.specs.Paths.{FailsInside}

@@ -2,11 +2,11 @@
 use Rattle.std.proofs.Common.{◌≡◌, subst, ℕ, List, Option, Some, None, Result, Ok}
 use Rattle.std.specs.Prelude.{IfSome}
 use Rattle.outside_desk.specs.Files.{Files}
-use Rattle.run_input.specs.Refusal.{Refusal}
-use Rattle.run_input.specs.Stages.{Then}
-use Rattle.run_input.specs.Stops.{Gives}
-use Rattle.run_input.specs.ReadStop.{ReadStop}
-use Rattle.run_input.proofs.StageLaws.{then_gives}
+use Rattle.run_answers.specs.declared.refusal.Refusal.{Refusal}
+use Rattle.run_answers.specs.Stages.{Then}
+use Rattle.run_answers.specs.Stops.{Gives}
+use Rattle.run_answers.specs.declared.stop.ReadStop.{ReadStop}
+use Rattle.run_answers.proofs.StageLaws.{then_gives}
 
 -- two stages over the files, which the first leaves as they are
 pub staged : (A B : Type 0) (first : List ℕ → Files → Result A Refusal → Type 0) (next : Files → A → Result B Refusal → Type 0)

@@ -13,9 +13,9 @@ use Rattle.site_settings.specs.declared.settings.PackageEntry.{PackageEntry}
 use Rattle.site_settings.specs.declared.settings.Settings.{Settings}
 use Rattle.spec_grammar.specs.declared.part.Spec.{Spec}
 use Rattle.reuse_db.specs.declared.record.Record.{Record}
-use Rattle.run_input.specs.Values as settings_values
-use Rattle.run_input.specs.Values.{are_valued}
-use Rattle.run_input.specs.Values as record_values
+use Rattle.settings_reader.specs.Values as settings_values
+use Rattle.settings_reader.specs.Values.{are_valued}
+use Rattle.file_limits.specs.Values as record_values
 
 all_weaker : {X : Type 0} (p q : X → Bool) → ((x : X) → p x ≡ true → q x ≡ true) → (xs : List X) → list_all p xs ≡ true → list_all q xs ≡ true
 all_weaker p q weaker xs all =

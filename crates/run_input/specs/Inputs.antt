@@ -12,12 +12,12 @@ use Rattle.possible_closure.specs.Closures.{closure_of}
 use Rattle.table_plan.specs.Kept.{has_right_values}
 use Rattle.problem.specs.declared.fault.ProblemFault.{ProblemFault}
 use Rattle.problem.specs.declared.fault.ProblemFault.TheVariants as faults
-use Rattle.run_input.specs.Stages.{Is, Then, ◌>>=◌, check, refuse_some}
-use Rattle.run_input.specs.Refusal.{Refusal}
-use Rattle.run_input.specs.Refusal.TheVariants as refusals
-use Rattle.run_input.specs.ReadStop.{ReadStop}
-use Rattle.run_input.specs.ReadStop.TheVariants as reads
-use Rattle.run_input.specs.Words.{Command}
+use Rattle.run_answers.specs.Stages.{Is, Then, ◌>>=◌, check, refuse_some}
+use Rattle.run_answers.specs.declared.refusal.Refusal.{Refusal}
+use Rattle.run_answers.specs.declared.refusal.Refusal.TheVariants as refusals
+use Rattle.run_answers.specs.declared.stop.ReadStop.{ReadStop}
+use Rattle.run_answers.specs.declared.stop.ReadStop.TheVariants as reads
+use Rattle.run_words.specs.Words.{Command}
 use Rattle.run_input.specs.Installed.{DatabaseAt, IsDatabasePath}
 use Rattle.reuse_db.specs.declared.record.Record.{Record}
 use Rattle.run_input.specs.Sites.{SettingsAt, IsSettingsPath}

@@ -6,11 +6,11 @@ use Rattle.record_reader.specs.Files.{IsDatabase}
 use Rattle.record_reader.specs.Faults.{IsTextFault}
 use Rattle.reuse_db.specs.declared.fault.DbFault.{DbFault}
 use Rattle.reuse_db.specs.declared.fault.DbFault.TheVariants.{OutOfMemory}
-use Rattle.run_words.specs.Stages.{Is, Then}
-use Rattle.run_words.specs.Refusal.{Refusal}
-use Rattle.run_words.specs.Refusal.TheVariants as refusals
-use Rattle.run_words.specs.ReadStop.{ReadStop}
-use Rattle.run_words.specs.ReadStop.TheVariants as reads
+use Rattle.run_answers.specs.Stages.{Is, Then}
+use Rattle.run_answers.specs.declared.refusal.Refusal.{Refusal}
+use Rattle.run_answers.specs.declared.refusal.Refusal.TheVariants as refusals
+use Rattle.run_answers.specs.declared.stop.ReadStop.{ReadStop}
+use Rattle.run_answers.specs.declared.stop.ReadStop.TheVariants as reads
 use Rattle.run_input.specs.Bytes.{bytes_at}
 use Rattle.run_input.specs.declared.file.WholeFile.TheVariants as kinds
 use Rattle.run_words.specs.Words.{is_dash}

@@ -1,16 +1,17 @@
 pub mod Bytes
--- what is answered, for crates above
-pub use Rattle.run_answers.specs.Stages
-pub use Rattle.run_answers.specs.Stops
-pub use Rattle.run_answers.specs.declared.refusal.Refusal
-pub use Rattle.run_answers.specs.declared.stop.ReadStop
 pub mod Sites
--- what crates above name
-pub use Rattle.settings_reader.specs.Values
+pub mod Installed
+pub mod Paths
+pub mod Sources
+pub mod Recipes
+pub mod Roots
+pub mod Inputs
+-- what is answered, for crates above
 pub use Rattle.run_words.specs.Exits
 pub use Rattle.run_words.specs.Lines
 pub use Rattle.run_words.specs.LockFault
 pub use Rattle.run_words.specs.Refusals
+pub use Rattle.run_words.specs.Reads
 pub use Rattle.run_words.specs.Stages
 pub use Rattle.run_words.specs.Stops
 pub use Rattle.run_words.specs.Refusal
@@ -21,12 +22,6 @@ pub use Rattle.run_words.specs.Stop
 pub use Rattle.run_words.specs.Words
 pub use Rattle.run_words.specs.Reading
 pub use Rattle.run_words.specs.declared.command.Work
-pub mod Installed
-pub use Rattle.file_limits.specs.Values
-pub mod Paths
-pub mod Sources
-pub mod Inputs
-pub mod Recipes
-pub mod Roots
+-- and the names of a problem
 pub use Rattle.possible_closure.specs.Closures
 pub use Rattle.table_plan.specs.Kept

@@ -3,9 +3,9 @@ use Rattle.std.specs.Prelude.{ℕ, List, [], ◌∷◌, Result, Ok, Err}
 use Rattle.recipe_data.specs.declared.recipe.Recipe.{Recipe}
 use Rattle.recipe_reader.specs.Recipes.{recipe_of}
 use Rattle.recipe_reader.specs.declared.fault.RecipeFault.{RecipeFault}
-use Rattle.run_input.specs.Stages.{◌>>=◌}
-use Rattle.run_input.specs.Refusal.{Refusal}
-use Rattle.run_input.specs.Refusal.TheVariants as refusals
+use Rattle.run_answers.specs.Stages.{◌>>=◌}
+use Rattle.run_answers.specs.declared.refusal.Refusal.{Refusal}
+use Rattle.run_answers.specs.declared.refusal.Refusal.TheVariants as refusals
 use Rattle.run_input.specs.Sources.{Source}
 
 abbrev pub or_bad : List ℕ → Result Recipe RecipeFault → Result Recipe Refusal

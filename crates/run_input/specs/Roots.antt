@@ -7,9 +7,9 @@ use Rattle.spec_grammar.specs.declared.mode.Mode.TheVariants.{Specs}
 use Rattle.spec_grammar.specs.declared.part.Spec.{Spec}
 use Rattle.spec_grammar.specs.declared.fault.SpecFault.{SpecFault}
 use Rattle.spec_grammar.specs.declared.fault.SpecFault.TheVariants as fault
-use Rattle.run_input.specs.Stages.{Is, Then, ◌>>=◌, check}
-use Rattle.run_input.specs.Refusal.{Refusal}
-use Rattle.run_input.specs.Refusal.TheVariants as refusals
+use Rattle.run_answers.specs.Stages.{Is, Then, ◌>>=◌, check}
+use Rattle.run_answers.specs.declared.refusal.Refusal.{Refusal}
+use Rattle.run_answers.specs.declared.refusal.Refusal.TheVariants as refusals
 
 -- the specs that a text spells, or its fault
 abbrev pub SpecsOf : List ℕ → Result (List Spec) Refusal → Type 0

@@ -6,11 +6,11 @@ use Rattle.site_settings.specs.declared.settings.Settings.{Settings}
 use Rattle.settings_reader.specs.Files.{IsOfFile, IsFileFault}
 use Rattle.settings_reader.specs.declared.fault.SettingsFault.{SettingsFault}
 use Rattle.settings_reader.specs.declared.fault.SettingsFault.TheVariants.{OutOfMemory}
-use Rattle.run_words.specs.Stages.{Is, Then}
-use Rattle.run_words.specs.Refusal.{Refusal}
-use Rattle.run_words.specs.Refusal.TheVariants as refusals
-use Rattle.run_words.specs.ReadStop.{ReadStop}
-use Rattle.run_words.specs.ReadStop.TheVariants as reads
+use Rattle.run_answers.specs.Stages.{Is, Then}
+use Rattle.run_answers.specs.declared.refusal.Refusal.{Refusal}
+use Rattle.run_answers.specs.declared.refusal.Refusal.TheVariants as refusals
+use Rattle.run_answers.specs.declared.stop.ReadStop.{ReadStop}
+use Rattle.run_answers.specs.declared.stop.ReadStop.TheVariants as reads
 use Rattle.run_input.specs.Bytes.{bytes_at}
 use Rattle.run_input.specs.declared.file.WholeFile.TheVariants as kinds
 use Rattle.run_words.specs.Words.{is_dash}

@@ -1,8 +1,7 @@
 //! The reading of one file.
 
 ghost use Rattle.std.specs.Prelude.{◌≡◌, ◌≤◌, length, IfOk, IfSome};
-ghost use Rattle.outside_desk.specs.Causes.{Counts};
-ghost use Rattle.run_answers.specs.Stops.{EndsByInput, EndsInReadFault};
+ghost use Rattle.run_answers.specs.Reads.{OnlyReads};
 ghost use Rattle.run_input.specs.Bytes.{bytes_at, limit_of, GivesBytes, FailsAt};
 
 use crate::WholeFile;
@@ -28,10 +27,7 @@ pub fn read_bytes<D: Desk>(
         (λ files. GivesBytes (bytes_at files path.now file) result) }
     ensures short { IfOk result (λ bytes. length bytes.items ≤ limit_of file) }
     ensures path { FailsAt path.now result }
-    ensures same { D.files desk.new ≡ D.files desk.old }
-    ensures cause { Counts (D.faults desk.old) (D.faults desk.new) (EndsInReadFault result) }
-    ensures steady { EndsByInput result → D.faults desk.new ≡ D.faults desk.old }
-    ensures put_faults { D.put_faults desk.new ≡ D.put_faults desk.old }
+    ensures only_reads { OnlyReads D.files D.faults D.put_faults desk.old desk.new result }
 {
     match read_whole(alloc, desk, path, file.limit()) {
         Ok(bytes) => Ok(bytes),

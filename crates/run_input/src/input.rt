@@ -2,15 +2,15 @@
 
 ghost use Rattle.std.specs.Prelude.{◌≡◌, true, Ok, IfOk, IfSome};
 ghost use Rattle.std.specs.List.{list_all};
-ghost use Rattle.outside_desk.specs.Causes.{Counts};
 ghost use Rattle.recipe_data.specs.Right.{is_right_recipe};
 ghost use Rattle.virtuals.specs.Virtuals.{AreInOrder};
 ghost use Rattle.problem.specs.Limits.{are_few_records, are_few_rows, are_small, is_within_limits};
 ghost use Rattle.table_plan.specs.Kept.{has_right_values};
-ghost use Rattle.run_input.specs.Values.{are_valued};
-ghost use Rattle.run_input.specs.Values.{has_values};
-ghost use Rattle.run_input.specs.Stages.{Is};
-ghost use Rattle.run_input.specs.Stops.{Gives, EndsByInput, EndsInReadFault};
+ghost use Rattle.settings_reader.specs.Values.{are_valued};
+ghost use Rattle.file_limits.specs.Values.{has_values};
+ghost use Rattle.run_answers.specs.Stages.{Is};
+ghost use Rattle.run_answers.specs.Reads.{OnlyReads};
+ghost use Rattle.run_answers.specs.Stops.{Gives, EndsInReadFault};
 ghost use Rattle.run_input.specs.Roots.{RootsOf, are_named};
 ghost use Rattle.run_input.specs.Inputs.{posed_by, closed_of, InputBy, Asked, Behind, IsPosed, OverSettings, Reads, FailsAtInput};
 
@@ -158,10 +158,7 @@ fn read_behind<D: Desk>(
     ensures roots { IfOk result (λ input. RootsOf command.now.spec (Ok input.problem.roots)) }
     ensures posed { IfOk result IsPosed }
     ensures path { FailsAtInput (D.files desk.old) command.now result }
-    ensures same { D.files desk.new ≡ D.files desk.old }
-    ensures cause { Counts (D.faults desk.old) (D.faults desk.new) (EndsInReadFault result) }
-    ensures steady { EndsByInput result → D.faults desk.new ≡ D.faults desk.old }
-    ensures put_faults { D.put_faults desk.new ≡ D.put_faults desk.old }
+    ensures only_reads { OnlyReads D.files D.faults D.put_faults desk.old desk.new result }
 {
     match read_installed(alloc, desk, command.database) {
         Ok(database) => read_asked(alloc, recipes, settings, database, command.spec.as_str()),
@@ -185,10 +182,7 @@ fn read_over<R: Threads + Sync, D: Desk>(
     ensures roots { IfOk result (λ input. RootsOf command.now.spec (Ok input.problem.roots)) }
     ensures posed { IfOk result IsPosed }
     ensures path { FailsAtInput (D.files desk.old) command.now result }
-    ensures same { D.files desk.new ≡ D.files desk.old }
-    ensures cause { Counts (D.faults desk.old) (D.faults desk.new) (EndsInReadFault result) }
-    ensures steady { EndsByInput result → D.faults desk.new ≡ D.faults desk.old }
-    ensures put_faults { D.put_faults desk.new ≡ D.put_faults desk.old }
+    ensures only_reads { OnlyReads D.files D.faults D.put_faults desk.old desk.new result }
 {
     match read_repository(rt, alloc, desk, command.repo) {
         Ok(recipes) => read_behind(alloc, desk, command, settings, recipes),
@@ -213,10 +207,7 @@ pub fn read_input<R: Threads + Sync, D: Desk>(
     ensures roots { IfOk result (λ input. RootsOf command.now.spec (Ok input.problem.roots)) }
     ensures posed { IfOk result IsPosed }
     ensures path { FailsAtInput (D.files desk.old) command.now result }
-    ensures same { D.files desk.new ≡ D.files desk.old }
-    ensures cause { Counts (D.faults desk.old) (D.faults desk.new) (EndsInReadFault result) }
-    ensures steady { EndsByInput result → D.faults desk.new ≡ D.faults desk.old }
-    ensures put_faults { D.put_faults desk.new ≡ D.put_faults desk.old }
+    ensures only_reads { OnlyReads D.files D.faults D.put_faults desk.old desk.new result }
 {
     let settings = read_site(alloc, desk, command.settings)?;
     read_over(rt, alloc, desk, command, settings)

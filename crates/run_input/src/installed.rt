@@ -4,8 +4,8 @@ ghost use Rattle.std.specs.Prelude.{◌≡◌, ◌≤◌, ◌^◌, true, false, 
 ghost use Rattle.std.specs.List.{list_all};
 ghost use Rattle.file_limits.specs.Values.{has_values};
 ghost use Rattle.problem.specs.Limits.{are_few_records};
-ghost use Rattle.outside_desk.specs.Causes.{Counts};
-ghost use Rattle.run_words.specs.Stops.{Gives, EndsByInput, EndsInReadFault};
+ghost use Rattle.run_answers.specs.Reads.{OnlyReads};
+ghost use Rattle.run_answers.specs.Stops.{Gives, EndsInReadFault};
 ghost use Rattle.run_words.specs.Words.{is_dash};
 ghost use Rattle.run_input.specs.Installed.{DatabaseIn, DatabaseAt, FailsThere};
 
@@ -14,7 +14,8 @@ use file_limits::{database_count_laws, value_laws};
 use outside_desk::Desk;
 use record_reader::read_database;
 use reuse_db::{Database, DbFault};
-use run_words::{ReadStop, Refusal, is_dash};
+use run_answers::{ReadStop, Refusal};
+use run_words::is_dash;
 use std::alloc::Global;
 
 /// The database that the bytes of a file are.
@@ -49,10 +50,7 @@ pub fn read_installed<D: Desk>(
     ensures values { IfOk result (λ database. list_all has_values database ≡ true) }
     ensures few { IfOk result (λ database. are_few_records database ≡ true) }
     ensures path { FailsThere path.now result }
-    ensures same { D.files desk.new ≡ D.files desk.old }
-    ensures cause { Counts (D.faults desk.old) (D.faults desk.new) (EndsInReadFault result) }
-    ensures steady { EndsByInput result → D.faults desk.new ≡ D.faults desk.old }
-    ensures put_faults { D.put_faults desk.new ≡ D.put_faults desk.old }
+    ensures only_reads { OnlyReads D.files D.faults D.put_faults desk.old desk.new result }
 {
     if is_dash(path) {
         return Ok(Database::empty(alloc));

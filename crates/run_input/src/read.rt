@@ -2,11 +2,11 @@
 
 ghost use Rattle.std.specs.Prelude.{◌≡◌, ◌∷◌, ◌++◌, ℕ, List, map, IfOk, IfSome, OnOk};
 ghost use Rattle.std.specs.String.{string_bytes};
-ghost use Rattle.outside_desk.specs.Causes.{Counts};
 ghost use Rattle.outside_desk.specs.Listing.{AreInOrder};
 ghost use Rattle.variant_values.specs.Texts.{IsInByteOrder};
 ghost use Rattle.run_answers.specs.Stages.{Is};
-ghost use Rattle.run_answers.specs.Stops.{Gives, EndsByInput, EndsInReadFault};
+ghost use Rattle.run_answers.specs.Reads.{OnlyReads};
+ghost use Rattle.run_answers.specs.Stops.{Gives};
 ghost use Rattle.run_input.specs.Paths.{FailsAmong, FailsAtEntry, FailsInside};
 ghost use Rattle.run_input.specs.Sources.{Leaves, names_of, no_files, recipe_at, with_entry, with_entries, pile_of};
 
@@ -34,10 +34,7 @@ fn read_entry<D: Desk>(
         → IsInByteOrder (names_of sources.old ++ name.now ∷ names)
         → OnOk result (IsInByteOrder (names_of sources.new ++ names)) }
     ensures path { FailsAtEntry repo.now name.now result }
-    ensures same { D.files desk.new ≡ D.files desk.old }
-    ensures cause { Counts (D.faults desk.old) (D.faults desk.new) (EndsInReadFault result) }
-    ensures steady { EndsByInput result → D.faults desk.new ≡ D.faults desk.old }
-    ensures put_faults { D.put_faults desk.new ≡ D.put_faults desk.old }
+    ensures only_reads { OnlyReads D.files D.faults D.put_faults desk.old desk.new result }
 {
     if !is_name(name.as_bytes()) {
         return Ok(());
@@ -65,10 +62,7 @@ fn read_entries<D: Desk>(
         (Is (with_entries files repo.now no_files (map string_bytes names.now)))) }
     ensures order { IfOk result (λ sources. IsInByteOrder (names_of sources)) }
     ensures path { FailsAmong repo.now (map string_bytes names.now) result }
-    ensures same { D.files desk.new ≡ D.files desk.old }
-    ensures cause { Counts (D.faults desk.old) (D.faults desk.new) (EndsInReadFault result) }
-    ensures steady { EndsByInput result → D.faults desk.new ≡ D.faults desk.old }
-    ensures put_faults { D.put_faults desk.new ≡ D.put_faults desk.old }
+    ensures only_reads { OnlyReads D.files D.faults D.put_faults desk.old desk.new result }
 {
     let mut sources = Sources::new(alloc);
     for name in names {
@@ -92,10 +86,7 @@ pub fn read_sources<D: Desk>(alloc: Global, desk: &mut D, repo: &str) -> Result<
     ensures read { IfSome (D.files desk.old) (λ files. Gives result (Is (pile_of files repo.now))) }
     ensures order { IfOk result (λ sources. IsInByteOrder (names_of sources)) }
     ensures path { FailsInside (D.files desk.old) repo.now result }
-    ensures same { D.files desk.new ≡ D.files desk.old }
-    ensures cause { Counts (D.faults desk.old) (D.faults desk.new) (EndsInReadFault result) }
-    ensures steady { EndsByInput result → D.faults desk.new ≡ D.faults desk.old }
-    ensures put_faults { D.put_faults desk.new ≡ D.put_faults desk.old }
+    ensures only_reads { OnlyReads D.files D.faults D.put_faults desk.old desk.new result }
 {
     let folder = packages_path(alloc, repo)?;
     match desk.list(alloc, folder.as_str()) {

@@ -1,8 +1,8 @@
 //! The roots that the specs of a run ask for.
 
 ghost use Rattle.std.specs.Prelude.{◌≡◌, true, IfOk};
-ghost use Rattle.run_input.specs.Stages.{Is, Then};
-ghost use Rattle.run_input.specs.Stops.{Gives, EndsInReadFault};
+ghost use Rattle.run_answers.specs.Stages.{Is, Then};
+ghost use Rattle.run_answers.specs.Stops.{Gives, EndsInReadFault};
 ghost use Rattle.run_input.specs.Roots.{SpecsOf, RootsOf, are_named, roots_of};
 
 use crate::{ReadStop, Refusal};

@@ -3,7 +3,7 @@
 ghost use Rattle.std.specs.Prelude.{◌≡◌, ℕ, List, Result};
 ghost use Rattle.outside_desk.specs.Files.{Files};
 ghost use Rattle.reuse_db.specs.declared.record.Record.{Record};
-ghost use Rattle.run_words.specs.Refusal.{Refusal};
+ghost use Rattle.run_answers.specs.declared.refusal.Refusal.{Refusal};
 ghost use Rattle.run_input.specs.Installed.{DatabaseAt};
 
 use record_reader::database_laws;

@@ -2,8 +2,8 @@
 
 ghost use Rattle.std.specs.Prelude.{◌≡◌, Result};
 ghost use Rattle.outside_desk.specs.Files.{Files};
-ghost use Rattle.run_input.specs.Refusal.{Refusal};
-ghost use Rattle.run_input.specs.Words.{Command};
+ghost use Rattle.run_answers.specs.declared.refusal.Refusal.{Refusal};
+ghost use Rattle.run_words.specs.Words.{Command};
 ghost use Rattle.run_input.specs.declared.input.Input.{Input};
 ghost use Rattle.run_input.specs.Inputs.{Reads};
 

@@ -3,15 +3,16 @@
 ghost use Rattle.std.specs.Prelude.{◌≡◌, ◌≤◌, ◌^◌, true, false, length, IfOk, IfSome};
 ghost use Rattle.settings_reader.specs.Values.{are_valued};
 ghost use Rattle.problem.specs.Limits.{are_small};
-ghost use Rattle.outside_desk.specs.Causes.{Counts};
-ghost use Rattle.run_words.specs.Stops.{Gives, EndsByInput, EndsInReadFault};
+ghost use Rattle.run_answers.specs.Reads.{OnlyReads};
+ghost use Rattle.run_answers.specs.Stops.{Gives, EndsInReadFault};
 ghost use Rattle.run_words.specs.Words.{is_dash};
 ghost use Rattle.run_input.specs.Sites.{SettingsIn, SettingsAt, FailsThere};
 
 use crate::{WholeFile, read_bytes};
 use file_limits::settings_count_laws;
 use outside_desk::Desk;
-use run_words::{ReadStop, Refusal, is_dash};
+use run_answers::{ReadStop, Refusal};
+use run_words::is_dash;
 use settings_reader::{SettingsFault, read_settings, settings_laws};
 use site_settings::Settings;
 use std::alloc::Global;
@@ -44,10 +45,7 @@ pub fn read_site<D: Desk>(alloc: Global, desk: &mut D, path: &str) -> Result<Set
     ensures values { IfOk result (λ settings. are_valued settings ≡ true) }
     ensures small { IfOk result (λ settings. are_small settings ≡ true) }
     ensures path { FailsThere path.now result }
-    ensures same { D.files desk.new ≡ D.files desk.old }
-    ensures cause { Counts (D.faults desk.old) (D.faults desk.new) (EndsInReadFault result) }
-    ensures steady { EndsByInput result → D.faults desk.new ≡ D.faults desk.old }
-    ensures put_faults { D.put_faults desk.new ≡ D.put_faults desk.old }
+    ensures only_reads { OnlyReads D.files D.faults D.put_faults desk.old desk.new result }
 {
     settings_count_laws();
     if is_dash(path) {

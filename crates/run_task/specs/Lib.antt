@@ -23,6 +23,7 @@ pub use Rattle.run_input.specs.Exits
 pub use Rattle.run_input.specs.Lines
 pub use Rattle.run_input.specs.LockFault
 pub use Rattle.run_input.specs.Refusals
+pub use Rattle.run_input.specs.Reads
 pub use Rattle.run_input.specs.Stages
 pub use Rattle.run_input.specs.Stops
 pub use Rattle.run_input.specs.Refusal

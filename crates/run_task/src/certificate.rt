@@ -2,7 +2,6 @@
 
 ghost use Rattle.std.specs.Prelude.{◌≡◌, ◌<◌, ◌≤◌, true, [], length, Some, None, IfOk, OnOk, IfSome};
 ghost use Rattle.std.specs.Option.{option_map};
-ghost use Rattle.outside_desk.specs.Causes.{Counts};
 ghost use Rattle.clause_store.specs.Clauses.{clauses_of};
 ghost use Rattle.proof_log.specs.Known.{AllClauses};
 ghost use Rattle.log_checker.specs.Steps.{State, begun};
@@ -13,7 +12,8 @@ ghost use Rattle.best_graph.specs.OfProblemEncoding.Encodings.{AreRules, IsEncod
 ghost use Rattle.best_graph.specs.OfProblemEncoding.Kept.{has_right_values};
 ghost use Rattle.best_graph.specs.OfProblemEncoding.Limits.{is_within_limits};
 ghost use Rattle.run_answers.specs.Stages.{Is};
-ghost use Rattle.run_answers.specs.Stops.{Gives, EndsByInput, EndsInReadFault};
+ghost use Rattle.run_answers.specs.Reads.{OnlyReads};
+ghost use Rattle.run_answers.specs.Stops.{Gives};
 ghost use Rattle.run_task.specs.Certificates.{said_at, certified_at, ShowsOf};
 ghost use Rattle.run_task.specs.Pieces.{FailsThere};
 
@@ -51,10 +51,7 @@ fn check_text<R: Threads + Sync, D: Desk>(
     ensures read { (s : State) → IsAfter s [] checker.old
         → IfSome (D.files desk.old) (λ files. Gives result (Is (said_at files path.now s))) }
     ensures path { FailsThere path.now result }
-    ensures same { D.files desk.new ≡ D.files desk.old }
-    ensures cause { Counts (D.faults desk.old) (D.faults desk.new) (EndsInReadFault result) }
-    ensures steady { EndsByInput result → D.faults desk.new ≡ D.faults desk.old }
-    ensures put_faults { D.put_faults desk.new ≡ D.put_faults desk.old }
+    ensures only_reads { OnlyReads D.files D.faults D.put_faults desk.old desk.new result }
 {
     let mut piece = buffer(alloc, PIECE)?;
     match take_all(rt, alloc, desk, path, checker, piece.as_mut_slice()) {
@@ -78,10 +75,7 @@ fn check_log<R: Threads + Sync, D: Desk>(
         (begun clauses.now bits.now (option_map (λ v. v.now) values.entry))))) }
     ensures in_order { OnOk result (AllClauses (clauses_of clauses.now.entries)) }
     ensures path { FailsThere path.now result }
-    ensures same { D.files desk.new ≡ D.files desk.old }
-    ensures cause { Counts (D.faults desk.old) (D.faults desk.new) (EndsInReadFault result) }
-    ensures steady { EndsByInput result → D.faults desk.new ≡ D.faults desk.old }
-    ensures put_faults { D.put_faults desk.new ≡ D.put_faults desk.old }
+    ensures only_reads { OnlyReads D.files D.faults D.put_faults desk.old desk.new result }
 {
     let mut checker = TextChecker::new(alloc, clauses, bits, values)?;
     check_text(rt, alloc, desk, path, &mut checker)
@@ -102,10 +96,7 @@ fn check_refutation<R: Threads + Sync, D: Desk>(
         _problem.now None))) }
     ensures shown { OnOk result (IfSome (D.files desk.old) (λ files. ShowsOf _problem.now None)) }
     ensures path { FailsThere path.now result }
-    ensures same { D.files desk.new ≡ D.files desk.old }
-    ensures cause { Counts (D.faults desk.old) (D.faults desk.new) (EndsInReadFault result) }
-    ensures steady { EndsByInput result → D.faults desk.new ≡ D.faults desk.old }
-    ensures put_faults { D.put_faults desk.new ≡ D.put_faults desk.old }
+    ensures only_reads { OnlyReads D.files D.faults D.put_faults desk.old desk.new result }
 {
     text_laws();
     verdict_laws();
@@ -129,10 +120,7 @@ fn check_costs<R: Threads + Sync, D: Desk>(
     ensures shown { OnOk result (IfSome (D.files desk.old)
         (λ files. ShowsOf _problem.now (Some numbers.now))) }
     ensures path { FailsThere path.now result }
-    ensures same { D.files desk.new ≡ D.files desk.old }
-    ensures cause { Counts (D.faults desk.old) (D.faults desk.new) (EndsInReadFault result) }
-    ensures steady { EndsByInput result → D.faults desk.new ≡ D.faults desk.old }
-    ensures put_faults { D.put_faults desk.new ≡ D.put_faults desk.old }
+    ensures only_reads { OnlyReads D.files D.faults D.put_faults desk.old desk.new result }
 {
     text_laws();
     verdict_laws();
@@ -181,10 +169,7 @@ pub fn read_certificate<R: Threads + Sync, D: Desk>(
         (λ files. ShowsOf problem.now
         (option_map (λ n. n.now) numbers.entry))) }
     ensures path { FailsThere path.now result }
-    ensures same { D.files desk.new ≡ D.files desk.old }
-    ensures cause { Counts (D.faults desk.old) (D.faults desk.new) (EndsInReadFault result) }
-    ensures steady { EndsByInput result → D.faults desk.new ≡ D.faults desk.old }
-    ensures put_faults { D.put_faults desk.new ≡ D.put_faults desk.old }
+    ensures only_reads { OnlyReads D.files D.faults D.put_faults desk.old desk.new result }
 {
     match numbers {
         Some(numbers) => {

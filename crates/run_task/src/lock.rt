@@ -1,8 +1,8 @@
 //! The reading of a lock file.
 
 ghost use Rattle.std.specs.Prelude.{◌≡◌, IfSome};
-ghost use Rattle.outside_desk.specs.Causes.{Counts};
-ghost use Rattle.run_input.specs.Stops.{Gives, EndsByInput, EndsInReadFault};
+ghost use Rattle.run_input.specs.Reads.{OnlyReads};
+ghost use Rattle.run_input.specs.Stops.{Gives, EndsInReadFault};
 ghost use Rattle.run_input.specs.Bytes.{FailsAt};
 ghost use Rattle.run_task.specs.Locks.{LockIn, LockAt};
 
@@ -32,10 +32,7 @@ fn lock_in(alloc: Global, bytes: &[u8]) -> Result<Lock, ReadStop>
 pub fn read_lock_at<D: Desk>(alloc: Global, desk: &mut D, path: &str) -> Result<Lock, ReadStop>
     ensures read { IfSome (D.files desk.old) (λ files. Gives result (LockAt files path.now)) }
     ensures path { FailsAt path.now result }
-    ensures same { D.files desk.new ≡ D.files desk.old }
-    ensures cause { Counts (D.faults desk.old) (D.faults desk.new) (EndsInReadFault result) }
-    ensures steady { EndsByInput result → D.faults desk.new ≡ D.faults desk.old }
-    ensures put_faults { D.put_faults desk.new ≡ D.put_faults desk.old }
+    ensures only_reads { OnlyReads D.files D.faults D.put_faults desk.old desk.new result }
 {
     let bytes = read_bytes(alloc, desk, path, WholeFile::Lock)?;
     lock_in(alloc, bytes.as_slice())

@@ -2,9 +2,9 @@
 
 ghost use Rattle.std.specs.Prelude.{◌≡◌, true, Some, None, IfOk, IfSome, OnOk};
 ghost use Rattle.std.specs.Option.{option_map};
-ghost use Rattle.outside_desk.specs.Causes.{Counts};
 ghost use Rattle.run_input.specs.Inputs.{IsPosed};
-ghost use Rattle.run_input.specs.Stops.{Gives, EndsByInput, EndsInReadFault};
+ghost use Rattle.run_input.specs.Reads.{OnlyReads};
+ghost use Rattle.run_input.specs.Stops.{Gives};
 ghost use Rattle.run_task.specs.Certificates.{ShowsOf, log_verdict};
 ghost use Rattle.run_task.specs.Shown.{IsBestLock};
 ghost use Rattle.run_task.specs.Tasks.{AcceptanceOf, CheckOf, ReportOf, IsReportTask, IsYes, FailsAtEither};
@@ -28,10 +28,7 @@ pub(crate) fn read_report<D: Desk>(
         (λ files. Gives result (ReportOf files lock.now input.now.problem)) }
     ensures report { IfOk result IsReportTask }
     ensures path { FailsAtEither lock.now lock.now result }
-    ensures same { D.files desk.new ≡ D.files desk.old }
-    ensures cause { Counts (D.faults desk.old) (D.faults desk.new) (EndsInReadFault result) }
-    ensures steady { EndsByInput result → D.faults desk.new ≡ D.faults desk.old }
-    ensures put_faults { D.put_faults desk.new ≡ D.put_faults desk.old }
+    ensures only_reads { OnlyReads D.files D.faults D.put_faults desk.old desk.new result }
 {
     match read_verdict(alloc, desk, lock, &input.problem) {
         Ok(numbers) => Ok(Task::Report(numbers)),
@@ -57,10 +54,7 @@ pub(crate) fn read_acceptance<R: Threads + Sync, D: Desk>(
         (λ files. ShowsOf input.now.problem (option_map (λ n. n.now) numbers.entry))) }
     ensures yes { IfOk result IsYes }
     ensures path { FailsAtEither cert.now cert.now result }
-    ensures same { D.files desk.new ≡ D.files desk.old }
-    ensures cause { Counts (D.faults desk.old) (D.faults desk.new) (EndsInReadFault result) }
-    ensures steady { EndsByInput result → D.faults desk.new ≡ D.faults desk.old }
-    ensures put_faults { D.put_faults desk.new ≡ D.put_faults desk.old }
+    ensures only_reads { OnlyReads D.files D.faults D.put_faults desk.old desk.new result }
 {
     match read_certificate(
         rt,
@@ -92,10 +86,7 @@ pub(crate) fn read_check<R: Threads + Sync, D: Desk>(
         (λ files. IsBestLock files lock.now input.now.problem)) }
     ensures yes { IfOk result IsYes }
     ensures path { FailsAtEither lock.now cert.now result }
-    ensures same { D.files desk.new ≡ D.files desk.old }
-    ensures cause { Counts (D.faults desk.old) (D.faults desk.new) (EndsInReadFault result) }
-    ensures steady { EndsByInput result → D.faults desk.new ≡ D.faults desk.old }
-    ensures put_faults { D.put_faults desk.new ≡ D.put_faults desk.old }
+    ensures only_reads { OnlyReads D.files D.faults D.put_faults desk.old desk.new result }
 {
     let numbers = read_verdict(alloc, desk, lock, &input.problem)?;
     read_acceptance(rt, alloc, desk, cert, input, Some(numbers.as_slice()))

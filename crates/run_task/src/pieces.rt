@@ -2,9 +2,8 @@
 
 ghost use Rattle.std.specs.Prelude.{◌≡◌, ◌≤◌, ◌<◌, ◌-◌, min, length, IfOk, IfSome};
 ghost use Rattle.std.specs.FinMap.{get};
-ghost use Rattle.outside_desk.specs.Causes.{Counts};
 ghost use Rattle.log_checker.specs.Steps.{State};
-ghost use Rattle.run_answers.specs.Stops.{EndsByInput, EndsInReadFault};
+ghost use Rattle.run_answers.specs.Reads.{OnlyReads};
 ghost use Rattle.run_task.specs.Certificates.{most};
 ghost use Rattle.run_task.specs.Pieces.{GivesPiece, TakesNext, TakesAll, Moves, FailsThere};
 
@@ -40,10 +39,7 @@ fn read_piece<D: Desk>(
     ensures read { IfSome (D.files desk.old)
         (λ files. GivesPiece (get files path.now) from out.new path.now result) }
     ensures path { FailsThere path.now result }
-    ensures same { D.files desk.new ≡ D.files desk.old }
-    ensures cause { Counts (D.faults desk.old) (D.faults desk.new) (EndsInReadFault result) }
-    ensures steady { EndsByInput result → D.faults desk.new ≡ D.faults desk.old }
-    ensures put_faults { D.put_faults desk.new ≡ D.put_faults desk.old }
+    ensures only_reads { OnlyReads D.files D.faults D.put_faults desk.old desk.new result }
 {
     match desk.read_at(alloc, path, from, out) {
         Ok(count) => Ok(count),
@@ -85,10 +81,7 @@ pub(crate) fn take_next<R: Threads + Sync, D: Desk>(
     ensures taken { IfSome (D.files desk.old) (λ files. (s : State)
         → TakesNext s (get files path.now) from path.now checker.old checker.new result) }
     ensures path { FailsThere path.now result }
-    ensures same { D.files desk.new ≡ D.files desk.old }
-    ensures cause { Counts (D.faults desk.old) (D.faults desk.new) (EndsInReadFault result) }
-    ensures steady { EndsByInput result → D.faults desk.new ≡ D.faults desk.old }
-    ensures put_faults { D.put_faults desk.new ≡ D.put_faults desk.old }
+    ensures only_reads { OnlyReads D.files D.faults D.put_faults desk.old desk.new result }
 {
     let count = read_piece(alloc, desk, path, from, piece)?;
     if count == 0 {
@@ -118,10 +111,7 @@ pub(crate) fn take_all<R: Threads + Sync, D: Desk>(
     ensures taken { IfSome (D.files desk.old) (λ files. (s : State)
         → TakesAll s (get files path.now) path.now checker.old checker.new result) }
     ensures path { FailsThere path.now result }
-    ensures same { D.files desk.new ≡ D.files desk.old }
-    ensures cause { Counts (D.faults desk.old) (D.faults desk.new) (EndsInReadFault result) }
-    ensures steady { EndsByInput result → D.faults desk.new ≡ D.faults desk.old }
-    ensures put_faults { D.put_faults desk.new ≡ D.put_faults desk.old }
+    ensures only_reads { OnlyReads D.files D.faults D.put_faults desk.old desk.new result }
 {
     let mut from: u64 = 0;
     'pieces: loop {

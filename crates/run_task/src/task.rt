@@ -2,11 +2,11 @@
 
 ghost use Rattle.std.specs.Prelude.{◌≡◌, true, All, Some, None, Ok, IfOk, IfSome, OnOk, List};
 ghost use Rattle.std.specs.Str.{IsUtf8};
-ghost use Rattle.outside_desk.specs.Causes.{Counts};
 ghost use Rattle.run_input.specs.Inputs.{IsPosed};
 ghost use Rattle.spec_grammar.specs.Canonical.{spec_text};
 ghost use Rattle.spec_grammar.specs.declared.part.Spec.{Spec};
-ghost use Rattle.run_input.specs.Stops.{Gives, EndsByInput, EndsInReadFault};
+ghost use Rattle.run_input.specs.Reads.{OnlyReads};
+ghost use Rattle.run_input.specs.Stops.{Gives, EndsInReadFault};
 ghost use Rattle.run_input.specs.Roots.{RootsOf};
 ghost use Rattle.run_task.specs.Certificates.{log_verdict};
 ghost use Rattle.trial_input.specs.Inputs.{input_files};
@@ -53,10 +53,7 @@ fn task_by<R: Threads + Sync, D: Desk>(
     ensures work { IfOk result (λ task. IsOf command.now.work task) }
     ensures ready { IfOk result (λ task. IsReady task) }
     ensures path { FailsAtTask (D.files desk.old) command.now result }
-    ensures same { D.files desk.new ≡ D.files desk.old }
-    ensures cause { Counts (D.faults desk.old) (D.faults desk.new) (EndsInReadFault result) }
-    ensures steady { EndsByInput result → D.faults desk.new ≡ D.faults desk.old }
-    ensures put_faults { D.put_faults desk.new ≡ D.put_faults desk.old }
+    ensures only_reads { OnlyReads D.files D.faults D.put_faults desk.old desk.new result }
 {
     match command.work {
         Work::Concretize => Ok(Task::Solve(input)),
@@ -96,10 +93,7 @@ fn read_over<R: Threads + Sync, D: Desk>(
     ensures roots { IfOk result (λ task. (roots : List Spec)
         × RootsOf command.now.spec (Ok roots)) }
     ensures path { FailsAtTask (D.files desk.old) command.now result }
-    ensures same { D.files desk.new ≡ D.files desk.old }
-    ensures cause { Counts (D.faults desk.old) (D.faults desk.new) (EndsInReadFault result) }
-    ensures steady { EndsByInput result → D.faults desk.new ≡ D.faults desk.old }
-    ensures put_faults { D.put_faults desk.new ≡ D.put_faults desk.old }
+    ensures only_reads { OnlyReads D.files D.faults D.put_faults desk.old desk.new result }
 {
     reading_laws();
     writing_laws();
@@ -159,10 +153,7 @@ pub fn read_task<R: Threads + Sync, D: Desk>(
     ensures roots { IfOk result (λ task. (roots : List Spec)
         × RootsOf command.now.spec (Ok roots)) }
     ensures path { FailsAtTask (D.files desk.old) command.now result }
-    ensures same { D.files desk.new ≡ D.files desk.old }
-    ensures cause { Counts (D.faults desk.old) (D.faults desk.new) (EndsInReadFault result) }
-    ensures steady { EndsByInput result → D.faults desk.new ≡ D.faults desk.old }
-    ensures put_faults { D.put_faults desk.new ≡ D.put_faults desk.old }
+    ensures only_reads { OnlyReads D.files D.faults D.put_faults desk.old desk.new result }
 {
     match made_for(command.work) {
         Some((packages, seed)) => read_made(rt, alloc, command, packages, seed),

@@ -1,10 +1,10 @@
 //! The verdict on a lock file.
 
 ghost use Rattle.std.specs.Prelude.{◌≡◌, IfOk, IfSome};
-ghost use Rattle.outside_desk.specs.Causes.{Counts};
 ghost use Rattle.graph_rules.specs.Verdict.{verdict};
 ghost use Rattle.run_input.specs.Stages.{Is};
-ghost use Rattle.run_input.specs.Stops.{Gives, EndsByInput, EndsInReadFault};
+ghost use Rattle.run_input.specs.Reads.{OnlyReads};
+ghost use Rattle.run_input.specs.Stops.{Gives, EndsInReadFault};
 ghost use Rattle.run_input.specs.Bytes.{FailsAt};
 ghost use Rattle.run_task.specs.Verdicts.{unless_broken, weighed, judged, Judges, IsRight, IsValidLock};
 
@@ -87,10 +87,7 @@ pub fn read_verdict<D: Desk>(
     ensures lock { IfOk result (λ numbers. IfSome (D.files desk.old)
         (λ files. IsValidLock files path.now problem.now numbers)) }
     ensures path { FailsAt path.now result }
-    ensures same { D.files desk.new ≡ D.files desk.old }
-    ensures cause { Counts (D.faults desk.old) (D.faults desk.new) (EndsInReadFault result) }
-    ensures steady { EndsByInput result → D.faults desk.new ≡ D.faults desk.old }
-    ensures put_faults { D.put_faults desk.new ≡ D.put_faults desk.old }
+    ensures only_reads { OnlyReads D.files D.faults D.put_faults desk.old desk.new result }
 {
     let lock = read_lock_at(alloc, desk, path)?;
     let said = judge_lock(alloc, problem, &lock);

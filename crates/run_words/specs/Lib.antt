@@ -6,6 +6,7 @@ pub use Rattle.run_answers.specs.Exits
 pub use Rattle.run_answers.specs.Lines
 pub use Rattle.run_answers.specs.LockFault
 pub use Rattle.run_answers.specs.Refusals
+pub use Rattle.run_answers.specs.Reads
 pub use Rattle.run_answers.specs.Stages
 pub use Rattle.run_answers.specs.Stops
 pub use Rattle.run_answers.specs.declared.refusal.Refusal

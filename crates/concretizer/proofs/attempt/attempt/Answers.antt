@@ -25,7 +25,7 @@ pub returns-in_err-answer-clause-outcome : goal.returns-in_err-answer-clause-out
 returns-in_err-answer-clause-outcome g c =
     stopped (words_of c.args.words.now) c.in_ok-command.command _ _ c.in_ok-task.task c.in_err-answer.field-0.0
     c.from_residual-in_err-answer.result _ _ _ _ _
-    c.from_residual-in_err-answer.ensures.1 c.in_ok-command.ensures.read c.in_ok-task.ensures.read c.in_ok-task.ensures.same
+    c.from_residual-in_err-answer.ensures.1 c.in_ok-command.ensures.read c.in_ok-task.ensures.read c.in_ok-task.ensures.only_reads.same
     (ap (λ (k : Command). k.lock) c.command.view_is ∙ c.in_ok-command.ensures.lock)
     (ap (λ (k : Command). k.cert) c.command.view_is ∙ c.in_ok-command.ensures.cert) c.in_err-answer.ensures.left
 
@@ -65,21 +65,21 @@ returns-clause-follows g c =
 pub returns-clause-outcome : goal.returns-clause-outcome
 returns-clause-outcome g c =
     answered (words_of c.args.words.now) c.in_ok-command.command _ _ c.in_ok-task.task _ _ _ _ _ _ c.in_ok-command.ensures.read
-    c.in_ok-task.ensures.read c.in_ok-task.ensures.same
+    c.in_ok-task.ensures.read c.in_ok-task.ensures.only_reads.same
     (ap (λ (k : Command). k.lock) c.command.view_is ∙ c.in_ok-command.ensures.lock)
     (ap (λ (k : Command). k.cert) c.command.view_is ∙ c.in_ok-command.ensures.cert) c.in_ok-answer.ensures.left
 
 pub returns-clause-held : goal.returns-clause-held
 returns-clause-held g c =
     held (words_of c.args.words.now) c.in_ok-command.command _ _ c.in_ok-task.task _ _ _ c.in_ok-command.ensures.read
-    c.in_ok-task.ensures.read c.in_ok-task.ensures.same
+    c.in_ok-task.ensures.read c.in_ok-task.ensures.only_reads.same
     (ap (λ (k : Command). k.lock) c.command.view_is ∙ c.in_ok-command.ensures.lock)
     (ap (λ (k : Command). k.cert) c.command.view_is ∙ c.in_ok-command.ensures.cert) c.in_ok-answer.ensures.held
 
 pub returns-in_err-answer-clause-held : goal.returns-in_err-answer-clause-held
 returns-in_err-answer-clause-held g c =
     held (words_of c.args.words.now) c.in_ok-command.command _ _ c.in_ok-task.task _ _ _ c.in_ok-command.ensures.read
-    c.in_ok-task.ensures.read c.in_ok-task.ensures.same
+    c.in_ok-task.ensures.read c.in_ok-task.ensures.only_reads.same
     (ap (λ (k : Command). k.lock) c.command.view_is ∙ c.in_ok-command.ensures.lock)
     (ap (λ (k : Command). k.cert) c.command.view_is ∙ c.in_ok-command.ensures.cert) c.in_err-answer.ensures.held
 
@@ -95,7 +95,7 @@ returns-in_err-answer-clause-unsaid g c =
 pub returns-clause-kept : goal.returns-clause-kept
 returns-clause-kept g c =
     answered_log (words_of c.args.words.now) c.in_ok-command.command _ _ c.in_ok-task.task _ _ _ _ _ c.in_ok-command.ensures.read
-    c.in_ok-task.ensures.read c.in_ok-task.ensures.same
+    c.in_ok-task.ensures.read c.in_ok-task.ensures.only_reads.same
     (ap (λ (k : Command). k.lock) c.command.view_is ∙ c.in_ok-command.ensures.lock)
     (ap (λ (k : Command). k.cert) c.command.view_is ∙ c.in_ok-command.ensures.cert) c.in_ok-answer.ensures.kept
 
@@ -103,6 +103,6 @@ pub returns-in_err-answer-clause-kept : goal.returns-in_err-answer-clause-kept
 returns-in_err-answer-clause-kept g c =
     stopped_log (words_of c.args.words.now) c.in_ok-command.command _ _ c.in_ok-task.task _ c.in_err-answer.field-0.0
     c.from_residual-in_err-answer.result _ _ _ c.from_residual-in_err-answer.ensures.1 c.in_ok-command.ensures.read
-    c.in_ok-task.ensures.read c.in_ok-task.ensures.same
+    c.in_ok-task.ensures.read c.in_ok-task.ensures.only_reads.same
     (ap (λ (k : Command). k.lock) c.command.view_is ∙ c.in_ok-command.ensures.lock)
     (ap (λ (k : Command). k.cert) c.command.view_is ∙ c.in_ok-command.ensures.cert) c.in_err-answer.ensures.kept

@@ -1,5 +1,5 @@
 use Rattle.std.proofs.Common.{ap, ◌∙◌}
-use Rattle.run_input.specs.Words.{Command}
+use Rattle.run_words.specs.Words.{Command}
 use Rattle.run_input.specs.Installed.{DatabaseAt}
 use Rattle.run_input.specs.Inputs.{Asked}
 use Rattle.run_input.proofs.Staged.{put_over}

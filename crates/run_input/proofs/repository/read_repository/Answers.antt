@@ -1,5 +1,5 @@
 use Rattle.std.proofs.Common.{refl, []}
-use Rattle.run_input.specs.Stages.{Is}
+use Rattle.run_answers.specs.Stages.{Is}
 use Rattle.run_input.specs.Sources.{pile_of}
 use Rattle.run_input.specs.Inputs.{Over}
 use Rattle.run_input.proofs.Staged.{put_over}

@@ -17,4 +17,4 @@ returns-clause-roots g c =
     (c.in_ok-input.input.problem.roots, c.in_ok-input.ensures.roots)
 
 pub returns-clause-path : goal.returns-clause-path
-returns-clause-path g c = later _ _ c.args.command.now c.task_by.result c.in_ok-input.ensures.same c.task_by.ensures.path
+returns-clause-path g c = later _ _ c.args.command.now c.task_by.result c.in_ok-input.ensures.only_reads.same c.task_by.ensures.path
