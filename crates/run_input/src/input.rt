@@ -16,7 +16,9 @@ ghost use Rattle.run_input.specs.Inputs.{posed_by, closed_of, InputBy, Asked, Be
 
 use crate::repository::read_repository;
 use crate::roots::read_roots;
-use crate::{Command, ReadStop, Refusal, read_installed, read_site};
+use crate::{
+    Command, ReadRecipes, ReadRecords, ReadRoots, ReadSettings, ReadStop, Refusal, read_installed, read_site,
+};
 use outside_desk::Desk;
 use plain_data::List;
 use possible_closure::{Closure, ClosureFault, closure};
@@ -91,50 +93,36 @@ fn closed(alloc: Global, problem: Problem) -> Result<Input, ReadStop>
 /// The problem, and then its names.
 fn put_together(
     alloc: Global,
-    recipes: List<Recipe>,
-    settings: Settings,
-    database: Database,
-    roots: List<Spec>,
+    recipes: ReadRecipes,
+    settings: ReadSettings,
+    records: ReadRecords,
+    roots: ReadRoots,
 ) -> Result<Input, ReadStop>
-    requires order { AreInOrder recipes }
-    requires right { list_all is_right_recipe recipes ≡ true }
-    requires few_rows { are_few_rows recipes ≡ true }
-    requires named { are_named roots ≡ true }
-    requires externals { are_valued settings ≡ true }
-    requires small { are_small settings ≡ true }
-    requires records { list_all has_values database ≡ true }
-    requires few_records { are_few_records database ≡ true }
-    ensures read { Gives result (InputBy recipes settings database roots) }
+    ensures read { Gives result (InputBy recipes settings records roots) }
     ensures roots { IfOk result (λ input. input.problem.roots ≡ roots) }
     ensures posed { IfOk result IsPosed }
     ensures no_fault { EndsInReadFault result → ⊥ }
 {
-    let problem = posed(alloc, recipes, settings, database, roots)?;
+    let (recipes, settings) = (recipes.recipes(), settings.settings());
+    let problem = posed(alloc, recipes, settings, records.records(), roots.roots())?;
     closed(alloc, problem)
 }
 
 /// The specs, and then the problem.
 fn read_asked(
     alloc: Global,
-    recipes: List<Recipe>,
-    settings: Settings,
-    database: Database,
+    recipes: ReadRecipes,
+    settings: ReadSettings,
+    records: ReadRecords,
     spec: &str,
 ) -> Result<Input, ReadStop>
-    requires order { AreInOrder recipes }
-    requires right { list_all is_right_recipe recipes ≡ true }
-    requires few_rows { are_few_rows recipes ≡ true }
-    requires externals { are_valued settings ≡ true }
-    requires small { are_small settings ≡ true }
-    requires records { list_all has_values database ≡ true }
-    requires few_records { are_few_records database ≡ true }
-    ensures read { Gives result (Asked recipes settings spec.now database) }
+    ensures read { Gives result (Asked recipes settings spec.now records) }
     ensures roots { IfOk result (λ input. RootsOf spec.now (Ok input.problem.roots)) }
     ensures posed { IfOk result IsPosed }
     ensures no_fault { EndsInReadFault result → ⊥ }
 {
     match read_roots(alloc, spec) {
-        Ok(roots) => put_together(alloc, recipes, settings, database, roots),
+        Ok(roots) => put_together(alloc, recipes, settings, records, roots),
         Err(stop) => Err(stop),
     }
 }
@@ -145,14 +133,9 @@ fn read_behind<D: Desk>(
     alloc: Global,
     desk: &mut D,
     command: &Command<'_>,
-    settings: Settings,
-    recipes: List<Recipe>,
+    settings: ReadSettings,
+    recipes: ReadRecipes,
 ) -> Result<Input, ReadStop>
-    requires order { AreInOrder recipes }
-    requires right { list_all is_right_recipe recipes ≡ true }
-    requires few_rows { are_few_rows recipes ≡ true }
-    requires externals { are_valued settings ≡ true }
-    requires small { are_small settings ≡ true }
     ensures read { IfSome (D.files desk.old)
         (λ files. Gives result (Behind files command.now settings recipes)) }
     ensures roots { IfOk result (λ input. RootsOf command.now.spec (Ok input.problem.roots)) }
@@ -161,7 +144,7 @@ fn read_behind<D: Desk>(
     ensures only_reads { OnlyReads D.files D.faults D.put_faults desk.old desk.new result }
 {
     match read_installed(alloc, desk, command.database) {
-        Ok(database) => read_asked(alloc, recipes, settings, database, command.spec.as_str()),
+        Ok(records) => read_asked(alloc, recipes, settings, records, command.spec.as_str()),
         Err(stop) => Err(stop),
     }
 }
@@ -173,10 +156,8 @@ fn read_over<R: Threads + Sync, D: Desk>(
     alloc: Global,
     desk: &mut D,
     command: &Command<'_>,
-    settings: Settings,
+    settings: ReadSettings,
 ) -> Result<Input, ReadStop>
-    requires externals { are_valued settings ≡ true }
-    requires small { are_small settings ≡ true }
     ensures read { IfSome (D.files desk.old)
         (λ files. Gives result (OverSettings files command.now settings)) }
     ensures roots { IfOk result (λ input. RootsOf command.now.spec (Ok input.problem.roots)) }

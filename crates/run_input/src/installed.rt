@@ -9,7 +9,7 @@ ghost use Rattle.run_answers.specs.Stops.{Gives, EndsInReadFault};
 ghost use Rattle.run_words.specs.Words.{is_dash};
 ghost use Rattle.run_input.specs.Installed.{DatabaseIn, DatabaseAt, FailsThere};
 
-use crate::{WholeFile, read_bytes};
+use crate::{ReadRecords, WholeFile, read_bytes};
 use file_limits::{database_count_laws, value_laws};
 use outside_desk::Desk;
 use record_reader::read_database;
@@ -45,16 +45,15 @@ pub fn read_installed<D: Desk>(
     alloc: Global,
     desk: &mut D,
     path: &str,
-) -> Result<Database, ReadStop>
+) -> Result<ReadRecords, ReadStop>
     ensures read { IfSome (D.files desk.old) (λ files. Gives result (DatabaseAt files path.now)) }
-    ensures values { IfOk result (λ database. list_all has_values database ≡ true) }
-    ensures few { IfOk result (λ database. are_few_records database ≡ true) }
     ensures path { FailsThere path.now result }
     ensures only_reads { OnlyReads D.files D.faults D.put_faults desk.old desk.new result }
 {
     if is_dash(path) {
-        return Ok(Database::empty(alloc));
+        return Ok(ReadRecords::new(Database::empty(alloc)));
     }
     let bytes = read_bytes(alloc, desk, path, WholeFile::Database)?;
-    database_in(alloc, bytes.as_slice())
+    let records = database_in(alloc, bytes.as_slice())?;
+    Ok(ReadRecords::new(records))
 }

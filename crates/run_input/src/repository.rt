@@ -14,7 +14,7 @@ ghost use Rattle.run_input.specs.Sources.{bytes_in, names_of, source_of};
 ghost use Rattle.run_input.specs.Inputs.{Over, InRepository};
 
 use crate::recipes::{check_apart, recipes_of};
-use crate::{ReadStop, Sources, read_sources};
+use crate::{ReadRecipes, ReadStop, Sources, read_sources};
 use outside_desk::Desk;
 use plain_data::List;
 use recipe_data::Recipe;
@@ -48,16 +48,13 @@ fn read_pile<R: Threads + Sync>(
     rt: &R,
     alloc: Global,
     sources: &Sources,
-) -> Result<List<Recipe>, ReadStop>
+) -> Result<ReadRecipes, ReadStop>
     requires { IsInByteOrder (names_of sources.now) }
     ensures read { Gives result (Over sources.now.files) }
-    ensures order { IfOk result (λ recipes. AreInOrder recipes) }
-    ensures right { IfOk result (λ recipes. list_all is_right_recipe recipes ≡ true) }
-    ensures few_rows { IfOk result (λ recipes. are_few_rows recipes ≡ true) }
     ensures no_fault { EndsInReadFault result → ⊥ }
 {
     match read_over(rt, alloc, sources.as_slice()) {
-        Ok(recipes) => Ok(recipes),
+        Ok(recipes) => Ok(ReadRecipes::new(recipes)),
         Err(stop) => Err(stop),
     }
 }
@@ -68,11 +65,8 @@ pub fn read_repository<R: Threads + Sync, D: Desk>(
     alloc: Global,
     desk: &mut D,
     repo: &str,
-) -> Result<List<Recipe>, ReadStop>
+) -> Result<ReadRecipes, ReadStop>
     ensures read { IfSome (D.files desk.old) (λ files. Gives result (InRepository files repo.now)) }
-    ensures order { IfOk result (λ recipes. AreInOrder recipes) }
-    ensures right { IfOk result (λ recipes. list_all is_right_recipe recipes ≡ true) }
-    ensures few_rows { IfOk result (λ recipes. are_few_rows recipes ≡ true) }
     ensures path { FailsInside (D.files desk.old) repo.now result }
     ensures only_reads { OnlyReads D.files D.faults D.put_faults desk.old desk.new result }
 {

@@ -5,7 +5,7 @@ ghost use Rattle.run_answers.specs.Stages.{Is, Then};
 ghost use Rattle.run_answers.specs.Stops.{Gives, EndsInReadFault};
 ghost use Rattle.run_input.specs.Roots.{SpecsOf, RootsOf, are_named, roots_of};
 
-use crate::{ReadStop, Refusal};
+use crate::{ReadRoots, ReadStop, Refusal};
 use plain_data::List;
 use spec_grammar::{Spec, SpecFault, read_specs, writing_laws};
 use std::alloc::Global;
@@ -55,13 +55,13 @@ fn roots_in(alloc: Global, text: &str) -> Result<List<Spec>, ReadStop>
 }
 
 /// The roots that the text of the specs asks for.
-pub fn read_roots(alloc: Global, text: &str) -> Result<List<Spec>, ReadStop>
+pub fn read_roots(alloc: Global, text: &str) -> Result<ReadRoots, ReadStop>
     ensures read { Gives result (RootsOf text.now) }
-    ensures named { IfOk result (λ roots. are_named roots ≡ true) }
     ensures no_fault { EndsInReadFault result → ⊥ }
 {
     if text.len() > SPECS_LIMIT {
         return Err(ReadStop::Refused(Refusal::SpecsTooLarge));
     }
-    roots_in(alloc, text)
+    let roots = roots_in(alloc, text)?;
+    Ok(ReadRoots::new(roots))
 }

@@ -8,7 +8,7 @@ ghost use Rattle.run_answers.specs.Stops.{Gives, EndsInReadFault};
 ghost use Rattle.run_words.specs.Words.{is_dash};
 ghost use Rattle.run_input.specs.Sites.{SettingsIn, SettingsAt, FailsThere};
 
-use crate::{WholeFile, read_bytes};
+use crate::{ReadSettings, WholeFile, read_bytes};
 use file_limits::settings_count_laws;
 use outside_desk::Desk;
 use run_answers::{ReadStop, Refusal};
@@ -40,17 +40,20 @@ fn settings_in(alloc: Global, bytes: &[u8]) -> Result<Settings, ReadStop>
 ///
 /// `MissingInput` where there is no such file, `SettingsTooLarge` beyond 16 MiB, `BadSettings` with the first
 /// fault of the text. `Fault` where the desk failed, with the path.
-pub fn read_site<D: Desk>(alloc: Global, desk: &mut D, path: &str) -> Result<Settings, ReadStop>
+pub fn read_site<D: Desk>(
+    alloc: Global,
+    desk: &mut D,
+    path: &str,
+) -> Result<ReadSettings, ReadStop>
     ensures read { IfSome (D.files desk.old) (λ files. Gives result (SettingsAt files path.now)) }
-    ensures values { IfOk result (λ settings. are_valued settings ≡ true) }
-    ensures small { IfOk result (λ settings. are_small settings ≡ true) }
     ensures path { FailsThere path.now result }
     ensures only_reads { OnlyReads D.files D.faults D.put_faults desk.old desk.new result }
 {
     settings_count_laws();
     if is_dash(path) {
-        return Ok(Settings::standard(alloc)?);
+        return Ok(ReadSettings::new(Settings::standard(alloc)?));
     }
     let bytes = read_bytes(alloc, desk, path, WholeFile::Settings)?;
-    settings_in(alloc, bytes.as_slice())
+    let settings = settings_in(alloc, bytes.as_slice())?;
+    Ok(ReadSettings::new(settings))
 }

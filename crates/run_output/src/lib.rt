@@ -1,15 +1,10 @@
-//! Lock files of valid graphs.
-//!
-//! What it is: `write_valid`, the text of the lock file of a valid graph of a problem.
-//! What it promises: exactly that text; a valid graph can be written, since the rules demand it.
-//! What it stands on: `graph_rules` for validity, `lock_writer` for the text.
-//! What it must not know: how the graph was found, and where the text goes.
-//!
 //! What a run writes: the certificate, the lock file and the lines of an answer.
 //!
-//! What it is: `write_answer`, which finds the best graph of a problem and writes the answer.
-//! What it promises: the files and the lines are those of an answer of the problem; what stands after a fault.
-//! What it stands on: `run_task` for what is asked, `best_graph` for the answer, `valid_locks` for the lock file.
+//! What it is: `write_answer`, which finds the best graph of a problem and writes the answer; `write_valid`, the text of the lock file of
+//! a valid graph.
+//! What it promises: the files and the lines are those of an answer of the problem; what stands after a fault. A valid graph can be
+//! written, since the rules demand it.
+//! What it stands on: `run_task` for what is asked and for the answer, `graph_rules` for validity, `lock_writer` for the lock file.
 //! What it must not know: words, and how the problem was read.
 #![tactic(auto)]
 
