@@ -17,7 +17,8 @@ ghost use Rattle.run_input.specs.Inputs.{posed_by, closed_of, InputBy, Asked, Be
 use crate::repository::read_repository;
 use crate::roots::read_roots;
 use crate::{
-    Command, ReadRecipes, ReadRecords, ReadRoots, ReadSettings, ReadStop, Refusal, read_installed, read_site,
+    Command, ReadRecipes, ReadRecords, ReadRoots, ReadSettings, ReadStop, Refusal, read_installed,
+    read_site,
 };
 use outside_desk::Desk;
 use plain_data::List;

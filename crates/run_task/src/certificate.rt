@@ -18,7 +18,7 @@ ghost use Rattle.run_task.specs.Certificates.{said_at, certified_at, ShowsOf};
 ghost use Rattle.run_task.specs.Pieces.{FailsThere};
 
 use crate::pieces::take_all;
-use crate::run_certificate_verdict::verdict;
+use crate::text_verdict::verdict;
 use best_graph::{Encoded, Rules, encode, encode_rules, values_of, verdict_laws};
 use certified::{TextChecker, text_laws};
 use clause_store::{ClauseList, Lit};

@@ -9,31 +9,31 @@
 //! What it must not know: how a problem is solved, who made a log, and what is written.
 #![tactic(auto)]
 
+mod accepted_again;
 mod certificate;
-mod certificate_again_theorems;
+mod certificate_sayings;
 mod lock;
 mod looks;
+mod one_verdict;
 mod pieces;
+mod posed_tasks;
 mod roots;
-mod run_certificate_theorems;
-mod run_certificate_verdict;
-mod run_task_theorems;
 mod task;
-mod theorems;
+mod text_verdict;
 mod verdict;
 mod whole;
 
 // What crates above answer with.
+pub use accepted_again::again_laws;
 pub use best_graph::{Answer, Explanation, Progress, Stage, Untold, best_graph, explain};
 pub use certificate::read_certificate;
-pub use certificate_again_theorems::again_laws;
 // The cost vector, for crates above.
+pub use certificate_sayings::certificate_laws;
 pub use cost_vector::vector;
-pub use run_certificate_theorems::certificate_laws;
+pub use one_verdict::verdict_laws;
+pub use posed_tasks::task_laws;
 pub use run_input::{
     Command, Input, ReadStop, Refusal, Status, Stop, Work, WriteStop, is_dash, read_command,
 };
-pub use run_task_theorems::task_laws;
 pub use task::{Task, read_task};
-pub use theorems::verdict_laws;
 pub use verdict::read_verdict;

@@ -1,5 +1,5 @@
 use Rattle.run_task.proofs.One.{one_verdict}
-use Rattle.run_task.proofs.theorems.verdict_laws.Goals as goal
+use Rattle.run_task.proofs.one_verdict.verdict_laws.Goals as goal
 
 pub returns : goal.returns
 returns c = record {

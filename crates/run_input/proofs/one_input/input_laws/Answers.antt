@@ -1,6 +1,6 @@
 use Rattle.spec_grammar.specs.declared.mode.Mode.TheVariants.{Specs}
 use Rattle.run_input.proofs.Once.{one_read}
-use Rattle.run_input.proofs.run_input_theorems.input_laws.Goals as goal
+use Rattle.run_input.proofs.one_input.input_laws.Goals as goal
 
 pub returns : goal.returns
 returns c = record {

@@ -1,6 +1,6 @@
 use Rattle.run_task.proofs.Once.{one_posed}
 use Rattle.run_task.proofs.Weaker.{any_posed, none_posed}
-use Rattle.run_task.proofs.run_task_theorems.task_laws.Goals as goal
+use Rattle.run_task.proofs.posed_tasks.task_laws.Goals as goal
 
 pub returns-clause-one : goal.returns-clause-one
 returns-clause-one c = one_posed c.input_laws.ensures.one c.verdict_laws.ensures.one

@@ -1,5 +1,5 @@
 use Rattle.run_input.proofs.OneDatabase.{one_database}
-use Rattle.run_input.proofs.run_database_theorems.installed_laws.Goals as goal
+use Rattle.run_input.proofs.one_database.installed_laws.Goals as goal
 
 pub returns : goal.returns
 returns c = record {

@@ -1,5 +1,5 @@
 use Rattle.run_input.proofs.OneSite.{one_site}
-use Rattle.run_input.proofs.theorems.site_laws.Goals as goal
+use Rattle.run_input.proofs.one_site.site_laws.Goals as goal
 
 pub returns : goal.returns
 returns c = record {

@@ -1,5 +1,5 @@
 use Rattle.run_task.proofs.Accepted.{best_accepted, nothing_accepted}
-use Rattle.run_task.proofs.certificate_again_theorems.again_laws.Goals as goal
+use Rattle.run_task.proofs.accepted_again.again_laws.Goals as goal
 
 pub returns : goal.returns
 returns c = record {
