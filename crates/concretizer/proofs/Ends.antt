@@ -1,6 +1,7 @@
 -- How a run that stops is answered.
 use Rattle.std.proofs.Common.{◌≡◌, ℕ, List, Option, Some, None, Result, Ok, Err, subst, inl, inr}
 use Rattle.std.specs.Prelude.{IfSome}
+use Rattle.run_answers.specs.Exits.{IsAnsweredBy, IsRefusalStatus, Spoken}
 use Rattle.outside_desk.specs.Causes.{Counts, Rose}
 use Rattle.outside_desk.specs.Files.{Files}
 use Rattle.run_output.specs.Task.{Task}
@@ -12,7 +13,7 @@ use Rattle.run_output.specs.Refusals.{status_of, line_of}
 use Rattle.run_output.specs.Senses.{Sense}
 use Rattle.run_output.specs.Stops.{stop_status, stop_line}
 use Rattle.concretizer.specs.Attempts.{Attempts, Concludes, StopsAtOnce, FailsToRead, FailsToPut, FailsToSay}
-use Rattle.concretizer.specs.Headline.{IsRefused, IsOfInput, IsRefusalStatus, Settles, Reports, ReportsWords, IsAnsweredBy, Spoken, Says}
+use Rattle.concretizer.specs.Headline.{IsRefused, IsOfInput, Settles, Reports, ReportsWords, Says}
 use Rattle.concretizer.specs.Logs.{AreStill}
 use Rattle.run_output.specs.declared.answer.Outcome.{Outcome}
 use Rattle.run_output.specs.Refusal.{Refusal}

@@ -1,6 +1,7 @@
 -- Faults of devices, where a run stops.
 use Rattle.std.proofs.Common.{◌≡◌, refl, sym, ◌∙◌, ℕ, List, Option, Some, None, Err, inl, inr, ◌⊎◌}
 use Rattle.std.specs.Prelude.{IfSome}
+use Rattle.run_answers.specs.Exits.{Spoken}
 use Rattle.outside_desk.specs.Causes.{Counts, Rose}
 use Rattle.outside_desk.specs.Files.{Files}
 use Rattle.run_output.specs.Refusals.{status_of}
@@ -13,20 +14,7 @@ use Rattle.run_output.specs.WriteStop.TheVariants as writes
 use Rattle.run_output.specs.Stop.{Stop}
 use Rattle.run_output.specs.Stop.TheVariants.{Usage, Read, Write}
 use Rattle.concretizer.specs.Attempts.{Attempts, Follows, StopsBefore, FailsToRead, FailsToPut, FailsToSay}
-use Rattle.concretizer.specs.Headline.{
-  IsOutOfMemory,
-  IsOutputFault,
-  IsPutFault,
-  IsReadFault,
-  IsReportFault,
-  IsSilent,
-  IsStopped,
-  LeavesAll,
-  LeavesPut,
-  Reports,
-  Says,
-  Spoken,
-}
+use Rattle.concretizer.specs.Headline.{IsOutOfMemory, IsOutputFault, IsPutFault, IsReadFault, IsReportFault, IsSilent, IsStopped, LeavesAll, LeavesPut, Reports, Says}
 use Rattle.concretizer.proofs.Reported.{by_report, unlike}
 
 -- ---- ReadFault

@@ -2,6 +2,7 @@
 use Rattle.std.proofs.Common.{◌≡◌, inl, inr, sym, subst, ℕ, List, [], Option, Some, None, Result, Ok, Err}
 use Rattle.std.specs.Result.{IsErrAnd}
 use Rattle.std.specs.Prelude.{IfSome}
+use Rattle.run_answers.specs.Exits.{IsRefusalStatus, Spoken}
 use Rattle.outside_desk.specs.Files.{Files}
 use Rattle.run_output.specs.Certificates.{log_verdict}
 use Rattle.run_output.specs.declared.answer.Outcome.{Outcome}
@@ -19,7 +20,7 @@ use Rattle.run_output.specs.Tasks.{Named}
 use Rattle.run_output.specs.Words.{Command, command_of, lock_path, cert_path}
 use Rattle.run_output.specs.WriteStop.{WriteStop}
 use Rattle.run_output.specs.WriteStop.TheVariants.{Put, Output, NoMemory}
-use Rattle.concretizer.specs.Headline.{IsRefusalStatus, Reports, Spoken}
+use Rattle.concretizer.specs.Headline.{Reports}
 use Rattle.concretizer.specs.Logs.{AttemptKeeps, KeepsFor, MayKeep}
 use Rattle.concretizer.proofs.Left.{by_paths, write_carried}
 use Rattle.concretizer.proofs.Reported.{refuses}

@@ -1,5 +1,6 @@
 -- What is reported of a run that stops, by its status.
 use Rattle.std.proofs.Common.{◌≡◌, sym, subst, ◌∙◌, ℕ, List, Option, None, Err, inl, inr, ◌⊎◌}
+use Rattle.run_answers.specs.Exits.{IsRefusalStatus, Spoken}
 use Rattle.outside_desk.specs.Causes.{Rose}
 use Rattle.outside_desk.specs.Files.{Files}
 use Rattle.run_output.specs.LockFault.{LockFault}
@@ -16,7 +17,7 @@ use Rattle.run_output.specs.WriteStop.TheVariants as writes
 use Rattle.run_output.specs.Stop.{Stop}
 use Rattle.run_output.specs.Stop.TheVariants.{Usage, Read, Write}
 use Rattle.concretizer.specs.Attempts.{Follows}
-use Rattle.concretizer.specs.Headline.{IsRefusalStatus, IsSilent, Reports, Says, SaysFront, Spoken}
+use Rattle.concretizer.specs.Headline.{IsSilent, Reports, Says, SaysFront}
 
 -- ---- the status of a refusal
 

@@ -4,6 +4,7 @@
 -- `files` are the files at entry of a desk that tells them, `words` the words of the command line,
 -- `after` the files at the return, and `out` and `err` what the two sinks tell before and after.
 use Rattle.std.specs.Prelude.{◌≡◌, ◌⊎◌, ℕ, List, Option, Some, Ok, Err, IfSome}
+use Rattle.run_answers.specs.Exits.{Spoken}
 use Rattle.outside_desk.specs.Causes.{Rose}
 use Rattle.outside_desk.specs.Files.{Files, and_said, SaysPart}
 use Rattle.run_output.specs.Senses.{Sense}
@@ -20,10 +21,6 @@ use Rattle.run_output.specs.Status.{Status}
 use Rattle.run_output.specs.Status.TheVariants as statuses
 use Rattle.concretizer.specs.Asked.{IsAsked, IsLocking, IsRead, IsPutPath}
 use Rattle.concretizer.specs.Attempts.{Attempts, Follows}
-
--- what a sink tells of what was said, before and after
-abbrev pub Spoken : Type 0
-Spoken = Option (List ℕ) × Option (List ℕ)
 
 -- nothing was said
 abbrev pub IsSilent : Spoken → Type 0
@@ -162,17 +159,6 @@ Settles statuses.Unsatisfiable = Unit {0}
 Settles statuses.Undecided = Unit {0}
 Settles statuses.NoMemory = Unit {0}
 Settles other = ⊥
-
--- the answers that a refusal has
-abbrev pub IsRefusalStatus : Status → Type 0
-IsRefusalStatus statuses.BadInput = Unit {0}
-IsRefusalStatus statuses.TooLarge = Unit {0}
-IsRefusalStatus statuses.Refused = Unit {0}
-IsRefusalStatus other = ⊥
-
--- a refusal is answered so, or memory ran out
-abbrev pub IsAnsweredBy : Status → Status → Type 0
-IsAnsweredBy status result = (result ≡ status) ⊎ (result ≡ statuses.NoMemory)
 
 -- the answers that come of the input, and neither of a device nor of want of memory
 abbrev pub IsOfInput : Status → Type 0

@@ -1,5 +1,6 @@
 -- What is shown by logs, and what is kept of the search of a run: its log.
 use Rattle.std.specs.Prelude.{◌≡◌, ◌⊎◌, ℕ, List, [], Option, Some, Result, Ok, Err, IfSome}
+use Rattle.run_answers.specs.Exits.{IsAnsweredBy, Spoken}
 use Rattle.outside_desk.specs.Causes.{Rose}
 use Rattle.outside_desk.specs.Files.{Files}
 use Rattle.run_output.specs.Kept.{HoldsLog, KeepsLog}
@@ -17,7 +18,7 @@ use Rattle.run_output.specs.Stop.TheVariants.{Usage, Read, Write}
 use Rattle.run_output.specs.Task.{Task}
 use Rattle.run_output.specs.Tasks.{Poses}
 use Rattle.run_output.specs.Words.{lock_path, cert_path}
-use Rattle.concretizer.specs.Headline.{IsAnsweredBy, IsDone, IsOutOfMemory, IsRefused, IsUndecided, IsUnsatisfiable, IsWriteFault, Keeps, Settles, Spoken}
+use Rattle.concretizer.specs.Headline.{IsDone, IsOutOfMemory, IsRefused, IsUndecided, IsUnsatisfiable, IsWriteFault, Keeps, Settles}
 
 -- ---- what is shown
 

@@ -1,12 +1,13 @@
 //! Runs over devices that never fail.
 
 ghost use Rattle.std.specs.Prelude.{◌≡◌, ◌≢◌, None, Ok, Err, Some};
+ghost use Rattle.run_answers.specs.Exits.{IsAnsweredBy, IsRefusalStatus};
 ghost use Rattle.run_output.specs.CertificateVerdicts.{no_verdict};
 ghost use Rattle.run_output.specs.Senses.{meaning};
 ghost use Rattle.run_output.specs.Words.{command_of, words_of};
 ghost use Rattle.run_output.specs.Task.{Task};
 ghost use Rattle.run_output.specs.Tasks.{Poses};
-ghost use Rattle.concretizer.specs.Headline.{IsDone, HasShown, IsUnsatisfiable, IsUndecided, IsRefused, Settles, IsRefusalStatus, IsAnsweredBy, ReportsWords};
+ghost use Rattle.concretizer.specs.Headline.{IsDone, HasShown, IsUnsatisfiable, IsUndecided, IsRefused, Settles, ReportsWords};
 ghost use Rattle.concretizer.specs.Logs.{IsLogged, KeepsFor};
 ghost use Rattle.run_output.specs.Refusals.{status_of};
 ghost use Rattle.run_output.specs.Refusal.{Refusal};

@@ -1,6 +1,7 @@
 //! The top call.
 
 ghost use Rattle.std.specs.Prelude.{◌≡◌, ◌≤◌, None, Ok, Err, IfSome};
+ghost use Rattle.run_answers.specs.Exits.{IsAnsweredBy, IsRefusalStatus};
 ghost use Rattle.outside_desk.specs.Causes.{Rose};
 ghost use Rattle.run_output.specs.CertificateVerdicts.{no_verdict};
 ghost use Rattle.run_output.specs.Changes.{ChangesOnly};
@@ -11,7 +12,7 @@ ghost use Rattle.run_output.specs.Task.{Task};
 ghost use Rattle.run_output.specs.Tasks.{Poses};
 ghost use Rattle.run_output.specs.Words.{words_of, command_of, lock_path, cert_path};
 ghost use Rattle.concretizer.specs.Logs.{IsLogged, KeepsFor};
-ghost use Rattle.concretizer.specs.Headline.{IsDone, HasShown, IsUnsatisfiable, IsUndecided, IsRefused, IsReadFault, IsWriteFault, IsOutOfMemory, IsOfInput, Keeps, Settles, IsRefusalStatus, ReportsWords, IsAnsweredBy};
+ghost use Rattle.concretizer.specs.Headline.{IsDone, HasShown, IsUnsatisfiable, IsUndecided, IsRefused, IsReadFault, IsWriteFault, IsOutOfMemory, IsOfInput, Keeps, Settles, ReportsWords};
 
 use crate::attempt::{attempt, report};
 use outside_desk::{Desk, Sink};

@@ -1,6 +1,7 @@
 -- How a run ends.
 use Rattle.std.proofs.Common.{◌≡◌, ◌⊎◌, refl, sym, ap, ◌∙◌, ℕ, List, Option, Some, None, Result, Ok, Err, subst, inl, inr}
 use Rattle.std.specs.Prelude.{IfSome, OnOk}
+use Rattle.run_answers.specs.Exits.{IsAnsweredBy, IsRefusalStatus, Spoken}
 use Rattle.outside_desk.specs.Causes.{Counts, Rose}
 use Rattle.outside_desk.specs.Files.{Files, and_said}
 use Rattle.run_input.proofs.StageLaws.{IsOne, one_is, one_then}
@@ -22,8 +23,8 @@ use Rattle.run_input.specs.Stops.{Gives, stop_status}
 use Rattle.run_input.specs.WriteStop.TheVariants as writes
 use Rattle.run_input.specs.Words.{Command, command_of}
 use Rattle.run_input.specs.declared.input.Input.{Input}
-use Rattle.dimacs_text.specs.Answers.{Answers, Asks, IsAnsweredBy, Posed, Poses, PosesBy, Spoken, explained, status_of, text_of}
-use Rattle.dimacs_text.specs.Attempts.{Attempts, AttemptsBy, FailsToPut, FailsToRead, FailsToSay, IsRefusalStatus, Reports, StopsBefore}
+use Rattle.dimacs_text.specs.Answers.{Answers, Asks, Posed, Poses, PosesBy, explained, status_of, text_of}
+use Rattle.dimacs_text.specs.Attempts.{Attempts, AttemptsBy, FailsToPut, FailsToRead, FailsToSay, Reports, StopsBefore}
 
 -- ---- attempts
 

@@ -3,6 +3,7 @@
 -- `files` are the files at entry of a desk that tells them, `words` the words behind the program's name, and `out` and `err` what the two
 -- sinks tell before and after.
 use Rattle.std.specs.Prelude.{◌≡◌, ◌⊎◌, ℕ, List, [], ◌∷◌, ◌++◌, Option, Some, None, Result, Ok, Err, codes}
+use Rattle.run_answers.specs.Exits.{Spoken}
 use Rattle.outside_desk.specs.Files.{Files, and_said}
 use Rattle.problem.specs.Problems.{Problem}
 use Rattle.problem_encoding.specs.Built.{encoding_of, rule_clauses}
@@ -52,10 +53,6 @@ status_of None = statuses.Usage
 status_of (Some (Ok text)) = statuses.Done
 status_of (Some (Err refusal)) = lines.status_of refusal
 
--- what a sink tells of what was said, before and after
-abbrev pub Spoken : Type 0
-Spoken = Option (List ℕ) × Option (List ℕ)
-
 -- the text was said, and nothing else
 abbrev pub SaysText : Spoken → Spoken → Posed → Type 0
 SaysText out err None = (out.1 ≡ out.0) × (err.1 ≡ and_said err.0 usage_line)
@@ -79,7 +76,3 @@ IsFault other = ⊥
 -- what is posed is answered, and just that was said; or there is a fault
 abbrev pub Answers : Files → List (List ℕ) → Spoken → Spoken → Status → Type 0
 Answers files words out err status = IsSaid files words out err status ⊎ IsFault status
-
--- what is posed is answered so, or memory ran out
-abbrev pub IsAnsweredBy : Status → Status → Type 0
-IsAnsweredBy status result = (result ≡ status) ⊎ (result ≡ statuses.NoMemory)

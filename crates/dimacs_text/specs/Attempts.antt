@@ -1,5 +1,6 @@
 -- What reading a problem and saying its encoding leave.
 use Rattle.std.specs.Prelude.{◌≡◌, ◌⊎◌, ℕ, List, Option, Some, None, Result, Ok, Err}
+use Rattle.run_answers.specs.Exits.{Spoken}
 use Rattle.outside_desk.specs.Causes.{Rose}
 use Rattle.outside_desk.specs.Files.{Files, and_said}
 use Rattle.run_input.specs.ReadStop.TheVariants as reads
@@ -10,7 +11,7 @@ use Rattle.run_input.specs.Stop.TheVariants.{Usage, Read, Write}
 use Rattle.run_input.specs.Stops as stops
 use Rattle.run_input.specs.WriteStop.TheVariants as writes
 use Rattle.run_input.specs.Words.{Command}
-use Rattle.dimacs_text.specs.Answers.{Asks, PosesBy, Spoken, usage_line}
+use Rattle.dimacs_text.specs.Answers.{Asks, PosesBy, usage_line}
 
 -- the text that was said; the words are those of the command
 pub record IsWritten (files : Files) (words : List (List ℕ)) (before after : Option (List ℕ)) : Type 0 where
@@ -61,10 +62,3 @@ abbrev pub Reports : Stop → Spoken → ℕ × ℕ → Status → Type 0
 Reports stop said faults result =
     ((result ≡ stops.stop_status stop) × (said.1 ≡ and_said said.0 (line_of stop)))
     ⊎ (((result ≡ statuses.WriteFault) × Rose faults.0 faults.1) ⊎ (result ≡ statuses.NoMemory))
-
--- the answers that a refusal has
-abbrev pub IsRefusalStatus : Status → Type 0
-IsRefusalStatus statuses.BadInput = Unit {0}
-IsRefusalStatus statuses.TooLarge = Unit {0}
-IsRefusalStatus statuses.Refused = Unit {0}
-IsRefusalStatus other = ⊥

@@ -1,12 +1,8 @@
 -- The bits of the numbers that are to be least.
 use Rattle.std.specs.Prelude.{ℕ, ◌+◌, List, [], ◌∷◌, ◌++◌, take, drop, nat_le, codes, decimal, if◌then◌else◌}
 use Rattle.clause_store.specs.declared.Lit.{Lit}
-use Rattle.clause_circuits.specs.Binary.{size}
+use Rattle.ranked_costs.specs.Built.{width_of}
 use Rattle.dimacs_text.specs.Signs.{lits_line}
-
--- how many bits spell the numbers up to a greatest value
-abbrev pub width_of : ℕ → ℕ
-width_of top = if nat_le top 64 then top else size top
 
 unfoldable pub spelling_word : ℕ → List ℕ
 spelling_word top = if nat_le top 64 then codes " unary " else codes " binary "

@@ -1,6 +1,7 @@
 //! The bits of the numbers that are to be least.
 
 ghost use Rattle.std.specs.Prelude.{◌≡◌, ◌++◌, ◌+◌, ◌<◌, ◌^◌, take, drop, length, OnOk};
+ghost use Rattle.ranked_costs.specs.Built.{width_of};
 ghost use Rattle.dimacs_text.specs.Sums as lines;
 
 use crate::signs::{write_lits, write_number};
@@ -33,7 +34,7 @@ fn after(lits: &[Lit], count: usize) -> &[Lit]
 
 /// How many bits spell the numbers up to a greatest value.
 fn width_of(top: u64) -> usize
-    ensures { result ≡ lines.width_of top }
+    ensures { result ≡ width_of top }
 {
     if top <= 64 { top as usize } else { size(top) }
 }

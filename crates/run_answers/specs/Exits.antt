@@ -1,8 +1,9 @@
--- The exit status of each answer: its place in the list of answers.
-use Rattle.std.specs.Prelude.{ℕ}
+-- The answers of a run, and what a sink tells.
+use Rattle.std.specs.Prelude.{◌≡◌, ◌⊎◌, ℕ, List, Option}
 use Rattle.run_answers.specs.declared.status.Status.{Status}
 use Rattle.run_answers.specs.declared.status.Status.TheVariants as statuses
 
+-- the exit status of each answer: its place in the list of answers
 abbrev pub number_of : Status → ℕ
 number_of statuses.Done = 0
 number_of statuses.Unsatisfiable = 1
@@ -14,3 +15,18 @@ number_of statuses.WriteFault = 6
 number_of statuses.TooLarge = 7
 number_of statuses.Refused = 8
 number_of statuses.NoMemory = 9
+
+-- the answers that a refusal has
+abbrev pub IsRefusalStatus : Status → Type 0
+IsRefusalStatus statuses.BadInput = Unit {0}
+IsRefusalStatus statuses.TooLarge = Unit {0}
+IsRefusalStatus statuses.Refused = Unit {0}
+IsRefusalStatus other = ⊥
+
+-- what is due this answer is answered so, or memory ran out
+abbrev pub IsAnsweredBy : Status → Status → Type 0
+IsAnsweredBy status result = (result ≡ status) ⊎ (result ≡ statuses.NoMemory)
+
+-- what a sink tells of what was said, before and after
+abbrev pub Spoken : Type 0
+Spoken = Option (List ℕ) × Option (List ℕ)

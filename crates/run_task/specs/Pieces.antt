@@ -49,8 +49,3 @@ abbrev pub Moves : ℕ → Next → Type 0
 Moves from (More n) = (from < n) × (n ≤ most)
 Moves from End = Unit {0}
 Moves from Long = Unit {0}
-
--- a device fails only while that file is read
-abbrev pub FailsThere : {A : Type 0} → List ℕ → Result A ReadStop → Type 0
-FailsThere path (Err (reads.Fault at)) = at ≡ path
-FailsThere path other = Unit {0}

@@ -15,7 +15,7 @@ ghost use Rattle.run_answers.specs.Stages.{Is};
 ghost use Rattle.run_answers.specs.Reads.{OnlyReads};
 ghost use Rattle.run_answers.specs.Stops.{Gives};
 ghost use Rattle.run_task.specs.Certificates.{said_at, certified_at, ShowsOf};
-ghost use Rattle.run_task.specs.Pieces.{FailsThere};
+ghost use Rattle.run_input.specs.Bytes.{FailsAt};
 
 use crate::pieces::take_all;
 use crate::text_verdict::verdict;
@@ -50,7 +50,7 @@ fn check_text<R: Threads + Sync, D: Desk>(
 ) -> Result<(), ReadStop>
     ensures read { (s : State) → IsAfter s [] checker.old
         → IfSome (D.files desk.old) (λ files. Gives result (Is (said_at files path.now s))) }
-    ensures path { FailsThere path.now result }
+    ensures path { FailsAt path.now result }
     ensures only_reads { OnlyReads D.files D.faults D.put_faults desk.old desk.new result }
 {
     let mut piece = buffer(alloc, PIECE)?;
@@ -74,7 +74,7 @@ fn check_log<R: Threads + Sync, D: Desk>(
     ensures read { IfSome (D.files desk.old) (λ files. Gives result (Is (said_at files path.now
         (begun clauses.now bits.now (option_map (λ v. v.now) values.entry))))) }
     ensures in_order { OnOk result (AllClauses (clauses_of clauses.now.entries)) }
-    ensures path { FailsThere path.now result }
+    ensures path { FailsAt path.now result }
     ensures only_reads { OnlyReads D.files D.faults D.put_faults desk.old desk.new result }
 {
     let mut checker = TextChecker::new(alloc, clauses, bits, values)?;
@@ -95,7 +95,7 @@ fn check_refutation<R: Threads + Sync, D: Desk>(
     ensures read { IfSome (D.files desk.old) (λ files. Gives result (Is (certified_at files path.now
         _problem.now None))) }
     ensures shown { OnOk result (IfSome (D.files desk.old) (λ files. ShowsOf _problem.now None)) }
-    ensures path { FailsThere path.now result }
+    ensures path { FailsAt path.now result }
     ensures only_reads { OnlyReads D.files D.faults D.put_faults desk.old desk.new result }
 {
     text_laws();
@@ -119,7 +119,7 @@ fn check_costs<R: Threads + Sync, D: Desk>(
         _problem.now (Some numbers.now)))) }
     ensures shown { OnOk result (IfSome (D.files desk.old)
         (λ files. ShowsOf _problem.now (Some numbers.now))) }
-    ensures path { FailsThere path.now result }
+    ensures path { FailsAt path.now result }
     ensures only_reads { OnlyReads D.files D.faults D.put_faults desk.old desk.new result }
 {
     text_laws();
@@ -168,7 +168,7 @@ pub fn read_certificate<R: Threads + Sync, D: Desk>(
     ensures shown { OnOk result (IfSome (D.files desk.old)
         (λ files. ShowsOf problem.now
         (option_map (λ n. n.now) numbers.entry))) }
-    ensures path { FailsThere path.now result }
+    ensures path { FailsAt path.now result }
     ensures only_reads { OnlyReads D.files D.faults D.put_faults desk.old desk.new result }
 {
     match numbers {

@@ -5,7 +5,8 @@ ghost use Rattle.std.specs.FinMap.{get};
 ghost use Rattle.log_checker.specs.Steps.{State};
 ghost use Rattle.run_answers.specs.Reads.{OnlyReads};
 ghost use Rattle.run_task.specs.Certificates.{most};
-ghost use Rattle.run_task.specs.Pieces.{GivesPiece, TakesNext, TakesAll, Moves, FailsThere};
+ghost use Rattle.run_input.specs.Bytes.{FailsAt};
+ghost use Rattle.run_task.specs.Pieces.{GivesPiece, TakesNext, TakesAll, Moves};
 
 use certified::TextChecker;
 use outside_desk::{Desk, DeskFault};
@@ -38,7 +39,7 @@ fn read_piece<D: Desk>(
     ensures bound { IfOk result (λ n. n ≤ length out.new) }
     ensures read { IfSome (D.files desk.old)
         (λ files. GivesPiece (get files path.now) from out.new path.now result) }
-    ensures path { FailsThere path.now result }
+    ensures path { FailsAt path.now result }
     ensures only_reads { OnlyReads D.files D.faults D.put_faults desk.old desk.new result }
 {
     match desk.read_at(alloc, path, from, out) {
@@ -80,7 +81,7 @@ pub(crate) fn take_next<R: Threads + Sync, D: Desk>(
     ensures moves { IfOk result (λ next. Moves from next) }
     ensures taken { IfSome (D.files desk.old) (λ files. (s : State)
         → TakesNext s (get files path.now) from path.now checker.old checker.new result) }
-    ensures path { FailsThere path.now result }
+    ensures path { FailsAt path.now result }
     ensures only_reads { OnlyReads D.files D.faults D.put_faults desk.old desk.new result }
 {
     let count = read_piece(alloc, desk, path, from, piece)?;
@@ -110,7 +111,7 @@ pub(crate) fn take_all<R: Threads + Sync, D: Desk>(
     requires { 0 < length piece.old }
     ensures taken { IfSome (D.files desk.old) (λ files. (s : State)
         → TakesAll s (get files path.now) path.now checker.old checker.new result) }
-    ensures path { FailsThere path.now result }
+    ensures path { FailsAt path.now result }
     ensures only_reads { OnlyReads D.files D.faults D.put_faults desk.old desk.new result }
 {
     let mut from: u64 = 0;

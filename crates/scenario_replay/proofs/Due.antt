@@ -8,21 +8,21 @@ use Rattle.scenario_reader.specs.Scenarios.{meaning_of}
 use Rattle.scenario_reader.specs.declared.scenario.Scenario.{Scenario}
 use Rattle.scenario_replay.specs.Told.{IsDue, IsWrong, SaysOne, ReplaysAll, Replays}
 use Rattle.scenario_replay.specs.Told.{counted, none_yet, last_line, answer_of, all_lines, lines_of}
-use Rattle.scenario_replay.specs.declared.verdict.Counts.{Counts}
-use Rattle.scenario_replay.specs.declared.verdict.Replayed.{Replayed}
-use Rattle.scenario_replay.specs.declared.verdict.Verdict.{Verdict}
-use Rattle.scenario_replay.specs.declared.verdict.Verdict.TheVariants as verdicts
+use Rattle.scenario_replay.specs.declared.comparison.Counts.{Counts}
+use Rattle.scenario_replay.specs.declared.comparison.Replayed.{Replayed}
+use Rattle.scenario_replay.specs.declared.comparison.Comparison.{Comparison}
+use Rattle.scenario_replay.specs.declared.comparison.Comparison.TheVariants as comparisons
 
-pub of_scenario : (bytes : List ℕ) (scenario : Scenario) (verdict : Verdict)
-    → meaning_of bytes ≡ Ok scenario → IsDue (Some bytes) verdict
-of_scenario bytes scenario verdicts.Same is = (scenario, is)
-of_scenario bytes scenario (verdicts.Differs what) is = (scenario, is)
-of_scenario bytes scenario (verdicts.Wrong why) is = tt
+pub of_scenario : (bytes : List ℕ) (scenario : Scenario) (comparison : Comparison)
+    → meaning_of bytes ≡ Ok scenario → IsDue (Some bytes) comparison
+of_scenario bytes scenario comparisons.Same is = (scenario, is)
+of_scenario bytes scenario (comparisons.Differs what) is = (scenario, is)
+of_scenario bytes scenario (comparisons.Wrong why) is = tt
 
-pub of_wrong : (file : Option (List ℕ)) (verdict : Verdict) → IsWrong verdict → IsDue file verdict
-of_wrong file verdicts.Same is = elim is [ ]
-of_wrong file (verdicts.Differs what) is = elim is [ ]
-of_wrong file (verdicts.Wrong why) is = tt
+pub of_wrong : (file : Option (List ℕ)) (comparison : Comparison) → IsWrong comparison → IsDue file comparison
+of_wrong file comparisons.Same is = elim is [ ]
+of_wrong file (comparisons.Differs what) is = elim is [ ]
+of_wrong file (comparisons.Wrong why) is = tt
 
 said_nothing : (said : Option (List ℕ)) → said ≡ and_said said []
 said_nothing (Some bytes) = ap Some (sym (append-nil bytes))
@@ -33,16 +33,16 @@ said_more : (said : Option (List ℕ)) (first second : List ℕ)
 said_more (Some bytes) first second = ap Some (append_assoc bytes first second)
 said_more None first second = refl
 
-each_more : (files : Option Files) (path : List ℕ) (verdict : Verdict) (told : List (List ℕ × Verdict))
-    → IfSome files (λ m. All {X = List ℕ × Verdict} (λ item. IsDue (get m item.0) item.1) told)
-    → IfSome files (λ m. IsDue (get m path) verdict)
-    → IfSome files (λ m. All {X = List ℕ × Verdict} (λ item. IsDue (get m item.0) item.1) ((path, verdict) ∷ told))
-each_more (Some m) path verdict told each due =
-    All-cons (λ (item : List ℕ × Verdict). IsDue (get m item.0) item.1) (path, verdict) told due each
-each_more None path verdict told each due = tt
+each_more : (files : Option Files) (path : List ℕ) (comparison : Comparison) (told : List (List ℕ × Comparison))
+    → IfSome files (λ m. All {X = List ℕ × Comparison} (λ item. IsDue (get m item.0) item.1) told)
+    → IfSome files (λ m. IsDue (get m path) comparison)
+    → IfSome files (λ m. All {X = List ℕ × Comparison} (λ item. IsDue (get m item.0) item.1) ((path, comparison) ∷ told))
+each_more (Some m) path comparison told each due =
+    All-cons (λ (item : List ℕ × Comparison). IsDue (get m item.0) item.1) (path, comparison) told due each
+each_more None path comparison told each due = tt
 
-each_none : (files : Option Files) → IfSome files (λ m. All {X = List ℕ × Verdict} (λ item. IsDue (get m item.0) item.1) [])
-each_none (Some m) = All-nil (λ (item : List ℕ × Verdict). IsDue (get m item.0) item.1)
+each_none : (files : Option Files) → IfSome files (λ m. All {X = List ℕ × Comparison} (λ item. IsDue (get m item.0) item.1) [])
+each_none (Some m) = All-nil (λ (item : List ℕ × Comparison). IsDue (get m item.0) item.1)
 each_none None = tt
 
 pub none : (files : Option Files) (said : Option (List ℕ)) → ReplaysAll 0 files said said none_yet
@@ -52,11 +52,11 @@ pub one_more_said : (n : ℕ) (files : Option Files) (path : List ℕ) (before m
     → ReplaysAll n files before mid counts → SaysOne files path counts new_counts mid after
     → ReplaysAll (n + 1) files before after new_counts
 one_more_said n files path before mid after counts new_counts all one = record {
-  told = (path, one.verdict) ∷ all.told;
-  each = each_more files path one.verdict all.told all.each one.due;
-  said = one.said ∙ ap (λ said. and_said said (lines_of path one.verdict)) all.said
-      ∙ said_more before (all_lines all.told) (lines_of path one.verdict);
-  tallied = one.count ∙ ap (counted one.verdict) all.tallied;
+  told = (path, one.comparison) ∷ all.told;
+  each = each_more files path one.comparison all.told all.each one.due;
+  said = one.said ∙ ap (λ said. and_said said (lines_of path one.comparison)) all.said
+      ∙ said_more before (all_lines all.told) (lines_of path one.comparison);
+  tallied = one.count ∙ ap (counted one.comparison) all.tallied;
   enough = omega (arith, all.enough);
 }
 

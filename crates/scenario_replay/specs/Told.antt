@@ -9,11 +9,11 @@ use Rattle.scenario_reader.specs.Scenarios.{meaning_of}
 use Rattle.scenario_reader.specs.declared.scenario.Scenario.{Scenario}
 use Rattle.scenario_replay.specs.declared.find.Found.{Found}
 use Rattle.scenario_replay.specs.declared.find.Found.TheVariants as found
-use Rattle.scenario_replay.specs.declared.verdict.Counts.{Counts}
-use Rattle.scenario_replay.specs.declared.verdict.Replayed.{Replayed}
-use Rattle.scenario_replay.specs.declared.verdict.Replayed.TheVariants as answers
-use Rattle.scenario_replay.specs.declared.verdict.Verdict.{Verdict}
-use Rattle.scenario_replay.specs.declared.verdict.Verdict.TheVariants as verdicts
+use Rattle.scenario_replay.specs.declared.comparison.Counts.{Counts}
+use Rattle.scenario_replay.specs.declared.comparison.Replayed.{Replayed}
+use Rattle.scenario_replay.specs.declared.comparison.Replayed.TheVariants as answers
+use Rattle.scenario_replay.specs.declared.comparison.Comparison.{Comparison}
+use Rattle.scenario_replay.specs.declared.comparison.Comparison.TheVariants as comparisons
 
 -- texts one after the other, a line feed, and what is behind it
 abbrev pub line_before : List ℕ → List (List ℕ) → List ℕ
@@ -24,19 +24,19 @@ abbrev pub line : List (List ℕ) → List ℕ
 line texts = line_before [] texts
 
 -- the lines that are said of a file
-abbrev pub lines_of : List ℕ → Verdict → List ℕ
-lines_of path verdicts.Same = line (codes "same " ∷ path ∷ [])
-lines_of path (verdicts.Differs what) = line_before (string_bytes what) (codes "differs " ∷ path ∷ [])
-lines_of path (verdicts.Wrong why) = line (codes "no scenario " ∷ path ∷ codes ": " ∷ string_bytes why ∷ [])
+abbrev pub lines_of : List ℕ → Comparison → List ℕ
+lines_of path comparisons.Same = line (codes "same " ∷ path ∷ [])
+lines_of path (comparisons.Differs what) = line_before (string_bytes what) (codes "differs " ∷ path ∷ [])
+lines_of path (comparisons.Wrong why) = line (codes "no scenario " ∷ path ∷ codes ": " ∷ string_bytes why ∷ [])
 
 abbrev pub none_yet : Counts
 none_yet = record { same = 0; differing = 0; wrong = 0 }
 
 -- the counts with a file more
-abbrev pub counted : Verdict → Counts → Counts
-counted verdicts.Same counts = record counts { same = one_more counts.same }
-counted (verdicts.Differs what) counts = record counts { differing = one_more counts.differing }
-counted (verdicts.Wrong why) counts = record counts { wrong = one_more counts.wrong }
+abbrev pub counted : Comparison → Counts → Counts
+counted comparisons.Same counts = record counts { same = one_more counts.same }
+counted (comparisons.Differs what) counts = record counts { differing = one_more counts.differing }
+counted (comparisons.Wrong why) counts = record counts { wrong = one_more counts.wrong }
 
 -- the last line
 abbrev pub last_line : Counts → List ℕ
@@ -65,7 +65,7 @@ exit_of answers.Broken = 2
 
 -- files with what came of each, the last one first
 abbrev pub Told : Type 0
-Told = List (List ℕ × Verdict)
+Told = List (List ℕ × Comparison)
 
 abbrev pub all_lines : Told → List ℕ
 all_lines [] = []
@@ -80,15 +80,15 @@ abbrev pub HasScenario : Option (List ℕ) → Type 0
 HasScenario file = IsSomeAnd file (λ bytes. (scenario : Scenario) × (meaning_of bytes ≡ Ok scenario))
 
 -- what comes of a file is the same or differs only where it is a scenario
-abbrev pub IsDue : Option (List ℕ) → Verdict → Type 0
-IsDue file verdicts.Same = HasScenario file
-IsDue file (verdicts.Differs what) = HasScenario file
-IsDue file (verdicts.Wrong why) = ⊤
+abbrev pub IsDue : Option (List ℕ) → Comparison → Type 0
+IsDue file comparisons.Same = HasScenario file
+IsDue file (comparisons.Differs what) = HasScenario file
+IsDue file (comparisons.Wrong why) = ⊤
 
-abbrev pub IsWrong : Verdict → Type 0
-IsWrong verdicts.Same = ⊥
-IsWrong (verdicts.Differs what) = ⊥
-IsWrong (verdicts.Wrong why) = ⊤
+abbrev pub IsWrong : Comparison → Type 0
+IsWrong comparisons.Same = ⊥
+IsWrong (comparisons.Differs what) = ⊥
+IsWrong (comparisons.Wrong why) = ⊤
 
 -- one file was replayed: what came of it was counted and said
 pub record SaysOne
@@ -96,10 +96,10 @@ pub record SaysOne
     (path : List ℕ)
     (counts new_counts : Counts)
     (before after : Option (List ℕ)) : Type 0 where
-  pub verdict : Verdict
-  pub due : IfSome files (λ m. IsDue (get m path) verdict)
-  pub count : new_counts ≡ counted verdict counts
-  pub said : after ≡ and_said before (lines_of path verdict)
+  pub comparison : Comparison
+  pub due : IfSome files (λ m. IsDue (get m path) comparison)
+  pub count : new_counts ≡ counted comparison counts
+  pub said : after ≡ and_said before (lines_of path comparison)
 
 -- files were replayed, as many as these at least
 pub record ReplaysAll (count : ℕ) (files : Option Files) (before after : Option (List ℕ)) (counts : Counts) : Type 0 where

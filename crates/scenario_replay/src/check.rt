@@ -1,9 +1,9 @@
 //! The runs of one scenario, and what comes of them.
 use crate::compare::compare_run;
+use crate::comparison::Comparison;
 use crate::differences::Differences;
 use crate::every_call::check_every_call;
 use crate::one_run::OneRun;
-use crate::verdict::Verdict;
 use scenario_reader::{Device, Scenario};
 use std::alloc::{AllocError, Global};
 use std::thread::Threads;
@@ -84,13 +84,13 @@ fn check_verdict<R: Threads + Sync>(
     alloc: Global,
     scenario: &Scenario,
     differences: &mut Differences,
-) -> Result<Verdict, AllocError> {
+) -> Result<Comparison, AllocError> {
     check_scenario(rt, alloc, scenario, differences)?;
     if differences.is_empty() {
-        return Ok(Verdict::Same);
+        return Ok(Comparison::Same);
     }
     let text = String::from_str(alloc, differences.text())?;
-    Ok(Verdict::Differs(text))
+    Ok(Comparison::Differs(text))
 }
 
 /// What comes of a scenario.
@@ -98,9 +98,9 @@ pub(crate) fn verdict_of<R: Threads + Sync>(
     rt: &R,
     alloc: Global,
     scenario: &Scenario,
-) -> Result<Verdict, AllocError> {
+) -> Result<Comparison, AllocError> {
     let mut differences = Differences::new(alloc);
-    let verdict = check_verdict(rt, alloc, scenario, &mut differences);
+    let comparison = check_verdict(rt, alloc, scenario, &mut differences);
     drop(differences);
-    verdict
+    comparison
 }

@@ -8,6 +8,7 @@
 
 mod check;
 mod compare;
+mod comparison;
 mod differences;
 mod every_call;
 mod faulty;
@@ -17,9 +18,8 @@ mod one_run;
 mod shown;
 mod status_name;
 mod top;
-mod verdict;
 mod watched_desk;
 
+pub use comparison::Replayed;
 pub use machine::replay_machine;
 pub use top::replay;
-pub use verdict::Replayed;

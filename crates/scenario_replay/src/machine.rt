@@ -4,8 +4,8 @@ ghost use Rattle.std.specs.Prelude.{◌≡◌};
 ghost use Rattle.std.specs.Process.{exit_status};
 ghost use Rattle.scenario_replay.specs.Told.{exit_of};
 
+use crate::comparison::Replayed;
 use crate::top::replay;
-use crate::verdict::Replayed;
 use outside_desk::{RealDesk, RealSink};
 use std::env;
 use std::env::Env;

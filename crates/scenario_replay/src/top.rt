@@ -3,12 +3,12 @@
 ghost use Rattle.std.specs.Prelude.{◌≡◌, ◌≢◌, ◌≤◌, ◌<◌, Some, IfOk, OnOk, IfSome, length};
 ghost use Rattle.std.specs.FinMap.{get};
 ghost use Rattle.outside_desk.specs.Files.{and_said};
-ghost use Rattle.scenario_replay.specs.declared.verdict.Replayed.TheVariants as answers;
+ghost use Rattle.scenario_replay.specs.declared.comparison.Replayed.TheVariants as answers;
 ghost use Rattle.scenario_replay.specs.Told.{IsDue, IsWrong, Replays, ReplaysAll, SaysOne, path_of};
 
 use crate::check::verdict_of;
+use crate::comparison::{Comparison, Counts, Replayed};
 use crate::find::{DEEPEST, Found, find};
-use crate::verdict::{Counts, Replayed, Verdict};
 use outside_desk::{Desk, ReadFault, Sink, SinkFault, read_whole};
 use scenario_reader::{ScenarioError, read_scenario};
 use std::alloc::{AllocError, Global};
@@ -18,7 +18,7 @@ use std::thread::Threads;
 const LIMIT: u64 = 16 * 1024 * 1024;
 
 /// Why a text is no scenario.
-fn wrong_of(alloc: Global, error: ScenarioError) -> Result<Verdict, AllocError>
+fn wrong_of(alloc: Global, error: ScenarioError) -> Result<Comparison, AllocError>
     ensures { IfOk result IsWrong }
 {
     let ScenarioError::Fault(fault) = error else {
@@ -26,10 +26,10 @@ fn wrong_of(alloc: Global, error: ScenarioError) -> Result<Verdict, AllocError>
     };
     let kind = fault.kind;
     if fault.line == 0 {
-        return Ok(Verdict::Wrong(format!(in alloc; "{kind}")?));
+        return Ok(Comparison::Wrong(format!(in alloc; "{kind}")?));
     }
     let line = fault.line;
-    Ok(Verdict::Wrong(format!(in alloc; "line {line}: {kind}")?))
+    Ok(Comparison::Wrong(format!(in alloc; "line {line}: {kind}")?))
 }
 
 /// What comes of a file's bytes.
@@ -38,7 +38,7 @@ fn replay_bytes<R: Threads + Sync>(
     rt: &R,
     alloc: Global,
     bytes: &[u8],
-) -> Result<Verdict, AllocError>
+) -> Result<Comparison, AllocError>
     ensures { IfOk result (IsDue (Some bytes.now)) }
 {
     match read_scenario(alloc, bytes) {
@@ -48,14 +48,14 @@ fn replay_bytes<R: Threads + Sync>(
 }
 
 /// A file that is none.
-fn wrong(alloc: Global, why: &str) -> Result<Verdict, AllocError>
+fn wrong(alloc: Global, why: &str) -> Result<Comparison, AllocError>
     ensures { IfOk result IsWrong }
 {
-    Ok(Verdict::Wrong(String::from_str(alloc, why)?))
+    Ok(Comparison::Wrong(String::from_str(alloc, why)?))
 }
 
 /// Why there are no bytes of a file.
-fn unread_of(alloc: Global, fault: ReadFault) -> Result<Verdict, AllocError>
+fn unread_of(alloc: Global, fault: ReadFault) -> Result<Comparison, AllocError>
     ensures { IfOk result IsWrong }
 {
     match fault {
@@ -73,7 +73,7 @@ fn replay_file<R: Threads + Sync, D: Desk>(
     alloc: Global,
     desk: &mut D,
     path: &str,
-) -> Result<Verdict, AllocError>
+) -> Result<Comparison, AllocError>
     ensures due { IfSome (D.files desk.old) (λ m. IfOk result (IsDue (get m path.now))) }
     ensures same { D.files desk.new ≡ D.files desk.old }
     ensures put_faults { D.put_faults desk.new ≡ D.put_faults desk.old }
@@ -90,7 +90,7 @@ fn replay_found<R: Threads + Sync, D: Desk>(
     alloc: Global,
     desk: &mut D,
     found: &Found,
-) -> Result<Verdict, AllocError>
+) -> Result<Comparison, AllocError>
     ensures due { IfSome (D.files desk.old)
         (λ m. IfOk result (IsDue (get m (path_of found.now)))) }
     ensures same { D.files desk.new ≡ D.files desk.old }
@@ -142,9 +142,9 @@ fn replay_one<R: Threads + Sync, D: Desk, O: Sink>(
     ensures same { D.files desk.new ≡ D.files desk.old }
     ensures put_faults { D.put_faults desk.new ≡ D.put_faults desk.old }
 {
-    let verdict = replay_found(rt, alloc, desk, found)?;
-    let lines = verdict.lines(alloc, path_of(found))?;
-    counts.add(&verdict);
+    let comparison = replay_found(rt, alloc, desk, found)?;
+    let lines = comparison.lines(alloc, path_of(found))?;
+    counts.add(&comparison);
     out.say(alloc, lines.as_bytes())
 }
 

@@ -19,21 +19,21 @@ pub enum Replayed {
 
 /// What is to be said of one file.
 #[derive(Drop)]
-pub(crate) enum Verdict {
+pub(crate) enum Comparison {
     Same,
     Differs(String),
     Wrong(String),
 }
 
-impl Verdict {
+impl Comparison {
     /// The lines that are said of a file.
     pub(crate) fn lines(&self, alloc: Global, path: &str) -> Result<String, AllocError>
         ensures { IfOk result (λ text. string_bytes text ≡ lines_of path.now self.now) }
     {
         match self {
-            Verdict::Same => format!(in alloc; "same {path}\n"),
-            Verdict::Differs(what) => format!(in alloc; "differs {path}\n{what}"),
-            Verdict::Wrong(why) => format!(in alloc; "no scenario {path}: {why}\n"),
+            Comparison::Same => format!(in alloc; "same {path}\n"),
+            Comparison::Differs(what) => format!(in alloc; "differs {path}\n{what}"),
+            Comparison::Wrong(why) => format!(in alloc; "no scenario {path}: {why}\n"),
         }
     }
 }
@@ -57,13 +57,13 @@ impl Counts {
         }
     }
 
-    pub(crate) fn add(&mut self, verdict: &Verdict)
-        ensures { self.new ≡ counted verdict.now self.old }
+    pub(crate) fn add(&mut self, comparison: &Comparison)
+        ensures { self.new ≡ counted comparison.now self.old }
     {
-        match verdict {
-            Verdict::Same => self.same = self.same.saturating_add(1),
-            Verdict::Differs(_) => self.differing = self.differing.saturating_add(1),
-            Verdict::Wrong(_) => self.wrong = self.wrong.saturating_add(1),
+        match comparison {
+            Comparison::Same => self.same = self.same.saturating_add(1),
+            Comparison::Differs(_) => self.differing = self.differing.saturating_add(1),
+            Comparison::Wrong(_) => self.wrong = self.wrong.saturating_add(1),
         }
     }
 
