@@ -92,6 +92,7 @@ pub fn one_file<R: Files>(
     }
 }
 
+/// The line for the first two files of a command that are one.
 fn line_for<R: Files>(
     alloc: Global,
     rt: &R,

@@ -42,16 +42,19 @@ module _ (sense : Sense) (words : List (List ℕ)) (after : Option Files) (out e
   spent None left = tt
   spent (Some files) left = record { task = left.task; read = left.read; spent = left.left; errors = silent }
 
+  -- Done
   pub done : (before : Option Files) (outcome : Outcome) → outcome ≡ Solved
       → IfSome before (λ files. Attempts sense files words after out.0 out.1 (Ok outcome))
       → IfSome before (λ files. IsDone sense files words after out err)
   done before outcome same left = solved before (came before outcome Solved same left)
 
+  -- Unsatisfiable
   pub unsatisfiable : (before : Option Files) (outcome : Outcome) → outcome ≡ Unsolved
       → IfSome before (λ files. Attempts sense files words after out.0 out.1 (Ok outcome))
       → IfSome before (λ files. IsUnsatisfiable sense files words after out err)
   unsatisfiable before outcome same left = unsolved before (came before outcome Unsolved same left)
 
+  -- Undecided
   pub undecided : (before : Option Files) (outcome : Outcome) → outcome ≡ Undecided
       → IfSome before (λ files. Attempts sense files words after out.0 out.1 (Ok outcome))
       → IfSome before (λ files. IsUndecided sense files words after out err)
@@ -62,6 +65,7 @@ module _ (words : List (List ℕ)) (files : Option Files × Option Files) (stop 
     (left : IfSome files.0 (λ before. Attempts evidence before words files.1 out.0 out.1 (Err stop)))
     (unsaid : StopsBefore (Err stop) → out.1 ≡ out.0) (put : Counts puts.0 puts.1 (FailsToPut (Err stop)))
     (said : Counts says.0 says.1 (FailsToSay (Err stop))) where
+  -- a stop, by the status that was reported
   pub stopped_shown : (result : Status) → Reports (stop_status stop) (stop_line stop) err errs result
       → IsShownByLogs result words files puts says errs out err
   stopped_shown statuses.Done reports = absurd (unanswered stop statuses.Done tt err errs statuses.Done reports refl)

@@ -64,6 +64,7 @@ refused_here sense files words (Write (writes.Put path)) after out err result le
 refused_here sense files words (Write writes.Output) after out err result left (is, said) refuses = absurd (rw is at refuses)
 refused_here sense files words (Write writes.NoMemory) after out err result left (is, said) refuses = absurd (rw is at refuses)
 
+-- the refusal of an attempt that stopped so
 pub refused : (sense : Sense) (before : Option Files) (words : List (List ℕ)) (stop : Stop) (after : Option Files) (out err : Spoken) (faults : ℕ × ℕ)
     (result : Status)
     → IfSome before (λ files. Attempts sense files words after out.0 out.1 (Err stop))
@@ -109,6 +110,7 @@ settles_here laws files words (Write writes.Output) after out err reads puts say
 settles_here laws files words (Write writes.NoMemory) after out err reads puts says errs result left counts reports task poses still =
     settles_none _ err errs result reports still.err
 
+-- an attempt that stopped
 pub settles : PosesOnce → (before : Option Files) (words : List (List ℕ)) (stop : Stop) (after : Option Files) (out err : Spoken)
     (reads puts says errs : ℕ × ℕ) (result : Status)
     → IfSome before (λ files. Attempts evidence files words after out.0 out.1 (Err stop)) → AreCounted stop reads puts says
@@ -129,6 +131,7 @@ abbrev pub NonePosed : Type 0
 NonePosed = (files : Files) (words : List (List ℕ)) (posed : Result Task Refusal) → Poses no_verdict files words posed
     → Poses log_verdict files words posed
 
+-- where no certificate is read
 pub complete : NonePosed → (before : Option Files) (words : List (List ℕ)) (reads puts says errs : ℕ × ℕ) (result : Status)
     → IfSome before (λ files. (task : Task) → Poses log_verdict files words (Ok task) → AreStill reads puts says errs → Settles result)
     → IfSome before (λ files. (task : Task) → Poses no_verdict files words (Ok task) → ¬ Rose reads.0 reads.1 → ¬ Rose puts.0 puts.1

@@ -105,6 +105,7 @@ late sense words puts says files out err errs result stopped other reports is =
     (λ same failed. inr (inr (record { stopped = stopped; rose = failed.1; errors = failed.0 })))
     (λ none silent. absurd (let no : statuses.NoMemory ≡ statuses.WriteFault = sym none ∙ is in cc))
 
+-- a put or a sink failed
 pub write_fault : (sense : Sense) (words : List (List ℕ)) (stop : Stop) (puts says : ℕ × ℕ) (files : Option Files × Option Files) (out err : Spoken)
     (errs : ℕ × ℕ) (result : Status)
     → Reports (stop_status stop) (stop_line stop) err errs result → Follows files.0 words (Err stop)
@@ -170,6 +171,7 @@ no_memory_said (Write (writes.Put path)) err is says = absurd (let no : statuses
 no_memory_said (Write writes.Output) err is says = absurd (let no : statuses.WriteFault ≡ statuses.NoMemory = is in cc)
 no_memory_said (Write writes.NoMemory) err is says = says
 
+-- memory ran out
 pub no_memory : (sense : Sense) (words : List (List ℕ)) (stop : Stop) (says : ℕ × ℕ) (files : Option Files × Option Files) (out err : Spoken)
     (errs : ℕ × ℕ) (result : Status)
     → Reports (stop_status stop) (stop_line stop) err errs result → Follows files.0 words (Err stop)

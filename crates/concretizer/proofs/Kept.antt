@@ -13,6 +13,7 @@ here : (words : List (List ℕ)) (files : Files) (after : Option Files) → Keep
 here words files after (inl same) = unchanged (lock_path words) (cert_path words) files after same
 here words files after (inr put) = keeps (lock_path words) (cert_path words) put.task (Some files) after (inr put.held)
 
+-- no file but the two changes
 pub others : (words : List (List ℕ)) (before after : Option Files) → IfSome before (λ files. Keeps evidence files words after)
     → IfSome before (λ files. ChangesOnly (lock_path words) (cert_path words) files after)
 others words None after kept = tt

@@ -25,6 +25,7 @@ use Rattle.concretizer.specs.Attempts.{Attempts, Follows, StopsBefore}
 use Rattle.run_output.specs.Shown.{IsShown}
 use Rattle.concretizer.specs.Headline.{HasShown, Keeps}
 
+-- the stop that was handed on
 pub write_carried : (stop : WriteStop) (result : Result Outcome Stop) → IsErrAnd result (λ given. given ≡ Write stop) → result ≡ Err (Write stop)
 write_carried stop (Ok outcome) h = absurd h
 write_carried stop (Err given) h = ap Err h
@@ -137,6 +138,7 @@ quiet lock cert task (Put at) before after said_before said_after left stops = l
 quiet lock cert task Output before after said_before said_after left stops = absurd stops
 quiet lock cert task NoMemory before after said_before said_after left stops = left
 
+-- nothing was said before the sink failed
 pub unsaid : (lock cert : List ℕ) (task : Task) (stop : WriteStop) (result : Result Outcome Stop) (before after : Option Files)
     (said_before said_after : Option (List ℕ)) → IsErrAnd result (λ given. given ≡ Write stop)
     → Writes evidence lock cert task before after said_before said_after (Err stop) → StopsBefore result → said_after ≡ said_before

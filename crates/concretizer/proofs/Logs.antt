@@ -26,6 +26,7 @@ use Rattle.concretizer.proofs.Left.{by_paths, write_carried}
 use Rattle.concretizer.proofs.Reported.{refuses}
 
 module _ (words : List (List ℕ)) (command : Command) (lock cert : List ℕ) (task : Task) (kept : List Line) where
+  -- of a writing that answered
   pub answered_log : (outcome : Outcome) (before between after : Option Files) → command_of words ≡ Some command
       → IfSome before (λ files. Gives {T = Task} (Ok task) (Named log_verdict files command)) → between ≡ before
       → lock ≡ lock_path words → cert ≡ cert_path words → KeepsAny lock cert task between after kept (Ok outcome)
@@ -49,6 +50,7 @@ module _ (words : List (List ℕ)) (command : Command) (lock cert : List ℕ) (t
   stopped_here NoMemory files between after ordered read (inl empty) = inl empty
   stopped_here NoMemory files between after ordered read (inr holds) = found files ordered read holds
 
+  -- of one that stopped
   pub stopped_log : (stop : WriteStop) (result : Result Outcome Stop) (before between after : Option Files)
       → IsErrAnd result (λ given. given ≡ Write stop) → command_of words ≡ Some command
       → IfSome before (λ files. Gives {T = Task} (Ok task) (Named log_verdict files command)) → between ≡ before

@@ -18,6 +18,7 @@ use Rattle.run_output.proofs.Meaning.{writes_meant, whole_meant}
 use Rattle.concretizer.specs.Attempts.{Attempts}
 use Rattle.concretizer.specs.Headline.{Keeps}
 
+-- what logs pose is posed by any verdicts
 abbrev pub AnyPosed : Type 0
 AnyPosed = (files : Files) (words : List (List ℕ)) (posed : Result Task Refusal) → Poses log_verdict files words posed
     → Poses any_verdict files words posed
@@ -40,6 +41,7 @@ module _ (laws : AnyPosed) (words : List (List ℕ)) (after : Option Files) wher
     left = writes_meant (Some files) after said more (lock_path words) (cert_path words) w.task (Err stop) w.left;
   }
 
+  -- an attempt
   pub attempts_meant : (before : Option Files) (said more : Option (List ℕ)) (result : Result Outcome Stop)
       → IfSome before (λ files. Attempts evidence files words after said more result)
       → IfSome before (λ files. Attempts meaning files words after said more result)
@@ -54,6 +56,7 @@ module _ (laws : AnyPosed) (words : List (List ℕ)) (after : Option Files) wher
     held = whole_meant (lock_path words) (cert_path words) put.task (Some files) after put.held;
   })
 
+  -- the files of any end
   pub keeps_meant : (before : Option Files) → IfSome before (λ files. Keeps evidence files words after)
       → IfSome before (λ files. Keeps meaning files words after)
   keeps_meant None kept = tt

@@ -29,6 +29,7 @@ lock_refuses (faults.HashDiffers written computed) = tt
 lock_refuses (faults.Dangling parent child) = tt
 lock_refuses faults.OutOfMemory = tt
 
+-- the status of each refusal
 pub refuses : (refusal : Refusal) → IsRefusalStatus (status_of refusal)
 refuses refusals.DatabaseTooLarge = tt
 refuses (refusals.BadDatabase fault) = tt
@@ -98,6 +99,7 @@ stops (Write (writes.Put path)) answers = answers
 stops (Write writes.Output) answers = answers
 stops (Write writes.NoMemory) answers = answers
 
+-- its status is none of an answer
 pub unanswered : (stop : Stop) (answer : Status) → IsAnswer answer → (err : Spoken) (errs : ℕ × ℕ) (result : Status)
     → Reports (stop_status stop) (stop_line stop) err errs result → result ≡ answer → ⊥
 unanswered stop answer answers err errs result reports is =
@@ -135,6 +137,7 @@ stops_by_words told words (Write writes.NoMemory) follows = inr tt
 no_usage : (result status : Status) → IsOther status → result ≡ status → result ≡ statuses.Usage → ⊥
 no_usage result status other same is = subst IsOther (sym same ∙ is) other
 
+-- only words that are no command are Usage
 pub usage : (told : Option Files) (words : List (List ℕ)) (stop : Stop) (err : Spoken) (errs : ℕ × ℕ) (result : Status)
     → Reports (stop_status stop) (stop_line stop) err errs result → Follows told words (Err stop)
     → result ≡ statuses.Usage → command_of words ≡ None

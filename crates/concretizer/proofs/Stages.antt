@@ -27,6 +27,7 @@ carried : (stop : Stop) (result : Result Outcome Stop) → IsErrAnd result (λ g
 carried stop (Ok outcome) h = absurd h
 carried stop (Err given) h = ap Err h
 
+-- words that are none stop an attempt at once
 pub stops_at_once : (words : List (List ℕ)) (stop : Stop) (result : Result Outcome Stop) → IsErrAnd result (λ given. given ≡ stop)
     → GivesCommand words (Err stop) → StopsAtOnce result
 stops_at_once words stop result is read = rw (carried stop result is) (stops words stop read)

@@ -165,6 +165,7 @@ settles_here one files words (Write writes.Output) out err reads says errs resul
 settles_here one files words (Write writes.NoMemory) out err reads says errs result attempts read said put reports posed poses r s e =
     reported (Write writes.NoMemory) err errs result (status_of posed) reports e (inr refl) (λ is. inr is)
 
+-- an attempt that stopped
 pub settles : ReadsOnce → (before : Option Files) (words : List (List ℕ)) (stop : Stop) (out err : Spoken) (reads says errs : ℕ × ℕ) (result : Status)
     → IfSome before (λ files. Attempts files (explained words) out.0 out.1 (Err stop)) → Counts reads.0 reads.1 (FailsToRead (Err stop))
     → Counts says.0 says.1 (FailsToSay (Err stop)) → (FailsToPut (Err stop) → ⊥) → Reports stop err errs result
@@ -174,6 +175,7 @@ settles one None words stop out err reads says errs result attempts read said pu
 settles one (Some files) words stop out err reads says errs result attempts read said put reports =
     settles_here one files words stop out err reads says errs result attempts read said put reports
 
+-- one that did not
 pub done : ReadsOnce → (before : Option Files) (words : List (List ℕ)) (out : Spoken) (reads says errs : ℕ × ℕ)
     → IfSome before (λ files. Attempts files (explained words) out.0 out.1 (Ok tt))
     → IfSome before (λ files. (posed : Posed) → Poses files words posed → ¬ Rose reads.0 reads.1 → ¬ Rose says.0 says.1

@@ -40,10 +40,12 @@ one_is given a b x y = x ∙ sym y
 pub ok_same : {A : Type 0} (x y : A) → (let T : Type 0 = Result A Refusal in let a : T = Ok x in let b : T = Ok y in a ≡ b) → x ≡ y
 ok_same x y e = cc
 
+-- no answer is a refusal
 pub ok_not_err : {A B : Type 0} (x : A) (e : Refusal)
     → (let T : Type 0 = Result A Refusal in let a : T = Ok x in let b : T = Err e in a ≡ b) → B
 ok_not_err x e same = absurd cc
 
+-- a refusal is one value
 pub err_same : {A : Type 0} (a b : Refusal) → (let T : Type 0 = Result A Refusal in let l : T = Err a in let r : T = Err b in l ≡ r) → a ≡ b
 err_same a b e = cc
 

@@ -19,6 +19,7 @@ fn write_number(alloc: Global, number: u64, out: &mut Vec<u8>) -> Result<(), All
     out.extend_from_slice(text.as_bytes())
 }
 
+/// The canonical text of a root, where there is one.
 fn write_text_of(alloc: Global, spec: Option<&Spec>, out: &mut Vec<u8>) -> Result<(), AllocError>
     ensures { OnOk result (out.new.items ≡ out.old.items ++ texts.text_of (option_copied spec.entry)) }
 {
@@ -104,6 +105,7 @@ fn write_directive(
     out.extend_from_slice(b"\n")
 }
 
+/// The line of a demand.
 fn write_demand(
     alloc: Global,
     problem: &Problem,

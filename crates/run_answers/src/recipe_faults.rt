@@ -10,6 +10,7 @@ use recipe_reader::RecipeFault;
 use spec_grammar::SpecFault;
 use std::alloc::{AllocError, Global};
 
+/// The text of a fault of tokens, as `OpenString 30`.
 #[tactic(auto, unfolding(crate::specs::FaultTexts::lex_fault_text))]
 fn lex_fault_text(alloc: Global, fault: LexFault) -> Result<String, AllocError>
     ensures { IfOk result (λ text. string_bytes text ≡ texts.lex_fault_text fault) }

@@ -66,6 +66,7 @@ pub enum Refusal {
 }
 
 impl Refusal {
+    /// The answer that it has.
     pub fn status(&self) -> Status
         ensures { result ≡ status_of self.now }
     {
@@ -215,6 +216,7 @@ fn lock_status(fault: &LockFault) -> Status
     }
 }
 
+/// What is said before the fault of a lock file.
 fn lock_front(fault: &LockFault) -> &'static str
     ensures { result.now ≡ lines.lock_front fault.now }
 {

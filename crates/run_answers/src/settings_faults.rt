@@ -10,6 +10,7 @@ use spec_grammar::SpecFault;
 use std::alloc::{AllocError, Global};
 use target_table::TargetFault;
 
+/// The text of a fault of targets, as `TwiceNamed 1`.
 #[tactic(auto, unfolding(crate::specs::FaultTexts::target_fault_text))]
 fn target_fault_text(alloc: Global, fault: TargetFault) -> Result<String, AllocError>
     ensures { IfOk result (λ text. string_bytes text ≡ texts.target_fault_text fault) }

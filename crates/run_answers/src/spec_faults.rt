@@ -7,6 +7,7 @@ ghost use Rattle.run_answers.specs.FaultTexts as texts;
 use spec_grammar::{Form, SpecFault};
 use std::alloc::{AllocError, Global};
 
+/// The name of a form that is not supported.
 fn form_name(form: Form) -> &'static str
     ensures { result.now ≡ texts.form_name form }
 {

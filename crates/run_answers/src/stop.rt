@@ -83,6 +83,7 @@ impl From<WriteStop> for Stop {
 }
 
 impl Stop {
+    /// The answer that it has.
     pub fn status(&self) -> Status
         ensures { result ≡ stop_status self.now }
     {

@@ -22,6 +22,7 @@ heads x y xs ys e = cc
 tails : {A : Type 0} (x y : A) (xs ys : List A) → (let T : Type 0 = List A in let a : T = x ∷ xs in let b : T = y ∷ ys in a ≡ b) → xs ≡ ys
 tails x y xs ys e = cc
 
+-- each file is a recipe
 pub all_read : (files : List RecipeFile) (recipes : List Recipe) → map recipe_in_file files ≡ map Ok recipes
     → recipes_of (map source_of files) ≡ Ok recipes
 all_read [] [] e = refl

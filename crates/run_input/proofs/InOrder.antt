@@ -97,6 +97,7 @@ pile_rises : (files : Files) (repo : List ℕ) (names : Names) (pile : Pile) →
 pile_rises files repo [] pile is ordered = ok_not_err pile _ (sym is)
 pile_rises files repo (name ∷ names) pile is ordered = entries_rise files repo no_files (name ∷ names) pile is ordered
 
+-- the files of a repository
 pub in_order : (files : Files) (repo : List ℕ) (pile : Pile) → pile_of files repo ≡ Ok pile → IsInByteOrder (names_of pile)
 unfolding pile_of
 in_order files repo pile is = pile_rises files repo (names_in files (packages_path repo)) pile is (names_rise files (packages_path repo))

@@ -10,6 +10,7 @@ use Rattle.spec_grammar.specs.declared.mode.Mode.TheVariants.{Specs}
 use Rattle.spec_grammar.specs.declared.part.Spec.{Spec}
 use Rattle.run_input.specs.Roots.{are_named}
 
+-- by what reading specs gives
 pub all_named : (text : List ℕ) (specs : List Spec)
     → ((mode : Mode) (text : List ℕ) (specs : List Spec) (spec : Spec) → Spells mode text specs → Contains specs spec → AreNamed mode spec)
     → Spells Specs text specs → are_named specs ≡ true

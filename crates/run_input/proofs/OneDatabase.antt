@@ -29,5 +29,6 @@ one_by : ReadsOnce → (dash : Bool) (files : Files) (path : List ℕ) → IsOne
 one_by laws true files path = one_is (Ok [])
 one_by laws false files path = one_then (Is (database_bytes files path)) DatabaseIn (one_is (database_bytes files path)) (one_in laws)
 
+-- by what reading databases gives
 pub one_database : ReadsOnce → (files : Files) (path : List ℕ) → IsOne (DatabaseAt files path)
 one_database laws files path = one_by laws (is_dash path) files path

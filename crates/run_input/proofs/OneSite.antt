@@ -29,5 +29,6 @@ one_by : ReadsOnce → (dash : Bool) (files : Files) (path : List ℕ) → IsOne
 one_by laws true files path = one_is (Ok standard)
 one_by laws false files path = one_then (Is (settings_bytes files path)) SettingsIn (one_is (settings_bytes files path)) (one_in laws)
 
+-- by what reading settings gives
 pub one_site : ReadsOnce → (files : Files) (path : List ℕ) → IsOne (SettingsAt files path)
 one_site laws files path = one_by laws (is_dash path) files path

@@ -38,6 +38,7 @@ recorded entry has =
     let parts = and_parts _ _ has in
     and_from _ _ parts.0 ((λ i. list_all (λ v. of_records v.1 i) entry.variants) ∙ parts.1)
 
+-- what has values makes a problem with values
 pub right_values : (recipes : List Recipe) (settings : Settings) (records : List Record) (roots : List Spec) → are_valued settings ≡ true
     → list_all record_values.has_values records ≡ true → has_right_values (problem_of recipes settings records roots) ≡ true
 unfolding has_right_values

@@ -84,5 +84,6 @@ module _ (lock cert : List ℕ) where
   keeps (tasks.Explain input) (Some m) after (inr kept) = absurd kept
   keeps (tasks.Try input) (Some m) after (inr kept) = absurd kept
 
+  -- files that are as they were
   pub unchanged : (before : Files) (after : Option Files) → after ≡ Some before → ChangesOnly lock cert before after
   unchanged before after same = keeps_none (Some before) after same

@@ -15,6 +15,7 @@ use Rattle.run_output.specs.Told.{Tells, IsTold, IsHalfTold}
 use Rattle.run_output.specs.declared.answer.Outcome.{Outcome}
 use Rattle.run_output.specs.declared.answer.Outcome.TheVariants.{Solved, Unsolved, Undecided}
 
+-- what is told
 pub tells_meant : (task : Task) (outcome : Outcome) (text : List ℕ) → Tells evidence task outcome text → Tells meaning task outcome text
 tells_meant (tasks.Solve input) outcome text t = absurd t
 tells_meant (tasks.Report numbers) outcome text t = t
@@ -33,6 +34,7 @@ module _ (before after : Option Files) (said more : Option (List ℕ)) where
   half_told_meant task t =
       record { outcome = t.outcome; text = t.text; tells = tells_meant task t.outcome t.text t.tells; files = t.files; out = t.out }
 
+  -- Done
   pub finished_meant : (lock cert : List ℕ) (task : Task) → IsFinished evidence lock cert task before after said more
       → IsFinished meaning lock cert task before after said more
   finished_meant lock cert (tasks.Solve input) s =
@@ -42,6 +44,7 @@ module _ (before after : Option Files) (said more : Option (List ℕ)) where
   finished_meant lock cert (tasks.Explain input) t = told_meant (tasks.Explain input) Solved t
   finished_meant lock cert (tasks.Try input) t = told_meant (tasks.Try input) Solved t
 
+  -- Unsatisfiable
   pub none_meant : (cert : List ℕ) (task : Task) → HasNone evidence cert task before after said more
       → HasNone meaning cert task before after said more
   none_meant cert (tasks.Solve input) s = record { log = s.log; none = s.none.means; files = s.files; out = s.out }
@@ -50,6 +53,7 @@ module _ (before after : Option Files) (said more : Option (List ℕ)) where
   none_meant cert (tasks.Explain input) t = told_meant (tasks.Explain input) Unsolved t
   none_meant cert (tasks.Try input) t = told_meant (tasks.Try input) Unsolved t
 
+  -- Undecided
   pub spent_meant : (cert : List ℕ) (task : Task) → HasSpent evidence cert task before after said more
       → HasSpent meaning cert task before after said more
   spent_meant cert (tasks.Solve input) s = record { log = s.log; spent = s.spent.means; files = s.files; out = s.out }

@@ -37,6 +37,7 @@ cert_put cert log text before after (Err (Put at)) dash is (same, held) =
 cert_put cert log text before after (Err Output) dash is left = absurd left
 cert_put cert log text before after (Err NoMemory) dash is left = tt
 
+-- the certificate alone was put
 pub cert_held : (cert : List ℕ) (log : List Line) (text : List ℕ) (before after : Option Files)
     → is_dash cert ≡ false → text ≡ log_text log → MayHold before after cert text → (after ≡ before) ⊎ MayCert cert log before after
 cert_held cert log text before after dash is held = inr (dash, subst (λ (t : List ℕ). MayHold before after cert t) is held)
@@ -50,6 +51,7 @@ first_stopped lock cert problem answer (Put at) before after left = inl left
 first_stopped lock cert problem answer Output before after left = left
 first_stopped lock cert problem answer NoMemory before after left = tt
 
+-- the lock file was not put
 pub first_held : (lock cert : List ℕ) (problem : Problem) (answer : Answer) (before after : Option Files)
     → (after ≡ before) ⊎ MayCert cert (log_of answer) before after
     → (after ≡ before) ⊎ HoldsWhole lock cert problem answer before after
@@ -72,6 +74,7 @@ second_put lock cert problem graph log text before between after (Err (Put at)) 
 second_put lock cert problem graph log text before between after (Err Output) first is left = absurd left
 second_put lock cert problem graph log text before between after (Err NoMemory) first is left = tt
 
+-- both were put, or the first alone
 pub second_held : (lock cert : List ℕ) (problem : Problem) (graph : Content) (log : List Line) (text : List ℕ)
     (before between after : Option Files) → between ≡ with_cert cert log before → text ≡ lock_of problem graph
     → MayHold between after lock text
@@ -87,6 +90,7 @@ pub nothing_put : (lock cert : List ℕ) (problem : Problem) (log : List Line) (
 nothing_put lock cert problem log before after (Ok done) left = left
 nothing_put lock cert problem log before after (Err stop) left = first_stopped lock cert problem (answers.Nothing log) stop before after left
 
+-- the log of a spent budget
 pub undecided_put : (lock cert : List ℕ) (problem : Problem) (log : List Line) (before after : Option Files)
     (result : Result (Unit {0}) WriteStop) → PutsCert cert log before after result
     → PutsAnswer lock cert problem (answers.Undecided log) before after result

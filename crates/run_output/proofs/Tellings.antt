@@ -18,6 +18,7 @@ use Rattle.run_output.specs.declared.answer.Outcome.{Outcome}
 use Rattle.run_output.specs.declared.answer.Outcome.TheVariants.{Solved, Unsolved, Undecided}
 
 module _ (lock cert : List ℕ) (files : Option Files) (said more : Option (List ℕ)) (text : List ℕ) where
+  -- what was said whole
   pub told_writes : (task : Task) (outcome : Outcome) → Tells evidence task outcome text → more ≡ and_said said text
       → Writes evidence lock cert task files files said more (Ok outcome)
   told_writes (tasks.Solve input) outcome tells out = absurd tells
@@ -37,6 +38,7 @@ module _ (lock cert : List ℕ) (files : Option Files) (said more : Option (List
   half_told : (task : Task) (outcome : Outcome) → Tells evidence task outcome text → SaysPart said more text → IsHalfTold evidence task files files said more
   half_told task outcome tells part = record { outcome = outcome; text = text; tells = tells; files = refl; out = part }
 
+  -- what was said in part
   pub told_stops : (task : Task) (outcome : Outcome) (stop : WriteStop) → Tells evidence task outcome text → SaysText text said more (Err stop)
       → Writes evidence lock cert task files files said more (Err stop)
   told_stops task outcome (Put at) tells says = absurd says

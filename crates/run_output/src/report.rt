@@ -10,6 +10,7 @@ use std::alloc::{AllocError, Global};
 
 // Each of these appends a text to `out`, or some of it after an error.
 
+/// The compiler of a node, where it has one: ` %gcc@=12.3.0`.
 #[tactic(auto, unfolding(crate::specs::Report::compiler_text))]
 fn write_compiler(compiler: &Option<Compiler>, out: &mut Vec<u8>) -> Result<(), AllocError>
     ensures { OnOk result (out.new.items ≡ out.old.items ++ compiler_text compiler.now) }
@@ -41,6 +42,7 @@ fn write_number(alloc: Global, number: u64, out: &mut Vec<u8>) -> Result<(), All
     out.extend_from_slice(text.as_bytes())
 }
 
+/// Where a node comes from: ` built`, ` external 0`, ` installed HASH`.
 #[tactic(auto, unfolding(crate::specs::Report::origin_text))]
 fn write_origin(alloc: Global, origin: &Origin, out: &mut Vec<u8>) -> Result<(), AllocError>
     ensures { OnOk result (out.new.items ≡ out.old.items ++ origin_text origin.now) }
@@ -58,6 +60,7 @@ fn write_origin(alloc: Global, origin: &Origin, out: &mut Vec<u8>) -> Result<(),
     }
 }
 
+/// The machine of a node, and the end of its line.
 #[tactic(auto, unfolding(crate::specs::Report::machine_text))]
 fn write_machine(alloc: Global, node: &Node, out: &mut Vec<u8>) -> Result<(), AllocError>
     ensures { OnOk result (out.new.items ≡ out.old.items ++ machine_text node.now) }

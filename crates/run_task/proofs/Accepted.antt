@@ -37,6 +37,7 @@ AcceptsLines = (vars : ℕ) (input : List (List Lit)) (bits : List Lit) (values 
     → AllLines (λ l. OfLearnt IsClause l) lines
     → (finish_on (run (Going (start vars input bits values)) lines) ≡ Accepted) ↔ IsLogOf vars input bits values lines
 
+-- what answers say of their logs
 abbrev pub AnswersWritten : Type 0
 AnswersWritten = (s : State) (lines : List Line) → AreWritable lines → answer_of s (log_text lines) ≡ Checked (finish_on (run (Going s) lines))
 

@@ -20,11 +20,11 @@ use Rattle.run_task.proofs.Reading.{at_end, piece_settled, piece_open, piece_lon
 
 -- a piece without bytes lies behind the file's end
 behind : (file : List ℕ) (from : ℕ) (out : List ℕ) (count : ℕ) → IsPiece file from out count → count ≡ 0 → 0 < length out → length file ≤ from
-behind file from out count piece none room = by (cases_lt from (length file))
+behind file from out count piece none room = not_before (cases_lt from (length file))
   where
-    by : (from < length file) ⊎ (length file ≤ from) → length file ≤ from
-    by (inl h) = absurd (let more = piece.more room h in omega (arith, more, none))
-    by (inr h) = h
+    not_before : (from < length file) ⊎ (length file ≤ from) → length file ≤ from
+    not_before (inl h) = absurd (let more = piece.more room h in omega (arith, more, none))
+    not_before (inr h) = h
 
 module _ (path out : List ℕ) (from count : ℕ) (old : Stage) where
   end_here : (file : Option (List ℕ)) → count ≡ 0 → 0 < length out → IsSomeAnd file (λ bytes. IsPiece bytes from out count) → (s : State)
@@ -32,6 +32,7 @@ module _ (path out : List ℕ) (from count : ℕ) (old : Stage) where
   end_here None none room piece s = absurd piece
   end_here (Some file) none room piece s = λ ready. at_end s file from old ready (behind file from out count piece none room)
 
+  -- no byte was read: what was taken before decides
   pub next_end : (before : Option Files) → count ≡ 0 → 0 < length out
       → IfSome before (λ files. GivesPiece (get files path) from out path (Ok count))
       → IfSome before (λ files. (s : State) → TakesNext s (get files path) from path old old (Ok End))
@@ -48,6 +49,7 @@ module _ (path out : List ℕ) (from count : ℕ) (old : Stage) where
     settled_here settled None piece s = absurd piece
     settled_here settled (Some file) piece s = λ ready. piece_settled s file out from count taken old new ready piece is_taken fed_piece settled
 
+    -- what was taken decides
     pub next_settled : (before : Option Files) → is_settled new ≡ true
         → IfSome before (λ files. GivesPiece (get files path) from out path (Ok count))
         → IfSome before (λ files. (s : State) → TakesNext s (get files path) from path old new (Ok End))
@@ -60,6 +62,7 @@ module _ (path out : List ℕ) (from count : ℕ) (old : Stage) where
     long_here open_yet less (Some file) piece s = λ ready.
         piece_long s file out from count taken old new ready piece is_taken fed_piece open_yet less
 
+    -- what was taken decides nothing, and more was read than may count
     pub next_long : (before : Option Files) → is_settled new ≡ false → taken < count
         → IfSome before (λ files. GivesPiece (get files path) from out path (Ok count))
         → IfSome before (λ files. (s : State) → TakesNext s (get files path) from path old new (Ok Long))
@@ -72,16 +75,19 @@ module _ (path out : List ℕ) (from count : ℕ) (old : Stage) where
     more_here open_yet (Some file) piece s = λ ready.
         piece_open s file out from count taken old new ready piece is_taken fed_piece open_yet
 
+    -- what was taken decides nothing yet
     pub next_more : (before : Option Files) → is_settled new ≡ false
         → IfSome before (λ files. GivesPiece (get files path) from out path (Ok count))
         → IfSome before (λ files. (s : State) → TakesNext s (get files path) from path old new (Ok (More (from + taken))))
     next_more None open_yet read = tt
     next_more (Some files) open_yet read = λ s. more_here open_yet (get files path) read s
 
+-- the negation that is false is of true
 pub not_true : (b : Bool) (r : Bool) → r ≡ not b → r ≡ false → b ≡ true
 not_true true r is e = refl
 not_true false r is e = absurd (let no : true ≡ false = sym is ∙ e in cc)
 
+-- the negation that is true is of false
 pub not_false : (b : Bool) (r : Bool) → r ≡ not b → r ≡ true → b ≡ false
 not_false true r is e = absurd (let no : false ≡ true = sym is ∙ e in cc)
 not_false false r is e = refl
@@ -97,11 +103,13 @@ abbrev pub CarriesAt : Option Files → List ℕ → ℕ → Stage → Stage →
 CarriesAt before path from old new =
     IfSome before (λ files. (s : State) (file : List ℕ) → get files path ≡ Some file → Carries s file from old new)
 
+-- at the begin of the file
 pub carries_none : (before : Option Files) (path : List ℕ) (old : Stage) → CarriesAt before path 0 old old
 carries_none None path old = tt
 carries_none (Some files) path old = λ s file is ready. ready
 
 module _ (path : List ℕ) (from : ℕ) (old between new : Stage) where
+  -- one piece more
   pub carries_more : (before : Option Files) (place : ℕ) → CarriesAt before path from old between
       → IfSome before (λ files. (s : State) → TakesNext s (get files path) from path between new (Ok (More place)))
       → CarriesAt before path place old new
@@ -113,6 +121,7 @@ module _ (path : List ℕ) (from : ℕ) (old between new : Stage) where
   all_here None s next carried takes = absurd takes
   all_here (Some bytes) s next carried takes = λ ready. takes (carried bytes refl ready)
 
+  -- the last piece
   pub all_taken : (before : Option Files) (next : Next) → CarriesAt before path from old between
       → IfSome before (λ files. (s : State) → TakesNext s (get files path) from path between new (Ok next))
       → IfSome before (λ files. (s : State) → TakesNext s (get files path) 0 path old new (Ok next))
@@ -125,6 +134,7 @@ module _ (path : List ℕ) (from : ℕ) (old between new : Stage) where
   stopped_here file s (Fault at) takes = takes
   stopped_here file s NoMemory takes = takes
 
+  -- a reading that stopped
   pub all_stopped : (before : Option Files) (stop : ReadStop)
       → IfSome before (λ files. (s : State) → TakesNext s (get files path) from path between new (Err stop))
       → IfSome before (λ files. (s : State) → TakesNext s (get files path) 0 path old new (Err stop))
@@ -139,6 +149,7 @@ at_next before now path from old new given next same is taken =
     subst (λ (n : Next). IfSome before (λ files. (s : State) → TakesNext s (get files path) from path old new (Ok n))) is
     (subst (λ (fs : Option Files). IfSome fs (λ files. (s : State) → TakesNext s (get files path) from path old new (Ok given))) same taken)
 
+-- and of a stop
 pub at_stop : (before now : Option Files) (path : List ℕ) (from : ℕ) (old new : Stage) (given stop : ReadStop) → now ≡ before → given ≡ stop
     → IfSome now (λ files. (s : State) → TakesNext s (get files path) from path old new (Err given))
     → IfSome before (λ files. (s : State) → TakesNext s (get files path) from path old new (Err stop))
@@ -185,6 +196,7 @@ module _ (path : List ℕ) (s : State) (old new : Stage) (after : IsAfter s [] o
   unfolding said_at
   stop_here files stop takes = stop_by (get files path) s path old new stop takes
 
+  -- what was read decides
   pub text_said : (before : Option Files) (result : Result (Unit {0}) ReadStop)
       → IfSome before (λ files. (s : State) → TakesNext s (get files path) 0 path old new (Ok End))
       → Gives result (Is (verdict_of (answer_at new.progress new.failed new.place.rest)))
@@ -192,11 +204,13 @@ module _ (path : List ℕ) (s : State) (old new : Stage) (after : IsAfter s [] o
   text_said None result takes read = tt
   text_said (Some files) result takes read = said_here files result (takes s) read
 
+  -- there is too much
   pub text_long : (before : Option Files) → IfSome before (λ files. (s : State) → TakesNext s (get files path) 0 path old new (Ok Long))
       → IfSome before (λ files. Gives {T = Unit {0}} (Err (Refused CertificateTooLarge)) (Is (said_at files path s)))
   text_long None takes = tt
   text_long (Some files) takes = long_here-2 files (takes s)
 
+  -- the reading stopped
   pub text_stop : (before : Option Files) (stop : ReadStop)
       → IfSome before (λ files. (s : State) → TakesNext s (get files path) 0 path old new (Err stop))
       → IfSome before (λ files. Gives {T = Unit {0}} (Err stop) (Is (said_at files path s)))
@@ -211,6 +225,7 @@ pub all_by : (before : Option Files) (path : List ℕ) (old new : Stage) (given 
 all_by before path old new given decided is taken =
     subst (λ (b : Bool). IfSome before (λ files. (s : State) → TakesNext s (get files path) 0 path old new (Ok (end_of b)))) is taken
 
+-- by the stop
 pub all_but : (before : Option Files) (path : List ℕ) (old new : Stage) (given stop : ReadStop) → given ≡ stop
     → IfSome before (λ files. (s : State) → TakesAll s (get files path) path old new (Err given))
     → IfSome before (λ files. (s : State) → TakesNext s (get files path) 0 path old new (Err stop))

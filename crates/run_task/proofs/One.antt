@@ -29,6 +29,7 @@ one_in laws bytes (Err a) (Err b) (f, is, other, same) (g, as_well, not, too) =
 one_lock : ReadsOnce → (files : Files) (path : List ℕ) → IsOne (LockAt files path)
 one_lock laws files path = one_then (Is (lock_bytes files path)) LockIn (one_is (lock_bytes files path)) (one_in laws)
 
+-- of a lock file one thing is said at most
 pub one_verdict : ReadsOnce → (files : Files) (path : List ℕ) (problem : Problem) → IsOne (Judges files path problem)
 one_verdict laws files path problem =
     one_then (LockAt files path) (λ lock. Is (judged problem lock)) (one_lock laws files path) (λ lock. one_is (judged problem lock))

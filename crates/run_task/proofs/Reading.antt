@@ -23,15 +23,18 @@ or_true : (b : Bool) → (b || true) ≡ true
 or_true true = refl
 or_true false = refl
 
+-- a text within the limit
 pub said_short : (s : State) (text : List ℕ) → length text ≤ most → said_of s text ≡ verdict_of (answer_of s text)
 unfolding said_of
 said_short s text h = rw (short (length text) h) (ap (λ t. verdict_of (answer_of s t)) (take_all most text h))
 
+-- a text whose front decides
 pub said_settled : (s : State) (text : List ℕ) → is_settled_by s (take most text) ≡ true
     → said_of s text ≡ verdict_of (answer_of s (take most text))
 unfolding said_of
 said_settled s text h = rw h (rw (or_true (nat_le (length text) most)) refl)
 
+-- a longer one whose front does not
 pub said_long : (s : State) (text : List ℕ) → most < length text → is_settled_by s (take most text) ≡ false
     → said_of s text ≡ Err refusals.CertificateTooLarge
 unfolding said_of
@@ -72,19 +75,24 @@ joined file piece from count taken same within =
 
 module _ (s : State) (file piece : List ℕ) (from count taken : ℕ) (old new : Stage) (ready : IsReady s file from old)
     (is_piece : IsPiece file from piece count) (is_taken : taken ≡ min count (most - from)) (fed : IsFed old new (take taken piece)) where
+  -- the checker has taken this much
   pub after : IsAfter s (take (from + taken) file) new
   after = subst (λ (t : List ℕ). IsAfter s t new)
       (joined file piece from count taken is_piece.same (omega (arith, is_taken))) (fed s (take from file) ready.after)
 
+  -- which is within the limit
   pub within : from + taken ≤ most
   within = let w = ready.within in omega (arith, w, is_taken)
 
+  -- what was taken decides
   pub piece_settled : is_settled new ≡ true → said_of s file ≡ verdict_of (answer_at new.progress new.failed new.place.rest)
   piece_settled settled = at_settled s file (from + taken) new within after (sym after.settled ∙ settled)
 
+  -- what was taken decides nothing yet
   pub piece_open : is_settled new ≡ false → IsReady s file (from + taken) new
   piece_open open_yet = record { within = within; after = after; unsettled = sym after.settled ∙ open_yet }
 
+  -- and there is more than may count
   pub piece_long : is_settled new ≡ false → taken < count → said_of s file ≡ Err refusals.CertificateTooLarge
   piece_long open_yet less =
       let w = ready.within in

@@ -44,6 +44,7 @@ of_begun : (files : Files) (path : List ℕ) (begun : Option State)
 of_begun files path None = tt
 of_begun files path (Some s) = at_path files path s
 
+-- of a certificate it is said that it is right, or a refusal of it
 pub may_be_said : (files : Files) (path : List ℕ) (problem : Problem) (numbers : Option (List ℕ))
     → MayBeSaid path (certified_at files path problem numbers)
 unfolding certified_at

@@ -71,6 +71,7 @@ pub shown_none : (problem : Problem) → RefutedHasNoGraph → RulesDecode probl
     → (lines : List Line) × IsLogOf (rule_clauses problem).vars (clauses_of (rule_clauses problem).entries) [] None lines → ShowsOf problem None
 shown_none problem law decodes ordered (lines, log) = law problem lines decodes ordered log
 
+-- of a certificate of costs
 pub shown_some : (problem : Problem) (e : Encoded) (numbers : List ℕ) (values : List Bool) → CertifiedIsOptimal → IsEncoded problem e
     → bits_for e.bits.tops numbers ≡ Some values → AllClauses (clauses_of e.clauses.entries)
     → (lines : List Line) × IsLogOf e.clauses.vars (clauses_of e.clauses.entries) e.bits.lits (Some values) lines
@@ -90,21 +91,22 @@ module _ (path : List ℕ) (problem : Problem) (numbers : Option (List ℕ)) (be
   pub certificate_read : (s : State) (result : Result (Unit {0}) ReadStop) → begun_for problem numbers ≡ Some s
       → IfSome before (λ files. Gives result (Is (said_at files path s)))
       → IfSome before (λ files. Gives result (Is (certified_at files path problem numbers)))
-  certificate_read s result is read = go before read
+  certificate_read s result is read = read_over before read
     where
-      go : (o : Option Files) → IfSome o (λ files. Gives result (Is (said_at files path s)))
+      read_over : (o : Option Files) → IfSome o (λ files. Gives result (Is (said_at files path s)))
           → IfSome o (λ files. Gives result (Is (certified_at files path problem numbers)))
-      go None read = tt
-      go (Some files) read = subst (λ (r : Result (Unit {0}) Refusal). Gives result (Is r)) (begun_as files (Some s) is) read
+      read_over None read = tt
+      read_over (Some files) read = subst (λ (r : Result (Unit {0}) Refusal). Gives result (Is r)) (begun_as files (Some s) is) read
 
+  -- costs that no bits spell
   pub certificate_unspelled : begun_for problem numbers ≡ None → IfSome before (λ files. Gives {T = Unit {0}}
       (Err (Refused (refusals.BadCertificate 1 faults.WrongBit))) (Is (certified_at files path problem numbers)))
-  certificate_unspelled is = go before
+  certificate_unspelled is = refused_over before
     where
-      go : (o : Option Files) → IfSome o (λ files. Gives {T = Unit {0}} (Err (Refused (refusals.BadCertificate 1 faults.WrongBit)))
+      refused_over : (o : Option Files) → IfSome o (λ files. Gives {T = Unit {0}} (Err (Refused (refusals.BadCertificate 1 faults.WrongBit)))
           (Is (certified_at files path problem numbers)))
-      go None = tt
-      go (Some files) = begun_as files None is
+      refused_over None = tt
+      refused_over (Some files) = begun_as files None is
 
 -- what is accepted is shown
 pub yes : TellsLog → (path : List ℕ) (s : Clauses) (bits : List Lit) (values : Option (List Bool)) (P : Type 0)
@@ -117,12 +119,14 @@ yes tells path s bits values P shows (Some files) (Ok done) ordered read =
     shows ordered (logged_at tells files path s bits values ordered (sym read))
 yes tells path s bits values P shows before (Err stop) ordered read = tt
 
+-- a checker of costs that bits spell
 pub begun_some : (problem : Problem) (e : Encoded) → e ≡ encoding_of problem → (numbers : List ℕ) (values : List Bool)
     → bits_for e.bits.tops numbers ≡ Some values → begun_for problem (Some numbers) ≡ Some (begun e.clauses e.bits.lits (Some values))
 begun_some problem e built numbers values is =
     ap (λ (x : Encoded). option_map (λ (vs : List Bool). begun x.clauses x.bits.lits (Some vs)) (bits_for x.bits.tops numbers)) (sym built)
     ∙ ap (option_map (λ (vs : List Bool). begun e.clauses e.bits.lits (Some vs))) is
 
+-- there is none of costs that no bits spell
 pub begun_not : (problem : Problem) (e : Encoded) → e ≡ encoding_of problem → (numbers : List ℕ) → bits_for e.bits.tops numbers ≡ None
     → begun_for problem (Some numbers) ≡ None
 begun_not problem e built numbers is =
@@ -140,9 +144,11 @@ module _ (path : List ℕ) (problem : Problem) (before : Option Files) (result :
     over_rules : Said (rule_clauses problem) [] None
     over_rules = subst (λ (t : Clauses). Said t [] None) rules read
 
+    -- what is said, without costs
     pub none_read : IfSome before (λ files. Gives result (Is (certified_at files path problem None)))
     none_read = certificate_read path problem None before (begun (rule_clauses problem) [] None) result refl over_rules
 
+    -- what that shows
     pub none_shown : TellsLog → RefutedHasNoGraph → RulesDecode problem → OnOk result (AllClauses (clauses_of s.entries))
         → OnOk result (IfSome before (λ files. ShowsOf problem None))
     none_shown tells law decodes ordered =
@@ -155,10 +161,12 @@ module _ (path : List ℕ) (problem : Problem) (before : Option Files) (result :
     over_encoding : Said e.clauses e.bits.lits (Some values)
     over_encoding = subst (λ vs. Said e.clauses e.bits.lits (Some vs)) same (subst (λ l. Said e.clauses l (Some slice)) is_bits read)
 
+    -- what is said, with costs
     pub some_read : IfSome before (λ files. Gives result (Is (certified_at files path problem (Some numbers))))
     some_read = certificate_read path problem (Some numbers) before (begun e.clauses e.bits.lits (Some values)) result
         (begun_some problem e built numbers values spelled) over_encoding
 
+    -- what that shows
     pub some_shown : TellsLog → CertifiedIsOptimal → IsEncoded problem e → OnOk result (AllClauses (clauses_of e.clauses.entries))
         → OnOk result (IfSome before (λ files. ShowsOf problem (Some numbers)))
     some_shown tells law encoded ordered =

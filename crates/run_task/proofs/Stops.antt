@@ -32,12 +32,14 @@ use Rattle.run_task.specs.Tasks.{
 use Rattle.run_task.specs.declared.task.Task.{Task}
 use Rattle.run_task.specs.declared.task.Task.TheVariants as tasks
 
+-- a lock file of which nothing was said
 pub judged_stop : (before : Option Files) (path : List ℕ) (problem : Problem) (stop : ReadStop)
     → IfSome before (λ files. Gives {T = List ℕ} (Err stop) (Judges files path problem))
     → IfSome before (λ files. Gives {T = Task} (Err stop) (ReportOf files path problem))
 judged_stop None path problem stop read = tt
 judged_stop (Some files) path problem stop read = then_stop (Judges files path problem) (λ numbers. Is (Ok (tasks.Report numbers))) stop read
 
+-- a certificate of which nothing was said
 pub certified_stop : (before : Option Files) (path : List ℕ) (problem : Problem) (numbers : Option (List ℕ)) (stop : ReadStop)
     → IfSome before (λ files. Gives {T = Unit {0}} (Err stop) (Is (certified_at files path problem numbers)))
     → IfSome before (λ files. Gives {T = Task} (Err stop) (AcceptanceOf log_verdict files path problem numbers))
@@ -53,6 +55,7 @@ module _ (before : Option Files) (command : Command) (input : Input) (result : R
       → IfSome before (λ files. Gives result (TaskBy log_verdict command.work files command input))
   by_work work same read = subst (λ (w : Work). IfSome before (λ files. Gives result (TaskBy log_verdict w files command input))) (sym same) read
 
+  -- `judge`
   pub judged : (lock : List ℕ) → command.work ≡ works.Judge → lock ≡ command.lock
       → IfSome before (λ files. Gives result (ReportOf files lock input.problem))
       → IfSome before (λ files. Gives result (TaskBy log_verdict command.work files command input))
@@ -60,6 +63,7 @@ module _ (before : Option Files) (command : Command) (input : Input) (result : R
       by_work works.Judge work
       (subst (λ (p : List ℕ). IfSome before (λ files. Gives result (ReportOf files p input.problem))) same read)
 
+  -- `check`
   pub checked : (lock cert : List ℕ) → command.work ≡ works.Check → lock ≡ command.lock → cert ≡ command.cert
       → IfSome before (λ files. Gives result (CheckOf log_verdict files lock cert input.problem))
       → IfSome before (λ files. Gives result (TaskBy log_verdict command.work files command input))
@@ -68,6 +72,7 @@ module _ (before : Option Files) (command : Command) (input : Input) (result : R
       (subst (λ (p : List ℕ). IfSome before (λ files. Gives result (CheckOf log_verdict files command.lock p input.problem))) too
       (subst (λ (p : List ℕ). IfSome before (λ files. Gives result (CheckOf log_verdict files p cert input.problem))) same read))
 
+  -- `refute`
   pub refuted : (cert : List ℕ) → command.work ≡ works.Refute → cert ≡ command.cert
       → IfSome before (λ files. Gives result (AcceptanceOf log_verdict files cert input.problem None))
       → IfSome before (λ files. Gives result (TaskBy log_verdict command.work files command input))
@@ -118,26 +123,32 @@ module _ (command : Command) where
   by_task work P same of (Ok task) is = subst (λ (w : Work). IsOf w task) (sym same) (of task is)
   by_task work P same of (Err stop) is = tt
 
+  -- `judge` reports
   pub judged_work : (result : Result Task ReadStop) → command.work ≡ works.Judge → IfOk result IsReportTask
       → IfOk result (λ task. IsOf command.work task)
   judged_work result same is = by_task works.Judge IsReportTask same report_of result is
 
+  -- `check` says yes
   pub checked_work : (result : Result Task ReadStop) → command.work ≡ works.Check → IfOk result IsYes
       → IfOk result (λ task. IsOf command.work task)
   checked_work result same is = by_task works.Check IsYes same yes_of_check result is
 
+  -- `refute` says yes
   pub refuted_work : (result : Result Task ReadStop) → command.work ≡ works.Refute → IfOk result IsYes
       → IfOk result (λ task. IsOf command.work task)
   refuted_work result same is = by_task works.Refute IsYes same yes_of_refute result is
 
+-- a report asks for nothing
 pub judged_ready : (result : Result Task ReadStop) → IfOk result IsReportTask → IfOk result (λ task. IsReady task)
 judged_ready (Ok task) is = report_ready task is
 judged_ready (Err stop) is = tt
 
+-- nor does a yes
 pub accepted_ready : (result : Result Task ReadStop) → IfOk result IsYes → IfOk result (λ task. IsReady task)
 accepted_ready (Ok task) is = yes_ready task is
 accepted_ready (Err stop) is = tt
 
+-- what holds anyway holds of each result
 pub any_ok : {A : Type 0} (P : Type 0) (result : Result A ReadStop) → P → IfOk result (λ x. P)
 any_ok P (Ok x) p = p
 any_ok P (Err stop) p = tt
@@ -175,26 +186,31 @@ module _ (command : Command) where
   there_shown before (Err stop) made shown = tt
 
 module _ (command : Command) (result : Result Task ReadStop) where
+  -- files that are made are told
   pub over_made : (before : Option Files) (files : Files) → before ≡ Some files → IfSome before (λ f. Gives result (Over log_verdict f command))
       → Gives result (Over log_verdict files command)
   over_made before files same read = subst (λ (b : Option Files). IfSome b (λ f. Gives result (Over log_verdict f command))) same read
 
+  -- the task of a trial
   pub named_made : (before : Option Files) (packages seed : ℕ) → made_for command.work ≡ Some (packages, seed)
       → Gives result (Over log_verdict (input_files packages seed) command) → IfSome before (λ files. Gives result (Named log_verdict files command))
   named_made None packages seed made read = tt
   named_made (Some files) packages seed made read =
       subst (λ (m : Option (ℕ × ℕ)). Gives result (Over log_verdict (files_by m files) command)) (sym made) read
 
+  -- the task of another command
   pub named_there : (before : Option Files) → made_for command.work ≡ None → IfSome before (λ files. Gives result (Over log_verdict files command))
       → IfSome before (λ files. Gives result (Named log_verdict files command))
   named_there None made read = tt
   named_there (Some files) made read =
       subst (λ (m : Option (ℕ × ℕ)). Gives result (Over log_verdict (files_by m files) command)) (sym made) read
 
+  -- what the yes of a trial shows
   pub shown_made : (before : Option Files) (packages seed : ℕ) → made_for command.work ≡ Some (packages, seed)
       → OnOk result (IsShownOver (input_files packages seed) command) → OnOk result (IfSome before (λ files. IsShown files command))
   shown_made before packages seed made shown = made_shown command before result packages seed made shown
 
+  -- what that of another command shows
   pub shown_there : (before : Option Files) → made_for command.work ≡ None → OnOk result (IfSome before (λ files. IsShownOver files command))
       → OnOk result (IfSome before (λ files. IsShown files command))
   shown_there before made shown = there_shown command before result made shown

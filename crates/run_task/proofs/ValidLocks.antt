@@ -44,6 +44,7 @@ unfolding judged
 judged_ok problem lock numbers e =
     by_roots (are_roots_of lock.hashes problem.roots lock.roots) (weighed problem lock.graph) numbers e
 
+-- what the verdict says of a graph that breaks no rule
 abbrev pub ValidLaw : Type 0
 ValidLaw = (problem : Problem) (graph : Content) → (valid problem graph ≡ true) ↔ (verdict problem graph ≡ verdicts.Valid)
 
@@ -54,6 +55,7 @@ here law problem lock numbers formed e =
     let w = weighed_ok problem lock.graph numbers j.1 in
     record { roots = j.0; well_formed = formed; is_valid = (law problem lock.graph).1 w.0; costs = w.1 }
 
+-- what is judged is right
 pub right : ValidLaw → (problem : Problem) (lock : Lock) (result : Result (List ℕ) ReadStop) → IsWellFormed lock.graph
     → Gives result (Is (judged problem lock)) → IfOk result (λ numbers. IsRight problem lock numbers)
 right law problem lock (Ok numbers) formed read = here law problem lock numbers formed (sym read)
@@ -65,6 +67,7 @@ by_files : (before : Option Files) (path : List ℕ) (problem : Problem) (lock :
 by_files None path problem lock numbers at is = tt
 by_files (Some files) path problem lock numbers at is = record { lock = lock; at = at; right = is }
 
+-- the file at the path is such a lock file
 pub valid_lock : (before : Option Files) (path : List ℕ) (problem : Problem) (lock : Lock) (result : Result (List ℕ) ReadStop)
     → IfSome before (λ files. Gives {T = Lock} (Ok lock) (LockAt files path)) → IfOk result (λ numbers. IsRight problem lock numbers)
     → IfOk result (λ numbers. IfSome before (λ files. IsValidLock files path problem numbers))

@@ -64,6 +64,7 @@ pub any_posed : ((files : Files) (path : List ℕ) (problem : Problem) (numbers 
 any_posed may = poses log_verdict any_verdict
     (λ files path problem numbers said is. subst (MayBeSaid path) (sym is) (may files path problem numbers))
 
+-- where no certificate is read, nothing depends on verdicts
 pub none_posed : (files : Files) (words : List (List ℕ)) (r : Result Task Refusal) → Poses no_verdict files words r
     → Poses log_verdict files words r
 none_posed = poses no_verdict log_verdict (λ files path problem numbers said none. absurd none)

@@ -27,6 +27,7 @@ fn fault_of(why: Why) -> LineFault
     }
 }
 
+/// What the checker's answer to a text comes to.
 fn verdict_of(answer: TextAnswer) -> Result<(), ReadStop>
     ensures read { Gives result (Is (verdict_of answer)) }
     ensures no_fault { EndsInReadFault result → ⊥ }
