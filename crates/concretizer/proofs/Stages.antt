@@ -1,13 +1,13 @@
 -- Words that are no command.
-use Rattle.std.proofs.Common.{◌≡◌, ℕ, List, sym, ap, ◌∙◌, Option, Some, None, Result, Ok, Err}
-use Rattle.std.specs.Result.{IsErrAnd}
-use Rattle.run_output.specs.ReadStop.TheVariants.{Refused, Fault, NoMemory}
-use Rattle.run_output.specs.Stop.{Stop}
-use Rattle.run_output.specs.Stop.TheVariants.{Usage, Read, Write}
-use Rattle.run_output.specs.Words.{Command, command_of}
+use Rattle.std.proofs.Common.{◌≡◌, ℕ, List, refl, sym, ◌∙◌, Option, Some, None, Err}
+use Rattle.std.specs.Prelude.{IfSome}
+use Rattle.outside_desk.specs.Files.{Files}
+use Rattle.run_output.specs.Evidence.{evidence}
 use Rattle.run_output.specs.Reading.{GivesCommand}
-use Rattle.run_output.specs.declared.answer.Outcome.{Outcome}
-use Rattle.concretizer.specs.Attempts.{StopsAtOnce}
+use Rattle.run_output.specs.ReadStop.TheVariants.{NoMemory}
+use Rattle.run_output.specs.Stop.TheVariants.{Usage, Read}
+use Rattle.run_output.specs.Words.{Command, command_of}
+use Rattle.concretizer.specs.Attempts.{Attempts}
 
 some_not_none : {A B : Type 0} (x : A) → (let T : Type 0 = Option A in let a : T = Some x in let b : T = None in a ≡ b) → B
 some_not_none x same = absurd cc
@@ -16,18 +16,14 @@ some_not_none x same = absurd cc
 pub not_refused : {A : Type 0} (words : List (List ℕ)) (command : Command) → command_of words ≡ Some command → command_of words ≡ None → A
 not_refused words command named none = some_not_none command (sym named ∙ none)
 
-stops : (words : List (List ℕ)) (stop : Stop) → GivesCommand words (Err stop) → StopsAtOnce (Err stop)
-stops words Usage read = tt
-stops words (Read (Refused refusal)) read = absurd read
-stops words (Read (Fault path)) read = absurd read
-stops words (Read NoMemory) read = tt
-stops words (Write stop) read = absurd read
+-- words that are none end an attempt, and leave all as it was
+pub none_attempted : (words : List (List ℕ)) (before : Option Files) (said : Option (List ℕ)) → GivesCommand words (Err Usage)
+    → IfSome before (λ files. Attempts evidence files words before said said (Err Usage))
+none_attempted words None said none = tt
+none_attempted words (Some files) said none = (none, record { unchanged = refl; out = refl })
 
-carried : (stop : Stop) (result : Result Outcome Stop) → IsErrAnd result (λ given. given ≡ stop) → result ≡ Err stop
-carried stop (Ok outcome) h = absurd h
-carried stop (Err given) h = ap Err h
-
--- words that are none stop an attempt at once
-pub stops_at_once : (words : List (List ℕ)) (stop : Stop) (result : Result Outcome Stop) → IsErrAnd result (λ given. given ≡ stop)
-    → GivesCommand words (Err stop) → StopsAtOnce result
-stops_at_once words stop result is read = rw (carried stop result is) (stops words stop read)
+-- and so does want of memory over them
+pub memory_ended : (words : List (List ℕ)) (before : Option Files) (said : Option (List ℕ))
+    → IfSome before (λ files. Attempts evidence files words before said said (Err (Read NoMemory)))
+memory_ended words None said = tt
+memory_ended words (Some files) said = record { unchanged = refl; out = refl }

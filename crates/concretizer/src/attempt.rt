@@ -1,6 +1,6 @@
 //! The reading of a task, and the writing of its answer.
 
-ghost use Rattle.std.specs.Prelude.{◌≡◌, ◌≤◌, None, IfSome, OnOk};
+ghost use Rattle.std.specs.Prelude.{◌≡◌, ◌≤◌, [], Some, None, IfSome, OnOk};
 ghost use Rattle.outside_desk.specs.Causes.{Counts};
 ghost use Rattle.run_output.specs.Evidence.{evidence};
 ghost use Rattle.run_output.specs.Stops.{stop_status, stop_line};
@@ -11,7 +11,7 @@ ghost use Rattle.concretizer.specs.Headline.{HasShown, Keeps, Reports};
 
 use outside_desk::{Desk, Sink, SinkFault};
 use run_output::{
-    Command, Log, Outcome, Progress, Stage, Status, Stop, Work, read_command, read_task,
+    Command, Log, Outcome, Progress, ReadStop, Stage, Status, Stop, Work, read_command, read_task,
     write_answer,
 };
 use std::alloc::Global;
@@ -25,8 +25,57 @@ fn reading_of(command: &Command<'_>) -> Stage {
     }
 }
 
+/// Reads the task that a command names, and writes its answer. The command is that of the words.
+fn attempt_by<R: Threads + Sync, D: Desk, O: Sink, P: Progress>(
+    rt: &R,
+    alloc: Global,
+    _words: &[String],
+    command: &Command<'_>,
+    desk: &mut D,
+    out: &mut O,
+    kept: &mut Log,
+    progress: &mut P,
+) -> Result<Outcome, Stop>
+    requires named { command_of (words_of _words.now) ≡ Some command.now }
+    requires empty { kept.old ≡ [] }
+    ensures outcome { IfSome (D.files desk.old)
+        (λ files. Attempts evidence files (words_of _words.now) (D.files desk.new) (O.said out.old)
+        (O.said out.new) result) }
+    ensures shown { OnOk result (IfSome (D.files desk.old)
+        (λ files. HasShown files (words_of _words.now))) }
+    ensures follows { Follows (D.files desk.old) (words_of _words.now) result }
+    ensures unread { FailsToRead result → D.files desk.new ≡ D.files desk.old }
+    ensures unsaid { StopsBefore result → O.said out.new ≡ O.said out.old }
+    ensures steady { Concludes result → (D.faults desk.new ≡ D.faults desk.old)
+        × (D.put_faults desk.new ≡ D.put_faults desk.old)
+        × (O.faults out.new ≡ O.faults out.old) }
+    ensures held { IfSome (D.files desk.old)
+        (λ files. Keeps evidence files (words_of _words.now) (D.files desk.new)) }
+    ensures kept { IfSome (D.files desk.old)
+        (λ files. AttemptKeeps files (words_of _words.now) (D.files desk.new) kept.new result) }
+    ensures read { Counts (D.faults desk.old) (D.faults desk.new) (FailsToRead result) }
+    ensures put { Counts (D.put_faults desk.old) (D.put_faults desk.new) (FailsToPut result) }
+    ensures said { Counts (O.faults out.old) (O.faults out.new) (FailsToSay result) }
+{
+    progress.tell(reading_of(command));
+    let task = read_task(rt, alloc, desk, command)?;
+    let answer = write_answer(
+        alloc,
+        &task,
+        command.lock,
+        command.cert,
+        desk,
+        out,
+        kept,
+        progress,
+    );
+    drop(task);
+    Ok(answer?)
+}
+
 /// Reads the task that the words name, and writes its answer. The log of what was searched is kept, in the place of what was there,
 /// and `progress` is told how far the run is.
+#[tactic(auto, using(crate::proofs::Stages::none_attempted, crate::proofs::Stages::memory_ended))]
 pub fn attempt<R: Threads + Sync, D: Desk, O: Sink, P: Progress>(
     rt: &R,
     alloc: Global,
@@ -60,21 +109,11 @@ pub fn attempt<R: Threads + Sync, D: Desk, O: Sink, P: Progress>(
     ensures said { Counts (O.faults out.old) (O.faults out.new) (FailsToSay result) }
 {
     *kept = Log::new(alloc);
-    let command = read_command(alloc, words)?;
-    progress.tell(reading_of(&command));
-    let task = read_task(rt, alloc, desk, &command)?;
-    let answer = write_answer(
-        alloc,
-        &task,
-        command.lock,
-        command.cert,
-        desk,
-        out,
-        kept,
-        progress,
-    );
-    drop(task);
-    Ok(answer?)
+    match read_command(alloc, words) {
+        Ok(command) => attempt_by(rt, alloc, words, &command, desk, out, kept, progress),
+        Err(Stop::Usage) => Err(Stop::Usage),
+        Err(_) => Err(Stop::Read(ReadStop::NoMemory)),
+    }
 }
 
 /// Says why a run stops, and answers so.
