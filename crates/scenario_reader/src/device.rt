@@ -49,6 +49,7 @@ fn number_behind(front: &[u8], line: &[u8]) -> Option<u64>
     number_of(&line[front.len()..])
 }
 
+/// The device that a line names.
 #[tactic(auto, unfolding(crate::specs::Devices::device_of))]
 pub(crate) fn device_of(line: &[u8]) -> Option<Device>
     ensures { result ≡ device_of line.now }

@@ -56,6 +56,7 @@ pub(crate) fn fault_at(line: u64, kind: FaultKind) -> ScenarioError
     ScenarioError::Fault(Fault { line, kind })
 }
 
+/// What is said of a kind of fault.
 fn text_of(kind: FaultKind) -> &'static str {
     match kind {
         FaultKind::Marker => "a line that begins with `-- ` is no `-- NAME --`",

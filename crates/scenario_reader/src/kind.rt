@@ -31,6 +31,7 @@ const WANT: &[u8] = b"want/";
 const FILES: &[u8] = b"want/files/";
 
 impl Kind {
+    /// Whether two kinds are one.
     pub(crate) fn is(self, other: Kind) -> bool
         ensures { result ≡ is_kind self other }
     {
@@ -48,6 +49,7 @@ impl Kind {
     }
 }
 
+/// The kind of section that a name has.
 #[tactic(auto, unfolding(crate::specs::Kinds::kind_of))]
 pub(crate) fn kind_of(name: &[u8]) -> Kind
     ensures { result ≡ kind_of name.now }

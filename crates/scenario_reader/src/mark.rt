@@ -65,6 +65,7 @@ pub(crate) fn between<'a>(front: &[u8], line: &'a [u8]) -> &'a [u8]
     &line[front.len()..line.len() - END.len()]
 }
 
+/// What a line is among markers.
 #[tactic(auto, unfolding(crate::specs::Marks::mark_of))]
 pub(crate) fn mark_of(line: &[u8]) -> Mark
     ensures { result ≡ mark_of line.now }

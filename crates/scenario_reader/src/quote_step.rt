@@ -74,6 +74,7 @@ fn after_escape(b: u8) -> Option<(Mode, Act)>
     Some((Mode::Inside, Act::Byte(c)))
 }
 
+/// Behind a digit of a count: the next one, or the space at its end.
 fn in_number(count: u64, b: u8) -> Option<(Mode, Act)>
     ensures { result ≡ next (Mode.Count count) b }
 {

@@ -77,6 +77,7 @@ fn device_at(item: &(u64, List<u8>)) -> Result<Device, ScenarioError>
     }
 }
 
+/// The devices of a section.
 #[tactic(auto, using(crate::proofs::Steps::each_at, crate::proofs::Steps::each_more))]
 fn devices_in(alloc: Global, entry: &Entry) -> Result<List<Device>, ScenarioError>
     ensures { Answers (devices_in entry.now) result }

@@ -13,12 +13,14 @@ use Rattle.scenario_replay.specs.declared.comparison.Replayed.{Replayed}
 use Rattle.scenario_replay.specs.declared.comparison.Comparison.{Comparison}
 use Rattle.scenario_replay.specs.declared.comparison.Comparison.TheVariants as comparisons
 
+-- a file that is a scenario
 pub of_scenario : (bytes : List ℕ) (scenario : Scenario) (comparison : Comparison)
     → meaning_of bytes ≡ Ok scenario → IsDue (Some bytes) comparison
 of_scenario bytes scenario comparisons.Same is = (scenario, is)
 of_scenario bytes scenario (comparisons.Differs what) is = (scenario, is)
 of_scenario bytes scenario (comparisons.Wrong why) is = tt
 
+-- one that is none
 pub of_wrong : (file : Option (List ℕ)) (comparison : Comparison) → IsWrong comparison → IsDue file comparison
 of_wrong file comparisons.Same is = elim is [ ]
 of_wrong file (comparisons.Differs what) is = elim is [ ]
@@ -45,9 +47,11 @@ each_none : (files : Option Files) → IfSome files (λ m. All {X = List ℕ × 
 each_none (Some m) = All-nil (λ (item : List ℕ × Comparison). IsDue (get m item.0) item.1)
 each_none None = tt
 
+-- no file
 pub none : (files : Option Files) (said : Option (List ℕ)) → ReplaysAll 0 files said said none_yet
 none files said = record { told = []; each = each_none files; said = said_nothing said; tallied = refl; enough = omega arith }
 
+-- one file more
 pub one_more_said : (n : ℕ) (files : Option Files) (path : List ℕ) (before mid after : Option (List ℕ)) (counts new_counts : Counts)
     → ReplaysAll n files before mid counts → SaysOne files path counts new_counts mid after
     → ReplaysAll (n + 1) files before after new_counts
@@ -60,6 +64,7 @@ one_more_said n files path before mid after counts new_counts all one = record {
   enough = omega (arith, all.enough);
 }
 
+-- behind the last file
 pub ended : (n : ℕ) (files : Option Files) (before mid after : Option (List ℕ)) (counts : Counts)
     → ReplaysAll n files before mid counts → after ≡ and_said mid (last_line counts)
     → Replays n files before after (answer_of counts)
@@ -72,6 +77,7 @@ ended n files before mid after counts all said = record {
   enough = all.enough;
 }
 
+-- fewer files are told than there are
 pub fewer : (m n : ℕ) (files : Option Files) (before after : Option (List ℕ)) (answer : Replayed)
     → m ≤ n → Replays n files before after answer → Replays m files before after answer
 fewer m n files before after answer le replays = record {
