@@ -1,6 +1,5 @@
 -- Calls that only read, one after the other.
-use Rattle.std.proofs.Common.{◌≡◌, refl, ◌∙◌, subst, ℕ, Option, arith}
-use Rattle.std.specs.Prelude.{◌≤◌}
+use Rattle.std.proofs.Common.{refl, ◌∙◌, subst, ℕ, Option, arith}
 use Rattle.outside_desk.specs.Causes.{Counts}
 use Rattle.outside_desk.specs.Files.{Files}
 use Rattle.run_answers.specs.Reads.{Unchanged}

@@ -1,6 +1,6 @@
 //! The words of the command line.
 
-ghost use Rattle.std.specs.Prelude.{◌≡◌, ◌∷◌, ◌++◌, IfOk};
+ghost use Rattle.std.specs.Prelude.{◌≡◌, IfOk};
 ghost use Rattle.std.specs.String.{string_bytes};
 ghost use Rattle.run_words.specs.Words.{words_of, joined_words, command_over, is_word, is_wrong, unless_wrong, is_blank, is_same, is_dash};
 ghost use Rattle.run_words.specs.Words as words;

@@ -9,7 +9,7 @@ use crate::number::number_in;
 use std::alloc::{AllocError, Global};
 
 /// Whether a file stands among the words of a verb.
-#[derive(Clone, Copy, Debug, PartialEq, Eq)]
+#[derive(Clone, Copy)]
 pub enum FileWord {
     /// It does not.
     Absent,
@@ -21,7 +21,7 @@ pub enum FileWord {
 
 /// A verb over files: what its command does, and which files stand among the words behind it, which are
 /// `REPO SETTINGS DATABASE`, LOCK and CERT where they are words of it, and `SPEC..`.
-#[derive(Clone, Copy, Debug)]
+#[derive(Clone, Copy)]
 pub struct Verb {
     pub work: Work,
     pub lock: FileWord,
