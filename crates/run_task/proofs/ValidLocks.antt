@@ -17,7 +17,7 @@ use Rattle.run_input.specs.Refusal.{Refusal}
 use Rattle.run_input.specs.Refusal.TheVariants as refusals
 use Rattle.run_input.specs.ReadStop.{ReadStop}
 use Rattle.run_task.specs.Locks.{LockAt}
-use Rattle.run_task.specs.Roots.{are_roots_of}
+use Rattle.run_task.specs.LockRoots.{are_roots_of}
 use Rattle.run_task.specs.Verdicts.{unless_broken, weighed, judged, IsRight, IsValidLock}
 
 -- no rule is broken, and these are the costs

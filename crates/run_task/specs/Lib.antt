@@ -1,5 +1,5 @@
 pub mod Locks
-pub mod Roots
+pub mod LockRoots
 pub mod Verdicts
 -- what crates above name
 pub use Rattle.problem.specs.Problems
@@ -15,7 +15,6 @@ pub use Rattle.best_graph.specs.declared.explanation.Explanation
 pub use Rattle.best_graph.specs.Answers
 pub use Rattle.best_graph.specs.declared.answer.Answer
 pub use Rattle.best_graph.specs.OfProblemEncoding.Built
-pub use Rattle.best_graph.specs.Verdicts
 pub mod Again
 pub mod Tasks
 pub mod Shown

@@ -14,7 +14,7 @@ use Rattle.run_input.specs.Stages.{Is, Then, ◌>>=◌, check}
 use Rattle.run_input.specs.Refusal.{Refusal}
 use Rattle.run_input.specs.Refusal.TheVariants as refusals
 use Rattle.run_task.specs.Locks.{LockAt}
-use Rattle.run_task.specs.Roots.{are_roots_of}
+use Rattle.run_task.specs.LockRoots.{are_roots_of}
 
 -- no rule is broken
 abbrev pub unless_broken : Verdict → Result (Unit {0}) Refusal

@@ -4,7 +4,7 @@ ghost use Rattle.std.specs.Prelude.{◌≡◌, option_map, find, IfOk};
 ghost use Rattle.std.specs.Str.{bytes_eq};
 ghost use Rattle.std.specs.Option.{option_copied};
 ghost use Rattle.spec_grammar.specs.Canonical.{spec_text};
-ghost use Rattle.run_task.specs.Roots.{hash_of_node, is_hash_of, is_root_of, are_roots_of};
+ghost use Rattle.run_task.specs.LockRoots.{hash_of_node, is_hash_of, is_root_of, are_roots_of};
 
 use plain_data::Word;
 use spec_grammar::{Spec, write_spec};

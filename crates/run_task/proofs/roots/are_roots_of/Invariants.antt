@@ -1,5 +1,5 @@
 use Rattle.std.proofs.Common.{◌≡◌, drop}
-use Rattle.run_task.specs.Roots.{are_roots_of}
+use Rattle.run_task.specs.LockRoots.{are_roots_of}
 use Rattle.run_task.proofs.roots.are_roots_of.Given as goal
 
 abbrev pub invariant-loop-spec : goal.invariant-loop-spec
