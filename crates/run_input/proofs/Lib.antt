@@ -1,4 +1,3 @@
-pub use Rattle.run_answers.proofs.ReadLaws
 pub use Rattle.run_answers.proofs.StageLaws
 pub mod OneSite
 pub mod OneDatabase

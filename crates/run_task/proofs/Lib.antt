@@ -11,5 +11,4 @@ pub mod Paths
 pub mod Roots
 pub mod Stops
 mod Weaker
-pub use Rattle.run_input.proofs.ReadLaws
 pub use Rattle.run_input.proofs.StageLaws
