@@ -1,5 +1,5 @@
 -- What is said of an attempt that answered, and of one that stopped, in one sense or the other.
-use Rattle.std.proofs.Common.{◌≡◌, refl, subst, ℕ, List, Option, Some, None, Result, Ok, Err}
+use Rattle.std.proofs.Common.{◌≡◌, refl, subst, ℕ, List, Option, Some, None, Ok, Err}
 use Rattle.std.specs.Prelude.{IfSome}
 use Rattle.run_answers.specs.Exits.{Spoken}
 use Rattle.outside_desk.specs.Causes.{Counts}

@@ -2,7 +2,7 @@
 --
 -- `files` are the files at entry of a desk that tells them, `words` the words behind the program's name, and `out` and `err` what the two
 -- sinks tell before and after.
-use Rattle.std.specs.Prelude.{◌≡◌, ◌⊎◌, ℕ, List, [], ◌∷◌, ◌++◌, Option, Some, None, Result, Ok, Err, codes}
+use Rattle.std.specs.Prelude.{◌≡◌, ◌⊎◌, ℕ, List, ◌∷◌, ◌++◌, Option, Some, None, Result, Ok, Err, codes}
 use Rattle.run_answers.specs.Exits.{Spoken}
 use Rattle.outside_desk.specs.Files.{Files, and_said}
 use Rattle.problem.specs.Problems.{Problem}
@@ -16,7 +16,6 @@ use Rattle.run_input.specs.Stages.{Is, Then}
 use Rattle.run_input.specs.Status.{Status}
 use Rattle.run_input.specs.Status.TheVariants as statuses
 use Rattle.run_input.specs.Words.{Command, command_of}
-use Rattle.run_input.specs.declared.input.Input.{Input}
 
 -- the text of the one encoding of a problem, in front of which a comment says how many of the clauses are those of the rules
 unfoldable pub text_of : Problem → List ℕ

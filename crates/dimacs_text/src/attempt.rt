@@ -1,6 +1,6 @@
 //! The reading of a problem, and the saying of its encoding.
 
-ghost use Rattle.std.specs.Prelude.{◌≡◌, true, IfOk, IfSome, OnOk};
+ghost use Rattle.std.specs.Prelude.{◌≡◌, IfOk, IfSome, OnOk};
 ghost use Rattle.outside_desk.specs.Causes.{Counts};
 ghost use Rattle.outside_desk.specs.Files.{and_said};
 ghost use Rattle.run_input.specs.Inputs.{IsPosed};

@@ -3,9 +3,7 @@
 ghost use Rattle.std.specs.Prelude.{◌≡◌, ◌⊎◌, IfOk, IfSome};
 ghost use Rattle.std.specs.String.{string_bytes};
 ghost use Rattle.run_answers.specs.Exits.{IsAnsweredBy};
-ghost use Rattle.outside_desk.specs.Causes.{Counts, Rose};
-ghost use Rattle.outside_desk.specs.Files.{and_said};
-ghost use Rattle.run_input.specs.Stops.{stop_status};
+ghost use Rattle.outside_desk.specs.Causes.{Rose};
 ghost use Rattle.run_input.specs.Words.{words_of};
 ghost use Rattle.dimacs_text.specs.Answers.{Answers, Posed, Poses, status_of, usage_line};
 ghost use Rattle.dimacs_text.specs.Attempts.{Reports, line_of};

@@ -1,6 +1,6 @@
 //! The reading of one file.
 
-ghost use Rattle.std.specs.Prelude.{◌≡◌, ◌≤◌, length, IfOk, IfSome};
+ghost use Rattle.std.specs.Prelude.{◌≤◌, length, IfOk, IfSome};
 ghost use Rattle.run_answers.specs.Reads.{OnlyReads};
 ghost use Rattle.run_input.specs.Bytes.{bytes_at, limit_of, GivesBytes, FailsAt};
 

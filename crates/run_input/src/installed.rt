@@ -1,6 +1,6 @@
 //! The reading of a database.
 
-ghost use Rattle.std.specs.Prelude.{◌≡◌, ◌≤◌, ◌^◌, true, false, length, IfOk, IfSome};
+ghost use Rattle.std.specs.Prelude.{◌≡◌, ◌≤◌, ◌^◌, true, length, IfOk, IfSome};
 ghost use Rattle.std.specs.List.{list_all};
 ghost use Rattle.file_limits.specs.Values.{has_values};
 ghost use Rattle.problem.specs.Limits.{are_few_records};

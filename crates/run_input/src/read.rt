@@ -1,6 +1,6 @@
 //! The reading of a repository.
 
-ghost use Rattle.std.specs.Prelude.{◌≡◌, ◌∷◌, ◌++◌, ℕ, List, map, IfOk, IfSome, OnOk};
+ghost use Rattle.std.specs.Prelude.{◌∷◌, ◌++◌, ℕ, List, map, IfOk, IfSome, OnOk};
 ghost use Rattle.std.specs.String.{string_bytes};
 ghost use Rattle.outside_desk.specs.Listing.{AreInOrder};
 ghost use Rattle.variant_values.specs.Texts.{IsInByteOrder};

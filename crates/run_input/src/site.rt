@@ -1,6 +1,6 @@
 //! The reading of settings.
 
-ghost use Rattle.std.specs.Prelude.{◌≡◌, ◌≤◌, ◌^◌, true, false, length, IfOk, IfSome};
+ghost use Rattle.std.specs.Prelude.{◌≡◌, ◌≤◌, ◌^◌, true, length, IfOk, IfSome};
 ghost use Rattle.settings_reader.specs.Values.{are_valued};
 ghost use Rattle.problem.specs.Limits.{are_small};
 ghost use Rattle.run_answers.specs.Reads.{OnlyReads};

@@ -5,7 +5,7 @@ use Rattle.run_task.specs.Problems.{Problem}
 use Rattle.run_input.specs.Stages.{Is}
 use Rattle.run_input.proofs.StageLaws.{IsOne, one_is, one_then}
 use Rattle.run_input.specs.Refusal.{Refusal}
-use Rattle.run_input.specs.Words.{Command, command_of}
+use Rattle.run_input.specs.Words.{Command}
 use Rattle.run_input.specs.Work.{Work}
 use Rattle.run_input.specs.Work.TheVariants as works
 use Rattle.run_input.specs.Inputs.{Reads}

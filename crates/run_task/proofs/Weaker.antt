@@ -1,5 +1,5 @@
 -- What is posed by some verdicts on certificates is posed by others that allow more.
-use Rattle.std.proofs.Common.{◌≡◌, sym, subst, ℕ, List, Option, Some, None, Result, Ok, Err, inl, inr}
+use Rattle.std.proofs.Common.{sym, subst, ℕ, List, Option, Some, None, Result, Ok, Err, inl, inr}
 use Rattle.outside_desk.specs.Files.{Files}
 use Rattle.run_input.specs.Stages.{Is, Then}
 use Rattle.run_input.specs.Refusal.{Refusal}

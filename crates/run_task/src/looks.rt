@@ -1,6 +1,6 @@
 //! What a command looks at besides its input: a lock file, a certificate.
 
-ghost use Rattle.std.specs.Prelude.{◌≡◌, true, Some, None, IfOk, IfSome, OnOk};
+ghost use Rattle.std.specs.Prelude.{Some, IfOk, IfSome, OnOk};
 ghost use Rattle.std.specs.Option.{option_map};
 ghost use Rattle.run_input.specs.Inputs.{IsPosed};
 ghost use Rattle.run_input.specs.Reads.{OnlyReads};

@@ -1,6 +1,6 @@
 //! The roots of a lock file beside those that are asked for.
 
-ghost use Rattle.std.specs.Prelude.{◌≡◌, option_map, find, IfOk};
+ghost use Rattle.std.specs.Prelude.{◌≡◌, find, IfOk};
 ghost use Rattle.std.specs.Str.{bytes_eq};
 ghost use Rattle.std.specs.Option.{option_copied};
 ghost use Rattle.spec_grammar.specs.Canonical.{spec_text};

@@ -1,6 +1,6 @@
 //! The reading of a task.
 
-ghost use Rattle.std.specs.Prelude.{◌≡◌, true, All, Some, None, Ok, IfOk, IfSome, OnOk, List};
+ghost use Rattle.std.specs.Prelude.{◌≡◌, All, Some, None, Ok, IfOk, IfSome, OnOk, List};
 ghost use Rattle.std.specs.Str.{IsUtf8};
 ghost use Rattle.run_input.specs.Inputs.{IsPosed};
 ghost use Rattle.spec_grammar.specs.Canonical.{spec_text};

@@ -1,6 +1,6 @@
 //! The verdict on a lock file.
 
-ghost use Rattle.std.specs.Prelude.{◌≡◌, IfOk, IfSome};
+ghost use Rattle.std.specs.Prelude.{IfOk, IfSome};
 ghost use Rattle.graph_rules.specs.Verdict.{verdict};
 ghost use Rattle.run_input.specs.Stages.{Is};
 ghost use Rattle.run_input.specs.Reads.{OnlyReads};
