@@ -45,11 +45,11 @@ invariant() { # FUNCTION LOOP FACT MODULE.NAME..: what holds at each turn of a l
 if [ -z "${PROGRAM:-}" ]; then
     cp "$top/HANDLES" "$work/"
     mkdir -p "$work/crates"
-    for name in plain_data reachability clause_store gate_plans clause_circuits clause_formulas criteria_totals level_encoding; do
+    for name in plain_data reachability clause_store clause_circuits clause_formulas criteria_totals level_encoding; do
         cp -r "$top/crates/$name" "$work/crates/"
         grep "^$name:" "$top/crates.txt" >>"$work/crates.txt"
     done
-    echo "clause_load: clause_store gate_plans clause_circuits clause_formulas criteria_totals level_encoding anyhow" >>"$work/crates.txt"
+    echo "clause_load: clause_store clause_circuits clause_formulas criteria_totals level_encoding anyhow" >>"$work/crates.txt"
     made src/main.rt <<'PART'
 //! Makes large formulas, sums, totals and levels, and says how many variables and clauses they take: for
 //! measuring. A line is `formula LEAVES`, `sum TERMS`, `totals LISTS TERMS`, or
@@ -103,10 +103,9 @@ ghost use Rattle.clause_circuits.specs.Trees.{total, TermsBelow};
 ghost use Rattle.criteria_totals.specs.Totals.{AllTermsBelow, tops};
 ghost use Rattle.criteria_totals.specs.Spellings.{AllSmall};
 
-use clause_circuits::sum_bits;
 use clause_formulas::{Formula, define, is_below};
 use clause_store::{ClauseList, Lit, Var};
-use criteria_totals::{Terms, totals};
+use criteria_totals::{Terms, sum_by_digits, totals};
 use std::alloc::{AllocError, Global};
 
 /// Defines a formula of so many leaves, each with a variable of its own: none-ofs of four below
@@ -152,7 +151,7 @@ fn by_four(alloc: Global, parts: Vec<Formula>) -> Result<Vec<Formula>, AllocErro
 pub fn sum(alloc: Global, clauses: &mut ClauseList, count: u64) -> Result<(), AllocError> {
     let terms = terms(alloc, clauses, count)?;
     if are_below(&terms, clauses.vars()) && are_small(&terms) {
-        sum_bits(alloc, clauses, &terms)?;
+        sum_by_digits(alloc, clauses, &terms)?;
     }
     Ok(())
 }

@@ -32,8 +32,8 @@ def share(program, rows):
 
 PARTS = [
     ("propagation", ("Watch::propagate", "clause_watch::queue", "clause_watch::status")),
-    ("analysis", ("Search::teach", "clause_solver::analysis", "clause_solver::marks")),
-    ("choice", ("clause_solver::choice", "activity_order")),
+    ("analysis", ("Search::learn", "clause_solver::analysis", "clause_solver::seen")),
+    ("choice", ("clause_solver::choice", "clause_solver::variable_heap")),
 ]
 
 

@@ -23,6 +23,7 @@ use Rattle.best_graph.proofs.Least.{all, optimal, nothing}
 -- the rules alone: that no graph is valid, or that the budget was spent
 module _ (problem : Problem) (rules : Rules) (ruled : AreRules problem rules) (budget : ℕ) (log : List Line)
     (writable : AllLines (λ line. may_write line ≡ true) log) where
+  -- a refutation of the rules: no graph
   pub nothing-answer : RulesDecode problem → IsFound rules.clauses [] budget (Refuted log) → IsBest rules.clauses [] budget (Refuted log)
       → IsAnswer problem budget (Nothing log)
   nothing-answer decodes found best = record {
@@ -32,6 +33,7 @@ module _ (problem : Problem) (rules : Rules) (ruled : AreRules problem rules) (b
     shows = (decodes, subst (λ (s : Clauses). IsFound s [] budget (Refuted log)) ruled.clauses found);
   }
 
+  -- a spent budget over the rules
   pub stopped-answer : length log < 2 ^ 64 → IsFound rules.clauses [] budget (Spent log) → IsBest rules.clauses [] budget (Spent log)
       → IsAnswer problem budget (Undecided log)
   stopped-answer finite found best = record {
@@ -41,8 +43,10 @@ module _ (problem : Problem) (rules : Rules) (ruled : AreRules problem rules) (b
   }
 
 -- the encoding: a best graph, or that the budget was spent
-module _ (problem : Problem) (e : Encoded) (encoded : IsEncoded problem e) (built : e ≡ encoding_of problem) (budget : ℕ) (log : List Line) where
+module _ (problem : Problem) (e : Encoded) (encoded : IsEncoded problem e) (built : e ≡ encoding_of problem) (budget : ℕ)
+    (log : List Line) where
   module _ (writable : AllLines (λ line. may_write line ≡ true) log) where
+    -- the least bits: the best graph
     pub best-answer : (model : List Bool) (graph : Content) → IsFound e.clauses e.bits.lits budget (Optimal model log)
         → IsBest e.clauses e.bits.lits budget (Optimal model log) → graph ≡ decode (values_in model) e.table
         → IsAnswer problem budget (Best graph log)
@@ -56,6 +60,7 @@ module _ (problem : Problem) (e : Encoded) (encoded : IsEncoded problem e) (buil
           );
         }
 
+    -- a spent budget over all clauses
     pub spent-answer : length log < 2 ^ 64 → IsFound e.clauses e.bits.lits budget (Spent log)
         → IsBest e.clauses e.bits.lits budget (Spent log) → IsAnswer problem budget (Undecided log)
     spent-answer finite found best = record {

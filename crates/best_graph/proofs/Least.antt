@@ -40,12 +40,12 @@ bits-long v (l ∷ bits) = omega (arith, bits-long v bits)
 
 -- no vector is smaller than one that is greater than none
 not-smaller : (xs ys : List ℕ) → (compare_numbers xs ys ≡ Greater → ⊥) → is_lt (compare_numbers ys xs) ≡ false
-not-smaller xs ys least = go (compare_numbers ys xs) (nat_list_cmp_total.antisymm xs ys)
+not-smaller xs ys least = not-smaller-cases (compare_numbers ys xs) (nat_list_cmp_total.antisymm xs ys)
   where
-    go : (o : Ordering) → compare_numbers xs ys ≡ ordering_reverse o → is_lt o ≡ false
-    go Less turned = absurd (least turned)
-    go Equal turned = refl
-    go Greater turned = refl
+    not-smaller-cases : (o : Ordering) → compare_numbers xs ys ≡ ordering_reverse o → is_lt o ≡ false
+    not-smaller-cases Less turned = absurd (least turned)
+    not-smaller-cases Equal turned = refl
+    not-smaller-cases Greater turned = refl
 
 -- ---- all demands
 
@@ -57,9 +57,11 @@ all-asked {D = D} id [] = refl
 all-asked {D = D} id (d ∷ ds) = ap (λ (es : List D). d ∷ es) (all-asked (id + 1) ds)
 
 module _ (problem : Problem) where
+  -- a valid graph is valid for all demands
   pub is-valid : (g : Content) → IsWellFormed g → valid problem g ≡ true → IsValid problem all g
   is-valid g formed ok = (formed, valid-for_any problem g (asked_demands problem all) ok)
 
+  -- and the other way
   pub valid-is : (g : Content) → IsValid problem all g → valid problem g ≡ true
   valid-is g ok = valid-from_demands problem g ok.0.is_graph
       (subst (λ ds. valid_for ds problem g ≡ true) (all-asked 0 (demands problem)) ok.1)
@@ -85,8 +87,8 @@ module _ (problem : Problem) (s : Clauses) (bits : List Lit) (decode : (ℕ → 
 -- where no assignment meets the clauses, no graph is valid
 pub nothing : (problem : Problem) (s : Clauses) (decode : (ℕ → Bool) → Content) → Decodes s decode (IsValid problem)
     → ((v : ℕ → Bool) → MeetsAll v s → ⊥) → HasNoGraph problem
-nothing problem s decode decodes none g formed = go (valid problem g) refl
+nothing problem s decode decodes none g formed = nothing-cases (valid problem g) refl
   where
-    go : (b : Bool) → valid problem g ≡ b → b ≡ false
-    go true ok = let w = decodes.complete all g (is-valid problem g formed ok) in absurd (none w.0 w.2)
-    go false ok = refl
+    nothing-cases : (b : Bool) → valid problem g ≡ b → b ≡ false
+    nothing-cases true ok = let w = decodes.complete all g (is-valid problem g formed ok) in absurd (none w.0 w.2)
+    nothing-cases false ok = refl

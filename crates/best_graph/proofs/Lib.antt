@@ -2,4 +2,4 @@ pub mod Least
 pub mod Found
 pub mod Shown
 mod Asked
-pub mod GraphReasonsShown
+pub mod ReasonsShown

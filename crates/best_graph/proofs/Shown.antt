@@ -17,9 +17,9 @@ use Rattle.graph_rules.specs.Valid.{valid}
 use Rattle.graph_rules.specs.Costs.{vector}
 use Rattle.graph_rules.specs.Optimal.{IsOptimal, HasNoGraph}
 use Rattle.graph_decoding.specs.Decoding.{decode}
-use Rattle.best_graph.specs.OfProblemEncoding.Encoded.{Encoded}
-use Rattle.best_graph.specs.OfProblemEncoding.Encodings.{IsEncoded, RulesDecode}
-use Rattle.best_graph.specs.OfProblemEncoding.Built.{encoding_of, rule_clauses, table_of}
+use Rattle.problem_encoding.specs.declared.encoded.Encoded.{Encoded}
+use Rattle.problem_encoding.specs.Encodings.{IsEncoded, RulesDecode}
+use Rattle.problem_encoding.specs.Built.{encoding_of, rule_clauses, table_of}
 use Rattle.best_graph.specs.declared.answer.Answer.TheVariants.{Best, Nothing}
 use Rattle.best_graph.specs.Answers.{IsAnswer}
 use Rattle.best_graph.proofs.Least.{all, is-valid, optimal, nothing}
@@ -29,13 +29,16 @@ some-same : (x y : List Bool) → Some x ≡ Some y → x ≡ y
 some-same x y e = cc
 
 module _ (problem : Problem) (e : Encoded) (encoded : IsEncoded problem e) where
+  -- a model of the graph has the values of its costs
   pub values-are : (graph : Content) (values : List Bool) (v : ℕ → Bool) → MeetsAll v e.clauses → decode v e.table ≡ graph
       → SpellsCost problem e graph values → bits_at v e.bits.lits ≡ values
   values-are graph values v meets same spelled =
       some-same (bits_at v e.bits.lits) values
       (sym (encoded.spells v meets) ∙ ap (λ g. bits_for e.bits.tops (vector problem g)) same ∙ spelled)
 
-  pub least-optimal : (graph : Content) (values : List Bool) → IsWellFormed graph → valid problem graph ≡ true → SpellsCost problem e graph values
+  -- a graph below whose values no model is, is optimal
+  pub least-optimal : (graph : Content) (values : List Bool) → IsWellFormed graph → valid problem graph ≡ true
+      → SpellsCost problem e graph values
       → ((v : ℕ → Bool) → MeetsAll v e.clauses → IsBelow (bits_at v e.bits.lits) values → ⊥) → IsOptimal problem graph
   least-optimal graph values formed ok spelled least =
       let w = encoded.encodes.decodes.complete all graph (is-valid problem graph formed ok) in
@@ -45,7 +48,9 @@ module _ (problem : Problem) (e : Encoded) (encoded : IsEncoded problem e) where
       subst (IsOptimal problem) w.1 best.1
 
   module _ (ordered : AllClauses (clauses_of e.clauses.entries)) (log : List Line) where
-    pub certified : (graph : Content) (values : List Bool) → IsWellFormed graph → valid problem graph ≡ true → SpellsCost problem e graph values
+    -- so is one that is certified
+    pub certified : (graph : Content) (values : List Bool) → IsWellFormed graph → valid problem graph ≡ true
+        → SpellsCost problem e graph values
         → Certifies e values log → IsOptimal problem graph
     certified graph values formed ok spelled certificate =
         least-optimal graph values formed ok spelled (λ v meets below.
@@ -53,9 +58,11 @@ module _ (problem : Problem) (e : Encoded) (encoded : IsEncoded problem e) where
         ((Meets-all v e.clauses.entries).0 meets) below)
 
 module _ (problem : Problem) (decodes : RulesDecode problem) where
+  -- no model of the rules: no graph
   pub no-graph : ((v : ℕ → Bool) → MeetsAll v (rule_clauses problem) → ⊥) → HasNoGraph problem
   no-graph none = nothing problem (rule_clauses problem) (λ v. decode v (table_of problem)) decodes none
 
+  -- a refutation of the rules: no graph
   pub refuted : AllClauses (clauses_of (rule_clauses problem).entries) → (log : List Line) → Refutes problem log → HasNoGraph problem
   refuted ordered log refutation =
       let rules = rule_clauses problem in

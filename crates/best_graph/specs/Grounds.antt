@@ -5,7 +5,7 @@ use Rattle.proof_log.specs.declared.line.Line.{Line}
 use Rattle.proof_log.specs.Certificates.{IsSpentLog}
 use Rattle.explain_failure.specs.Uses.{AreReasons}
 use Rattle.problem.specs.Problems.{Problem}
-use Rattle.best_graph.specs.OfProblemEncoding.Built.{rule_clauses}
+use Rattle.problem_encoding.specs.Built.{rule_clauses}
 use Rattle.best_graph.specs.Verdicts.{Refutes}
 use Rattle.best_graph.specs.declared.explanation.Explanation.{Explanation}
 use Rattle.best_graph.specs.declared.explanation.Explanation.TheVariants.{Satisfiable, Unmet, Undecided}

@@ -13,9 +13,9 @@ use Rattle.graph_rules.specs.Valid.{valid}
 use Rattle.graph_rules.specs.Costs.{vector}
 use Rattle.graph_rules.specs.Optimal.{IsOptimal, HasNoGraph}
 use Rattle.graph_decoding.specs.Decoding.{decode}
-use Rattle.best_graph.specs.OfProblemEncoding.Encoded.{Encoded}
-use Rattle.best_graph.specs.OfProblemEncoding.Encodings.{IsEncoded, RulesDecode}
-use Rattle.best_graph.specs.OfProblemEncoding.Built.{encoding_of, rule_clauses}
+use Rattle.problem_encoding.specs.declared.encoded.Encoded.{Encoded}
+use Rattle.problem_encoding.specs.Encodings.{IsEncoded, RulesDecode}
+use Rattle.problem_encoding.specs.Built.{encoding_of, rule_clauses}
 use Rattle.best_graph.specs.declared.answer.Answer.TheVariants.{Best, Nothing}
 use Rattle.best_graph.specs.Answers.{IsAnswer}
 

@@ -8,8 +8,8 @@ ghost use Rattle.optimum_search.specs.Finding.{IsFound};
 ghost use Rattle.possible_closure.specs.Closures.{closure_of};
 ghost use Rattle.problem_encoding.specs.Built.{encoding_of, rule_clauses};
 ghost use Rattle.problem_encoding.specs.Encodings.{AreRules, IsEncoded, RulesDecode};
-ghost use Rattle.problem_encoding.specs.OfRankedCosts.Kept.{has_right_values};
-ghost use Rattle.problem_encoding.specs.OfRankedCosts.Limits.{is_within_limits};
+ghost use Rattle.problem_encoding.specs.OfTablePlan.Kept.{has_right_values};
+ghost use Rattle.problem.specs.Limits.{is_within_limits, most_names};
 ghost use Rattle.best_graph.specs.Answers.{HasModel, IsAnswer};
 
 use crate::answer::Answer;
@@ -25,8 +25,9 @@ use problem_encoding::{Encoded, Rules, encode_rules, number_ends, with_costs};
 use proof_log::{Log, may_write};
 use std::alloc::{AllocError, Global};
 
-/// The best graph of a problem, where the search may learn so many clauses. Externals and records have values for their variants
-/// (`has_right_values`), and the problem is within the limits (`may_encode`). `progress` is told how far it is.
+/// The best graph of a problem, where the search may learn so many clauses. Externals and records
+/// have values for their variants, the problem is within the limits, and its closure has at most
+/// `most_names` names. `progress` is told how far it is. An error is want of memory.
 pub fn best_graph<P: Progress>(
     alloc: Global,
     problem: &Problem,
@@ -35,7 +36,7 @@ pub fn best_graph<P: Progress>(
     progress: &mut P,
 ) -> Result<Answer, AllocError>
     requires closure { closure.now ≡ closure_of problem.now }
-    requires few { length (closure_of problem.now) ≤ 1024 }
+    requires few { length (closure_of problem.now) ≤ most_names }
     requires values { has_right_values problem.now ≡ true }
     requires limits { is_within_limits problem.now ≡ true }
     ensures { IfOk result (IsAnswer problem.now budget) }
@@ -54,7 +55,8 @@ pub fn best_graph<P: Progress>(
     }
 }
 
-/// The answer where the rules alone decide it: no graph is valid, or the budget was spent. None where there is a graph.
+/// The answer where the rules alone decide it: no graph is valid, or the budget was spent. None
+/// where there is a graph.
 fn settled(
     _problem: &Problem,
     _rules: &Rules,
@@ -101,7 +103,7 @@ fn least<P: Progress>(
     requires ruled { AreRules problem.now rules }
     requires decodes { RulesDecode problem.now }
     requires model { HasModel (rule_clauses problem.now) }
-    requires few { length (closure_of problem.now) ≤ 1024 }
+    requires few { length (closure_of problem.now) ≤ most_names }
     requires limits { is_within_limits problem.now ≡ true }
     ensures { IfOk result (IsAnswer problem.now budget) }
 {

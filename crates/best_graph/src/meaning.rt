@@ -12,7 +12,8 @@ ghost use Rattle.graph_encoding.specs.Encodings.{IsValid};
 ghost use Rattle.optimum_search.specs.Finding.{MeetsAll};
 ghost use Rattle.problem_encoding.specs.Encodings.{Encodes};
 
-/// A model with the least bits decodes to an optimal graph, and where clauses whose models are the valid graphs have none, no graph is valid.
+/// A model with the least bits decodes to an optimal graph, and where clauses whose models are the
+/// valid graphs have none, no graph is valid.
 pub fn meaning_laws()
     ensures optimal { (problem : Problem) (s : Clauses) (bits : List Lit)
         (decode : (ℕ → Bool) → Content)

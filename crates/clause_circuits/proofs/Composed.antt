@@ -15,10 +15,12 @@ use Rattle.clause_store.proofs.Entries.{Meets-append, Meets-parts}
 pub lit_true-agree : (n : ℕ) (v w : ℕ → Bool) → Agree n v w → (l : Lit) → var_of l < n → lit_true v l ≡ lit_true w l
 lit_true-agree n v w a l h = rw (a (var_of l) h) refl
 
+-- a clause rests on the values of its variables alone
 pub clause_true-agree : (n : ℕ) (v w : ℕ → Bool) → Agree n v w → (ls : List Lit) → AllBelow n ls → clause_true v ls ≡ clause_true w ls
 clause_true-agree n v w a [] b = refl
 clause_true-agree n v w a (l ∷ ls) b = rw (lit_true-agree n v w a l b.0, clause_true-agree n v w a ls b.1) refl
 
+-- so does meeting the clauses of a list
 pub Meets-agree : (asked : ℕ → Bool) (n : ℕ) (v w : ℕ → Bool) → Agree n v w → (es : List Entry) → AllInRange n es → Meets asked v es
     → Meets asked w es
 Meets-agree asked n v w a [] r m = tt
@@ -29,6 +31,7 @@ Meets-agree asked n v w a (e ∷ es) r m =
 abbrev pub since : Clauses → Clauses → List Entry
 since old new = drop (length old.entries) new.entries
 
+-- the longer list is the shorter one and what was added since
 pub whole : (a b : Clauses) → Grows a b → b.entries ≡ a.entries ++ since a b
 whole a b g = sym (take-append-drop (length a.entries) b.entries) ∙ ap (λ es. es ++ since a b) g.keeps
 
@@ -44,6 +47,7 @@ Grows-from a b es e m r = record {
   in_range = rw (e, drop-append_seam a.entries es) r;
 }
 
+-- what was added behind the shorter list is what was added since
 pub since-from : (a b : Clauses) (es : List Entry) → b.entries ≡ a.entries ++ es → since a b ≡ es
 since-from a b es e = rw e (drop-append_seam a.entries es)
 
@@ -61,10 +65,12 @@ Grows-trans a b c g h =
     (omega (arith, g.more, h.more))
     (AllInRange-append c.vars (since a b) (since b c) (AllInRange-le b.vars c.vars (since a b) h.more g.in_range) h.in_range)
 
+-- what was added in two steps is met in both
 pub MeetsSince-parts : (asked v : ℕ → Bool) (a b c : Clauses) → Grows a b → Grows b c → MeetsSince asked v a c → MeetsSince asked v a b
     × MeetsSince asked v b c
 MeetsSince-parts asked v a b c g h m = Meets-parts asked v (since a b) (since b c) (rw (since-parts a b c g h) at m)
 
+-- and the other way round
 pub MeetsSince-join : (asked v : ℕ → Bool) (a b c : Clauses) → Grows a b → Grows b c → MeetsSince asked v a b → MeetsSince asked v b c
     → MeetsSince asked v a c
 MeetsSince-join asked v a b c g h m n = rw (since-parts a b c g h) (Meets-append asked v (since a b) (since b c) m n)
@@ -134,6 +140,7 @@ Defines-trans a b c d e = record {
       e.once asked v w (d.once asked v w g p.0 q.0) p.1 q.1;
 }
 
+-- what is defined extends
 pub Extends-from : (a b : Clauses) → Defines a b → Extends a b
 Extends-from a b d = d.says
 

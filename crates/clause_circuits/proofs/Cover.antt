@@ -44,6 +44,7 @@ module _ (s : Clauses) (ls : List Lit) (b : AllBelow s.vars ls) (cs : List (List
   all-is : all ≡ cs ++ rest
   all-is = clauses_from-append (cover_rules x ls) ((negation x ∷ ls) ∷ []) ∙ ap (λ (ds : List (List Lit)). ds ++ rest) (sym e)
 
+  -- the clauses are over the old variables and the new one
   pub cover-below : AllClausesBelow (s.vars + 1) cs
   cover-below =
       let below = AllClausesBelow-take (s.vars + 1) (length cs) all (any-below s ls b all x refl h) in
@@ -55,12 +56,14 @@ module _ (s : Clauses) (ls : List Lit) (b : AllBelow s.vars ls) (cs : List (List
     | inr le ↦ (length cs, take_all k cs le ∙ rw all-is (sym (take-append_seam cs rest)))
   ]
 
+  -- where the code stopped on the way, each old assignment still extends
   pub cover-stopped : (new : Clauses) → Partial s new cs → Extends s new
   cover-stopped new p = any-stopped s ls b all x refl h new (elim p [
     | inl q ↦ inl q
     | inr q ↦ let f = front q.0 in inr (f.0, q.1 ∙ ap (with_defined s) f.1)
   ])
 
+  -- the code made the definition's clauses
   pub cover-built : (new : Clauses) → new ≡ with_defined s cs → new ≡ with_cover s ls
   cover-built new q = q ∙ ap (with_defined s) (e ∙ ap (λ y. clauses_from (cover_rules y ls)) h)
 

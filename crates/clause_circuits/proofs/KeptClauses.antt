@@ -56,16 +56,19 @@ module _ (asked v : ℕ → Bool) (label : Label) where
   true-kept' r None e t = tt
   true-kept' r (Some c) e t = (ap (λ b. not (counts asked label) || b) (clause_of-Some v r c e) ∙ t, tt)
 
+  -- the clause that is kept says what the literals say
   pub kept-true : (r : List Lit) → Meets asked v (map (labelled label) (kept_clauses r))
       → (not (counts asked label) || clause_true v r) ≡ true
   unfolding kept_clauses
   kept-true r m = kept-true' r (clause_of r) refl m
 
+  -- and no more
   pub true-kept : (r : List Lit) → (not (counts asked label) || clause_true v r) ≡ true
       → Meets asked v (map (labelled label) (kept_clauses r))
   unfolding kept_clauses
   true-kept r t = true-kept' r (clause_of r) refl t
 
+-- the clauses that are kept say what the rules say
 pub rules-true : (asked v : ℕ → Bool) (rs : List (List Lit)) → Meets asked v (map (labelled Structure) (clauses_from rs))
     → rules_true v rs ≡ true
 rules-true asked v [] m = refl
@@ -73,6 +76,7 @@ rules-true asked v (r ∷ rs) m =
     let p = Meets-parts asked v _ _ (subst (Meets asked v) (map-append (kept_clauses r) (clauses_from rs)) m) in
     and_from (clause_true v r) (rules_true v rs) (kept-true asked v Structure r p.0) (rules-true asked v rs p.1)
 
+-- and no more
 pub true-rules : (asked v : ℕ → Bool) (rs : List (List Lit)) → rules_true v rs ≡ true
     → Meets asked v (map (labelled Structure) (clauses_from rs))
 true-rules asked v [] t = tt

@@ -6,9 +6,6 @@ pub mod ShapeLaws
 pub mod Loops
 pub mod OneGate
 pub mod Cover
-pub mod CellLaws
 pub mod TreeLaws
 pub mod BinaryLaws
 pub mod AddLoops
-pub mod ComparedLaws
-pub mod ChoiceLaws

@@ -27,6 +27,7 @@ turned : {A : Type 0} (gs : List A) (i : ℕ) (d : A) → i < length gs → reve
 turned gs i d h = ap reverse (sym (take-append-drop (i + 1) gs)) ∙ reverse-append (take (i + 1) gs) (drop (i + 1) gs)
     ∙ ap (λ hs. reverse (drop (i + 1) gs) ++ hs) (reverse-more gs i d h)
 
+-- the clauses of one more gate
 pub with_gates-more : (s cur new : Clauses) (gs : List Sides) (i : ℕ) (d : Sides) → i < length gs → cur ≡ with_gates s (reverse (take i gs))
     → new ≡ with_defined cur (clauses_from (gate_rules (lit_of cur.vars) (get_or gs i d))) → new ≡ with_gates s (reverse (take (i + 1) gs))
 with_gates-more s cur new gs i d h e f = f ∙ ap (λ c. with_defined c (clauses_from (gate_rules (lit_of c.vars) (get_or gs i d)))) e
@@ -109,9 +110,11 @@ module _ (p : Planned) (s : Clauses) (gs : List Sides) (sound : IsSound p) (firs
             (Begins-trans b (with_gates s (g ∷ front)) (with_gates s (reverse gs)) within rest))
       ]
 
+  -- the clauses of the whole plan extend
   pub finished : (new : Clauses) → new ≡ with_gates s p.gates → Extends s new
   finished new e = rw (e ∙ ap (with_gates s) (sym same)) (all.says)
 
+-- the rules of an equal gate at an equal literal
 pub rules-at : (cs : List (List Lit)) (x y : Lit) (g h : Sides) → cs ≡ clauses_from (gate_rules x g) → x ≡ y → g ≡ h
     → cs ≡ clauses_from (gate_rules y h)
 rules-at cs x y g h e f k = e ∙ rw (f, k) refl

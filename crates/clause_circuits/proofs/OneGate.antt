@@ -24,16 +24,20 @@ module _ (s : Clauses) (ls : List Lit) (b : AllBelow s.vars ls) (cs : List (List
   same_clauses : cs ≡ clauses_from (gate_rules (lit_of s.vars) (any_of ls))
   same_clauses = e ∙ ap (λ y. clauses_from (gate_rules y (any_of ls))) h
 
+  -- the clauses are over the old variables and the new one
   pub any-below : AllClausesBelow (s.vars + 1) cs
   any-below = subst (AllClausesBelow (s.vars + 1)) (sym same_clauses) (step-below s (any_of ls) [] sound.in_order)
 
+  -- where the code stopped on the way, each old assignment still extends
   pub any-stopped : (new : Clauses) → Partial s new cs → Extends s new
   any-stopped new p = stopped (with_gate (plan_at s) (any_of ls)).plan s (any_of ls ∷ []) sound refl refl s new 0 (any_of ls) cs
       (omega arith) refl same_clauses p
 
+  -- the code made the definition's clauses
   pub any-built : (new : Clauses) → new ≡ with_defined s cs → new ≡ with_gates s (any_of ls ∷ [])
   any-built new q = q ∙ ap (with_defined s) same_clauses
 
+  -- and they define the literal
   pub any-gate : (new : Clauses) → new ≡ with_defined s cs → DefinesLit s new x (λ v. clause_true v ls)
   any-gate new q =
       let first : s.vars + 0 ≡ s.vars = omega arith in

@@ -13,6 +13,7 @@ use Rattle.clause_store.proofs.Meaning.{lit_true-negation}
 use Rattle.clause_circuits.proofs.KeptClauses.{clauses_from-below, labelled-in_range, rules-true, true-rules, AllClausesBelow-append}
 use Rattle.clause_circuits.proofs.Composed.{clause_true-agree, Grows-from, Grows-refl, Grows-trans, since-from, MeetsSince-parts, MeetsSince-join}
 
+-- rules rest on the values of their variables alone
 pub rules_true-agree : (n : ℕ) (v w : ℕ → Bool) → Agree n v w → (cs : List (List Lit)) → AllClausesBelow n cs
     → rules_true v cs ≡ rules_true w cs
 rules_true-agree n v w a [] b = refl
@@ -26,6 +27,7 @@ rules_true-append v (c ∷ cs) ds = rw (rules_true-append v cs ds) (and-turn (cl
     and-turn true b c = refl
     and-turn false b c = refl
 
+-- rules with a literal more hold where it is true, or they do
 pub headed-true : (v : ℕ → Bool) (x : Lit) (cs : List (List Lit)) → rules_true v (headed x cs) ≡ (lit_true v x || rules_true v cs)
 headed-true v x [] = sym (or-true (lit_true v x))
   where
@@ -69,6 +71,7 @@ says-gate v x g a t = rules_true-append v (headed x g.on) (headed (negation x) g
     holds true = refl
     holds false = refl
 
+-- a plan takes one variable for each gate
 pub vars_are : (s : Clauses) (gs : List Sides) → (with_gates s gs).vars ≡ s.vars + length gs
 vars_are s [] = omega arith
 vars_are s (g ∷ gs) = omega (arith, vars_are s gs)
@@ -89,6 +92,7 @@ step-grows : (s : Clauses) (g : Sides) (gs : List Sides) → InOrder s.vars (g �
 step-grows s g gs o = Grows-from (with_gates s gs) (with_gates s (g ∷ gs)) _ refl (omega arith)
     (labelled-in_range _ Structure _ (step-below s g gs o))
 
+-- its clauses only make the list longer
 pub gates-grow : (s : Clauses) (gs : List Sides) → InOrder s.vars gs → Grows s (with_gates s gs)
 gates-grow s [] o = Grows-refl s
 gates-grow s (g ∷ gs) o = Grows-trans s (with_gates s gs) (with_gates s (g ∷ gs)) (gates-grow s gs o.2) (step-grows s g gs o)
@@ -139,6 +143,7 @@ at_var-same v x b = rw (eq-eqb x x refl) refl
 at_var-below : (v : ℕ → Bool) (x : ℕ) (b : Bool) → Agree x v (at_var v x b)
 at_var-below v x b k h = rw (ne_eqb k x (omega arith)) refl
 
+-- to follow a plan rests on the values of its variables alone
 pub Follows-agree : (v w : ℕ → Bool) (n : ℕ) (gs : List Sides) → InOrder n gs → Agree (n + length gs) v w → Follows v n gs → Follows w n gs
 Follows-agree v w n [] o a f = tt
 Follows-agree v w n (g ∷ gs) o a f =

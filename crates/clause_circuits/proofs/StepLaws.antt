@@ -20,6 +20,7 @@ Step-trans p q r s t = record {
   agrees = λ v f a. t.agrees v f (s.agrees v (t.follows v f) a);
 }
 
+-- one more gate, if exactly one of its sides holds wherever the plan is followed
 pub Step-gate : (p : Planned) (g : Sides) → AllClausesBelow (next p) g.on → AllClausesBelow (next p) g.off
     → ((v : ℕ → Bool) → FollowsPlan v p → Agrees v g) → Step p (with_gate p g).plan
 Step-gate p g a b h = record {
@@ -42,9 +43,11 @@ module _ (s : Clauses) (q : Planned) (step : Step (plan_at s) q) where
   pub step-defines : Defines s (with_gates s q.gates)
   step-defines = plan_defines s q.gates sound_here
 
+  -- who meets the clauses follows the plan
   pub step-follows : (asked v : ℕ → Bool) → MeetsSince asked v s (with_gates s q.gates) → FollowsPlan v q
   step-follows asked v m = rw step.same (plan-follows s q.gates sound_here asked v m)
 
+  -- the list has the plan's variables
   pub step-vars : (with_gates s q.gates).vars ≡ next q
   step-vars = omega (arith, vars_are s q.gates, step.same)
 
@@ -54,12 +57,15 @@ module _ (s : Clauses) (f : (ℕ → Bool) → Bool) (q : Planned) (lit : Lit) (
   planned : Shows (plan_at s) (record { plan = q; answer = lit }) f
   planned = rw (← built) shows
 
+  -- the plan begins at the list's next variable
   pub lit-first : q.first ≡ s.vars
   lit-first = planned.step.same
 
+  -- it is sound
   pub lit-sound : IsSound q
   lit-sound = sound_from s.vars q planned.step
 
+  -- its clauses define the literal
   pub lit-gate : (new : Clauses) → new ≡ with_gates s q.gates → DefinesLit s new lit f
   lit-gate new e = rw e (record {
     defines = step-defines s q planned.step;

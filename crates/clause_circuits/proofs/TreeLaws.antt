@@ -42,12 +42,14 @@ module _ {A : Type 0} where
   halved-none [] h = refl
   halved-none (x ∷ xs) h = absurd (omega arith)
 
+  -- one element is a leaf
   pub halved-leaf : (xs : List A) (d : A) → length xs < 2 → 1 ≤ length xs → halved xs ≡ leaf (get_or xs 0 d)
   unfolding halved
   halved-leaf [] d h k = absurd (omega arith)
   halved-leaf (x ∷ []) d h k = refl
   halved-leaf (x ∷ y ∷ zs) d h k = absurd (omega arith)
 
+-- a sum over the leaves, whatever bounds the depth
 pub halves-sum : {A : Type 0} (f : A → ℕ) (k : ℕ) (xs : List A) → length xs ≤ k → tree_sum f (halves k xs) ≡ sum_by f xs
 halves-sum f zero [] h = refl
 halves-sum f zero (x ∷ xs) h = absurd (omega arith)
@@ -61,6 +63,7 @@ halves-sum f (suc k) (x ∷ y ∷ zs) h =
     rw (halves-sum f k (take n xs) (omega arith), halves-sum f k (drop n xs) (omega arith)) (sym (sum_by-append f (take n xs) (drop n xs))
     ∙ ap (sum_by f) (take-append-drop n xs))
 
+-- a sum over the leaves is the sum over the list
 pub halved-sum : {A : Type 0} (f : A → ℕ) (xs : List A) → tree_sum f (halved xs) ≡ sum_by f xs
 unfolding halved
 halved-sum f xs = halves-sum f (length xs) xs (omega arith)
@@ -86,6 +89,7 @@ pub halved-below : (n : ℕ) (ts : List (ℕ × Lit)) → TermsBelow n ts → Tr
 unfolding halved
 halved-below n ts b = halves-below n (length ts) ts b
 
+-- literals below a number are below a greater one
 pub TreeBelow-more : (m n : ℕ) (t : Tree (ℕ × Lit)) → m ≤ n → TreeBelow m t → TreeBelow n t
 TreeBelow-more m n none h b = tt
 TreeBelow-more m n (leaf t) h b = omega arith
@@ -101,6 +105,7 @@ weight-le v none = omega arith
 weight-le v (leaf t) = bit-le (lit_true v t.1) t.0
 weight-le v (node l r) = omega (arith, weight-le v l, weight-le v r)
 
+-- two elements and more are a node of their halves
 pub halved-split : {A : Type 0} (xs : List A) → 2 ≤ length xs
     → halved xs ≡ node (halved (take (length xs / 2) xs)) (halved (drop (length xs / 2) xs))
 halved-split [] h = absurd (omega arith)

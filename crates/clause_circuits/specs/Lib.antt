@@ -8,6 +8,4 @@ pub mod Views
 pub mod Cells
 pub mod Trees
 pub mod Binary
-pub mod Compared
-pub mod Choices
 pub mod Built

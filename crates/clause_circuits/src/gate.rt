@@ -1,7 +1,7 @@
 //! Gates: what a literal means, by clauses.
 ghost use Rattle.std.specs.Prelude.{◌≡◌, [], ◌∷◌, ◌++◌, IfOk, OnOk};
 ghost use Rattle.clause_circuits.specs.Gates.{Sides};
-ghost use Rattle.clause_circuits.specs.Shapes.{both, differ, odd, most, all_of, any_of, never};
+ghost use Rattle.clause_circuits.specs.Shapes.{both, never};
 
 use clause_store::Lit;
 use std::alloc::{AllocError, Global};
@@ -41,7 +41,7 @@ impl Lits {
 }
 
 /// A literal's meaning by clauses: it is true where one of `on` fails, and false where one of `off`
-/// does. Gates of up to three literals take no allocation.
+/// does. `both` and `never` take no allocation.
 #[derive(Drop)]
 pub struct Gate {
     pub(crate) shape: Shape,
@@ -51,11 +51,7 @@ pub struct Gate {
 #[derive(Drop)]
 pub(crate) enum Shape {
     Both(Lit, Lit),
-    Differ(Lit, Lit),
-    Odd(Lit, Lit, Lit),
-    Most(Lit, Lit, Lit),
-    AllOf(Vec<Lit>),
-    AnyOf(Vec<Lit>),
+    Never,
     Given(Vec<Lits>, Vec<Lits>),
 }
 
@@ -78,57 +74,12 @@ impl Gate {
         }
     }
 
-    /// True where the two differ.
-    pub fn differ(a: Lit, b: Lit) -> Gate
-        ensures { result ≡ differ a b }
-    {
-        Gate {
-            shape: Shape::Differ(a, b),
-        }
-    }
-
-    /// True where one of the three is, or all are.
-    pub fn odd(a: Lit, b: Lit, c: Lit) -> Gate
-        ensures { result ≡ odd a b c }
-    {
-        Gate {
-            shape: Shape::Odd(a, b, c),
-        }
-    }
-
-    /// True where two of the three are, or all are.
-    pub fn most(a: Lit, b: Lit, c: Lit) -> Gate
-        ensures { result ≡ most a b c }
-    {
-        Gate {
-            shape: Shape::Most(a, b, c),
-        }
-    }
-
-    /// True where each literal of the list is.
-    pub fn all_of(alloc: Global, lits: &[Lit]) -> Result<Gate, AllocError>
-        ensures { IfOk result (λ gate. gate ≡ all_of lits.now) }
-    {
-        Ok(Gate {
-            shape: Shape::AllOf(Vec::from_slice(alloc, lits)?),
-        })
-    }
-
-    /// True where some literal of the list is.
-    pub fn any_of(alloc: Global, lits: &[Lit]) -> Result<Gate, AllocError>
-        ensures { IfOk result (λ gate. gate ≡ any_of lits.now) }
-    {
-        Ok(Gate {
-            shape: Shape::AnyOf(Vec::from_slice(alloc, lits)?),
-        })
-    }
-
     /// True nowhere.
-    pub fn never(alloc: Global) -> Gate
+    pub fn never() -> Gate
         ensures { result ≡ never }
     {
         Gate {
-            shape: Shape::AnyOf(Vec::new(alloc)),
+            shape: Shape::Never,
         }
     }
 

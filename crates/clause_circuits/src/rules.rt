@@ -2,7 +2,7 @@
 ghost use Rattle.std.specs.Prelude.{◌≡◌, [], ◌∷◌, ◌++◌, map, IfOk, OnOk};
 ghost use Rattle.clause_store.specs.Lits.{negation};
 ghost use Rattle.clause_circuits.specs.Gates.{kept_clauses, clauses_from, headed, gate_rules};
-ghost use Rattle.clause_circuits.specs.Shapes.{both, differ, odd, most, all_of, any_of, singles, cover_rules};
+ghost use Rattle.clause_circuits.specs.Shapes.{both, any_of, singles, cover_rules};
 
 use crate::gate::{Gate, Lits, Shape};
 use clause_store::{Clause, Lit};
@@ -14,11 +14,7 @@ pub(crate) fn rules_of(alloc: Global, lit: Lit, gate: &Gate) -> Result<Vec<Claus
 {
     match &gate.shape {
         Shape::Both(a, b) => rules_of_both(alloc, lit, *a, *b),
-        Shape::Differ(a, b) => rules_of_differ(alloc, lit, *a, *b),
-        Shape::Odd(a, b, c) => rules_of_odd(alloc, lit, *a, *b, *c),
-        Shape::Most(a, b, c) => rules_of_most(alloc, lit, *a, *b, *c),
-        Shape::AllOf(lits) => rules_of_all(alloc, lit, lits.as_slice()),
-        Shape::AnyOf(lits) => rules_of_any(alloc, lit, lits.as_slice()),
+        Shape::Never => rules_of_any(alloc, lit, &[]),
         Shape::Given(on, off) => rules_of_given(alloc, lit, on.as_slice(), off.as_slice()),
     }
 }
@@ -30,64 +26,6 @@ fn rules_of_both(alloc: Global, x: Lit, a: Lit, b: Lit) -> Result<Vec<Clause>, A
     let mut rules = Vec::with_capacity(alloc, 3)?;
     push_rules(alloc, &mut rules, &[[x, a.negated(), b.negated()]])?;
     push_rules(alloc, &mut rules, &[[x.negated(), a], [x.negated(), b]])?;
-    Ok(rules)
-}
-
-fn rules_of_differ(alloc: Global, x: Lit, a: Lit, b: Lit) -> Result<Vec<Clause>, AllocError>
-    ensures { IfOk result (λ rules. rules.items ≡ clauses_from (gate_rules x (differ a b))) }
-{
-    let (nx, na, nb) = (x.negated(), a.negated(), b.negated());
-    let mut rules = Vec::with_capacity(alloc, 4)?;
-    push_rules(
-        alloc,
-        &mut rules,
-        &[[x, na, b], [x, a, nb], [nx, a, b], [nx, na, nb]],
-    )?;
-    Ok(rules)
-}
-
-// The clauses of a gate for an odd number of three.
-fn rules_of_odd(alloc: Global, x: Lit, a: Lit, b: Lit, c: Lit) -> Result<Vec<Clause>, AllocError>
-    ensures { IfOk result (λ rules. rules.items ≡ clauses_from (gate_rules x (odd a b c))) }
-{
-    let (nx, na, nb, nc) = (x.negated(), a.negated(), b.negated(), c.negated());
-    let on = [[x, na, b, c], [x, a, nb, c], [x, a, b, nc], [x, na, nb, nc]];
-    let off = [
-        [nx, a, b, c],
-        [nx, a, nb, nc],
-        [nx, na, b, nc],
-        [nx, na, nb, c],
-    ];
-    let mut rules = Vec::with_capacity(alloc, 8)?;
-    push_rules(alloc, &mut rules, &on)?;
-    push_rules(alloc, &mut rules, &off)?;
-    Ok(rules)
-}
-
-fn rules_of_most(alloc: Global, x: Lit, a: Lit, b: Lit, c: Lit) -> Result<Vec<Clause>, AllocError>
-    ensures { IfOk result (λ rules. rules.items ≡ clauses_from (gate_rules x (most a b c))) }
-{
-    let (nx, na, nb, nc) = (x.negated(), a.negated(), b.negated(), c.negated());
-    let mut rules = Vec::with_capacity(alloc, 6)?;
-    push_rules(alloc, &mut rules, &[[x, na, nb], [x, na, nc], [x, nb, nc]])?;
-    push_rules(alloc, &mut rules, &[[nx, a, b], [nx, a, c], [nx, b, c]])?;
-    Ok(rules)
-}
-
-// The clauses of a gate for all of a list.
-fn rules_of_all(alloc: Global, x: Lit, lits: &[Lit]) -> Result<Vec<Clause>, AllocError>
-    ensures { IfOk result (λ rules. rules.items ≡ clauses_from (gate_rules x (all_of lits.now))) }
-{
-    let mut negated = Vec::with_capacity(alloc, lits.len() + 1)?;
-    negated.push(x)?;
-    for lit in lits {
-        negated.push(lit.negated())?;
-    }
-    let mut rules = Vec::with_capacity(alloc, lits.len() + 1)?;
-    push_rule(alloc, &mut rules, negated.as_slice())?;
-    for lit in lits {
-        push_rule(alloc, &mut rules, &[x.negated(), *lit])?;
-    }
     Ok(rules)
 }
 

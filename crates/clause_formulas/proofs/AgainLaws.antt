@@ -27,21 +27,21 @@ Later-trans s t u a b ls l e = b ls l (a ls l e)
 -- one gate more
 last-later : (gs : List Gate) (g : Gate) (ls : List Lit) (l : Lit) → gate_of gs ls ≡ Some l → gate_of (gs ++ g ∷ []) ls ≡ Some l
 last-later [] g ls l e = absurd (none-some l e)
-last-later (h ∷ hs) g ls l e = go (pointwise lit_eq ls h.0) e (last-later hs g ls l)
+last-later (h ∷ hs) g ls l e = by-bool (pointwise lit_eq ls h.0) e (last-later hs g ls l)
   where
-    go : (q : Bool) → cond q (Some h.1) (gate_of hs ls) ≡ Some l → (gate_of hs ls ≡ Some l → gate_of (hs ++ g ∷ []) ls ≡ Some l)
+    by-bool : (q : Bool) → cond q (Some h.1) (gate_of hs ls) ≡ Some l → (gate_of hs ls ≡ Some l → gate_of (hs ++ g ∷ []) ls ≡ Some l)
         → cond q (Some h.1) (gate_of (hs ++ g ∷ []) ls) ≡ Some l
-    go true e later = e
-    go false e later = later e
+    by-bool true e later = e
+    by-bool false e later = later e
 
 last-found : (gs : List Gate) (ls : List Lit) (l : Lit) → gate_of gs ls ≡ None → gate_of (gs ++ (ls, l) ∷ []) ls ≡ Some l
 last-found [] ls l e = ap (λ q. cond q (Some l) None) ((pointwise_decides lit-decides ls ls).1 refl)
-last-found (h ∷ hs) ls l e = go (pointwise lit_eq ls h.0) e (last-found hs ls l)
+last-found (h ∷ hs) ls l e = by-bool (pointwise lit_eq ls h.0) e (last-found hs ls l)
   where
-    go : (q : Bool) → cond q (Some h.1) (gate_of hs ls) ≡ None → (gate_of hs ls ≡ None → gate_of (hs ++ (ls, l) ∷ []) ls ≡ Some l)
+    by-bool : (q : Bool) → cond q (Some h.1) (gate_of hs ls) ≡ None → (gate_of hs ls ≡ None → gate_of (hs ++ (ls, l) ∷ []) ls ≡ Some l)
         → cond q (Some h.1) (gate_of (hs ++ (ls, l) ∷ []) ls) ≡ Some l
-    go true e later = absurd (none-some h.1 (sym e))
-    go false e later = later e
+    by-bool true e later = absurd (none-some h.1 (sym e))
+    by-bool false e later = later e
 
 module _ (s : Gated) (ls : List Lit) where
   found-later : (o : Option Lit) → Later s (found_or s ls o).state
@@ -77,7 +77,8 @@ by_clause-again s t None h = refl
 by_clause-again s t (Some []) h = refl
 by_clause-again s t (Some (l ∷ [])) h = refl
 by_clause-again s t (Some (l ∷ k ∷ c)) h =
-    ap (λ (m : Shared Lit). let made : Shared Defined = record { state = m.state; answer = By m.answer } in made) (or-again s t (l ∷ k ∷ c) h)
+    ap (λ (m : Shared Lit). let made : Shared Defined = record { state = m.state; answer = By m.answer } in
+    made) (or-again s t (l ∷ k ∷ c) h)
 
 named_parts-later : (s : Gated) (ls : List Lit) (always : Bool) → Later s (named_in s (record { lits = ls; always = always })).state
 unfolding named_in
@@ -125,6 +126,7 @@ record Again (s t : Gated) (d e : Draft) (f : Statement) : Type 0 where
   first : (spread_in s d f).answer ≡ joined d more
   second : spread_in t e f ≡ record { state = t; answer = joined e more }
 
+-- gates are only added to
 pub spread-later : (f : Statement) (s : Gated) (d : Draft) → Later s (spread_in s d f).state
 spread-later (atom l) s d = Later-refl s
 spread-later never s d = Later-refl s
@@ -168,7 +170,8 @@ spread-again (no f) s t d e h =
       second = ap (λ (k : Shared Draft). let p = named_in k.state k.answer in
           let made : Shared Draft = record { state = p.state; answer = with_defined e (reverse_of p.answer) } in made)
           (a.second ∙ ap (λ (k : Draft). let made : Shared Draft = record { state = t; answer = k } in made) (sym a.first))
-          ∙ ap (λ (p : Shared Defined). let made : Shared Draft = record { state = p.state; answer = with_defined e (reverse_of p.answer) } in made)
+          ∙ ap (λ (p : Shared Defined). let made : Shared Draft =
+          record { state = p.state; answer = with_defined e (reverse_of p.answer) } in made)
           (named-again m.state t m.answer h)
           ∙ ap (λ (k : Draft). let made : Shared Draft = record { state = t; answer = k } in made) (with-adds e x);
     }
@@ -191,6 +194,7 @@ define-found s t f h =
     (a.second ∙ ap (λ (k : Draft). let made : Shared Draft = record { state = t; answer = k } in made) (sym a.first))
     ∙ named-again m.state t m.answer h
 
+-- a formula that was defined has its value again, and adds nothing
 pub define-again : (s : Gated) (f g : Statement) → define_in (define_in (define_in s f).state g).state f
     ≡ record { state = (define_in (define_in s f).state g).state; answer = (define_in s f).answer }
 define-again s f g =

@@ -59,6 +59,7 @@ AllowsIn-called (Err x) s t v u p d e f g = subst (λ l. AllowsIn s (gated l t.g
 pub Allows-refl : (s : Clauses) (p : Rule) → Allows s s p
 Allows-refl s p = record { grows = Grows-refl s; each = λ asked v h. (Extends-refl s).each asked v refl }
 
+-- what allows a rule in two steps allows it
 pub Allows-then : (a b c : Clauses) (p q : Rule) → Allows a b p → Allows b c q
     → ((asked v w : ℕ → Bool) → Agree a.vars v w → p asked v → q asked w) → Allows a c p
 Allows-then a b c p q d e link = record {
@@ -76,12 +77,14 @@ Allows-then a b c p q d e link = record {
 abbrev pub claims : Label → Bool → Statement → Rule
 claims label sign f = λ asked v. where_asked label (λ w. claimed sign (eval w f)) asked v ≡ true
 
+-- a part was asserted, or the code stopped in it
 pub claim-called : {T E : Type 0} (r : Result T E) (s t : Gated) (u : Clauses) (label : Label) (sign : Bool) (f : Statement)
     → GatesBelow s.list.vars s.gates → SaidBelow s.list.vars f → Keeps s t → OnOk r (assert_in label s sign f ≡ gated u t.gates)
     → OnErr r (u ≡ t.list) → AllowsIn s (gated u t.gates) (claims label sign f)
 claim-called r s t u label sign f i b e p q = AllowsIn-called r s t (assert_in label s sign f) u (claims label sign f)
     (assert_in_is label f sign s i b).allows e p q
 
+-- a demand was stated, or the code stopped in it
 pub demand-called : {T E : Type 0} (r : Result T E) (s t : Gated) (u : Clauses) (f : Statement) (id : ℕ)
     → GatesBelow s.list.vars s.gates → SaidBelow s.list.vars f → Keeps s t → OnOk r (demand_in s f id ≡ gated u t.gates)
     → OnErr r (u ≡ t.list) → AllowsIn s (gated u t.gates) (λ asked v. where_asked (Demand id) (λ w. eval w f) asked v ≡ true)
@@ -105,6 +108,7 @@ none-at label n (f ∷ fs) zero d h b asked v w a k =
 none-at label n (f ∷ fs) (suc i) d h b asked v w a k =
     none-at label n fs i d (omega arith) b.1 asked v w a (none-part (not (counts asked label)) (eval v f) (eval v (any_of fs)) k).1
 
+-- of parts that none is claimed of, none holds
 pub none-claimed : (label : Label) (n : ℕ) (fs : List Statement) (i : ℕ) (f : Statement) → i < length fs → f ≡ get_or fs i f
     → SaidBelow n (any_of fs) → (asked v w : ℕ → Bool) → Agree n v w → claims label false (any_of fs) asked v
     → claims label false f asked w
@@ -125,6 +129,7 @@ demanded-at n id (f ∷ fs) (suc i) d h b asked v w a k =
     rw e (demanded-at n (id + 1) fs i d (omega arith) b.1 asked v w a
     (and_parts (not (asked id) || eval v f) (demands_true asked v (id + 1) fs) k).1)
 
+-- of demanded formulas each one is
 pub demanded : (n : ℕ) (fs : List Statement) (i : ℕ) (f : Statement) → i < length fs → f ≡ get_or fs i f → SaidBelow n (any_of fs)
     → (asked v w : ℕ → Bool) → Agree n v w → demands_true asked v 0 fs ≡ true
     → where_asked (Demand i) (λ u. eval u f) asked w ≡ true

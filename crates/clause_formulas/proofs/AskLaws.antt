@@ -49,6 +49,7 @@ cover_is s ls b =
     let g = cover-gate s ls b (clauses_from (cover_rules (lit_of s.vars) ls)) (lit_of s.vars) refl refl (with_cover s ls) refl in
     record { grows = g.grows; below = g.below; covers = g.covers; each = g.each }
 
+-- the code made the definition's literal
 pub cover-built : (s t : Clauses) (ls : List Lit) (l : Lit) → l ≡ lit_of s.vars → t ≡ with_cover s ls
     → cover_on s ls ≡ record { list = t; answer = l }
 unfolding cover_on
@@ -172,6 +173,7 @@ Asks-no s t u d e x f i h a b =
           );
     }
 
+-- a formula that is asked for is spread into a draft, with one side of its parts
 pub ask_is : (f : Statement) (s : Gated) (d : Draft) → AllBelow s.list.vars d.lits → GatesBelow s.list.vars s.gates
     → SaidBelow s.list.vars f → Asks s d (ask_in s d f).state (ask_in s d f).answer f
 ask_is (atom l) s d h i b = Asks-same s d (with_defined d (By l)) (atom l) i (with_defined-below s.list.vars d (By l) h b)
@@ -192,6 +194,7 @@ asked-only : (c e f : Bool) → (not c || e) ≡ true → (e ≡ true → f ≡ 
 asked-only true e f t h = h t
 asked-only false e f t h = refl
 
+-- the clause of such a draft asks for the formula, and for nothing else
 pub asked_says : (s : Gated) (label : Label) (f : Statement) → GatesBelow s.list.vars s.gates → SaidBelow s.list.vars f
     → SaysIn s (drafted (ask_in s empty f).state label (ask_in s empty f).answer) (where_asked label (λ v. eval v f))
 asked_says s label f i b =

@@ -10,6 +10,7 @@ use Rattle.clause_circuits.specs.Growth.{Agree}
 use Rattle.clause_store.proofs.Meaning.{lit_true-negation}
 use Rattle.clause_circuits.proofs.Composed.{lit_true-agree}
 
+-- a formula rests on the values of its variables alone
 pub eval-agree : (n : ℕ) (v w : ℕ → Bool) → Agree n v w → (f : Statement) → SaidBelow n f → eval v f ≡ eval w f
 eval-agree n v w a (atom l) b = lit_true-agree n v w a l b
 eval-agree n v w a never b = refl
@@ -45,6 +46,7 @@ pub AllBelow-last : (n : ℕ) (ls : List Lit) (l : Lit) → AllBelow n ls → va
 AllBelow-last n [] l b h = (h, tt)
 AllBelow-last n (k ∷ ls) l b h = (b.0, AllBelow-last n ls l b.1 h)
 
+-- one more part of a draft
 pub with_defined-true : (v : ℕ → Bool) (d : Draft) (x : Defined) → draft_true v (with_defined d x) ≡ (draft_true v d || defined_true v x)
 with_defined-true v d (Known b) = or-inner d.always (clause_true v d.lits) b
 with_defined-true v d (By l) = ap (λ b. d.always || b) (clause_true-last v d.lits l)

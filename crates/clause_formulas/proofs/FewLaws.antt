@@ -31,13 +31,13 @@ none-few (false ∷ bs) = none-few bs
 
 few-append : (bs cs : List Bool) → few_true (bs ++ cs) ≡ ((none_true bs || none_true cs) && (few_true bs && few_true cs))
 few-append [] cs = refl
-few-append (true ∷ bs) cs = none-append bs cs ∙ step (none_true bs) (none_true cs) (few_true cs) (none-few cs)
+few-append (true ∷ bs) cs = none-append bs cs ∙ by-bools (none_true bs) (none_true cs) (few_true cs) (none-few cs)
   where
-    step : (n m f : Bool) → (m && f) ≡ m → (n && m) ≡ (m && (n && f))
-    step true true f e = sym e
-    step true false f e = refl
-    step false true f e = refl
-    step false false f e = refl
+    by-bools : (n m f : Bool) → (m && f) ≡ m → (n && m) ≡ (m && (n && f))
+    by-bools true true f e = sym e
+    by-bools true false f e = refl
+    by-bools false true f e = refl
+    by-bools false false f e = refl
 few-append (false ∷ bs) cs = few-append bs cs
 
 module _ (v : ℕ → Bool) where
@@ -55,22 +55,23 @@ module _ (v : ℕ → Bool) where
   apart-first : (l : Lit) (ls : List Lit) → all_eval v (map (not_both l) ls) ≡ (not (lit_true v l) || none_true (truths v ls))
   apart-first l [] = sym (or-true (not (lit_true v l)))
   apart-first l (k ∷ ls) = rw (lit_true-negation v l, lit_true-negation v k, apart-first l ls)
-      (step (lit_true v l) (lit_true v k) (none_true (truths v ls)))
+      (by-bools (lit_true v l) (lit_true v k) (none_true (truths v ls)))
     where
-      step : (a b c : Bool) → ((not a || (not b || false)) && (not a || c)) ≡ (not a || (not b && c))
-      step true true c = refl
-      step true false c = refl
-      step false b c = refl
+      by-bools : (a b c : Bool) → ((not a || (not b || false)) && (not a || c)) ≡ (not a || (not b && c))
+      by-bools true true c = refl
+      by-bools true false c = refl
+      by-bools false b c = refl
 
   apart-few : (ls : List Lit) → all_eval v (apart ls) ≡ few_true (truths v ls)
   apart-few [] = refl
   apart-few (l ∷ ls) = all_eval-append v (map (not_both l) ls) (apart ls) ∙ rw (apart-first l ls, apart-few ls)
-      (step (lit_true v l) (none_true (truths v ls)) (few_true (truths v ls)) (none-few (truths v ls)))
+      (by-bools (lit_true v l) (none_true (truths v ls)) (few_true (truths v ls)) (none-few (truths v ls)))
     where
-      step : (t n f : Bool) → (n && f) ≡ n → ((not t || n) && f) ≡ (if t then n else f)
-      step true n f e = e
-      step false n f e = refl
+      by-bools : (t n f : Bool) → (n && f) ≡ n → ((not t || n) && f) ≡ (if t then n else f)
+      by-bools true n f e = e
+      by-bools false n f e = refl
 
+  -- the formulas say that at most one is true
   pub few-said : (times : ℕ) (ls : List Lit) → all_eval v (few_of times ls) ≡ few_true (truths v ls)
   unfolding few_of
   few-said zero ls = apart-few ls
@@ -97,6 +98,7 @@ module _ (v : ℕ → Bool) where
   any-said [] = refl
   any-said (l ∷ ls) = elim (cases_Bool (lit_true v l)) [ inl t ↦ rw t refl | inr f ↦ rw f (any-said ls) ]
 
+  -- and that exactly one is
   pub one-said : (ls : List Lit) → eval v (one_among ls) ≡ one_true (truths v ls)
   one-said ls = eval-all_of v (any_of (map atom ls) ∷ few_among ls) ∙ rw (any-said ls, few-said (length ls / 8) ls) (one-few (truths v ls))
 
@@ -141,15 +143,18 @@ module _ (n : ℕ) where
 
 -- ---- step by step
 
+-- with no halving left all pairs are kept apart
 pub few-none : (times : ℕ) (ls : List Lit) → times ≡ 0 → few_of times ls ≡ apart ls
 unfolding few_of
 few-none times ls e = rw e refl
 
+-- a short list is not halved
 pub few-short : (times : ℕ) (ls : List Lit) → length ls ≤ 8 → few_of times ls ≡ apart ls
 unfolding few_of
 few-short zero ls le = refl
 few-short (suc times) ls le = let short : nat_lt 8 (length ls) ≡ false = grind (arith, nat_tests) in rw short refl
 
+-- a long one is
 pub few-long : (times : ℕ) (ls : List Lit) → (times ≡ 0 → ⊥) → 8 < length ls
     → few_of times ls ≡ halves_apart (take (half_of ls) ls) (drop (half_of ls) ls)
     ∷ (few_of (times - 1) (take (half_of ls) ls) ++ few_of (times - 1) (drop (half_of ls) ls))
@@ -160,6 +165,7 @@ few-long (suc times) ls some lt =
     let less : suc times - 1 ≡ times = omega arith in
     rw (long, less) refl
 
+-- the code's halves are the definition's
 pub few-joined : (old one two three : List Statement) (times : ℕ) (ls : List Lit) (h : Statement) → (times ≡ 0 → ⊥) → 8 < length ls
     → one ≡ old ++ h ∷ [] → h ≡ halves_apart (take (half_of ls) ls) (drop (half_of ls) ls)
     → two ≡ one ++ few_of (times - 1) (take (half_of ls) ls) → three ≡ two ++ few_of (times - 1) (drop (half_of ls) ls)
@@ -171,6 +177,7 @@ few-joined old one two three times ls h some lt pushed halves front back =
     ∙ append_assoc (old ++ h ∷ []) a b ∙ append_assoc old (h ∷ []) (a ++ b)
     ∙ ap (λ k. old ++ k ∷ (a ++ b)) halves ∙ ap (λ fs. old ++ fs) (sym (few-long times ls some lt))
 
+-- the opposite of an any-of is a none-of
 pub opposite-any : (fs : List Statement) → opposite (any_of fs) ≡ no (any_of fs)
 opposite-any [] = refl
 opposite-any (f ∷ fs) = refl

@@ -13,6 +13,7 @@ use Rattle.clause_formulas.specs.Gated.{Gate, Gated, gated, gate_of, Fits, Gates
 
 -- ---- what fits
 
+-- that gates have their values rests on their variables alone
 pub Fits-agree : (n : ℕ) (v w : ℕ → Bool) → Agree n v w → (gs : List Gate) → GatesBelow n gs → Fits v gs → Fits w gs
 Fits-agree n v w a [] b f = tt
 Fits-agree n v w a (g ∷ gs) b f = (
@@ -30,6 +31,7 @@ pub GatesBelow-last : (n : ℕ) (gs : List Gate) (ls : List Lit) (l : Lit) → G
 GatesBelow-last n [] ls l b a h = ((a, h), tt)
 GatesBelow-last n (g ∷ gs) ls l b a h = (b.0, GatesBelow-last n gs ls l b.1 a h)
 
+-- one more gate with its value
 pub Fits-last : (v : ℕ → Bool) (gs : List Gate) (ls : List Lit) (l : Lit) → Fits v gs → lit_true v l ≡ clause_true v ls
     → Fits v (gs ++ (ls, l) ∷ [])
 Fits-last v [] ls l f e = (e, tt)
@@ -37,26 +39,29 @@ Fits-last v (g ∷ gs) ls l f e = (f.0, Fits-last v gs ls l f.1 e)
 
 -- ---- what is found
 
+-- literals that are equal by their test are equal
 pub lit-decides : (x y : Lit) → (lit_eq x y ≡ true → x ≡ y) × (x ≡ y → lit_eq x y ≡ true)
 lit-decides x y = (same_lit x y, λ e. subst (λ z. lit_eq x z ≡ true) e (lit_eq-refl x))
 
 pub found-below : (n : ℕ) (gs : List Gate) (ls : List Lit) (l : Lit) → GatesBelow n gs → gate_of gs ls ≡ Some l → var_of l < n
 found-below n [] ls l b e = absurd (none-some l e)
-found-below n (g ∷ gs) ls l b e = go (pointwise lit_eq ls g.0) e (found-below n gs ls l b.1)
+found-below n (g ∷ gs) ls l b e = by-bool (pointwise lit_eq ls g.0) e (found-below n gs ls l b.1)
   where
-    go : (q : Bool) → cond q (Some g.1) (gate_of gs ls) ≡ Some l → (gate_of gs ls ≡ Some l → var_of l < n) → var_of l < n
-    go true e later = subst (λ k. var_of k < n) (same_Some g.1 l e) b.0.1
-    go false e later = later e
+    by-bool : (q : Bool) → cond q (Some g.1) (gate_of gs ls) ≡ Some l → (gate_of gs ls ≡ Some l → var_of l < n) → var_of l < n
+    by-bool true e later = subst (λ k. var_of k < n) (same_Some g.1 l e) b.0.1
+    by-bool false e later = later e
 
+-- a gate that is found means its literals
 pub found-true : (v : ℕ → Bool) (gs : List Gate) (ls : List Lit) (l : Lit) → Fits v gs → gate_of gs ls ≡ Some l
     → lit_true v l ≡ clause_true v ls
 found-true v [] ls l f e = absurd (none-some l e)
-found-true v (g ∷ gs) ls l f e = go (pointwise lit_eq ls g.0) refl e (found-true v gs ls l f.1)
+found-true v (g ∷ gs) ls l f e = by-bool (pointwise lit_eq ls g.0) refl e (found-true v gs ls l f.1)
   where
-    go : (q : Bool) → pointwise lit_eq ls g.0 ≡ q → cond q (Some g.1) (gate_of gs ls) ≡ Some l
+    by-bool : (q : Bool) → pointwise lit_eq ls g.0 ≡ q → cond q (Some g.1) (gate_of gs ls) ≡ Some l
         → (gate_of gs ls ≡ Some l → lit_true v l ≡ clause_true v ls) → lit_true v l ≡ clause_true v ls
-    go true same e later = ap (lit_true v) (sym (same_Some g.1 l e)) ∙ f.0 ∙ ap (clause_true v) (sym ((pointwise_decides lit-decides ls g.0).0 same))
-    go false same e later = later e
+    by-bool true same e later = ap (lit_true v) (sym (same_Some g.1 l e)) ∙ f.0
+        ∙ ap (clause_true v) (sym ((pointwise_decides lit-decides ls g.0).0 same))
+    by-bool false same e later = later e
 
 -- ---- a list with its gates, step after step
 

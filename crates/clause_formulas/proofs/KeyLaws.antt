@@ -29,17 +29,18 @@ lit-code x false = rw (half, even) refl
     even : eqb ((x * 2 + 0) % 2) 1 ≡ false
     even = grind (arith, nat_tests)
 
+-- literals come back from their numbers
 pub lits-codes : (ls : List Lit) → lits_of_codes (codes_of ls) ≡ ls
 lits-codes [] = refl
 lits-codes (l ∷ ls) = λ i. lit-code (var_of l) l.positive i ∷ lits-codes ls i
 
 -- and a literal its code
 code-lit : (c : ℕ) → code_of (lit_of_code c) ≡ c
-code-lit c = go (eqb (c % 2) 1) refl
+code-lit c = by-bool (eqb (c % 2) 1) refl
   where
-    go : (b : Bool) → eqb (c % 2) 1 ≡ b → c / 2 * 2 + (if b then 1 else 0) ≡ c
-    go true e = let r = eqb-true (c % 2) 1 e in omega (arith, r)
-    go false e = grind (arith, nat_tests, e)
+    by-bool : (b : Bool) → eqb (c % 2) 1 ≡ b → c / 2 * 2 + (if b then 1 else 0) ≡ c
+    by-bool true e = let r = eqb-true (c % 2) 1 e in omega (arith, r)
+    by-bool false e = grind (arith, nat_tests, e)
 
 same_bool : (a b : Bool) → (a ≡ true → b ≡ true) → (b ≡ true → a ≡ true) → a ≡ b
 same_bool true b f g = sym (f refl)
@@ -52,6 +53,7 @@ code-eq c d = same_bool (lit_eq (lit_of_code c) (lit_of_code d)) (eqb c d)
     (λ e. eq-eqb c d (sym (code-lit c) ∙ ap code_of (same_lit (lit_of_code c) (lit_of_code d) e) ∙ code-lit d))
     (λ e. ap (λ x. lit_eq (lit_of_code c) (lit_of_code x)) (sym (eqb-true c d e)) ∙ lit_eq-refl (lit_of_code c))
 
+-- numbers are equal where literals are
 pub codes-eq : (cs ds : List ℕ) → pointwise lit_eq (lits_of_codes cs) (lits_of_codes ds) ≡ pointwise eqb cs ds
 codes-eq [] [] = refl
 codes-eq [] (d ∷ ds) = refl

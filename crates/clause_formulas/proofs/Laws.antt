@@ -73,6 +73,7 @@ Says-defined s t u label p f i b d link e =
     (λ asked v k m. ap (λ x. not (counts asked label) || x) (link asked v k m))
     (λ asked v w g. ap (λ x. not (counts asked label) || x) (eval-agree s.list.vars v w g f b))
 
+-- a literal means its value
 pub literal_is : (s : Clauses) (x : Defined) → DefinedBelow s.vars x
     → DefinesValue s (literal_on s x).list (By (literal_on s x).answer) (λ v. defined_true v x)
 unfolding literal_on
@@ -90,6 +91,7 @@ literal_is s (Known true) b =
       };
     }
 
+-- values mean their formulas
 pub define_all_is : (s : Gated) (fs : List Statement) → GatesBelow s.list.vars s.gates → SaidBelow s.list.vars (any_of fs)
     → DefinesValues s (define_all_in s fs).state (define_all_in s fs).answer fs
 define_all_is s [] i b = record { defines = Defines-refl s.list; keeps = Keeps-refl s i; means = tt }
@@ -121,6 +123,7 @@ drafted_says : (s : Gated) (label : Label) (d : Draft) → GatesBelow s.list.var
     → SaysIn s (drafted s label d) (where_asked label (λ v. draft_true v d))
 drafted_says s label d i b = SaysIn-from s (with_draft s.list label d) _ i (draft_says s.list label d b)
 
+-- an assertion asks for its formula, and for nothing else
 pub assert_in_is : (label : Label) (f : Statement) (sign : Bool) (s : Gated) → GatesBelow s.list.vars s.gates → SaidBelow s.list.vars f
     → SaysIn s (assert_in label s sign f) (asserts label sign f)
 assert_in_is label (atom l) true s i b = SaysIn-as s _ _ _ (drafted_says s label (with_defined empty (By l)) i (b, tt))
@@ -128,7 +131,8 @@ assert_in_is label (atom l) true s i b = SaysIn-as s _ _ _ (drafted_says s label
 assert_in_is label (atom l) false s i b = SaysIn-as s _ _ _ (drafted_says s label (with_defined empty (By (negation l))) i (b, tt))
     (λ asked v. ap (λ x. not (counts asked label) || x) (or-false _ ∙ lit_true-negation v l))
 assert_in_is label never true s i b = drafted_says s label empty i tt
-assert_in_is label never false s i b = SaysIn-as s s (λ asked v. true) _ (SaysIn-refl s i) (λ asked v. sym (or-true (not (counts asked label))))
+assert_in_is label never false s i b = SaysIn-as s s (λ asked v. true) _ (SaysIn-refl s i)
+    (λ asked v. sym (or-true (not (counts asked label))))
 assert_in_is label (or f g) true s i b =
     asked_says s label (or f g) i b
 assert_in_is label (or f g) false s i b =
@@ -151,6 +155,7 @@ pub assert_is : (label : Label) (f : Statement) (sign : Bool) (s : Clauses) → 
     → Says s (assert_on label s sign f) (asserts label sign f)
 assert_is label f sign s b = SaysIn-alone s (assert_in label (bare s) sign f) _ (assert_in_is label f sign (bare s) tt b)
 
+-- a demand asks for its formula, and for nothing else
 pub demand_is : (s : Gated) (f : Statement) (id : ℕ) → GatesBelow s.list.vars s.gates → SaidBelow s.list.vars f
     → SaysIn s (demand_in s f id) (where_asked (Demand id) (λ v. eval v f))
 unfolding demand_in
@@ -162,11 +167,13 @@ demand_is s f id i b =
     (drafted_says m.state (Demand id) (with_defined empty m.answer) x.keeps.below
     (with_defined-below m.state.list.vars empty m.answer tt x.means.below))
 
+-- demands rest on the values of their variables alone
 pub demands-agree : (n : ℕ) (asked v w : ℕ → Bool) (id : ℕ) (fs : List Statement) → Agree n v w → SaidBelow n (any_of fs)
     → demands_true asked v id fs ≡ demands_true asked w id fs
 demands-agree n asked v w id [] a b = refl
 demands-agree n asked v w id (f ∷ fs) a b = rw (eval-agree n v w a f b.0, demands-agree n asked v w (id + 1) fs a b.1) refl
 
+-- many demands do
 pub demand_all_is : (s : Gated) (id : ℕ) (fs : List Statement) → GatesBelow s.list.vars s.gates → SaidBelow s.list.vars (any_of fs)
     → SaysIn s (demand_all_in s id fs) (λ asked v. demands_true asked v id fs)
 demand_all_is s id [] i b = SaysIn-refl s i

@@ -14,6 +14,7 @@ rule-said v f p h (both_of r q) = eval-both v (in_words f r) (in_words f q) ∙ 
 rule-said v f p h (either_of r q) = rw (rule-said v f p h r, rule-said v f p h q) refl
 rule-said v f p h (if_so r q) = eval-implies v (in_words f r) (in_words f q) ∙ rw (rule-said v f p h r, rule-said v f p h q) refl
 
+-- a rule is over the variables of its words
 pub rule-below : {W : Type 0} (n : ℕ) (f : W → Statement) → ((w : W) → SaidBelow n (f w)) → (r : Rule W) → SaidBelow n (in_words f r)
 rule-below n f h (fact w) = h w
 rule-below n f h nowhere = tt
@@ -27,6 +28,7 @@ pub any_rule-said : {W : Type 0} (f : W → Statement) (rs : List (Rule W)) → 
 any_rule-said f [] = refl
 any_rule-said f (r ∷ rs) = ap (or (in_words f r)) (any_rule-said f rs)
 
+-- all rules are said where each is
 pub all_rules-said : {W : Type 0} (f : W → Statement) (rs : List (Rule W)) → in_words f (all_rules rs) ≡ all_of (map (in_words f) rs)
 all_rules-said f [] = refl
 all_rules-said f (r ∷ rs) = ap (λ g. no (or (opposite (in_words f r)) g)) (opposites rs)

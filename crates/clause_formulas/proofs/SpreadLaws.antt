@@ -56,6 +56,7 @@ unfolding named_in
 named_parts s ls true b k = same_value s (Known true) (λ v. true) k tt (λ v. refl)
 named_parts s ls false b k = by_clause_is s ls (clause_of ls) b k refl
 
+-- the value of a draft means that some part of it is true
 pub named_is : (s : Gated) (d : Draft) → AllBelow s.list.vars d.lits → GatesBelow s.list.vars s.gates
     → DefinesIn s (named_in s d).state (named_in s d).answer (λ v. draft_true v d)
 named_is s d b k = named_parts s d.lits d.always b k
@@ -92,6 +93,7 @@ Spreads-no s t u d e x f h a b = record {
       ∙ ap not (b.means.value asked v (a.keeps.fits asked v k p.0) p.1 ∙ a.says asked v k p.0));
 }
 
+-- a formula is spread into the literals of one clause
 pub spread_is : (f : Statement) (s : Gated) (d : Draft) → AllBelow s.list.vars d.lits → GatesBelow s.list.vars s.gates
     → SaidBelow s.list.vars f → Spreads s d (spread_in s d f).state (spread_in s d f).answer f
 spread_is (atom l) s d h k b = record {
@@ -143,6 +145,7 @@ draft_parts s label ls true b = Says-as s s (λ asked v. true) (where_asked labe
     (λ asked v. sym (or-true (not (counts asked label))))
 draft_parts s label ls false b = kept_says s label ls b
 
+-- the clause of a draft asks for some part of it, and for nothing else
 pub draft_says : (s : Clauses) (label : Label) (d : Draft) → AllBelow s.vars d.lits
     → Says s (with_draft s label d) (where_asked label (λ v. draft_true v d))
 draft_says s label d b = draft_parts s label d.lits d.always b

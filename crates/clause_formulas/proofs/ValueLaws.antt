@@ -29,6 +29,7 @@ MeansIn-later a b c d f g h m = record {
   value = λ asked v k t. m.value asked v k (MeetsSince-parts asked v a.list b.list c.list g h t).0;
 }
 
+-- what means a formula later means it from before
 pub MeansIn-earlier : (a b c : Gated) (d : Defined) (f : (ℕ → Bool) → Bool) → Keeps a b → Grows b.list c.list → MeansIn b c d f
     → MeansIn a c d f
 MeansIn-earlier a b c d f g h m = record {
@@ -47,6 +48,7 @@ or_is s ls b =
     (with_gates s (some_of ls ∷ [])) refl in
     record { defines = g.defines; means = record { below = g.below; value = g.means } }
 
+-- the code made the definition's gate
 pub or-built : (s t : Clauses) (ls : List Lit) (l : Lit) → l ≡ lit_of s.vars → t ≡ with_gates s (some_of ls ∷ [])
     → or_on s ls ≡ record { list = t; answer = l }
 unfolding or_on
@@ -67,7 +69,8 @@ module _ (s : Gated) (ls : List Lit) (b : AllBelow s.list.vars ls) (k : GatesBel
     defines = d.defines;
     keeps = record {
       extends = d.defines.says;
-      below = GatesBelow-last t.vars s.gates ls l (GatesBelow-le s.list.vars t.vars s.gates more k) (AllBelow-le s.list.vars t.vars ls more b)
+      below = GatesBelow-last t.vars s.gates ls l (GatesBelow-le s.list.vars t.vars s.gates more k)
+          (AllBelow-le s.list.vars t.vars ls more b)
           d.means.below;
       fits = λ asked v f m. Fits-last v s.gates ls l f (d.means.value asked v m);
     };
@@ -79,6 +82,7 @@ module _ (s : Gated) (ls : List Lit) (b : AllBelow s.list.vars ls) (k : GatesBel
   found_or_is (Some l) e = found_is l e
   found_or_is None e = new_is (or_on s.list ls).list (or_on s.list ls).answer (or_is s.list ls b)
 
+  -- a gate means that some literal is true
   pub or_in_is : DefinesIn s (or_in s ls).state (By (or_in s ls).answer) (λ v. clause_true v ls)
   unfolding or_in
   or_in_is = found_or_is (gate_of s.gates ls) refl
@@ -88,14 +92,18 @@ pub or-found : (s : Gated) (ls : List Lit) (l : Lit) → Some l ≡ gate_of s.ga
 unfolding or_in
 or-found s ls l e = ap (found_or s ls) (sym e)
 
+-- a gate that was not found is made
 pub or-new : (s : Gated) (t : Clauses) (gs : List Gate) (ls : List Lit) (l : Lit) → None ≡ gate_of s.gates ls
-    → or_on s.list ls ≡ record { list = t; answer = l } → gs ≡ s.gates ++ (ls, l) ∷ [] → or_in s ls ≡ record { state = gated t gs; answer = l }
+    → or_on s.list ls ≡ record { list = t; answer = l } → gs ≡ s.gates ++ (ls, l) ∷ []
+    → or_in s ls ≡ record { state = gated t gs; answer = l }
 unfolding or_in
 or-new s t gs ls l e f g =
     ap (found_or s ls) (sym e)
-    ∙ ap (λ (m : Grown Lit). let made : Shared Lit = record { state = gated m.list (s.gates ++ (ls, m.answer) ∷ []); answer = m.answer } in made) f
+    ∙ ap (λ (m : Grown Lit). let made : Shared Lit = record { state = gated m.list (s.gates ++ (ls, m.answer) ∷ []); answer = m.answer } in
+    made) f
     ∙ ap (λ hs. let made : Shared Lit = record { state = gated t hs; answer = l } in made) (sym g)
 
+-- gates that were made stay
 pub or_in-keeps : (s t : Gated) (ls : List Lit) (l : Lit) → AllBelow s.list.vars ls → GatesBelow s.list.vars s.gates
     → or_in s ls ≡ record { state = t; answer = l } → Keeps s t
 or_in-keeps s t ls l b k e = let P : Shared Lit → Type 0 = λ m. Keeps s m.state in subst P e (or_in_is s ls b k).keeps

@@ -53,11 +53,11 @@ eval-said_of v (By l) = refl
 -- exactly one
 eval-atoms : (v : ℕ → Bool) (ls : List Lit) → eval v (any_of (map atom ls)) ≡ not (none_true (truths v ls))
 eval-atoms v [] = refl
-eval-atoms v (l ∷ ls) = ap (λ b. lit_true v l || b) (eval-atoms v ls) ∙ step (lit_true v l) (none_true (truths v ls))
+eval-atoms v (l ∷ ls) = ap (λ b. lit_true v l || b) (eval-atoms v ls) ∙ by-bools (lit_true v l) (none_true (truths v ls))
   where
-    step : (a b : Bool) → (a || not b) ≡ not (not a && b)
-    step true b = refl
-    step false b = refl
+    by-bools : (a b : Bool) → (a || not b) ≡ not (not a && b)
+    by-bools true b = refl
+    by-bools false b = refl
 
 pub all_eval-append : (v : ℕ → Bool) (fs gs : List Statement) → all_eval v (fs ++ gs) ≡ (all_eval v fs && all_eval v gs)
 all_eval-append v [] gs = refl
@@ -74,12 +74,12 @@ eval-apart v l [] = sym (or-true (not (lit_true v l)))
     or-true true = refl
     or-true false = refl
 eval-apart v l (k ∷ ls) = rw (lit_true-negation v l, lit_true-negation v k, eval-apart v l ls)
-    (step (lit_true v l) (lit_true v k) (none_true (truths v ls)))
+    (by-bools (lit_true v l) (lit_true v k) (none_true (truths v ls)))
   where
-    step : (a b c : Bool) → ((not a || (not b || false)) && (not a || c)) ≡ (not a || (not b && c))
-    step true true c = refl
-    step true false c = refl
-    step false b c = refl
+    by-bools : (a b c : Bool) → ((not a || (not b || false)) && (not a || c)) ≡ (not a || (not b && c))
+    by-bools true true c = refl
+    by-bools true false c = refl
+    by-bools false b c = refl
 
 apart-eval : (v : ℕ → Bool) (l : Lit) (ls : List Lit)
     → all_eval v (apart (l ∷ ls)) ≡ ((not (lit_true v l) || none_true (truths v ls)) && all_eval v (apart ls))
@@ -88,21 +88,21 @@ apart-eval v l ls = all_eval-append v (map (not_both l) ls) (apart ls) ∙ ap (�
 none-apart : (v : ℕ → Bool) (ls : List Lit) → (none_true (truths v ls) && all_eval v (apart ls)) ≡ none_true (truths v ls)
 none-apart v [] = refl
 none-apart v (l ∷ ls) = ap (λ b. none_true (truths v (l ∷ ls)) && b) (apart-eval v l ls)
-    ∙ step (lit_true v l) (none_true (truths v ls)) (all_eval v (apart ls)) (none-apart v ls)
+    ∙ by-bools (lit_true v l) (none_true (truths v ls)) (all_eval v (apart ls)) (none-apart v ls)
   where
-    step : (t n a : Bool) → (n && a) ≡ n → ((not t && n) && ((not t || n) && a)) ≡ (not t && n)
-    step true n a e = refl
-    step false n a e = e
+    by-bools : (t n a : Bool) → (n && a) ≡ n → ((not t && n) && ((not t || n) && a)) ≡ (not t && n)
+    by-bools true n a e = refl
+    by-bools false n a e = e
 
 -- at least one, and at most one
 one-apart : (v : ℕ → Bool) (ls : List Lit) → (not (none_true (truths v ls)) && all_eval v (apart ls)) ≡ one_true (truths v ls)
 one-apart v [] = refl
 one-apart v (l ∷ ls) = ap (λ b. not (none_true (truths v (l ∷ ls))) && b) (apart-eval v l ls)
-    ∙ step (lit_true v l) (none_true (truths v ls)) (all_eval v (apart ls)) _ (none-apart v ls) (one-apart v ls)
+    ∙ by-bools (lit_true v l) (none_true (truths v ls)) (all_eval v (apart ls)) _ (none-apart v ls) (one-apart v ls)
   where
-    step : (t n a o : Bool) → (n && a) ≡ n → (not n && a) ≡ o → (not (not t && n) && ((not t || n) && a)) ≡ (if t then n else o)
-    step true n a o e f = e
-    step false n a o e f = f
+    by-bools : (t n a o : Bool) → (n && a) ≡ n → (not n && a) ≡ o → (not (not t && n) && ((not t || n) && a)) ≡ (if t then n else o)
+    by-bools true n a o e f = e
+    by-bools false n a o e f = f
 
 pub eval-one_of : (v : ℕ → Bool) (ls : List Lit) → eval v (one_of ls) ≡ one_true (truths v ls)
 eval-one_of v ls = eval-all_of v (any_of (map atom ls) ∷ apart ls) ∙ ap (λ b. b && all_eval v (apart ls)) (eval-atoms v ls) ∙ one-apart v ls

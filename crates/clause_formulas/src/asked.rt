@@ -1,4 +1,5 @@
-//! The clause of a formula that is asked for: of what stands under the other sign one side is enough.
+//! The clause of a formula that is asked for: of what stands under the other sign one side is
+//! enough.
 ghost use Rattle.std.specs.Prelude.{◌≡◌, Some, IfOk, OnOk};
 ghost use Rattle.clause_store.specs.Lits.{AllBelow};
 ghost use Rattle.clause_circuits.specs.Growth.{Extends};

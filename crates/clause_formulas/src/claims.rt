@@ -19,7 +19,8 @@ use std::alloc::{AllocError, Global};
 /// Adds clauses with a label that hold exactly where the formula is true.
 ///
 /// An all-of is asserted part by part, and an any-of as one clause. Gates that were made serve
-/// again, and new ones are kept. After want of memory the list may have grown by some of the clauses.
+/// again, and new ones are kept. After want of memory the list may have grown by some of the
+/// clauses.
 pub fn assert_in(
     alloc: Global,
     clauses: &mut ClauseList,

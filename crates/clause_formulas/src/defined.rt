@@ -41,6 +41,7 @@ impl Model for Draft {
 }
 
 impl Draft {
+    /// No literal yet, and not known to hold.
     pub(crate) fn new(alloc: Global) -> Draft
         ensures { result ≡ empty }
     {
@@ -50,6 +51,7 @@ impl Draft {
         }
     }
 
+    /// One more part: a known value, or a literal.
     pub(crate) fn put(&mut self, value: Defined) -> Result<(), AllocError>
         ensures { OnOk result (self.new ≡ with_defined self.old value) }
     {
@@ -60,12 +62,14 @@ impl Draft {
         Ok(())
     }
 
+    /// Whether a part is known to hold.
     pub(crate) fn always(&self) -> bool
         ensures { result ≡ self.now.always }
     {
         self.always
     }
 
+    /// The literals, in the order in which they came.
     pub(crate) fn lits(&self) -> &[Lit]
         ensures { result.now ≡ self.now.lits }
     {

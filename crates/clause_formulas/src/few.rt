@@ -27,6 +27,7 @@ pub fn push_few(alloc: Global, parts: &mut Vec<Formula>, lits: &[Lit]) -> Result
     push_halved(alloc, parts, lits, lits.len() / SHORT)
 }
 
+/// The same, halving a list that is longer than a short one at most so many times.
 fn push_halved(
     alloc: Global,
     parts: &mut Vec<Formula>,

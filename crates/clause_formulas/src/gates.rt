@@ -62,8 +62,8 @@ impl Gates {
     }
 }
 
-/// A literal that is true exactly where some literal of the list is: that of a gate that was made, or
-/// of a new one.
+/// A literal that is true exactly where some literal of the list is: that of a gate that was made,
+/// or of a new one.
 pub(crate) fn or_in(
     alloc: Global,
     clauses: &mut ClauseList,

@@ -69,8 +69,8 @@ pub fn worked_claims()
         ≡ bare (with_entries (labelled (Demand 7) (a ∷ []) ∷ []) 3) }
 {}
 
-/// The same two literals, in either order and under either sign, take one variable; a part that stands
-/// twice in a formula takes one: twelve clauses, where a gate for each time made fifteen.
+/// The same two literals, in either order and under either sign, take one variable; a part that
+/// stands twice in a formula takes one: twelve clauses, where a gate for each time made fifteen.
 #[tactic(auto, unfolding(crate::specs::Built::define_in, crate::specs::Built::demand_in, crate::specs::Built::with_draft, crate::specs::Built::named_in, crate::specs::Built::or_in, crate::specs::Built::or_on, clause_circuits::specs::Gates::kept_clauses))]
 pub fn worked_gates()
     ensures once { define_all_in (bare start) (any_of (atom a ∷ atom b ∷ [])

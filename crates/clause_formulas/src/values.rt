@@ -14,8 +14,8 @@ use crate::spread::{named, spread};
 use clause_store::{ClauseList, Lit};
 use std::alloc::{AllocError, Global};
 
-/// A value that is true exactly where the formula is. Gates that were made serve again, and new ones
-/// are kept. After want of memory the list may have grown by definitions.
+/// A value that is true exactly where the formula is. Gates that were made serve again, and new
+/// ones are kept. After want of memory the list may have grown by definitions.
 pub fn define_in(
     alloc: Global,
     clauses: &mut ClauseList,
@@ -66,8 +66,8 @@ pub fn define_all_in(
     Ok(values)
 }
 
-/// A value that is true exactly where the formula is, over gates of its own. After want of memory the
-/// list may have grown by definitions.
+/// A value that is true exactly where the formula is, over gates of its own. After want of memory
+/// the list may have grown by definitions.
 pub fn define(
     alloc: Global,
     clauses: &mut ClauseList,

@@ -1,5 +1,5 @@
 -- Lists of literals and terms in range, with one more.
-use Rattle.std.proofs.Common.{ℕ, zero, suc, ◌<◌, ◌^◌, List, [], ◌∷◌, ◌++◌, length, get_or, take, drop, arith}
+use Rattle.std.proofs.Common.{ℕ, zero, suc, ◌<◌, ◌^◌, List, [], ◌∷◌, ◌++◌, length, get_or, arith}
 use Rattle.std.specs.List.{All}
 use Rattle.clause_store.specs.declared.Lit.{Lit}
 use Rattle.clause_store.specs.Lits.{var_of, AllBelow}
@@ -14,16 +14,6 @@ lits-more n (k ∷ ls) l b h = (b.0, lits-more n ls l b.1 h)
 pub terms-more : (n : ℕ) (ts : List (ℕ × Lit)) (t : ℕ × Lit) → TermsBelow n ts → var_of t.1 < n → TermsBelow n (ts ++ t ∷ [])
 terms-more n [] t b h = (h, tt)
 terms-more n (u ∷ ts) t b h = (b.0, terms-more n ts t b.1 h)
-
-pub lits-take : (n k : ℕ) (ls : List Lit) → AllBelow n ls → AllBelow n (take k ls)
-lits-take n zero ls b = tt
-lits-take n (suc k) [] b = tt
-lits-take n (suc k) (l ∷ ls) b = (b.0, lits-take n k ls b.1)
-
-pub lits-drop : (n k : ℕ) (ls : List Lit) → AllBelow n ls → AllBelow n (drop k ls)
-lits-drop n zero ls b = b
-lits-drop n (suc k) [] b = tt
-lits-drop n (suc k) (l ∷ ls) b = lits-drop n k ls b.1
 
 pub lit-at : (n k : ℕ) (ls : List Lit) (d : Lit) → AllBelow n ls → k < length ls → var_of (get_or ls k d) < n
 lit-at n k [] d b h = absurd (omega (arith, h))
@@ -43,7 +33,5 @@ pub small-more : (lists : List (List (ℕ × Lit))) (ts : List (ℕ × Lit)) →
     → AllSmall (tops (lists ++ ts ∷ []))
 small-more [] ts b h = (h, tt)
 small-more (us ∷ lists) ts b h = (b.0, small-more lists ts b.1 h)
-
-pub ruleset halves_below = (lits-take, lits-drop)
 
 pub ruleset nodes_in_range = (lits-all)

@@ -3,7 +3,8 @@ use clause_formulas::Defined;
 use clause_store::{ClauseList, Entry, Label, Lit};
 use std::alloc::{AllocError, Global};
 
-/// Literals, or a truth value; a value for each formula; a literal for each asked pair, or none; truth values, or none.
+/// Literals, or a truth value; a value for each formula; a literal for each asked pair, or none;
+/// truth values, or none.
 #[derive(Drop)]
 pub enum Answer {
     Lits(Vec<Lit>),

@@ -11,10 +11,11 @@ use clause_formulas::{
 use clause_store::{ClauseList, Label, Lit};
 use std::alloc::{AllocError, Global};
 
-/// The commands `define`, `literal` (of the value that is defined), `assert` and `demand` (of id 7) of
-/// a formula, and `each` and `demands` (of ids from 0 on) of formulas that share their gates, in Polish order backwards:
-/// a literal; `!` for the opposite; `|3` and `&3` for any and all of the last three; `+` for both of the
-/// last two; `>` where the last but one implies the last; `^1,-2` for exactly one of literals.
+/// The commands `define`, `literal` (of the value that is defined), `assert` and `demand` (of id 7)
+/// of a formula, and `each` and `demands` (of ids from 0 on) of formulas that share their gates, in
+/// Polish order backwards: a literal; `!` for the opposite; `|3` and `&3` for any and all of the
+/// last three; `+` for both of the last two; `>` where the last but one implies the last; `^1,-2`
+/// for exactly one of literals.
 pub fn ask(
     alloc: Global,
     clauses: &mut ClauseList,

@@ -1,18 +1,18 @@
 //! Answers rows of literals: for each line, what a call answers and the clauses that it adds.
 //!
 //! A line is a command, how many variables there are before, and its words; a literal is a number
-//! from 1 on, or its negative, as in DIMACS. The commands stand at `circuits::ask`, `formulas::ask`,
-//! `vectors::ask` and `networks::ask`. An answer is the literals or the truth values that the call
-//! gave, `none` where it gave none, `;`, how many variables there are now, `;`, and the clauses, each
-//! ended by 0, with its demand before it where it has one: `4 ; 4 ; 1 -4 0 2 -4 0`. A line that asks
-//! for what no call takes is answered by `no`.
+//! from 1 on, or its negative, as in DIMACS. The commands stand at `sums::ask`,
+//! `formulas::ask`, `vectors::ask` and `networks::ask`. An answer is the literals or the truth
+//! values that the call gave, `none` where it gave none, `;`, how many variables there are now,
+//! `;`, and the clauses, each ended by 0, with its demand before it where it has one: `4 ; 4 ; 1 -4
+//! 0 2 -4 0`. A line that asks for what no call takes is answered by `no`.
 #![tactic(auto)]
 
 mod answer;
-mod circuits;
 mod formulas;
 mod input;
 mod networks;
+mod sums;
 mod vectors;
 
 use answer::{Answer, text_of};
@@ -54,6 +54,6 @@ fn ask(
         ),
         "totals" | "spell" => vectors::ask(alloc, clauses, command, words),
         "levels" => networks::ask(alloc, clauses, words),
-        _ => circuits::ask(alloc, clauses, command, words),
+        _ => sums::ask(alloc, clauses, command, words),
     }
 }

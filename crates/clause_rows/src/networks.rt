@@ -19,8 +19,8 @@ struct Network {
     asked: Vec<(u64, u64)>,
 }
 
-/// The command `levels` of four lists: literals of nodes, places of roots, arcs such as `0>1=4` with
-/// their literals, asked pairs such as `0>2`.
+/// The command `levels` of four lists: literals of nodes, places of roots, arcs such as `0>1=4`
+/// with their literals, asked pairs such as `0>2`.
 pub fn ask(
     alloc: Global,
     clauses: &mut ClauseList,

@@ -14,7 +14,7 @@ use Rattle.clause_watch.specs.Trails.{lits_of, own, decisions, upto, next, place
 use Rattle.clause_watch.proofs.Meaning.{value-has, value-free}
 use Rattle.clause_solver.specs.Searches.{IsAssumed, OnlyLeaves}
 use Rattle.clause_watch.proofs.Places.{place-has, has-place, upto-place, place-upto, level-least, level-most, levels-rise, get-front, get-last}
-use Rattle.clause_solver.proofs.LessonLaws.{placed_of-upto}
+use Rattle.clause_solver.proofs.LearntLaws.{placed_of-upto}
 use Rattle.clause_watch.proofs.Undone.{upto-whole}
 
 module _ (ps : List Placed) (a : ℕ × Lit) where
@@ -30,6 +30,7 @@ module _ (ps : List Placed) (a : ℕ × Lit) where
             (q.0, q.1, q.2, q.3, omega (arith, m, zero_here))
       ]
 
+  -- where the assumed literal has no value, nothing was decided
   pub assumed-free : IsAssumed ps (Some a) → has_var (lits_of ps) (var_of a.1) ≡ false → decisions ps ≡ 0
   assumed-free assumed free =
       elim (cases_lt 0 (decisions ps)) [
@@ -40,18 +41,21 @@ module _ (ps : List Placed) (a : ℕ × Lit) where
             (has-var (lits_of ps) q.1.lit (place-has ps q.0 q.1 q.2))))
       ]
 
+  -- the negation of the assumed literal is decided first
   pub decide-assumed : decisions ps ≡ 0 → (l : Lit) → l ≡ negation a.1 → IsAssumed (ps ++ next ps l None ∷ []) (Some a)
   decide-assumed none l e above =
       let p = next ps l None in
       let le : p.level ≤ 1 = omega (arith, none) in
       ap (has (lits_of (upto 1 (ps ++ p ∷ [])))) (sym e) ∙ place-upto 1 (ps ++ p ∷ []) (length ps) p (get-last ps p) le
 
+  -- what is placed behind the assumed literal leaves it assumed
   pub keep-assumed : HasLevels 0 ps → IsAssumed ps (Some a) → has (lits_of ps) (negation a.1) ≡ true → (qs : List Placed)
       → IsAssumed (ps ++ qs) (Some a)
   keep-assumed levels assumed h qs above =
       let q = low-place levels assumed h in
       rw (← q.3) (place-upto 1 (ps ++ qs) q.0 q.1 (get-front ps qs q.0 q.1 q.2) q.4)
 
+-- at level 0 no literal was decided
 pub closing-none : (ps : List Placed) (c : List Lit) → HasLevels 0 ps → decisions ps ≡ 0 → OnlyLeaves ps c
 closing-none ps c levels none k p e r =
     let a = level-least 0 ps k p levels e in
@@ -80,6 +84,7 @@ closing-here ps a j q levels one f l s k p e r =
       ]
     ]
 
+-- at level 1 the assumed literal alone was decided, if it has no reason
 pub closing-one : (n : ℕ) (ps : List Placed) (a : ℕ × Lit) → IsOrderly n ps → decisions ps ≡ 1 → IsAssumed ps (Some a)
     → option_and_then (λ (p : Placed). p.reason) (placed_of ps (var_of a.1)) ≡ None → OnlyLeaves ps (a.1 ∷ [])
 closing-one n ps a o one assumed r =
@@ -103,6 +108,7 @@ true-on ps l b e f = value-has ps l (sym e ∙ ap Some (same b l.positive f))
     same false true g = g
     same false false g = refl
 
+-- a literal whose variable has the other value is false on the trail
 pub false-on : (ps : List Placed) (l : Lit) (b : Bool) → Some b ≡ value_in ps (var_of l) → beq b l.positive ≡ false
     → has (lits_of ps) (negation l) ≡ true
 false-on ps l b e f = value-has ps (negation l) (sym e ∙ ap Some (other b l.positive f))
@@ -122,6 +128,7 @@ negated-free n ps a l e h v assumed =
     let q : var_of l ≡ var_of a.1 = ap var_of e in
     (rw q h, rw q free, decide-assumed ps a (assumed-free ps a assumed free) l e)
 
+-- what is tested to be none is none
 pub is_none-none : {A : Type 0} → (o : Option A) (b : Bool) → is_some o ≡ not b → b ≡ true → o ≡ None
 is_none-none None b e f = refl
 is_none-none (Some x) b e f = absurd (false≢true (sym (e ∙ ap not f)))

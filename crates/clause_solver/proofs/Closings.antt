@@ -14,11 +14,11 @@ use Rattle.clause_watch.specs.Trails.{lits_of, own, decisions, placed_of}
 use Rattle.clause_watch.specs.Reasons.{NamesFalse}
 use Rattle.clause_watch.specs.Watches.{WatchValue, IsWatch}
 use Rattle.clause_watch.proofs.Undone.{upto-whole}
-use Rattle.clause_solver.specs.Lessons.{IsKnown}
+use Rattle.clause_solver.specs.Learning.{IsKnown}
 use Rattle.clause_solver.specs.Searches.{IsAssumed, OnlyLeaves, Rests, IsPlaceOf, stated}
 use Rattle.clause_watch.proofs.Places.{place-has, has-place, place-within, upto-place, level-least, level-most, places-apart, places-same, consistent-from, has-front, has_var-lit}
 use Rattle.clause_solver.proofs.Steps.{cause, reason-known}
-use Rattle.clause_solver.proofs.LessonLaws.{placed_of-upto}
+use Rattle.clause_solver.proofs.LearntLaws.{placed_of-upto}
 
 -- a loop that looked at every place
 pub passed-more : (ps : List Placed) (x at : ℕ) (p : Placed)
@@ -31,6 +31,7 @@ passed-more ps x at p h e ne k q lt f v =
           ne (ap (λ (r : Placed). var_of r.lit) (same_Some p q (sym e ∙ ap (slice_get ps) s ∙ f)) ∙ v)
     ]
 
+-- a variable that no place has is not on the trail
 pub passed-all : (ps : List Placed) (x end : ℕ) → ((k : ℕ) (q : Placed) → k < end → slice_get ps k ≡ Some q → var_of q.lit ≡ x → ⊥)
     → length ps ≤ end → has_var (lits_of ps) x ≡ true → ⊥
 passed-all ps x end h le t =
@@ -70,11 +71,11 @@ more-left (suc n) (x ∷ xs) q (suc j) s lt e = more-left n xs q j s (omega arit
 
 more-last : (xs : List Placed) (q : Placed) → has (lits_of (xs ++ q ∷ [])) q.lit ≡ true
 more-last [] q = or_left (lit_eq q.lit q.lit) false (lit_eq-refl q.lit)
-more-last (x ∷ xs) q = go (lit_eq x.lit q.lit) (has (lits_of (xs ++ q ∷ [])) q.lit) (more-last xs q)
+more-last (x ∷ xs) q = by-bools (lit_eq x.lit q.lit) (has (lits_of (xs ++ q ∷ [])) q.lit) (more-last xs q)
   where
-    go : (a b : Bool) → b ≡ true → (a || b) ≡ true
-    go true b h = refl
-    go false b h = h
+    by-bools : (a b : Bool) → b ≡ true → (a || b) ≡ true
+    by-bools true b h = refl
+    by-bools false b h = h
 
 -- the assumed literal is true, and nothing was decided
 module _ (w : WatchValue) (right : IsWatch w.vars w.clauses w.placed) (a : ℕ × Lit) (assumed : IsAssumed w.placed (Some a))
@@ -118,9 +119,11 @@ module _ (w : WatchValue) (right : IsWatch w.vars w.clauses w.placed) (a : ℕ �
       (subst (λ xs. placed_of xs (var_of p.lit) ≡ Some p) (upto-whole 0 (decisions w.placed) w.placed right.orderly.levels (omega arith))
       (placed_of-upto (decisions w.placed) w.placed k p right.orderly.apart here (omega (arith, m))))
 
+  -- the code's reason is none where the place has none
   pub code-none : None ≡ option_and_then (λ (q : Placed). q.reason) (placed_of w.placed (var_of a.1)) → ⊥
   code-none e = all-reasons k p here (ap (option_and_then (λ (q : Placed). q.reason)) (sym found) ∙ sym e)
 
+  -- the assumed literal's variable has a value
   pub var-here : has_var (lits_of w.placed) (var_of a.1) ≡ true
   var-here = has-var (lits_of w.placed) a.1 holds
 

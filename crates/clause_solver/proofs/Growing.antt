@@ -9,9 +9,9 @@ use Rattle.proof_log.specs.Logs.{LineHolds}
 use Rattle.proof_log.proofs.Logs.{learnt_in-push, AllLines-append, all-learnt}
 use Rattle.proof_log.proofs.GrowingLaws.{IsGrowing-push}
 use Rattle.clause_watch.specs.Watches.{WatchValue}
-use Rattle.clause_solver.specs.Orders.{OrderValue}
+use Rattle.clause_solver.specs.HeapValues.{HeapValue}
 use Rattle.clause_solver.specs.declared.search.Search.{Search}
-use Rattle.clause_solver.specs.Marks.{AreClear}
+use Rattle.clause_solver.specs.Seen.{AreClear}
 use Rattle.clause_solver.specs.Solvers.{SolverValue, IsLogOf, Adds}
 use Rattle.clause_solver.specs.Searches.{value_of, IsSearch}
 
@@ -27,7 +27,7 @@ module _ (s t : Search) (lit : Option Lit) (l : Line) (c : Option (List Lit)) (i
     (clauses : t.watch.clauses ≡ with_added s.watch.clauses c) (vars : t.watch.vars ≡ s.watch.vars) (log : t.log ≡ s.log ++ l ∷ [])
     (inputs : t.inputs ≡ s.inputs) (bits : t.bits ≡ s.bits)
     (given : t.given.items ≡ with_added s.given.items lit) (model : t.model.items ≡ s.model.items)
-    (count : t.learnt ≡ s.learnt + learnt_count l) (marks : length t.marks ≡ length s.marks) (unmarked : AreClear t.marks) where
+    (count : t.learnt ≡ s.learnt + learnt_count l) (seen : length t.seen ≡ length s.seen) (unseen : AreClear t.seen) where
   -- the solver's invariant after one more line
   pub search-grown : length (with_added s.given.items lit) ≡ length s.given.items + settles l →
       ((more : List Lit) → LineHolds (with_added s.given.items lit ++ more) s.watch.clauses (length s.given.items) l)
@@ -39,8 +39,8 @@ module _ (s t : Search) (lit : Option Lit) (l : Line) (c : Option (List Lit)) (i
         log = rw (inputs, clauses, vars, log, bits, given, front-same s.inputs s.watch.clauses c i.inputs) g;
         inputs = rw (inputs, clauses) (let h = longer s.watch.clauses c in let k = i.inputs in omega (arith, h, k));
         learnt = rw log (count ∙ ap (λ m. m + learnt_count l) i.learnt ∙ sym (learnt_in-push s.log l));
-        marks = marks ∙ i.marks ∙ sym vars;
-        unmarked = unmarked;
+        seen = seen ∙ i.seen ∙ sym vars;
+        unseen = unseen;
       }
 
   input-same : take t.inputs t.watch.clauses ≡ take s.inputs s.watch.clauses
@@ -59,6 +59,7 @@ module _ (s t : Search) (lit : Option Lit) (l : Line) (c : Option (List Lit)) (i
     lines = log;
   }
 
+  -- a line that ends the search or settles a bit
   pub adds-last : Adds (value_of false s) (value_of false t) lit (Some l)
   adds-last = record {
     input = input-same;
@@ -79,16 +80,17 @@ search-watch s w e f i =
       log = subst IsLogOf v i.log;
       inputs = rw e i.inputs;
       learnt = i.learnt;
-      marks = rw f i.marks;
-      unmarked = i.unmarked;
+      seen = rw f i.seen;
+      unseen = i.unseen;
     }
 
--- nor does the order of the variables
-pub search-turn : (s : Search) (w : WatchValue) (o : OrderValue) → w.clauses ≡ s.watch.clauses → w.vars ≡ s.watch.vars → IsSearch s
-    → IsSearch (record s { watch = w; order = o })
+-- nor does the heap of the variables
+pub search-turn : (s : Search) (w : WatchValue) (o : HeapValue) → w.clauses ≡ s.watch.clauses → w.vars ≡ s.watch.vars → IsSearch s
+    → IsSearch (record s { watch = w; heap = o })
 search-turn s w o e f i = let k = search-watch s w e f i in
-    record { log = k.log; inputs = k.inputs; learnt = k.learnt; marks = k.marks; unmarked = k.unmarked }
+    record { log = k.log; inputs = k.inputs; learnt = k.learnt; seen = k.seen; unseen = k.unseen }
 
+-- a watch with the same clauses adds no line
 pub adds-watch : (s : Search) (w : WatchValue) → w.clauses ≡ s.watch.clauses → w.vars ≡ s.watch.vars
     → Adds (value_of false s) (value_of false (record s { watch = w })) None None
 adds-watch s w e f = record {

@@ -12,8 +12,8 @@ use Rattle.proof_log.specs.Usefulness.{IsConsistent}
 use Rattle.clause_watch.specs.declared.trail.Placed.{Placed}
 use Rattle.clause_watch.specs.Trails.{lits_of, value_in}
 use Rattle.clause_watch.proofs.Meaning.{value-has}
-use Rattle.clause_solver.specs.Marks.{mark_at, AreClear, AreListed, IsFalseLit, falsified}
-use Rattle.clause_solver.proofs.Marking.{clear-replicate, has_var-push}
+use Rattle.clause_solver.specs.Seen.{seen_at, AreClear, AreListed, IsFalseLit, falsified}
+use Rattle.clause_solver.proofs.SeenLaws.{clear-replicate, has_var-push}
 use Rattle.clause_solver.proofs.Resolving.{falsified-same}
 
 get-more : (xs : List ℕ) (y j x : ℕ) → slice_get xs j ≡ Some x → slice_get (xs ++ y ∷ []) j ≡ Some x
@@ -31,13 +31,14 @@ get-parts [] y (suc j) x e = absurd (none-some x e)
 get-parts (z ∷ xs) y zero x e = inl e
 get-parts (z ∷ xs) y (suc j) x e = get-parts xs y j x e
 
+-- no variable is seen at first
 pub listed-none : (n : ℕ) → AreListed (replicate n false) []
 listed-none n = record { below = λ j x e. absurd (none-some x e); has = λ x t. absurd (false≢true (sym (clear-replicate n x) ∙ t)) }
 
--- a variable is marked and listed
-pub listed-mark : (table : List Bool) (listed more : List ℕ) (var : ℕ) → AreListed table listed → var < length table
+-- a variable is seen and listed
+pub listed-see : (table : List Bool) (listed more : List ℕ) (var : ℕ) → AreListed table listed → var < length table
     → more ≡ listed ++ var ∷ [] → AreListed (set table var true) more
-listed-mark table listed more var a h e =
+listed-see table listed more var a h e =
     let n = length-set table var true in
     subst (AreListed (set table var true)) (sym e) (record {
       below = λ j x g. elim (get-parts listed var j x g) [
@@ -51,28 +52,29 @@ listed-mark table listed more var a h e =
       ];
     })
 
-unmarked-apart : (table : List Bool) (var x : ℕ) → var < length table → mark_at (set table var false) x ≡ true → (x ≡ var → ⊥)
-    × (mark_at table x ≡ true)
-unmarked-apart table var x h t =
+unseen-apart : (table : List Bool) (var x : ℕ) → var < length table → seen_at (set table var false) x ≡ true → (x ≡ var → ⊥)
+    × (seen_at table x ≡ true)
+unseen-apart table var x h t =
     elim (cases_eq x var) [
-      | inl s ↦ absurd (false≢true (sym (get_or-set_same table var false false h) ∙ ap (mark_at (set table var false)) (sym s) ∙ t))
+      | inl s ↦ absurd (false≢true (sym (get_or-set_same table var false false h) ∙ ap (seen_at (set table var false)) (sym s) ∙ t))
       | inr ne ↦ (ne, sym (get_or-set_other table var x false false ne) ∙ t)
     ]
 
--- a mark is taken away, and its variable may stay in the list
-pub listed-unmark : (table : List Bool) (listed : List ℕ) (var : ℕ) → AreListed table listed → var < length table
+-- a variable is forgotten, and may stay in the list
+pub listed-forget : (table : List Bool) (listed : List ℕ) (var : ℕ) → AreListed table listed → var < length table
     → AreListed (set table var false) listed
-listed-unmark table listed var a h =
+listed-forget table listed var a h =
     let n = length-set table var false in record {
       below = λ j x g. let b = a.below j x g in omega (arith, n, b);
-      has = λ x t. a.has x (unmarked-apart table var x h t).1;
+      has = λ x t. a.has x (unseen-apart table var x h t).1;
     }
 
--- the last variable leaves the list, and its mark is taken away
+-- the last variable leaves the list, and is forgotten
 pub listed-last : (table : List Bool) (listed rest : List ℕ) (var : ℕ) → AreListed table listed → listed ≡ rest ++ var ∷ []
     → var < length table
 listed-last table listed rest var a e = a.below (length rest) var (ap (λ xs. slice_get xs (length rest)) e ∙ get-end rest var)
 
+-- the last listed variable is forgotten
 pub listed-pop : (table : List Bool) (listed rest : List ℕ) (var : ℕ) → AreListed table listed → listed ≡ rest ++ var ∷ []
     → AreListed (set table var false) rest
 listed-pop table listed rest var a e =
@@ -80,14 +82,15 @@ listed-pop table listed rest var a e =
     let h = listed-last table listed rest var a e in record {
       below = λ j x g. let b = a.below j x (ap (λ xs. slice_get xs j) e ∙ get-more rest var j x g) in omega (arith, n, b);
       has = λ x t.
-          let u = unmarked-apart table var x h t in
+          let u = unseen-apart table var x h t in
           let g = a.has x u.1 in
           elim (get-parts rest var g.0 x (ap (λ xs. slice_get xs g.0) (sym e) ∙ g.1)) [ inl f ↦ (g.0, f) | inr s ↦ absurd (u.0 (sym s)) ];
     }
 
+-- where none is listed none is seen
 pub listed-clear : (table : List Bool) (listed : List ℕ) → AreListed table listed → listed ≡ [] → AreClear table
 listed-clear table listed a e x =
-    elim (cases_Bool (mark_at table x)) [
+    elim (cases_Bool (seen_at table x)) [
       | inr f ↦ f
       | inl t ↦ let g = a.has x t in absurd (none-some x (ap (λ xs. slice_get xs g.0) (sym e) ∙ g.1))
     ]
@@ -99,15 +102,16 @@ has-push (m ∷ ls) l k h = elim (or_cases (lit_eq m k) (has (ls ++ l ∷ []) k)
   | inr t ↦ elim (has-push ls l k t) [ inl y ↦ inl (or_right (lit_eq m k) (has ls k) y) | inr e ↦ inr e ]
 ]
 
--- the literals so far are false and marked, and each listed variable so far that is marked and has a value stands among them
+-- the literals so far are false and seen, and each listed variable so far that is seen and has a value stands among them
 pub record AreFalsified (m : ℕ → Bool) (ps : List Placed) (listed : List ℕ) (count : ℕ) (lits : List Lit) : Type 0 where
   pub sound : (l : Lit) → has lits l ≡ true → (m (var_of l) ≡ true) × (has (lits_of ps) (negation l) ≡ true)
   pub full : (j x : ℕ) → j < count → slice_get listed j ≡ Some x → m x ≡ true → has_var (lits_of ps) x ≡ true → has_var lits x ≡ true
 
 module _ (table : List Bool) (ps : List Placed) (listed : List ℕ) where
   abbrev m : ℕ → Bool
-  m = mark_at table
+  m = seen_at table
 
+  -- no literal was gathered yet
   pub falsified-start : AreFalsified m ps listed 0 []
   falsified-start = record { sound = λ l h. absurd (false≢true h); full = λ j x lt. absurd (omega arith) }
 
@@ -115,7 +119,7 @@ module _ (table : List Bool) (ps : List Placed) (listed : List ℕ) where
     here : (j x : ℕ) → i ≤ j → j < i + 1 → slice_get listed j ≡ Some x → get_or listed i d ≡ x
     here j x ge lt e = let s : i ≡ j = omega arith in get_or_from_slice_get listed i x d (ap (slice_get listed) s ∙ e)
 
-    -- the variable is not marked, or has no value
+    -- the variable is not seen, or has no value
     pub falsified-passed : IsFalseLit m ps (get_or listed i d) None → AreFalsified m ps listed (i + 1) lits
     falsified-passed none = record {
       sound = a.sound;
@@ -141,6 +145,7 @@ module _ (table : List Bool) (ps : List Placed) (listed : List ℕ) where
       ];
     })
 
+  -- what was gathered from the whole list is the seen clause
   pub falsified-all : (n : ℕ) (lits : List Lit) → IsConsistent (lits_of ps) → AreListed table listed → length listed ≤ n
       → AreFalsified m ps listed n lits → SameLits lits (falsified m ps)
   falsified-all n lits consistent l le a = falsified-same m ps lits consistent a.sound (λ x t o. let g = l.has x t in let w =

@@ -9,19 +9,19 @@ use Rattle.proof_log.proofs.Logs.{learnt_in-push}
 use Rattle.proof_log.specs.Usefulness.{IsSettled}
 use Rattle.clause_watch.specs.declared.trail.Placed.{Placed}
 use Rattle.clause_watch.specs.Trails.{lits_of, decisions, upto, next, HasLevels, free_left}
-use Rattle.clause_watch.specs.Watches.{WatchValue, IsWatch, Propagated, with_next, back}
+use Rattle.clause_watch.specs.Watches.{WatchValue, IsWatch, Propagated, with_next, backtrack}
 use Rattle.clause_watch.proofs.Propagated.{free_left-le, free_left-less, Grown-free}
 use Rattle.clause_watch.proofs.Kept.{upto-upto}
 use Rattle.clause_watch.proofs.Undone.{decisions-upto}
-use Rattle.clause_solver.specs.Orders.{OrderValue}
+use Rattle.clause_solver.specs.HeapValues.{HeapValue}
 use Rattle.clause_solver.specs.declared.search.Search.{Search}
 use Rattle.clause_solver.specs.declared.outcome.Outcome.{Outcome}
 use Rattle.clause_solver.specs.declared.outcome.Outcome.TheVariants as outcome
 use Rattle.clause_solver.specs.declared.choice.Move.TheVariants as move
-use Rattle.clause_solver.specs.Marks.{AreClear}
+use Rattle.clause_solver.specs.Seen.{AreClear}
 use Rattle.clause_solver.specs.Models.{IsModelOf}
 use Rattle.clause_solver.specs.Solvers.{SolverValue, IsInOrder, IsLogOf, Adds, Answers, IsFalseIn}
-use Rattle.clause_solver.specs.Searches.{value_of, IsSearch, IsAssumed, IsReady, IsStep, IsNext, IsFalseOn, Taught, measure_of}
+use Rattle.clause_solver.specs.Searches.{value_of, IsSearch, IsAssumed, IsReady, IsStep, IsNext, IsFalseOn, Learns, measure_of}
 use Rattle.clause_solver.proofs.Growing.{search-watch, search-turn, adds-watch, search-grown, adds-last, Adds-trans}
 use Rattle.clause_watch.proofs.Places.{upto-place, place-upto, get-front}
 use Rattle.clause_solver.proofs.ModelLaws.{false-here, model-meets}
@@ -48,17 +48,17 @@ order-same : (s t : SolverValue) (a : Option (ℕ × Lit)) → t.given ≡ s.giv
 order-same s t None e f h = tt
 order-same s t (Some a) e f h = (h.0 ∙ ap length (sym e), rw f h.1)
 
--- one more lesson is worth more than all variables
-lesson-less : (b l v f g : ℕ) → l + 1 ≤ b → g ≤ v → (b + 1 - (l + 1)) * (v + 1) + g < (b + 1 - l) * (v + 1) + f
-lesson-less b l v f g h k =
+-- one more learnt clause is worth more than all variables
+learnt-less : (b l v f g : ℕ) → l + 1 ≤ b → g ≤ v → (b + 1 - (l + 1)) * (v + 1) + g < (b + 1 - l) * (v + 1) + f
+learnt-less b l v f g h k =
     let n : ℕ = b - l in
     let e : b + 1 - (l + 1) ≡ n = omega arith in
     let d : b + 1 - l ≡ n + 1 = omega arith in
     rw (e, d) (omega arith)
 
--- after a lesson the search goes on
+-- after a clause was learnt the search goes on
 pub goes-on : (s t : Search) (a : Option (ℕ × Lit)) (budget : ℕ) → IsWatch s.watch.vars s.watch.clauses s.watch.placed → IsReady s a budget
-    → Taught s t → t.learnt ≤ budget → IsStep s t a budget None
+    → Learns s t → t.learnt ≤ budget → IsStep s t a budget None
 goes-on s t a budget right r h le =
     let n = h.search.learnt in
     let m = h.count in (
@@ -72,36 +72,36 @@ goes-on s t a budget right r h le =
       },
       subst (λ v. (budget + 1 - learnt_in t.log) * (v + 1) + free_left t.watch.placed v < measure_of budget s) (sym h.adds.vars)
           (subst (λ l. (budget + 1 - l) * (s.watch.vars + 1) + free_left t.watch.placed s.watch.vars < measure_of budget s) (sym m)
-          (lesson-less budget (learnt_in s.log) s.watch.vars (free_left s.watch.placed s.watch.vars) (free_left t.watch.placed s.watch.vars)
+          (learnt-less budget (learnt_in s.log) s.watch.vars (free_left s.watch.placed s.watch.vars) (free_left t.watch.placed s.watch.vars)
           (omega (arith, n, m, le)) (free_left-le t.watch.placed s.watch.vars))),
     )
 
 -- or its budget is spent
-pub spends : (s t u : Search) (a : Option (ℕ × Lit)) (budget : ℕ) → IsReady s a budget → Taught s t → budget < t.learnt →
+pub spends : (s t u : Search) (a : Option (ℕ × Lit)) (budget : ℕ) → IsReady s a budget → Learns s t → budget < t.learnt →
     u.watch ≡ t.watch → u.log ≡ t.log ++ line.Spent ∷ [] → u.inputs ≡ t.inputs → u.bits ≡ t.bits → u.given.items ≡ t.given.items
-    → u.model.items ≡ t.model.items → u.learnt ≡ t.learnt → u.marks ≡ t.marks → IsStep s u a budget (Some outcome.Spent)
-spends s t u a budget r h lt watch log inputs bits given model learnt marks =
+    → u.model.items ≡ t.model.items → u.learnt ≡ t.learnt → u.seen ≡ t.seen → IsStep s u a budget (Some outcome.Spent)
+spends s t u a budget r h lt watch log inputs bits given model learnt seen =
     let n = h.search.learnt in
     let m = h.count in
     let b = r.in_budget in
     let clauses : u.watch.clauses ≡ t.watch.clauses = ap (λ (w : WatchValue). w.clauses) watch in
     let vars : u.watch.vars ≡ t.watch.vars = ap (λ (w : WatchValue). w.vars) watch in
     let count : u.learnt ≡ t.learnt + 0 = omega (arith, learnt) in
-    let len : length u.marks ≡ length t.marks = rw marks refl in
-    let unmarked : AreClear u.marks = rw marks h.search.unmarked in (
+    let len : length u.seen ≡ length t.seen = rw seen refl in
+    let unseen : AreClear u.seen = rw seen h.search.unseen in (
       (
         Adds-trans (value_of false s) (value_of false t) (value_of false u) None (Some line.Spent) h.adds
-            (adds-last t u None line.Spent None h.search h.open_log clauses vars log inputs bits given model count len unmarked),
+            (adds-last t u None line.Spent None h.search h.open_log clauses vars log inputs bits given model count len unseen),
         rw log (let k = learnt_in-push t.log line.Spent in omega (arith, k, n, m, b, lt)),
       ),
-      search-grown t u None line.Spent None h.search h.open_log clauses vars log inputs bits given model count len unmarked (omega arith)
+      search-grown t u None line.Spent None h.search h.open_log clauses vars log inputs bits given model count len unseen (omega arith)
           (λ more. tt) tt (λ more. refl),
     )
 
 -- a decision
-pub decided : (s : Search) (w : WatchValue) (o : OrderValue) (l : Lit) (a : Option (ℕ × Lit)) (budget : ℕ) → IsReady s a budget
+pub decided : (s : Search) (w : WatchValue) (o : HeapValue) (l : Lit) (a : Option (ℕ × Lit)) (budget : ℕ) → IsReady s a budget
     → IsNext s.watch.placed s.watch.vars a (move.Decide l) → w ≡ with_next s.watch l None
-    → IsStep s (record s { watch = w; order = o }) a budget None
+    → IsStep s (record s { watch = w; heap = o }) a budget None
 decided s w o l a budget r h e =
     let clauses : w.clauses ≡ s.watch.clauses = ap (λ (v : WatchValue). v.clauses) e in
     let vars : w.vars ≡ s.watch.vars = ap (λ (v : WatchValue). v.vars) e in
@@ -111,7 +111,7 @@ decided s w o l a budget r h e =
         search = search-turn s w o clauses vars r.search;
         open_log = r.open_log;
         in_budget = r.in_budget;
-        in_order = order-same (value_of false s) (value_of false (record s { watch = w; order = o })) a refl vars r.in_order;
+        in_order = order-same (value_of false s) (value_of false (record s { watch = w; heap = o })) a refl vars r.in_order;
         assumed = subst (λ ps. IsAssumed ps a) (sym placed) h.2;
       },
       rw (vars, placed) (let f = free_left-less s.watch.placed (next s.watch.placed l None) s.watch.vars h.0 h.1 in omega (arith, f)),
@@ -123,11 +123,12 @@ false-in : (ps : List Placed) (n : ℕ) (cs : List (List Lit)) (model : List Boo
 false-in ps n cs model None right m h = tt
 false-in ps n cs model (Some a) right m h = false-here ps n model right.orderly m a.1 h
 
+-- a model is found where all variables have values and nothing follows
 pub finished : (s t : Search) (a : Option (ℕ × Lit)) (budget : ℕ) → IsWatch s.watch.vars s.watch.clauses s.watch.placed → IsReady s a budget
     → IsSettled (lits_of s.watch.placed) s.watch.clauses → IsNext s.watch.placed s.watch.vars a move.Finish →
     IsModelOf s.watch.placed s.watch.vars t.model.items → t.watch ≡ s.watch → t.log ≡ s.log → t.inputs ≡ s.inputs → t.bits ≡ s.bits
-    → t.given ≡ s.given → t.learnt ≡ s.learnt → t.marks ≡ s.marks → IsStep s t a budget (Some outcome.Model)
-finished s t a budget right r settled h m watch log inputs bits given learnt marks = (
+    → t.given ≡ s.given → t.learnt ≡ s.learnt → t.seen ≡ s.seen → IsStep s t a budget (Some outcome.Model)
+finished s t a budget right r settled h m watch log inputs bits given learnt seen = (
   (
     record {
       adds = record {
@@ -154,8 +155,8 @@ finished s t a budget right r settled h m watch log inputs bits given learnt mar
         subst IsLogOf v (record { settled = i.settled; sound = i.sound; useful = i.useful; knows = i.knows });
     inputs = rw (watch, inputs) r.search.inputs;
     learnt = rw log (learnt ∙ r.search.learnt);
-    marks = rw (watch, marks) r.search.marks;
-    unmarked = rw marks r.search.unmarked;
+    seen = rw (watch, seen) r.search.seen;
+    unseen = rw seen r.search.unseen;
   },
 )
 
@@ -177,6 +178,7 @@ Answers-after a b c assumption budget outcome.Model f h = (
 Answers-after a b c assumption budget outcome.Refuted f h = ((h.0.0, h.0.1, Adds-trans a b c _ (Some h.0.0) f h.0.2), h.1, h.2)
 Answers-after a b c assumption budget outcome.Spent f h = (Adds-trans a b c None (Some line.Spent) f h.0, h.1)
 
+-- a step after a propagation is a step of both
 pub IsStep-after : (s t u : Search) (a : Option (ℕ × Lit)) (budget : ℕ) (o : Option Outcome)
     → Adds (value_of false s) (value_of false t) None None → measure_of budget t ≤ measure_of budget s → IsStep t u a budget o
     → IsStep s u a budget o
@@ -192,9 +194,11 @@ module _ (s : Search) (w : WatchValue) (a : Option (ℕ × Lit)) (budget : ℕ) 
   vars : w.vars ≡ s.watch.vars
   vars = p.grown.same_vars
 
+  -- propagation adds no line
   pub adds-propagated : Adds (value_of false s) (value_of false after) None None
   adds-propagated = adds-watch s w p.same_clauses vars
 
+  -- after propagation the loop goes on from a right state
   pub ready-propagated : IsReady after a budget
   ready-propagated = record {
     search = search-watch s w p.same_clauses vars r.search;
@@ -205,17 +209,18 @@ module _ (s : Search) (w : WatchValue) (a : Option (ℕ × Lit)) (budget : ℕ) 
         (assumed-grown s.watch.placed p.grown.more a (ap decisions (sym p.grown.is) ∙ p.grown.same_depth) r.assumed);
   }
 
+  -- propagation raises no measure
   pub measure-propagated : measure_of budget after ≤ measure_of budget s
   measure-propagated = rw (vars, p.grown.is) (let f = Grown-free s.watch.clauses s.watch.vars s.watch.placed p.grown.more p.grown.each in
       omega (arith, f))
 
--- going back to level 0
-pub started : (s : Search) (w : WatchValue) (o : OrderValue) (a : Option (ℕ × Lit)) (budget : ℕ) → IsSearch s → IsOpen s.log
-    → learnt_in s.log ≤ budget → IsInOrder (value_of false s) a → w ≡ back s.watch 0
+-- backtracking to level 0
+pub started : (s : Search) (w : WatchValue) (o : HeapValue) (a : Option (ℕ × Lit)) (budget : ℕ) → IsSearch s → IsOpen s.log
+    → learnt_in s.log ≤ budget → IsInOrder (value_of false s) a → w ≡ backtrack s.watch 0
     → decisions w.placed ≡ min (decisions s.watch.placed) 0 →
-    Adds (value_of false s) (value_of false (record s { watch = w; order = o })) None None
-    × IsReady (record s { watch = w; order = o }) a budget
-started s w o a budget i p b order e d =
+    Adds (value_of false s) (value_of false (record s { watch = w; heap = o })) None None
+    × IsReady (record s { watch = w; heap = o }) a budget
+started s w o a budget i p b heap e d =
     let clauses : w.clauses ≡ s.watch.clauses = ap (λ (v : WatchValue). v.clauses) e in
     let vars : w.vars ≡ s.watch.vars = ap (λ (v : WatchValue). v.vars) e in (
       adds-watch s w clauses vars,
@@ -223,7 +228,7 @@ started s w o a budget i p b order e d =
         search = search-turn s w o clauses vars i;
         open_log = p;
         in_budget = b;
-        in_order = order-same (value_of false s) (value_of false (record s { watch = w; order = o })) a refl vars order;
+        in_order = order-same (value_of false s) (value_of false (record s { watch = w; heap = o })) a refl vars heap;
         assumed = assumed-none w.placed a (omega (arith, d));
       },
     )

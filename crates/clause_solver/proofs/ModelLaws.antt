@@ -18,13 +18,15 @@ use Rattle.clause_watch.proofs.Meaning.{value}
 use Rattle.clause_solver.specs.Models.{values_in, HaveValues, IsModelOf}
 use Rattle.clause_watch.proofs.Places.{has-place, place-below}
 
+-- a variable with a value stands on the trail
 pub value-given : (ps : List Placed) (x : ℕ) (b : Bool) → value_in ps x ≡ Some b → has_var (lits_of ps) x ≡ true
-value-given ps x b e = go (placed_of ps x) refl e
+value-given ps x b e = by-option (placed_of ps x) refl e
   where
-    go : (o : Option Placed) → placed_of ps x ≡ o → value o ≡ Some b → has_var (lits_of ps) x ≡ true
-    go None q f = absurd (none-some b f)
-    go (Some t) q f = placed-has ps x t q
+    by-option : (o : Option Placed) → placed_of ps x ≡ o → value o ≡ Some b → has_var (lits_of ps) x ≡ true
+    by-option None q f = absurd (none-some b f)
+    by-option (Some t) q f = placed-has ps x t q
 
+-- one more variable has a value
 pub HaveValues-more : (ps : List Placed) (n : ℕ) → HaveValues ps n → has_var (lits_of ps) n ≡ true → HaveValues ps (n + 1)
 HaveValues-more ps n h t x lt = elim (cases_lt x n) [
   | inl below ↦ h x below
@@ -48,20 +50,23 @@ module _ (ps : List Placed) (n : ℕ) (model : List Bool) (o : IsOrderly n ps) (
       let below : var_of l < n = subst (λ (k : Lit). var_of k < n) q.3 (place-below n ps q.0 q.1 o.in_table q.2) in
       m.values (var_of l) below ∙ ap (λ b. unwrap_or b false) (has-value ps l o.apart h)
 
+  -- a literal of the trail is true in the model
   pub true-here : (l : Lit) → has (lits_of ps) l ≡ true → lit_true (values_in model) l ≡ true
-  true-here l h = rw (value-is l h) (go l.positive)
+  true-here l h = rw (value-is l h) (by-bool l.positive)
     where
-      go : (b : Bool) → cond b b (not b) ≡ true
-      go true = refl
-      go false = refl
+      by-bool : (b : Bool) → cond b b (not b) ≡ true
+      by-bool true = refl
+      by-bool false = refl
 
+  -- one whose negation stands there is false
   pub false-here : (l : Lit) → has (lits_of ps) (negation l) ≡ true → lit_true (values_in model) l ≡ false
-  false-here l h = rw (value-is (negation l) h) (go l.positive)
+  false-here l h = rw (value-is (negation l) h) (by-bool l.positive)
     where
-      go : (b : Bool) → cond b (not b) (not (not b)) ≡ false
-      go true = refl
-      go false = refl
+      by-bool : (b : Bool) → cond b (not b) (not (not b)) ≡ false
+      by-bool true = refl
+      by-bool false = refl
 
+  -- where nothing follows and all have values, the model meets the clauses
   pub model-meets : (cs : List (List Lit)) → HaveValues ps n → AllOver n cs → IsSettled (lits_of ps) cs → AllTrue (values_in model) cs
   model-meets [] v b s = tt
   model-meets (c ∷ cs) v b s = (

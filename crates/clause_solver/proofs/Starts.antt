@@ -7,7 +7,7 @@ use Rattle.proof_log.specs.declared.line.Line.{Line}
 use Rattle.proof_log.specs.declared.line.Line.TheVariants as line
 use Rattle.clause_watch.specs.Watches.{WatchValue}
 use Rattle.clause_solver.specs.declared.search.Search.{Search}
-use Rattle.clause_solver.specs.Marks.{AreClear}
+use Rattle.clause_solver.specs.Seen.{AreClear}
 use Rattle.clause_solver.specs.Solvers.{IsLogOf, start_of}
 use Rattle.clause_solver.specs.Searches.{value_of, IsSearch}
 
@@ -30,19 +30,22 @@ module _ (s : Clauses) (bits : ℕ) (t : Search)
     (watch : ◌≡◌ {A = WatchValue} t.watch (record { clauses = clauses_of s.entries; placed = []; vars = s.vars }))
     (log : t.log ≡ line.Header s.vars (length s.entries) bits ∷ []) (inputs : t.inputs ≡ length s.entries) (same : t.bits ≡ bits)
     (given : t.given.items ≡ []) (learnt : t.learnt ≡ 0) (model : t.model.items ≡ []) where
+  -- a solver at first, as callers see it
   pub value-start : value_of false t ≡ start_of s bits
   value-start = rw (watch, log, inputs, same, given, model) (let e : take (length s.entries) (clauses_of s.entries) ≡ clauses_of s.entries =
       take_all (length s.entries) (clauses_of s.entries) (omega (arith, length-clauses s.entries)) in rw e refl)
 
-  pub search-start : length t.marks ≡ s.vars → AreClear t.marks → IsSearch t
-  search-start marks unmarked = record {
+  -- its parts keep what they must
+  pub search-start : length t.seen ≡ s.vars → AreClear t.seen → IsSearch t
+  search-start seen unseen = record {
     log = subst IsLogOf (sym value-start) (IsLogOf-start s bits);
     inputs = rw (inputs, watch) (omega (arith, length-clauses s.entries));
     learnt = rw log learnt;
-    marks = rw watch marks;
-    unmarked = unmarked;
+    seen = rw watch seen;
+    unseen = unseen;
   }
 
+-- the log begins with its Header
 pub header-is : (old new : List Line) (v w n m bits : ℕ) → old ≡ [] → new ≡ old ++ line.Header v n bits ∷ [] → v ≡ w → n ≡ m
     → new ≡ line.Header w m bits ∷ []
 header-is old new v w n m bits a b e f = b ∙ rw (a, e, f) refl

@@ -18,29 +18,31 @@ use Rattle.clause_watch.specs.declared.trail.Placed.{Placed}
 use Rattle.clause_watch.specs.Trails.{lits_of, own, decisions}
 use Rattle.clause_watch.specs.Reasons.{IsReason, HasReason, IsFalse}
 use Rattle.clause_watch.specs.Watches.{WatchValue, IsWatch}
-use Rattle.clause_solver.specs.Marks.{mark_at, AreMarked, AreClear, NoneMarked, IsLastMarked, falsified, marks_after, Leads}
-use Rattle.clause_solver.specs.Lessons.{IsKnown, Resolves, IsTop, GoneBack, GoesBack, IsResolving, DerivesRest}
+use Rattle.clause_solver.specs.Seen.{seen_at, AreSeen, AreClear, NoneSeen, IsLastSeen, falsified, seen_after, Leads}
+use Rattle.clause_solver.specs.Learning.{IsKnown, Resolves, IsTop, ResolvesDown, ReachesUip, IsResolving, DerivesRest}
 use Rattle.clause_watch.proofs.Places.{has-place, place-has, place-reason, places-apart, levels-rise, level-most, consistent-from, has-front, take-place, place-take, has_var-lit}
-use Rattle.clause_solver.proofs.Resolving.{marks_after-parts, marks_after-from, falsified-agree, marks-resolve, Leads-push, marks-derive, falsified-parts}
+use Rattle.clause_solver.proofs.Resolving.{seen_after-parts, seen_after-from, falsified-agree, seen-resolve, Leads-push, seen-derive, falsified-parts}
 
--- the marks that the code of `resolve` sets
-pub resolves-from : (cs : List (List Lit)) (m1 m2 : List Bool) (l : Lit) (id : ℕ) (b : List Lit) → at_id cs id ≡ Some b → AreMarked m1 m2 b
+-- what the code of `resolve` sets
+pub resolves-from : (cs : List (List Lit)) (m1 m2 : List Bool) (l : Lit) (id : ℕ) (b : List Lit) → at_id cs id ≡ Some b → AreSeen m1 m2 b
     → var_of l < length m2 → Resolves cs m1 (set m2 (var_of l) false) l id
-resolves-from cs m1 m2 l id b known marked h c k x =
+resolves-from cs m1 m2 l id b known is_seen h c k x =
     let same : b ≡ c = same_Some b c (sym known ∙ k) in
     elim (cases_eq x (var_of l)) [
-      | inl e ↦ rw (eq-eqb x (var_of l) e) (subst (λ y. mark_at (set m2 (var_of l) false) y ≡ false) (sym e)
+      | inl e ↦ rw (eq-eqb x (var_of l) e) (subst (λ y. seen_at (set m2 (var_of l) false) y ≡ false) (sym e)
           (get_or-set_same m2 (var_of l) false false h))
-      | inr ne ↦ rw (ne_eqb x (var_of l) ne) (get_or-set_other m2 (var_of l) x false false ne ∙ marked x
-          ∙ ap (λ d. mark_at m1 x || has_var d x) same)
+      | inr ne ↦ rw (ne_eqb x (var_of l) ne) (get_or-set_other m2 (var_of l) x false false ne ∙ is_seen x
+          ∙ ap (λ d. seen_at m1 x || has_var d x) same)
     ]
 
 -- a place of the trail whose literal has a reason
 module _ (w : WatchValue) (right : IsWatch w.vars w.clauses w.placed) (at : ℕ) (p : Placed) (here : slice_get w.placed at ≡ Some p) (id : ℕ)
     (e : p.reason ≡ Some id) where
+  -- the reason of a place is a clause that holds its literal, and whose others are false before it
   pub cause : (c : List Lit) × (at_id w.clauses id ≡ Some c) × IsReason (take at w.placed) p.lit c
   cause = let r = place-reason w.clauses [] w.placed at p right.reasons here in subst (HasReason w.clauses (take at w.placed) p.lit) e r
 
+  -- the reason is a known clause
   pub reason-known : IsKnown w.clauses id
   reason-known = (cause.0, cause.1)
 
@@ -59,20 +61,21 @@ module _ (w : WatchValue) (right : IsWatch w.vars w.clauses w.placed) (at : ℕ)
             (f.0, f.1, omega (arith, f.2), f.3, ap var_of f.4 ∙ l.2)
       ]
 
+  -- no variable of the reason stands behind the place
   pub not-above : (k : ℕ) (q : Placed) → at < k → slice_get w.placed k ≡ Some q → has_var c (var_of q.lit) ≡ true → ⊥
   not-above k q lt f h = let j = in-front (var_of q.lit) h in
       places-apart w.placed j.0 k j.1 q right.orderly.apart (omega (arith, j.2, lt)) j.3 f j.4
 
-  module _ (m1 m2 : List Bool) (marked : mark_at m1 (var_of p.lit) ≡ true) (after : Resolves w.clauses m1 m2 p.lit id) where
-    pub now : (x : ℕ) → mark_at m2 x ≡ marks_after (mark_at m1) p.lit c x
+  module _ (m1 m2 : List Bool) (is_seen : seen_at m1 (var_of p.lit) ≡ true) (after : Resolves w.clauses m1 m2 p.lit id) where
+    pub now : (x : ℕ) → seen_at m2 x ≡ seen_after (seen_at m1) p.lit c x
     now = after c cause.1
 
-    pub step-none : (high : ℕ) → NoneMarked (mark_at m1) w.placed (at + 1) high → NoneMarked (mark_at m2) w.placed at high
+    pub step-none : (high : ℕ) → NoneSeen (seen_at m1) w.placed (at + 1) high → NoneSeen (seen_at m2) w.placed at high
     step-none high none k q lo hi f =
-        elim (cases_Bool (mark_at m2 (var_of q.lit))) [
+        elim (cases_Bool (seen_at m2 (var_of q.lit))) [
           | inr n ↦ n
           | inl y ↦
-              let a = marks_after-parts (mark_at m1) p.lit c (var_of q.lit) (sym (now (var_of q.lit)) ∙ y) in
+              let a = seen_after-parts (seen_at m1) p.lit c (var_of q.lit) (sym (now (var_of q.lit)) ∙ y) in
               absurd (elim (cases_lt at k) [
                 | inl lt ↦ elim a.1 [ inl t ↦ false≢true (sym (none k q (omega arith) hi f) ∙ t) | inr t ↦ not-above k q lt f t ]
                 | inr ge ↦ let same : at ≡ k = omega arith in
@@ -80,15 +83,15 @@ module _ (w : WatchValue) (right : IsWatch w.vars w.clauses w.placed) (at : ℕ)
               ])
         ]
 
-    pub step-kept : (j : ℕ) (q : Placed) → j < at → slice_get w.placed j ≡ Some q → mark_at m1 (var_of q.lit) ≡ true
-        → mark_at m2 (var_of q.lit) ≡ true
-    step-kept j q lt f t = now (var_of q.lit) ∙ marks_after-from (mark_at m1) p.lit c (var_of q.lit)
+    pub step-kept : (j : ℕ) (q : Placed) → j < at → slice_get w.placed j ≡ Some q → seen_at m1 (var_of q.lit) ≡ true
+        → seen_at m2 (var_of q.lit) ≡ true
+    step-kept j q lt f t = now (var_of q.lit) ∙ seen_after-from (seen_at m1) p.lit c (var_of q.lit)
         (places-apart w.placed j at q p right.orderly.apart lt f here) (inl t)
 
-    pub step-within : ((x : ℕ) → mark_at m1 x ≡ true → has_var (lits_of w.placed) x ≡ true) → (x : ℕ) → mark_at m2 x ≡ true
+    pub step-within : ((x : ℕ) → seen_at m1 x ≡ true → has_var (lits_of w.placed) x ≡ true) → (x : ℕ) → seen_at m2 x ≡ true
         → has_var (lits_of w.placed) x ≡ true
     step-within within x t =
-        let a = marks_after-parts (mark_at m1) p.lit c x (sym (now x) ∙ t) in
+        let a = seen_after-parts (seen_at m1) p.lit c x (sym (now x) ∙ t) in
         elim a.1 [
           | inl y ↦ within x y
           | inr y ↦ let j = in-front x y in subst (λ n. has_var (lits_of w.placed) n ≡ true) j.4
@@ -97,37 +100,38 @@ module _ (w : WatchValue) (right : IsWatch w.vars w.clauses w.placed) (at : ℕ)
 
     -- the resolution, on each trail that agrees up to this place
     pub step-resolvent : (end : ℕ) (ps : List Placed) → at < end → take end ps ≡ take end w.placed → IsConsistent (lits_of ps)
-        → IsResolvent (falsified (mark_at m1) ps) c (falsified (mark_at m2) ps) (negation p.lit)
+        → IsResolvent (falsified (seen_at m1) ps) c (falsified (seen_at m2) ps) (negation p.lit)
     step-resolvent end ps lt agree consistent =
         let there = λ (j : ℕ) (q : Placed) (h : j < end) (f : slice_get w.placed j ≡ Some q).
         (take-place end ps j q (ap (λ xs. slice_get xs j) agree ∙ place-take end w.placed j q h f)).1 in
-        subst (λ r. IsResolvent (falsified (mark_at m1) ps) c r (negation p.lit))
-        (sym (falsified-agree (mark_at m2) (marks_after (mark_at m1) p.lit c) ps now))
-        (marks-resolve (mark_at m1) ps p.lit c consistent (place-has ps at p (there at p lt here)) marked cause.2.stands
+        subst (λ r. IsResolvent (falsified (seen_at m1) ps) c r (negation p.lit))
+        (sym (falsified-agree (seen_at m2) (seen_after (seen_at m1) p.lit c) ps now))
+        (seen-resolve (seen_at m1) ps p.lit c consistent (place-has ps at p (there at p lt here)) is_seen cause.2.stands
         (λ l h ne. let f = has-front at w.placed (negation l) (cause.2.others l h ne) in
         rw (← f.4) (place-has ps f.0 f.1 (there f.0 f.1 (omega (arith, f.2, lt)) f.3))))
 
     pub step-leads : (end : ℕ) (ps : List Placed) (a : List Lit) (ids : List ℕ) → at < end → take end ps ≡ take end w.placed
-        → IsConsistent (lits_of ps) → Leads w.clauses a ids (falsified (mark_at m1) ps)
-        → Leads w.clauses a (ids ++ id ∷ []) (falsified (mark_at m2) ps)
+        → IsConsistent (lits_of ps) → Leads w.clauses a ids (falsified (seen_at m1) ps)
+        → Leads w.clauses a (ids ++ id ∷ []) (falsified (seen_at m2) ps)
     step-leads end ps a ids lt agree consistent leads =
-        Leads-push w.clauses a (falsified (mark_at m1) ps) c (falsified (mark_at m2) ps) ids id (negation p.lit) leads cause.1
+        Leads-push w.clauses a (falsified (seen_at m1) ps) c (falsified (seen_at m2) ps) ids id (negation p.lit) leads cause.1
         (step-resolvent end ps lt agree consistent)
 
--- the loop of `resolve_back`
+-- the loop of `resolve_to_first_uip`
 module _ (w : WatchValue) (right : IsWatch w.vars w.clauses w.placed) (old m1 : List Bool) (chain longer : List ℕ) (at : ℕ)
-    (g : GoneBack w old m1 chain longer at) where
+    (g : ResolvesDown w old m1 chain longer at) where
   p : Placed
   p = g.top.place
 
+  -- the place at the top is the one that was read
   pub top-place : (q : Placed) → slice_get w.placed at ≡ Some q → g.top.place ≡ q
   top-place q f = same_Some g.top.place q (sym g.top.here ∙ f)
 
-  module _ (before : ℕ) (b : Placed) (lt : before < at) (f : slice_get w.placed before ≡ Some b) (t : mark_at m1 (var_of b.lit) ≡ true)
-      (none : NoneMarked (mark_at m1) w.placed (before + 1) at) where
-    pub alone-from : (b.level ≡ g.top.place.level → ⊥) → GoesBack w old m1 chain longer at
+  module _ (before : ℕ) (b : Placed) (lt : before < at) (f : slice_get w.placed before ≡ Some b) (t : seen_at m1 (var_of b.lit) ≡ true)
+      (none : NoneSeen (seen_at m1) w.placed (before + 1) at) where
+    pub alone-from : (b.level ≡ g.top.place.level → ⊥) → ReachesUip w old m1 chain longer at
     alone-from ne = record {
-      back = g;
+      resolved = g;
       alone = λ k q h e y.
           let r = levels-rise 0 w.placed before at b g.top.place right.orderly.levels lt f g.top.here in
           let l = g.top.last in
@@ -151,28 +155,28 @@ module _ (w : WatchValue) (right : IsWatch w.vars w.clauses w.placed) (old m1 : 
 
     module _ (same : b.level ≡ g.top.place.level) (id : ℕ) (e : g.top.place.reason ≡ Some id) (m2 : List Bool)
         (after : Resolves w.clauses m1 m2 g.top.place.lit id) where
-      still : mark_at m2 (var_of b.lit) ≡ true
-      still = step-kept w right at g.top.place g.top.here id e m1 m2 g.top.marked after before b lt f t
+      still : seen_at m2 (var_of b.lit) ≡ true
+      still = step-kept w right at g.top.place g.top.here id e m1 m2 g.top.is_seen after before b lt f t
 
-      pub some-left : NoneMarked (mark_at m2) w.placed 0 at → ⊥
+      pub some-left : NoneSeen (seen_at m2) w.placed 0 at → ⊥
       some-left n = false≢true (sym (n before b (omega arith) lt f) ∙ still)
 
       pub step-back : (more : List ℕ) (next : ℕ) → more ≡ longer ++ id ∷ [] → length m2 ≡ length m1
-          → IsLastMarked (mark_at m2) w.placed at (Some next) → GoneBack w old m2 chain more next
+          → IsLastSeen (seen_at m2) w.placed at (Some next) → ResolvesDown w old m2 chain more next
       step-back more next q n last = record {
         ids = g.ids ++ id ∷ [];
         grown = q ∙ ap (λ xs. xs ++ id ∷ []) g.grown ∙ append_assoc chain g.ids (id ∷ []);
-        leads = step-leads w right at g.top.place g.top.here id e m1 m2 g.top.marked after (at + 1) w.placed
-            (falsified (mark_at old) w.placed) g.ids (omega arith) refl (consistent-from w.placed right.orderly.apart) g.leads;
+        leads = step-leads w right at g.top.place g.top.here id e m1 m2 g.top.is_seen after (at + 1) w.placed
+            (falsified (seen_at old) w.placed) g.ids (omega arith) refl (consistent-from w.placed right.orderly.apart) g.leads;
         top = record {
-          within = step-within w right at g.top.place g.top.here id e m1 m2 g.top.marked after g.top.within;
+          within = step-within w right at g.top.place g.top.here id e m1 m2 g.top.is_seen after g.top.within;
           place = last.0;
           here = last.1;
-          marked = last.3;
+          is_seen = last.3;
           above = λ k z lo hi y. elim (cases_lt k at) [
             | inl u ↦ last.4 k z lo u y
             | inr v ↦
-                step-none w right at g.top.place g.top.here id e m1 m2 g.top.marked after (length w.placed) g.top.above k z v hi y
+                step-none w right at g.top.place g.top.here id e m1 m2 g.top.is_seen after (length w.placed) g.top.above k z v hi y
           ];
           last = level-is;
         };
@@ -195,15 +199,17 @@ module _ (w : WatchValue) (right : IsWatch w.vars w.clauses w.placed) (old m1 : 
                 ]
               ]
 
-  pub none-alone : NoneMarked (mark_at m1) w.placed 0 at → GoesBack w old m1 chain longer at
-  none-alone n = record { back = g; alone = λ k q h e y. absurd (false≢true (sym (n k q (omega arith) h e) ∙ y)) }
+  -- where nothing is seen before it, the place is a unique implication point
+  pub none-alone : NoneSeen (seen_at m1) w.placed 0 at → ReachesUip w old m1 chain longer at
+  none-alone n = record { resolved = g; alone = λ k q h e y. absurd (false≢true (sym (n k q (omega arith) h e) ∙ y)) }
 
-pub GoneBack-refl : (w : WatchValue) (m : List Bool) (chain : List ℕ) (at : ℕ) → IsTop w m at → GoneBack w m m chain chain at
-GoneBack-refl w m chain at t = record { ids = []; grown = sym (append-nil chain); leads = λ l. refl; top = t; same = refl }
+pub ResolvesDown-refl : (w : WatchValue) (m : List Bool) (chain : List ℕ) (at : ℕ) → IsTop w m at → ResolvesDown w m m chain chain at
+ResolvesDown-refl w m chain at t = record { ids = []; grown = sym (append-nil chain); leads = λ l. refl; top = t; same = refl }
 
 -- the loop of `refute`
 module _ (w : WatchValue) (right : IsWatch w.vars w.clauses w.placed) (old m1 : List Bool) (chain longer : List ℕ) (end at : ℕ)
-    (g : IsResolving w old m1 chain longer end at) (before : ℕ) (last : IsLastMarked (mark_at m1) w.placed at (Some before)) where
+    (g : IsResolving w old m1 chain longer end at) (before : ℕ) (last : IsLastSeen (seen_at m1) w.placed at (Some before)) where
+  -- a decided literal is passed over
   pub pass-decided : last.0.reason ≡ None → IsResolving w old m1 chain longer end before
   pass-decided none = record {
     ids = g.ids;
@@ -222,20 +228,21 @@ module _ (w : WatchValue) (right : IsWatch w.vars w.clauses w.placed) (old m1 : 
     same = g.same;
   }
 
+  -- a literal with a reason is resolved away
   pub pass-resolved : (id : ℕ) (m2 : List Bool) (more : List ℕ) → last.0.reason ≡ Some id → Resolves w.clauses m1 m2 last.0.lit id
       → more ≡ longer ++ id ∷ [] → length m2 ≡ length m1 → IsResolving w old m2 chain more end before
   pass-resolved id m2 more e after q n =
       let below : before < end = let a = last.2 in let b = g.low in omega (arith, a, b) in record {
         ids = g.ids ++ id ∷ [];
         grown = q ∙ ap (λ xs. xs ++ id ∷ []) g.grown ∙ append_assoc chain g.ids (id ∷ []);
-        leads = λ ps agree consistent. step-leads w right before last.0 last.1 id e m1 m2 last.3 after end ps (falsified (mark_at old) ps)
+        leads = λ ps agree consistent. step-leads w right before last.0 last.1 id e m1 m2 last.3 after end ps (falsified (seen_at old) ps)
             g.ids below agree consistent (g.leads ps agree consistent);
         left = λ k z lo hi f y.
             elim (cases_lt k at) [
               | inl lt ↦ absurd (false≢true (sym (step-none w right before last.0 last.1 id e m1 m2 last.3 after at last.4 k z lo lt f)
                   ∙ y))
               | inr ge ↦
-                  let a = marks_after-parts (mark_at m1) last.0.lit (c w right before last.0 last.1 id e) (var_of z.lit)
+                  let a = seen_after-parts (seen_at m1) last.0.lit (c w right before last.0 last.1 id e) (var_of z.lit)
                   (sym (now w right before last.0 last.1 id e m1 m2 last.3 after (var_of z.lit)) ∙ y) in
                   elim a.1 [
                     | inl t ↦ g.left k z ge hi f t
@@ -247,48 +254,52 @@ module _ (w : WatchValue) (right : IsWatch w.vars w.clauses w.placed) (old m1 : 
         same = n ∙ g.same;
       }
 
--- the same, as the code of `resolve_back` has it
+-- the same, as the code of `resolve_to_first_uip` has it
 module _ (w : WatchValue) (right : IsWatch w.vars w.clauses w.placed) (old m1 : List Bool) (chain longer : List ℕ) (at : ℕ)
-    (g : GoneBack w old m1 chain longer at)
-    (before : ℕ) (b p : Placed) (last : IsLastMarked (mark_at m1) w.placed at (Some before)) (f : slice_get w.placed before ≡ Some b)
+    (g : ResolvesDown w old m1 chain longer at)
+    (before : ℕ) (b p : Placed) (last : IsLastSeen (seen_at m1) w.placed at (Some before)) (f : slice_get w.placed before ≡ Some b)
     (here : slice_get w.placed at ≡ Some p) where
   same-top : g.top.place ≡ p
   same-top = same_Some g.top.place p (sym g.top.here ∙ here)
 
-  mark-b : mark_at m1 (var_of b.lit) ≡ true
-  mark-b = subst (λ (x : Placed). mark_at m1 (var_of x.lit) ≡ true) (same_Some last.0 b (sym last.1 ∙ f)) last.3
+  see-b : seen_at m1 (var_of b.lit) ≡ true
+  see-b = subst (λ (x : Placed). seen_at m1 (var_of x.lit) ≡ true) (same_Some last.0 b (sym last.1 ∙ f)) last.3
 
-  pub code-alone : (b.level ≡ p.level → ⊥) → GoesBack w old m1 chain longer at
-  code-alone ne = alone-from w right old m1 chain longer at g before b last.2 f mark-b last.4
+  -- the place before is of a lower level, so this one is a unique implication point
+  pub code-alone : (b.level ≡ p.level → ⊥) → ReachesUip w old m1 chain longer at
+  code-alone ne = alone-from w right old m1 chain longer at g before b last.2 f see-b last.4
       (λ e. ne (e ∙ ap (λ (x : Placed). x.level) same-top))
 
+  -- a literal with another of its level before it was not decided
   pub code-reason : b.level ≡ p.level → p.reason ≡ None → ⊥
-  code-reason e n = has-reason w right old m1 chain longer at g before b last.2 f mark-b last.4 (e
+  code-reason e n = has-reason w right old m1 chain longer at g before b last.2 f see-b last.4 (e
       ∙ ap (λ (x : Placed). x.level) (sym same-top)) (ap (λ (x : Placed). x.reason) same-top ∙ n)
 
   module _ (e : b.level ≡ p.level) (id : ℕ) (r : p.reason ≡ Some id) (m2 : List Bool) (after : Resolves w.clauses m1 m2 p.lit id) where
     after-top : Resolves w.clauses m1 m2 g.top.place.lit id
     after-top = subst (λ (x : Placed). Resolves w.clauses m1 m2 x.lit id) (sym same-top) after
 
-    pub code-left : NoneMarked (mark_at m2) w.placed 0 at → ⊥
-    code-left = some-left w right old m1 chain longer at g before b last.2 f mark-b last.4 (e ∙ ap (λ (x : Placed). x.level) (sym same-top))
+    pub code-left : NoneSeen (seen_at m2) w.placed 0 at → ⊥
+    code-left = some-left w right old m1 chain longer at g before b last.2 f see-b last.4 (e ∙ ap (λ (x : Placed). x.level) (sym same-top))
         id (ap (λ (x : Placed). x.reason) same-top ∙ r) m2 after-top
 
     pub code-back : (more : List ℕ) (next : ℕ) → more ≡ longer ++ id ∷ [] → length m2 ≡ length m1
-        → IsLastMarked (mark_at m2) w.placed at (Some next) → GoneBack w old m2 chain more next
-    code-back = step-back w right old m1 chain longer at g before b last.2 f mark-b last.4 (e ∙ ap (λ (x : Placed). x.level) (sym same-top))
+        → IsLastSeen (seen_at m2) w.placed at (Some next) → ResolvesDown w old m2 chain more next
+    code-back = step-back w right old m1 chain longer at g before b last.2 f see-b last.4 (e ∙ ap (λ (x : Placed). x.level) (sym same-top))
         id (ap (λ (x : Placed). x.reason) same-top ∙ r) m2 after-top
 
 -- the same, as the code of `refute` has it
 module _ (w : WatchValue) (right : IsWatch w.vars w.clauses w.placed) (old m1 : List Bool) (chain longer : List ℕ) (end at : ℕ)
-    (g : IsResolving w old m1 chain longer end at) (before : ℕ) (p : Placed) (last : IsLastMarked (mark_at m1) w.placed at (Some before))
+    (g : IsResolving w old m1 chain longer end at) (before : ℕ) (p : Placed) (last : IsLastSeen (seen_at m1) w.placed at (Some before))
     (f : slice_get w.placed before ≡ Some p) where
   same-last : last.0 ≡ p
   same-last = same_Some last.0 p (sym last.1 ∙ f)
 
+  -- the code passes over a decided literal
   pub code-decided : p.reason ≡ None → IsResolving w old m1 chain longer end before
   code-decided n = pass-decided w right old m1 chain longer end at g before last (ap (λ (x : Placed). x.reason) same-last ∙ n)
 
+  -- the code resolves a literal away
   pub code-resolved : (id : ℕ) (m2 : List Bool) (more : List ℕ) → p.reason ≡ Some id → Resolves w.clauses m1 m2 p.lit id
       → more ≡ longer ++ id ∷ [] → length m2 ≡ length m1 → IsResolving w old m2 chain more end before
   code-resolved id m2 more r after = pass-resolved w right old m1 chain longer end at g before last id m2 more
@@ -299,27 +310,28 @@ known-below n id cs c i b e = (clause-in n cs (id - 1) c i b (at_id-get cs id c 
 
 -- what `refute` has in the end
 pub refuted : (w : WatchValue) (clear old new : List Bool) (id end at : ℕ) (longer : List ℕ) (c : List Lit) → at_id w.clauses id ≡ Some c
-    → AreClear clear → AreMarked clear old c → IsResolving w old new (id ∷ []) longer end at → NoneMarked (mark_at new) w.placed 0 at
+    → AreClear clear → AreSeen clear old c → IsResolving w old new (id ∷ []) longer end at → NoneSeen (seen_at new) w.placed 0 at
     → DerivesRest w id end longer
-refuted w clear old new id end at longer c known unmarked marked g none ps agree consistent false-here stated leaves =
+refuted w clear old new id end at longer c known unseen is_seen g none ps agree consistent false-here stated leaves =
     let f : IsFalse ps c = subst (IsFalse ps) (same_Some false-here.0 c (sym false-here.1 ∙ known)) false-here.2 in
     subst (λ xs. IsDerived w.clauses xs stated) (sym g.grown)
-    (marks-derive w.clauses ps (mark_at old) (mark_at new) id c stated g.ids known consistent f
-    (λ x. marked x ∙ ap (λ b. b || has_var c x) (unmarked x))
+    (seen-derive w.clauses ps (seen_at old) (seen_at new) id c stated g.ids known consistent f
+    (λ x. is_seen x ∙ ap (λ b. b || has_var c x) (unseen x))
     (g.leads ps agree consistent)
     (λ l h.
-    let a = falsified-parts (mark_at new) ps l h in
+    let a = falsified-parts (seen_at new) ps l h in
     let q = has-place ps (negation l) a.1 in
     let v : var_of q.1.lit ≡ var_of l = ap var_of q.3 in
     let s : has stated (negation q.1.lit) ≡ true = leaves q.0 q.1 q.2 (λ lt.
     let there = (take-place end w.placed q.0 q.1 (ap (λ xs. slice_get xs q.0) (sym agree) ∙ place-take end ps q.0 q.1 lt q.2)).1 in
-    let t : mark_at new (var_of q.1.lit) ≡ true = ap (mark_at new) v ∙ a.0 in
+    let t : seen_at new (var_of q.1.lit) ≡ true = ap (seen_at new) v ∙ a.0 in
     elim (cases_lt q.0 at) [
       | inl low ↦ absurd (false≢true (sym (none q.0 q.1 (omega arith) low there) ∙ t))
       | inr ge ↦ g.left q.0 q.1 ge lt there t
     ]) in
     ap (has stated) (sym (ap negation q.3 ∙ negation-twice l)) ∙ s))
 
+-- nothing was resolved yet
 pub IsResolving-start : (w : WatchValue) (m : List Bool) (chain : List ℕ) (end : ℕ) → IsResolving w m m chain chain end end
 IsResolving-start w m chain end = record {
   ids = [];

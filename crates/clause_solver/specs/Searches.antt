@@ -9,8 +9,8 @@ use Rattle.clause_watch.specs.Trails.{lits_of, decisions, upto, next, free_left}
 use Rattle.clause_watch.specs.Watches.{WatchValue}
 use Rattle.clause_solver.specs.declared.search.Search.{Search}
 use Rattle.proof_log.specs.Derivations.{IsDerived}
-use Rattle.clause_solver.specs.Lessons.{DerivesRest}
-use Rattle.clause_solver.specs.Marks.{AreClear}
+use Rattle.clause_solver.specs.Learning.{DerivesRest}
+use Rattle.clause_solver.specs.Seen.{AreClear}
 use Rattle.clause_solver.specs.declared.outcome.Outcome.{Outcome}
 use Rattle.clause_solver.specs.declared.choice.Move.{Move}
 use Rattle.clause_solver.specs.declared.choice.Move.TheVariants as move
@@ -33,8 +33,8 @@ pub record IsSearch (s : Search) : Type 0 where
   pub log : IsLogOf (value_of false s)
   pub inputs : s.inputs ≤ length s.watch.clauses
   pub learnt : s.learnt ≡ learnt_in s.log
-  pub marks : length s.marks ≡ s.watch.vars
-  pub unmarked : AreClear s.marks
+  pub seen : length s.seen ≡ s.watch.vars
+  pub unseen : AreClear s.seen
 
 -- above level 0 the assumed literal is false from level 1 on
 abbrev pub IsAssumed : List Placed → Option (ℕ × Lit) → Type 0
@@ -80,8 +80,8 @@ pub record IsReady (s : Search) (assumption : Option (ℕ × Lit)) (budget : ℕ
 abbrev pub measure_of : ℕ → Search → ℕ
 measure_of budget s = (budget + 1 - learnt_in s.log) * (s.watch.vars + 1) + free_left s.watch.placed s.watch.vars
 
--- a lesson was learnt: one more line and clause, and the trail went back
-pub record Taught (old new : Search) : Type 0 where
+-- a clause was learnt: one more line and clause, and the trail went back
+pub record Learns (old new : Search) : Type 0 where
   pub search : IsSearch new
   pub adds : Adds (value_of false old) (value_of false new) None None
   pub open_log : IsOpen new.log

@@ -5,22 +5,22 @@ ghost use Rattle.std.specs.Option.{option_map};
 ghost use Rattle.clause_store.specs.Lits.{var_of, negation};
 ghost use Rattle.proof_log.specs.Known.{has_var};
 ghost use Rattle.clause_watch.specs.Trails.{lits_of, value_in, decisions};
-ghost use Rattle.clause_watch.specs.Watches.{back};
-ghost use Rattle.clause_solver.specs.Marks.{mark_at};
+ghost use Rattle.clause_watch.specs.Watches.{backtrack};
+ghost use Rattle.clause_solver.specs.Seen.{seen_at};
 ghost use Rattle.clause_solver.specs.Models.{HaveValues, is_open, IsModelOf};
 ghost use Rattle.clause_solver.specs.Searches.{IsOver, IsAssumed, IsNext, OnlyLeaves, stated};
 
-use crate::Order;
+use crate::variable_heap::VariableHeap;
 use clause_store::{Lit, Var};
 use clause_watch::Watch;
 use std::alloc::{AllocError, Global};
 
 /// The most active variable of those that wait and have no value. Those before it wait no longer.
-fn active(watch: &Watch, order: &mut Order) -> Option<usize>
+fn active(watch: &Watch, heap: &mut VariableHeap) -> Option<usize>
     ensures in_range { IfSome result (λ x. x < watch.now.vars) }
     ensures free { IfSome result (λ x. has_var (lits_of watch.now.placed) x ≡ false) }
 {
-    while let Some(x) = order.next() {
+    while let Some(x) = heap.next() {
         if x < watch.vars() {
             match watch.value(Var(x as u64)) {
                 Some(_) => {}
@@ -49,9 +49,9 @@ fn negated_first(watch: &Watch, first: &[Lit]) -> Option<Lit>
     None
 }
 
-/// The negation of the first of some literals without value; or else a variable without value, with its last one: the most
-/// active of those that wait, or the lowest.
-pub fn choose(watch: &Watch, order: &mut Order, first: &[Lit]) -> Option<Lit>
+/// The negation of the first of some literals without value; or else a variable without value, with
+/// its last one: the most active of those that wait, or the lowest.
+pub fn choose(watch: &Watch, heap: &mut VariableHeap, first: &[Lit]) -> Option<Lit>
     ensures in_range { IfSome result (λ l. var_of l < watch.now.vars) }
     ensures free { IfSome result (λ l. has_var (lits_of watch.now.placed) (var_of l) ≡ false) }
     ensures none { IfNone result (HaveValues watch.now.placed watch.now.vars) }
@@ -61,8 +61,8 @@ pub fn choose(watch: &Watch, order: &mut Order, first: &[Lit]) -> Option<Lit>
     if let Some(lit) = negated_first(watch, first) {
         return Some(lit);
     }
-    if let Some(x) = active(watch, order) {
-        let positive = order.phase(x);
+    if let Some(x) = active(watch, heap) {
+        let positive = heap.phase(x);
         return Some(Lit {
             var: Var(x as u64),
             positive,
@@ -73,7 +73,7 @@ pub fn choose(watch: &Watch, order: &mut Order, first: &[Lit]) -> Option<Lit>
         match watch.value(var) {
             Some(_) => {}
             None => {
-                let positive = order.phase(x);
+                let positive = heap.phase(x);
                 return Some(Lit { var, positive });
             }
         }
@@ -89,7 +89,12 @@ pub enum Move {
 }
 
 /// The assumed literal is decided before all others, at false.
-pub fn next(watch: &Watch, order: &mut Order, first: &[Lit], assumption: Option<(u64, Lit)>) -> Move
+pub fn next(
+    watch: &Watch,
+    heap: &mut VariableHeap,
+    first: &[Lit],
+    assumption: Option<(u64, Lit)>,
+) -> Move
     requires in_range { IsOver watch.now.vars assumption }
     requires assumed { IsAssumed watch.now.placed assumption }
     ensures { IsNext watch.now.placed watch.now.vars assumption result }
@@ -105,7 +110,7 @@ pub fn next(watch: &Watch, order: &mut Order, first: &[Lit], assumption: Option<
             }
         }
     }
-    match choose(watch, order, first) {
+    match choose(watch, heap, first) {
         Some(lit) => Move::Decide(lit),
         None => Move::Finish,
     }
@@ -129,7 +134,7 @@ pub fn is_closing(watch: &Watch, assumption: Option<(u64, Lit)>) -> bool
 }
 
 /// The variables whose level is above the given one wait again.
-fn release_above(watch: &Watch, order: &mut Order, level: u64) {
+fn reinsert_above(watch: &Watch, heap: &mut VariableHeap, level: u64) {
     let mut at = watch.trail().len();
     while at > 0 {
         at -= 1;
@@ -137,28 +142,29 @@ fn release_above(watch: &Watch, order: &mut Order, level: u64) {
         if last.level <= level {
             return;
         }
-        order.release(last.lit.var.0 as usize, last.lit.positive);
+        heap.reinsert(last.lit.var.0 as usize, last.lit.positive);
     }
 }
 
-/// Goes back to a level.
-pub fn go_back(watch: &mut Watch, order: &mut Order, level: u64)
-    ensures kept { watch.new ≡ back watch.old level }
+/// Backtracks to a level.
+pub fn backtrack(watch: &mut Watch, heap: &mut VariableHeap, level: u64)
+    ensures kept { watch.new ≡ backtrack watch.old level }
     ensures depth { decisions watch.new.placed ≡ min (decisions watch.old.placed) level }
 {
-    release_above(watch, order, level);
+    reinsert_above(watch, heap, level);
     watch.undo(level);
 }
 
-/// Goes back to level 0. Each of these literals is decided soon, at false, unless what is learnt speaks against it.
-pub fn lean(watch: &mut Watch, order: &mut Order, lits: &[Lit])
-    ensures { watch.new ≡ back watch.old 0 }
+/// Backtracks to level 0. Each of these literals is decided soon, at false, unless what is learnt
+/// speaks against it.
+pub fn prefer_false(watch: &mut Watch, heap: &mut VariableHeap, lits: &[Lit])
+    ensures { watch.new ≡ backtrack watch.old 0 }
 {
-    go_back(watch, order, 0);
+    backtrack(watch, heap, 0);
     for lit in lits {
         let var = lit.var.0 as usize;
-        order.release(var, !lit.positive);
-        order.touch(var);
+        heap.reinsert(var, !lit.positive);
+        heap.bump(var);
     }
 }
 

@@ -8,16 +8,17 @@ ghost use Rattle.clause_watch.specs.Trails.{decisions, lits_of};
 ghost use Rattle.clause_watch.specs.Watches.{IsWatch};
 ghost use Rattle.clause_watch.specs.Reasons.{NamesFalse};
 ghost use Rattle.clause_solver.specs.Solvers.{IsLogOf, Adds, Answers, IsInOrder, Refutes};
-ghost use Rattle.clause_solver.specs.Lessons.{IsKnown};
-ghost use Rattle.clause_solver.specs.Searches.{value_of, IsSearch, IsReady, IsAssumed, IsTrueOn, Taught, Rests, IsClosed, IsFixed, IsStep, IsPlaceOf};
+ghost use Rattle.clause_solver.specs.Learning.{IsKnown};
+ghost use Rattle.clause_solver.specs.Searches.{value_of, IsSearch, IsReady, IsAssumed, IsTrueOn, Learns, Rests, IsClosed, IsFixed, IsStep, IsPlaceOf};
 ghost use Rattle.proof_log.specs.Known.{has_var};
 ghost use Rattle.proof_log.specs.Usefulness.{IsSettled};
 
-use crate::analysis::{Lesson, learn, refute};
-use crate::choice::{Move, go_back, is_closing, next, values_of};
-use crate::marks::Marks;
-use crate::pace::Pace;
-use crate::{Order, Outcome};
+use crate::Outcome;
+use crate::analysis::{Learnt, analyze, refute};
+use crate::choice::{Move, backtrack, is_closing, next, values_of};
+use crate::restarts::Restarts;
+use crate::seen::Seen;
+use crate::variable_heap::VariableHeap;
 use clause_store::{Clause, Lit, Var};
 use clause_watch::Watch;
 use plain_data::List;
@@ -40,40 +41,40 @@ pub struct Search {
     pub learnt: u64,
     /// The last model.
     pub model: Vec<bool>,
-    /// The marks of the analysis, none between two calls.
-    pub marks: Marks,
+    /// What the analysis has seen, nothing between two calls.
+    pub seen: Seen,
     /// Which variable is decided next.
-    pub order: Order,
-    /// When the search begins again.
-    pub pace: Pace,
+    pub heap: VariableHeap,
+    /// When the search restarts.
+    pub restarts: Restarts,
     /// What is decided before all else, at false.
     pub first: List<Lit>,
 }
 
 impl Search {
-    /// Learns from a false clause above level 0, and goes back, at times to the begin.
-    fn teach(&mut self, conflict: u64) -> Result<(), AllocError>
+    /// Learns from a false clause above level 0, and backjumps, or restarts.
+    fn learn(&mut self, conflict: u64) -> Result<(), AllocError>
         requires right { IsWatch self.old.watch.vars self.old.watch.clauses self.old.watch.placed }
         requires search { IsSearch self.old }
         requires open_log { IsOpen self.old.log }
         requires conflict { NamesFalse self.old.watch.placed self.old.watch.clauses conflict }
         requires above { 0 < decisions self.old.watch.placed }
-        ensures { OnOk result (Taught self.old self.new) }
+        ensures { OnOk result (Learns self.old self.new) }
     {
-        let Lesson {
+        let Learnt {
             clause,
             chain,
-            level,
-        } = learn(
+            backjump,
+        } = analyze(
             self.alloc,
             &self.watch,
-            &mut self.marks,
-            &mut self.order,
+            &mut self.seen,
+            &mut self.heap,
             conflict,
         )?;
-        self.order.fade();
-        let back = self.pace.level(level);
-        go_back(&mut self.watch, &mut self.order, back);
+        self.heap.decay();
+        let level = self.restarts.level(backjump);
+        backtrack(&mut self.watch, &mut self.heap, level);
         let id = self.watch.next_id();
         self.watch.add(&clause)?;
         self.log.push(Line::Learnt { id, clause, chain })?;
@@ -101,8 +102,8 @@ impl Search {
         let chain = refute(
             self.alloc,
             &self.watch,
-            &mut self.marks,
-            &mut self.order,
+            &mut self.seen,
+            &mut self.heap,
             id,
             end,
         )?;
@@ -112,7 +113,7 @@ impl Search {
                 Ok(())
             }
             Some((bit, lit)) => {
-                go_back(&mut self.watch, &mut self.order, 0);
+                backtrack(&mut self.watch, &mut self.heap, 0);
                 let id = self.watch.next_id();
                 let clause = Clause::single(self.alloc, lit)?;
                 self.watch.add(&clause)?;
@@ -160,7 +161,7 @@ impl Search {
             self.close(assumption, conflict, end)?;
             return Ok(Some(Outcome::Refuted));
         }
-        self.teach(conflict)?;
+        self.learn(conflict)?;
         if self.learnt > budget {
             self.log.push(Line::Spent)?;
             return Ok(Some(Outcome::Spent));
@@ -180,7 +181,7 @@ impl Search {
     {
         match next(
             &self.watch,
-            &mut self.order,
+            &mut self.heap,
             self.first.as_slice(),
             assumption,
         ) {
@@ -227,7 +228,7 @@ impl Search {
         requires in_order { IsInOrder (value_of false self.old) assumption }
         ensures { IfOk result (λ o. IsStep self.old self.new assumption budget (Some o)) }
     {
-        go_back(&mut self.watch, &mut self.order, 0);
+        backtrack(&mut self.watch, &mut self.heap, 0);
         loop {
             if let Some(outcome) = self.step(assumption, budget)? {
                 return Ok(outcome);
@@ -243,7 +244,7 @@ impl Search {
         requires in_range { var_of lit < self.old.watch.vars }
         ensures { OnOk result (IsFixed self.old self.new bit lit) }
     {
-        go_back(&mut self.watch, &mut self.order, 0);
+        backtrack(&mut self.watch, &mut self.heap, 0);
         let id = self.watch.next_id();
         let clause = Clause::single(self.alloc, lit.negated())?;
         self.watch.add(&clause)?;
@@ -267,9 +268,9 @@ impl Search {
             given: _,
             learnt: _,
             model: _,
-            marks: _,
-            order: _,
-            pace: _,
+            seen: _,
+            heap: _,
+            restarts: _,
             first: _,
         } = self;
         log

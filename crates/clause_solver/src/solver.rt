@@ -5,11 +5,12 @@ ghost use Rattle.proof_log.specs.Lines.{IsOpen, learnt_in};
 ghost use Rattle.proof_log.specs.Known.{AllClauses, AllOver};
 ghost use Rattle.clause_solver.specs.Solvers.{IsLogOf, Answers, Fixes, IsInOrder, start_of};
 
-use crate::choice::lean;
-use crate::marks::Marks;
-use crate::pace::Pace;
+use crate::Outcome;
+use crate::choice::prefer_false;
+use crate::restarts::Restarts;
 use crate::search::Search;
-use crate::{Order, Outcome};
+use crate::seen::Seen;
+use crate::variable_heap::VariableHeap;
 use clause_store::{ClauseList, Lit};
 use clause_watch::Watch;
 use plain_data::List;
@@ -28,9 +29,10 @@ use std::marker::Model;
 ///                            +--- want of memory in any call --> failed: every call answers so
 /// ```
 ///
-/// `fix` and `solve` require an open log (`open_log`), the next bit (`next`, `in_order`), literals over
-/// the variables (`in_range`), and a budget that is not below what was learnt (`in_budget`).
-/// `decide_first`, `lean`, `log`, `learnt` and `model` may be called in any state; a failed solver promises of its log the lines alone.
+/// `fix` and `solve` require an open log (`open_log`), the next bit (`next`, `in_order`), literals
+/// over the variables (`in_range`), and a budget that is not below what was learnt (`in_budget`).
+/// `decide_first`, `prefer_false`, `log`, `learnt` and `model` may be called in any state; a failed
+/// solver promises of its log the lines alone.
 #[derive(Drop)]
 pub struct Solver {
     /// The search, whose invariant holds unless memory ran out.
@@ -58,8 +60,8 @@ impl Solver {
         ensures { IfOk result (λ s. s ≡ start_of clauses.now bits) }
     {
         let watch = Watch::new(alloc, clauses)?;
-        let marks = Marks::new(alloc, watch.vars())?;
-        let order = Order::new(alloc, watch.vars())?;
+        let seen = Seen::new(alloc, watch.vars())?;
+        let heap = VariableHeap::new(alloc, watch.vars())?;
         let mut log = Log::new(alloc);
         log.push(Line::Header {
             vars: clauses.vars(),
@@ -76,36 +78,39 @@ impl Solver {
                 given: Vec::new(alloc),
                 learnt: 0,
                 model: Vec::new(alloc),
-                marks,
-                order,
-                pace: Pace::new(),
+                seen,
+                heap,
+                restarts: Restarts::new(),
                 first: List::new(alloc),
             },
             failed: false,
         })
     }
 
-    /// From now on these literals are decided before all others, each at false, the first of them first.
+    /// From now on these literals are decided before all others, each at false, the first of them
+    /// first.
     ///
-    /// What is answered does not rest on it, but which model is found may. A literal whose variable is none of the list's
-    /// is passed over.
+    /// What is answered does not rest on it, but which model is found may. A literal whose variable
+    /// is none of the list's is passed over.
     pub fn decide_first(&mut self, lits: List<Lit>)
         ensures { self.new ≡ self.old }
     {
         self.search.first = lits;
     }
 
-    /// From now on these literals are decided soon, each at false, unless what is learnt speaks against it.
+    /// From now on these literals are decided soon, each at false, unless what is learnt speaks
+    /// against it.
     ///
-    /// What is answered does not rest on it, but which model is found may. A literal whose variable is none of the list's
-    /// is passed over.
-    pub fn lean(&mut self, lits: &[Lit])
+    /// What is answered does not rest on it, but which model is found may. A literal whose variable
+    /// is none of the list's is passed over.
+    pub fn prefer_false(&mut self, lits: &[Lit])
         ensures { self.new ≡ self.old }
     {
-        lean(&mut self.search.watch, &mut self.search.order, lits);
+        prefer_false(&mut self.search.watch, &mut self.search.heap, lits);
     }
 
-    /// Settles the next bit at 0: the negation of its literal is known from now on, and the log gets a Zero line.
+    /// Settles the next bit at 0: the negation of its literal is known from now on, and the log
+    /// gets a Zero line.
     pub fn fix(&mut self, bit: u64, lit: Lit) -> Result<(), AllocError>
         requires open_log { IsOpen self.old.lines }
         requires next { bit ≡ length self.old.given }
@@ -126,9 +131,10 @@ impl Solver {
 
     /// Looks for a model in which the assumed literal of the next bit is false.
     ///
-    /// `Model`: `model` meets all known clauses and the assumption. `Refuted`: the log's last line settles the
-    /// bit at 1, or without assumption derives the empty clause. `Spent`: one clause more than the budget was
-    /// learnt, and the log's last line says so. The lines before it are the old ones and learnt ones.
+    /// `Model`: `model` meets all known clauses and the assumption. `Refuted`: the log's last line
+    /// settles the bit at 1, or without assumption derives the empty clause. `Spent`: one clause
+    /// more than the budget was learnt, and the log's last line says so. The lines before it are
+    /// the old ones and learnt ones.
     pub fn solve(
         &mut self,
         assumption: Option<(u64, Lit)>,

@@ -49,6 +49,7 @@ pub map-step : {X Y : Type 0} (f : X → Y) (ks js : List Y) (xs : List X) (i : 
     → y ≡ f (slice_index_or xs i d) → js ++ map f (drop (i + 1) xs) ≡ ks ++ map f (drop i xs)
 map-step f ks js xs i d y h e g = rw (e, g, append_assoc) (sym (ap (λ zs. ks ++ zs) (at_drop_more (map f) xs i d h)))
 
+-- the numbers of all literals that were gone over
 pub map-done : {X Y : Type 0} (f : X → Y) (ks js : List Y) (xs : List X) (i : ℕ) → length xs ≤ i → ks ++ map f (drop i xs) ≡ js → ks ≡ js
 map-done f ks js xs i h e = sym (append-nil ks) ∙ rw (drop_of_length-le xs h) at e
 
@@ -56,6 +57,7 @@ pub cut-le : (from all : ℕ) (ends : List ℕ) → IsCut from ends all → from
 cut-le from all [] c = omega (arith, c)
 cut-le from all (to ∷ ends) c = let h = cut-le to all ends c.1 in omega (arith, c.0, h)
 
+-- one more end, not before the last
 pub cut-more : (from all more : ℕ) (ends : List ℕ) → all ≤ more → IsCut from ends all → IsCut from (ends ++ more ∷ []) more
 cut-more from all more [] h c = (omega (arith, c, h), refl)
 cut-more from all more (to ∷ ends) h c = (c.0, cut-more to all more ends h c.1)
@@ -122,6 +124,7 @@ start-le from all (to ∷ ends) zero c h = c.0
 start-le from all (to ∷ ends) (suc zero) c h = start-le to all ends zero c.1 (omega (arith, h))
 start-le from all (to ∷ ends) (suc (suc j)) c h = start-le to all ends (suc j) c.1 (omega (arith, h))
 
+-- each clause of a list is in order
 pub order-at : (es : List Entry) (k : ℕ) (e : Entry) → AllInOrder es → slice_get es k ≡ Some e → IsClause e.clause
 order-at [] k e o q = absurd (none-some e q)
 order-at (x ∷ es) zero e o q = subst (λ (y : Entry). IsClause y.clause) (same_Some x e q) o.0
@@ -134,6 +137,7 @@ AllInOrder-append (e ∷ es) fs a b = (a.0, AllInOrder-append es fs a.1 b)
 -- one clause more, by what each part became
 module _ (vars : ℕ) (ds es : List Demanded) (codes fs ends gs : List ℕ) (lits : List Lit) (label : Label) (k n : ℕ)
     (kept : IsKept vars ds codes ends) where
+  -- one more clause in the tables, as an entry
   pub entries-add : k ≡ length ends → es ≡ with_label ds k label → fs ≡ codes ++ codes_of lits → n ≡ length fs → gs ≡ ends ++ n ∷ []
       → entries_of es fs gs ≡ entries_of ds codes ends ++ record { clause = lits; label = label } ∷ []
   entries-add a b c d e =
@@ -143,6 +147,7 @@ module _ (vars : ℕ) (ds es : List Demanded) (codes fs ends gs : List ℕ) (lit
       rw zero-add (label-new (length ends) ds label kept.before) in
       rw (e, d, c, b, a, length-append codes (codes_of lits)) (rw (lits-codes lits, l) at new)
 
+  -- the tables stay right with it
   pub kept-add : AllBelow vars lits → IsClause lits → k ≡ length ends → es ≡ with_label ds k label → fs ≡ codes ++ codes_of lits
       → n ≡ length fs → gs ≡ ends ++ n ∷ [] → IsKept vars es fs gs
   kept-add below order a b c d e =
@@ -163,6 +168,7 @@ module _ (vars : ℕ) (ds : List Demanded) (codes ends : List ℕ) (kept : IsKep
   same : entries_of ds codes ends ≡ s.entries
   same = ap (λ (s : Clauses). s.entries) view
 
+  -- an id has a place in the tables
   pub place-kept : place < length ends
   place-kept = rw (← same, length-entries ds codes 0 0 ends) at within
 
@@ -172,12 +178,15 @@ module _ (vars : ℕ) (ds : List Demanded) (codes ends : List ℕ) (kept : IsKep
       let z : 0 + place ≡ place = omega arith in
       rw (n, ← same) (rw z at (entry-at ds codes 0 0 ends place place-kept))
 
+  -- the clause of an id, read from the tables
   pub clause-kept : at_id (clauses_of s.entries) id ≡ Some (lits_of_codes (part_of codes ends place))
   clause-kept = at_id-clause s.entries id _ entry-kept
 
+  -- its label
   pub label-kept : option_map (λ (e : Entry). e.label) (at_id s.entries id) ≡ Some (label_at ds place)
   label-kept = ap (option_map (λ (e : Entry). e.label)) entry-kept
 
+  -- it is in order
   pub order-kept : IsClause (lits_of_codes (part_of codes ends place))
   order-kept =
       let z : 0 + place ≡ place = omega arith in

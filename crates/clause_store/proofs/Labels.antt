@@ -16,6 +16,7 @@ AllBefore-append : (n : ℕ) (ds es : List Demanded) → AllBefore n ds → AllB
 AllBefore-append n [] es a b = b
 AllBefore-append n (d ∷ ds) es a b = (a.0, AllBefore-append n ds es a.1 b)
 
+-- the labels are of clauses that there are
 pub before-more : (n : ℕ) (ds : List Demanded) (l : Label) → AllBefore n ds → AllBefore (n + 1) (with_label ds n l)
 before-more n ds Structure a = AllBefore-le n (n + 1) ds (omega arith) a
 before-more n ds (Demand d) a = AllBefore-append (n + 1) ds _ (AllBefore-le n (n + 1) ds (omega arith) a) (omega arith, tt)
@@ -28,6 +29,7 @@ rising-push : (n d : ℕ) (ds : List Demanded) → AllBefore n ds → AreRising 
 rising-push n d [] a r = (tt, tt)
 rising-push n d (e ∷ ds) a r = (behind-more e.place n d ds a.0 r.0, rising-push n d ds a.1 r.1)
 
+-- they rise by place
 pub rising-more : (n : ℕ) (ds : List Demanded) (l : Label) → AllBefore n ds → AreRising ds → AreRising (with_label ds n l)
 rising-more n ds Structure a r = r
 rising-more n ds (Demand d) a r = rising-push n d ds a r
@@ -50,10 +52,12 @@ label-before : (k n d : ℕ) (ds : List Demanded) → k < n → label_at (ds ++ 
 label-before k n d [] h = rw (ne_eqb n k (omega (arith, h))) refl
 label-before k n d (e ∷ ds) h = ap (λ (l : Label). if eqb e.place k then Demand e.demand else l) (label-before k n d ds h)
 
+-- the label that was added
 pub label-new : (n : ℕ) (ds : List Demanded) (l : Label) → AllBefore n ds → label_at (with_label ds n l) n ≡ l
 label-new n ds Structure a = label-none n ds a
 label-new n ds (Demand d) a = label-push n d ds a
 
+-- the labels before it
 pub label-old : (k n : ℕ) (ds : List Demanded) (l : Label) → k < n → label_at (with_label ds n l) k ≡ label_at ds k
 label-old k n ds Structure h = refl
 label-old k n ds (Demand d) h = label-before k n d ds h
@@ -83,6 +87,7 @@ label-there n (suc at) d (x ∷ ds) r h e =
     let q = behind-at x.place ds at d r.0 (omega (arith, h)) in
     rw (ne_eqb x.place n (omega (arith, q, e))) (label-there n at d ds r.1 (omega (arith, h)) e)
 
+-- a place that no demand has is of the structure
 pub label-absent : (n at : ℕ) (d : Demanded) (ds : List Demanded) → AreRising ds
     → IsPartitionPoint (λ d. ltb d.place n ≡ true) (λ d. ltb d.place n ≡ false) ds at → (at < length ds → (get_or ds at d).place ≡ n → ⊥)
     → label_at ds n ≡ Structure

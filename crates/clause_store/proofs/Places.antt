@@ -21,6 +21,7 @@ clause-parted n ks i = IsPartitionedBy-ltb var_of ks n (rising ks i)
     rising (k ∷ ks) i (suc a) zero d h l = absurd (omega (arith, h))
     rising (k ∷ ks) i (suc a) (suc b) d h l = rising ks i.1 a b d (omega (arith, h)) (omega (arith, l))
 
+-- the place found by halves is the literal's
 pub place-parted : (ks : List Lit) (l : Lit) (i : ℕ) → i ≤ length ks
     → IsPartitionPoint (λ k. ltb (var_of k) (var_of l) ≡ true) (λ k. ltb (var_of k) (var_of l) ≡ false) ks i → i ≡ place_of ks l
 place-parted [] l i h p = omega (arith, h)

@@ -66,6 +66,7 @@ has-with_lits c (l ∷ ls) ds m e =
     option_and_then_some (λ d. with_lits d ls) (with_lit c l) ds e (λ d q r.
     rw (has-with_lits d ls ds m r, has-with_lit c d l m q) (or-turn (has ls m) (lit_eq l m) (has c m)))
 
+-- a clause with more literals is in order
 pub IsClause-with_lits : (c ls ds : List Lit) → IsClause c → with_lits c ls ≡ Some ds → IsClause ds
 IsClause-with_lits c [] ds i e = subst IsClause (same_Some c ds e) i
 IsClause-with_lits c (l ∷ ls) ds i e =
@@ -80,6 +81,7 @@ above-has n (k ∷ ks) l a h =
       | inr t ↦ above-has n ks l a.1 t
     ]
 
+-- a clause has a variable once
 pub one_sign : (ks : List Lit) (l m : Lit) → IsClause ks → has ks l ≡ true → has ks m ≡ true → var_of l ≡ var_of m → l ≡ m
 one_sign [] l m i h k e = absurd (false≢true h)
 one_sign (x ∷ ks) l m i h k e =
@@ -127,6 +129,7 @@ with_lit-None (k ∷ ks) l e =
 abbrev pub OneSign : List Lit → Type 0
 OneSign c = (l m : Lit) → has c l ≡ true → has c m ≡ true → var_of l ≡ var_of m → l ≡ m
 
+-- no literal is its own negation
 pub not-opposite : (l : Lit) → l ≡ negation l → ⊥
 not-opposite l e = never l.positive (ap (λ (m : Lit). m.positive) e)
   where
@@ -138,18 +141,18 @@ not-opposite l e = never l.positive (ap (λ (m : Lit). m.positive) e)
 pub with_lits-None : (c ls : List Lit) → with_lits c ls ≡ None → (l : Lit) × (has ls l ≡ true)
     × ((has ls (negation l) || has c (negation l)) ≡ true)
 with_lits-None c [] e = absurd (none-some c (sym e))
-with_lits-None c (l ∷ ls) e = go (with_lit c l) refl e (λ d. with_lits-None d ls)
+with_lits-None c (l ∷ ls) e = by-option (with_lit c l) refl e (λ d. with_lits-None d ls)
   where
-    go : (p : Option (List Lit)) → with_lit c l ≡ p → option_and_then (λ d. with_lits d ls) p ≡ None
+    by-option : (p : Option (List Lit)) → with_lit c l ≡ p → option_and_then (λ d. with_lits d ls) p ≡ None
         → ((d : List Lit) → with_lits d ls ≡ None → (m : Lit) × (has ls m ≡ true) × ((has ls (negation m) || has d (negation m)) ≡ true))
         → (m : Lit) × (has (l ∷ ls) m ≡ true) × ((has (l ∷ ls) (negation m) || has c (negation m)) ≡ true)
-    go None q r ih = (
+    by-option None q r ih = (
       l,
       or_left (lit_eq l l) (has ls l) (lit_eq-refl l),
       or_right (has (l ∷ ls) (negation l)) (has c (negation l))
           (with_lit-None c l q),
     )
-    go (Some d) q r ih =
+    by-option (Some d) q r ih =
         let s = ih d r in (
           s.0,
           or_right (lit_eq l s.0) (has ls s.0) s.1,
@@ -170,18 +173,21 @@ has-clause_of ls c l e = has-with_lits [] ls c l e ∙ or-none (has ls l)
     or-none true = refl
     or-none false = refl
 
+-- the clause of a list is in order
 pub IsClause-clause_of : (ls c : List Lit) → clause_of ls ≡ Some c → IsClause c
 IsClause-clause_of ls c e = IsClause-with_lits [] ls c tt e
 
+-- a list with both signs of a variable is no clause
 pub both_signs-none : (ls : List Lit) → HasBothSigns ls → clause_of ls ≡ None
-both_signs-none ls b = go (clause_of ls) refl
+both_signs-none ls b = by-option (clause_of ls) refl
   where
-    go : (o : Option (List Lit)) → clause_of ls ≡ o → o ≡ None
-    go None e = refl
-    go (Some c) e =
+    by-option : (o : Option (List Lit)) → clause_of ls ≡ o → o ≡ None
+    by-option None e = refl
+    by-option (Some c) e =
         absurd (not-opposite b.0 (one_sign c b.0 (negation b.0) (IsClause-clause_of ls c e) (has-clause_of ls c b.0 e ∙ b.1)
         (has-clause_of ls c (negation b.0) e ∙ b.2) refl))
 
+-- a clause with a true literal is true
 pub has-true : (v : ℕ → Bool) (c : List Lit) (l : Lit) → has c l ≡ true → lit_true v l ≡ true → clause_true v c ≡ true
 has-true v [] l h t = absurd (false≢true h)
 has-true v (k ∷ c) l h t =
@@ -190,6 +196,7 @@ has-true v (k ∷ c) l h t =
       | inr q ↦ or_right (lit_true v k) (clause_true v c) (has-true v c l q t)
     ]
 
+-- a true clause has a true literal
 pub true-has : (v : ℕ → Bool) (c : List Lit) → clause_true v c ≡ true → (l : Lit) × (has c l ≡ true) × (lit_true v l ≡ true)
 true-has v [] t = absurd (false≢true t)
 true-has v (k ∷ c) t =
@@ -198,6 +205,7 @@ true-has v (k ∷ c) t =
       | inr q ↦ let p = true-has v c q in (p.0, or_right (lit_eq k p.0) (has c p.0) p.1, p.2)
     ]
 
+-- twice negated is the same
 pub negation-twice : (l : Lit) → negation (negation l) ≡ l
 unfolding lit_of
 negation-twice l = ap (λ b. lit_of (var_of l) b) (twice l.positive)
@@ -230,6 +238,7 @@ heads-same k l c d a b s =
       ]
     ]
 
+-- clauses with the same literals are equal
 pub same_clause : (c d : List Lit) → IsClause c → IsClause d → SameLits c d → c ≡ d
 same_clause [] [] i j s = refl
 same_clause [] (l ∷ d) i j s = absurd (false≢true (s l ∙ or_left (lit_eq l l) (has d l) (lit_eq-refl l)))

@@ -3,7 +3,8 @@
 //! It promises: a `Clause` is seen as the list of its literals in rising order of variables, each
 //! once, so that clauses of the same literals are equal; a `ClauseList` is seen as its clauses with
 //! their labels, numbered from 1, over the variables that it made. It stands on `smallvec`, which
-//! keeps a short clause in place; a list keeps its clauses one after the other. It must not know what a clause is for, nor how models are found.
+//! keeps a short clause in place; a list keeps its clauses one after the other. It must not know
+//! what a clause is for, nor how models are found.
 #![tactic(auto)]
 
 mod clause;

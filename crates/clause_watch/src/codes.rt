@@ -54,7 +54,8 @@ impl Code {
     }
 }
 
-/// An entry: twice its place, and one more where its clause surely has two literals; and the code of its other literal.
+/// An entry: twice its place, and one more where its clause surely has two literals; and the code
+/// of its other literal.
 #[derive(Default, Drop)]
 pub struct Packed {
     head: u32,

@@ -3,11 +3,11 @@ ghost use Rattle.std.specs.Prelude.{◌≡◌, ◌+◌, ◌^◌, ◌<◌, true, 
 ghost use Rattle.clause_watch.specs.Reasons.{Grown};
 ghost use Rattle.clause_watch.specs.Watches.{IsWatch};
 ghost use Rattle.clause_watch.specs.Lists.{row_of};
-ghost use Rattle.clause_watch.specs.Watching.{IsTended, IsWalking, IsTurn};
+ghost use Rattle.clause_watch.specs.Watching.{IsWatching, IsVisiting, IsVisited};
 
 use crate::arrivals::follow;
 use crate::lists::Entry;
-use crate::queue::{Queue, Turn};
+use crate::queue::{Queue, Visited};
 use crate::trail::Trail;
 use clause_store::{Clause, Lit};
 use std::alloc::AllocError;
@@ -21,23 +21,24 @@ impl Queue {
         lit: Lit,
         at: usize,
         entry: Entry,
-    ) -> Result<Turn, AllocError>
+    ) -> Result<Visited, AllocError>
         requires right { IsWatch trail.old.vars clauses.now trail.old.placed }
-        requires tended { IsTended trail.old.vars clauses.now trail.old.placed self.now }
-        requires walking { IsWalking clauses.now trail.old.placed self.now lit at }
+        requires watching { IsWatching trail.old.vars clauses.now trail.old.placed self.now }
+        requires visiting { IsVisiting clauses.now trail.old.placed self.now lit at }
         requires here { slice_get (row_of self.now.lists lit) at ≡ Some entry }
         requires small { at + 1 < 2 ^ 64 }
         requires two { entry.two ≡ true }
         ensures grown { Grown clauses.now trail.old trail.new }
-        ensures tended { IsTended trail.new.vars clauses.now trail.new.placed self.now }
-        ensures turn { IfOk result (IsTurn clauses.now trail.new.placed self.now self.now lit at) }
+        ensures watching { IsWatching trail.new.vars clauses.now trail.new.placed self.now }
+        ensures visited { IfOk result
+            (IsVisited clauses.now trail.new.placed self.now self.now lit at) }
     {
         let _ = clauses;
         let id = entry.place as u64 + 1;
         if trail.is_false(entry.other) {
-            return Ok(Turn::False(id));
+            return Ok(Visited::False(id));
         }
         follow(trail, entry.other, id)?;
-        Ok(Turn::Next(at + 1))
+        Ok(Visited::Next(at + 1))
     }
 }

@@ -3,7 +3,7 @@ ghost use Rattle.std.specs.Prelude.{◌<◌, IfOk};
 ghost use Rattle.std.specs.List.{All};
 ghost use Rattle.clause_store.specs.Lits.{var_of};
 ghost use Rattle.clause_watch.specs.Watches.{IsWatch, IsWatcher};
-ghost use Rattle.clause_watch.specs.Watching.{IsTended};
+ghost use Rattle.clause_watch.specs.Watching.{IsWatching};
 
 use crate::queue::Queue;
 use crate::trail::Trail;
@@ -20,7 +20,7 @@ impl Queue {
         lit: Lit,
     ) -> Result<Vec<u64>, AllocError>
         requires right { IsWatch trail.now.vars clauses.now trail.now.placed }
-        requires tended { IsTended trail.now.vars clauses.now trail.now.placed self.now }
+        requires watching { IsWatching trail.now.vars clauses.now trail.now.placed self.now }
         requires in_range { var_of lit < trail.now.vars }
         ensures { IfOk result (λ ids. All (IsWatcher clauses.now lit) ids.items) }
     {
@@ -28,8 +28,8 @@ impl Queue {
         let _ = trail.vars();
         let mut ids = Vec::new(alloc);
         for at in 0..self.lists.row(lit).len() {
-            if let Some(seat) = self.seat(lit, at) {
-                ids.push(seat.id())?;
+            if let Some(watcher) = self.watcher(lit, at) {
+                ids.push(watcher.id())?;
             }
         }
         Ok(ids)

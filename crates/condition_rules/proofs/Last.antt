@@ -18,23 +18,26 @@ module _ {T : Type 0} (p : T → Bool) where
   more : (xs : List T) (i : ℕ) (d : T) → i < length xs
       → find_last p (take (i + 1) xs) ≡ option_or (cond (p (get_or xs i d)) (Some (get_or xs i d)) None) (find_last p (take i xs))
   more [] i d lt = absurd (let wrong : i < 0 = lt in omega arith)
-  more (x ∷ xs) zero d lt = one (cond (p x) (Some x) None)
+  more (x ∷ xs) zero d lt = same_or_none (cond (p x) (Some x) None)
     where
-      one : (o : Option T) → o ≡ option_or o None
-      one None = refl
-      one (Some y) = refl
+      same_or_none : (o : Option T) → o ≡ option_or o None
+      same_or_none None = refl
+      same_or_none (Some y) = refl
   more (x ∷ xs) (suc i) d lt =
       rw (taken x xs i, more xs i d (omega arith))
       (or_assoc (cond (p (get_or xs i d)) (Some (get_or xs i d)) None) (find_last p (take i xs)) (cond (p x) (Some x) None))
 
+  -- the last that passes, one element further on
   pub find_last-more : (xs : List T) (i : ℕ) (x : T) → i < length xs → x ≡ get_or xs i x
       → find_last p (take (i + 1) xs) ≡ cond (p x) (Some x) (find_last p (take i xs))
   find_last-more xs i x lt is = more xs i x lt ∙ rw (← is) (or_cond (p x) x (find_last p (take i xs)))
 
+  -- an element that passes is the last that does so far
   pub find_last-pass : (xs : List T) (i : ℕ) (x : T) (b : Bool) → i < length xs → x ≡ get_or xs i x → b ≡ p x → b ≡ true
       → Some x ≡ find_last p (take (i + 1) xs)
   find_last-pass xs i x b lt at is passes = let e : p x ≡ true = sym is ∙ passes in sym (find_last-more xs i x lt at ∙ rw e refl)
 
+  -- an element that does not pass leaves the last one
   pub find_last-skip : (xs : List T) (i : ℕ) (x : T) (b : Bool) (last : Option T) → i < length xs → x ≡ get_or xs i x → b ≡ p x → b ≡ false
       → last ≡ find_last p (take i xs) → last ≡ find_last p (take (i + 1) xs)
   find_last-skip xs i x b last lt at is fails before = let e : p x ≡ false = sym is ∙ fails in

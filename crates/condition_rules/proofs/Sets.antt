@@ -13,6 +13,7 @@ same_test true b to from = sym (to refl)
 same_test false true to from = from refl
 same_test false false to from = refl
 
+-- a test that tells whether all wanted values are there is `includes`
 pub includes-test : (values wanted : List Text) (b : Bool) → (b ≡ true) ↔ All (Contains values) wanted → b ≡ includes values wanted
 includes-test values wanted b means = same_test b (includes values wanted)
     (λ h. list_all-from_AllPass (among values) wanted (λ k d lt. list_any-from_Contains nat_list_eq_equiv _ values (means.0 h k d lt)))

@@ -1,4 +1,4 @@
--- What is passed on of `conditions`, so that the crates above need not name it.
+-- What is passed on of `recipe_data`, so that the crates above need not name it.
 pub use Rattle.virtuals.specs.OfConditions.Right
 pub use Rattle.virtuals.specs.OfConditions.Condition
 pub use Rattle.virtuals.specs.OfConditions.ConflictRow

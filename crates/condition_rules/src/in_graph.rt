@@ -149,6 +149,7 @@ pub fn holds<P: Paths>(
     all_below(alloc, world, graph, name, spec.below.as_slice())
 }
 
+/// Whether each of the specs holds; none is asked behind the first that doesn't.
 fn each_holds<P: Paths>(
     alloc: Global,
     world: &World,
@@ -196,6 +197,7 @@ fn is_governed_by<P: Paths>(
     Ok(row.name.as_str() == variant && all_hold(alloc, world, &row.when, graph, name)?)
 }
 
+/// The last of the rows that defines the variant under a condition that holds.
 fn last_governing<'a, P: Paths>(
     alloc: Global,
     world: &World,

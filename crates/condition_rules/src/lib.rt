@@ -4,7 +4,7 @@
 //! the definitions of a variant.
 //! What it promises: `meets`, `provides`, `holds`, `all_hold` and `governing` answer what the definitions of these
 //! names in `specs/` compute; a recipe and a virtual are found in a search in a sorted list.
-//! What it stands on: `conditions` for recipes, `virtuals`, `graph_core` for graphs and paths, `target_table`.
+//! What it stands on: `recipe_data` for recipes, `virtuals`, `graph_core` for graphs and paths, `target_table`.
 //! What it must not know: settings besides the platform and the targets, and what makes a graph valid.
 #![tactic(auto)]
 

@@ -97,6 +97,7 @@ fn text_of(word: &Option<Word>) -> Option<&str>
     }
 }
 
+/// Whether a target is the one of an item, or lies in its range.
 fn is_target(world: &World, target: &str, item: &TargetItem) -> bool
     ensures { result ≡ is_target world.now target.now item.now }
 {

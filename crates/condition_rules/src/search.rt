@@ -52,6 +52,7 @@ impl<'a> Below<'a> {
     }
 }
 
+/// A mark for each node that paths from a node lead to; none where the name is no node.
 fn marks_below(alloc: Global, graph: &Graph, from: &str) -> Result<Bits, AllocError>
     ensures { IfOk result (λ marks. AreBelow graph.now from.now marks) }
 {

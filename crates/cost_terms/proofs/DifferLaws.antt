@@ -34,12 +34,15 @@ module _ {T : Type 0} (v : ℕ → Bool) (filled : T → Bool) (same : T → T �
 
   cannot-is : (xs ys : Choices T) (x y : T) → chosen v xs ≡ x ∷ [] → chosen v ys ≡ y ∷ [] → can_differ filled same xs ys ≡ false
       → differ filled same x y ≡ false
-  cannot-is xs ys x y p q h = chosen-any v (differ filled same x) ys y q (chosen-any v (λ x. list_any (λ y. differ filled same x y.0) ys) xs x p h)
+  cannot-is xs ys x y p q h = chosen-any v (differ filled same x) ys y q
+      (chosen-any v (λ x. list_any (λ y. differ filled same x y.0) ys) xs x p h)
 
   said-is : (there : Statement) (xs ys : Choices T)
       → eval v (differ_said filled same there xs ys)
-      ≡ (eval v there && (eval v (filled_said filled same xs) && (eval v (filled_said filled same ys) && (not (eval v (same_said filled same xs ys)) && true))))
-  said-is there xs ys = eval-all_of v (there ∷ filled_said filled same xs ∷ filled_said filled same ys ∷ no (same_said filled same xs ys) ∷ [])
+      ≡ (eval v there && (eval v (filled_said filled same xs)
+      && (eval v (filled_said filled same ys) && (not (eval v (same_said filled same xs ys)) && true))))
+  said-is there xs ys =
+      eval-all_of v (there ∷ filled_said filled same xs ∷ filled_said filled same ys ∷ no (same_said filled same xs ys) ∷ [])
 
   one-term : (f : Statement) → sum_said v (record { weight = 1; formula = f } ∷ []) ≡ bit (eval v f)
   one-term f = said-cons v (record { weight = 1; formula = f }) [] ∙ omega arith
@@ -56,12 +59,13 @@ module _ {T : Type 0} (v : ℕ → Bool) (filled : T → Bool) (same : T → T �
       → sum_said v (differ_terms filled same there xs ys) ≡ bit (differ filled same x y)
   differ-some there xs ys x y is p q = elim (cases_Bool (can_differ filled same xs ys)) [
     | inl can ↦ rw can (one-term (differ_said filled same there xs ys)
-        ∙ rw (said-is there xs ys, is, filled-is xs x p, filled-is ys y q, same-is xs ys x y p q) (by (filled x) (filled y) (same x y)))
+        ∙ rw (said-is there xs ys, is, filled-is xs x p, filled-is ys y q, same-is xs ys x y p q)
+        (differ-some-cases (filled x) (filled y) (same x y)))
     | inr cannot ↦ rw (cannot, cannot-is xs ys x y p q cannot) refl
   ]
     where
-      by : (a b c : Bool) → bit (true && (a && (b && (not c && true)))) ≡ bit (a && b && not c)
-      by true true true = refl
-      by true true false = refl
-      by true false c = refl
-      by false b c = refl
+      differ-some-cases : (a b c : Bool) → bit (true && (a && (b && (not c && true)))) ≡ bit (a && b && not c)
+      differ-some-cases true true true = refl
+      differ-some-cases true true false = refl
+      differ-some-cases true false c = refl
+      differ-some-cases false b c = refl

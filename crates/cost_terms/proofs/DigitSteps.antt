@@ -7,7 +7,8 @@ use Rattle.literal_table.specs.Choices.{Choices, any_choice}
 use Rattle.cost_terms.specs.declared.weighted.Weighted.{Weighted}
 use Rattle.cost_terms.specs.Spread.{weighed, is_odd, half_of, digit_terms}
 
-doubled : (unit k : ℕ) → 2 * unit * 2 ^ k ≡ unit * 2 ^ suc k
+-- twice the unit, one digit less
+pub doubled : (unit k : ℕ) → 2 * unit * 2 ^ k ≡ unit * 2 ^ suc k
 doubled unit k = rw (mul_comm 2 unit) (mul_assoc unit 2 (2 ^ k) ∙ ap (λ p. unit * p) (mul_comm 2 (2 ^ k) ∙ sym (pow-suc 2 k)))
 
 at-least-one : (k : ℕ) → 1 ≤ 2 ^ k
@@ -23,6 +24,7 @@ pub next-fits : (more unit : ℕ) → (more ≡ 0 → ⊥) → unit * 2 ^ more <
 next-fits zero unit z h = absurd (z refl)
 next-fits (suc k) unit z h = let e : suc k - 1 ≡ k = omega arith in rw e (omega (arith, doubled unit k, h))
 
+-- the next unit has 64 bits
 pub unit-fits : (more unit : ℕ) → (more ≡ 0 → ⊥) → unit * 2 ^ more < 2 ^ 64 → 2 * unit < 2 ^ 64
 unit-fits more unit z h = omega (arith, next-fits more unit z h, times-more (2 * unit) (2 ^ (more - 1)) (at-least-one (more - 1)))
 
@@ -38,6 +40,7 @@ digit-step (suc k) unit choices halves old after new f z e h a n =
     ∙ append_assoc old (record { weight = unit; formula = f } ∷ []) (digit_terms k (2 * unit) (weighed half_of choices))
     ∙ ap (λ g. old ++ record { weight = unit; formula = g } ∷ digit_terms k (2 * unit) (weighed half_of choices)) e
 
+-- what follows where a call went well
 pub on-ok : {T E : Type 0} (r : Result T E) (P Q : Type 0) → (P → Q) → OnOk r P → OnOk r Q
 on-ok (Ok x) P Q f p = f p
 on-ok (Err e) P Q f p = tt

@@ -16,16 +16,18 @@ use Rattle.cost_terms.specs.Weighed.{weight_said, sum_said}
 use Rattle.cost_terms.specs.Parts.{builds, is_of, part_said, only_where, in_part}
 use Rattle.cost_terms.proofs.SpreadLaws.{said-cons}
 
+-- some of one element
 pub or-false : {T : Type 0} (f : T → Bool) (x : T) → list_any f (x ∷ []) ≡ f x
-or-false f x = go (f x)
+or-false f x = or-false-cases (f x)
   where
-    go : (b : Bool) → list_any (λ (c : Bool). c) (b ∷ []) ≡ b
-    go true = refl
-    go false = refl
+    or-false-cases : (b : Bool) → list_any (λ (c : Bool). c) (b ∷ []) ≡ b
+    or-false-cases true = refl
+    or-false-cases false = refl
 
 module _ (v : ℕ → Bool) where
   -- what is chosen is offered
-  pub chosen-any : {T : Type 0} (test : T → Bool) (choices : Choices T) (x : T) → chosen v choices ≡ x ∷ [] → list_any (λ c. test c.0) choices ≡ false
+  pub chosen-any : {T : Type 0} (test : T → Bool) (choices : Choices T) (x : T) → chosen v choices ≡ x ∷ []
+      → list_any (λ c. test c.0) choices ≡ false
       → test x ≡ false
   chosen-any test [] x is h = absurd (cc)
   chosen-any test (c ∷ cs) x is h = elim (cases_Bool (lit_true v c.1)) [
@@ -41,7 +43,9 @@ module _ (v : ℕ → Bool) where
       or-second false b h = h
       or-second true b h = absurd (cc)
 
-  pub chosen-all : {T : Type 0} (test : T → Bool) (choices : Choices T) (x : T) → chosen v choices ≡ x ∷ [] → list_all (λ c. test c.0) choices ≡ true
+  -- what all choices pass, the chosen one passes
+  pub chosen-all : {T : Type 0} (test : T → Bool) (choices : Choices T) (x : T) → chosen v choices ≡ x ∷ []
+      → list_all (λ c. test c.0) choices ≡ true
       → test x ≡ true
   chosen-all test [] x is h = absurd (cc)
   chosen-all test (c ∷ cs) x is h = elim (cases_Bool (lit_true v c.1)) [
@@ -53,13 +57,15 @@ module _ (v : ℕ → Bool) where
   where-is part [] = elim (cases_Bool (eval v part)) [ inl h ↦ rw h refl | inr h ↦ rw h refl ]
   where-is part (t ∷ ts) =
       said-cons v (only_where part t) (map (only_where part) ts)
-      ∙ rw (where-is part ts, eval-both v part t.formula, said-cons v t ts) (by-part (eval v part) (eval v t.formula) t.weight (sum_said v ts))
+      ∙ rw (where-is part ts, eval-both v part t.formula, said-cons v t ts)
+      (by-part (eval v part) (eval v t.formula) t.weight (sum_said v ts))
     where
       by-part : (a b : Bool) (w n : ℕ) → w * bit (a && b) + (if a then n else 0) ≡ (if a then w * bit b + n else 0)
       by-part true b w n = refl
       by-part false b w n = omega arith
 
-  part-is : (built : Bool) (origins : Choices Origin) (x : Origin) → chosen v origins ≡ x ∷ [] → eval v (part_said built origins) ≡ is_of built x
+  part-is : (built : Bool) (origins : Choices Origin) (x : Origin) → chosen v origins ≡ x ∷ []
+      → eval v (part_said built origins) ≡ is_of built x
   part-is true origins x is = any-chosen v builds origins ∙ ap (list_any builds) is ∙ or-false builds x
   part-is false origins x is = ap not (any-chosen v builds origins ∙ ap (list_any builds) is ∙ or-false builds x)
 
@@ -68,7 +74,8 @@ module _ (v : ℕ → Bool) where
   zero-either false n e = refl
 
   -- where there is no node, and nothing is added
-  pub in_part-none : (built : Bool) (origins : Choices Origin) (ts : List Weighted) → sum_said v ts ≡ 0 → sum_said v (in_part built origins ts) ≡ 0
+  pub in_part-none : (built : Bool) (origins : Choices Origin) (ts : List Weighted) → sum_said v ts ≡ 0
+      → sum_said v (in_part built origins ts) ≡ 0
   unfolding in_part
   in_part-none built origins ts none = elim (cases_Bool (list_all (λ c. is_of built c.0) origins)) [
     | inl whole ↦ rw whole none

@@ -24,7 +24,14 @@ use Rattle.cost_terms.specs.Spread.{weighed, is_odd, half_of, digit_terms, plain
 digit-sum : (unit n : ℕ) → unit * bit (is_odd n) + 2 * unit * (n / 2) ≡ unit * n
 digit-sum unit n =
     let whole : n ≡ 2 * (n / 2) + n % 2 = omega arith in
-    omega (arith, mul-add unit (2 * (n / 2)) (n % 2), double unit (n / 2), ap (λ m. unit * m) whole, ap (λ m. unit * m) (odd (n % 2) (omega arith)))
+    omega (
+      arith,
+      mul-add unit (2 * (n / 2)) (n % 2),
+      double unit (n / 2),
+      ap (λ m. unit * m) whole,
+      ap (λ m. unit * m)
+          (odd (n % 2) (omega arith)),
+    )
   where
     odd : (r : ℕ) → r < 2 → bit (r == 1) ≡ r
     odd zero h = refl
@@ -36,13 +43,15 @@ digit-sum unit n =
 
 module _ (v : ℕ → Bool) where
   -- what is chosen of weights is the weight of what is chosen
-  pub chosen-weighed : {T : Type 0} (weight : T → ℕ) (choices : Choices T) → chosen v (weighed weight choices) ≡ map weight (chosen v choices)
+  pub chosen-weighed : {T : Type 0} (weight : T → ℕ) (choices : Choices T)
+      → chosen v (weighed weight choices) ≡ map weight (chosen v choices)
   chosen-weighed weight [] = refl
   chosen-weighed weight (c ∷ cs) = elim (cases_Bool (lit_true v c.1)) [
     | inl l ↦ rw l (ap (λ ns. weight c.0 ∷ ns) (chosen-weighed weight cs))
     | inr l ↦ rw l (chosen-weighed weight cs)
   ]
 
+  -- the weight of the one that is chosen
   pub one-weighed : {T : Type 0} (weight : T → ℕ) (choices : Choices T) (one : Option T) → chosen v choices ≡ option_to_list one
       → chosen v (weighed weight choices) ≡ option_to_list (option_map weight one)
   one-weighed weight choices one is = chosen-weighed weight choices ∙ ap (map weight) is ∙ mapped one
@@ -68,7 +77,8 @@ module _ (v : ℕ → Bool) where
   digits-one zero unit n choices is h = let z : n ≡ 0 = omega arith in rw z (omega arith)
   digits-one (suc more) unit n choices is h =
       let t : Weighted = record { weight = unit; formula = any_choice is_odd choices } in
-      let digit : eval v (any_choice is_odd choices) ≡ is_odd n = any-chosen v is_odd choices ∙ ap (list_any is_odd) is ∙ or-false (is_odd n) in
+      let digit : eval v (any_choice is_odd choices) ≡ is_odd n = any-chosen v is_odd choices ∙ ap (list_any is_odd) is
+      ∙ or-false (is_odd n) in
       let less : n / 2 < 2 ^ more = omega (arith, pow-suc 2 more) in
       let rest = digits-one more (2 * unit) (n / 2) (weighed half_of choices) (chosen-weighed half_of choices ∙ ap (map half_of) is) less in
       said-cons t (digit_terms more (2 * unit) (weighed half_of choices)) ∙ rw (digit, rest) (digit-sum unit n)
@@ -82,7 +92,8 @@ module _ (v : ℕ → Bool) where
 
   plain-is : (choices : Choices ℕ) → sum_said v (plain_terms choices) ≡ weight_of (λ n. n) v choices
   plain-is [] = refl
-  plain-is (c ∷ cs) = said-cons (record { weight = c.0; formula = atom c.1 }) (plain_terms cs) ∙ rw (one-atom c, plain-is cs) (sym (sum_by-cons _ c cs))
+  plain-is (c ∷ cs) = said-cons (record { weight = c.0; formula = atom c.1 }) (plain_terms cs)
+      ∙ rw (one-atom c, plain-is cs) (sym (sum_by-cons _ c cs))
 
   below-greatest : (choices : Choices ℕ) (n : ℕ) → chosen v choices ≡ n ∷ [] → n ≤ greatest choices
   below-greatest [] n is = absurd (cc)
@@ -91,6 +102,7 @@ module _ (v : ℕ → Bool) where
     | inr l ↦ (let rest : chosen v cs ≡ n ∷ [] = rw l at is in let low = below-greatest cs n rest in omega arith)
   ]
 
+  -- the digits add up to it
   pub spread-sum : (choices : Choices ℕ) (one : Option ℕ) → chosen v choices ≡ option_to_list one
       → sum_said v (spread choices) ≡ adds_or_none (λ n. n) one
   unfolding spread
@@ -114,6 +126,7 @@ module _ (v : ℕ → Bool) where
   attribute-sum weight attribute choices one is =
       spread-sum (weighed weight choices) _ (one-weighed weight choices (option_map attribute one) is) ∙ twice one
     where
-      twice : (o : Option _) → adds_or_none (λ n. n) (option_map weight (option_map attribute o)) ≡ adds_or_none (λ node. weight (attribute node)) o
+      twice : (o : Option _) → adds_or_none (λ n. n) (option_map weight (option_map attribute o))
+          ≡ adds_or_none (λ node. weight (attribute node)) o
       twice None = refl
       twice (Some x) = refl

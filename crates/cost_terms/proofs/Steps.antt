@@ -28,7 +28,8 @@ after ts m = record { list = m.list; answer = ts ++ m.answer }
 pub rest-at : {A : Type 0} (xs : List A) (i : ℕ) (x : A) → i < length xs → x ≡ get_or xs i x → drop i xs ≡ x ∷ drop (i + 1) xs
 rest-at xs i x h e = rw add-one (drop-cons xs i x h ∙ ap (λ y. y ∷ drop (suc i) xs) (sym e))
 
-pub one-step : (s t u : Clauses) (w : Weighted) (d : Defined) (r : Option (ℕ × Lit)) → define_on s w.formula ≡ record { list = t; answer = d }
+pub one-step : (s t u : Clauses) (w : Weighted) (d : Defined) (r : Option (ℕ × Lit))
+    → define_on s w.formula ≡ record { list = t; answer = d }
     → term_on t w.weight d ≡ record { list = u; answer = r } → one_on s w ≡ record { list = u; answer = r }
 unfolding one_on
 one-step s t u w d r e f = ap (λ (m : Grown Defined). term_on m.list w.weight m.answer) e ∙ f
@@ -37,12 +38,14 @@ pub weighed-at : (m n : ℕ) (ts : List Weighted) (i : ℕ) (t : Weighted) → m
     → SaidBelow n t.formula
 weighed-at m n ts i t h k e b = subst (λ (u : Weighted). SaidBelow n u.formula) (sym e) (part m n ts i t h k b)
   where
-    part : (m n : ℕ) (ts : List Weighted) (i : ℕ) (d : Weighted) → m ≤ n → i < length ts → WeighedBelow m ts → SaidBelow n (get_or ts i d).formula
+    part : (m n : ℕ) (ts : List Weighted) (i : ℕ) (d : Weighted) → m ≤ n → i < length ts → WeighedBelow m ts
+        → SaidBelow n (get_or ts i d).formula
     part m n [] i d h k b = absurd (omega (arith, k))
     part m n (t ∷ ts) zero d h k b = SaidBelow-le m n t.formula h b.0
     part m n (t ∷ ts) (suc i) d h k b = part m n ts i d h (omega (arith, k)) b.1
 
-pub all-weighed-at : (m n : ℕ) (lists : List (List Weighted)) (i : ℕ) (ts : List Weighted) → m ≤ n → i < length lists → ts ≡ get_or lists i ts
+pub all-weighed-at : (m n : ℕ) (lists : List (List Weighted)) (i : ℕ) (ts : List Weighted) → m ≤ n → i < length lists
+    → ts ≡ get_or lists i ts
     → AllWeighedBelow m lists → WeighedBelow n ts
 all-weighed-at m n lists i ts h k e b = subst (WeighedBelow n) (sym e) (part m n lists i ts h k b)
   where
@@ -82,17 +85,22 @@ pub term-step : (s t : Clauses) (ws : List Weighted) (i : ℕ) (w : Weighted) (r
     (whole : Grown (List (ℕ × Lit))) → i < length ws → w ≡ get_or ws i w → one_on s w ≡ record { list = t; answer = r }
     → us ≡ ts ++ option_to_list r → after ts (terms_on s (drop i ws)) ≡ whole → after us (terms_on t (drop (i + 1) ws)) ≡ whole
 term-step s t ws i w r ts us whole h e f g k =
-    rw g (ap (λ (made : List (ℕ × Lit)). let n = terms_on t (drop (i + 1) ws) in record { list = n.list; answer = made }) (append_assoc ts (option_to_list r) _)
-    ∙ ap (λ (m : Grown (Option (ℕ × Lit))). let n = terms_on m.list (drop (i + 1) ws) in record { list = n.list; answer = ts ++ (option_to_list m.answer ++ n.answer) }) (sym f)
+    rw g (ap (λ (made : List (ℕ × Lit)). let n = terms_on t (drop (i + 1) ws) in record { list = n.list; answer = made })
+    (append_assoc ts (option_to_list r) _)
+    ∙ ap (λ (m : Grown (Option (ℕ × Lit))). let n = terms_on m.list (drop (i + 1) ws) in
+    record { list = n.list; answer = ts ++ (option_to_list m.answer ++ n.answer) }) (sym f)
     ∙ ap (λ rest. after ts (terms_on s rest)) (sym (rest-at ws i w h e)) ∙ k)
 
 -- one list more
-pub list-step : (s t : Clauses) (lists : List (List Weighted)) (i : ℕ) (ws : List Weighted) (r : List (ℕ × Lit)) (ts us : List (List (ℕ × Lit)))
+pub list-step : (s t : Clauses) (lists : List (List Weighted)) (i : ℕ) (ws : List Weighted) (r : List (ℕ × Lit))
+    (ts us : List (List (ℕ × Lit)))
     (whole : Grown (List (List (ℕ × Lit)))) → i < length lists → ws ≡ get_or lists i ws → terms_on s ws ≡ record { list = t; answer = r }
     → us ≡ ts ++ r ∷ [] → after ts (lists_on s (drop i lists)) ≡ whole → after us (lists_on t (drop (i + 1) lists)) ≡ whole
 list-step s t lists i ws r ts us whole h e f g k =
-    rw g (ap (λ (made : List (List (ℕ × Lit))). let n = lists_on t (drop (i + 1) lists) in record { list = n.list; answer = made }) (append_assoc ts (r ∷ []) _)
-    ∙ ap (λ (m : Grown (List (ℕ × Lit))). let n = lists_on m.list (drop (i + 1) lists) in record { list = n.list; answer = ts ++ (m.answer ∷ n.answer) }) (sym f)
+    rw g (ap (λ (made : List (List (ℕ × Lit))). let n = lists_on t (drop (i + 1) lists) in record { list = n.list; answer = made })
+    (append_assoc ts (r ∷ []) _)
+    ∙ ap (λ (m : Grown (List (ℕ × Lit))). let n = lists_on m.list (drop (i + 1) lists) in
+    record { list = n.list; answer = ts ++ (m.answer ∷ n.answer) }) (sym f)
     ∙ ap (λ rest. after ts (lists_on s rest)) (sym (rest-at lists i ws h e)) ∙ k)
 
 -- the bits that were built are those of the definition

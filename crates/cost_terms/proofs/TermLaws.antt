@@ -85,11 +85,26 @@ terms_is s (t ∷ ts) b =
     let y = terms_is m.list ts (WeighedBelow-le s.vars m.list.vars ts x.defines.says.grows.more b.1) in
     let head = option_to_list m.answer in record {
       defines = Defines-trans s m.list n.list x.defines y.defines;
-      below = TermsBelow-append n.list.vars head n.answer (TermsBelow-le m.list.vars n.list.vars head y.defines.says.grows.more x.below) y.below;
-      small = omega (arith, x.small, y.small, sum-append (λ (t : ℕ × Lit). t.0) head n.answer, sum_by-cons (λ (t : Weighted). t.weight) t ts);
+      below = TermsBelow-append n.list.vars head n.answer (TermsBelow-le m.list.vars n.list.vars head y.defines.says.grows.more x.below)
+          y.below;
+      small = omega (
+        arith,
+        x.small,
+        y.small,
+        sum-append (λ (t : ℕ × Lit). t.0) head n.answer,
+        sum_by-cons
+            (λ (t : Weighted). t.weight) t ts,
+      );
       weighs = λ asked v h.
           let p = MeetsSince-parts asked v s m.list n.list x.defines.says.grows y.defines.says.grows h in
-          omega (arith, x.weighs asked v p.0, y.weighs asked v p.1, sum-append (weight_of v) head n.answer, sum_by-cons (weight_said v) t ts);
+          omega (
+            arith,
+            x.weighs asked v p.0,
+            y.weighs asked v p.1,
+            sum-append (weight_of v) head n.answer,
+            sum_by-cons
+                (weight_said v) t ts,
+          );
     }
 
 pub AllWeighedBelow-le : (m n : ℕ) (lists : List (List Weighted)) → m ≤ n → AllWeighedBelow m lists → AllWeighedBelow n lists

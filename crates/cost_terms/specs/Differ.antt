@@ -1,9 +1,9 @@
 -- Whether what is chosen of two lists differs.
 use Rattle.std.specs.Prelude.{Bool, true, false, not, ◌&&◌, List, [], ◌∷◌, map, Option, Some, None, is_some, if◌then◌else◌}
-use Rattle.std.specs.Str.{bytes_eq}
 use Rattle.graph_core.specs.Graphs.{Text}
 use Rattle.graph_core.specs.declared.node.Compiler.{Compiler}
 use Rattle.std.specs.List.{list_any, list_all}
+use Rattle.problem.specs.Problems.{same_compiler}
 use Rattle.clause_formulas.specs.Statements.{Statement, atom, never, no, both, any_of, all_of}
 use Rattle.literal_table.specs.Choices.{Choices, any_choice}
 use Rattle.cost_terms.specs.declared.weighted.Weighted.{Weighted}
@@ -39,11 +39,7 @@ is_text text = true
 abbrev pub is_some_compiler : Option Compiler → Bool
 is_some_compiler compiler = is_some compiler
 
--- the same name and version
-abbrev pub one_compiler : Compiler → Compiler → Bool
-one_compiler a b = bytes_eq a.name b.name && bytes_eq a.version b.version
-
 abbrev pub same_compilers : Option Compiler → Option Compiler → Bool
 same_compilers None other = false
 same_compilers (Some a) None = false
-same_compilers (Some a) (Some b) = one_compiler a b
+same_compilers (Some a) (Some b) = same_compiler a b

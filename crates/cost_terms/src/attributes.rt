@@ -13,6 +13,7 @@ use plain_data::Word;
 use problem::Problem;
 use std::alloc::{AllocError, Global};
 
+// The weight of each OS that may be chosen.
 fn os_weights(
     alloc: Global,
     problem: &Problem,
@@ -28,6 +29,7 @@ fn os_weights(
     Ok(weights)
 }
 
+// The weight of each target that may be chosen.
 fn target_weights(
     alloc: Global,
     problem: &Problem,
@@ -44,6 +46,7 @@ fn target_weights(
     Ok(weights)
 }
 
+// The weight of each compiler that may be chosen.
 fn compiler_weights(
     alloc: Global,
     problem: &Problem,

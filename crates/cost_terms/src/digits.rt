@@ -73,6 +73,7 @@ fn plain_terms(alloc: Global, choices: &[(u64, Lit)]) -> Result<Vec<Weighted>, A
     Ok(terms)
 }
 
+// The greatest weight; 0 where there is none.
 fn greatest(choices: &[(u64, Lit)]) -> u64
     ensures { result ≡ greatest choices.now }
 {
@@ -85,7 +86,8 @@ fn greatest(choices: &[(u64, Lit)]) -> u64
     most
 }
 
-/// Terms whose sum is the weight of the one that is chosen: one for each binary digit of the weights.
+/// Terms whose sum is the weight of the one that is chosen: one for each binary digit of the
+/// weights.
 #[tactic(auto, unfolding(crate::specs::Spread::spread))]
 pub fn spread(alloc: Global, choices: &[(u64, Lit)]) -> Result<Vec<Weighted>, AllocError>
     ensures { IfOk result (λ terms. terms.items ≡ spread choices.now) }

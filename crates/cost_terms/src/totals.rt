@@ -14,8 +14,8 @@ use criteria_totals::{Bits, Terms, totals};
 use plain_data::List;
 use std::alloc::{AllocError, Global};
 
-/// Bits that spell the sums of some lists of weighted formulas, and compare from the first on as the
-/// sums do. The weights of one list add up to less than 2^63.
+/// Bits that spell the sums of some lists of weighted formulas, and compare from the first on as
+/// the sums do. The weights of one list add up to less than 2^63.
 pub fn define_totals(
     alloc: Global,
     clauses: &mut ClauseList,

@@ -1,4 +1,4 @@
 pub mod RankLaws
 pub mod IndexLaws
 pub mod Totals
-pub mod Parts
+pub mod Halves

@@ -20,6 +20,7 @@ use Rattle.problem.specs.Problems.{versions_at, entry_of, Problem}
 use Rattle.graph_rules.specs.Weights.{row_cmp, listed_in, place_or_number, version_weight}
 use Rattle.cost_vector.specs.Ranks.{Rank, rank, rank_cmp, place_among, weight_among}
 
+-- the order of ranks is total
 pub rank_total : IsTotalOrder rank_cmp
 unfolding rank_cmp
 rank_total =
@@ -39,14 +40,18 @@ module _ {X : Type 0} where
       (λ k d a b. at.1 k d (omega (arith, a)) b) (omega (arith, le)))
       ∙ length-filter p xs
 
+  -- how many of an image pass
   pub mapped_count : {Y : Type 0} (f : X → Y) (p : Y → Bool) (xs : List X) → count_by p (map f xs) ≡ count_by (λ x. p (f x)) xs
   mapped_count f p xs = sym (length-filter p (map f xs)) ∙ ap length (filter_mapped f p xs)
       ∙ length-map (filter (λ x. p (f x)) xs) f ∙ length-filter (λ x. p (f x)) xs
 
+-- a sort is parted by what comes before one rank
 pub before_parts : (sorted : List Rank) (one : Rank) → IsSortedBy (λ a b. is_lt (rank_cmp a b)) sorted
     → IsPartitionedBy (λ other. is_lt (rank_cmp other one)) sorted
-before_parts sorted one rises = lt_parts (λ other. rank_cmp other one) sorted (searchable_from_sorted rank_total (λ (r : Rank). r) sorted one rises)
+before_parts sorted one rises = lt_parts (λ other. rank_cmp other one) sorted
+    (searchable_from_sorted rank_total (λ (r : Rank). r) sorted one rises)
 
+-- the place where it is parted is how many come before
 pub place_is : (sorted : List Rank) (one : Rank) (n : ℕ) → n ≤ length sorted
     → IsPartitionPoint (λ other. is_lt (rank_cmp other one) ≡ true) (λ other. is_lt (rank_cmp other one) ≡ false) sorted n
     → n ≡ count_by (λ other. is_lt (rank_cmp other one)) sorted
@@ -76,13 +81,14 @@ place_of_rank lists rows (Some row) one is = ap (place_among (map (rank lists) r
 first_rank : (lists : List (List Range)) (p : VersionRow → Bool) (rows : List VersionRow)
     → find (λ r. p r.row) (map (rank lists) rows) ≡ elim (find p rows) [ None ↦ None | Some r ↦ Some (rank lists r) ]
 first_rank lists p [] = refl
-first_rank lists p (row ∷ rows) = go (p row) (first_rank lists p rows)
+first_rank lists p (row ∷ rows) = first_rank-cases (p row) (first_rank lists p rows)
   where
-    go : (b : Bool) → find (λ r. p r.row) (map (rank lists) rows) ≡ elim (find p rows) [ None ↦ None | Some r ↦ Some (rank lists r) ]
+    first_rank-cases : (b : Bool) → find (λ r. p r.row) (map (rank lists) rows)
+        ≡ elim (find p rows) [ None ↦ None | Some r ↦ Some (rank lists r) ]
         → cond b (Some (rank lists row)) (find (λ r. p r.row) (map (rank lists) rows))
         ≡ elim (cond b (Some row) (find p rows)) [ None ↦ None | Some r ↦ Some (rank lists r) ]
-    go true e = refl
-    go false e = e
+    first_rank-cases true e = refl
+    first_rank-cases false e = e
 
 weight_is : (lists : List (List Range)) (rows : List VersionRow) (version : Text)
     → weight_among (map (rank lists) rows) version ≡ place_or_number lists rows (find (λ row. bytes_eq row.version version) rows)
@@ -98,6 +104,7 @@ weighs problem name table lists rows is lists_are rows_are version =
     ∙ ap (λ ls. place_or_number ls rows (find (λ row. bytes_eq row.version version) rows)) lists_are
     ∙ ap (λ rs. place_or_number (listed_in (entry_of problem name)) rs (find (λ row. bytes_eq row.version version) rs)) rows_are
 
+-- the weights of all choices
 pub all_weigh : {L : Type 0} (problem : Problem) (name : Text) (table : List Rank) (lists : List (List Range)) (rows : List VersionRow)
     → table ≡ map (rank lists) rows → lists ≡ listed_in (entry_of problem name) → rows ≡ versions_at problem name
     → (choices : List (Text × L))

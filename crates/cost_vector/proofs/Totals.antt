@@ -10,6 +10,7 @@ cap_both a b m = omega arith
 cap_one : (a b m : ℕ) → min (min a m + b) m ≡ min (a + b) m
 cap_one a b m = omega arith
 
+-- a number within a limit does not stop at it
 pub within : (n m : ℕ) → n ≤ m → n ≡ min n m
 within n m le = omega arith
 
@@ -37,8 +38,10 @@ pub sum_filter : {X : Type 0} (test : X → Bool) (cost : X → ℕ) (xs : List 
     → sum_by (λ x. cond (test x) (cost x) 0) xs ≡ sum_by cost (filter test xs)
 sum_filter test cost [] = refl
 sum_filter test cost (x ∷ xs) =
-    sum_by-cons (λ y. cond (test y) (cost y) 0) x xs ∙ ap (λ s. cond (test x) (cost x) 0 + s) (sum_filter test cost xs) ∙ by (test x)
+    sum_by-cons (λ y. cond (test y) (cost y) 0) x xs ∙ ap (λ s. cond (test x) (cost x) 0 + s) (sum_filter test cost xs)
+    ∙ sum_filter-cases (test x)
   where
-    by : (b : Bool) → cond b (cost x) 0 + sum_by cost (filter test xs) ≡ sum_by cost (cond b (x ∷ filter test xs) (filter test xs))
-    by true = sym (sum_by-cons cost x (filter test xs))
-    by false = omega arith
+    sum_filter-cases : (b : Bool) → cond b (cost x) 0 + sum_by cost (filter test xs)
+        ≡ sum_by cost (cond b (x ∷ filter test xs) (filter test xs))
+    sum_filter-cases true = sym (sum_by-cons cost x (filter test xs))
+    sum_filter-cases false = omega arith

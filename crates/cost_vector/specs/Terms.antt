@@ -58,22 +58,22 @@ placed places.AtRoots problem cost node = at_root problem cost node
 placed places.OffRoots problem cost node = off_root problem cost node
 
 -- the nodes to build, or the others
-abbrev pub in_part : Bool → Node → Bool
-in_part true node = is_built node
-in_part false node = not (is_built node)
+abbrev pub in_half : Bool → Node → Bool
+in_half true node = is_built node
+in_half false node = not (is_built node)
 
-abbrev pub part_cost : Bool → (Node → ℕ) → Node → ℕ
-part_cost built cost node = if in_part built node then cost node else 0
+abbrev pub half_cost : Bool → (Node → ℕ) → Node → ℕ
+half_cost built cost node = if in_half built node then cost node else 0
 
 -- ---- all nodes
 
-abbrev pub part_sum : Bool → Place → Term → Problem → Content → ℕ
-part_sum built place added problem graph =
-    stopped (sum_by (part_cost built (placed place problem (term_cost added problem graph))) graph.nodes)
+abbrev pub half_sum : Bool → Place → Term → Problem → Content → ℕ
+half_sum built place added problem graph =
+    stopped (sum_by (half_cost built (placed place problem (term_cost added problem graph))) graph.nodes)
 
-abbrev pub part_sums : Bool → Problem → Content → List ℕ
-part_sums built problem graph =
-    let total : Place → Term → ℕ = λ place added. part_sum built place added problem graph in
+abbrev pub half_sums : Bool → Problem → Content → List ℕ
+half_sums built problem graph =
+    let total : Place → Term → ℕ = λ place added. half_sum built place added problem graph in
     total places.Anywhere terms.Deprecated
     ∷ total places.AtRoots terms.Version
     ∷ total places.AtRoots terms.OtherValues

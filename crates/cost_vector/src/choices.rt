@@ -1,4 +1,4 @@
-// The weights of all versions that may be chosen for a package.
+//! The weights of all versions that may be chosen for a package.
 ghost use Rattle.std.specs.Prelude.{◌≡◌, map, IfOk, if◌then◌else◌};
 ghost use Rattle.std.specs.List.{list_any};
 ghost use Rattle.graph_rules.specs.Weights.{version_weight, is_deprecated};
@@ -16,6 +16,7 @@ use version_order::Version;
 
 // ---- places in the sort
 
+/// Each choice with its weight.
 fn weigh<L: Copy>(
     alloc: Global,
     table: &RankTable,
@@ -65,13 +66,15 @@ fn is_marked(index: &TextIndex<VersionRow>, version: &str) -> bool
     some_deprecated(index.of(version))
 }
 
+/// Each choice with one or zero: whether its version is declared as deprecated.
 fn mark<L: Copy>(
     alloc: Global,
     index: &TextIndex<VersionRow>,
     choices: &[(Version, L)],
 ) -> Result<Vec<(u64, L)>, AllocError>
     ensures { IfOk result (λ weights. weights.items
-        ≡ map (λ c. (if list_any (λ e. e.1.deprecated) (with_text c.0 index.now) then 1 else 0, c.1))
+        ≡ map (λ c.
+        (if list_any (λ e. e.1.deprecated) (with_text c.0 index.now) then 1 else 0, c.1))
         choices.now) }
 {
     let mut weights = Vec::new(alloc);

@@ -1,4 +1,4 @@
-// Declared versions found by their texts.
+//! Declared versions found by their texts.
 ghost use Rattle.std.specs.Prelude.{◌≡◌, ◌&&◌, IfOk};
 ghost use Rattle.std.specs.List.{list_any};
 ghost use Rattle.std.specs.Str.{bytes_eq};

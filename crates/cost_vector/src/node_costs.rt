@@ -1,4 +1,4 @@
-// What one node costs: sums stop at the greatest number of 64 bits.
+//! What one node costs: sums stop at the greatest number of 64 bits.
 ghost use Rattle.std.specs.Prelude.{◌≡◌, IfOk, count_by, not, sum_by};
 ghost use Rattle.std.specs.List.{list_any};
 ghost use Rattle.std.specs.Option.{option_copied};
@@ -88,6 +88,7 @@ fn variant_cost(
     }
 }
 
+/// What all variants of a node cost, by their default values or by the others.
 pub(crate) fn over_variants(
     alloc: Global,
     defaults: bool,

@@ -1,10 +1,11 @@
-// Places in the settings' lists, or their lengths.
+//! Places in the settings' lists, or their lengths.
 ghost use Rattle.std.specs.Prelude.{◌≡◌, find};
 ghost use Rattle.std.specs.List.{position_or_len};
 ghost use Rattle.std.specs.Option.{option_copied};
 ghost use Rattle.std.specs.Str.{bytes_eq};
 ghost use Rattle.problem.specs.Problems.{same_compiler};
-ghost use Rattle.graph_rules.specs.Weights.{place_in, os_weight, target_weight, compiler_weight, packages_in, provider_weight};
+ghost use Rattle.graph_rules.specs.Weights.{place_in, os_weight, target_weight, compiler_weight};
+ghost use Rattle.graph_rules.specs.Weights.{packages_in, provider_weight};
 
 use graph_core::Compiler;
 use plain_data::{List, Word};

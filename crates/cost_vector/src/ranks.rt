@@ -1,4 +1,4 @@
-// Declared versions in their sort.
+//! Declared versions in their sort.
 ghost use Rattle.std.specs.Prelude.{◌≡◌, count_by, map, IfOk};
 ghost use Rattle.std.specs.List.Sorted.{IsPermutation, IsSortedBy};
 ghost use Rattle.std.specs.Ordering.{is_lt};
@@ -51,6 +51,8 @@ impl<'a> Ranked<'a> {
         self.row
     }
 
+    /// The order of declared versions: preference of the settings, then of the recipe, not
+    /// deprecated, no development version, and the greater version first.
     #[tactic(auto, unfolding(crate::specs::Ranks::rank_cmp))]
     pub(crate) fn compare(&self, other: &Ranked) -> Ordering
         ensures { result ≡ rank_cmp self.now other.now }
@@ -87,6 +89,7 @@ pub(crate) fn ranked_rows<'a>(
     Ok(ranked)
 }
 
+/// The same ranks in a list that may be sorted.
 fn copied<'a>(alloc: Global, ranked: &[Ranked<'a>]) -> Result<Vec<Ranked<'a>>, AllocError>
     ensures { IfOk result (λ copied. copied.items ≡ ranked.now) }
 {

@@ -1,7 +1,7 @@
-// What is summed over the nodes.
+//! What is summed over the nodes.
 ghost use Rattle.std.specs.Prelude.{◌≡◌, IfOk};
 ghost use Rattle.graph_rules.specs.Costs.{stopped};
-ghost use Rattle.cost_vector.specs.Terms.{term_cost, placed, in_part, part_cost};
+ghost use Rattle.cost_vector.specs.Terms.{term_cost, placed, in_half, half_cost};
 
 use crate::node_costs::{edges_differing, is_root, over_variants, provider_weights};
 use crate::{compiler_weight, is_deprecated, os_weight, target_weight, version_weight};
@@ -51,6 +51,7 @@ pub(crate) enum Place {
     OffRoots,
 }
 
+/// What a node adds to a criterion, wherever it stands.
 #[tactic(auto, unfolding(crate::specs::Terms::term_cost))]
 fn term_cost(
     alloc: Global,
@@ -82,6 +83,7 @@ fn term_cost(
     }
 }
 
+/// The same at roots alone, at others alone, or at all nodes.
 fn placed(
     alloc: Global,
     place: Place,
@@ -112,8 +114,8 @@ fn placed(
     }
 }
 
-fn is_in_part(built: bool, node: &Node) -> bool
-    ensures { result ≡ in_part built node.now }
+fn is_in_half(built: bool, node: &Node) -> bool
+    ensures { result ≡ in_half built node.now }
 {
     if built {
         is_built(node)
@@ -123,7 +125,7 @@ fn is_in_part(built: bool, node: &Node) -> bool
 }
 
 /// What a node adds to a sum over the nodes to build, or over the others.
-pub(crate) fn part_cost(
+pub(crate) fn half_cost(
     alloc: Global,
     built: bool,
     place: Place,
@@ -133,10 +135,10 @@ pub(crate) fn part_cost(
     node: &Node,
 ) -> Result<u64, AllocError>
     ensures { IfOk result (λ cost. cost
-        ≡ stopped (part_cost built (placed place problem.now
+        ≡ stopped (half_cost built (placed place problem.now
         (term_cost added problem.now graph.now)) node.now)) }
 {
-    if is_in_part(built, node) {
+    if is_in_half(built, node) {
         placed(alloc, place, added, problem, graph, node)
     } else {
         Ok(0)

@@ -1,10 +1,11 @@
-// The weight of one version.
+//! The weight of one version.
 ghost use Rattle.std.specs.Prelude.{◌≡◌, ◌&&◌, find};
 ghost use Rattle.std.specs.List.{list_any};
 ghost use Rattle.std.specs.Option.{option_copied};
 ghost use Rattle.std.specs.Ordering.{is_lt};
 ghost use Rattle.std.specs.Str.{bytes_eq};
-ghost use Rattle.graph_rules.specs.Weights.{listed_in, place_of, place_or_number, version_weight, is_deprecated};
+ghost use Rattle.graph_rules.specs.Weights.{listed_in, place_of, place_or_number, version_weight};
+ghost use Rattle.graph_rules.specs.Weights.{is_deprecated};
 ghost use Rattle.cost_vector.specs.Ranks.{rank, rank_cmp};
 
 use crate::ranks::Ranked;

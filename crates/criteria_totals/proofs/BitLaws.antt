@@ -101,7 +101,10 @@ bits_on-is p (d ∷ ds) b k s =
     let r = bits_on-is low.plan ds (AllClausesBelow-le (next p) (next low.plan) ds x.0.more b.1) k.1 (λ v f. (s v (x.0.follows v f)).1) in
     let up : next p ≤ next m.plan = omega (arith, x.0.more, r.0.more) in (
       Step-trans p low.plan m.plan x.0 r.0,
-      (Fits-more (next low.plan) (next m.plan) low.answer r.0.more x.1, (Fits-more (next p) (next m.plan) (high_bit d) up (high-fits (next p) d b.0), r.1)),
+      (
+        Fits-more (next low.plan) (next m.plan) low.answer r.0.more x.1,
+        (Fits-more (next p) (next m.plan) (high_bit d) up (high-fits (next p) d b.0), r.1),
+      ),
       (λ v f.
           let g : FollowsPlan v low.plan = r.0.follows v f in
           let e = low_bit-is v p d k.0 (s v (x.0.follows v g)).0 g in
@@ -116,6 +119,7 @@ take-value v (suc w) [] h = refl
 take-value v (suc w) (b ∷ bs) h =
     let ih = take-value v w bs (omega (arith, pow-suc 2 w)) in omega arith
 
+-- the first bits fit too
 pub take-fit : (n w : ℕ) (bs : List (Option Lit)) → AllFit n bs → AllFit n (take w bs)
 take-fit n zero bs f = tt
 take-fit n (suc w) [] f = tt

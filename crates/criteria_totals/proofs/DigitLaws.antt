@@ -19,6 +19,7 @@ use Rattle.criteria_totals.proofs.MergeLaws.{clause_true-append, above-is, above
 abbrev pub left_of : ℕ → ℕ
 left_of n = if leb 4 n then n - 4 else n
 
+-- a number is what is left without four, and four where there are four
 pub left_of-parts : (n : ℕ) → left_of n + 4 * bit (leb 4 n) ≡ n
 left_of-parts n =
     elim (cases_lt n 4) [
@@ -53,6 +54,7 @@ take-one : (ls : List Lit) → length (take 1 ls) ≤ 1
 take-one [] = omega arith
 take-one (l ∷ ls) = omega arith
 
+-- there is at most one literal for "more than i"
 pub above-short : (ls : List Lit) (i : ℕ) → length (above ls i) ≤ 1
 above-short ls i = take-one (drop i ls)
 
@@ -101,12 +103,26 @@ module _ (v : ℕ → Bool) (s : List Lit) (n : ℕ) (h : Spells v s n) (small :
   left_over-is =
       rw (on-is, off-is) (elim (cases_lt n 4) [
         | inl low ↦ elim (cases_lt i n) [
-          | inl more ↦ rw (left_of-low n low, lt-leb 4 n low, lt-leb (suc (i + 4)) n (omega arith), le-leb (suc i) n (omega arith)) (refl, refl)
-          | inr less ↦ rw (left_of-low n low, lt-leb 4 n low, lt-leb (suc (i + 4)) n (omega arith), lt-leb (suc i) n (omega arith)) (refl, refl)
+          | inl more ↦ rw (left_of-low n low, lt-leb 4 n low, lt-leb (suc (i + 4)) n (omega arith), le-leb (suc i) n (omega arith))
+              (refl, refl)
+          | inr less ↦ rw (left_of-low n low, lt-leb 4 n low, lt-leb (suc (i + 4)) n (omega arith), lt-leb (suc i) n (omega arith))
+              (refl, refl)
         ]
         | inr high ↦ elim (cases_lt (i + 4) n) [
-          | inl more ↦ rw (left_of-high n high, le-leb 4 n high, le-leb (suc (i + 4)) n (omega arith), le-leb (suc i) n (omega arith), le-leb (suc i) (n - 4) (omega arith)) (refl, refl)
-          | inr less ↦ rw (left_of-high n high, le-leb 4 n high, lt-leb (suc (i + 4)) n (omega arith), le-leb (suc i) n (omega arith), lt-leb (suc i) (n - 4) (omega arith)) (refl, refl)
+          | inl more ↦ rw (
+            left_of-high n high,
+            le-leb 4 n high,
+            le-leb (suc (i + 4)) n (omega arith),
+            le-leb (suc i) n (omega arith),
+            le-leb (suc i) (n - 4) (omega arith),
+          ) (refl, refl)
+          | inr less ↦ rw (
+            left_of-high n high,
+            le-leb 4 n high,
+            lt-leb (suc (i + 4)) n (omega arith),
+            le-leb (suc i) n (omega arith),
+            lt-leb (suc i) (n - 4) (omega arith),
+          ) (refl, refl)
         ]
       ])
 
@@ -122,7 +138,8 @@ left_over-below n s i b = (
 )
 
 left_from-is : (i more : ℕ) (p : Planned) (s : List Lit) (n : (ℕ → Bool) → ℕ) → i + more ≤ 3 → AllBelow (next p) s → 4 ≤ length s
-    → length s ≤ 7 → ((v : ℕ → Bool) → FollowsPlan v p → Spells v s (n v)) → Merges p (left_from i more p s) (suc i) more (λ v. left_of (n v))
+    → length s ≤ 7 → ((v : ℕ → Bool) → FollowsPlan v p → Spells v s (n v))
+    → Merges p (left_from i more p s) (suc i) more (λ v. left_of (n v))
 left_from-is i zero p s n h b long short d = record { step = Step-refl p; below = tt; long = refl; spells = λ v f. refl }
 left_from-is i (suc more) p s n h b long short d =
     let g = left_over s i in
@@ -147,6 +164,7 @@ pub record LeavesDigit (p : Planned) (m : Made (List Lit)) (n : (ℕ → Bool) �
   pub short : length m.answer ≤ 3
   pub spells : (v : ℕ → Bool) → FollowsPlan v m.plan → Spells v m.answer (left_of (n v))
 
+-- the digit and the carry spell what the sorted list did
 pub digit_on-is : (p : Planned) (s : List Lit) (n : (ℕ → Bool) → ℕ) → AllBelow (next p) s → length s ≤ 7
     → ((v : ℕ → Bool) → FollowsPlan v p → Spells v s (n v)) → LeavesDigit p (digit_on p s) n
 digit_on-is p s n b short d =

@@ -22,9 +22,11 @@ count-from v k n (l ∷ ls) e =
       | inr ge ↦ rw (h, lt-leb (suc k) n (omega arith)) (omega arith)
     ]
 
+-- a sorted list spells how many of it are true
 pub spells-count : (v : ℕ → Bool) (ls : List Lit) (n : ℕ) → Spells v ls n → count_true v ls ≡ n
 spells-count v ls n s = omega (arith, count-from v 0 n ls s.0, s.1)
 
+-- so it spells its own count
 pub spells-own : (v : ℕ → Bool) (ls : List Lit) (n : ℕ) → Spells v ls n → Spells v ls (count_true v ls)
 spells-own v ls n s = rw (spells-count v ls n s) s
 
@@ -35,6 +37,7 @@ pub record Joins (p : Planned) (m : Made (List Lit)) (long : ℕ) (n : (ℕ → 
   pub long_is : length m.answer ≡ long
   pub spells : (v : ℕ → Bool) → FollowsPlan v m.plan → Spells v m.answer (n v)
 
+-- two sorted lists merged spell the sum
 pub merged_on-is : (p : Planned) (xs ys : List Lit) (c d : (ℕ → Bool) → ℕ) → AllBelow (next p) xs → AllBelow (next p) ys →
     ((v : ℕ → Bool) → FollowsPlan v p → Spells v xs (c v) × Spells v ys (d v))
     → Joins p (merged_on p xs ys) (length xs + length ys) (λ v. c v + d v)

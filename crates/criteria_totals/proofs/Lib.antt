@@ -7,6 +7,6 @@ pub mod SpelledLaws
 pub mod MergeLoops
 pub mod DigitLoops
 pub mod UnaryLaws
-pub mod CriteriaTotalsMergeLoops
+pub mod UnaryLoops
 pub mod SpellingLaws
 pub mod TotalLaws

@@ -46,6 +46,7 @@ above-at v k c (l ∷ ls) (suc i) e h =
     let r = above-at v (suc k) c ls i (tail-same _ _ _ _ e) (omega arith) in
     (r.0 ∙ ap (λ m. leb m c) n, r.1 ∙ ap (λ m. not (leb m c)) n)
 
+-- there is no literal beyond the last
 pub above-past : (ls : List Lit) (i : ℕ) → length ls ≤ i → above ls i ≡ []
 above-past [] zero h = refl
 above-past [] (suc i) h = refl
@@ -212,6 +213,7 @@ pub record Merges (p : Planned) (m : Made (List Lit)) (k more : ℕ) (n : (ℕ �
   pub long : length m.answer ≡ more
   pub spells : (v : ℕ → Bool) → FollowsPlan v m.plan → map (lit_true v) m.answer ≡ thresholds k more (n v)
 
+-- the literals of a merge tell from k on how large the sum is
 pub merge_from-is : (k more : ℕ) (p : Planned) (xs ys : List Lit) (c d : (ℕ → Bool) → ℕ) → k + more ≤ length xs + length ys + 1
     → AllBelow (next p) xs → AllBelow (next p) ys →
     ((v : ℕ → Bool) → FollowsPlan v p → Spells v xs (c v) × Spells v ys (d v))
@@ -247,6 +249,7 @@ replicate-off : (v : ℕ → Bool) (k more n : ℕ) (l : Lit) → lit_true v l �
 replicate-off v k zero n l t h = refl
 replicate-off v k (suc more) n l t h = rw (t, lt-leb k n h, replicate-off v (suc k) more n l t (omega arith)) refl
 
+-- a literal so many times spells its weight
 pub replicate-is : (v : ℕ → Bool) (w : ℕ) (l : Lit) → Spells v (replicate w l) (w * bit (lit_true v l))
 replicate-is v w l =
     elim (cases_Bool (lit_true v l)) [

@@ -26,6 +26,7 @@ number-reverse v [] = refl
 number-reverse v (b ∷ bs) = ap number (reverse-cons (bit_true v b) (map (bit_true v) bs))
     ∙ number_after-push 0 (reverse (map (bit_true v) bs)) (bit_true v b) ∙ omega (arith, number-reverse v bs)
 
+-- the planned bits spell the sum of the weights of true literals
 pub digit_bits_on-is : (p : Planned) (ts : List (ℕ × Lit)) → TermsBelow (next p) ts → total ts < 2 ^ 63 → SumsTo p (digit_bits_on p ts) ts
 unfolding digit_bits_on
 digit_bits_on-is p ts b h =
@@ -82,9 +83,11 @@ digit_bits_on-length p ts =
     let t = halved ts in
     let sum = digits_on p t in
     let bits = bits_on sum.plan sum.answer in
-    let e : length bits.answer ≡ 2 * digit_count (tree_total t) = bits_on-length sum.plan sum.answer ∙ ap (λ n. 2 * n) (digits_on-length p t) in
+    let e : length bits.answer ≡ 2 * digit_count (tree_total t) = bits_on-length sum.plan sum.answer
+    ∙ ap (λ n. 2 * n) (digits_on-length p t) in
     let k : digit_count (tree_total t) ≡ digit_count (total ts) = ap digit_count (halved-sum (λ (t : ℕ × Lit). t.0) ts) in
-    length-reverse _ ∙ spell_on-length bits.plan (take (size (total ts)) bits.answer) ∙ length-take-le (size (total ts)) bits.answer (omega arith)
+    length-reverse _ ∙ spell_on-length bits.plan (take (size (total ts)) bits.answer)
+    ∙ length-take-le (size (total ts)) bits.answer (omega arith)
 
 -- what the code planned for a list of clauses
 module _ (s : Clauses) (ts : List (ℕ × Lit)) (q : Planned) (bits : List Lit) (b : TermsBelow s.vars ts) (h : total ts < 2 ^ 63)
@@ -92,12 +95,15 @@ module _ (s : Clauses) (ts : List (ℕ × Lit)) (q : Planned) (bits : List Lit) 
   planned : SumsTo (plan_at s) (record { plan = q; answer = bits }) ts
   planned = let e : s.vars + 0 ≡ s.vars = omega arith in rw (← built) (digit_bits_on-is (plan_at s) ts (rw e b) h)
 
+  -- the plan begins at the list's next variable
   pub bits-first : q.first ≡ s.vars
   bits-first = planned.step.same
 
+  -- it is sound
   pub bits-sound : IsSound q
   bits-sound = sound_from s.vars q planned.step
 
+  -- its clauses make the bits spell the sum
   pub bits-sum : (new : Clauses) → new ≡ with_gates s q.gates → IsSum s new bits ts
   bits-sum new e = rw e (record {
     defines = step-defines s q planned.step;

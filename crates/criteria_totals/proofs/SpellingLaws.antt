@@ -5,7 +5,7 @@ use Rattle.std.specs.declared.cmp.Ordering.TheVariants.{Less, Equal, Greater}
 use Rattle.std.specs.Ordering.{nat_cmp, bool_cmp, ordering_then}
 use Rattle.std.proofs.lemmas.Bool.{cases_Bool, cases_lt, cases_order, leb-true, le-leb, lt-leb, lt-ltb, le-ltb, eq-eqb, ne_eqb, and_parts}
 use Rattle.std.proofs.lemmas.List.{reverse-append, at_drop_more, at_drop_all, append-nil}
-use Rattle.criteria_totals.specs.Unary.{thresholds}
+use Rattle.criteria_totals.specs.Merges.{thresholds}
 use Rattle.clause_circuits.specs.Binary.{size, number}
 use Rattle.clause_circuits.proofs.BinaryLaws.{size-is, number_after-is, number-small}
 use Rattle.criteria_totals.specs.Spellings.{compare_bits, compare_numbers, IsSpelling, unary, binary, spell, spell_all, within, bits_for, AllSmall, IsBelow}
@@ -24,6 +24,7 @@ bits-equal [] = refl
 bits-equal (true ∷ xs) = bits-equal xs
 bits-equal (false ∷ xs) = bits-equal xs
 
+-- behind equal lengths, the fronts decide first
 pub compare-append : (us ws cs ds : List Bool) → length us ≡ length ws
     → compare_bits (us ++ cs) (ws ++ ds) ≡ ordering_then (compare_bits us ws) (compare_bits cs ds)
 compare-append [] [] cs ds h = refl
@@ -83,9 +84,11 @@ binary-order (suc w) m n h g =
       ]
     ]
 
+-- unary bits compare as numbers do
 pub unary-spells : (top : ℕ) → IsSpelling top (unary top)
 unary-spells top = record { width = λ m n. unary-length top m ∙ sym (unary-length top n); order = λ m n. unary-order top m n }
 
+-- so do binary ones
 pub binary-spells : (w top : ℕ) → top < 2 ^ w → IsSpelling top (binary w)
 binary-spells w top h = record {
   width = λ m n. binary-length w m ∙ sym (binary-length w n);
@@ -172,6 +175,7 @@ thresholds-push k zero n = let e : k ≡ k + 0 = omega arith in ap (λ m. leb m 
 thresholds-push k (suc more) n = let e : suc k + more ≡ k + suc more = omega arith in
     ap (λ xs. leb k n ∷ xs) (thresholds-push (suc k) more n) ∙ ap (λ m. leb k n ∷ (thresholds (suc k) more n ++ leb m n ∷ [])) e
 
+-- the literals of a sorted list, backwards, are the unary bits
 pub unary-is : (top n : ℕ) → reverse (thresholds 1 top n) ≡ unary top n
 unary-is zero n = refl
 unary-is (suc top) n =
@@ -185,6 +189,7 @@ pub unary-more : (j w n : ℕ) (vals more all : List Bool) → j ≡ suc w → v
 unary-more j w n vals more all q e f = rw (f, q) (append_assoc vals (leb (suc w) n ∷ []) (unary w n))
     ∙ ap (λ k. vals ++ unary k n) (sym q) ∙ e
 
+-- one more binary digit
 pub binary-more : (j w n place rest : ℕ) (vals more all : List Bool) → j ≡ suc w → place ≡ 2 ^ w → ((place ≤ n) × (rest ≡ n - place))
     ⊎ ((n < place) × (rest ≡ n)) → vals ++ binary j n ≡ all → more ≡ vals ++ leb place n ∷ [] → more ++ binary w rest ≡ all
 binary-more j w n place rest vals more all q p c e f = rw (f, p) (append_assoc vals (leb (2 ^ w) n ∷ []) (binary w rest))
@@ -197,10 +202,12 @@ binary-more j w n place rest vals more all q p c e f = rw (f, p) (append_assoc v
           omega arith in rw (lt-leb (2 ^ w) n l) h.1
     ]
 
+-- up to 64 in unary
 pub spell-low : (top n : ℕ) → top ≤ 64 → spell top n ≡ unary top n
 unfolding spell
 spell-low top n h = rw (le-leb top 64 h) refl
 
+-- above in binary
 pub spell-high : (top n : ℕ) → 64 < top → spell top n ≡ binary (size top) n
 unfolding spell
 spell-high top n h = rw (lt-leb top 64 h) refl
@@ -219,16 +226,19 @@ within-at : (ts ns : List ℕ) (i d e : ℕ) → i < length ts → i < length ns
 within-at ts ns i d e h g = at_drop_more (λ xs. within xs (drop i ns)) ts i d h
     ∙ at_drop_more (λ xs. within (get_or ts i d ∷ drop (i + 1) ts) xs) ns i e g
 
+-- one more number is within its top
 pub within-more : (ts ns : List ℕ) (i d e : ℕ) (b : Bool) → i < length ts → i < length ns → get_or ns i e ≤ get_or ts i d
     → within (drop i ts) (drop i ns) ≡ b → within (drop (i + 1) ts) (drop (i + 1) ns) ≡ b
 within-more ts ns i d e b h g k inv = sym (within-at ts ns i d e h g ∙ rw (le-leb (get_or ns i e) (get_or ts i d) k) refl) ∙ inv
 
+-- one number above its top leaves no bits
 pub vector-above : (ts ns : List ℕ) (i d e : ℕ) → i < length ts → i < length ns → get_or ts i d < get_or ns i e
     → within (drop i ts) (drop i ns) ≡ within ts ns → None ≡ bits_for ts ns
 unfolding bits_for
 vector-above ts ns i d e h g k inv = let w : within ts ns ≡ false = sym inv ∙ within-at ts ns i d e h g
     ∙ rw (lt-leb (get_or ns i e) (get_or ts i d) k) refl in rw w refl
 
+-- after the last number all bits are there
 pub vector-end : (ts ns : List ℕ) (i : ℕ) (vals : List Bool) → length ts ≤ i → length ns ≤ i
     → vals ++ spell_all (drop i ts) (drop i ns) ≡ spell_all ts ns → within (drop i ts) (drop i ns) ≡ within ts ns
     → Some vals ≡ bits_for ts ns

@@ -110,7 +110,8 @@ add_digits-is (suc w) p c ds es a k f g s t o =
       rest-sorted v es (o v (back v fol)).2,
     )) in
     let last = (add_digits w digit.plan carry (rest_digits ds) (rest_digits es)).plan in record {
-      step = Step-trans p here.plan last x.step (Step-trans here.plan all.plan last y.step (Step-trans all.plan digit.plan last z.step r.step));
+      step = Step-trans p here.plan last x.step (Step-trans here.plan all.plan last y.step
+          (Step-trans all.plan digit.plan last z.step r.step));
       below = (AllBelow-le m (next last) digit.answer r.step.more z.below, r.below);
       short = (z.short, r.short);
       sorted = λ v fol.
@@ -134,6 +135,7 @@ two-four (suc j) zero h = omega (arith, pow-suc 4 j, two-four j zero (omega arit
 two-four (suc j) (suc zero) h = omega (arith, pow-suc 4 j, two-four j zero (omega arith))
 two-four (suc j) (suc (suc k)) h = omega (arith, pow-suc 4 j, pow-suc 2 (suc k), pow-suc 2 k, two-four j k (omega arith))
 
+-- a number is below the power of its count of digits
 pub digit_count-is : (n : ℕ) → n < 2 ^ 63 → n < 4 ^ digit_count n
 digit_count-is n h = omega (arith, size-is n h, two-four (digit_count n) (size n) (omega arith))
 

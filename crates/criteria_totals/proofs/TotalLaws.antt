@@ -12,7 +12,8 @@ use Rattle.clause_circuits.proofs.StepLaws.{Step-refl, Step-trans, sound_from, s
 use Rattle.clause_circuits.specs.Trees.{halved, weight_of, total, weight, TermsBelow}
 use Rattle.clause_circuits.specs.Binary.{size}
 use Rattle.criteria_totals.specs.Digits.{digit_bits_on}
-use Rattle.criteria_totals.specs.Unary.{thresholds, unary_on, unary_bits_on}
+use Rattle.criteria_totals.specs.Merges.{thresholds}
+use Rattle.criteria_totals.specs.Unary.{unary_on, unary_bits_on}
 use Rattle.clause_circuits.proofs.TreeLaws.{halved-sum, halved-below, weight-le}
 use Rattle.criteria_totals.proofs.SpelledLaws.{digit_bits_on-is, digit_bits_on-length}
 use Rattle.clause_circuits.proofs.BinaryLaws.{AllBelow-append, AllBelow-reverse, map-reverse}
@@ -100,12 +101,15 @@ module _ (s : Clauses) (lists : List (List (ℕ × Lit))) (q : Planned) (bits : 
   planned : Spelled (plan_at s) (record { plan = q; answer = bits }) (λ v. spell_all (tops lists) (sums v lists))
   planned = let e : s.vars + 0 ≡ s.vars = omega arith in rw (← built) (totals-spelled (plan_at s) lists (rw e range) small)
 
+  -- the plan begins at the list's next variable
   pub totals-first : q.first ≡ s.vars
   totals-first = planned.step.same
 
+  -- it is sound
   pub totals-sound : IsSound q
   totals-sound = sound_from s.vars q planned.step
 
+  -- its clauses make the bits spell the sums
   pub totals-are : (new : Clauses) → new ≡ with_gates s q.gates → IsTotals s new bits lists
   totals-are new e =
       let follows = step-follows s q planned.step in rw e (record {
@@ -121,14 +125,17 @@ module _ (s : Clauses) (lists : List (List (ℕ × Lit))) (q : Planned) (bits : 
             (sym (planned.spells v (follows asked v m)) ∙ h ∙ planned.spells w (follows asked w n));
       })
 
+-- a sum up to 64 goes in unary
 pub number-low : (p : Planned) (ts : List (ℕ × Lit)) (top : ℕ) → top ≡ total ts → top ≤ 64 → number_on p ts ≡ unary_bits_on p ts
 unfolding number_on
 number-low p ts top e h = rw (← e, le-leb top 64 h) refl
 
+-- a greater one by digits
 pub number-high : (p : Planned) (ts : List (ℕ × Lit)) (top : ℕ) → top ≡ total ts → 64 < top → number_on p ts ≡ digit_bits_on p ts
 unfolding number_on
 number-high p ts top e h = rw (← e, lt-leb top 64 h) refl
 
+-- each list's weights add up to less than 2 ^ 63
 pub small-at : (lists : List (List (ℕ × Lit))) (i : ℕ) (d : List (ℕ × Lit)) → AllSmall (tops lists) → i < length lists
     → total (get_or lists i d) < 2 ^ 63
 small-at [] i d f h = absurd (omega arith)

@@ -5,4 +5,3 @@ pub mod Rows
 pub mod Unary
 pub mod Spellings
 pub mod Totals
-pub mod CriteriaTotalsRows

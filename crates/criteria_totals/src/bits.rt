@@ -134,13 +134,13 @@ fn spell(alloc: Global, plan: &mut Plan, bits: &[Option<Lit>]) -> Result<Vec<Lit
 {
     let mut lits = Vec::new(alloc);
     for bit in bits {
-        lits.push(known(alloc, plan, *bit)?)?;
+        lits.push(known(plan, *bit)?)?;
     }
     Ok(lits)
 }
 
 // A literal for a bit: one that is true nowhere where the bit is known to be false.
-fn known(alloc: Global, plan: &mut Plan, bit: Option<Lit>) -> Result<Lit, AllocError>
+fn known(plan: &mut Plan, bit: Option<Lit>) -> Result<Lit, AllocError>
     ensures { IfOk result (λ lit. known_on plan.old bit ≡ record {
       plan =
           plan.new;
@@ -150,7 +150,7 @@ fn known(alloc: Global, plan: &mut Plan, bit: Option<Lit>) -> Result<Lit, AllocE
     match bit {
         Some(lit) => Ok(lit),
         None => {
-            let lit = plan.add(Gate::never(alloc))?;
+            let lit = plan.add(Gate::never())?;
             Ok(lit)
         }
     }

@@ -30,8 +30,13 @@ pub(crate) fn merged(
     merge(alloc, plan, a, b)
 }
 
-// Two sorted lists as one, by a gate for each number.
-fn merge(alloc: Global, plan: &mut Plan, a: &[Lit], b: &[Lit]) -> Result<Vec<Lit>, AllocError>
+/// Two sorted lists as one, by a gate for each number.
+pub(crate) fn merge(
+    alloc: Global,
+    plan: &mut Plan,
+    a: &[Lit],
+    b: &[Lit],
+) -> Result<Vec<Lit>, AllocError>
     ensures { IfOk result (λ lits. merge_from 1 (length a.now + length b.now) plan.old a.now b.now
         ≡ record { plan = plan.new; answer = lits.items }) }
 {

@@ -79,7 +79,8 @@ impl Bits {
         self.tops.as_slice()
     }
 
-    /// What each sum adds up, for a search that decides these literals early. Nothing is promised of them.
+    /// What each sum adds up, for a search that decides these literals early. Nothing is promised
+    /// of them.
     pub fn terms(&self) -> &[Terms] {
         self.terms.as_slice()
     }

@@ -1,12 +1,11 @@
 //! Unary sums: a balanced tree of merges of sorted lists.
-ghost use Rattle.std.specs.Prelude.{◌≡◌, ◌+◌, ◌++◌, ◌<◌, ◌≤◌, ◌^◌, length, map, replicate, IfOk, OnOk};
-ghost use Rattle.clause_store.specs.Lits.{negation};
+ghost use Rattle.std.specs.Prelude.{◌≡◌, replicate, IfOk};
 ghost use Rattle.clause_circuits.specs.Trees.{halved};
-ghost use Rattle.criteria_totals.specs.Unary.{above, upto, on_clause, off_clause, at_least, merge_from, unary_on, unary_bits_on};
+ghost use Rattle.criteria_totals.specs.Unary.{unary_on, unary_bits_on};
 
-use clause_circuits::{Gate, Lits, Plan};
+use crate::merges::merge;
+use clause_circuits::Plan;
 use clause_store::Lit;
-use smallvec::SmallVec;
 use std::alloc::{AllocError, Global};
 
 /// Plans the sum of the weights of true literals in unary: its bits, the highest first, as many as
@@ -59,105 +58,4 @@ fn repeated(alloc: Global, count: u64, lit: Lit) -> Result<Vec<Lit>, AllocError>
         lits.push(lit)?;
     }
     Ok(lits)
-}
-
-// Two sorted lists as one.
-fn merge(alloc: Global, plan: &mut Plan, a: &[Lit], b: &[Lit]) -> Result<Vec<Lit>, AllocError>
-    ensures { IfOk result (λ lits. merge_from 1 (length a.now + length b.now) plan.old a.now b.now
-        ≡ record { plan = plan.new; answer = lits.items }) }
-{
-    let mut lits = Vec::new(alloc);
-    for k in 0..a.len() + b.len() {
-        lits.push(plan.add(at_least(alloc, k + 1, a, b)?)?)?;
-    }
-    Ok(lits)
-}
-
-// The gate for at least k of two sorted lists.
-fn at_least(alloc: Global, k: usize, a: &[Lit], b: &[Lit]) -> Result<Gate, AllocError>
-    requires { k < 2 ^ 63 }
-    ensures { IfOk result (λ g. g ≡ at_least k a.now b.now) }
-{
-    let mut on = Vec::new(alloc);
-    for i in 0..k + 1 {
-        push_on(alloc, &mut on, k, a, b, i)?;
-    }
-    let mut off = Vec::new(alloc);
-    for i in 0..k {
-        push_off(alloc, &mut off, k, a, b, i)?;
-    }
-    Ok(Gate::by_clauses(on, off))
-}
-
-// At least i of the first and k - i of the second make k.
-fn push_on(
-    alloc: Global,
-    on: &mut Vec<Lits>,
-    k: usize,
-    a: &[Lit],
-    b: &[Lit],
-    i: usize,
-) -> Result<(), AllocError>
-    requires { i ≤ k }
-    ensures { OnOk result (on.new.items ≡ on.old.items ++ on_clause k a.now b.now i) }
-{
-    if i <= a.len() && k - i <= b.len() {
-        let mut lits = SmallVec::new(alloc);
-        push_negated(&mut lits, upto(a, i))?;
-        push_negated(&mut lits, upto(b, k - i))?;
-        on.push(Lits::from_slice(alloc, lits.as_slice())?)?;
-    }
-    Ok(())
-}
-
-// At most i of the first and k - 1 - i of the second do not.
-fn push_off(
-    alloc: Global,
-    off: &mut Vec<Lits>,
-    k: usize,
-    a: &[Lit],
-    b: &[Lit],
-    i: usize,
-) -> Result<(), AllocError>
-    requires { i < k }
-    ensures { OnOk result (off.new.items ≡ off.old.items ++ off_clause k a.now b.now i) }
-{
-    if i <= a.len() && k - 1 - i <= b.len() {
-        let mut lits = Vec::new(alloc);
-        lits.extend_from_slice(above(a, i))?;
-        lits.extend_from_slice(above(b, k - 1 - i))?;
-        off.push(Lits::from_slice(alloc, lits.as_slice())?)?;
-    }
-    Ok(())
-}
-
-// The literal for more than `count`: none above the last.
-fn above(lits: &[Lit], count: usize) -> &[Lit]
-    ensures { result.now ≡ above lits.now count }
-{
-    if count < lits.len() {
-        &lits[count..count + 1]
-    } else {
-        &[]
-    }
-}
-
-// The literal for at least `count`: none for 0.
-fn upto(lits: &[Lit], count: usize) -> &[Lit]
-    ensures { result.now ≡ upto lits.now count }
-{
-    if count == 0 {
-        &[]
-    } else {
-        above(lits, count - 1)
-    }
-}
-
-fn push_negated(lits: &mut SmallVec<Lit, 2>, more: &[Lit]) -> Result<(), AllocError>
-    ensures { OnOk result (lits.new.items ≡ lits.old.items ++ map negation more.now) }
-{
-    for lit in more {
-        lits.push(lit.negated())?;
-    }
-    Ok(())
 }

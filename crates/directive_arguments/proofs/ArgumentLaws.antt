@@ -93,12 +93,13 @@ keyword_local (Reads k) bytes place w s g h =
 
 argument_local : (bytes : List ℕ) (s : Segment) (g : Given) → GivesLocal g → IfOk (argument bytes directive.Provides s g) GivesLocal
 unfolding argument
-argument_local bytes s g h = by (keyword_of s)
+argument_local bytes s g h = local_by_keyword (keyword_of s)
   where
-    by : (o : Option Token) → IfOk (argument_by o bytes directive.Provides s g) GivesLocal
-    by None = any_then GivesLocal (positional bytes directive.Provides s g.positional) _ (λ p. h)
-    by (Some t) = keyword_local (role directive.Provides (word bytes t)) bytes t.start (word bytes t) (without_keyword s) g h
+    local_by_keyword : (o : Option Token) → IfOk (argument_by o bytes directive.Provides s g) GivesLocal
+    local_by_keyword None = any_then GivesLocal (positional bytes directive.Provides s g.positional) _ (λ p. h)
+    local_by_keyword (Some t) = keyword_local (role directive.Provides (word bytes t)) bytes t.start (word bytes t) (without_keyword s) g h
 
+-- the condition of a `provides` has no `^`
 pub arguments_local : (bytes : List ℕ) (segments : List Segment) → IfOk (arguments bytes directive.Provides segments) GivesLocal
 unfolding arguments
 arguments_local bytes segments = steps_keep GivesLocal (argument bytes directive.Provides) (argument_local bytes) segments nothing_given tt
@@ -156,11 +157,11 @@ further_named count.OneOrMore bytes d s p h = value_named bytes d s p h
 
 positional_named : (bytes : List ℕ) (d : Directive) (s : Segment) (p : Positional) → AreNamed p → IfOk (positional bytes d s p) AreNamed
 unfolding positional
-positional_named bytes d s p h = by (has_value d p)
+positional_named bytes d s p h = named_by_presence (has_value d p)
   where
-    by : (b : Bool) → IfOk (cond b (further (takes d).positional bytes d s p) (then_do (read bytes s) (λ r. with_value d r p))) AreNamed
-    by true = further_named (takes d).positional bytes d s p h
-    by false = value_named bytes d s p h
+    named_by_presence : (b : Bool) → IfOk (cond b (further (takes d).positional bytes d s p) (then_do (read bytes s) (λ r. with_value d r p))) AreNamed
+    named_by_presence true = further_named (takes d).positional bytes d s p h
+    named_by_presence false = value_named bytes d s p h
 
 -- ---- all arguments
 
@@ -174,12 +175,13 @@ keyword_named (Reads k) bytes d place w s g h =
 
 argument_named : (bytes : List ℕ) (d : Directive) (s : Segment) (g : Given) → GivesNamed g → IfOk (argument bytes d s g) GivesNamed
 unfolding argument
-argument_named bytes d s g h = by (keyword_of s)
+argument_named bytes d s g h = named_by_keyword (keyword_of s)
   where
-    by : (o : Option Token) → IfOk (argument_by o bytes d s g) GivesNamed
-    by None = ok_then AreNamed GivesNamed (positional bytes d s g.positional) _ (positional_named bytes d s g.positional h) (λ p is. is)
-    by (Some t) = keyword_named (role d (word bytes t)) bytes d t.start (word bytes t) (without_keyword s) g h
+    named_by_keyword : (o : Option Token) → IfOk (argument_by o bytes d s g) GivesNamed
+    named_by_keyword None = ok_then AreNamed GivesNamed (positional bytes d s g.positional) _ (positional_named bytes d s g.positional h) (λ p is. is)
+    named_by_keyword (Some t) = keyword_named (role d (word bytes t)) bytes d t.start (word bytes t) (without_keyword s) g h
 
+-- what the arguments name has a NAME
 pub arguments_named : (bytes : List ℕ) (d : Directive) (segments : List Segment) → IfOk (arguments bytes d segments) GivesNamed
 unfolding arguments
 arguments_named bytes d segments = steps_keep GivesNamed (argument bytes d) (argument_named bytes d) segments nothing_given

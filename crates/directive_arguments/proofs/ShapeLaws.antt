@@ -40,6 +40,7 @@ shape_is_by multi (Some values) value = valued_is (is_right_default multi values
     default : Texts
     default = with_texts [] (default_texts multi value)
 
+-- a variant's default is right
 pub shape_is : (default : Option Value) (multi : Bool) (values : Option Texts) → IfSome (shape_with default multi values) IsShape
 shape_is None multi values = tt
 shape_is (Some value) multi values = shape_is_by multi values value

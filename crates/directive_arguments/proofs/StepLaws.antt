@@ -12,10 +12,12 @@ pub fails_then : {A B : Type 0} (e : ArgumentFault) (a : Step A) (f : A → Step
 fails_then fault.OutOfMemory a f h = tt
 fails_then e a f h = rw h refl
 
+-- a fault besides want of memory is the one that the definition gives
 pub fails_known : {A : Type 0} (e : ArgumentFault) (a : Step A) → Fails e a → (e ≢ fault.OutOfMemory) → a ≡ Err e
 fails_known fault.OutOfMemory a h ne = absurd (ne refl)
 fails_known e a h ne = h
 
+-- equal steps have the same faults
 pub fails_along : {A : Type 0} (e : ArgumentFault) (a b : Step A) → a ≡ b → Fails e a → Fails e b
 fails_along fault.OutOfMemory a b same h = tt
 fails_along e a b same h = sym same ∙ h
@@ -27,9 +29,11 @@ drop_suc [] i x h is = absurd (omega (arith, h))
 drop_suc (y ∷ xs) zero x h is = ap (λ (z : _). z ∷ xs) (sym is)
 drop_suc (y ∷ xs) (suc i) x h is = drop_suc xs i x (omega arith) is
 
+-- the element at a place stands before those behind it
 pub drop_here : {X : Type 0} (xs : List X) (i : ℕ) (x : X) → i < length xs → x ≡ get_or xs i x → drop i xs ≡ x ∷ drop (i + 1) xs
 drop_here xs i x h is = rw (add-one) (drop_suc xs i x h is)
 
+-- behind the last element is none
 pub drop_past : {X : Type 0} (xs : List X) (i : ℕ) → length xs ≤ i → drop i xs ≡ []
 drop_past [] zero h = refl
 drop_past [] (suc i) h = refl
@@ -38,10 +42,12 @@ drop_past (x ∷ xs) (suc i) h = drop_past xs i (omega arith)
 
 -- ---- loops
 
+-- the steps from a place on begin with the one there
 pub steps_here : {X S : Type 0} (f : X → S → Step S) (xs : List X) (i : ℕ) (x : X) (s : S) → i < length xs → x ≡ get_or xs i x
     → steps f (drop i xs) s ≡ then_do (f x s) (steps f (drop (i + 1) xs))
 steps_here f xs i x s h is = rw (drop_here xs i x h is) refl
 
+-- behind the last element no step is left
 pub steps_past : {X S : Type 0} (f : X → S → Step S) (xs : List X) (i : ℕ) (s : S) → length xs ≤ i → steps f (drop i xs) s ≡ Ok s
 steps_past f xs i s h = rw (drop_past xs i h) refl
 
@@ -58,6 +64,7 @@ steps_err f xs i x s all e h is inv fails =
 
 -- ---- elements of a default
 
+-- the first element that is no default is the wrong one
 pub wrong_here : (xs : List Element) (i : ℕ) (x : Element) → i < length xs → x ≡ get_or xs i x → is_default x.scalar ≡ false
     → wrong_element (drop i xs) ≡ Some x.place
 wrong_here xs i x h is none = rw (drop_here xs i x h is, none) refl

@@ -26,6 +26,7 @@ is_said : (mode : Mode) (text : List ℕ) (t : IsSaid mode text) → IsAnswer mo
 is_said mode text (inl w) = w.1
 is_said mode text (inr w) = err_said mode text w.0 w.1 w.2
 
+-- what the definition computes is an answer to the text
 pub answer_is : (mode : Mode) (text : List ℕ) → IsAnswer mode text (answer mode text)
 unfolding answer
 answer_is mode text = is_said mode text (reading_total mode text)
@@ -37,6 +38,7 @@ found_by mode text specs s (Ok others) h = ap (λ (l : List Spec). let r : Answe
 found_by mode text specs s (Err spec.OutOfMemory) h = absurd h
 found_by mode text specs s (Err e) h = let same : e ≡ spec.OutOfMemory = only_memory mode text specs e s h in cc
 
+-- specs that a text spells are its answer
 pub found : (mode : Mode) (text : List ℕ) (specs : List Spec) → Spells mode text specs → answer mode text ≡ Ok specs
 found mode text specs s = found_by mode text specs s (answer mode text) (answer_is mode text)
 
@@ -46,6 +48,7 @@ fault_by mode text e f ne (Ok specs) h = absurd (ne (only_memory mode text specs
 fault_by mode text e f ne (Err spec.OutOfMemory) h = absurd h
 fault_by mode text e f ne (Err d) h = ap (λ (x : SpecFault). let r : Answer = Err x in r) (one_fault mode text d e h f (λ same. cc) ne)
 
+-- the fault of a text is its answer
 pub fault_found : (mode : Mode) (text : List ℕ) (e : SpecFault) → IsFault mode text e → (e ≢ spec.OutOfMemory) → answer mode text ≡ Err e
 fault_found mode text e f ne = fault_by mode text e f ne (answer mode text) (answer_is mode text)
 
@@ -54,14 +57,17 @@ only_by mode text (Ok specs) h = found mode text specs h
 only_by mode text (Err spec.OutOfMemory) h = absurd h
 only_by mode text (Err e) h = fault_found mode text e h (λ same. cc)
 
+-- a text has one answer
 pub only_answer : (mode : Mode) (text : List ℕ) (a : Answer) → IsAnswer mode text a → a ≡ answer mode text
 only_answer mode text a h = sym (only_by mode text a h)
 
 -- ---- what readers answer
 
+-- a spec that a text spells is the one that is read
 pub spec_found : (mode : Mode) (place : ℕ) (text : List ℕ) (s : Spec) → Spells mode text (s ∷ []) → spec_of mode place text ≡ Ok s
 spec_found mode place text s h = rw (found mode text (s ∷ []) h) refl
 
+-- the fault of a text is that of reading a spec
 pub spec_fault : (mode : Mode) (place : ℕ) (text : List ℕ) (e : SpecFault) → IsFault mode text e
     → Fails (text_fault place e) (spec_of mode place text)
 spec_fault mode place text spec.OutOfMemory h = tt
@@ -70,9 +76,11 @@ spec_fault mode place text e h = rw (fault_found mode text e h (λ same. cc)) re
 abbrev pub alone : Part → Spec
 alone p = record { top = p; below = [] }
 
+-- a part that a text spells is the one that is read
 pub part_found : (mode : Mode) (place : ℕ) (text : List ℕ) (p : Part) → Spells mode text (alone p ∷ []) → part_of mode place text ≡ Ok p
 part_found mode place text p h = rw (found mode text (alone p ∷ []) h) refl
 
+-- the fault of a text is that of reading a part
 pub part_fault : (mode : Mode) (place : ℕ) (text : List ℕ) (e : SpecFault) → IsFault mode text e
     → Fails (text_fault place e) (part_of mode place text)
 part_fault mode place text spec.OutOfMemory h = tt

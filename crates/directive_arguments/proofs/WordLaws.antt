@@ -16,6 +16,7 @@ use Rattle.directive_arguments.specs.declared.fault.ArgumentFault.TheVariants as
 use Rattle.directive_arguments.specs.Arguments.{once, note}
 use Rattle.recipe_data.specs.Right.{has_all}
 
+-- a keyword that is UTF-8 is noted once
 pub note_text : (place : ℕ) (w : List ℕ) (names : Texts) → IsUtf8 w → note place w names ≡ once place w names
 note_text place w names h = rw (is_utf8-from_IsUtf8 w h) refl
 
@@ -23,11 +24,13 @@ none_by : {A : Type 0} (b : Bool) (a e : A) → (b ≡ true → ⊥) → cond b 
 none_by true a e h = absurd (h refl)
 none_by false a e h = refl
 
+-- a keyword that is no UTF-8 is refused
 pub note_none : (place : ℕ) (w : List ℕ) (names : Texts) → (IsUtf8 w → ⊥) → note place w names ≡ Err (fault.Unsupported place)
 note_none place w names h = none_by (is_utf8 w) (once place w names) (Err (fault.Unsupported place)) (λ e. h (IsUtf8-from_is_utf8 w e))
 
 -- ---- sets
 
+-- the test tells whether all texts are among the values
 pub has_all_decides : (values texts : Texts) → Decides (has_all values texts) (All (Contains values) texts)
 has_all_decides values texts = (
   λ e. λ k d lt. Contains-from_any (λ x y same. (bytes_eq-Decides x y).0 same) _ values
@@ -38,5 +41,6 @@ has_all_decides values texts = (
 
 -- ---- pieces of a text
 
+-- truths of what is seen are truths of the texts
 pub map_of : {A : Type 0} (now : A → List ℕ) (xs : List A) (ys : Texts) → map now xs ≡ ys → map (λ x. truth (now x)) xs ≡ map truth ys
 map_of now xs ys e = sym (map-map truth now xs) ∙ ap (map truth) e

@@ -40,6 +40,7 @@ pub(crate) fn scalar_text(alloc: Global, scalar: &Scalar) -> Result<Option<Word>
     }
 }
 
+/// Adds the text of a value, or refuses what is no text or no value.
 fn add_text(place: u64, text: Option<Word>, texts: &mut Vec<Word>) -> Result<(), ArgumentFault>
     ensures { Gives result texts.new.items (add_text place text texts.old.items) }
 {
@@ -63,6 +64,7 @@ fn add_allowed(
     add_text(place, scalar_text(alloc, scalar)?, texts)
 }
 
+/// Adds the texts of a tuple or list, each of which must be a value.
 fn add_all_allowed(
     alloc: Global,
     elements: &[Element],

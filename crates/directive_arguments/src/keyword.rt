@@ -42,6 +42,7 @@ fn when_in(alloc: Global, local: bool, reading: &Reading) -> Result<Option<Spec>
     }
 }
 
+/// Whether a policy's word asks for exactly one.
 fn policy_word(place: u64, word: &[u8]) -> Result<bool, ArgumentFault>
     ensures { Is result (policy_word place word.now) }
 {

@@ -47,6 +47,7 @@ fn add_kind(place: u64, scalar: &Scalar, kinds: Kinds) -> Result<Kinds, Argument
     }
 }
 
+/// The kinds that a tuple or list names.
 fn add_kinds(elements: &[Element]) -> Result<Kinds, ArgumentFault>
     ensures { Is result (steps element_kind elements.now no_kinds) }
 {

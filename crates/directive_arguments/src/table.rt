@@ -46,6 +46,7 @@ pub(crate) fn count_of(directive: Directive) -> Count
     }
 }
 
+/// `version`: all keywords but two, as checksums and sources, are passed over.
 #[tactic(auto, unfolding(crate::specs::Table::role))]
 fn version_role(word: &[u8]) -> Role
     ensures { result ≡ role Directive.Version word.now }
@@ -59,6 +60,7 @@ fn version_role(word: &[u8]) -> Role
     }
 }
 
+/// `variant`: any keyword that is not in the table is refused.
 #[tactic(auto, unfolding(crate::specs::Table::role))]
 fn variant_role(word: &[u8]) -> Role
     ensures { result ≡ role Directive.Variant word.now }
@@ -78,6 +80,7 @@ fn variant_role(word: &[u8]) -> Role
     }
 }
 
+/// `depends_on`: patches change no graph.
 #[tactic(auto, unfolding(crate::specs::Table::role))]
 fn depends_on_role(word: &[u8]) -> Role
     ensures { result ≡ role Directive.DependsOn word.now }
@@ -104,6 +107,7 @@ fn provides_role(word: &[u8]) -> Role
     }
 }
 
+/// `conflicts`: a message changes no graph.
 #[tactic(auto, unfolding(crate::specs::Table::role))]
 fn conflicts_role(word: &[u8]) -> Role
     ensures { result ≡ role Directive.Conflicts word.now }
@@ -117,6 +121,7 @@ fn conflicts_role(word: &[u8]) -> Role
     }
 }
 
+/// `requires`: a message changes no graph.
 #[tactic(auto, unfolding(crate::specs::Table::role))]
 fn requires_role(word: &[u8]) -> Role
     ensures { result ≡ role Directive.Requires word.now }

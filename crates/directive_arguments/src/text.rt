@@ -26,6 +26,7 @@ fn any_condition(alloc: Global, place: u64, text: &[u8]) -> Result<Spec, Argumen
     }
 }
 
+/// A condition that has no `^`, as the spec that it is.
 fn local_condition(alloc: Global, place: u64, text: &[u8]) -> Result<Spec, ArgumentFault>
     ensures { Is result (condition true place text.now) }
 {

@@ -31,6 +31,7 @@ fn is_in_any_case(text: &str, wanted: &str) -> bool
     text.eq_ignore_ascii_case(wanted)
 }
 
+/// `true` or `false` in any case of letters.
 fn switch_text(text: &str) -> Option<bool>
     ensures { result ≡ switch_text text.now }
 {
@@ -109,6 +110,7 @@ fn scalar_texts(alloc: Global, scalar: &Scalar) -> Result<Vec<Word>, AllocError>
     Ok(texts)
 }
 
+/// The texts of a tuple or list; what has none is left out.
 fn element_texts(alloc: Global, elements: &[Element]) -> Result<Vec<Word>, AllocError>
     ensures { IfOk result (λ texts. texts.items ≡ filter_map element_text elements.now) }
 {
@@ -170,6 +172,7 @@ fn is_right_default(multi: bool, values: &ValueSet, default: &ValueSet) -> bool
     default.len() > 0 && (multi || default.len() < 2) && has_all(values, default)
 }
 
+/// The shape of a variant with values, where its default is right.
 fn valued_shape(multi: bool, values: ValueSet, default: ValueSet) -> Option<Shape>
     ensures { result ≡ valued_shape multi values default }
 {

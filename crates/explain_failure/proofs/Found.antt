@@ -21,11 +21,11 @@ demand-parts : (marked : Option Bool) (o : Option Entry) (d : ℕ) → if_marked
 demand-parts None o d h = absurd (none-some d h)
 demand-parts (Some false) o d h = absurd (none-some d h)
 demand-parts (Some true) None d h = absurd (none-some d h)
-demand-parts (Some true) (Some e) d h = (refl, e, refl, by e.label h)
+demand-parts (Some true) (Some e) d h = (refl, e, refl, by-label e.label h)
   where
-    by : (k : Label) → demand_at (Some k) ≡ Some d → k ≡ Demand d
-    by Structure h = absurd (none-some d h)
-    by (Demand b) h = ap Demand (same_Some b d h)
+    by-label : (k : Label) → demand_at (Some k) ≡ Some d → k ≡ Demand d
+    by-label Structure h = absurd (none-some d h)
+    by-label (Demand b) h = ap Demand (same_Some b d h)
 
 demand-made : (marked : Option Bool) (o : Option Entry) (e : Entry) (d : ℕ) → marked ≡ Some true → o ≡ Some e → e.label ≡ Demand d
     → if_marked marked (demand_at (option_map (λ e. e.label) o)) ≡ Some d
@@ -71,31 +71,31 @@ are-reasons s lines marks ds r w m i a = record { rising = i; exact = λ d. ((λ
 
 -- there is a mark for each clause that is learnt
 known-most : (bits : List Lit) (known : List (List Lit)) (l : Line) → length (with_added known (added bits l)) ≤ length known + 1
-known-most bits known l = by (added bits l)
+known-most bits known l = by-option (added bits l)
   where
     push : {T : Type 0} (xs : List T) (y : T) → length (xs ++ y ∷ []) ≡ length xs + 1
     push [] y = omega arith
     push (x ∷ xs) y = ap suc (push xs y) ∙ omega arith
 
-    by : (o : Option (List Lit)) → length (with_added known o) ≤ length known + 1
-    by None = omega arith
-    by (Some c) = let h = push known c in omega (arith, h)
+    by-option : (o : Option (List Lit)) → length (with_added known o) ≤ length known + 1
+    by-option None = omega arith
+    by-option (Some c) = let h = push known c in omega (arith, h)
 
 rooms : (bits : List Lit) (known : List (List Lit)) (n size : ℕ) (ls : List Line) → EachLine (LineHolds bits) bits known n ls
     → length known + length ls < size → AllLines (HasRoom size) ls
 rooms bits known n size [] e h = tt
 rooms bits known n size (l ∷ ls) e h =
-    (by l refl, rooms bits (with_added known (added bits l)) (n + settles l) size ls e.1 (omega (arith, h, known-most bits known l)))
+    (by-line l refl, rooms bits (with_added known (added bits l)) (n + settles l) size ls e.1 (omega (arith, h, known-most bits known l)))
   where
-    by : (k : Line) → l ≡ k → HasRoom size k
-    by (Learnt id c chain) q = let g : LineHolds bits known n (Learnt id c chain) = subst (LineHolds bits known n) q e.0 in
+    by-line : (k : Line) → l ≡ k → HasRoom size k
+    by-line (Learnt id c chain) q = let g : LineHolds bits known n (Learnt id c chain) = subst (LineHolds bits known n) q e.0 in
         omega (arith, h, g.0)
-    by (Header a b d) q = tt
-    by (Zero id b) q = tt
-    by (One id b chain) q = tt
-    by (Unsat chain) q = tt
-    by Spent q = tt
-    by End q = tt
+    by-line (Header a b d) q = tt
+    by-line (Zero id b) q = tt
+    by-line (One id b chain) q = tt
+    by-line (Unsat chain) q = tt
+    by-line Spent q = tt
+    by-line End q = tt
 
 count : (es : List Entry) → length (clauses_of es) ≡ length es
 count [] = refl

@@ -29,6 +29,7 @@ get-set-other (x ∷ xs) (suc k) (suc j) y h = get-set-other xs k j y (λ e. h (
 abbrev pub Lacks : List Bool → (ℕ → Bool) → List ℕ → Type 0
 Lacks marks goal rest = (x : ℕ) → x < length marks → (b : Bool) × (slice_get marks x ≡ Some b) × ((b || stands rest x) ≡ goal x)
 
+-- at first no chain was looked at
 pub lacks-start : (marks : List Bool) (used : ℕ → Bool) (ids : List ℕ) → AreMarks marks used → Lacks marks (λ x. used x || stands ids x) ids
 lacks-start marks used ids a x h = (used x, a x h, refl)
 
@@ -36,6 +37,7 @@ or-false : (b : Bool) → (b || false) ≡ b
 or-false true = refl
 or-false false = refl
 
+-- an id that no chain has is not marked
 pub lacks-end : (marks : List Bool) (goal : ℕ → Bool) (rest : List ℕ) → rest ≡ [] → Lacks marks goal rest → AreMarks marks goal
 lacks-end marks goal rest e l x h = let g = l x h in g.1 ∙ ap Some (sym (or-false g.0) ∙ ap (λ r. g.0 || stands r x) (sym e) ∙ g.2)
 
@@ -65,6 +67,7 @@ lacks-put marks goal ids i d h k l x g =
     or-true true = refl
     or-true false = refl
 
+-- one that is not the id is passed
 pub lacks-pass : (marks : List Bool) (goal : ℕ → Bool) (ids : List ℕ) (i d n : ℕ) → i < length ids → n ≡ length marks
     → n ≤ slice_index_or ids i d → Lacks marks goal (drop i ids) → Lacks marks goal (drop (i + 1) ids)
 lacks-pass marks goal ids i d n h m k l x g =
@@ -103,11 +106,13 @@ demand-none es marks n d e p = elim (eqb_tells p.0 n) [
   | inr q ↦ (p.0, omega (arith, p.1, q.1), p.2)
 ]
 
+-- a clause that is not used, or of the structure, gives no demand
 pub demands-pass : (es : List Entry) (marks : List Bool) (n : ℕ) (ds : List ℕ) → demand_of es marks (n + 1) ≡ None
     → AreDemands es marks n ds → AreDemands es marks (n + 1) ds
 demands-pass es marks n ds e a d =
     ((λ s. let p = (a d).0 s in (p.0, omega (arith, p.1), p.2)), (λ p. (a d).1 (demand-none es marks n d e p)))
 
+-- a used clause of a demand gives it
 pub demands-put : (es : List Entry) (marks : List Bool) (n : ℕ) (ds new : List ℕ) (k : ℕ) → demand_of es marks (n + 1) ≡ Some k
     → new ≡ with_number ds k → AreDemands es marks n ds → AreDemands es marks (n + 1) new
 demands-put es marks n ds new k e q a d = (to, from)
@@ -154,6 +159,7 @@ marks-start marks n ls e = (
       ∙ sym (ap (λ ys. Some (used_by ys x)) (drop-whole ls)),
 )
 
+-- the marks are those of all lines
 pub marks-end : (marks : List Bool) (ls : List Line) (i : ℕ) → length ls ≤ i → AreMarks marks (used_by (drop (length ls - i) ls))
     → AreMarks marks (used_by ls)
 marks-end marks ls i h a = subst (λ n. AreMarks marks (used_by (drop n ls))) zero-left a

@@ -128,11 +128,11 @@ meets-at asked v (f ∷ es) (suc zero) e m g = subst (λ x. entry_met asked v x 
 meets-at asked v (f ∷ es) (suc (suc k)) e m g = meets-at asked v es (suc k) e m.1 g
 
 met-true : (asked v : ℕ → Bool) (e : Entry) → entry_met asked v e ≡ true → counts asked e.label ≡ true → clause_true v e.clause ≡ true
-met-true asked v e m c = by (counts asked e.label) c m
+met-true asked v e m c = by-bool (counts asked e.label) c m
   where
-    by : (b : Bool) → b ≡ true → (not b || clause_true v e.clause) ≡ true → clause_true v e.clause ≡ true
-    by true q f = f
-    by false q f = absurd (false≢true q)
+    by-bool : (b : Bool) → b ≡ true → (not b || clause_true v e.clause) ≡ true → clause_true v e.clause ≡ true
+    by-bool true q f = f
+    by-bool false q f = absurd (false≢true q)
 
 at-entry : (es : List Entry) (id : ℕ) (c : List Lit) → at_id (clauses_of es) id ≡ Some c → (e : Entry) × (at_id es id ≡ Some e)
     × (e.clause ≡ c)
@@ -141,6 +141,7 @@ at-entry [] (suc k) c g = absurd (none-some c g)
 at-entry (e ∷ es) (suc zero) c g = (e, refl, same_Some e.clause c g)
 at-entry (e ∷ es) (suc (suc k)) c g = at-entry es (suc k) c g
 
+-- no assignment meets the structure and the reasons
 pub no-model : (s : Clauses) (lines : List Line) (ds : List ℕ) (v : ℕ → Bool) → AllClauses (clauses_of s.entries) → IsRefuted s lines
     → AreReasons s.entries lines ds → Meets (stands ds) v s.entries → ⊥
 no-model s [] ds v a r q m = r.1.sound
@@ -166,6 +167,7 @@ no-model s (l ∷ ls) ds v a r q m =
         subst (λ x. clause_true v x ≡ true) e.2
         (met-true (stands ds) v e.0 (meets-at (stands ds) v s.entries id e.0 m e.1) (counted id e.0 u e.1 e.0.label refl))
 
+-- nothing is right for the reasons alone
 pub nothing-right : {G : Type 0} (is_right : (ℕ → Bool) → G → Bool) (s : Clauses) (lines : List Line) (ds : List ℕ)
     → IsCompleteFor is_right s → AllClauses (clauses_of s.entries) → IsRefuted s lines → AreReasons s.entries lines ds
     → (g : G) → is_right (stands ds) g ≡ true → ⊥

@@ -50,20 +50,20 @@ length-push [] y = omega arith
 length-push (x ∷ xs) y = ap suc (length-push xs y) ∙ omega arith
 
 added-length : (bits : List Lit) (known : List (List Lit)) (l : Line) → length known ≤ length (with_added known (added bits l))
-added-length bits known l = by (added bits l)
+added-length bits known l = by-option (added bits l)
   where
-    by : (o : Option (List Lit)) → length known ≤ length (with_added known o)
-    by None = omega arith
-    by (Some c) = let h = length-push known c in omega (arith, h)
+    by-option : (o : Option (List Lit)) → length known ≤ length (with_added known o)
+    by-option None = omega arith
+    by-option (Some c) = let h = length-push known c in omega (arith, h)
 
 -- an unused id: no line uses it whose chains name smaller ids alone
 unused : (l : Line) (ls : List Line) (x : ℕ) → stands (chain_of l) x ≡ false → used_by (l ∷ ls) x ≡ used_by ls x
-unused l ls x e = ap (λ b. used_by ls x || (is_user l (used_by ls) && b)) e ∙ by (used_by ls x) (is_user l (used_by ls))
+unused l ls x e = ap (λ b. used_by ls x || (is_user l (used_by ls) && b)) e ∙ by-bools (used_by ls x) (is_user l (used_by ls))
   where
-    by : (a b : Bool) → (a || (b && false)) ≡ a
-    by true b = refl
-    by false true = refl
-    by false false = refl
+    by-bools : (a b : Bool) → (a || (b && false)) ≡ a
+    by-bools true b = refl
+    by-bools false true = refl
+    by-bools false false = refl
 
 not-stands : (n x : ℕ) (ids : List ℕ) → IdsUpTo n ids → n < x → stands ids x ≡ false
 not-stands n x ids f h = elim (cases_Bool (stands ids x)) [ inl t ↦ absurd (omega (arith, h, f x t)) | inr e ↦ e ]
@@ -120,6 +120,7 @@ last-used (l ∷ k ∷ ls) chain x h s =
 head-apart : (vars n : ℕ) (m : ℕ) (k : ℕ) (c : List Lit) (chain : List ℕ) → Header vars n m ≡ Learnt k c chain → ⊥
 head-apart vars n m k c chain q = cc
 
+-- the first line is no refutation
 pub head-unsat : (vars n m : ℕ) (chain : List ℕ) → Header vars n m ≡ Unsat chain → ⊥
 head-unsat vars n m chain q = cc
 
@@ -127,18 +128,19 @@ or-off : (a b : Bool) → (a || (false && b)) ≡ a
 or-off true b = refl
 or-off false b = refl
 
+-- what the refutation uses is found
 pub uses-used : (vars : ℕ) (input : List (List Lit)) (bits : List Lit) (lines : List Line) → IsSound vars input bits lines → (n id : ℕ)
     → UsesIn lines n id → used_by lines id ≡ true
 uses-used vars input bits lines s zero id u = last-used lines u.0 id u.1 u.2
 uses-used vars input bits [] s (suc n) id u = absurd s
-uses-used vars input bits (l ∷ ls) s (suc n) id u = go u.3.0 u.3.1 (uses-used vars input bits (l ∷ ls) s n u.0 u.5)
+uses-used vars input bits (l ∷ ls) s (suc n) id u = at-place u.3.0 u.3.1 (uses-used vars input bits (l ∷ ls) s n u.0 u.5)
   where
     same : (x : ℕ) → used_by (l ∷ ls) x ≡ used_by ls x
     same x = subst (λ y. used_by (y ∷ ls) x ≡ used_by ls x) (sym s.0) (or-off (used_by ls x) (stands [] x))
 
-    go : (i : ℕ) → slice_get (l ∷ ls) i ≡ Some (Learnt u.0 u.1 u.2) → used_by (l ∷ ls) u.0 ≡ true → used_by (l ∷ ls) id ≡ true
-    go zero g h = absurd (head-apart vars (length input) (length bits) u.0 u.1 u.2 (sym s.0 ∙ same_Some l (Learnt u.0 u.1 u.2) g))
-    go (suc i) g h = same id ∙ (learnt-used bits input 0 ls i u.0 u.1 u.2 id s.1 g u.4 (sym (same u.0) ∙ h)).1
+    at-place : (i : ℕ) → slice_get (l ∷ ls) i ≡ Some (Learnt u.0 u.1 u.2) → used_by (l ∷ ls) u.0 ≡ true → used_by (l ∷ ls) id ≡ true
+    at-place zero g h = absurd (head-apart vars (length input) (length bits) u.0 u.1 u.2 (sym s.0 ∙ same_Some l (Learnt u.0 u.1 u.2) g))
+    at-place (suc i) g h = same id ∙ (learnt-used bits input 0 ls i u.0 u.1 u.2 id s.1 g u.4 (sym (same u.0) ∙ h)).1
 
 -- what lines use the refutation uses
 get-behind : (front : List Line) (l : Line) (ls : List Line) → slice_get (front ++ l ∷ ls) (length front) ≡ Some l
@@ -159,14 +161,14 @@ used-uses front [] e x u = absurd (false≢true u)
 used-uses front (l ∷ ls) e x u = elim (or_cases (used_by ls x) (is_user l (used_by ls) && stands (chain_of l) x) u) [
   | inl p ↦ subst (λ ys. Uses ys x) (regroup front l ls) (used-uses (front ++ l ∷ []) ls e.1 x p)
   | inr p ↦ let q = and_parts (is_user l (used_by ls)) (stands (chain_of l) x) p in
-      by l refl q.0 q.1 (λ y v. subst (λ ys. Uses ys y) (regroup front l ls) (used-uses (front ++ l ∷ []) ls e.1 y v))
+      by-line l refl q.0 q.1 (λ y v. subst (λ ys. Uses ys y) (regroup front l ls) (used-uses (front ++ l ∷ []) ls e.1 y v))
 ]
   where
-    by : (k : Line) → l ≡ k → is_user k (used_by ls) ≡ true → stands (chain_of k) x ≡ true
+    by-line : (k : Line) → l ≡ k → is_user k (used_by ls) ≡ true → stands (chain_of k) x ≡ true
         → ((y : ℕ) → used_by ls y ≡ true → Uses (front ++ l ∷ ls) y) → Uses (front ++ l ∷ ls) x
-    by (Learnt id c chain) q v s ih = let r = ih id v in
+    by-line (Learnt id c chain) q v s ih = let r = ih id v in
         (suc r.0, (id, c, chain, (length front, get-behind front l ls ∙ ap Some q), s, r.1))
-    by (Unsat chain) q v s ih = (
+    by-line (Unsat chain) q v s ih = (
       zero,
       (
         chain,
@@ -175,16 +177,17 @@ used-uses front (l ∷ ls) e x u = elim (or_cases (used_by ls x) (is_user l (use
         s,
       ),
     )
-    by (Header a b d) q v s ih = absurd (false≢true v)
-    by (Zero id b) q v s ih = absurd (false≢true v)
-    by (One id b chain) q v s ih = absurd (false≢true v)
-    by Spent q v s ih = absurd (false≢true v)
-    by End q v s ih = absurd (false≢true v)
+    by-line (Header a b d) q v s ih = absurd (false≢true v)
+    by-line (Zero id b) q v s ih = absurd (false≢true v)
+    by-line (One id b chain) q v s ih = absurd (false≢true v)
+    by-line Spent q v s ih = absurd (false≢true v)
+    by-line End q v s ih = absurd (false≢true v)
 
 begin-last : (vars : ℕ) (input : List (List Lit)) (bits : List Lit) (lines : List Line) → IsSound vars input bits lines → EndsLast lines
 begin-last vars input bits [] s = absurd s
 begin-last vars input bits (l ∷ ls) s = ((λ e. absurd (false≢true (sym (ap ends s.0) ∙ e))), s.2)
 
+-- and nothing else
 pub used-is : (vars : ℕ) (input : List (List Lit)) (bits : List Lit) (lines : List Line) → IsSound vars input bits lines → (x : ℕ)
     → (used_by lines x ≡ true) ↔ Uses lines x
 used-is vars input bits lines s x =

@@ -52,9 +52,9 @@ fn size_for(clauses: u64, lines: usize) -> Result<usize, AllocError>
     }
 }
 
-/// Exactly the demands that label an input clause which the refutation uses, each once and rising. The
-/// log is a refutation of the clauses, whatever bits it speaks of. It uses the clauses that its last
-/// chain names, and those that the chain of a learnt clause names which it uses.
+/// Exactly the demands that label an input clause which the refutation uses, each once and rising.
+/// The log is a refutation of the clauses, whatever bits it speaks of. It uses the clauses that its
+/// last chain names, and those that the chain of a learnt clause names which it uses.
 pub fn reasons(alloc: Global, clauses: &ClauseList, log: &Log) -> Result<List<u64>, AllocError>
     requires { IsRefuted clauses.now log.now }
     ensures { IfOk result (AreReasons clauses.now.entries log.now) }

@@ -42,7 +42,7 @@ use Rattle.directive_arguments.specs.Arguments.{nothing_given, note, keyword as 
 use Rattle.directive_arguments.proofs.ListLaws.{ok_then, any_then}
 use Rattle.recipe_lexer.proofs.Keeping.{cond_all}
 use Rattle.file_limits.proofs.Sizes.{scalar_size, value_size, atom_size, segment_size}
-use Rattle.file_limits.proofs.RecipeCountsSteps.{no-more}
+use Rattle.file_limits.proofs.TokenCounts.{no-more}
 use Rattle.file_limits.proofs.ValueSizes.{Fits, ReadFits, value-fits}
 
 -- ---- sizes
@@ -63,6 +63,7 @@ given_size g = length g.positional.parts + options_size g.options
 
 -- ---- steps that add little
 
+-- steps that each add no more than they count add no more together
 pub steps-grow : {X S E : Type 0} (size : S → ℕ) (adds : X → ℕ) (f : X → S → Result S E)
     → ((x : X) (s : S) → IfOk (f x s) (λ t. size t ≤ size s + adds x)) → (xs : List X) (s : S)
     → IfOk (steps f xs s) (λ t. size t ≤ size s + sum_by adds xs)
@@ -76,13 +77,13 @@ steps-grow size adds f grow (x ∷ xs) s =
 
 insert-few : (texts : Texts) (text : List ℕ) → length (put_text texts text) ≤ length texts + 1
 insert-few [] text = omega arith
-insert-few (x ∷ xs) text = by (insert-few xs text) (byte_cmp text x)
+insert-few (x ∷ xs) text = insert-few-cases (insert-few xs text) (byte_cmp text x)
   where
-    by : length (put_text xs text) ≤ length xs + 1 → (o : Ordering)
+    insert-few-cases : length (put_text xs text) ≤ length xs + 1 → (o : Ordering)
         → length (match_ordering o (text ∷ x ∷ xs) (x ∷ xs) (x ∷ put_text xs text)) ≤ length (x ∷ xs) + 1
-    by rest Less = omega arith
-    by rest Equal = omega arith
-    by rest Greater = omega arith
+    insert-few-cases rest Less = omega arith
+    insert-few-cases rest Equal = omega arith
+    insert-few-cases rest Greater = omega arith
 
 -- a set has no more texts than were put to it
 pub set-few : (texts words : Texts) → length (with_texts texts words) ≤ length texts + length words
@@ -134,11 +135,11 @@ values-few r =
 -- ---- `default`
 
 default-same : (r : Reading) → IfOk (default_in r) (λ value. value_size value ≤ value_size r.value)
-default-same r = by (wrong_default r.place r.value)
+default-same r = default-same-cases (wrong_default r.place r.value)
   where
-    by : (o : Option ℕ) → IfOk (default_by o r.value) (λ value. value_size value ≤ value_size r.value)
-    by None = omega arith
-    by (Some p) = tt
+    default-same-cases : (o : Option ℕ) → IfOk (default_by o r.value) (λ value. value_size value ≤ value_size r.value)
+    default-same-cases None = omega arith
+    default-same-cases (Some p) = tt
 
 -- ---- all keywords
 
@@ -243,6 +244,7 @@ argument-grows : (bytes : List ℕ) (d : Directive) (s : Segment) (g : Given)
 unfolding argument
 argument-grows bytes d s g = argument-by (keyword_of s) bytes d s g
 
+-- the arguments of a call are no larger than its segments
 pub arguments-fit : (bytes : List ℕ) (d : Directive) (segments : List Segment)
     → IfOk (arguments bytes d segments) (λ g. given_size g ≤ sum_by segment_size segments)
 unfolding arguments

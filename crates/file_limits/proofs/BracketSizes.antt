@@ -18,7 +18,7 @@ use Rattle.recipe_values.specs.Values.{is_empty, value_of}
 use Rattle.recipe_values.specs.Brackets.{without_last, segments_of, element, elements, many, bracketed, is_around, group, put, cut, enter, leave_by, leave, ends_bracket, begins_bracket, with_sign, with_kind, levels_of, arguments_of}
 use Rattle.recipe_lexer.proofs.Keeping.{cond_all}
 use Rattle.file_limits.proofs.Sizes.{token_size, tokens_size, read_size, atom_size, segment_size, level_size, levels_size}
-use Rattle.file_limits.proofs.RecipeCountsSteps.{Few, few-more, few-join}
+use Rattle.file_limits.proofs.TokenCounts.{Few, few-more, few-join}
 use Rattle.file_limits.proofs.ValueSizes.{ReadFits, value-fits}
 
 -- ---- what brackets stand for
@@ -54,12 +54,12 @@ segments-size level = omega (arith, without-last (level.here ∷ level.behind), 
 
 many-size : (bytes : List ℕ) (place n : ℕ) (segments : List Segment) → sum_by segment_size segments ≤ n
     → read_size (many bytes place segments) ≤ n
-many-size bytes place n segments le = by (elements bytes segments) (elements-few bytes segments)
+many-size bytes place n segments le = many-size-cases (elements bytes segments) (elements-few bytes segments)
   where
-    by : (r : Read (List Element)) → Few (sum_by segment_size segments) r
+    many-size-cases : (r : Read (List Element)) → Few (sum_by segment_size segments) r
         → read_size (then_do r (λ (found : List Element). Ok (record { value = Many found; place = place; token = place }))) ≤ n
-    by (Ok found) h = omega (arith, h, le)
-    by (Err p) h = omega arith
+    many-size-cases (Ok found) h = omega (arith, h, le)
+    many-size-cases (Err p) h = omega arith
 
 around-size : (n place : ℕ) (r : Read Reading) → ReadFits n r → read_size (bracketed place r) ≤ n
 around-size n place (Ok r) h = h.0
@@ -124,6 +124,7 @@ levels-size bytes stop (t ∷ rest) =
       sum_by-cons token_size t rest,
     )
 
+-- the segments of a call are no larger than its tokens
 pub arguments-size : (bytes : List ℕ) (stop : ℕ) (tokens : List Token)
     → sum_by segment_size (arguments_of bytes stop tokens) ≤ tokens_size tokens
 unfolding arguments_of

@@ -10,7 +10,7 @@ use Rattle.spec_grammar.specs.declared.part.Part.{Part}
 use Rattle.spec_grammar.specs.declared.draft.Draft.{Draft}
 use Rattle.spec_grammar.specs.declared.item.Item.TheVariants.{Name, Caret}
 use Rattle.spec_grammar.proofs.StepLaws.{some_then, some_of}
-use Rattle.file_limits.specs.Counts.{part_values, spec_values, all_values, TextsBearValues}
+use Rattle.file_limits.specs.SpecSizes.{part_values, spec_values, all_values, TextsBearValues}
 use Rattle.file_limits.proofs.Items.{item_values, item_room}
 use Rattle.file_limits.proofs.Parts.{add_few}
 
@@ -97,6 +97,7 @@ first_none Provision = refl
 
 -- ---- specs
 
+-- a text has two bytes at least for each value that it spells
 pub texts-bear-values : TextsBearValues
 texts-bear-values mode text specs s =
     let read = s.read in

@@ -1,5 +1,5 @@
 -- What a file says of packages weighs two for each external and for each value of its variants.
-use Rattle.std.proofs.Common.{◌≡◌, sym, ap, ℕ, ◌+◌, ◌*◌, ◌≤◌, Bool, true, false, List, [], ◌∷◌, length, Option, Some, None, if◌then◌else◌, Result, Ok, Err, codes, arith}
+use Rattle.std.proofs.Common.{◌≡◌, ap, ℕ, ◌+◌, ◌*◌, ◌≤◌, List, [], ◌∷◌, length, Option, Some, None, Result, Ok, Err, codes, arith}
 use Rattle.std.proofs.lemmas.Option.{none-some}
 use Rattle.std.proofs.lemmas.List.Sums.{sum_by-cons}
 use Rattle.std.specs.List.{sum_by}
@@ -12,24 +12,24 @@ use Rattle.json_texts.specs.Forms.{name_meaning}
 use Rattle.file_limits.specs.Weights.{weight, weight_at}
 use Rattle.file_limits.proofs.Keys.{key-weight}
 use Rattle.file_limits.proofs.Readers.{CountsWithin, need-counts}
-use Rattle.file_limits.proofs.Steps.{known_ok, named_ok}
+use Rattle.json_readers.proofs.Steps.{known_ok, named_ok}
 use Rattle.spec_grammar.specs.Meaning.{empty_part}
 use Rattle.spec_grammar.specs.declared.mode.Mode.TheVariants.{Specs}
-use Rattle.spec_grammar.specs.declared.part.Part.{Part}
 use Rattle.spec_grammar.specs.declared.part.Spec.{Spec}
 use Rattle.spec_grammar.specs.declared.fault.SpecFault.{SpecFault}
-use Rattle.spec_grammar.proofs.StepLaws.{some_of, some_then}
-use Rattle.file_limits.specs.Counts.{spec_values, all_values, TextsBearValues}
+use Rattle.file_limits.specs.SpecSizes.{spec_values, all_values, TextsBearValues}
 use Rattle.settings_reader.specs.Told.{Below}
 use Rattle.settings_reader.specs.Parsed.{IsListAt, IsOptional}
-use Rattle.settings_reader.specs.Externals.{IsDescribed, IsExternal, IsReadAs, compiler_in, described_of, described_or_bad, is_alone, only_described, parts_of, target_in, version_in, with_prefix}
+use Rattle.settings_reader.specs.Externals.{IsDescribed, IsExternal, IsReadAs, described_of, is_alone, only_described, parts_of, with_prefix}
 use Rattle.settings_reader.specs.Externals as external
 use Rattle.settings_reader.specs.Packages as packages
 use Rattle.settings_reader.specs.Packages.{ArePackages, ArePackagesAt, IsPackage}
 use Rattle.site_settings.specs.declared.settings.ExternalEntry.{ExternalEntry}
 use Rattle.site_settings.specs.declared.settings.PackageEntry.{PackageEntry}
 use Rattle.problem.specs.Limits.{variant_members, external_members, size_of_package}
-use Rattle.file_limits.proofs.Outcomes.{AtMost, below_ok, listed_at_most, members_at_most, ok_no, ok_same, optional_at_most, said_ok, then_ok}
+use Rattle.settings_reader.proofs.Outcomes.{below_ok, ok_no, ok_same, said_ok, then_ok}
+use Rattle.settings_reader.proofs.Valued.{part_variants, some_if, some_described}
+use Rattle.file_limits.proofs.Outcomes.{AtMost, listed_at_most, members_at_most, optional_at_most}
 use Rattle.file_limits.proofs.Sums.{sum-twice, sum-twice-each}
 
 -- ---- what one spec says
@@ -41,18 +41,6 @@ inside {T = T} o = T
 abbrev Described : Type 0
 Described = inside (parts_of (empty_part None))
 
-some_if : {T : Type 0} (b : Bool) (o : Option T) (x : T) → (if b then o else None) ≡ Some x → o ≡ Some x
-some_if true o x e = e
-some_if false o x e = absurd (none-some x e)
-
--- its variants are those of its part
-part_variants : (part : Part) (d : Described) → parts_of part ≡ Some d → part.variants ≡ d.variants
-part_variants part d e =
-    let version = some_then _ (version_in part.versions) d e in
-    let compiler = some_then _ (compiler_in part.compiler) d version.2 in
-    let target = some_of _ (target_in part.targets) d compiler.2 in
-    ap (λ (x : Described). x.variants) target.2
-
 only_most : (name platform : List ℕ) (specs : List Spec) (d : Described) → only_described name platform specs ≡ Some d
     → variant_members d.variants ≤ all_values specs
 only_most name platform [] d e = absurd (none-some d e)
@@ -60,10 +48,6 @@ only_most name platform (spec ∷ []) d e =
     let same = part_variants spec.top d (some_if (is_alone name platform spec) (parts_of spec.top) d e) in
     omega (arith, ap variant_members same, sum_by-cons spec_values spec [])
 only_most name platform (spec ∷ other ∷ specs) d e = absurd (none-some d e)
-
-some_described : (o : Option Described) (d : Described) → Ok d ≡ described_or_bad o → o ≡ Some d
-some_described None d is = absurd (ok_no d _ is)
-some_described (Some x) d is = ap Some (sym (ok_same d x is))
 
 read_most : TextsBearValues → (name platform text : List ℕ) (d : Described) (read : Result (List Spec) SpecFault) → IsReadAs text read
     → Ok d ≡ described_of name platform read → 2 * variant_members d.variants ≤ length text
@@ -136,6 +120,7 @@ packages_most bear platform d entries h =
       members_at_most package_size (λ name v. IsPackage name platform v) (λ name. package_most bear name platform) ms.0 entries ms.2,
     )
 
+-- what is said of packages weighs two for each external and each of its values
 pub packages_at_most : TextsBearValues → (platform : List ℕ) (ms : Members) (entries : List PackageEntry)
     → ArePackagesAt platform ms (Ok entries) → 2 * sum_by size_of_package entries ≤ weight_at ms (codes "packages")
 packages_at_most bear platform ms entries h =

@@ -35,6 +35,7 @@ in-state : (m n : ℕ) (r : Step State) → StateGrowsTo m r → m ≤ n → Gro
 in-state m n (Ok s) h le = omega (arith, h, le)
 in-state m n (Err e) h le = tt
 
+-- a recipe is no larger than its file
 pub recipe-fits : (name bytes : List ℕ) → IfOk (recipe_of name bytes) (λ recipe. size_of_recipe recipe ≤ length bytes)
 unfolding recipe_of
 recipe-fits name bytes =
@@ -50,6 +51,7 @@ recipe-fits name bytes =
 -- ---- files
 
 module _ {X : Type 0} (name bytes : X → List ℕ) where
+  -- recipes are no larger than their files together
   pub recipes-fit : (files : List X) (recipes : List Recipe) → map (λ file. recipe_of (name file) (bytes file)) files ≡ map Ok recipes
       → sum_by size_of_recipe recipes ≤ sum_by (λ file. length (bytes file)) files
   recipes-fit files [] are = omega arith

@@ -21,7 +21,7 @@ use Rattle.recipe_reader.specs.declared.state.State.{State}
 use Rattle.recipe_reader.specs.Results.{as_step}
 use Rattle.recipe_reader.specs.Recipes.{between, byte_at, first_word, innermost, head, with_head, call_by, item, count, read_items}
 use Rattle.file_limits.proofs.Sizes.{size_by, token_size, tokens_size, segment_size}
-use Rattle.file_limits.proofs.RecipeCountsSteps.{no-more}
+use Rattle.file_limits.proofs.TokenCounts.{no-more}
 use Rattle.file_limits.proofs.StringSizes.{slice-few}
 use Rattle.file_limits.proofs.BracketSizes.{arguments-size}
 use Rattle.file_limits.proofs.RowSizes.{state_size, StateGrowsTo, call-grows, word-long}
@@ -83,10 +83,11 @@ word-pays bytes ts first last less long = along (drop first ts) refl
     along : (rest : List Token) → drop first ts ≡ rest
         → tokens_size (drop 2 (between ts first last)) + 7 ≤ tokens_size (between ts first last)
     along [] is = absurd (let none = subst (λ (r : List Token). 7 ≤ length (first_word bytes r)) is long in omega arith)
-    along (t ∷ more) is = by (last - (first + 1)) refl
+    along (t ∷ more) is = along-cases (last - (first + 1)) refl
       where
-        by : (k : ℕ) → last - (first + 1) ≡ k → tokens_size (drop 2 (between ts first last)) + 7 ≤ tokens_size (between ts first last)
-        by k e =
+        along-cases : (k : ℕ) → last - (first + 1) ≡ k
+            → tokens_size (drop 2 (between ts first last)) + 7 ≤ tokens_size (between ts first last)
+        along-cases k e =
             let all : last ≡ first + suc k = omega arith in
             let cut : between ts first last ≡ t ∷ take k more =
             ap (λ (n : ℕ). drop first (take n ts)) all ∙ drop-take first (suc k) ts ∙ ap (take (suc k)) is in
@@ -114,6 +115,7 @@ item-grows bytes ts number (Call first last depth) s less =
     (tokens_size (between ts first last)) (directive_of w) (word-long w)
     (λ long. omega (arith, word-pays bytes ts first last less long, arguments-size bytes (byte_at ts last) inner))
 
+-- items of a file add no more than their tokens have
 pub items-grow : (bytes : List ℕ) (ts : List Token) (from to number : ℕ) (all : List Item) (s : State) → AreInOrder from to all
     → StateGrowsTo (state_size s + tokens_size (drop from ts)) (read_items bytes ts number all s)
 unfolding read_items

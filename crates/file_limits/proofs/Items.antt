@@ -28,6 +28,7 @@ values_room : (values : List (List ℕ)) → AreValues values → 2 * length val
 values_room [] are = absurd are
 values_room (w ∷ values) are = omega (arith, value_some w are.0, more_room values are.1, length-append w (spell_more values))
 
+-- an item has two bytes at least for each value that it gives
 pub item_room : (item : Item) → HasShape item → 2 * item_values item ≤ length (spell item)
 item_room (Variant mark w) is = omega (arith, name_some w is)
 item_room (Key w values) is = omega (arith, values_room values is.1, length-append w (61 ∷ spell_values values))

@@ -10,7 +10,7 @@ use Rattle.std.proofs.lemmas.Slice.Eq.{bytes_eq-Decides}
 use Rattle.serde_json.specs.Data.{Data, Members, no_members, member}
 use Rattle.serde_json.specs.Find.{get_member}
 use Rattle.file_limits.specs.Weights.{weight, members_weight, weight_or_none, weight_at}
-use Rattle.file_limits.specs.Laws.{are_different, KeysShareWeight}
+use Rattle.file_limits.specs.WeightBounds.{are_different, KeysShareWeight}
 
 -- ---- one key
 
@@ -27,13 +27,13 @@ here_or_later Greater found d = omega arith
 -- what stands at a key of an object weighs no more than its members
 pub key-weight : (ms : Members) (key : List ℕ) → weight_at ms key ≤ members_weight ms
 key-weight no_members key = omega arith
-key-weight (member l d ms) key = by (slice_cmp nat_cmp key l) (key-weight ms key)
+key-weight (member l d ms) key = key-weight-cases (slice_cmp nat_cmp key l) (key-weight ms key)
   where
-    by : (o : Ordering) → weight_at ms key ≤ members_weight ms
+    key-weight-cases : (o : Ordering) → weight_at ms key ≤ members_weight ms
         → weight_or_none (match_ordering o (get_member key ms) (Some d) (get_member key ms)) ≤ members_weight (member l d ms)
-    by Less rest = omega arith
-    by Equal rest = omega arith
-    by Greater rest = omega arith
+    key-weight-cases Less rest = omega arith
+    key-weight-cases Equal rest = omega arith
+    key-weight-cases Greater rest = omega arith
 
 -- a value that stands at a key of an object weighs no more than its members
 pub found-weight : (ms : Members) (key : List ℕ) (d : Data) → get_member key ms ≡ Some d → weight d ≤ members_weight ms
@@ -57,19 +57,19 @@ none-hit l n (key ∷ keys) none =
 -- a member adds at one key alone
 one-hit : (l : List ℕ) (n : ℕ) (keys : List (List ℕ)) → are_different keys ≡ true → sum_by (λ key. hit (slice_cmp nat_cmp key l) n) keys ≤ n
 one-hit l n [] h = omega arith
-one-hit l n (key ∷ keys) h = go (slice_cmp nat_cmp key l) refl (one-hit l n keys parts.1)
+one-hit l n (key ∷ keys) h = one-hit-cases (slice_cmp nat_cmp key l) refl (one-hit l n keys parts.1)
   where
     parts : (not (list_any (λ other. bytes_eq other key) keys) ≡ true) × (are_different keys ≡ true)
     parts = and_parts _ _ h
 
-    go : (o : Ordering) → slice_cmp nat_cmp key l ≡ o → sum_by (λ k. hit (slice_cmp nat_cmp k l) n) keys ≤ n
+    one-hit-cases : (o : Ordering) → slice_cmp nat_cmp key l ≡ o → sum_by (λ k. hit (slice_cmp nat_cmp k l) n) keys ≤ n
         → sum_by (λ k. hit (slice_cmp nat_cmp k l) n) (key ∷ keys) ≤ n
-    go Less e rest = omega (arith, ap (λ o. hit o n) e, sum_by-cons (λ k. hit (slice_cmp nat_cmp k l) n) key keys)
-    go Equal e rest =
+    one-hit-cases Less e rest = omega (arith, ap (λ o. hit o n) e, sum_by-cons (λ k. hit (slice_cmp nat_cmp k l) n) key keys)
+    one-hit-cases Equal e rest =
         let same : key ≡ l = (bytes_eq-Decides key l).0 (sym (is_eq-slice_cmp key l) ∙ ap is_eq e) in
         let none = none-hit l n keys (subst (λ k. list_any (λ other. bytes_eq other k) keys ≡ false) same (not-true _ parts.0)) in
         omega (arith, ap (λ o. hit o n) e, sum_by-cons (λ k. hit (slice_cmp nat_cmp k l) n) key keys, none)
-    go Greater e rest = omega (arith, ap (λ o. hit o n) e, sum_by-cons (λ k. hit (slice_cmp nat_cmp k l) n) key keys)
+    one-hit-cases Greater e rest = omega (arith, ap (λ o. hit o n) e, sum_by-cons (λ k. hit (slice_cmp nat_cmp k l) n) key keys)
 
 one-member : (keys : List (List ℕ)) (l : List ℕ) (d : Data) (ms : Members) → sum_by (weight_at (member l d ms)) keys
     ≤ sum_by (λ key. hit (slice_cmp nat_cmp key l) (weight d)) keys + sum_by (weight_at ms) keys

@@ -84,5 +84,6 @@ bytes-bear m (x ∷ xs) =
     byte-bears m (class x) x xs (λ n. lex n xs) (λ n. span n xs) (λ n. bytes-bear n xs)
     (string-one (content plain xs) (span in_string xs) (string-shorter xs))
 
+-- lexemes weigh no more than the bytes that they are made of
 pub lexemes-bear : (xs : List ℕ) → lexemes_weight (lex between xs) ≤ length xs
 lexemes-bear xs = omega (arith, bytes-bear between xs)

@@ -5,7 +5,6 @@ mod Tokens
 pub mod Texts
 -- what is read of a value
 pub mod Keys
-pub mod Steps
 pub mod Readers
 pub mod Items
 pub mod Parts
@@ -17,7 +16,7 @@ pub mod Lists
 pub mod Whole
 pub mod Sizes
 pub mod TokenSizes
-pub mod RecipeCountsSteps
+pub mod TokenCounts
 pub mod StringSizes
 pub mod ValueSizes
 pub mod BracketSizes

@@ -12,7 +12,7 @@ use Rattle.json_readers.specs.Texts.{text_of}
 use Rattle.json_readers.specs.Maps.{known_map_of}
 use Rattle.json_texts.specs.Forms.{name_meaning, plain_meaning}
 use Rattle.file_limits.specs.Weights.{weight_at}
-use Rattle.file_limits.proofs.Steps.{bind_ok, ok_same}
+use Rattle.json_readers.proofs.Steps.{bind_ok, ok_same}
 use Rattle.file_limits.proofs.Readers.{CountsWithin, count_or_none, known_map-counts, list-counts, may-counts, one-counts}
 use Rattle.settings_reader.specs.Keys.{may_or, os_at, targets_at, compilers_at, providers_at}
 use Rattle.settings_reader.specs.Lists.{os_list, target_at, target_list, compiler_at, compiler_list, pair_cmp, pairs_of, provider_list}
@@ -50,7 +50,8 @@ module _ {T : Type 0} (size : List T → ℕ) (read : Data → Reading (List T))
 os_most : CountsWithin twice_length os_list
 unfolding os_list
 os_most =
-    twice_tested twice_length (list_of (text_of plain_meaning)) (each_twice (text_of plain_meaning)) not_empty (distinct (slice_cmp nat_cmp))
+    twice_tested twice_length (list_of (text_of plain_meaning)) (each_twice (text_of plain_meaning)) not_empty
+    (distinct (slice_cmp nat_cmp))
 
 targets_most : CountsWithin twice_length target_list
 unfolding target_list
@@ -91,17 +92,21 @@ may_or_most {T} size standard read within key ms x e =
       ap size (ok_same (unwrap_or found.0 standard) x found.2),
     )
 
+-- the list of OSs weighs two for each, but for the standard one
 pub os_at_most : (ms : Members) (os : List (List ℕ)) → os_at ms ≡ Ok os → 2 * length os ≤ weight_at ms (codes "os") + 2
 os_at_most = may_or_most twice_length standard.os os_list os_most (codes "os")
 
+-- so does that of targets
 pub targets_at_most : (ms : Members) (targets : List TargetEntry) → targets_at ms ≡ Ok targets
     → 2 * length targets ≤ weight_at ms (codes "targets") + 2
 targets_at_most = may_or_most twice_length standard.targets target_list targets_most (codes "targets")
 
+-- so does that of compilers
 pub compilers_at_most : (ms : Members) (compilers : List CompilerEntry) → compilers_at ms ≡ Ok compilers
     → 2 * length compilers ≤ weight_at ms (codes "compilers") + 2
 compilers_at_most = may_or_most twice_length standard.compilers compiler_list compilers_most (codes "compilers")
 
+-- the lists of providers weigh two for each name in them
 pub providers_at_most : (ms : Members) (lists : List (List ℕ × List (List ℕ))) → providers_at ms ≡ Ok lists
     → 2 * sum_by provider_names lists ≤ weight_at ms (codes "providers") + 0
 providers_at_most = may_or_most providers_size [] (known_map_of name_meaning provider_list) providers_most (codes "providers")

@@ -1,46 +1,15 @@
--- Steps of reading that gave a value, and how much they can give.
-use Rattle.std.proofs.Common.{◌≡◌, sym, ap, subst, ℕ, ◌+◌, ◌≤◌, List, [], ◌∷◌, Option, Some, None, Result, Ok, Err, decimal, arith}
+-- How much steps of reading can give.
+use Rattle.std.proofs.Common.{◌≡◌, ap, ℕ, ◌+◌, ◌≤◌, List, [], ◌∷◌, Option, Some, None, Ok, decimal, arith}
 use Rattle.std.proofs.lemmas.List.Sums.{sum_by-cons}
 use Rattle.std.specs.List.{sum_by}
 use Rattle.serde_json.specs.Data.{Data, array, Items, no_items, item, Members, no_members, member}
 use Rattle.serde_json.specs.Find.{as_array, get_member}
-use Rattle.json_readers.specs.Faults.{Reading, given}
+use Rattle.json_readers.specs.Faults.{given}
 use Rattle.file_limits.specs.Weights.{weight, items_weight, members_weight, weight_or_none, weight_at}
-use Rattle.file_limits.proofs.Steps.{items_ok}
-use Rattle.settings_reader.specs.Told.{Outcome, Told, Then, Goes, Below, raised, said}
+use Rattle.json_readers.proofs.Steps.{items_ok}
+use Rattle.settings_reader.specs.Told.{Told, Below}
+use Rattle.settings_reader.proofs.Outcomes.{ok_same, then_ok, below_ok, said_ok}
 use Rattle.settings_reader.specs.Parsed.{AreEach, IsList, IsListAt, IsOptional, items_at, members_of}
-
--- ---- outcomes
-
-pub ok_same : {T E : Type 0} (x y : T) → (let l : Result T E = Ok x in let r : Result T E = Ok y in l ≡ r) → x ≡ y
-ok_same x y e = cc
-
-pub ok_no : {T E : Type 0} (x : T) (m : E) → (let l : Result T E = Ok x in let r : Result T E = Err m in l ≡ r) → ⊥
-ok_no x m e = cc
-
--- ---- steps that gave a value
-
-abbrev pub Gave : {A B : Type 0} → Told A → (A → Told B) → B → Type 0
-Gave {A = A} first next y = (x : A) × first (Ok x) × next x (Ok y)
-
-goes_ok : {A B : Type 0} (first : Told A) (next : A → Told B) (y : B) (step : Outcome A) → first step → Goes step next (Ok y)
-    → Gave first next y
-goes_ok first next y (Ok x) told goes = (x, told, goes)
-goes_ok first next y (Err m) told goes = absurd (ok_no y m goes)
-
-pub then_ok : {A B : Type 0} (first : Told A) (next : A → Told B) (y : B) → Then first next (Ok y) → Gave first next y
-then_ok first next y h = goes_ok first next y h.step h.told h.goes
-
-raised_ok : {T : Type 0} (key : List ℕ) (told : Told T) (x : T) (inner : Outcome T) → told inner → Ok x ≡ raised key inner → told (Ok x)
-raised_ok key told x (Ok y) right is = subst (λ z. told (Ok z)) (sym (ok_same x y is)) right
-raised_ok key told x (Err m) right is = absurd (ok_no x _ is)
-
-pub below_ok : {T : Type 0} (key : List ℕ) (told : Told T) (x : T) → Below key told (Ok x) → told (Ok x)
-below_ok key told x h = raised_ok key told x h.inner h.right h.is
-
-pub said_ok : {T : Type 0} (reading : Reading T) (x : T) → said reading (Ok x) → reading ≡ Ok x
-said_ok (Ok y) x h = ap Ok (sym (ok_same x y h))
-said_ok (Err m) x h = absurd (ok_no x _ h)
 
 -- ---- how much a step can give
 
@@ -54,7 +23,8 @@ values_first : (v : List ℕ × Data) (vs : List (List ℕ × Data)) → values_
 values_first v vs = sum_by-cons (λ (u : List ℕ × Data). weight u.1) v vs
 
 each_most : {T : Type 0} (size : T → ℕ) (tells : List ℕ → Data → Told T)
-    → ((key : List ℕ) (d : Data) → AtMost size (weight d) (tells key d)) → (vs : List (List ℕ × Data)) → AtMost (sum_by size) (values_weight vs) (AreEach tells vs)
+    → ((key : List ℕ) (d : Data) → AtMost size (weight d) (tells key d)) → (vs : List (List ℕ × Data))
+    → AtMost (sum_by size) (values_weight vs) (AreEach tells vs)
 each_most size tells each [] xs h = omega (arith, ap (sum_by size) (ok_same xs [] h))
 each_most size tells each (v ∷ vs) xs h =
     let first = then_ok (Below v.0 (tells v.0 v.1)) _ xs h in
@@ -83,6 +53,7 @@ module _ {T : Type 0} (size : T → ℕ) where
       → (ms : Members) → AtMost (sum_by size) (members_weight ms) (AreEach tells (members_of ms))
   members_at_most tells each ms xs h = omega (arith, each_most size tells each (members_of ms) xs h, members_most ms)
 
+  -- what may be missing
   pub optional_at_most : (tells : Data → Told (List T)) → ((d : Data) → AtMost (sum_by size) (weight d) (tells d)) → (found : Option Data)
       → AtMost (sum_by size) (weight_or_none found) (IsOptional tells found)
   optional_at_most tells each None xs h = omega (arith, ap (sum_by size) (ok_same xs [] h))

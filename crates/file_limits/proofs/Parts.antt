@@ -12,22 +12,23 @@ use Rattle.spec_grammar.specs.declared.part.Part.{Part}
 use Rattle.spec_grammar.specs.declared.item.Item.TheVariants.{Name, Versions, Variant, Compiler, Key, Caret}
 use Rattle.spec_grammar.specs.Meaning.{first_value}
 use Rattle.spec_grammar.proofs.StepLaws.{some_then}
-use Rattle.file_limits.specs.Counts.{part_values}
+use Rattle.file_limits.specs.SpecSizes.{part_values}
 use Rattle.file_limits.proofs.Items.{item_values}
 
 -- ---- sets of values
 
-with_few : (texts : List (List ℕ)) (w : List ℕ) → length (with_text texts w) ≤ length texts + 1
-with_few [] w = omega arith
-with_few (u ∷ texts) w =
-    let rest = with_few texts w in
+-- a set has one text more at most
+pub length-with_text : (texts : List (List ℕ)) (w : List ℕ) → length (with_text texts w) ≤ length texts + 1
+length-with_text [] w = omega arith
+length-with_text (u ∷ texts) w =
+    let rest = length-with_text texts w in
     elim (byte_cmp w u) as (λ r. length (match_ordering r (w ∷ u ∷ texts) (u ∷ texts) (u ∷ with_text texts w)) ≤ length (u ∷ texts) + 1)
     [ Less ↦ omega arith | Equal ↦ omega arith | Greater ↦ omega (arith, rest) ]
 
 put_few : (texts values : List (List ℕ)) → length (put_all texts values) ≤ length texts + length values
 unfolding put_all
 put_few texts [] = omega arith
-put_few texts (w ∷ values) = omega (arith, with_few texts (truth w), put_few (with_text texts (truth w)) values)
+put_few texts (w ∷ values) = omega (arith, length-with_text texts (truth w), put_few (with_text texts (truth w)) values)
 
 -- ---- a variant more
 
@@ -99,6 +100,7 @@ key_few key.Target w values part next e = kept _ part next (targets_same values 
 key_few key.Flags w values part next e = absurd (none-some next e)
 key_few key.Variant w values part next e = set_few w (put_all [] values) (length values) part next (omega (arith, put_few [] values)) e
 
+-- an item adds no more values to a part than it has
 pub add_few : (item : Item) (part next : Part) → add item part ≡ Some next → AtMost (item_values item) part next
 add_few (Name w) part next e = absurd (none-some next e)
 add_few (Versions items) part next e = kept _ part next (same_unless _ part _ next e refl)

@@ -10,7 +10,7 @@ use Rattle.json_readers.specs.Maps.{and_entry, entries_of, entry_of, known_map_o
 use Rattle.json_readers.specs.Objects.{field, may, members_of, need, null_or}
 use Rattle.json_readers.specs.Sets.{filled, filled_by, set_of, unrepeated}
 use Rattle.file_limits.specs.Weights.{weight, items_weight, members_weight, weight_or_none, weight_at}
-use Rattle.file_limits.proofs.Steps.{below_ok, bind_ok, entry_ok, field_ok, items_ok, may_ok, members_ok, named_ok, need_ok, ok_same}
+use Rattle.json_readers.proofs.Steps.{below_ok, bind_ok, entry_ok, field_ok, items_ok, may_ok, members_ok, named_ok, need_ok, ok_same}
 
 -- what is read of a value counts no more than the value weighs
 abbrev pub CountsWithin : {T : Type 0} → (T → ℕ) → (Data → Reading T) → Type 0
@@ -53,18 +53,18 @@ seen-counts {A} {B} count seen read f le within d y e =
 -- null counts nothing
 pub null_or-counts : {T : Type 0} (count : T → ℕ) (read : Data → Reading T) → CountsWithin count read
     → CountsWithin (count_or_none count) (null_or read)
-null_or-counts {T} count read within d x e = go d x e
+null_or-counts {T} count read within d x e = null_or-counts-cases d x e
   where
     some : (d : Data) (x : Option T) → (read d >>= λ y. Ok (Some y)) ≡ Ok x → count_or_none count x ≤ weight d
     some = seen-counts count (count_or_none count) read (λ y. Some y) (λ y. omega arith) within
 
-    go : (d : Data) (x : Option T) → null_or read d ≡ Ok x → count_or_none count x ≤ weight d
-    go null x e = subst (λ o. count_or_none count o ≤ 1) (ok_same {T = Option T} None x e) (omega arith)
-    go (boolean b) x e = some (boolean b) x e
-    go (number n) x e = some (number n) x e
-    go (string text) x e = some (string text) x e
-    go (array ds) x e = some (array ds) x e
-    go (object ms) x e = some (object ms) x e
+    null_or-counts-cases : (d : Data) (x : Option T) → null_or read d ≡ Ok x → count_or_none count x ≤ weight d
+    null_or-counts-cases null x e = subst (λ o. count_or_none count o ≤ 1) (ok_same {T = Option T} None x e) (omega arith)
+    null_or-counts-cases (boolean b) x e = some (boolean b) x e
+    null_or-counts-cases (number n) x e = some (number n) x e
+    null_or-counts-cases (string text) x e = some (string text) x e
+    null_or-counts-cases (array ds) x e = some (array ds) x e
+    null_or-counts-cases (object ms) x e = some (object ms) x e
 
 -- ---- lists
 

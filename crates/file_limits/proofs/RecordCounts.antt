@@ -1,9 +1,6 @@
 -- A record counts no more than its value weighs, and a database has as many bytes as its value weighs.
 use Rattle.std.proofs.Common.{◌≡◌, refl, sym, ap, subst, ℕ, ◌+◌, ◌≤◌, List, [], ◌∷◌, length, Option, Some, None, Ok, Err, codes, sum_by, arith}
-use Rattle.std.specs.Ordering.{match_ordering}
-use Rattle.std.specs.declared.cmp.Ordering.{Ordering}
-use Rattle.std.specs.declared.cmp.Ordering.TheVariants.{Less, Equal, Greater}
-use Rattle.variant_values.specs.Texts.{byte_cmp, with_text, with_texts}
+use Rattle.variant_values.specs.Texts.{with_text, with_texts}
 use Rattle.serde_json.specs.Data.{Members}
 use Rattle.json_readers.specs.Faults.{Reading}
 use Rattle.json_readers.specs.Lists.{list_of}
@@ -14,7 +11,7 @@ use Rattle.json_readers.specs.Texts.{text_of}
 use Rattle.file_limits.specs.Weights.{weight, members_weight, weight_at}
 use Rattle.file_limits.proofs.Keys.{key-weight, keys-share}
 use Rattle.file_limits.proofs.Readers.{CountsWithin, field-counts, filled-counts, list-counts, map-counts, none-counts, seen-counts, set-counts}
-use Rattle.file_limits.proofs.Steps.{bind_ok, members_ok, ok_same}
+use Rattle.json_readers.proofs.Steps.{bind_ok, members_ok, ok_same}
 use Rattle.file_limits.proofs.Texts.{texts-bear}
 use Rattle.json_texts.specs.Forms.{name_meaning, value_meaning, version_in}
 use Rattle.record_reader.specs.Records.{back_at, compiler_at, dependency_at, front_at, keys, middle_at, record_at, values_at}
@@ -24,19 +21,10 @@ use Rattle.graph_core.specs.declared.node.Kinds.{Kinds}
 use Rattle.reuse_db.specs.declared.record.Record.{Record}
 use Rattle.record_reader.specs.Files.{file_keys, records_at, version_at}
 use Rattle.problem.specs.Limits.{record_members, variant_members}
-use Rattle.file_limits.specs.DatabaseCountsCounts.{DatabasesHoldRecords}
+use Rattle.file_limits.specs.DatabaseSizes.{DatabasesHoldRecords}
+use Rattle.file_limits.proofs.Parts.{length-with_text}
 
 -- ---- sets of texts have no more than what is put to them
-
-length-with_text : (texts : List (List ℕ)) (text : List ℕ) → length (with_text texts text) ≤ length texts + 1
-length-with_text [] text = omega arith
-length-with_text (x ∷ xs) text = by (length-with_text xs text) (byte_cmp text x)
-  where
-    by : length (with_text xs text) ≤ length xs + 1 → (o : Ordering)
-        → length (match_ordering o (text ∷ x ∷ xs) (x ∷ xs) (x ∷ with_text xs text)) ≤ length (x ∷ xs) + 1
-    by rest Less = omega arith
-    by rest Equal = omega arith
-    by rest Greater = omega arith
 
 length-with_texts : (texts words : List (List ℕ)) → length (with_texts texts words) ≤ length texts + length words
 unfolding with_texts
@@ -122,5 +110,6 @@ records-count d records e =
     (subst (λ (entries : List Record). some entries ≤ 1 + members_weight ms.0) (ok_same list.0 records none.2)
     (omega (arith, key-weight ms.0 (codes "records"))))
 
+-- the records of a database count no more than its bytes
 pub databases-hold : DatabasesHoldRecords
 databases-hold bytes records (d, json, is) = omega (arith, records-count d records is.0, texts-bear bytes d json)

@@ -32,7 +32,7 @@ use Rattle.recipe_reader.specs.Recipes.{may_stand, when_of, call}
 use Rattle.problem.specs.Limits.{set_members, size_of_recipe}
 use Rattle.recipe_lexer.proofs.Keeping.{cond_all}
 use Rattle.file_limits.proofs.Sizes.{segment_size}
-use Rattle.file_limits.proofs.RecipeCountsSteps.{no-more}
+use Rattle.file_limits.proofs.TokenCounts.{no-more}
 use Rattle.file_limits.proofs.ArgumentSizes.{options_size, given_size, arguments-fit}
 use Rattle.file_limits.proofs.ShapeSizes.{shape-fits}
 
@@ -142,6 +142,7 @@ at-fit : (n : ℕ) (r : Result Given ArgumentFault) → IfOk r (λ g. given_size
 at-fit n (Ok g) h = h
 at-fit n (Err e) h = tt
 
+-- a call adds no more than its tokens have
 pub call-grows : (bytes : List ℕ) (d : Directive) (place number : ℕ) (segments : List Segment) (around : Option Head) (s : State)
     → StateGrowsTo (state_size s + (sum_by segment_size segments + 7)) (call bytes d place number segments around s)
 unfolding call

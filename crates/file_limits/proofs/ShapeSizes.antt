@@ -23,11 +23,12 @@ use Rattle.file_limits.proofs.ArgumentSizes.{values_size, default_size, options_
 
 filter_map-few : {X Y : Type 0} (f : X → Option Y) (xs : List X) → length (filter_map f xs) ≤ length xs
 filter_map-few f [] = omega arith
-filter_map-few {Y = Y} f (x ∷ xs) = by (filter_map-few f xs) (f x)
+filter_map-few {Y = Y} f (x ∷ xs) = filter_map-few-cases (filter_map-few f xs) (f x)
   where
-    by : length (filter_map f xs) ≤ length xs → (o : Option Y) → length (cons_option o (filter_map f xs)) ≤ length (x ∷ xs)
-    by rest None = omega arith
-    by rest (Some y) = omega arith
+    filter_map-few-cases : length (filter_map f xs) ≤ length xs → (o : Option Y)
+        → length (cons_option o (filter_map f xs)) ≤ length (x ∷ xs)
+    filter_map-few-cases rest None = omega arith
+    filter_map-few-cases rest (Some y) = omega arith
 
 one-few : (s : Scalar) → length (scalar_texts s) ≤ scalar_size s
 one-few (scalar.Text w) = omega arith
@@ -81,5 +82,6 @@ with-within : (default : Option Value) (multi : Bool) (values : Option Texts)
 with-within None multi values = tt
 with-within (Some value) multi values = by-within multi values value
 
+-- the values of a variant are no larger than its options, but for the three that nobody writes
 pub shape-fits : (o : Options) → IfSome (shape o) (λ made. length made.values + length made.default ≤ options_size o + 3)
 shape-fits o = with-within o.default o.multi o.values

@@ -7,7 +7,7 @@ use Rattle.recipe_lexer.specs.Pieces.{marks, opening}
 use Rattle.recipe_lexer.specs.declared.token.Token.{Token}
 use Rattle.recipe_values.specs.Strings.{escaped, escape, byte_text, decoded, prefix, marks_of, inside, string_by, string_in, string}
 use Rattle.recipe_lexer.proofs.Keeping.{cond_all}
-use Rattle.file_limits.proofs.RecipeCountsSteps.{Few, few-more, few-join}
+use Rattle.file_limits.proofs.TokenCounts.{Few, few-more, few-join}
 
 -- ---- escapes
 
@@ -62,9 +62,11 @@ in-string place text =
     few-more (length rest - 1) (length text - 1) _ (by-letters place (take (prefix text) text) rest)
     (omega (arith, length-drop (prefix text) text))
 
+-- a run of bytes is no longer than its ends are apart
 pub slice-few : (bytes : List ℕ) (from to : ℕ) → length (slice bytes from to) ≤ to - from
 slice-few bytes from to = omega (arith, length-take (to - from) (drop from bytes))
 
+-- a string is no longer than what stands between its marks
 pub string-few : (bytes : List ℕ) (t : Token) → Few (t.end - (t.start + 1)) (string bytes t)
 unfolding string
 string-few bytes t =

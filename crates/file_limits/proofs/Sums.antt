@@ -13,6 +13,7 @@ pub sum-twice-each : {X : Type 0} (f : X → ℕ) (xs : List X) → sum_by (λ x
 sum-twice-each f [] = refl
 sum-twice-each f (x ∷ xs) = omega (arith, sum-twice-each f xs, sum_by-cons (λ y. 2 * f y + 2) x xs, sum_by-cons f x xs)
 
+-- a sum of ones is the length
 pub sum-ones : {X : Type 0} (xs : List X) → sum_by (λ x. 1) xs ≡ length xs
 sum-ones [] = refl
 sum-ones (x ∷ xs) = omega (arith, sum-ones xs, sum_by-cons (λ y. 1) x xs)

@@ -10,7 +10,7 @@ use Rattle.json.proofs.Unique.Spelling.{value-json_tokens_back}
 use Rattle.serde_json.specs.Data.{Data, number, array, object, item, Members, no_members, member, put}
 use Rattle.serde_json.specs.Read.{number_of, of_json, of_items, of_members, max_depth, read}
 use Rattle.file_limits.specs.Weights.{weight, items_weight, members_weight}
-use Rattle.file_limits.specs.Laws.{TextsBearWeight}
+use Rattle.file_limits.specs.WeightBounds.{TextsBearWeight}
 use Rattle.file_limits.proofs.Lexemes.{lexemes-bear}
 use Rattle.file_limits.proofs.Tokens.{owed, tokens_weight, before-owed, before-closing, tokens-bear}
 
@@ -154,5 +154,6 @@ read-bears text =
     more None h le = tt
     more (Some d) h le = omega arith
 
+-- a text has as many bytes as its value weighs, at least
 pub texts-bear : TextsBearWeight
 texts-bear bytes d h = subst (AtMost weight (length bytes)) h.1 (read-bears bytes)

@@ -140,6 +140,7 @@ of-size : (n : ℕ) (r : Step) → IfOk r (UpTo n) → IfOk (tokens_of r) (λ fo
 of-size n (Ok s) h = h
 of-size n (Err e) h = tt
 
+-- the tokens of a file are no larger than the file
 pub tokens-fit : (bytes : List ℕ) → IfOk (tokens bytes) (λ found. tokens_size found ≤ length bytes)
 unfolding text_tokens
 tokens-fit bytes =

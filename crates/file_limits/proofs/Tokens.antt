@@ -54,6 +54,7 @@ before-owed after_value t e = e
 before-owed after_comma t e = refl
 before-owed after_key t e = e
 
+-- nothing stands before a closing token
 pub before-closing : (p : Place) (t : Token) → begins t ≡ 0 → before p t ≡ 0
 before-closing fresh t e = refl
 before-closing after_value t e = e
@@ -123,6 +124,7 @@ from_comma : (ts : List Token) → tokens_weight fresh ts ≤ tokens_weight afte
 from_comma [] = omega arith
 from_comma (t ∷ ts) = omega arith
 
+-- tokens weigh no more than their lexemes
 pub tokens-bear : (p : Place) (ls : List Lexeme) → tokens_weight p (punctuate p ls) ≤ lexemes_weight ls
 unfolding punctuate
 tokens-bear fresh [] = omega arith

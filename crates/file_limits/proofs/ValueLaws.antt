@@ -1,23 +1,23 @@
 -- Records that were read have their variants in byte order, each with a value.
-use Rattle.std.proofs.Common.{◌≡◌, refl, sym, ap, subst, ◌∙◌, ℕ, ◌+◌, Bool, true, false, Option, Some, None, Result, Ok, Err, List, [], ◌∷◌, map, codes, cond, decimal}
+use Rattle.std.proofs.Common.{◌≡◌, refl, ap, subst, ℕ, ◌+◌, true, Option, None, Ok, Err, List, [], ◌∷◌, map, codes, decimal}
 use Rattle.std.specs.List.{list_all}
-use Rattle.std.specs.Ordering.{nat_cmp, is_le, match_ordering}
+use Rattle.std.specs.Ordering.{match_ordering}
 use Rattle.std.specs.declared.cmp.Ordering.{Ordering}
 use Rattle.std.specs.declared.cmp.Ordering.TheVariants.{Less, Equal, Greater}
-use Rattle.std.specs.Cmp.Lexicographic.{slice_cmp, nat_list_cmp_total}
+use Rattle.std.specs.Cmp.Lexicographic.{nat_list_cmp_total}
 use Rattle.std.specs.Option.{is_some}
 use Rattle.keyed_lists.specs.Keyed.{rises}
 use Rattle.keyed_lists.proofs.RiseLaws.{rises_decides}
 use Rattle.variant_values.specs.Texts.{IsInByteOrder, byte_cmp, with_text, with_texts}
-use Rattle.serde_json.specs.Data.{Data, null, boolean, number, string, array, object, Items, no_items, item, Members, no_members, member}
-use Rattle.serde_json.specs.Find.{as_array, get_member}
-use Rattle.json_readers.specs.declared.fault.Misfit.{Misfit}
-use Rattle.json_readers.specs.Faults.{Reading, ◌>>=◌, below, given, wrong_kind}
+use Rattle.serde_json.specs.Data.{Data, object, Items, no_items, item, Members, no_members, member}
+use Rattle.serde_json.specs.Find.{as_array}
+use Rattle.json_readers.specs.Faults.{Reading, below, given}
 use Rattle.json_readers.specs.Lists.{items_from, list_of}
 use Rattle.json_readers.specs.Maps.{entries_of, entry_of, map_of}
-use Rattle.json_readers.specs.Objects.{field, first_odd, members_of, none_odd, read_needed, unless_odd}
+use Rattle.json_readers.specs.Objects.{field, first_odd, members_of, none_odd}
 use Rattle.json_readers.specs.Sets.{filled, filled_by, set_of}
 use Rattle.json_readers.specs.Texts.{text_of}
+use Rattle.json_readers.proofs.Steps.{no_ok, bind_ok, below_ok, field_ok, form_ok, ok_same, members_ok, items_ok}
 use Rattle.json_texts.specs.Forms.{name_meaning, value_meaning, version_in}
 use Rattle.record_reader.specs.Records.{back_at, front_at, keys, middle_at, record_at, values_at}
 use Rattle.record_reader.specs.declared.record.Front.{Front}
@@ -27,70 +27,16 @@ use Rattle.record_reader.specs.Files.{file_keys, records_at, version_at, IsDatab
 use Rattle.file_limits.specs.Values.{are_valued, has_values, is_filled}
 use Rattle.file_limits.proofs.OrderLaws.{AreOrderedItems, AreOrderedMembers, IsOrdered, keys_in, member_ordered, text_ordered}
 
-no_ok : {T E : Type 0} (m : E) (x : T) (r : Result T E) → r ≡ Err m → r ≡ Ok x → ⊥
-no_ok m x r is e = let wrong : Err m ≡ Ok x = sym is ∙ e in cc
-
--- ---- steps that gave a value
-
-bind_ok : {A B : Type 0} (r : Reading A) (f : A → Reading B) (y : B) → (r >>= f) ≡ Ok y → (x : A) × (r ≡ Ok x) × (f x ≡ Ok y)
-bind_ok (Ok x) f y e = (x, refl, e)
-bind_ok (Err m) f y e = absurd (no_ok m y _ refl e)
-
-below_ok : {T : Type 0} (key : List ℕ) (r : Reading T) (x : T) → below key r ≡ Ok x → r ≡ Ok x
-below_ok key (Ok y) x e = e
-below_ok key (Err m) x e = absurd (no_ok _ x _ refl e)
-
-unless_ok : {T : Type 0} (b : Bool) (m : Misfit) (r : Reading T) (x : T) → cond b (Err m) r ≡ Ok x → r ≡ Ok x
-unless_ok true m r x e = absurd (no_ok m x _ refl e)
-unless_ok false m r x e = e
-
-odd_ok : {T : Type 0} (key : List ℕ) (odd : Option (List ℕ)) (r : Reading T) (x : T) → unless_odd key odd r ≡ Ok x → r ≡ Ok x
-odd_ok key None r x e = e
-odd_ok key (Some k) r x e = unless_ok (is_le (slice_cmp nat_cmp k key)) _ r x e
-
-needed_ok : {T : Type 0} (read : Data → Reading T) (found : Option Data) (x : T) → read_needed read found ≡ Ok x → (d : Data)
-    × (found ≡ Some d) × (read d ≡ Ok x)
-needed_ok read None x e = absurd (no_ok _ x _ refl e)
-needed_ok read (Some d) x e = (d, refl, e)
-
--- what stands at a key was read
-field_ok : {T : Type 0} (read : Data → Reading T) (odd : Option (List ℕ)) (key : List ℕ) (ms : Members) (x : T)
-    → field read odd key ms ≡ Ok x → (d : Data) × (get_member key ms ≡ Some d) × (read d ≡ Ok x)
-field_ok read odd key ms x e = needed_ok read (get_member key ms) x (below_ok key _ x (odd_ok key odd _ x e))
-
-form_ok : {T : Type 0} (b : Bool) (r : Reading T) (x : T) → cond b r wrong_kind ≡ Ok x → r ≡ Ok x
-form_ok true r x e = e
-form_ok false r x e = absurd (no_ok _ x _ refl e)
-
-ok_same : {T : Type 0} (x y : T) → (let R : Type 0 = Reading T in let l : R = Ok x in let r : R = Ok y in l ≡ r) → x ≡ y
-ok_same x y e = cc
-
-members_ok : (d : Data) (ms : Members) → members_of d ≡ Ok ms → d ≡ object ms
-members_ok null ms e = absurd (no_ok _ ms _ refl e)
-members_ok (boolean b) ms e = absurd (no_ok _ ms _ refl e)
-members_ok (number n) ms e = absurd (no_ok _ ms _ refl e)
-members_ok (string text) ms e = absurd (no_ok _ ms _ refl e)
-members_ok (array ds) ms e = absurd (no_ok _ ms _ refl e)
-members_ok (object found) ms e = ap object (ok_same found ms e)
-
-items_ok : (d : Data) (ds : Items) → given (as_array d) ≡ Ok ds → d ≡ array ds
-items_ok null ds e = absurd (no_ok _ ds _ refl e)
-items_ok (boolean b) ds e = absurd (no_ok _ ds _ refl e)
-items_ok (number n) ds e = absurd (no_ok _ ds _ refl e)
-items_ok (string text) ds e = absurd (no_ok _ ds _ refl e)
-items_ok (array found) ds e = ap array (ok_same found ds e)
-items_ok (object ms) ds e = absurd (no_ok _ ds _ refl e)
-
 -- ---- values
 
 one_filled : (kept : List (List ℕ)) (word : List ℕ) → is_filled (with_text kept word) ≡ true
 one_filled [] word = refl
-one_filled (x ∷ xs) word = go (byte_cmp word x)
+one_filled (x ∷ xs) word = one_filled-cases (byte_cmp word x)
   where
-    go : (r : Ordering) → is_filled (match_ordering r (word ∷ x ∷ xs) (x ∷ xs) (x ∷ with_text xs word)) ≡ true
-    go Less = refl
-    go Equal = refl
-    go Greater = refl
+    one_filled-cases : (r : Ordering) → is_filled (match_ordering r (word ∷ x ∷ xs) (x ∷ xs) (x ∷ with_text xs word)) ≡ true
+    one_filled-cases Less = refl
+    one_filled-cases Equal = refl
+    one_filled-cases Greater = refl
 
 with_filled : (kept words : List (List ℕ)) → is_filled kept ≡ true → is_filled (with_texts kept words) ≡ true
 unfolding with_texts
@@ -205,6 +151,7 @@ value_valued d records ordered e =
     subst (λ (l : List Record). list_all has_values l ≡ true) (ok_same list.0 records none.2)
     (list_valued read.0 list.0 (member_ordered (codes "records") ms.0 read.0 inside.1 read.1) read.2)
 
+-- each record of a database has its variants in order, each with a value
 pub database_valued : (bytes : List ℕ) (records : List Record) → IsDatabase bytes records
     → list_all has_values records ≡ true
 database_valued bytes records (d, json, is) = value_valued d records (text_ordered bytes d json) is.0

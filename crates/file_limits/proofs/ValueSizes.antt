@@ -17,7 +17,7 @@ use Rattle.recipe_values.specs.Strings.{string, as_text}
 use Rattle.recipe_values.specs.Values.{is_empty, one, is_number, word_value, alone, atom_text, texts, text_value, plain_value, value_by, value_of}
 use Rattle.recipe_lexer.proofs.Keeping.{cond_all}
 use Rattle.file_limits.proofs.Sizes.{size_by, token_size, value_size, read_size, atom_size, segment_size}
-use Rattle.file_limits.proofs.RecipeCountsSteps.{Few, few-more, few-join}
+use Rattle.file_limits.proofs.TokenCounts.{Few, few-more, few-join}
 use Rattle.file_limits.proofs.StringSizes.{string-few}
 
 -- the value counts for n at most, and so does a name or a member
@@ -132,6 +132,7 @@ by-fits bytes (Inner place read ∷ more) stop =
     alone-fits (sum_by atom_size (Inner place read ∷ more)) place more read
     (inner-fits (sum_by atom_size (Inner place read ∷ more)) read (omega (arith, sum_by-cons atom_size (Inner place read) more)))
 
+-- a value is no larger than its segment
 pub value-fits : (bytes : List ℕ) (s : Segment) → ReadFits (segment_size s) (value_of bytes s)
 unfolding value_of
 value-fits bytes s = by-fits bytes s.atoms s.stop

@@ -5,10 +5,10 @@ use Rattle.serde_json.specs.Data.{Data, Members, no_members}
 use Rattle.json_readers.specs.Faults.{Reading}
 use Rattle.json_readers.specs.Objects.{known}
 use Rattle.file_limits.specs.Weights.{weight, members_weight, weight_at}
-use Rattle.file_limits.specs.Laws.{TextsBearWeight, KeysShareWeight}
-use Rattle.file_limits.proofs.Steps.{bind_ok, known_ok}
-use Rattle.file_limits.proofs.Steps as step
-use Rattle.file_limits.specs.Counts.{TextsBearValues}
+use Rattle.file_limits.specs.WeightBounds.{TextsBearWeight, KeysShareWeight}
+use Rattle.json_readers.proofs.Steps.{bind_ok, known_ok}
+use Rattle.json_readers.proofs.Steps as step
+use Rattle.file_limits.specs.SpecSizes.{TextsBearValues}
 use Rattle.target_table.specs.Faults.{fault_of}
 use Rattle.target_table.specs.declared.entry.TargetEntry.{TargetEntry}
 use Rattle.target_table.specs.declared.fault.TargetFault.{TargetFault}
@@ -20,10 +20,11 @@ use Rattle.site_settings.specs.declared.settings.PackageEntry.{PackageEntry}
 use Rattle.site_settings.specs.declared.settings.Settings.{Settings}
 use Rattle.problem.specs.Limits.{provider_names, size_of_settings}
 use Rattle.site_settings.specs.Standard.{standard}
-use Rattle.file_limits.specs.SettingsCountsCounts.{FilesBearSettings}
+use Rattle.file_limits.specs.SettingsSizes.{FilesBearSettings}
 use Rattle.file_limits.proofs.Externals.{packages_at_most}
 use Rattle.file_limits.proofs.Lists.{compilers_at_most, os_at_most, providers_at_most, targets_at_most}
-use Rattle.file_limits.proofs.Outcomes.{AtMost, ok_no, ok_same, said_ok, then_ok}
+use Rattle.settings_reader.proofs.Outcomes.{ok_no, ok_same, said_ok, then_ok}
+use Rattle.file_limits.proofs.Outcomes.{AtMost}
 
 -- the types of what is read before the table of targets and behind it, which their crate keeps to itself
 abbrev read : {T : Type 0} → Reading T → Type 0
@@ -123,6 +124,7 @@ settings_most bear share d settings h =
     (ok_same settings (settings_with head.0 targets.0 tail.0 packages.0) packages.2) in
     omega (arith, within, ap weight (known_ok keys d ms.0 (said_ok (known keys d) ms.0 ms.1)))
 
+-- a file has two bytes for each thing that is counted in its settings, but for six
 pub files-bear-settings : TextsBearWeight → KeysShareWeight → TextsBearValues → FilesBearSettings
 files-bear-settings texts share bear bytes settings (d, json, is) =
     omega (arith, texts bytes d json, settings_most bear share d settings is)

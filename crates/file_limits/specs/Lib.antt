@@ -1,8 +1,8 @@
 -- what public contracts say
 pub mod Weights
-pub mod Laws
+pub mod WeightBounds
 -- What public contracts say.
-pub mod Counts
-pub mod SettingsCountsCounts
+pub mod SpecSizes
+pub mod SettingsSizes
 pub mod Values
-pub mod DatabaseCountsCounts
+pub mod DatabaseSizes

@@ -1,13 +1,10 @@
 -- What the variants of a record are.
-use Rattle.std.specs.Prelude.{ℕ, Bool, true, false, ◌&&◌, List, [], ◌∷◌, map}
+use Rattle.std.specs.Prelude.{ℕ, Bool, ◌&&◌, List, map}
 use Rattle.std.specs.List.{list_all}
 use Rattle.variant_values.specs.Texts.{byte_cmp}
 use Rattle.keyed_lists.specs.Keyed.{rises}
+pub use Rattle.settings_reader.specs.Values.{is_filled}
 use Rattle.reuse_db.specs.declared.record.Record.{Record}
-
-abbrev pub is_filled : {T : Type 0} → List T → Bool
-is_filled [] = false
-is_filled (x ∷ xs) = true
 
 -- variants in byte order of their names, each with a value
 abbrev pub are_valued : List (List ℕ × List (List ℕ)) → Bool

@@ -50,24 +50,25 @@ abbrev WithName : (Text → Option Text) → Text → Option (Text × Text)
 WithName provider name = option_map (λ p. (name, p)) (provider name)
 
 name_kept : (provider : Text → Option Text) → IsKeyed virtual_of (WithName provider)
-name_kept provider name pair = go (provider name)
+name_kept provider name pair = name_kept-cases (provider name)
   where
-    go : (r : Option Text) → option_map (λ p. (name, p)) r ≡ Some pair → pair.0 ≡ name
-    go None e = absurd (none-some pair e)
-    go (Some p) e = let same : (name, p) ≡ pair = cc in sym (ap (λ (q : Text × Text). q.0) same)
+    name_kept-cases : (r : Option Text) → option_map (λ p. (name, p)) r ≡ Some pair → pair.0 ≡ name
+    name_kept-cases None e = absurd (none-some pair e)
+    name_kept-cases (Some p) e = let same : (name, p) ≡ pair = cc in sym (ap (λ (q : Text × Text). q.0) same)
 
 package_kept : (name : Text) (r : Option Text) → option_map (λ (p : Text × Text). p.1) (option_map (λ p. (name, p)) r) ≡ r
 package_kept name None = refl
 package_kept name (Some p) = refl
 
+-- what is found of a virtual is its name with its provider
 pub whole_provider : (g : Content) (name : Text) → find_key byte_cmp virtual_of g.providers name ≡ WithName (provider_of g) name
-whole_provider g name = go (find_key byte_cmp virtual_of g.providers name)
+whole_provider g name = whole_provider-cases (find_key byte_cmp virtual_of g.providers name)
     (λ x. find_sound nat_list_cmp_total ties_are_equal virtual_of g.providers name x)
   where
-    go : (r : Option (Text × Text)) → ((x : Text × Text) → r ≡ Some x → Contains g.providers x × (x.0 ≡ name))
+    whole_provider-cases : (r : Option (Text × Text)) → ((x : Text × Text) → r ≡ Some x → Contains g.providers x × (x.0 ≡ name))
         → r ≡ option_map (λ p. (name, p)) (option_map (λ provider. provider.1) r)
-    go None sound = refl
-    go (Some x) sound = ap (λ v. Some (v, x.1)) (sound x refl).1
+    whole_provider-cases None sound = refl
+    whole_provider-cases (Some x) sound = ap (λ v. Some (v, x.1)) (sound x refl).1
 
 -- ---- what is told at names
 
@@ -75,6 +76,7 @@ module _ (names virtuals : List Text) (given : Given) where
   abbrev Made : Content
   Made = graph_by names virtuals given
 
+  -- the provider that is told of a virtual is found there
   pub made_provider : AreNames virtuals → (name : Text) → Contains virtuals name → provider_of Made name ≡ given.provider name
   unfolding graph_by
   made_provider rising name there =
@@ -84,6 +86,7 @@ module _ (names virtuals : List Text) (given : Given) where
       ∙ package_kept name (given.provider name)
 
   module _ (rising : AreNames names) (is : IsGiven names given) where
+    -- the node that is told of a name is found there
     pub made_node : (name : Text) → Contains names name → node_of Made name ≡ given.node name
     unfolding graph_by
     made_node name there = find-filter_map nat_list_cmp_total ties_are_equal name_of given.node is.nodes names name rising there
@@ -91,6 +94,7 @@ module _ (names virtuals : List Text) (given : Given) where
     edge_kept : (pair : Text × Text) (edge : Edge) → given.edge pair.0 pair.1 ≡ Some edge → ends_of edge ≡ pair
     edge_kept pair edge e = let both = is.edges pair.0 pair.1 edge e in λ i. (both.0 i, both.1 i)
 
+    -- the edge that is told of two names is found there
     pub made_edge : (parent child : Text) → Contains names parent → Contains names child
         → edge_of Made parent child ≡ given.edge parent child
     unfolding graph_by
@@ -113,11 +117,11 @@ module _ (names virtuals : List Text) (given : Given) where
 
     package_of : (name : Text) (provider : Text × Text) → WithName given.provider name ≡ Some provider
         → given.provider name ≡ Some provider.1
-    package_of name provider = go (given.provider name)
+    package_of name provider = package_of-cases (given.provider name)
       where
-        go : (r : Option Text) → option_map (λ p. (name, p)) r ≡ Some provider → r ≡ Some provider.1
-        go None e = absurd (none-some provider e)
-        go (Some p) e = let same : (name, p) ≡ provider = cc in ap (λ (q : Text × Text). Some q.1) same
+        package_of-cases : (r : Option Text) → option_map (λ p. (name, p)) r ≡ Some provider → r ≡ Some provider.1
+        package_of-cases None e = absurd (none-some provider e)
+        package_of-cases (Some p) e = let same : (name, p) ≡ provider = cc in ap (λ (q : Text × Text). Some q.1) same
 
     parent_there : (edge : Edge) → Contains Made.edges edge → HasNode Made edge.parent
     parent_there edge there =
@@ -151,6 +155,7 @@ module _ (names virtuals : List Text) (given : Given) where
     providers_order = in_order-filter_map nat_list_cmp_total ties_are_equal virtual_of (WithName given.provider)
         (name_kept given.provider) virtuals
 
+    -- what is told makes a graph
     pub made_graph : AreNames virtuals → IsGraph Made
     made_graph rising_virtuals = record {
       nodes = nodes_order;
@@ -164,12 +169,14 @@ module _ (names virtuals : List Text) (given : Given) where
 -- ---- each graph is one
 
 module _ (g : Content) (graph : IsGraph g) where
+  -- the providers of a graph are those of given virtuals
   pub given_providers : (virtuals : List Text) → AreNames virtuals → All (λ provider. Contains virtuals provider.0) g.providers
       → g.providers ≡ filter_map (WithName (provider_of g)) virtuals
   given_providers virtuals rising within =
       is_given nat_list_cmp_total ties_are_equal virtual_of virtuals g.providers rising graph.providers within
       ∙ filter_map-agree _ _ virtuals (λ name there. whole_provider g name)
 
+  -- a test of all providers is one of what each virtual has
   pub each-provider : (virtuals : List Text) → AreNames virtuals → All (λ provider. Contains virtuals provider.0) g.providers
       → (test : Text × Text → Bool)
       → list_all test g.providers ≡ list_all (λ name. passes_or_none (λ provider. test (name, provider)) (provider_of g name)) virtuals
@@ -184,6 +191,7 @@ module _ (g : Content) (graph : IsGraph g) where
       inner name (Some p) = refl
 
   module _ (names : List Text) (rising : AreNames names) (within : All (λ node. Contains names node.name) g.nodes) where
+    -- the nodes of a graph are those of given names
     pub given_nodes : g.nodes ≡ filter_map (node_of g) names
     given_nodes = is_given nat_list_cmp_total ties_are_equal name_of names g.nodes rising graph.nodes within
 
@@ -203,6 +211,7 @@ module _ (g : Content) (graph : IsGraph g) where
         (all_from (λ edge. Contains (pairs_of names) (ends_of edge)) g.edges (λ edge there. let both = ends_named edge there in
         in_pairs names edge.parent edge.child both.0 both.1))
 
+    -- a graph is the one that its look-ups give
     pub given_graph : (virtuals : List Text) → AreNames virtuals → All (λ provider. Contains virtuals provider.0) g.providers
         → g ≡ graph_by names virtuals (record { node = node_of g; edge = edge_of g; provider = provider_of g })
     unfolding graph_by
@@ -210,15 +219,18 @@ module _ (g : Content) (graph : IsGraph g) where
         let providers = given_providers virtuals rising_virtuals within_virtuals in
         λ i. record { nodes = given_nodes i; edges = given_edges i; providers = providers i }
 
+    -- a test of all nodes is one of what each name has
     pub each-node : (test : Node → Bool) → list_all test g.nodes ≡ list_all (λ name. passes_or_none test (node_of g name)) names
     each-node test = ap (list_all test) given_nodes ∙ list_all-filter_map (node_of g) test names
 
+    -- a sum over all nodes is one over the names
     pub sum-nodes : (cost : Node → ℕ) → sum_by cost g.nodes ≡ sum_by (λ name. adds_or_none cost (node_of g name)) names
     sum-nodes cost = ap (sum_by cost) given_nodes ∙ sum_by-filter_map (node_of g) cost names
 
     -- ---- the edges from a node
 
     module _ (parent : Text) where
+      -- the edges from a node are those to the names
       pub edges-by : edges_from g parent ≡ filter_map (edge_of g parent) names
       edges-by =
           is_given pair_total pair_exact ends_of (with_parent parent names) (edges_from g parent)

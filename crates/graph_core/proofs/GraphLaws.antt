@@ -21,6 +21,7 @@ use Rattle.graph_core.specs.declared.node.Edge.{Edge}
 use Rattle.graph_core.specs.Graphs.{Text, Content, IsGraph, is_graph, HasNode, no_content, name_of, ends_of, virtual_of, pair_cmp, node_of, with_node, with_edge, with_provider}
 use Rattle.graph_core.proofs.PairLaws.{pair_total, pair_exact}
 
+-- the empty content is a graph
 pub no_graph : IsGraph no_content
 unfolding IsStrictlySortedBy
 no_graph = record { nodes = tt; edges = tt; providers = tt; parents = All-nil _; children = All-nil _; packages = All-nil _ }
@@ -61,6 +62,7 @@ module _ (g : Content) where
   providers_tell : Decides (rises byte_cmp (map virtual_of g.providers)) (IsStrictlySortedBy byte_cmp (map virtual_of g.providers))
   providers_tell = rises_decides byte_cmp nat_list_cmp_total (map virtual_of g.providers)
 
+  -- the test of a graph is exact
   pub is_graph_decides : Decides (is_graph g) (IsGraph g)
   unfolding is_graph
   is_graph_decides = (
@@ -84,6 +86,7 @@ module _ (g : Content) where
 -- ---- one thing more
 
 module _ (g : Content) (graph : IsGraph g) where
+  -- a graph with one node more is one
   pub graph-with_node : (node : Node) → IsGraph (with_node g node)
   graph-with_node node = record {
     nodes = in_order-with_one nat_list_cmp_total ties_are_equal name_of g.nodes node graph.nodes;
@@ -98,6 +101,7 @@ module _ (g : Content) (graph : IsGraph g) where
       kept name has = rw (keys-with_one nat_list_cmp_total ties_are_equal name_of g.nodes node)
           ((Contains-insert_key nat_list_cmp_total ties_are_equal (map name_of g.nodes) node.name name).1 (inr has))
 
+  -- a graph with an edge between its nodes more is one
   pub graph-with_edge : (edge : Edge) → HasNode g edge.parent → HasNode g edge.child → IsGraph (with_edge g edge)
   graph-with_edge edge parent child = record {
     nodes = graph.nodes;
@@ -108,6 +112,7 @@ module _ (g : Content) (graph : IsGraph g) where
     packages = graph.packages;
   }
 
+  -- a graph with one provider more is one
   pub graph-with_provider : (name provider : Text) → HasNode g provider → IsGraph (with_provider g name provider)
   graph-with_provider name provider has = record {
     nodes = graph.nodes;
@@ -122,25 +127,27 @@ module _ (g : Content) (graph : IsGraph g) where
 -- ---- after an insertion that may have failed
 
 module _ (g : Content) (graph : IsGraph g) (r : Result Bool AllocError) where
+  -- so it is where the node was there, or memory was out
   pub graph-after_node : (node : Node) (nodes : List Node)
       → IfOk r (λ added. nodes ≡ cond added (with_one byte_cmp name_of g.nodes node) g.nodes) → OnErr r (nodes ≡ g.nodes)
       → IsGraph (record g { nodes = nodes })
-  graph-after_node node nodes ok err = go r ok err
+  graph-after_node node nodes ok err = graph-after_node-cases r ok err
     where
-      go : (r : Result Bool AllocError) → IfOk r (λ added. nodes ≡ cond added (with_one byte_cmp name_of g.nodes node) g.nodes)
+      graph-after_node-cases : (r : Result Bool AllocError) → IfOk r (λ added. nodes ≡ cond added (with_one byte_cmp name_of g.nodes node) g.nodes)
           → OnErr r (nodes ≡ g.nodes) → IsGraph (record g { nodes = nodes })
-      go (Ok true) is _ = rw is (graph-with_node g graph node)
-      go (Ok false) is _ = rw is graph
-      go (Err e) _ is = rw is graph
+      graph-after_node-cases (Ok true) is _ = rw is (graph-with_node g graph node)
+      graph-after_node-cases (Ok false) is _ = rw is graph
+      graph-after_node-cases (Err e) _ is = rw is graph
 
+  -- so it is where the virtual was there, or memory was out
   pub graph-after_provider : (name provider : Text) (providers : List (Text × Text)) → HasNode g provider
       → IfOk r (λ added. providers ≡ cond added (with_one byte_cmp virtual_of g.providers (name, provider)) g.providers)
       → OnErr r (providers ≡ g.providers) → IsGraph (record g { providers = providers })
-  graph-after_provider name provider providers has ok err = go r ok err
+  graph-after_provider name provider providers has ok err = graph-after_provider-cases r ok err
     where
-      go : (r : Result Bool AllocError) → IfOk r
+      graph-after_provider-cases : (r : Result Bool AllocError) → IfOk r
           (λ added. providers ≡ cond added (with_one byte_cmp virtual_of g.providers (name, provider)) g.providers)
           → OnErr r (providers ≡ g.providers) → IsGraph (record g { providers = providers })
-      go (Ok true) is _ = rw is (graph-with_provider g graph name provider has)
-      go (Ok false) is _ = rw is graph
-      go (Err e) _ is = rw is graph
+      graph-after_provider-cases (Ok true) is _ = rw is (graph-with_provider g graph name provider has)
+      graph-after_provider-cases (Ok false) is _ = rw is graph
+      graph-after_provider-cases (Err e) _ is = rw is graph

@@ -25,6 +25,7 @@ use Rattle.graph_core.specs.Given.{AreNames, pairs_of}
 
 -- ---- the order
 
+-- pairs of texts are in a total order
 pub pair_total : IsTotalOrder pair_cmp
 pair_total = then_total (on_total (λ p. p.0) nat_list_cmp_total) (on_total (λ p. p.1) nat_list_cmp_total)
 
@@ -33,6 +34,7 @@ both_tie Less s e = absurd (cc)
 both_tie Equal s e = (refl, e)
 both_tie Greater s e = absurd (cc)
 
+-- pairs that tie are equal
 pub pair_exact : IsAntisymmetric pair_cmp
 pair_exact p q e =
     let ties = both_tie (byte_cmp p.0 q.0) (byte_cmp p.1 q.1) e in
@@ -41,12 +43,12 @@ pair_exact p q e =
 -- ---- the run of one parent
 
 not_above : (p q : Text) (s : Ordering) → ordering_then (byte_cmp p q) s ≡ Less → is_lt (byte_cmp q p) ≡ false
-not_above p q s e = rw (nat_list_cmp_total.antisymm q p) (go (byte_cmp p q) e)
+not_above p q s e = rw (nat_list_cmp_total.antisymm q p) (not_above-cases (byte_cmp p q) e)
   where
-    go : (r : Ordering) → ordering_then r s ≡ Less → is_lt (ordering_reverse r) ≡ false
-    go Less e = refl
-    go Equal e = refl
-    go Greater e = absurd (cc)
+    not_above-cases : (r : Ordering) → ordering_then r s ≡ Less → is_lt (ordering_reverse r) ≡ false
+    not_above-cases Less e = refl
+    not_above-cases Equal e = refl
+    not_above-cases Greater e = absurd (cc)
 
 -- in the order of edges their parents rise
 pub parents_rise : (edges : List Edge) (name : Text) → IsInOrder pair_cmp ends_of edges
@@ -59,6 +61,7 @@ parents_rise edges name ordered = searchable_from_sorted nat_list_cmp_total (λ 
 pub tells_alike : (p q : Text) → is_eq (byte_cmp p q) ≡ bytes_eq p q
 tells_alike p q = same_from_decides (eq_by_cmp byte_cmp p q) (bytes_eq p q) (texts_decide p q) (bytes_decides p q)
 
+-- the tests of a parent by its order and by its bytes leave the same edges
 pub parents_alike : (edges : List Edge) (name : Text)
     → filter (λ e. is_eq (byte_cmp e.parent name)) edges ≡ filter (λ e. bytes_eq e.parent name) edges
 parents_alike edges name = filter_agree (λ (e : Edge). is_eq (byte_cmp e.parent name)) (λ e. bytes_eq e.parent name)
@@ -69,6 +72,7 @@ parents_alike edges name = filter_agree (λ (e : Edge). is_eq (byte_cmp e.parent
 abbrev pub with_parent : Text → List Text → List (Text × Text)
 with_parent parent names = map (λ child. (parent, child)) names
 
+-- the pairs of one parent with names in order are in order
 pub pairs_with : (parent : Text) (names : List Text) → AreNames names → IsStrictlySortedBy pair_cmp (with_parent parent names)
 pairs_with parent [] rising = rises_none pair_cmp
 pairs_with parent (name ∷ names) rising = rises_more pair_cmp (parent, name) (with_parent parent names) (λ pair there.
@@ -78,6 +82,7 @@ pairs_with parent (name ∷ names) rising = rises_more pair_cmp (parent, name) (
     subst (λ p. pair_cmp (parent, name) p ≡ Less) from.2 less)
     (pairs_with parent names (rises_rest byte_cmp name names rising))
 
+-- a name stands in a pair with the parent
 pub in_with : (parent child : Text) (names : List Text) → Contains names child → Contains (with_parent parent names) (parent, child)
 in_with parent child names there = has_image (λ (c : Text). let p : Text × Text = (parent, c) in p) names child there
 
@@ -102,31 +107,34 @@ pairs_from names (parent ∷ parents) all rising =
         (λ later. has_later p ps b.0 (parent_of ps b later))
         (Contains-append_cases (with_parent p names) (flat_map (λ q. with_parent q names) ps) b there)
 
+-- all pairs of names in order are in order
 pub pairs_rise : (names : List Text) → AreNames names → IsStrictlySortedBy pair_cmp (pairs_of names)
 pairs_rise names rising = pairs_from names names rising rising
 
+-- each two names are a pair
 pub in_pairs : (names : List Text) (parent child : Text) → Contains names parent → Contains names child
     → Contains (pairs_of names) (parent, child)
-in_pairs names parent child = go names
+in_pairs names parent child = in_pairs-cases names
   where
-    go : (parents : List Text) → Contains parents parent → Contains names child
+    in_pairs-cases : (parents : List Text) → Contains parents parent → Contains names child
         → Contains (flat_map (λ p. with_parent p names) parents) (parent, child)
-    go [] there in_names = absurd (omega (arith, there.1))
-    go (p ∷ ps) there in_names = ⊎_elim
+    in_pairs-cases [] there in_names = absurd (omega (arith, there.1))
+    in_pairs-cases (p ∷ ps) there in_names = ⊎_elim
         (λ e. Contains-append_left (with_parent p names) (flat_map (λ q. with_parent q names) ps) (parent, child)
         (subst (λ q. Contains (with_parent q names) (parent, child)) (sym e) (in_with parent child names in_names)))
         (λ later. Contains-append_right (with_parent p names) (flat_map (λ q. with_parent q names) ps) (parent, child)
-        (go ps later in_names))
+        (in_pairs-cases ps later in_names))
         (first_or_later p ps parent there)
 
+-- a pair is of two of the names
 pub from_pairs : (names : List Text) (pair : Text × Text) → Contains (pairs_of names) pair → Contains names pair.0 × Contains names pair.1
-from_pairs names pair = go names
+from_pairs names pair = from_pairs-cases names
   where
-    go : (parents : List Text) → Contains (flat_map (λ p. with_parent p names) parents) pair → Contains parents pair.0
+    from_pairs-cases : (parents : List Text) → Contains (flat_map (λ p. with_parent p names) parents) pair → Contains parents pair.0
         × Contains names pair.1
-    go [] there = absurd (omega (arith, there.1))
-    go (p ∷ ps) there = ⊎_elim
+    from_pairs-cases [] there = absurd (omega (arith, there.1))
+    from_pairs-cases (p ∷ ps) there = ⊎_elim
         (λ here. let from = image_of (λ (c : Text). let q : Text × Text = (p, c) in q) names pair here in
         (subst (Contains (p ∷ ps)) (ap (λ q. q.0) from.2) (has_first p ps), subst (Contains names) (ap (λ q. q.1) from.2) from.1))
-        (λ later. let rest = go ps later in (has_later p ps pair.0 rest.0, rest.1))
+        (λ later. let rest = from_pairs-cases ps later in (has_later p ps pair.0 rest.0, rest.1))
         (Contains-append_cases (with_parent p names) (flat_map (λ q. with_parent q names) ps) pair there)

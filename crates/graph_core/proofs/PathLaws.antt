@@ -20,6 +20,7 @@ use Rattle.graph_core.specs.Graphs.{Text, Content, IsGraph, HasNode, name_of, en
 use Rattle.graph_core.specs.Paths.{arcs_of, JoinedIn, reaches_in}
 
 module _ (g : Content) (graph : IsGraph g) where
+  -- the ends of an edge are nodes
   pub joins_nodes : (p q : Text) → JoinedIn g p q → HasNode g p × HasNode g q
   joins_nodes p q arc =
       let edge = image_of ends_of g.edges (p, q) arc in (
@@ -27,15 +28,19 @@ module _ (g : Content) (graph : IsGraph g) where
         subst (HasNode g) (ap (λ e. e.1) edge.2) (All-contains (λ (e : Edge). HasNode g e.child) g.edges edge.0 graph.children edge.1),
       )
 
+  -- a path begins at a node
   pub begins_at_node : (p q : Text) → Path (JoinedIn g) p q → HasNode g p
   begins_at_node p q path = ⊎_elim (λ arc. (joins_nodes p q arc).0) (λ w. (joins_nodes p w.0 w.1).0) (first_arc (JoinedIn g) p q path)
 
+  -- a path ends at a node
   pub ends_at_node : (p q : Text) → Path (JoinedIn g) p q → HasNode g q
   ends_at_node p q path = ⊎_elim (λ arc. (joins_nodes p q arc).1) (λ w. (joins_nodes w.0 q w.2).1) (last_arc (JoinedIn g) p q path)
 
+  -- no two nodes have one name
   pub names_once : AreOnce (map name_of g.nodes)
   names_once = one_place nat_list_cmp_total ties_are_equal name_of (map name_of g.nodes) graph.nodes
 
+  -- the place of a node is that of its name
   pub name_at : (name : Text) (i : ℕ) → IsPlaceOf byte_cmp name_of g.nodes name i → IsAt (map name_of g.nodes) name i
   name_at = key_at nat_list_cmp_total ties_are_equal name_of g.nodes
 
@@ -49,10 +54,12 @@ module _ (g : Content) (graph : IsGraph g) where
       names_once p q i j (name_at p i at_i) (name_at q j at_j) told in
       (λ t. by_mark.0 (sym read ∙ t), λ path. read ∙ by_mark.1 path)
 
+  -- the ends of the edge at a place are nodes
   pub edge_ends : (i : ℕ) (e : Edge) → i < length g.edges → e ≡ get_or g.edges i e → HasNode g e.parent × HasNode g e.child
   edge_ends i e lt is =
       (subst (λ x. HasNode g x.parent) (sym is) (graph.parents i e lt), subst (λ x. HasNode g x.child) (sym is) (graph.children i e lt))
 
+-- the numbers of one edge more
 pub numbered_more : (keys : List Text) (edges : List Edge) (i : ℕ) (e : Edge) (numbers : List (ℕ × ℕ)) (a b : ℕ) → i < length edges
     → e ≡ get_or edges i e → AreNumbered keys (map ends_of (take i edges)) numbers → IsAt keys e.parent a → IsAt keys e.child b
     → AreNumbered keys (map ends_of (take (i + 1) edges)) (numbers ++ (a, b) ∷ [])
@@ -63,5 +70,6 @@ numbered_more keys edges i e numbers a b lt is so_far at_a at_b =
 pub told_path : (g : Content) (p q : Text) (is : Bool) → Decides is (Path (JoinedIn g) p q) → is ≡ reaches_in g p q
 told_path g p q is tells = same_from_decides is (reaches_in g p q) tells (reaches_decides bytes_eq bytes_decides (arcs_of g) p q)
 
+-- where no path leads the computed answer is `false`
 pub no_path : (g : Content) (p q : Text) → (Path (JoinedIn g) p q → ⊥) → false ≡ reaches_in g p q
 no_path g p q none = told_path g p q false (told_false none)

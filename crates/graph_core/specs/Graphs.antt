@@ -1,5 +1,5 @@
 -- Graphs as three lists in order.
-use Rattle.std.specs.Prelude.{ℕ, Bool, ◌&&◌, List, [], Option, map, filter, All, Contains, option_map, is_some}
+use Rattle.std.specs.Prelude.{ℕ, Bool, ◌&&◌, ◌||◌, List, [], Option, map, filter, All, Contains, option_map, is_some}
 use Rattle.std.specs.List.{list_all}
 use Rattle.std.specs.Ordering.{on, then_cmp}
 use Rattle.std.specs.Str.{bytes_eq}
@@ -8,6 +8,7 @@ use Rattle.keyed_lists.specs.OfVariantValues.Texts.{byte_cmp}
 use Rattle.keyed_lists.specs.Keyed.{IsInOrder, rises, find_key, with_one}
 use Rattle.graph_core.specs.declared.node.Node.{Node}
 use Rattle.graph_core.specs.declared.node.Edge.{Edge}
+use Rattle.graph_core.specs.declared.node.Kinds.{Kinds}
 
 -- a text, as its bytes
 abbrev pub Text : Type 0
@@ -34,6 +35,10 @@ ends_of edge = (edge.parent, edge.child)
 -- pairs of names, by the first and then by the second
 abbrev pub pair_cmp : Text × Text → Text × Text → Ordering
 pair_cmp = then_cmp (on (λ p. p.0) byte_cmp) (on (λ p. p.1) byte_cmp)
+
+-- an edge has one kind at least
+abbrev pub has_kind : Kinds → Bool
+has_kind kinds = kinds.build || kinds.link || kinds.run
 
 -- a provider is a virtual and its package
 abbrev pub virtual_of : Text × Text → Text

@@ -1,4 +1,4 @@
-// Copies and comparisons of what a graph is made of.
+//! Copies and comparisons of what a graph is made of.
 
 use crate::{Compiler, Edge, Kinds, Node, Origin};
 use plain_data::{Duplicate, Same};

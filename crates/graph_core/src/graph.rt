@@ -1,11 +1,14 @@
-// A graph.
-ghost use Rattle.std.specs.Prelude.{◌≡◌, ◌↔◌, ◌≤◌, length, map, filter, None, IfOk, OnErr, IsTrue, MatchResult, if◌then◌else◌};
+//! A graph.
+ghost use Rattle.std.specs.Prelude.{◌≡◌, ◌↔◌, ◌≤◌, length, map, filter, None, IfOk, OnErr, IsTrue};
+ghost use Rattle.std.specs.Prelude.{MatchResult, if◌then◌else◌};
 ghost use Rattle.std.specs.Option.{option_copied};
 ghost use Rattle.std.specs.List.{slice_range};
 ghost use Rattle.std.specs.Str.{bytes_eq};
 ghost use Rattle.keyed_lists.specs.OfVariantValues.Texts.{byte_cmp};
 ghost use Rattle.keyed_lists.specs.Keyed.{IsInOrder, IsPlaceOf, IsGapFor};
-ghost use Rattle.graph_core.specs.Graphs.{IsGraph, HasNode, no_content, name_of, ends_of, pair_cmp, node_of, edge_of, edges_from, provider_of, with_node, with_edge, with_provider};
+ghost use Rattle.graph_core.specs.Graphs.{IsGraph, HasNode, no_content, name_of, ends_of, pair_cmp};
+ghost use Rattle.graph_core.specs.Graphs.{node_of, edge_of, edges_from, provider_of, with_node};
+ghost use Rattle.graph_core.specs.Graphs.{with_edge, with_provider};
 
 use crate::{Edge, Node};
 use keyed_lists::{find, has_key, insert, place_of};
@@ -14,8 +17,8 @@ use std::alloc::{AllocError, Global};
 use std::cmp::Ordering;
 use std::marker::Model;
 
-/// A graph of packages, seen as its nodes by name, its edges by parent and child, and its providers by
-/// virtual, each key once. Edges lead from nodes to nodes, and packages that provide are nodes.
+/// A graph of packages, seen as its nodes by name, its edges by parent and child, and its providers
+/// by virtual, each key once. Edges lead from nodes to nodes, and packages that provide are nodes.
 #[derive(Debug, Drop)]
 pub struct Graph {
     nodes: Vec<Node>,
@@ -55,8 +58,8 @@ impl Graph {
         insert(&mut self.nodes, node)
     }
 
-    /// Adds an edge; `false`, and nothing is changed, exactly where one between its ends is there, or an
-    /// end is no node.
+    /// Adds an edge; `false`, and nothing is changed, exactly where one between its ends is there,
+    /// or an end is no node.
     pub fn add_edge(&mut self, edge: Edge) -> Result<bool, AllocError>
         ensures added { IfOk result (λ added. IsTrue added
             ↔ ((edge_of self.old edge.parent edge.child ≡ None)

@@ -1,4 +1,4 @@
-// What a graph is made of.
+//! What a graph is made of.
 
 use keyed_lists::{Keyed, ValueSet};
 use plain_data::{List, Word};

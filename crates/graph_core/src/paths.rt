@@ -1,4 +1,4 @@
-// Paths of a graph.
+//! Paths of a graph.
 ghost use Rattle.std.specs.Prelude.{◌≡◌, map, IfOk};
 ghost use Rattle.keyed_lists.specs.OfReachability.Places.{AreNumbered, IsAt};
 ghost use Rattle.graph_core.specs.Graphs.{HasNode, name_of};
@@ -40,8 +40,8 @@ pub(crate) fn numbered(alloc: Global, graph: &Graph) -> Result<Vec<(usize, usize
     Ok(numbers)
 }
 
-// The place of a node that is there.
-fn known_place(graph: &Graph, name: &str) -> usize
+/// The place of a node that is there, from 0, in the order of the nodes.
+pub fn known_place(graph: &Graph, name: &str) -> usize
     requires { HasNode graph.now name.now }
     ensures { IsAt (map name_of graph.now.nodes) name.now result }
 {

@@ -1,4 +1,4 @@
-// All paths of a graph at once.
+//! All paths of a graph at once.
 ghost use Rattle.std.specs.Prelude.{◌≡◌, IfOk};
 ghost use Rattle.graph_core.specs.Paths.{reaches_in};
 

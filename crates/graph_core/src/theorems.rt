@@ -1,5 +1,7 @@
-// What holds of all graphs, and of small ones.
-ghost use Rattle.std.specs.Prelude.{◌≡◌, ◌↔◌, ℕ, Bool, List, [], ◌∷◌, Option, Some, None, IsSome, IsTrue, All, Contains, true, false, sum_by, filter_map, if◌then◌else◌};
+//! What holds of all graphs, and of small ones.
+ghost use Rattle.std.specs.Prelude.{◌≡◌, ◌↔◌, ℕ, Bool, List, [], ◌∷◌, Option, Some, None, IsSome};
+ghost use Rattle.std.specs.Prelude.{IsTrue, All, Contains, true, false, sum_by, filter_map};
+ghost use Rattle.std.specs.Prelude.{if◌then◌else◌};
 ghost use Rattle.std.specs.List.{list_all};
 ghost use Rattle.std.specs.Ordering.{eq_by_cmp};
 ghost use Rattle.keyed_lists.specs.OfVariantValues.Texts.{byte_cmp};
@@ -7,7 +9,9 @@ ghost use Rattle.keyed_lists.specs.OfReachability.Paths.{Path};
 ghost use Rattle.keyed_lists.specs.Given.{passes_or_none, adds_or_none};
 ghost use Rattle.graph_core.specs.declared.node.Node.{Node};
 ghost use Rattle.graph_core.specs.declared.node.Edge.{Edge};
-ghost use Rattle.graph_core.specs.Graphs.{Text, Content, IsGraph, is_graph, HasNode, ends_of, pair_cmp, node_of, edge_of, provider_of, edges_from, with_node, with_edge, with_provider};
+ghost use Rattle.graph_core.specs.Graphs.{Text, Content, IsGraph, is_graph, HasNode, ends_of};
+ghost use Rattle.graph_core.specs.Graphs.{pair_cmp, node_of, edge_of, provider_of, edges_from};
+ghost use Rattle.graph_core.specs.Graphs.{with_node, with_edge, with_provider};
 ghost use Rattle.graph_core.specs.Given.{Given, IsGiven, AreNames, graph_by};
 ghost use Rattle.graph_core.specs.Paths.{JoinedIn, reaches_in};
 ghost use Rattle.graph_core.specs.Rows.{node_named, edge_between, row_of_three};
@@ -36,8 +40,8 @@ pub fn graph_laws()
         ≡ (if eq_by_cmp byte_cmp name q then Some package_name else provider_of g q) }
 {}
 
-/// What holds of paths: `reaches_in` tells of them, names are joined where an edge is found, and paths
-/// lead from nodes to nodes.
+/// What holds of paths: `reaches_in` tells of them, names are joined where an edge is found, and
+/// paths lead from nodes to nodes.
 pub fn path_laws()
     ensures decides { (g : Content) (from to : Text) → IsTrue (reaches_in g from to)
         ↔ Path (JoinedIn g) from to }
@@ -49,9 +53,9 @@ pub fn path_laws()
 
 /// What holds of graphs by what they have at names.
 ///
-/// What is told is a graph and is found there again. Each graph whose names are among `names` and whose
-/// virtuals are among `virtuals` is the one that its look-ups give; so what holds of all its nodes and
-/// providers, sums over its nodes, and the edges from a node can be said by names.
+/// What is told is a graph and is found there again. Each graph whose names are among `names` and
+/// whose virtuals are among `virtuals` is the one that its look-ups give; so what holds of all its
+/// nodes and providers, sums over its nodes, and the edges from a node can be said by names.
 pub fn given_laws()
     ensures graph { (names virtuals : List Text) → AreNames names → AreNames virtuals
         → (given : Given) → IsGiven names given

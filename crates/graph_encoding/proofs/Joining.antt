@@ -33,13 +33,12 @@ use Rattle.problem.specs.declared.demand.Demand.{Demand}
 use Rattle.graph_rules.specs.Valid.{keeps, keeps_all, keeps_demand, structure_rules, valid_for}
 use Rattle.graph_rules.specs.declared.rule.Rule.{Rule}
 use Rattle.graph_rules.specs.declared.rule.Rule.TheVariants as rules
-use Rattle.literal_table.specs.Tables.{Table, IsTable}
+use Rattle.literal_table.specs.Tables.{Table, IsTable, names_of}
 use Rattle.literal_table.specs.Spells.{Spells}
 use Rattle.graph_levels.specs.Stages.{Nothing, Both, IsLocal, Models, Stage, Decodes}
 use Rattle.graph_levels.specs.Rules.{Says, Holds, FitsGates, ValuesSay, asked_among, KeepsAsked}
 use Rattle.graph_levels.proofs.Growing.{added, joined, restated, named, decodes, local-le, local-both}
 use Rattle.graph_levels.proofs.Adapters.{asserted, defined, demanded, begun}
-use Rattle.graph_levels.specs.Numbers.{names_of}
 use Rattle.graph_levels.specs.Edges.{EdgesSay, EdgesBelow, edges_on}
 use Rattle.graph_levels.specs.Levels.{SpellsEdges, AGraph, KeepsLevelRules, PathsSay, input_for, places_of, path_said, root_names}
 use Rattle.graph_levels.proofs.EdgeLaws.{edges-are, edge-stage}
@@ -54,7 +53,8 @@ rules-join : (problem : Problem) (g : Content) → keeps_all other_rules problem
     → keeps_all structure_rules problem g ≡ true
 rules-join problem g others kept =
     list_all-append (λ rule. keeps rule problem g) other_rules (rules.Cycle ∷ rules.Unreachable ∷ [])
-    ∙ and_from (keeps_all other_rules problem g) _ others (and_from (keeps rules.Cycle problem g) _ kept.0 (and_from (keeps rules.Unreachable problem g) true kept.1 refl))
+    ∙ and_from (keeps_all other_rules problem g) _ others
+    (and_from (keeps rules.Cycle problem g) _ kept.0 (and_from (keeps rules.Unreachable problem g) true kept.1 refl))
 
 rules-part : (problem : Problem) (g : Content) → keeps_all structure_rules problem g ≡ true
     → (keeps_all other_rules problem g ≡ true) × KeepsLevelRules problem (λ d. true) g
@@ -71,7 +71,8 @@ demands-below n f each (d ∷ ds) = (each d, demands-below n f each ds)
 
 -- ---- the stages
 
-module _ (problem : Problem) (t : Table) (n : ℕ) (f : Formulas) (decode : (ℕ → Bool) → Content) (right : IsRightTable problem t n f decode) where
+module _ (problem : Problem) (t : Table) (n : ℕ) (f : Formulas) (decode : (ℕ → Bool) → Content)
+    (right : IsRightTable problem t n f decode) where
   -- a graph of which some assignment spells all
   abbrev pub R0 : (ℕ → Bool) → Content → Type 0
   R0 asked g = IsWellFormed g × IsSpelled t g
@@ -85,6 +86,7 @@ module _ (problem : Problem) (t : Table) (n : ℕ) (f : Formulas) (decode : (ℕ
   shaped-says : ClausesSay (base n) shaped (λ asked v. list_all (eval v) f.structure)
   shaped-says = assert_all-says f.structure (base n) right.structure_below
 
+  -- models of the structure
   pub shaped-models : Models shaped S0 R0
   shaped-models = begun (base n) shaped S0 R0 (λ asked v. list_all (eval v) f.structure) refl right.local shaped-says
       (λ asked v h. let r = right.reads v h in (decode v, r.0, (r.1, (v, r.0))))
@@ -111,6 +113,7 @@ module _ (problem : Problem) (t : Table) (n : ℕ) (f : Formulas) (decode : (ℕ
   edges-stage = restated shaped edged.list S0 (EdgesSay t.edges edged.answer) AGraph Nothing S0 R0 (λ asked v g s r. s)
       (λ asked v g s r. r.0.is_graph) (edge-stage t right.table shaped edges-below)
 
+  -- with the literals of edges
   pub edges-models : Models edged.list S1 R1
   edges-models = added shaped edged.list S0 (EdgesSay t.edges edged.answer) R0 Nothing shaped-models edges-stage
 
@@ -146,6 +149,7 @@ module _ (problem : Problem) (t : Table) (n : ℕ) (f : Formulas) (decode : (ℕ
     levels-stage = restated edged.list levelled (SpellsEdges t edged.answer) P AGraph (KeepsLevelRules problem) S1 R1 (λ asked v g s r. s)
         (λ asked v g s r. r.0.0.is_graph) (level-stage problem t edged.answer targets edged.list levelled paths right.table levels-kept)
 
+    -- with levels
     pub levels-models : Models levelled S2 R2
     levels-models = added edged.list levelled S1 P R1 (KeepsLevelRules problem) edges-models levels-stage
 
@@ -171,7 +175,8 @@ module _ (problem : Problem) (t : Table) (n : ℕ) (f : Formulas) (decode : (ℕ
       met = value_at valued.answer
 
       values-are : DefinesValues (bare levelled) valued.state valued.answer (f.conditions path)
-      values-are = define_all_is (bare levelled) (f.conditions path) tt (says.conditions_below levelled.vars path levelled-more (paths-below levelled.vars (omega arith)))
+      values-are = define_all_is (bare levelled) (f.conditions path) tt
+          (says.conditions_below levelled.vars path levelled-more (paths-below levelled.vars (omega arith)))
 
       abbrev pub S3 : (ℕ → Bool) → Content → Type 0
       S3 v g = S2 v g × (ValuesSay valued.answer holds v g × FitsGates valued.state.gates v g)
@@ -183,6 +188,7 @@ module _ (problem : Problem) (t : Table) (n : ℕ) (f : Formulas) (decode : (ℕ
       values-stage = defined (bare levelled) valued.state S2 R2 (λ v g s. tt) valued.answer (f.conditions path) holds values-are
           (λ k asked v g s r. says.conditions_say v g path s.0.0 r.0.0.0 s.1 k)
 
+      -- with the values of conditions
       pub values-models : Models defined-list S3 R3
       values-models = added levelled defined-list S2 (Both (ValuesSay valued.answer holds) (FitsGates valued.state.gates)) R2 Nothing
           levels-models values-stage
@@ -206,15 +212,18 @@ module _ (problem : Problem) (t : Table) (n : ℕ) (f : Formulas) (decode : (ℕ
 
       rules-said : SaysIn valued.state ruled (where_asked Structure (λ v. eval v (f.rules path met)))
       rules-said = assert_in_is Structure (f.rules path met) true valued.state values-are.keeps.below
-          (says.rules_below defined-list.vars path met (omega (arith, levelled-more, valued-more)) (paths-below defined-list.vars valued-more)
+          (says.rules_below defined-list.vars path met (omega (arith, levelled-more, valued-more))
+          (paths-below defined-list.vars valued-more)
           (met-below defined-list.vars (omega arith)))
 
       rules-stage : Stage defined-list ruled.list S3 (FitsGates ruled.gates) R3 (Holds (keeps_all other_rules problem))
       rules-stage = asserted valued.state ruled S3 R3 (λ v g s. s.1.1) (f.rules path met) (keeps_all other_rules problem) rules-said
           (λ asked v g s r. says.rules_say v g path met s.0.0.0 r.0.0.0.0 s.0.1 s.1.0)
 
+      -- with the rules
       pub rules-models : Models ruled.list S4 R4
-      rules-models = added defined-list ruled.list S3 (FitsGates ruled.gates) R3 (Holds (keeps_all other_rules problem)) values-models rules-stage
+      rules-models = added defined-list ruled.list S3 (FitsGates ruled.gates) R3 (Holds (keeps_all other_rules problem))
+          values-models rules-stage
 
       ruled-more : defined-list.vars ≤ ruled.list.vars
       ruled-more = rules-stage.grows.more
@@ -243,11 +252,13 @@ module _ (problem : Problem) (t : Table) (n : ℕ) (f : Formulas) (decode : (ℕ
           (met-below ruled.list.vars ruled-more)) (demands problem)))
           (λ d asked v g s r. says.demand_says v g path met d s.0.0.0.0 r.0.0.0.0.0 s.0.0.1 s.0.1.0)
 
+      -- and with the demands
       pub whole-models : Models whole S5 R5
       whole-models = added ruled.list whole S4 (FitsGates demanding.gates) R4 K rules-models demands-stage
 
       -- ---- valid graphs
 
+      -- what all stages say of a graph is that it is valid
       pub is-valid : (asked : ℕ → Bool) (g : Content) → R5 asked g → IsValid problem asked g
       unfolding valid_for
       is-valid asked g r = (
@@ -256,13 +267,16 @@ module _ (problem : Problem) (t : Table) (n : ℕ) (f : Formulas) (decode : (ℕ
             (rules-join problem g r.0.1 r.0.0.0.1) r.1,
       )
 
+      -- and the other way
       pub valid-is : (asked : ℕ → Bool) (g : Content) → IsValid problem asked g → R5 asked g
       unfolding valid_for
       valid-is asked g ok =
-          let p = and_parts (keeps_all structure_rules problem g) (list_all (keeps_demand problem g) (asked_among asked 0 (demands problem))) ok.1 in
+          let p = and_parts (keeps_all structure_rules problem g)
+          (list_all (keeps_demand problem g) (asked_among asked 0 (demands problem))) ok.1 in
           let q = rules-part problem g p.0 in
           (((((((ok.0, right.spelled (asked_among asked 0 (demands problem)) g ok.0 ok.1), tt), q.1), tt), q.0), p.1))
 
+      -- so models decode to just the valid graphs
       pub whole-decodes : Decodes whole decode (IsValid problem)
       whole-decodes = record {
         sound = λ asked v m.
@@ -274,6 +288,7 @@ module _ (problem : Problem) (t : Table) (n : ℕ) (f : Formulas) (decode : (ℕ
             (w.0, right.decoded w.0 g w.1.0.0.0.0.0 ok.0, w.2);
       }
 
+      -- of the whole encoding
       pub encoded : Decodes (encode_on problem t n f targets) decode (IsValid problem)
       unfolding encode_on rules_on levels_made edges_made
       encoded = whole-decodes
@@ -283,6 +298,7 @@ module _ (problem : Problem) (t : Table) (n : ℕ) (f : Formulas) (decode : (ℕ
       whole-later : defined-list.vars ≤ whole.vars
       whole-later = omega (arith, ruled-more, demands-stage.grows.more)
 
+      -- its variables are in range
       pub in-range : (n ≤ (encode_on problem t n f targets).vars) × MetBelow (encode_on problem t n f targets).vars met
       unfolding encode_on rules_on levels_made edges_made
       in-range = (omega (arith, levelled-more, valued-more, whole-later), met-below whole.vars whole-later)

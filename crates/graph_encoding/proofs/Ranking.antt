@@ -57,7 +57,8 @@ module _ (problem : Problem) (t : Table) (n : ℕ) (f : Formulas) (decode : (ℕ
     conditions = s.0.0.1.0;
   }
 
-  module _ (new : Clauses) (bits : List Lit) (sums : (ℕ → Bool) → List ℕ) (numbers : Content → List ℕ) (orders : OrdersBits list new bits sums)
+  module _ (new : Clauses) (bits : List Lit) (sums : (ℕ → Bool) → List ℕ) (numbers : Content → List ℕ)
+      (orders : OrdersBits list new bits sums)
       (same : (v : ℕ → Bool) (g : Content) → SaysAll problem t n f targets holds v g → IsWellFormed g → sums v ≡ numbers g) where
     bits-stage : Stage list new S Nothing R Nothing
     bits-stage = record {
@@ -89,17 +90,21 @@ module _ (problem : Problem) (t : Table) (n : ℕ) (f : Formulas) (decode : (ℕ
     new-order asked v w m k = orders.order asked v w (parts asked v m).1 (parts asked w k).1
         ∙ ap (λ x. compare_numbers x (sums w)) (sums-are asked v m) ∙ ap (compare_numbers (numbers (decode v))) (sums-are asked w k)
 
+    -- bits that compare as numbers rank the graphs
     pub ranks : RanksGraphs new decode (IsValid problem) bits numbers
     ranks = record {
       decodes = new-decodes;
       order = new-order;
-      equal = λ asked v w m k e. sym (sums-are asked v m) ∙ orders.equal asked v w (parts asked v m).1 (parts asked w k).1 e ∙ sums-are asked w k;
+      equal = λ asked v w m k e. sym (sums-are asked v m) ∙ orders.equal asked v w (parts asked v m).1 (parts asked w k).1 e
+          ∙ sums-are asked w k;
       best = λ asked v m small g ok more.
           let w = new-decodes.complete asked g ok in
           small w.0 w.2 (new-order asked v w.0 m w.2 ∙ ap (λ h. compare_numbers (numbers (decode v)) (numbers h)) w.1 ∙ more);
     }
 
-pub ranked : (problem : Problem) (t : Table) (n : ℕ) (f : Formulas) (decode : (ℕ → Bool) → Content) (right : IsRightTable problem t n f decode)
+-- so do bits of sums behind an encoding
+pub ranked : (problem : Problem) (t : Table) (n : ℕ) (f : Formulas) (decode : (ℕ → Bool) → Content)
+    (right : IsRightTable problem t n f decode)
     (targets : List Text) (holds : ℕ → Content → Bool) (says : AreRightFormulas problem t n f (told_in t targets) holds) (new : Clauses)
     (bits : List Lit) (sums : (ℕ → Bool) → List ℕ) (numbers : Content → List ℕ) → OrdersBits (encode_on problem t n f targets) new bits sums
     → ((v : ℕ → Bool) (g : Content) → SaysAll problem t n f targets holds v g → IsWellFormed g → sums v ≡ numbers g)

@@ -22,9 +22,8 @@ use Rattle.problem.specs.Problems.{Problem}
 use Rattle.problem.specs.Demands.{demands}
 use Rattle.problem.specs.declared.demand.Demand.{Demand}
 use Rattle.problem.specs.declared.demand.Demand.TheVariants as demand
-use Rattle.literal_table.specs.Tables.{Table}
+use Rattle.literal_table.specs.Tables.{Table, names_of}
 use Rattle.literal_table.specs.declared.block.EdgeLits.{EdgeLits}
-use Rattle.graph_levels.specs.Numbers.{names_of}
 use Rattle.graph_levels.specs.Edges.{edges_on, EdgesBelow}
 use Rattle.graph_levels.specs.Levels.{input_for, root_names, places_of, PresentBelow, PathTable, path_table}
 use Rattle.graph_levels.proofs.EdgeLaws.{edges-are, Told}
@@ -42,8 +41,10 @@ zip-length s t [] (l ∷ ls) all = elim all [ ]
 zip-length s t (e ∷ es) [] all = elim all [ ]
 zip-length s t (e ∷ es) (l ∷ ls) all = ap (λ k. suc k) (zip-length s t es ls all.1)
 
+-- the literals of edges are known behind them
 pub edges_known : (t : Table) (old new : Clauses) (ls : List Lit) → EdgesBelow old.vars t.edges
-    → edges_on old t.edges ≡ record { list = new; answer = ls } → AllBelow new.vars ls × (length ls ≡ length t.edges) × (old.vars ≤ new.vars)
+    → edges_on old t.edges ≡ record { list = new; answer = ls } → AllBelow new.vars ls × (length ls ≡ length t.edges)
+    × (old.vars ≤ new.vars)
 edges_known t old new ls below e =
     let a = edges-are old t.edges below in
     subst (λ (m : Grown (List Lit)). AllBelow m.list.vars m.answer × (length m.answer ≡ length t.edges) × (old.vars ≤ m.list.vars)) e (
@@ -52,15 +53,19 @@ edges_known t old new ls below e =
       a.0.says.grows.more,
     )
 
+-- what is below a number is below a greater one
 pub edges_later : (t : Table) (m n : ℕ) → m ≤ n → EdgesBelow m t.edges → EdgesBelow n t.edges
 edges_later t m n h below = λ k d lt. let e = below k d lt in (omega (arith, h, e.0), omega (arith, h, e.1), omega (arith, h, e.2))
 
+-- so with nodes
 pub nodes_later : (t : Table) (m n : ℕ) → m ≤ n → PresentBelow m t → PresentBelow n t
 nodes_later t m n h below = λ k d lt. let e = below k d lt in omega (arith, h, e)
 
 -- ---- the structure, edges and levels
 
-pub levels_step : (problem : Problem) (t : Table) (n : ℕ) (f : Formulas) (targets : List Text) (shaped edged new : Clauses) (fs : List Statement)
+-- the levels are those of the definition
+pub levels_step : (problem : Problem) (t : Table) (n : ℕ) (f : Formulas) (targets : List Text) (shaped edged new : Clauses)
+    (fs : List Statement)
     (ls : List Lit) (made : PathTable) → shaped ≡ assert_all (base n) fs → fs ≡ f.structure
     → edges_on shaped t.edges ≡ record { list = edged; answer = ls }
     → new ≡ levels_on (input_for t ls (root_names problem) targets edged.vars) edged
@@ -76,7 +81,9 @@ levels_step problem t n f targets shaped edged new fs ls made a b e c d =
 
 -- ---- the rules
 
-pub conditions_range : (t : Table) (n : ℕ) (f : Formulas) (old : Clauses) (path : PathFormulas) (fs : List Statement) → AreInRange t n f → n ≤ old.vars
+-- the formulas of conditions are in range
+pub conditions_range : (t : Table) (n : ℕ) (f : Formulas) (old : Clauses) (path : PathFormulas) (fs : List Statement) → AreInRange t n f
+    → n ≤ old.vars
     → PathsBelow old.vars path → fs ≡ f.conditions path → SaidBelow old.vars (any_of fs)
 conditions_range t n f old path fs range more paths e =
     subst (λ gs. SaidBelow old.vars (any_of gs)) (sym e) (range.conditions old.vars path more paths)
@@ -84,7 +91,9 @@ conditions_range t n f old path fs range more paths e =
 paths-later : (m n : ℕ) (path : PathFormulas) → m ≤ n → PathsBelow m path → PathsBelow n path
 paths-later m n path h below from to = SaidBelow-le m n (path from to) h (below from to)
 
-pub rules_range : (t : Table) (n : ℕ) (f : Formulas) (old mid : Gated) (path : PathFormulas) (ds : List Defined) (fs : List Statement) (rule : Statement)
+-- that of the rules
+pub rules_range : (t : Table) (n : ℕ) (f : Formulas) (old mid : Gated) (path : PathFormulas) (ds : List Defined) (fs : List Statement)
+    (rule : Statement)
     → AreInRange t n f → n ≤ old.list.vars → PathsBelow old.list.vars path → DefinesValues old mid ds fs
     → rule ≡ f.rules path (value_at ds) → SaidBelow mid.list.vars rule
 rules_range t n f old mid path ds fs rule range more paths values e =
@@ -92,14 +101,17 @@ rules_range t n f old mid path ds fs rule range more paths values e =
     subst (SaidBelow mid.list.vars) (sym e) (range.rules mid.list.vars path (value_at ds) (omega (arith, more, later))
     (paths-later old.list.vars mid.list.vars path later paths) (λ k. value-below old mid ds fs values.means k))
 
+-- those of the demands
 pub demand_range : (t : Table) (n : ℕ) (f : Formulas) (old mid : Gated) (late : ℕ) (path : PathFormulas) (ds : List Defined)
     (fs : List Statement) → AreInRange t n f → n ≤ old.list.vars → PathsBelow old.list.vars path → DefinesValues old mid ds fs
     → mid.list.vars ≤ late → (d : Demand) → SaidBelow late (f.demand path (value_at ds) d)
 demand_range t n f old mid late path ds fs range more paths values h d =
     let later : old.list.vars ≤ mid.list.vars = values.defines.says.grows.more in
-    range.demand late path (value_at ds) d (omega (arith, more, later, h)) (paths-later old.list.vars late path (omega (arith, later, h)) paths)
+    range.demand late path (value_at ds) d (omega (arith, more, later, h))
+    (paths-later old.list.vars late path (omega (arith, later, h)) paths)
     (λ k. SaidBelow-le mid.list.vars late (value_at ds k) h (value-below old mid ds fs values.means k))
 
+-- the rules are those of the definition
 pub rules_step : (problem : Problem) (f : Formulas) (path : PathFormulas) (old : Clauses) (none : List Gate) (mid late new : Gated)
     (fs : List Statement) (ds : List Defined) (rule : Statement) → none ≡ [] → fs ≡ f.conditions path
     → define_all_in (gated old none) fs ≡ record { state = mid; answer = ds }
@@ -110,24 +122,29 @@ rules_step problem f path old none mid late new fs ds rule empty a b c d g =
     ap (λ (m : Shared (List Defined)). (demand_all_in (assert_in Structure m.state true (f.rules path (value_at m.answer))) 0
     (map (f.demand path (value_at m.answer)) (demands problem))).list)
     (ap (λ gs. define_all_in (gated old gs) (f.conditions path)) (sym empty) ∙ ap (define_all_in (gated old none)) (sym a) ∙ b)
-    ∙ ap (λ s. (demand_all_in s 0 (map (f.demand path (value_at ds)) (demands problem))).list) (ap (assert_in Structure mid true) (sym c) ∙ d)
+    ∙ ap (λ s. (demand_all_in s 0 (map (f.demand path (value_at ds)) (demands problem))).list)
+    (ap (assert_in Structure mid true) (sym c) ∙ d)
     ∙ ap (λ (s : Gated). s.list) g
 
 -- ---- demands, one by one
 
+-- one demand more
 pub demand_more : (say : Demand → Statement) (ds : List Demand) (old new all : Gated) (i : ℕ) (d : Demand) → slice_get ds i ≡ Some d
-    → demand_in old (say d) i ≡ new → demand_all_in old i (map say (drop i ds)) ≡ all → demand_all_in new (i + 1) (map say (drop (i + 1) ds)) ≡ all
+    → demand_in old (say d) i ≡ new → demand_all_in old i (map say (drop i ds)) ≡ all
+    → demand_all_in new (i + 1) (map say (drop (i + 1) ds)) ≡ all
 demand_more say ds old new all i d e b rest =
     let at : get_or ds i d ≡ d = get_or_from_slice_get ds i d d e in
     let cut : drop i ds ≡ d ∷ drop (i + 1) ds = drop_more ds i d (slice_get_within ds i d e) ∙ ap (λ x. x ∷ drop (i + 1) ds) at in
     ap (λ s. demand_all_in s (i + 1) (map say (drop (i + 1) ds))) (sym b)
     ∙ sym (ap (λ xs. demand_all_in old i (map say xs)) cut) ∙ rest
 
+-- no demand is left out
 pub demand_gap : (ds : List Demand) (i : ℕ) → i < length ds → slice_get ds i ≡ None → ⊥
 demand_gap ds i h e = none-some (get_or ds i (demand.Root 0)) (sym e ∙ slice_get-get_or ds i (demand.Root 0) h)
 
 -- ---- all of it
 
+-- the whole is that of the definition
 pub encode_step : (problem : Problem) (t : Table) (n : ℕ) (f : Formulas) (targets : List Text) (mid new : Clauses) (made : PathTable)
     → levels_made problem t n f targets ≡ record { list = mid; answer = made.paths } → made.targets ≡ places_of (names_of t) targets
     → rules_on problem f (path_words t made) mid ≡ new → encode_on problem t n f targets ≡ new
@@ -137,7 +154,8 @@ encode_step problem t n f targets mid new made a b c =
     ∙ ap (λ ts. rules_on problem f (path_words t (path_table ts made.paths)) mid) (sym b) ∙ c
 
 -- what is defined for the conditions
-pub values_step : (problem : Problem) (t : Table) (n : ℕ) (f : Formulas) (targets : List Text) (mid : Clauses) (made : PathTable) (ds : List Defined)
+pub values_step : (problem : Problem) (t : Table) (n : ℕ) (f : Formulas) (targets : List Text) (mid : Clauses) (made : PathTable)
+    (ds : List Defined)
     → levels_made problem t n f targets ≡ record { list = mid; answer = made.paths } → made.targets ≡ places_of (names_of t) targets
     → ds ≡ (define_all_in (bare mid) (f.conditions (path_words t made))).answer → ds ≡ values_for problem t n f targets
 values_step problem t n f targets mid made ds a b c = sym (

@@ -5,7 +5,7 @@ ghost use Rattle.graph_levels.specs.Stages.{Decodes};
 ghost use Rattle.graph_encoding.specs.Formulas.{IsRightTable, AreRightFormulas, PathsBelow};
 ghost use Rattle.graph_encoding.specs.Encodings.{levels_made, encode_on, told_in, IsValid};
 ghost use Rattle.graph_encoding.specs.Best.{values_for};
-ghost use Rattle.graph_levels.specs.Numbers.{names_of};
+ghost use Rattle.literal_table.specs.Tables.{names_of};
 ghost use Rattle.graph_levels.specs.Levels.{places_of};
 ghost use Rattle.graph_encoding.specs.Ranges.{AreInRange, path_words};
 
@@ -27,7 +27,8 @@ pub struct ProblemClauses {
     pub values: List<Defined>,
 }
 
-/// The clauses of a problem over a table with so many variables. To the targets, conditions may speak of paths.
+/// The clauses of a problem over a table with so many variables. To the targets, conditions may
+/// speak of paths.
 pub fn encode<F: RuleFormulas>(
     alloc: Global,
     problem: &Problem,
@@ -37,7 +38,8 @@ pub fn encode<F: RuleFormulas>(
     targets: &[Word],
 ) -> Result<ProblemClauses, AllocError>
     requires { AreInRange table.now vars (F.formulas formulas.now table.now) }
-    ensures built { IfOk result (λ made. encode_on problem.now table.now vars (F.formulas formulas.now table.now)
+    ensures built { IfOk result (λ made. encode_on problem.now table.now vars
+        (F.formulas formulas.now table.now)
         targets.now ≡ made.list) }
     ensures values { IfOk result (λ made. made.values ≡ values_for problem.now table.now vars
         (F.formulas formulas.now table.now) targets.now) }
@@ -69,7 +71,8 @@ fn add_structure<F: RuleFormulas>(
 ) -> Result<PathLits, AllocError>
     requires range { AreInRange table.now vars (F.formulas formulas.now table.now) }
     requires start { clauses.old ≡ record { entries = []; vars = 0 } }
-    ensures built { IfOk result (λ paths. levels_made problem.now table.now vars (F.formulas formulas.now table.now)
+    ensures built { IfOk result (λ paths. levels_made problem.now table.now vars
+        (F.formulas formulas.now table.now)
         targets.now ≡ record { list = clauses.new; answer = paths.paths }) }
     ensures targets { IfOk result (λ paths. paths.targets
         ≡ places_of (names_of table.now) targets.now) }

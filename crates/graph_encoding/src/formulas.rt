@@ -39,7 +39,8 @@ pub trait RuleFormulas {
         values: &[Defined],
     ) -> Result<Formula, AllocError>
         ensures { IfOk result (λ formula. formula
-            ≡ (formulas self.now table.now).rules (path_words table.now paths.now) (value_at values.now)) };
+            ≡ (formulas self.now table.now).rules (path_words table.now paths.now)
+            (value_at values.now)) };
 
     /// The formula of a demand.
     fn demand(
@@ -51,6 +52,7 @@ pub trait RuleFormulas {
         demand: &Demand,
     ) -> Result<Formula, AllocError>
         ensures { IfOk result (λ formula. formula
-            ≡ (formulas self.now table.now).demand (path_words table.now paths.now) (value_at values.now)
+            ≡ (formulas self.now table.now).demand (path_words table.now paths.now)
+            (value_at values.now)
             demand.now) };
 }

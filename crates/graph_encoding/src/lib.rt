@@ -1,14 +1,11 @@
 //! The clauses of a problem, whose models are its valid graphs.
 //!
-//! It promises: an assignment that meets the clauses that are asked for decodes to a graph that is valid for
-//! the demands that are asked for, and each such graph is the decoding of one. It stands on the tables of
-//! literals, on the formulas of rules and on levels. It must not know how models are found.
-//!
-//! The clauses of a problem, by calls.
-//!
-//! It promises of `encode`: the list equals a computing definition, and where the table and the formulas are
-//! right its models decode to just the valid graphs, for each set of demands. What the formulas are is told
-//! by a type that has `RuleFormulas`.
+//! What it is: `encode`, over whoever gives the formulas (`RuleFormulas`), and its laws.
+//! What it promises: the list of clauses equals a computing definition. Where the table and the
+//! formulas are right, an assignment that meets the clauses that are asked for decodes to a graph
+//! that is valid for the demands that are asked for, and each such graph is the decoding of one.
+//! What it stands on: `literal_table`, `graph_levels`, and `clause_formulas` for what is asserted.
+//! What it must not know: how tables and formulas are made, and how models are found.
 #![tactic(auto)]
 
 mod added;

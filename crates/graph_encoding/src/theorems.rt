@@ -1,5 +1,5 @@
-//! What holds of each encoding over a right table and right formulas. The bodies are empty: what is proved
-//! are the contracts.
+//! What holds of each encoding over a right table and right formulas. The bodies are empty: what is
+//! proved are the contracts.
 ghost use Rattle.std.specs.Prelude.{◌≡◌, ℕ, ◌≤◌, Bool, true, List, Contains};
 ghost use Rattle.std.specs.List.{list_all};
 ghost use Rattle.clause_formulas.specs.Statements.{eval};
@@ -25,8 +25,8 @@ pub fn encoding_laws()
         → Decodes (encode_on problem t n f targets) decode (IsValid problem) }
 {}
 
-/// Bits behind the clauses that compare as sums, which are the graphs' numbers, compare as these; and a model with the
-/// least bits decodes to a best graph.
+/// Bits behind the clauses that compare as sums, which are the graphs' numbers, compare as these;
+/// and a model with the least bits decodes to a best graph.
 pub fn ranking_laws()
     ensures { (problem : Problem) (t : Table) (n : ℕ) (f : Formulas) (decode : (ℕ → Bool) → Content)
         (targets : List Text)
@@ -40,8 +40,8 @@ pub fn ranking_laws()
         → RanksGraphs new decode (IsValid problem) bits numbers }
 {}
 
-/// Each graph that is valid for some demands has an assignment that meets all clauses of the structure and
-/// those of these demands.
+/// Each graph that is valid for some demands has an assignment that meets all clauses of the
+/// structure and those of these demands.
 pub fn demand_laws()
     ensures { (problem : Problem) (list : Clauses) (decode : (ℕ → Bool) → Content)
         (some : List Demand) (asked : ℕ → Bool)
@@ -51,8 +51,8 @@ pub fn demand_laws()
         → (v : ℕ → Bool) × (decode v ≡ g) × Meets asked v list.entries }
 {}
 
-/// Each model meets the structure. The variables of the table, and those of the conditions' values, are among
-/// those of the clauses.
+/// Each model meets the structure. The variables of the table, and those of the conditions' values,
+/// are among those of the clauses.
 pub fn model_laws()
     ensures structured { (problem : Problem) (t : Table) (n : ℕ) (f : Formulas)
         (decode : (ℕ → Bool) → Content) (targets : List Text)
@@ -60,7 +60,8 @@ pub fn model_laws()
         → AreRightFormulas problem t n f (told_in t targets) holds
         → (asked v : ℕ → Bool) → Meets asked v (encode_on problem t n f targets).entries
         → list_all (eval v) f.structure ≡ true }
-    ensures range { (problem : Problem) (t : Table) (n : ℕ) (f : Formulas) (decode : (ℕ → Bool) → Content)
+    ensures range { (problem : Problem) (t : Table) (n : ℕ) (f : Formulas)
+        (decode : (ℕ → Bool) → Content)
         (targets : List Text)
         (holds : ℕ → Content → Bool) → IsRightTable problem t n f decode
         → AreRightFormulas problem t n f (told_in t targets) holds

@@ -19,6 +19,7 @@ use Rattle.graph_formulas.proofs.Rules.{or-false, given-kept, written-kept, name
 use Rattle.graph_formulas.proofs.Kept.{there, provides-kept}
 use Rattle.graph_formulas.specs.Built.{buildable_rule, version_rule, entry_rule, compiler_rule, machine_rule, provider_rule, no_cycle_rule, reachable_rule}
 
+-- equality of texts, from either side
 pub either-way : (a b : Text) → bytes_eq a b ≡ bytes_eq b a
 either-way a b = nat_list_eq_equiv.symm a b
 
@@ -36,16 +37,19 @@ module _ (problem : Problem) (graph : Content) where
     has : (f : Fact) → is_in graph (node_has name f) ≡ is_so node f
     has f = there (world_of problem) graph name node here f
 
+    -- the rule of a buildable name
     pub buildable-kept : in_graph (buildable_rule problem name) ≡ keeps_buildable problem node
     unfolding keeps_buildable
     buildable-kept = given-kept (is_in graph) _ ∙ ap (λ n. is_some (recipe_at problem n) && is_buildable_in (entry_of problem n)) (sym (named-so graph name node here))
 
+    -- of its version
     pub version-kept : in_graph (version_rule problem name) ≡ keeps_version problem node
     unfolding keeps_version
     version-kept =
         has (has_version (λ version. list_any (λ row. bytes_eq row.version version) (versions_at problem name)))
         ∙ ap (λ n. list_any (λ row. bytes_eq row.version node.version) (versions_at problem n)) (sym (named-so graph name node here))
 
+    -- of its OS and target
     pub machine-kept : in_graph (machine_rule problem name) ≡ keeps_machine problem node
     unfolding keeps_machine
     machine-kept = rw (
@@ -53,6 +57,7 @@ module _ (problem : Problem) (graph : Content) where
       has (has_target (λ target. list_any (λ entry. bytes_eq entry.name target) problem.settings.targets)),
     ) refl
 
+    -- of its compiler
     pub compiler-kept : in_graph (compiler_rule problem name) ≡ keeps_compiler problem node
     unfolding keeps_compiler
     compiler-kept =
@@ -70,10 +75,12 @@ module _ (problem : Problem) (graph : Content) where
           written-kept (is_in graph) _ (λ names. among names node.target) (λ names. has (has_target (among names))) entry.targets,
         ) (and-some node.compiler (same_compiler entry.compiler) (supports entry node))
 
+    -- no path leads back to the node
     pub no_cycle-kept : in_graph (no_cycle_rule problem name) ≡ keeps_no_cycle graph node
     unfolding keeps_no_cycle
     no_cycle-kept = ap (λ n. not (reaches_in graph n n)) (sym (named-so graph name node here))
 
+    -- a path from a root leads to the node
     pub reachable-kept : in_graph (reachable_rule problem name) ≡ keeps_reachable problem graph node
     unfolding keeps_reachable
     reachable-kept =
@@ -81,6 +88,7 @@ module _ (problem : Problem) (graph : Content) where
         (λ spec. named-kept (is_in graph) _ (λ root. bytes_eq root name || reaches_in graph root name) (λ root. rw (given-kept (is_in graph) (bytes_eq root name), or-false (reaches_in graph root name)) refl) spec.top.name) problem.roots
         ∙ ap (λ n. list_any (λ spec. is_some_and spec.top.name (λ root. bytes_eq root n || reaches_in graph root n)) problem.roots) (sym (named-so graph name node here))
 
+  -- a provider may provide the virtual
   pub provider-kept : (p : Text × Text) → in_graph (provider_rule problem p) ≡ keeps_provider problem graph p
   unfolding keeps_provider
   provider-kept p = provides-kept (world_of problem) graph p.1 p.0 None

@@ -48,6 +48,7 @@ module _ (problem : Problem) (packages : Text → List Text) (graph : Content)
     numbered number (λ row. row.number) (requirement_rule problem packages node.name) (keeps_requirement problem graph node) (requirement-kept problem packages graph listed node) (requirements_at problem node.name),
   ) refl
 
+  -- the rule of a demand holds where it is kept
   pub demand-kept : LeadsToNodes graph → (may_be : Text → Bool) → ((name : Text) → may_be name ≡ false → node_of graph name ≡ None) → (d : Demand)
       → holds_here (demand_rule problem packages may_be d) ≡ keeps_demand problem graph d
   unfolding keeps_demand

@@ -30,6 +30,7 @@ use Rattle.graph_formulas.proofs.Few.{one-kept}
 use Rattle.graph_formulas.specs.Terms.{Term, is_true, known_rule, where_built}
 use Rattle.graph_formulas.specs.Directives.{root_rule, edge_to, edge_rule, suits_asked, constraint_rule, conflict_rule, choice_rule, requirement_rule}
 
+-- an implication
 pub not-or : (a b : Bool) → (not a || b) ≡ implies a b
 not-or true b = refl
 not-or false b = refl
@@ -38,6 +39,7 @@ not-or false b = refl
 abbrev pub LeadsToNodes : Content → Type 0
 LeadsToNodes graph = (parent child : Text) → node_of graph child ≡ None → edge_of graph parent child ≡ None
 
+-- a test of what one gives after the other
 pub then-and : {T U : Type 0} (f : T → Option U) (test : U → Bool) (o : Option T) → is_some_and (option_and_then f o) test ≡ is_some_and o (λ x. is_some_and (f x) test)
 then-and f test None = refl
 then-and f test (Some x) = refl
@@ -50,10 +52,12 @@ module _ (problem : Problem) (packages : Text → List Text) (graph : Content)
   abbrev pub in_graph : Rule Word → Bool
   in_graph rule = keeps_rule (is_in graph) rule
 
+  -- the rule of a root
   pub root-kept : (spec : Spec) → in_graph (root_rule problem packages spec) ≡ keeps_root problem graph spec
   unfolding keeps_root
   root-kept spec = named-kept (is_in graph) _ _ (λ name. holds-kept (world_of problem) graph packages listed name spec) spec.top.name
 
+  -- of a conflict
   pub conflict-kept : (node : Node) (row : ConflictRow) → holds_true (conflict_rule problem packages node.name row) ≡ keeps_conflict problem graph node row
   unfolding keeps_conflict
   conflict-kept node row = rw (holds-kept (world_of problem) graph packages listed node.name row.spec) refl
@@ -63,6 +67,7 @@ module _ (problem : Problem) (packages : Text → List Text) (graph : Content)
       named-kept (is_in graph) _ (λ name. is_some_and (asked_node (world_of problem) graph name) (suits (world_of problem) row.part name))
       (λ asked. asked-kept (world_of problem) graph packages listed asked (suits_rule (world_of problem) row.part asked) (suits (world_of problem) row.part asked) (λ n. suits-kept (world_of problem) graph n row.part asked)) row.part.name
 
+  -- of what a dependency asks of its child
   pub constraint-kept : (node : Node) (row : DependRow) → holds_true (constraint_rule problem packages node.name row) ≡ keeps_constraint problem graph node row
   unfolding keeps_constraint
   constraint-kept node row = rw (suits-asked row) (not-or (all_hold (world_of problem) row.when graph node.name) _)
@@ -80,10 +85,12 @@ module _ (problem : Problem) (packages : Text → List Text) (graph : Content)
       named-kept (is_in graph) _ _ (λ asked. asked-kept (world_of problem) graph packages listed asked (λ child. fact (has_edge node.name child row.kinds)) _ (edge-child leads node.name row.kinds)) row.part.name
       ∙ sym (then-and (asked_node (world_of problem) graph) _ row.part.name)
 
+  -- of its edge
   pub edge-kept : LeadsToNodes graph → (node : Node) (row : DependRow) → holds_true (edge_rule problem packages node.name row) ≡ keeps_edge problem graph node row
   unfolding keeps_edge
   edge-kept leads node row = rw (edge-to leads node row) (not-or (all_hold (world_of problem) row.when graph node.name) _)
 
+  -- of a requirement
   pub requirement-kept : (node : Node) (row : RequireRow) → holds_true (requirement_rule problem packages node.name row) ≡ keeps_requirement problem graph node row
   unfolding keeps_requirement
   requirement-kept node row = rw (choice-kept) (not-or (all_hold (world_of problem) row.when graph node.name) _)

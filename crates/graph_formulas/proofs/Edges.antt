@@ -50,12 +50,12 @@ any-same f g same (x ∷ xs) = rw (same x, any-same f g same xs) refl
 
 any-left : {T : Type 0} (f g : T → Bool) (xs : List T) → list_any (λ x. f x && g x) xs ≡ true → list_any f xs ≡ true
 any-left f g [] e = e
-any-left f g (x ∷ xs) e = go (f x) (g x) (any-left f g xs) e
+any-left f g (x ∷ xs) e = any-left-cases (f x) (g x) (any-left f g xs) e
   where
-    go : (a b : Bool) → (list_any (λ x. f x && g x) xs ≡ true → list_any f xs ≡ true)
+    any-left-cases : (a b : Bool) → (list_any (λ x. f x && g x) xs ≡ true → list_any f xs ≡ true)
         → ((a && b) || list_any (λ x. f x && g x) xs) ≡ true → (a || list_any f xs) ≡ true
-    go true b rest h = refl
-    go false b rest h = rest h
+    any-left-cases true b rest h = refl
+    any-left-cases false b rest h = rest h
 
 -- what a test passes that a weaker one passes first
 pub any-narrowed : {T : Type 0} (test f : T → Bool) → ((x : T) → test x ≡ true → f x ≡ true) → (xs : List T) → list_any test (filter f xs) ≡ list_any test xs
@@ -131,7 +131,7 @@ module _ (problem : Problem) (packages : Text → List Text) (graph : Content)
   -- where the edge is there, so is its child
   kind-kept : LeadsToNodes graph → (kinds : Kinds) (has : Kinds → Bool) (child : Text) → ((k : Kinds) → covers k kinds ≡ has k)
       → keeps_rule (is_true (world_of problem) graph) (kind_rule problem packages kinds has name child) ≡ if_written (edge_of graph name child) (λ e. implies (has e.kinds) (list_any (λ row. has row.kinds) (asking problem graph node child)))
-  kind-kept leads kinds has child same = go (edge_of graph name child) refl
+  kind-kept leads kinds has child same = kind-kept-cases (edge_of graph name child) refl
     where
       ordered : (a h m : Bool) → (a ≡ true → m ≡ true) → (a && (h && m)) ≡ (h && a)
       ordered true h m may = ap (λ b. h && b) (may refl)
@@ -153,11 +153,11 @@ module _ (problem : Problem) (packages : Text → List Text) (graph : Content)
       child_there e is (Some c) child_here = (c, child_here)
       child_there e is None absent = absurd (let both : Some e ≡ None = sym is ∙ leads name child absent in cc)
 
-      go : (o : Option Edge) → edge_of graph name child ≡ o
+      kind-kept-cases : (o : Option Edge) → edge_of graph name child ≡ o
           → (not (is_some_and o (λ e. covers e.kinds kinds)) || keeps_rule (is_true (world_of problem) graph) (some (asks_rule problem packages name child) (filter (λ row. has row.kinds && may_ask problem packages child row) (depends_at problem name))))
           ≡ if_written o (λ e. implies (has e.kinds) (list_any (λ row. has row.kinds) (asking problem graph node child)))
-      go None is = refl
-      go (Some e) is =
+      kind-kept-cases None is = refl
+      kind-kept-cases (Some e) is =
           let there = child_there e is (node_of graph child) refl in
           rw (same e.kinds, asked there.0 there.1) (not-or (has e.kinds) (list_any (λ row. has row.kinds) (asking problem graph node child)))
 
@@ -167,7 +167,7 @@ module _ (problem : Problem) (packages : Text → List Text) (graph : Content)
     kind-kept leads (record no_kinds { build = true }) (λ k. k.build) child (λ k. ands k.build),
     kind-kept leads (record no_kinds { link = true }) (λ k. k.link) child (λ k. and-true k.link),
     kind-kept leads (record no_kinds { run = true }) (λ k. k.run) child (λ k. refl),
-  ) (go (edge_of graph name child))
+  ) (extra_edge-kept-cases (edge_of graph name child))
     where
       and-true : (a : Bool) → (a && true) ≡ a
       and-true true = refl
@@ -177,11 +177,11 @@ module _ (problem : Problem) (packages : Text → List Text) (graph : Content)
       ands true = refl
       ands false = refl
 
-      go : (o : Option Edge) → (if_written o (λ e. implies e.kinds.build (list_any (λ row. row.kinds.build) (asking problem graph node child)))
+      extra_edge-kept-cases : (o : Option Edge) → (if_written o (λ e. implies e.kinds.build (list_any (λ row. row.kinds.build) (asking problem graph node child)))
           && if_written o (λ e. implies e.kinds.link (list_any (λ row. row.kinds.link) (asking problem graph node child)))
           && if_written o (λ e. implies e.kinds.run (list_any (λ row. row.kinds.run) (asking problem graph node child)))) ≡ if_written o (λ e. covers (asked_kinds (asking problem graph node child)) e.kinds)
-      go None = refl
-      go (Some e) = refl
+      extra_edge-kept-cases None = refl
+      extra_edge-kept-cases (Some e) = refl
 
   -- the node uses the provider
   pub use-kept : (p : Text × Text) → keeps_rule (is_true (world_of problem) graph) (use_rule problem p name) ≡ uses problem graph p node
@@ -218,7 +218,8 @@ all-picked f p (n ∷ names) = elim (cases_Bool (bytes_eq p n)) [
     absorb true false = refl
     absorb false b = refl
 
-all-true : {T : Type 0} (xs : List T) → list_all (λ x. true) xs ≡ true
+-- nothing is asked of the elements
+pub all-true : {T : Type 0} (xs : List T) → list_all (λ x. true) xs ≡ true
 all-true [] = refl
 all-true (x ∷ xs) = all-true xs
 
@@ -227,12 +228,12 @@ pub of-provider-kept : (problem : Problem) (packages : Text → List Text) (grap
     → (virtual : Text) → keeps_rule (is_true (world_of problem) graph) (of_provider packages rule virtual) ≡ if_written (provider_of graph virtual) (λ p. test (virtual, p))
 of-provider-kept problem packages graph listed rule test same virtual =
     each-kept (is_true (world_of problem) graph) _ (λ p. not (is_some_and (provider_of graph virtual) (λ q. bytes_eq q p)) || test (virtual, p)) (λ p. ap (λ b. not (is_some_and (provider_of graph virtual) (λ q. bytes_eq q p)) || b) (same (virtual, p))) (packages virtual)
-    ∙ go (provider_of graph virtual) (listed virtual)
+    ∙ of-provider-kept-cases (provider_of graph virtual) (listed virtual)
   where
-    go : (o : Option Text) → ((p : Text) → o ≡ Some p → among (packages virtual) p ≡ true)
+    of-provider-kept-cases : (o : Option Text) → ((p : Text) → o ≡ Some p → among (packages virtual) p ≡ true)
         → list_all (λ p. not (is_some_and o (λ q. bytes_eq q p)) || test (virtual, p)) (packages virtual) ≡ if_written o (λ p. test (virtual, p))
-    go None has = all-true (packages virtual)
-    go (Some q) has = all-picked (λ p. test (virtual, p)) q (packages virtual) ∙ rw (has q refl) refl
+    of-provider-kept-cases None has = all-true (packages virtual)
+    of-provider-kept-cases (Some q) has = all-picked (λ p. test (virtual, p)) q (packages virtual) ∙ rw (has q refl) refl
 
 -- some node, by names
 pub any-node : (graph : Content) (test : Node → Bool) (names : List Text) → list_all (λ n. not (test n)) graph.nodes ≡ list_all (λ n. if_written (node_of graph n) (λ m. not (test m))) names
@@ -243,9 +244,9 @@ any-node graph test names same = sym (not-all test graph.nodes) ∙ ap not same 
     not-all test [] = refl
     not-all test (x ∷ xs) = elim (cases_Bool (test x)) [ inl t ↦ rw t refl | inr f ↦ rw f (not-all test xs) ]
 
-    one : (o : Option Node) → not (if_written o (λ m. not (test m))) ≡ is_some_and o test
-    one None = refl
-    one (Some x) = not-not (test x)
+    any-node-cases : (o : Option Node) → not (if_written o (λ m. not (test m))) ≡ is_some_and o test
+    any-node-cases None = refl
+    any-node-cases (Some x) = not-not (test x)
       where
         not-not : (a : Bool) → not (not a) ≡ a
         not-not true = refl
@@ -253,7 +254,7 @@ any-node graph test names same = sym (not-all test graph.nodes) ∙ ap not same 
 
     by-names : (ns : List Text) → not (list_all (λ n. if_written (node_of graph n) (λ m. not (test m))) ns) ≡ list_any (λ n. is_some_and (node_of graph n) test) ns
     by-names [] = refl
-    by-names (n ∷ ns) = not-and (if_written (node_of graph n) (λ m. not (test m))) (list_all (λ n. if_written (node_of graph n) (λ m. not (test m))) ns) ∙ rw (one (node_of graph n), by-names ns) refl
+    by-names (n ∷ ns) = not-and (if_written (node_of graph n) (λ m. not (test m))) (list_all (λ n. if_written (node_of graph n) (λ m. not (test m))) ns) ∙ rw (any-node-cases (node_of graph n), by-names ns) refl
       where
         not-and : (a b : Bool) → not (a && b) ≡ (not a || not b)
         not-and true b = refl

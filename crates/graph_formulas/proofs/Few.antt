@@ -123,6 +123,7 @@ module _ {W T : Type 0} (p : W → Bool) (rule : T → Rule W) (test : T → Boo
         | false ↦ apart-kept xs
       ]
 
+  -- exactly one keeps the rule where the count is one
   pub one-kept : (xs : List T) → keeps_rule p (just_one rule xs) ≡ (count_by test xs == 1)
   one-kept xs =
       rw (some-kept p rule test same xs, all-rules (few_rules (length xs / 8) rule xs), few-kept (length xs / 8) xs) (one-few test xs)

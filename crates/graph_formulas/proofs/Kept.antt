@@ -74,11 +74,11 @@ asked-off false r G V R asks off rest = off-right _ R (rest asks)
 
 -- the name has a node, or none
 pub by_node : (graph : Content) (name : Text) (P : Option Node → Type 0) → ((node : Node) → node_of graph name ≡ Some node → P (Some node)) → (node_of graph name ≡ None → P None) → P (node_of graph name)
-by_node graph name P some none = go (node_of graph name) refl
+by_node graph name P some none = by_node-cases (node_of graph name) refl
   where
-    go : (o : Option Node) → node_of graph name ≡ o → P o
-    go None e = none e
-    go (Some node) e = some node e
+    by_node-cases : (o : Option Node) → node_of graph name ≡ o → P o
+    by_node-cases None e = none e
+    by_node-cases (Some node) e = some node e
 
 module _ (world : World) (graph : Content) where
   abbrev pub keeps : Rule Word → Bool
@@ -86,6 +86,7 @@ module _ (world : World) (graph : Content) where
 
   module _ (name : Text) where
     module _ (node : Node) (here : node_of graph name ≡ Some node) where
+      -- a fact of a node that is there
       pub there : (f : Fact) → is_in graph (node_has name f) ≡ is_so node f
       there f = ap (λ o. is_some_and o (λ node. is_so node f)) here
 
@@ -94,13 +95,13 @@ module _ (world : World) (graph : Content) where
         unless-kept (is_in graph) (is_filled wanted.1) (fact (node_has name (has_variant wanted.0))),
         there (has_variant wanted.0),
         each-kept (is_in graph) _ (among (values_at node.variants wanted.0)) (λ x. there (has_value wanted.0 (bytes_eq x))) wanted.1,
-      ) (go (find (λ w. bytes_eq w.0 wanted.0) node.variants) wanted.1)
+      ) (values-there-cases (find (λ w. bytes_eq w.0 wanted.0) node.variants) wanted.1)
         where
-          go : (o : Option (Text × List Text)) (xs : List Text) → ((is_filled xs || is_some o) && includes (values_or_none o) xs) ≡ is_some_and o (λ v. includes v.1 xs)
-          go None [] = refl
-          go None (x ∷ xs) = refl
-          go (Some v) [] = refl
-          go (Some v) (x ∷ xs) = refl
+          values-there-cases : (o : Option (Text × List Text)) (xs : List Text) → ((is_filled xs || is_some o) && includes (values_or_none o) xs) ≡ is_some_and o (λ v. includes v.1 xs)
+          values-there-cases None [] = refl
+          values-there-cases None (x ∷ xs) = refl
+          values-there-cases (Some v) [] = refl
+          values-there-cases (Some v) (x ∷ xs) = refl
 
       rest-there : (part : Part) → keeps (rest_rule world name part) ≡ meets_rest world part node
       unfolding rest_rule meets_rest
@@ -135,12 +136,12 @@ module _ (world : World) (graph : Content) where
           ) refl
 
           row-there : (row : ProvideRow) → keeps (row_rule world name virtual wanted row) ≡ row_provides world node virtual wanted row
-          row-there row = go (bytes_eq row.name virtual) (lists_overlap row.versions wanted) (tops_rule world name row.when.specs) _ (tops-there row.when.specs)
+          row-there row = row-there-cases (bytes_eq row.name virtual) (lists_overlap row.versions wanted) (tops_rule world name row.when.specs) _ (tops-there row.when.specs)
             where
-              go : (a c : Bool) (rule : Rule Word) (b : Bool) → keeps rule ≡ b → keeps (if a && c then rule else nowhere) ≡ (a && b && c)
-              go true true rule b same = same ∙ sym (and-true b)
-              go true false rule b same = sym (off-right b false refl)
-              go false c rule b same = refl
+              row-there-cases : (a c : Bool) (rule : Rule Word) (b : Bool) → keeps rule ≡ b → keeps (if a && c then rule else nowhere) ≡ (a && b && c)
+              row-there-cases true true rule b same = same ∙ sym (and-true b)
+              row-there-cases true false rule b same = sym (off-right b false refl)
+              row-there-cases false c rule b same = refl
 
       suits-there : (part : Part) (asked : Text) → keeps (suits_rule world part asked name) ≡ suits world part asked node
       unfolding suits
@@ -154,11 +155,11 @@ module _ (world : World) (graph : Content) where
       none-there f = ap (λ o. is_some_and o (λ node. is_so node f)) absent
 
       values-absent : (wanted : Text × List Text) → keeps (values_rule name wanted) ≡ false
-      values-absent wanted = go wanted.1
+      values-absent wanted = values-absent-cases wanted.1
         where
-          go : (xs : List Text) → keeps (unless (is_filled xs) (fact (node_has name (has_variant wanted.0))) and each (λ value. fact (node_has name (has_value wanted.0 (bytes_eq value)))) xs) ≡ false
-          go [] = rw (none-there (has_variant wanted.0)) refl
-          go (x ∷ xs) = rw (none-there (has_value wanted.0 (bytes_eq x))) refl
+          values-absent-cases : (xs : List Text) → keeps (unless (is_filled xs) (fact (node_has name (has_variant wanted.0))) and each (λ value. fact (node_has name (has_value wanted.0 (bytes_eq value)))) xs) ≡ false
+          values-absent-cases [] = rw (none-there (has_variant wanted.0)) refl
+          values-absent-cases (x ∷ xs) = rw (none-there (has_value wanted.0 (bytes_eq x))) refl
 
       each-absent : (xs : List (Text × List Text)) → is_filled xs ≡ true → keeps (each (values_rule name) xs) ≡ false
       each-absent [] asks = cc
@@ -207,13 +208,16 @@ module _ (world : World) (graph : Content) where
         | inr plain ↦ rw plain (meets-absent part)
       ]
 
+    -- what a part asks of a node
     pub meets-kept : (part : Part) → keeps (meets_rule world name part) ≡ is_some_and (node_of graph name) (meets world part)
     meets-kept part = by_node graph name (λ o. keeps (meets_rule world name part) ≡ is_some_and o (meets world part)) (λ node here. meets-there node here part) (λ absent. meets-absent absent part)
 
+    -- what a virtual asks of its provider
     pub provides-kept : (virtual : Text) (wanted : Option (List Item)) → keeps (provides_rule world name virtual wanted) ≡ is_some_and (node_of graph name) (λ node. provides world node virtual wanted)
     provides-kept virtual wanted =
         by_node graph name (λ o. keeps (provides_rule world name virtual wanted) ≡ is_some_and o (λ node. provides world node virtual wanted)) (λ node here. provides-there node here virtual wanted) (λ absent. provides-absent absent virtual wanted)
 
+    -- what a part asks of the node that it names
     pub suits-kept : (part : Part) (asked : Text) → keeps (suits_rule world part asked name) ≡ is_some_and (node_of graph name) (suits world part asked)
     suits-kept part asked = by_node graph name (λ o. keeps (suits_rule world part asked name) ≡ is_some_and o (suits world part asked)) (λ node here. suits-there node here part asked) (λ absent. suits-absent absent part asked)
 
@@ -228,21 +232,23 @@ module _ (world : World) (graph : Content) where
   -- ---- specs and conditions, where the lists have each provider
 
   module _ (packages : Text → List Text) (listed : (virtual p : Text) → provider_of graph virtual ≡ Some p → among (packages virtual) p ≡ true) where
+    -- a rule at the node that a name asks for
     pub asked-kept : (asked : Text) (rule : Text → Rule Word) (test : Node → Bool) → ((name : Text) → keeps (rule name) ≡ is_some_and (node_of graph name) test)
         → keeps (asked_rule world packages asked rule) ≡ is_some_and (asked_node world graph asked) test
     unfolding asked_node
     asked-kept asked rule test same = elim (cases_Bool (is_virtual world.recipes asked)) [
       | inl virtual ↦ rw virtual (
           some-kept (is_in graph) _ (λ name. is_some_and (provider_of graph asked) (λ p. bytes_eq p name) && is_some_and (node_of graph name) test) (λ name. ap (λ b. is_in graph (provides_as asked name) && b) (same name)) (packages asked)
-          ∙ go (provider_of graph asked) (listed asked))
+          ∙ asked-kept-cases (provider_of graph asked) (listed asked))
       | inr plain ↦ rw plain (same asked)
     ]
       where
-        go : (o : Option Text) → ((p : Text) → o ≡ Some p → among (packages asked) p ≡ true)
+        asked-kept-cases : (o : Option Text) → ((p : Text) → o ≡ Some p → among (packages asked) p ≡ true)
             → list_any (λ name. is_some_and o (λ p. bytes_eq p name) && is_some_and (node_of graph name) test) (packages asked) ≡ is_some_and (option_and_then (node_of graph) o) test
-        go None has = none-picked (λ name. is_some_and (node_of graph name) test) (packages asked)
-        go (Some p) has = picked (λ name. is_some_and (node_of graph name) test) p (packages asked) ∙ ap (λ b. b && is_some_and (node_of graph p) test) (has p refl)
+        asked-kept-cases None has = none-picked (λ name. is_some_and (node_of graph name) test) (packages asked)
+        asked-kept-cases (Some p) has = picked (λ name. is_some_and (node_of graph name) test) p (packages asked) ∙ ap (λ b. b && is_some_and (node_of graph p) test) (has p refl)
 
+    -- a spec holds
     pub holds-kept : (name : Text) (spec : Spec) → keeps (holds_rule world packages name spec) ≡ holds world spec graph name
     unfolding holds_rule holds
     holds-kept name spec = rw (meets-kept name spec.top, each-kept (is_in graph) (below_rule world packages name) (holds_below world graph name) each-below spec.below) refl
@@ -250,6 +256,7 @@ module _ (world : World) (graph : Content) where
         each-below : (part : Part) → keeps (below_rule world packages name part) ≡ holds_below world graph name part
         each-below part = named-kept (is_in graph) _ _ (λ asked. asked-kept asked _ _ (λ n. below-kept n name part asked)) part.name
 
+    -- a condition holds
     pub condition-kept : (name : Text) (condition : Condition) → keeps (condition_rule world packages name condition) ≡ all_hold world condition graph name
     unfolding condition_rule all_hold
     condition-kept name condition = each-kept (is_in graph) _ (λ spec. holds world spec graph name) (holds-kept name) condition.specs

@@ -29,6 +29,7 @@ use Rattle.graph_formulas.specs.Kept.{same_origin, installs, same_rule, kinds_ru
 
 -- ---- origins
 
+-- the same origin is an equal one
 pub origins-same : (a b : Origin) → same_origin a b ≡ true → a ≡ b
 origins-same Built Built h = refl
 origins-same Built (External place) h = absurd (cc)
@@ -40,6 +41,7 @@ origins-same (Installed hash) Built h = absurd (cc)
 origins-same (Installed hash) (External place) h = absurd (cc)
 origins-same (Installed hash) (Installed other) h = ap Installed (bytes_eq-same hash other h)
 
+-- an origin is the same as itself
 pub origin-itself : (a : Origin) → same_origin a a ≡ true
 origin-itself Built = refl
 origin-itself (External place) = eq-eqb place place refl
@@ -123,13 +125,13 @@ module _ (problem : Problem) (graph : Content) (name : Text) (node : Node) (here
       && option_eq bytes_eq node.prefix k.prefix) (sym (named-so graph name node here)))
 
   kinds-kept : (child : Text) (kinds : Kinds) → in_graph (kinds_rule name child kinds) ≡ is_some_and (edge_of graph name child) (has_kinds kinds)
-  kinds-kept child kinds = rw (given-kept (is_in graph) kinds.link, given-kept (is_in graph) kinds.run) (go (edge_of graph name child))
+  kinds-kept child kinds = rw (given-kept (is_in graph) kinds.link, given-kept (is_in graph) kinds.run) (kinds-kept-cases (edge_of graph name child))
     where
-      go : (o : Option Edge) → (((on o (record kinds { build = false }) && not (on o (record no_kinds { build = true })))
+      kinds-kept-cases : (o : Option Edge) → (((on o (record kinds { build = false }) && not (on o (record no_kinds { build = true })))
           && (not (on o (record no_kinds { link = true })) || kinds.link)) && (not (on o (record no_kinds { run = true })) || kinds.run))
           ≡ is_some_and o (has_kinds kinds)
-      go None = refl
-      go (Some e) = kind-tests (covers e.kinds (record kinds { build = false })) e.kinds.build e.kinds.link e.kinds.run kinds.link kinds.run
+      kinds-kept-cases None = refl
+      kinds-kept-cases (Some e) = kind-tests (covers e.kinds (record kinds { build = false })) e.kinds.build e.kinds.link e.kinds.run kinds.link kinds.run
 
   child-kept : (d : Text × Kinds) → in_graph (child_rule problem children name d) ≡ keeps_child problem graph name d
   child-kept d = named-kept (is_in graph) (λ child. fact (node_has child.name (has_origin (installs d.0))) and kinds_rule name child.name d.1)
@@ -139,13 +141,13 @@ module _ (problem : Problem) (graph : Content) (name : Text) (node : Node) (here
   recorded-kept : (entry : Record) → in_graph (each (recorded_rule problem children name entry) children) ≡ list_all (is_child problem entry) (edges_from graph name)
   recorded-kept entry =
       each-kept (is_in graph) (recorded_rule problem children name entry) (λ child. if_written (edge_of graph name child) (is_child problem entry))
-      (λ child. go child (edge_of graph name child) (child-named child)) children
+      (λ child. recorded-kept-cases child (edge_of graph name child) (child-named child)) children
       ∙ sym (edges (is_child problem entry))
     where
-      go : (child : Text) (o : Option Edge) → ((e : Edge) → o ≡ Some e → e.child ≡ child)
+      recorded-kept-cases : (child : Text) (o : Option Edge) → ((e : Edge) → o ≡ Some e → e.child ≡ child)
           → (not (is_some_and o (λ e. covers e.kinds no_kinds)) || in_graph (given (is_child_name problem entry child))) ≡ if_written o (is_child problem entry)
-      go child None named = refl
-      go child (Some e) named = given-kept (is_in graph) (is_child_name problem entry child) ∙ ap (is_child_name problem entry) (sym (named e refl))
+      recorded-kept-cases child None named = refl
+      recorded-kept-cases child (Some e) named = given-kept (is_in graph) (is_child_name problem entry child) ∙ ap (is_child_name problem entry) (sym (named e refl))
 
   no-edge-kept : in_graph (each (λ child. isnt (fact (has_edge name child no_kinds))) children) ≡ list_all (λ e. false) (edges_from graph name)
   no-edge-kept =
@@ -177,6 +179,7 @@ module _ (problem : Problem) (graph : Content) (name : Text) (node : Node) (here
       ∙ ap (λ n. is_some_and (record_at problem hash) (λ entry. same_attributes node (installed_node entry)
       && list_all (keeps_child problem graph n) (kept_dependencies entry) && list_all (is_child problem entry) (edges_from graph n))) (sym (named-so graph name node here))
 
+  -- the rule of a kept node
   pub kept-kept : (origins : List Origin) → In node.origin origins → in_graph (kept_rule problem children origins name) ≡ keeps_kept problem graph node
   unfolding keeps_kept
   kept-kept origins there =

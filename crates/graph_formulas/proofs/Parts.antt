@@ -22,21 +22,22 @@ use Rattle.literal_table.specs.Spells.{Spells}
 use Rattle.graph_formulas.specs.Facts.{Word, word_said, is_in}
 use Rattle.graph_formulas.specs.Parts.{meets_rule, provides_rule, holds_rule, condition_rule}
 use Rattle.graph_formulas.specs.Words.{SpellsPaths, names_for, says}
-use Rattle.graph_formulas.proofs.Said.{word-said}
+use Rattle.graph_formulas.proofs.WordsSaid.{word-said}
 use Rattle.graph_formulas.proofs.Kept.{meets-kept, provides-kept, holds-kept, condition-kept}
 
 -- what is chosen is one of the choices
 chosen-among : (v : ℕ → Bool) (choices : Choices Text) (x : Text) → among (chosen v choices) x ≡ true → among (offered choices) x ≡ true
 chosen-among v [] x h = h
 chosen-among v (c ∷ cs) x h = elim (cases_Bool (lit_true v c.1)) [
-  | inl t ↦ go (bytes_eq x c.0) (among (chosen v cs) x) (among (offered cs) x) (chosen-among v cs x) (rw t at h)
+  | inl t ↦ chosen-among-cases (bytes_eq x c.0) (among (chosen v cs) x) (among (offered cs) x) (chosen-among v cs x) (rw t at h)
   | inr f ↦ or_right (bytes_eq x c.0) (among (offered cs) x) (chosen-among v cs x (rw f at h))
 ]
   where
-    go : (a b c : Bool) → (b ≡ true → c ≡ true) → (a || b) ≡ true → (a || c) ≡ true
-    go true b c f h = refl
-    go false b c f h = f h
+    chosen-among-cases : (a b c : Bool) → (b ≡ true → c ≡ true) → (a || b) ≡ true → (a || c) ≡ true
+    chosen-among-cases true b c f h = refl
+    chosen-among-cases false b c f h = f h
 
+-- a provider is among the packages of its virtual
 pub provider-listed : (v : ℕ → Bool) (table : Table) (graph : Content) → Spells v table graph → (virtual p : Text) → provider_of graph virtual ≡ Some p → among (names_for table virtual) p ≡ true
 provider-listed v table graph s virtual p is =
     chosen-among v (packages_of table virtual) p (rw (s.providers virtual, is, (bytes_decides p p).1 refl) refl)
@@ -48,16 +49,20 @@ module _ (world : World) (v : ℕ → Bool) (path : Text → Text → Statement)
   said : (rule : Rule Word) → says v path table rule ≡ kept rule
   said rule = rule-said v (word_said path table) (is_in graph) (word-said v path table graph s) rule
 
+  -- the formula of a part
   pub meets-said : (name : Text) (part : Part) → says v path table (meets_rule world name part) ≡ is_some_and (node_of graph name) (meets world part)
   meets-said name part = said (meets_rule world name part) ∙ meets-kept world graph name part
 
+  -- of a provider
   pub provides-said : (name virtual : Text) (wanted : Option (List Item))
       → says v path table (provides_rule world name virtual wanted) ≡ is_some_and (node_of graph name) (λ node. provides world node virtual wanted)
   provides-said name virtual wanted = said (provides_rule world name virtual wanted) ∙ provides-kept world graph name virtual wanted
 
+  -- of a spec
   pub holds-said : (name : Text) (spec : Spec) → says v path table (holds_rule world (names_for table) name spec) ≡ holds world spec graph name
   holds-said name spec = said (holds_rule world (names_for table) name spec) ∙ holds-kept world graph (names_for table) (provider-listed v table graph s.facts) name spec
 
+  -- of a condition
   pub condition-said : (name : Text) (condition : Condition) → says v path table (condition_rule world (names_for table) name condition) ≡ all_hold world condition graph name
   condition-said name condition =
       said (condition_rule world (names_for table) name condition) ∙ condition-kept world graph (names_for table) (provider-listed v table graph s.facts) name condition

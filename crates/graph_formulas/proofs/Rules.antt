@@ -9,13 +9,13 @@ use Rattle.graph_formulas.specs.Lists.{given, unless, written, named, each, some
 
 pub any-last : {T : Type 0} (f : T → Bool) (xs : List T) → list_any f xs ≡ is_some (find_last f xs)
 any-last f [] = refl
-any-last f (x ∷ xs) = rw (any-last f xs) (go (find_last f xs) (f x))
+any-last f (x ∷ xs) = rw (any-last f xs) (any-last-cases (find_last f xs) (f x))
   where
-    go : (o : Option _) (b : Bool) → (b || is_some o) ≡ is_some (option_or o (if b then Some x else None))
-    go None true = refl
-    go None false = refl
-    go (Some y) true = refl
-    go (Some y) false = refl
+    any-last-cases : (o : Option _) (b : Bool) → (b || is_some o) ≡ is_some (option_or o (if b then Some x else None))
+    any-last-cases None true = refl
+    any-last-cases None false = refl
+    any-last-cases (Some y) true = refl
+    any-last-cases (Some y) false = refl
 
 not-nor : (a b : Bool) → not (not a || b) ≡ (a && not b)
 not-nor true b = refl

@@ -144,9 +144,6 @@ is_structure rules.UnusedProvider = true
 is_structure rules.Cycle = true
 is_structure rules.Unreachable = true
 
-itself : (n : ℕ) → (n == n) ≡ true
-itself n = eq-eqb n n refl
-
 -- a rule of the structure is broken alike whatever is asked
 structure-same : (made : Asked) (problem : Problem) (graph : Content) (rule : Rule) → is_structure rule ≡ true
     → keeps rule problem graph ≡ is_empty (breaks_of made rule problem graph)
@@ -210,7 +207,7 @@ module _ (problem : Problem) (graph : Content) (g : IsGraph graph) (asked : List
     depend-made node there built row is a =
         let kept = directive-made node row.number there built a in
         implied (row.number == row.number) _ (list_all-each _ (depends_at problem node.name) row (and_parts _ _ (and_parts _ _ kept).0).0
-        is) (itself row.number)
+        is) (eq-eqb row.number row.number refl)
 
     edges-made : is_empty (breaks_of (is_among asked) rules.Edge problem graph) ≡ true
     unfolding breaks_of
@@ -228,7 +225,7 @@ module _ (problem : Problem) (graph : Content) (g : IsGraph graph) (asked : List
         (λ node there built row is a.
         let kept = directive-made node row.number there built a in
         implied (row.number == row.number) _ (list_all-each _ (conflicts_at problem node.name) row (and_parts _ _ (and_parts _ _ kept).0).1
-        is) (itself row.number))
+        is) (eq-eqb row.number row.number refl))
 
     requirements-made : is_empty (breaks_of (is_among asked) rules.Requirement problem graph) ≡ true
     unfolding breaks_of
@@ -236,7 +233,7 @@ module _ (problem : Problem) (graph : Content) (g : IsGraph graph) (asked : List
         (λ node there built row is a.
         let kept = directive-made node row.number there built a in
         implied (row.number == row.number) _ (list_all-each _ (requirements_at problem node.name) row (and_parts _ _ kept).1 is)
-        (itself row.number))
+        (eq-eqb row.number row.number refl))
 
     each-made : (rule : Rule) → is_empty (breaks_of (is_among asked) rule problem graph) ≡ true
     each-made rules.Root = roots-made
@@ -331,5 +328,6 @@ module _ (problem : Problem) (graph : Content) (g : IsGraph graph) (asked : List
         (λ rule there. structure-same (is_among asked) problem graph rule (structure-is rule there) ∙ unbroken rule))
         (list_all-from (keeps_demand problem graph) asked demand-kept)
 
+  -- a graph is valid for demands exactly where the verdict for them is Valid
   pub valid_for-verdict : (valid_for asked problem graph ≡ true) ↔ (verdict_for asked problem graph ≡ verdicts.Valid)
   valid_for-verdict = (said-valid, valid-said)

@@ -48,12 +48,6 @@ split xs i x lt is =
     let next : suc i ≡ i + 1 = omega arith in
     drop-cons xs i x lt ∙ ap (λ y. y ∷ drop (suc i) xs) (sym is) ∙ ap (λ (n : ℕ). x ∷ drop n xs) next
 
-pub flat_step : {X A : Type 0} (f : X → List A) (xs : List X) (i : ℕ) (x : X) (acc more whole : List A) → i < length xs → x ≡ get_or xs i x
-    → more ≡ acc ++ f x → acc ++ flat_map f (drop i xs) ≡ whole → more ++ flat_map f (drop (i + 1) xs) ≡ whole
-flat_step f xs i x acc more whole lt is grown before =
-    ap (λ l. l ++ flat_map f (drop (i + 1) xs)) grown ∙ append_assoc acc (f x) (flat_map f (drop (i + 1) xs))
-    ∙ ap (λ l. acc ++ flat_map f l) (sym (split xs i x lt is)) ∙ before
-
 -- ---- roots
 
 roots_cons : (test : ℕ → Spec → Bool) (place : ℕ) (spec : Spec) (more : List Spec)
@@ -64,6 +58,7 @@ roots_cons test place spec more =
     ((unwrap_or spec.top.name [], place) ∷ broken_roots test (place + 1) more) ≡ unless b (unwrap_or spec.top.name [], place)
     ++ broken_roots test (place + 1) more) [ true ↦ refl | false ↦ refl ]
 
+-- one root more was gone over
 pub roots_step : (test : ℕ → Spec → Bool) (specs : List Spec) (i : ℕ) (spec : Spec) (acc more whole : List Place) → i < length specs
     → spec ≡ get_or specs i spec
     → more ≡ acc ++ unless (test i spec) (unwrap_or spec.top.name [], i) → acc ++ broken_roots test i (drop i specs) ≡ whole
@@ -76,6 +71,7 @@ roots_step test specs i spec acc more whole lt is grown before =
 
 -- ---- the least
 
+-- one place more was compared
 pub least_step : (places : List Place) (i : ℕ) (p : Place) (best more whole : Option Place) → i < length places → p ≡ get_or places i p
     → more ≡ lesser_of best (Some p) → lesser_of best (least (drop i places)) ≡ whole → lesser_of more (least (drop (i + 1) places)) ≡ whole
 least_step places i p best more whole lt is grown before =
@@ -84,6 +80,7 @@ least_step places i p best more whole lt is grown before =
 
 -- ---- numbers of demands
 
+-- a test of some of what is given is one of some that give it
 pub any-filter_map : {X Y : Type 0} (test : Y → Bool) (f : X → Option Y) (xs : List X)
     → list_any test (filter_map f xs) ≡ list_any (λ x. is_some_and (f x) test) xs
 any-filter_map test f [] = refl
@@ -96,6 +93,7 @@ any-filter_map test f (x ∷ xs) =
 
 -- ---- the first broken rule
 
+-- a rule that is broken is the first
 pub first_said : (made : Asked) (problem : Problem) (graph : Content) (rules : List Rule) (i : ℕ) (rule : Rule) (said whole : Verdict)
     → i < length rules → rule ≡ get_or rules i rule
     → Some said ≡ found_of rule (least (breaks_of made rule problem graph)) → first_broken made (drop i rules) problem graph ≡ whole
@@ -108,6 +106,7 @@ first_said made problem graph rules i rule said whole lt is found before =
     told None e = absurd (let no : Some said ≡ None = e in cc)
     told (Some p) e = cc
 
+-- a rule that is kept leaves the verdict to those behind it
 pub first_later : (made : Asked) (problem : Problem) (graph : Content) (rules : List Rule) (i : ℕ) (rule : Rule) (whole : Verdict)
     → i < length rules → rule ≡ get_or rules i rule
     → None ≡ found_of rule (least (breaks_of made rule problem graph)) → first_broken made (drop i rules) problem graph ≡ whole

@@ -1,14 +1,15 @@
 //! The verdict on a graph.
 //!
-//! What it is: `judge`, which names the first broken rule of a valid graph, and `judge_for`, which does so where only
-//! some roots and directives are asked.
-//! What it promises: they answer what `graph_rules` computes as `verdict` and `verdict_for`; so Valid exactly where no
-//! rule is broken, and else the first broken rule, there the least node by bytes, and there the least number.
-//! What it stands on: `rule_tests` and `kept_tests` for each rule at a node.
+//! What it is: `judge`, which names the first broken rule of a valid graph, and `judge_for`, which
+//! does so where only some roots and directives are asked.
+//! What it promises: they answer what `graph_rules` computes as `verdict` and `verdict_for`; so
+//! Valid exactly where no rule is broken, and else the first broken rule, there the least node by
+//! bytes, and there the least number.
+//! What it stands on: `rule_checks` for each rule at a node.
 //! What it must not know: costs, clauses, and how a graph is found.
 #![tactic(auto)]
 
-mod demanded;
+mod asked;
 mod nodes;
 mod others;
 mod places;

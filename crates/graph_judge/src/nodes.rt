@@ -1,4 +1,4 @@
-// The rules that are said of each node.
+//! The rules that are said of each node.
 ghost use Rattle.std.specs.Prelude.{◌≡◌, ◌++◌, IfOk, OnOk};
 ghost use Rattle.graph_rules.specs.Verdict.{broken_nodes};
 ghost use Rattle.graph_judge.specs.Places.{keeps_at, nodes_places};
@@ -28,6 +28,7 @@ pub(crate) enum NodeRule {
     Unreachable,
 }
 
+/// Whether a node keeps a rule; most rules ask it of built nodes alone.
 #[tactic(auto, unfolding(crate::specs::Places::keeps_at))]
 fn keeps_at(
     alloc: Global,

@@ -1,9 +1,9 @@
-// The rules of roots and of providers.
+//! The rules of roots and of providers.
 ghost use Rattle.std.specs.Prelude.{◌≡◌, ◌++◌, [], IfOk, OnOk, unwrap_or};
 ghost use Rattle.graph_rules.specs.Verdict.{keeps_asked_root, broken_roots, broken_providers};
 ghost use Rattle.graph_judge.specs.Places.{provider_test, providers_places};
 
-use crate::demanded::Demanded;
+use crate::asked::AskedDemands;
 use crate::places::add_unless;
 use condition_rules::Paths;
 use plain_data::Word;
@@ -14,18 +14,18 @@ use std::alloc::{AllocError, Global};
 
 // ---- roots
 
-fn keeps_asked_root<D: Demanded>(
+fn keeps_asked_root<D: AskedDemands>(
     alloc: Global,
     problem: &Problem,
     graph: &Explored,
-    demanded: &D,
+    asked: &D,
     place: u64,
     spec: &Spec,
 ) -> Result<bool, AllocError>
-    ensures { IfOk result (λ kept. kept ≡ keeps_asked_root (D.asks demanded.now) problem.now
+    ensures { IfOk result (λ kept. kept ≡ keeps_asked_root (D.asks asked.now) problem.now
         graph.now place spec.now) }
 {
-    if !demanded.root(place) {
+    if !asked.asks_root(place) {
         return Ok(true);
     }
     keeps_root(alloc, problem, graph, spec)
@@ -41,20 +41,20 @@ fn name_of(spec: &Spec) -> &str
 }
 
 /// The roots that are broken.
-pub(crate) fn root_places<D: Demanded>(
+pub(crate) fn root_places<D: AskedDemands>(
     alloc: Global,
     problem: &Problem,
     graph: &Explored,
-    demanded: &D,
+    asked: &D,
     roots: &[Spec],
 ) -> Result<Vec<(Word, u64)>, AllocError>
     ensures { IfOk result (λ places. places.items
-        ≡ broken_roots (keeps_asked_root (D.asks demanded.now) problem.now graph.now) 0 roots.now) }
+        ≡ broken_roots (keeps_asked_root (D.asks asked.now) problem.now graph.now) 0 roots.now) }
 {
     let mut places = Vec::new(alloc);
     for place in 0..roots.len() {
         let spec = &roots[place];
-        let kept = keeps_asked_root(alloc, problem, graph, demanded, place as u64, spec)?;
+        let kept = keeps_asked_root(alloc, problem, graph, asked, place as u64, spec)?;
         add_unless(alloc, &mut places, kept, name_of(spec), place as u64)?;
     }
     Ok(places)

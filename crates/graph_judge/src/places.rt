@@ -1,4 +1,4 @@
-// The places where a rule is broken.
+//! The places where a rule is broken.
 ghost use Rattle.std.specs.Prelude.{◌≡◌, ◌++◌, Some, OnOk};
 ghost use Rattle.std.specs.Option.{option_copied};
 ghost use Rattle.graph_rules.specs.Verdict.{is_before, least, lesser_of};
@@ -30,6 +30,7 @@ fn is_before(a: &(Word, u64), b: &(Word, u64)) -> bool
     a.0.as_str().cmp(b.0.as_str()).then(a.1.cmp(&b.1)).is_lt()
 }
 
+/// The lesser of two places, or the one that is there.
 fn lesser<'a>(best: Option<&'a (Word, u64)>, place: &'a (Word, u64)) -> Option<&'a (Word, u64)>
     ensures { option_copied result ≡ lesser_of (option_copied best.entry) (Some place.now) }
 {

@@ -1,12 +1,13 @@
-// The first broken rule.
+//! The first broken rule.
 ghost use Rattle.std.specs.Prelude.{◌≡◌, ◌↔◌, true, IfOk, filter_map, slice_get};
 ghost use Rattle.problem.specs.Demands.{demands};
 ghost use Rattle.graph_rules.specs.Valid.{valid, valid_for};
-ghost use Rattle.graph_rules.specs.Verdict.{breaks_of, first_broken, least, verdict, verdict_of, verdict_for};
+ghost use Rattle.graph_rules.specs.Verdict.{breaks_of, first_broken, least, verdict, verdict_of};
+ghost use Rattle.graph_rules.specs.Verdict.{verdict_for};
 ghost use Rattle.graph_rules.specs.declared.rule.Verdict.{Verdict};
 ghost use Rattle.graph_judge.specs.Places.{found_of};
 
-use crate::demanded::{All, Demanded, Listed};
+use crate::asked::{All, AskedDemands, Listed};
 use crate::nodes::{NodeRule, node_places};
 use crate::others::{provider_places, root_places};
 use crate::places::least_of;
@@ -39,28 +40,28 @@ const RULES: [Rule; 16] = [
 
 /// The places where a rule is broken.
 #[tactic(auto, unfolding(graph_rules::specs::Verdict::breaks_of, crate::specs::Places::keeps_at))]
-fn places_of<D: Demanded>(
+fn places_of<D: AskedDemands>(
     alloc: Global,
     rule: Rule,
     problem: &Problem,
     graph: &Explored,
-    demanded: &D,
+    asked: &D,
 ) -> Result<Vec<(Word, u64)>, AllocError>
-    ensures { IfOk result (λ places. places.items ≡ breaks_of (D.asks demanded.now) rule
+    ensures { IfOk result (λ places. places.items ≡ breaks_of (D.asks asked.now) rule
         problem.now graph.now) }
 {
     match rule {
-        Rule::Root => root_places(alloc, problem, graph, demanded, problem.roots()),
+        Rule::Root => root_places(alloc, problem, graph, asked, problem.roots()),
         Rule::Buildable => node_places(alloc, NodeRule::Buildable, problem, graph),
         Rule::Version => node_places(alloc, NodeRule::Version, problem, graph),
         Rule::Variant => node_places(alloc, NodeRule::Variant, problem, graph),
         Rule::Compiler => node_places(alloc, NodeRule::Compiler, problem, graph),
         Rule::Machine => node_places(alloc, NodeRule::Machine, problem, graph),
-        Rule::Edge => depend_places(alloc, false, problem, graph, demanded),
+        Rule::Edge => depend_places(alloc, false, problem, graph, asked),
         Rule::ExtraEdge => node_places(alloc, NodeRule::ExtraEdge, problem, graph),
-        Rule::Constraint => depend_places(alloc, true, problem, graph, demanded),
-        Rule::Conflict => conflict_places(alloc, problem, graph, demanded),
-        Rule::Requirement => requirement_places(alloc, problem, graph, demanded),
+        Rule::Constraint => depend_places(alloc, true, problem, graph, asked),
+        Rule::Conflict => conflict_places(alloc, problem, graph, asked),
+        Rule::Requirement => requirement_places(alloc, problem, graph, asked),
         Rule::Kept => node_places(alloc, NodeRule::Kept, problem, graph),
         Rule::Provider => provider_places(alloc, false, problem, graph),
         Rule::UnusedProvider => provider_places(alloc, true, problem, graph),
@@ -70,17 +71,17 @@ fn places_of<D: Demanded>(
 }
 
 /// The verdict that a rule is broken, at its least place.
-fn broken<D: Demanded>(
+fn broken<D: AskedDemands>(
     alloc: Global,
     rule: Rule,
     problem: &Problem,
     graph: &Explored,
-    demanded: &D,
+    asked: &D,
 ) -> Result<Option<Verdict>, AllocError>
     ensures { IfOk result (λ found. found
-        ≡ found_of rule (least (breaks_of (D.asks demanded.now) rule problem.now graph.now))) }
+        ≡ found_of rule (least (breaks_of (D.asks asked.now) rule problem.now graph.now))) }
 {
-    let places = places_of(alloc, rule, problem, graph, demanded)?;
+    let places = places_of(alloc, rule, problem, graph, asked)?;
     match least_of(places.as_slice()) {
         Some(place) => Ok(Some(Verdict::Broken {
             rule,
@@ -91,18 +92,19 @@ fn broken<D: Demanded>(
     }
 }
 
-fn first_broken<D: Demanded>(
+/// The verdict of the first rule that is broken.
+fn first_broken<D: AskedDemands>(
     alloc: Global,
     problem: &Problem,
     graph: &Explored,
-    demanded: &D,
+    asked: &D,
     rules: &[Rule],
 ) -> Result<Verdict, AllocError>
-    ensures { IfOk result (λ said. said ≡ first_broken (D.asks demanded.now) rules.now
+    ensures { IfOk result (λ said. said ≡ first_broken (D.asks asked.now) rules.now
         problem.now graph.now) }
 {
     for rule in rules {
-        let found = broken(alloc, *rule, problem, graph, demanded)?;
+        let found = broken(alloc, *rule, problem, graph, asked)?;
         if let Some(said) = found {
             return Ok(said);
         }
@@ -111,20 +113,20 @@ fn first_broken<D: Demanded>(
 }
 
 #[tactic(auto, unfolding(graph_rules::specs::Verdict::verdict_of))]
-fn verdict_of<D: Demanded>(
+fn verdict_of<D: AskedDemands>(
     alloc: Global,
     problem: &Problem,
     graph: &Graph,
-    demanded: &D,
+    asked: &D,
 ) -> Result<Verdict, AllocError>
-    ensures { IfOk result (λ said. said ≡ verdict_of (D.asks demanded.now) problem.now graph.now) }
+    ensures { IfOk result (λ said. said ≡ verdict_of (D.asks asked.now) problem.now graph.now) }
 {
     let explored = Explored::new(alloc, graph)?;
-    first_broken(alloc, problem, &explored, demanded, &RULES)
+    first_broken(alloc, problem, &explored, asked, &RULES)
 }
 
-/// The verdict on a graph: Valid exactly where no rule is broken, else the first broken rule, there the least node by
-/// bytes, and there the least number.
+/// The verdict on a graph: Valid exactly where no rule is broken, else the first broken rule, there
+/// the least node by bytes, and there the least number.
 ///
 /// Finds all paths once and then goes over the graph once for each rule.
 pub fn judge(alloc: Global, problem: &Problem, graph: &Graph) -> Result<Verdict, AllocError>
@@ -136,8 +138,8 @@ pub fn judge(alloc: Global, problem: &Problem, graph: &Graph) -> Result<Verdict,
     Ok(said)
 }
 
-/// The same, where of roots and directives only those of these demands are asked, by their numbers from 0. A number
-/// that is no demand's asks nothing.
+/// The same, where of roots and directives only those of these demands are asked, by their numbers
+/// from 0. A number that is no demand's asks nothing.
 pub fn judge_for(
     alloc: Global,
     problem: &Problem,

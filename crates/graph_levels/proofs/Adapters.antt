@@ -67,16 +67,16 @@ module _ {X : Type 0} (a b : Gated) (S R : (ℕ → Bool) → X → Type 0) (fit
     (λ e. same asked v x s r 0 ds ∙ e),
   ))
     where
-      go : (asked v : ℕ → Bool) (x : X) → S v x → R asked x → (id : ℕ) (d : D) (ds : List D)
+      demanded-cases : (asked v : ℕ → Bool) (x : X) → S v x → R asked x → (id : ℕ) (d : D) (ds : List D)
           → demands_true asked v (id + 1) (map f ds) ≡ list_all (keeps x) (asked_among asked (id + 1) ds)
           → (q : Bool) → asked id ≡ q → demands_true asked v id (map f (d ∷ ds)) ≡ list_all (keeps x) (asked_among asked id (d ∷ ds))
-      go asked v x s r id d ds rest true e = rw (e, tells d asked v x s r, rest) refl
-      go asked v x s r id d ds rest false e = rw (e, rest) refl
+      demanded-cases asked v x s r id d ds rest true e = rw (e, tells d asked v x s r, rest) refl
+      demanded-cases asked v x s r id d ds rest false e = rw (e, rest) refl
 
       same : (asked v : ℕ → Bool) (x : X) → S v x → R asked x → (id : ℕ) (ds : List D)
           → demands_true asked v id (map f ds) ≡ list_all (keeps x) (asked_among asked id ds)
       same asked v x s r id [] = refl
-      same asked v x s r id (d ∷ ds) = go asked v x s r id d ds (same asked v x s r (id + 1) ds) (asked id) refl
+      same asked v x s r id (d ∷ ds) = demanded-cases asked v x s r id d ds (same asked v x s r (id + 1) ds) (asked id) refl
 
 module _ {X : Type 0} (a b : Clauses) (S R : (ℕ → Bool) → X → Type 0) where
   -- more variables

@@ -9,7 +9,8 @@ use Rattle.criteria_totals.specs.Totals.{sums, values_at, IsTotals}
 use Rattle.graph_levels.specs.Stages.{Nothing, Models, Stage}
 use Rattle.graph_levels.specs.Bits.{SumsAre, Ranks, IsLeastModel, IsBest}
 
-module _ {X : Type 0} (a b : Clauses) (S : (ℕ → Bool) → X → Type 0) (bits : List Lit) (lists : List (List (ℕ × Lit))) (numbers : X → List ℕ) where
+module _ {X : Type 0} (a b : Clauses) (S : (ℕ → Bool) → X → Type 0) (bits : List Lit) (lists : List (List (ℕ × Lit))) (numbers : X
+    → List ℕ) where
   -- bits of sums are a stage that asks nothing
   pub totalled : (R : (ℕ → Bool) → X → Type 0) → IsTotals a b bits lists → Stage a b S Nothing R Nothing
   totalled R totals = record {

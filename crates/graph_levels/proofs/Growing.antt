@@ -8,21 +8,27 @@ use Rattle.clause_circuits.proofs.Composed.{since, whole, Grows-trans, MeetsSinc
 use Rattle.graph_levels.specs.Stages.{Both, Nothing, IsLocal, Models, Stage, Decodes}
 
 -- what is asked for of a longer list
-pub meets-parts : (a b : Clauses) (asked v : ℕ → Bool) → Grows a b → Meets asked v b.entries → Meets asked v a.entries × MeetsSince asked v a b
+pub meets-parts : (a b : Clauses) (asked v : ℕ → Bool) → Grows a b → Meets asked v b.entries → Meets asked v a.entries
+    × MeetsSince asked v a b
 meets-parts a b asked v g m = Meets-parts asked v a.entries (since a b) (rw (whole a b g) at m)
 
-pub meets-join : (a b : Clauses) (asked v : ℕ → Bool) → Grows a b → Meets asked v a.entries → MeetsSince asked v a b → Meets asked v b.entries
+-- a list is met where its front is and what was added
+pub meets-join : (a b : Clauses) (asked v : ℕ → Bool) → Grows a b → Meets asked v a.entries → MeetsSince asked v a b
+    → Meets asked v b.entries
 meets-join a b asked v g m n = rw (whole a b g) (Meets-append asked v a.entries (since a b) m n)
 
 agree-le : (m n : ℕ) (v w : ℕ → Bool) → m ≤ n → Agree n v w → Agree m v w
 agree-le m n v w h a k l = a k (omega arith)
 
+-- what rests on fewer variables rests on more
 pub local-le : {X : Type 0} (m n : ℕ) (S : (ℕ → Bool) → X → Type 0) → m ≤ n → IsLocal m S → IsLocal n S
 local-le m n S h l v w x a s = l v w x (agree-le m n v w h a) s
 
+-- both rest on them
 pub local-both : {X : Type 0} (n : ℕ) (S M : (ℕ → Bool) → X → Type 0) → IsLocal n S → IsLocal n M → IsLocal n (Both S M)
 local-both n S M l k v w x a s = (l v w x a s.0, k v w x a s.1)
 
+-- clauses that are added are in range
 pub in-range : (a b : Clauses) → Grows a b → AllInRange a.vars a.entries → AllInRange b.vars b.entries
 in-range a b g r = subst (AllInRange b.vars) (sym (whole a b g))
     (AllInRange-append b.vars a.entries (since a b) (AllInRange-le a.vars b.vars a.entries g.more r) g.in_range)

@@ -34,7 +34,8 @@ pub record Stage {X : Type 0} (old new : Clauses) (Spells More Right Rule : (ℕ
   pub local : IsLocal new.vars More
   pub more : (asked v : ℕ → Bool) (x : X) → Spells v x → Right asked x → MeetsSince asked v old new → More v x
   pub only : (asked v : ℕ → Bool) (x : X) → Spells v x → Right asked x → MeetsSince asked v old new → Rule asked x
-  pub each : (asked v : ℕ → Bool) (x : X) → Spells v x → Right asked x → Rule asked x → (w : ℕ → Bool) × Agree old.vars v w × MeetsSince asked w old new
+  pub each : (asked v : ℕ → Bool) (x : X) → Spells v x → Right asked x → Rule asked x → (w : ℕ → Bool) × Agree old.vars v w
+      × MeetsSince asked w old new
 
 -- each assignment that meets the clauses decodes to a right thing, and each right thing is the decoding of one
 pub record Decodes {X : Type 0} (list : Clauses) (decode : (ℕ → Bool) → X) (Right : (ℕ → Bool) → X → Type 0) : Type 0 where

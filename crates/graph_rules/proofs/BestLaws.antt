@@ -16,6 +16,7 @@ tied a b Less e below back = absurd cc
 tied a b Equal e below back = same_text a b (sym (texts_ties a b ∙ rw e refl))
 tied a b Greater e below back = absurd cc
 
+-- best graphs have one vector
 pub one_vector : (problem : Problem) (a b : Content) → IsWellFormed a → IsWellFormed b → IsOptimal problem a → IsOptimal problem b
     → vector problem a ≡ vector problem b
 one_vector problem a b g h best other =
@@ -24,6 +25,7 @@ one_vector problem a b g h best other =
     let turned : slice_cmp nat_cmp vb va ≡ ordering_reverse (slice_cmp nat_cmp va vb) = nat_list_cmp_total.antisymm vb va in
     tied va vb (slice_cmp nat_cmp va vb) refl (other.least a g best.is_valid) (ap is_lt (sym turned) ∙ best.least b h other.is_valid)
 
+-- the budget changes no vector
 pub budget_vector : (problem : Problem) (budget : ℕ) (graph : Content) → vector (with_budget budget problem) graph ≡ vector problem graph
 unfolding vector criteria entry_of version_weight is_deprecated other_values unused_defaults provider_weights
 budget_vector problem budget graph = refl

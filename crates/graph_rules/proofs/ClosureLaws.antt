@@ -27,8 +27,8 @@ use Rattle.problem.specs.OfConditionRules.Worlds.{recipe_of, rows}
 use Rattle.problem.specs.OfVirtuals.Virtuals.{is_virtual}
 use Rattle.problem.specs.OfConditionRules.Meets.{provides, row_provides}
 use Rattle.problem.specs.OfConditionRules.Holds.{asked_node}
-use Rattle.problem.specs.OfConditions.DependRow.{DependRow}
-use Rattle.problem.specs.OfConditions.Recipe.{Recipe}
+use Rattle.problem.specs.OfRecipeData.DependRow.{DependRow}
+use Rattle.problem.specs.OfRecipeData.Recipe.{Recipe}
 use Rattle.problem.specs.Problems.{world_of, recipe_at, depends_at, entry_of, externals_in, is_buildable_in, record_at, asked_by, Problem}
 use Rattle.graph_rules.specs.Built.{keeps_buildable, keeps_extra_edge, is_asked, asking, asked_kinds}
 use Rattle.graph_rules.specs.Kept.{same_attributes, installed_node, is_child, keeps_origin, keeps_kept}
@@ -225,6 +225,7 @@ module _ (problem : Problem) (graph : Content) (g : IsGraph graph) (k : keeps_al
     path_closed [] from to start steps = edge_closed from to steps.0 start
     path_closed (next ∷ over) from to start steps = path_closed over next to (edge_closed from next steps.0 start) steps.1
 
+    -- the name of each node is one of the closed names
     pub node-closed : (node : Node) → In node graph.nodes → among names node.name ≡ true
     unfolding keeps keeps_reachable is_closed
     node-closed node there =

@@ -38,6 +38,7 @@ compilers-same a b h =
     let version = bytes_eq-same a.version b.version parts.1 in
     λ i. record { name = name i; version = version i }
 
+-- variants that the test calls the same are equal
 pub variants-same : (a b : Variants) → same_variants a b ≡ true → a ≡ b
 variants-same = lists-same _ (λ v w h.
     let parts = and_parts (bytes_eq v.0 w.0) (pointwise bytes_eq v.1 w.1) h in
@@ -74,6 +75,7 @@ same-node a b h origin =
       origin = origin i;
     }
 
+-- an installed node that is kept is its record
 pub installed-is : (problem : Problem) (graph : Content) (node : Node) (hash : Text) → keeps_kept problem graph node ≡ true
     → node.origin ≡ Installed hash
     → (entry : Record) × (record_at problem hash ≡ Some entry) × (node.name ≡ entry.name)
@@ -86,6 +88,7 @@ installed-is problem graph node hash h is =
     let whole = same-node node (record (installed_node found.0) { origin = Installed hash }) same is in
     (found.0, found.1, ap (λ (n : Node). n.name) whole, whole)
 
+-- an external node that is kept is its completed entry
 pub external-is : (problem : Problem) (graph : Content) (node : Node) (place : ℕ) → keeps_kept problem graph node ≡ true
     → node.origin ≡ External place
     → (entry : ExternalEntry) × (slice_get (externals_in (entry_of problem node.name)) place ≡ Some entry)

@@ -47,14 +47,14 @@ module _ {K : Type 0} {R : K → K → Ordering} (t : IsTotalOrder R) where
   first_of-assoc : (p q r : K) → first_of (first_of p q) r ≡ first_of p (first_of q r)
   unfolding first_of
   first_of-assoc p q r =
-      by (before q p) (before r q) (before r p) refl refl refl
+      first_of-assoc-cases (before q p) (before r q) (before r p) refl refl refl
     where
-      by : (b c d : Bool) → before q p ≡ b → before r q ≡ c → before r p ≡ d
+      first_of-assoc-cases : (b c d : Bool) → before q p ≡ b → before r q ≡ c → before r p ≡ d
           → cond (before r (cond b q p)) r (cond b q p) ≡ cond (before (cond c r q) p) (cond c r q) p
-      by true true d qp rq rp = rw (rq, trans r q p rq qp) refl
-      by true false d qp rq rp = rw (rq, qp) refl
-      by false true d qp rq rp = refl
-      by false false d qp rq rp = rw (qp, not_before r q p rq qp) refl
+      first_of-assoc-cases true true d qp rq rp = rw (rq, trans r q p rq qp) refl
+      first_of-assoc-cases true false d qp rq rp = rw (rq, qp) refl
+      first_of-assoc-cases false true d qp rq rp = refl
+      first_of-assoc-cases false false d qp rq rp = rw (qp, not_before r q p rq qp) refl
 
 place_cmp : Place → Place → Ordering
 place_cmp a b = ordering_then (byte_cmp a.0 b.0) (nat_cmp a.1 b.1)
@@ -67,12 +67,14 @@ lesser-assoc : (p q r : Place) → lesser (lesser p (Some q)) (Some r) ≡ lesse
 unfolding place_cmp first_of before
 lesser-assoc p q r = first_of-assoc place_total p q r
 
+-- the lesser of three is the same however they are compared
 pub lesser_of-assoc : (a b c : Option Place) → lesser_of (lesser_of a b) c ≡ lesser_of a (lesser_of b c)
 lesser_of-assoc None b c = refl
 lesser_of-assoc (Some p) None c = refl
 lesser_of-assoc (Some p) (Some q) None = refl
 lesser_of-assoc (Some p) (Some q) (Some r) = ap Some (lesser-assoc p q r)
 
+-- the least of two lists is the lesser of their least
 pub least-append : (xs ys : List Place) → least (xs ++ ys) ≡ lesser_of (least xs) (least ys)
 least-append [] ys = refl
 least-append (p ∷ xs) ys = ap (λ more. Some (lesser p more)) (least-append xs ys) ∙ sym (lesser_of-assoc (Some p) (least xs) (least ys))

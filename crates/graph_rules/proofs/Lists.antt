@@ -20,17 +20,20 @@ In x (y ∷ ys) = (x ≡ y) ⊎ In x ys
 module _ {X : Type 0} where
   -- ---- all
 
+  -- what all pass each passes
   pub list_all-each : (p : X → Bool) (xs : List X) (x : X) → list_all p xs ≡ true → In x xs → p x ≡ true
   list_all-each p [] x all none = absurd none
   list_all-each p (y ∷ ys) x all (inl same) = ap p same ∙ (and_parts (p y) (list_all p ys) all).0
   list_all-each p (y ∷ ys) x all (inr later) = list_all-each p ys x (and_parts (p y) (list_all p ys) all).1 later
 
+  -- what each passes all pass
   pub list_all-from : (p : X → Bool) (xs : List X) → ((x : X) → In x xs → p x ≡ true) → list_all p xs ≡ true
   list_all-from p [] each = refl
   list_all-from p (y ∷ ys) each = and_from (p y) (list_all p ys) (each y (inl refl)) (list_all-from p ys (λ x there. each x (inr there)))
 
   -- ---- a search
 
+  -- what is found stands in the list and passes
   pub find-in : (p : X → Bool) (xs : List X) (x : X) → find p xs ≡ Some x → In x xs × (p x ≡ true)
   find-in p [] x e = absurd (let no : None ≡ Some x = e in cc)
   find-in p (y ∷ ys) x e =
@@ -41,25 +44,30 @@ module _ {X : Type 0} where
 
   -- ---- lists put together
 
+  -- what stands in the first of two lists stands in both
   pub In-left : (xs ys : List X) (x : X) → In x xs → In x (xs ++ ys)
   In-left [] ys x none = absurd none
   In-left (z ∷ zs) ys x (inl same) = inl same
   In-left (z ∷ zs) ys x (inr later) = inr (In-left zs ys x later)
 
+  -- what stands in the second of two lists stands in both
   pub In-right : (xs ys : List X) (x : X) → In x ys → In x (xs ++ ys)
   In-right [] ys x there = there
   In-right (z ∷ zs) ys x there = inr (In-right zs ys x there)
 
+  -- the image of what stands in a list stands in its image
   pub In-map : {Y : Type 0} (f : X → Y) (xs : List X) (x : X) → In x xs → In (f x) (map f xs)
   In-map f [] x none = absurd none
   In-map f (z ∷ zs) x (inl same) = inl (ap f same)
   In-map f (z ∷ zs) x (inr later) = inr (In-map f zs x later)
 
+-- what stands in one of the lists stands in all of them
 pub In-flat_map : {X Y : Type 0} (f : X → List Y) (xs : List X) (x : X) (y : Y) → In x xs → In y (f x) → In y (flat_map f xs)
 In-flat_map f [] x y none there = absurd none
 In-flat_map f (z ∷ zs) x y (inl same) there = In-left (f z) (flat_map f zs) y (subst (λ w. In y (f w)) same there)
 In-flat_map f (z ∷ zs) x y (inr later) there = In-right (f z) (flat_map f zs) y (In-flat_map f zs x y later there)
 
+-- what stands in an image is the image of something
 pub from_map : {X Y : Type 0} (f : X → Y) (xs : List X) (y : Y) → In y (map f xs) → (x : X) × In x xs × (y ≡ f x)
 from_map f [] y none = absurd none
 from_map f (x ∷ xs) y (inl same) = (x, inl refl, same)
@@ -86,6 +94,7 @@ in-any p (y ∷ ys) x (inr later) h = or_right (p y) (list_any p ys) (in-any p y
 
 -- ---- a filter
 
+-- what is left by a test stood there and passes
 pub from_filter : {X : Type 0} (p : X → Bool) (xs : List X) (x : X) → In x (filter p xs) → In x xs × (p x ≡ true)
 from_filter p [] x none = absurd none
 from_filter p (y ∷ ys) x there =
@@ -134,12 +143,15 @@ and_then f (Some x) y e = (x, refl, e)
 
 -- ---- texts
 
+-- texts that the test calls equal are equal
 pub bytes_eq-same : (a b : List ℕ) → bytes_eq a b ≡ true → a ≡ b
 bytes_eq-same a b = (bytes_decides a b).0
 
+-- a text is equal to itself by the test
 pub bytes_eq-itself : (a : List ℕ) → bytes_eq a a ≡ true
 bytes_eq-itself a = (bytes_decides a a).1 refl
 
+-- a text that the test finds among some stands there
 pub In-among : (texts : List Text) (text : Text) → among texts text ≡ true → In text texts
 In-among [] text h = absurd cc
 In-among (t ∷ ts) text h =
@@ -151,11 +163,13 @@ In-among (t ∷ ts) text h =
 
 -- ---- nodes by their names
 
+-- what stands in a list is contained in it
 pub In-contains : {X : Type 0} (xs : List X) (x : X) → In x xs → Contains xs x
 In-contains [] x none = absurd none
 In-contains (y ∷ ys) x (inl same) = subst (Contains (y ∷ ys)) (sym same) (has_first y ys)
 In-contains (y ∷ ys) x (inr later) = has_later y ys x (In-contains ys x later)
 
+-- what is contained in a list stands in it
 pub contains-In : {X : Type 0} (xs : List X) (x : X) → Contains xs x → In x xs
 contains-In [] x there = absurd (omega (arith, there.1))
 contains-In (y ∷ ys) x there = ⊎_elim (λ same. inl (sym same)) (λ later. inr (contains-In ys x later)) (first_or_later y ys x there)

@@ -69,12 +69,14 @@ module _ {K : Type 0} {R : K → K → Ordering} (t : IsTotalOrder R) where
       let rest : count_by (λ other. is_lt (R other x)) ys ≡ k = in_sort ys k x (sorted_tail R y ys order) is in
       sum_by-cons (one_if x) y ys ∙ omega (arith, first, rest)
 
+  -- as many come before an element as its place in the sort says
   pub place_in_sort : (xs sorted : List K) (k : ℕ) (x : K) → IsPermutation xs sorted → IsStrictlySortedBy R sorted
       → slice_get sorted k ≡ Some x → count_by (λ other. is_lt (R other x)) xs ≡ k
   place_in_sort xs sorted k x moved order is = sym (sum_by-IsPermutation _ xs sorted moved) ∙ in_sort sorted k x order is
 
 -- ---- the sort of declared versions
 
+-- the order of rows is total
 pub row_cmp_total : IsTotalOrder version_cmp → (lists : List (List Range)) → IsTotalOrder (row_cmp lists)
 unfolding row_cmp
 row_cmp_total versions lists =

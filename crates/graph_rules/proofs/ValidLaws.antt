@@ -12,11 +12,11 @@ use Rattle.problem.specs.OfGraphCore.Node.{Node}
 use Rattle.problem.proofs.OfKeyedLists.TextLaws.{texts_decide}
 use Rattle.graph_rules.proofs.Lists.{In, list_all-each, list_all-from, find-in, node-itself, In-left, In-right, In-map, In-flat_map}
 use Rattle.problem.specs.OfConditionRules.Worlds.{recipe_of, rows}
-use Rattle.problem.specs.OfConditions.Recipe.{Recipe}
+use Rattle.problem.specs.OfRecipeData.Recipe.{Recipe}
 use Rattle.problem.specs.Problems.{recipe_at, depends_at, conflicts_at, requirements_at, Problem}
 use Rattle.graph_rules.specs.Directives.{keeps_root, keeps_edge, keeps_constraint, keeps_conflict, keeps_requirement}
 use Rattle.graph_rules.specs.Valid.{keeps, keeps_all, each_built, structure_rules, all_rules, valid, valid_for, keeps_demand, keeps_directive}
-use Rattle.problem.specs.OfConditions.Right.{numbers_of}
+use Rattle.problem.specs.OfRecipeData.Right.{numbers_of}
 use Rattle.problem.specs.Demands.{demands}
 use Rattle.graph_rules.specs.declared.rule.Rule.{Rule}
 use Rattle.graph_rules.specs.declared.rule.Rule.TheVariants as rules
@@ -25,14 +25,17 @@ use Rattle.problem.specs.declared.demand.Demand.TheVariants as demand
 
 -- ---- implies
 
+-- what is implied holds where the premise does
 pub implied : (a b : Bool) → implies a b ≡ true → a ≡ true → b ≡ true
 implied true b h is = h
 implied false b h is = absurd cc
 
+-- an implication, from a proof under its premise
 pub implies-from : (a b : Bool) → (a ≡ true → b ≡ true) → implies a b ≡ true
 implies-from true b h = h refl
 implies-from false b h = refl
 
+-- a test of all built nodes at one of them
 pub at_built : (test : Node → Bool) (graph : Content) (node : Node) → each_built test graph ≡ true → In node graph.nodes
     → is_built node ≡ true → test node ≡ true
 at_built test graph node all there built =
@@ -45,6 +48,7 @@ built_from test graph each = list_all-from (λ n. implies (is_built n) (test n))
 
 -- ---- numbers, places and rows
 
+-- what stands at a place stands in the list
 pub slice_get-in : {X : Type 0} (xs : List X) (k : ℕ) (x : X) → slice_get xs k ≡ Some x → In x xs
 slice_get-in [] k x e = absurd (let no : None ≡ Some x = e in cc)
 slice_get-in (y ∷ ys) zero x e = inl (let same : y ≡ x = cc in sym same)
@@ -104,6 +108,7 @@ row-of field (Some recipe) row there = (recipe, refl, there)
 
 -- ---- a valid graph keeps each demand
 
+-- each rule stands in the list of all
 pub stands : (rule : Rule) → In rule all_rules
 stands rules.Root = slice_get-in all_rules 0 rules.Root refl
 stands rules.Buildable = slice_get-in all_rules 1 rules.Buildable refl
@@ -122,6 +127,7 @@ stands rules.UnusedProvider = slice_get-in all_rules 13 rules.UnusedProvider ref
 stands rules.Cycle = slice_get-in all_rules 14 rules.Cycle refl
 stands rules.Unreachable = slice_get-in all_rules 15 rules.Unreachable refl
 
+-- a valid graph keeps each rule
 pub rule-of : (problem : Problem) (graph : Content) (rule : Rule) → valid problem graph ≡ true → keeps rule problem graph ≡ true
 unfolding valid
 rule-of problem graph rule v = list_all-each (λ r. keeps r problem graph) all_rules rule v (stands rule)
@@ -163,11 +169,13 @@ at-node problem graph name number v =
       | Some node ↦ λ e. implies-from (is_built node) _ (directive-kept problem graph number node v (find-in _ graph.nodes node e).0)
     ] refl
 
+-- a valid graph keeps each demand
 pub demand-kept : (problem : Problem) (graph : Content) (asked : Demand) → valid problem graph ≡ true
     → keeps_demand problem graph asked ≡ true
 demand-kept problem graph (demand.Root place) v = root-kept problem graph place v
 demand-kept problem graph (demand.Directive name number) v = at-node problem graph name number v
 
+-- a valid graph is valid for any demands
 pub valid-for_any : (problem : Problem) (graph : Content) (asked : List Demand) → valid problem graph ≡ true
     → valid_for asked problem graph ≡ true
 unfolding valid_for
@@ -231,9 +239,6 @@ requirement-number : (recipe : Recipe) (n : ℕ) → In n (map (λ row. row.numb
 requirement-number recipe n there =
     fold-has _ [] n (In-right (map (λ row. row.number) recipe.depends ++ map (λ row. row.number) recipe.conflicts) _ n there)
 
-itself : (n : ℕ) → (n == n) ≡ true
-itself n = eq-eqb n n refl
-
 module _ (problem : Problem) (graph : Content) (g : IsGraph graph) (v : valid_for (demands problem) problem graph ≡ true) where
   depend-from : (node : Node) → In node graph.nodes → is_built node ≡ true → (row : _) → In row (depends_at problem node.name)
       → (keeps_edge problem graph node row && keeps_constraint problem graph node row) ≡ true
@@ -242,7 +247,7 @@ module _ (problem : Problem) (graph : Content) (g : IsGraph graph) (v : valid_fo
       let kept = directive-from problem graph node of.0 row.number g v there built of.1
       (depend-number of.0 row.number (In-map (λ r. r.number) of.0.depends row of.2)) in
       implied (row.number == row.number) _ (list_all-each _ (depends_at problem node.name) row (and_parts _ _ (and_parts _ _ kept).0).0 is)
-      (itself row.number)
+      (eq-eqb row.number row.number refl)
 
   conflict-from : (node : Node) → In node graph.nodes → is_built node ≡ true → (row : _) → In row (conflicts_at problem node.name)
       → keeps_conflict problem graph node row ≡ true
@@ -251,7 +256,7 @@ module _ (problem : Problem) (graph : Content) (g : IsGraph graph) (v : valid_fo
       let kept = directive-from problem graph node of.0 row.number g v there built of.1
       (conflict-number of.0 row.number (In-map (λ r. r.number) of.0.conflicts row of.2)) in
       implied (row.number == row.number) _ (list_all-each _ (conflicts_at problem node.name) row (and_parts _ _ (and_parts _ _ kept).0).1
-      is) (itself row.number)
+      is) (eq-eqb row.number row.number refl)
 
   requirement-from : (node : Node) → In node graph.nodes → is_built node ≡ true → (row : _) → In row (requirements_at problem node.name)
       → keeps_requirement problem graph node row ≡ true
@@ -260,7 +265,7 @@ module _ (problem : Problem) (graph : Content) (g : IsGraph graph) (v : valid_fo
       let kept = directive-from problem graph node of.0 row.number g v there built of.1
       (requirement-number of.0 row.number (In-map (λ r. r.number) of.0.requirements row of.2)) in
       implied (row.number == row.number) _ (list_all-each _ (requirements_at problem node.name) row (and_parts _ _ kept).1 is)
-      (itself row.number)
+      (eq-eqb row.number row.number refl)
 
   edges-from : keeps rules.Edge problem graph ≡ true
   unfolding keeps
@@ -303,6 +308,7 @@ module _ (problem : Problem) (graph : Content) (g : IsGraph graph) (v : valid_fo
   each-from rules.Cycle = structure-from rules.Cycle (slice_get-in structure_rules 9 rules.Cycle refl)
   each-from rules.Unreachable = structure-from rules.Unreachable (slice_get-in structure_rules 10 rules.Unreachable refl)
 
+  -- a graph that is valid for all demands is valid
   pub valid-from_demands : valid problem graph ≡ true
   unfolding valid
   valid-from_demands = list_all-from (λ rule. keeps rule problem graph) all_rules (λ rule _. each-from rule)

@@ -7,12 +7,13 @@ use Rattle.std.specs.Ordering.{match_ordering}
 use Rattle.std.specs.declared.cmp.Ordering.TheVariants.{Less, Equal, Greater}
 use Rattle.std.specs.Cmp.Lexicographic.{nat_list_eq_equiv, texts_ties, same_text}
 use Rattle.std.specs.BTreeSet.{insert_key}
+use Rattle.std.proofs.Math.Bool.{or-false, and-true, and-false}
 use Rattle.problem.specs.OfVariantValues.Texts.{byte_cmp, with_text, with_texts}
 use Rattle.problem.specs.OfGraphCore.Graphs.{Text, Content}
 use Rattle.problem.specs.OfConditionRules.Words.{among, find_last}
 use Rattle.problem.specs.OfGraphCore.Node.{Node}
 use Rattle.problem.specs.OfConditionRules.Holds.{governing}
-use Rattle.problem.specs.OfConditions.VariantRow.{VariantRow}
+use Rattle.problem.specs.OfRecipeData.VariantRow.{VariantRow}
 use Rattle.problem.specs.Problems.{world_of, variants_at, applies, Problem}
 use Rattle.graph_rules.specs.Built.{governed}
 
@@ -27,10 +28,6 @@ or_swap true true c = refl
 or_swap true false c = refl
 or_swap false true c = refl
 or_swap false false c = refl
-
-or_none : (a : Bool) → (a || false) ≡ a
-or_none true = refl
-or_none false = refl
 
 -- ---- texts put together
 
@@ -89,18 +86,11 @@ with_key key p [] text = refl
 with_key key p (x ∷ xs) text =
     elim (p x) as (λ b. ((bytes_eq (key x) text && b) || list_any (λ y. bytes_eq (key y) text && p y) xs)
     ≡ among (map key (cond b (x ∷ filter p xs) (filter p xs))) text) [
-      | true ↦ rw (and_yes (bytes_eq (key x) text), nat_list_eq_equiv.symm (key x) text, with_key key p xs text) refl
-      | false ↦ rw (and_never (bytes_eq (key x) text), with_key key p xs text) refl
+      | true ↦ rw (and-true (bytes_eq (key x) text), nat_list_eq_equiv.symm (key x) text, with_key key p xs text) refl
+      | false ↦ rw (and-false (bytes_eq (key x) text), with_key key p xs text) refl
     ]
-  where
-    and_yes : (a : Bool) → (a && true) ≡ a
-    and_yes true = refl
-    and_yes false = refl
 
-    and_never : (a : Bool) → (a && false) ≡ false
-    and_never true = refl
-    and_never false = refl
-
+-- a variant is governed exactly where a row governs it
 pub governed-governing : (problem : Problem) (graph : Content) (node : Node) (variant : Text)
     → among (governed problem graph node) variant ≡ is_some (governing (world_of problem) graph node.name variant)
 unfolding governing
@@ -108,6 +98,6 @@ governed-governing problem graph node variant =
     let rows = variants_at problem node.name in
     let holding : VariantRow → Bool = λ row. applies problem graph row.when node in
     among-with_texts [] (map (λ row. row.name) (filter holding rows)) variant
-    ∙ or_none (among (map (λ row. row.name) (filter holding rows)) variant)
+    ∙ or-false (among (map (λ row. row.name) (filter holding rows)) variant)
     ∙ sym (with_key (λ row. row.name) holding rows variant)
     ∙ sym (is_some-find_last (λ row. bytes_eq row.name variant && holding row) rows)

@@ -44,6 +44,7 @@ premise_of_each true test rows = refl
 premise_of_each false test [] = refl
 premise_of_each false test (row ∷ rows) = premise_of_each false test rows
 
+-- no row fails exactly where all rows are kept
 pub failing_rows : {R : Type 0} (rows_at : Text → List R) (number : R → ℕ) (test : Node → R → Bool) (nodes : List Node)
     → list_all (λ node. implies (is_built node) (list_all (test node) (rows_at node.name))) nodes
     ≡ is_empty {X =
@@ -67,6 +68,7 @@ failing_roots test place (spec ∷ specs) =
 
 -- ---- the rules
 
+-- a rule is kept exactly where it is broken nowhere
 pub keeps-breaks : (rule : Rule) (problem : Problem) (graph : Content) → keeps rule problem graph ≡ is_empty (breaks rule problem graph)
 unfolding keeps breaks_of
 keeps-breaks rules.Root problem graph = failing_roots (keeps_root problem graph) 0 problem.roots
@@ -104,10 +106,12 @@ none_broken (rule ∷ more) problem graph =
     step rule (breaks rule problem graph) (first_broken all_asked more problem graph)
     ∙ rw (sym (keeps-breaks rule problem graph), none_broken more problem graph) refl
 
+-- a verdict that the test calls valid is Valid
 pub is_valid-from : (v : Verdict) → is_valid v ≡ true → v ≡ verdicts.Valid
 is_valid-from verdicts.Valid h = refl
 is_valid-from (verdicts.Broken rule name number) h = absurd cc
 
+-- a graph is valid exactly where the verdict is Valid
 pub valid-verdict : (problem : Problem) (graph : Content) → (valid problem graph ≡ true) ↔ (verdict problem graph ≡ verdicts.Valid)
 unfolding valid verdict_of
 valid-verdict problem graph =
@@ -118,6 +122,7 @@ is_empty-from : {X : Type 0} (xs : List X) → is_empty xs ≡ true → xs ≡ [
 is_empty-from [] h = refl
 is_empty-from (x ∷ xs) h = absurd cc
 
+-- a rule that is kept is broken nowhere, and the other way round
 pub kept-nowhere : (rule : Rule) (problem : Problem) (graph : Content) → (keeps rule problem graph ≡ true)
     ↔ (breaks rule problem graph ≡ [])
 kept-nowhere rule problem graph =

@@ -11,9 +11,9 @@ use Rattle.problem.specs.OfGraphCore.Node.{Node}
 use Rattle.problem.specs.OfGraphCore.Edge.{Edge}
 use Rattle.problem.specs.OfGraphCore.Kinds.{Kinds}
 use Rattle.problem.specs.OfConditionRules.Holds.{governing}
-use Rattle.problem.specs.OfConditions.VariantRow.{VariantRow}
-use Rattle.problem.specs.OfConditions.DependRow.{DependRow}
-use Rattle.problem.specs.OfConditions.Right.{is_count_of}
+use Rattle.problem.specs.OfRecipeData.VariantRow.{VariantRow}
+use Rattle.problem.specs.OfRecipeData.DependRow.{DependRow}
+use Rattle.problem.specs.OfRecipeData.Right.{is_count_of}
 use Rattle.problem.specs.Problems.{world_of, recipe_at, versions_at, variants_at, depends_at, entry_of, is_buildable_in, same_compiler, applies, asked_by, Problem}
 use Rattle.problem.specs.OfSiteSettings.CompilerEntry.{CompilerEntry}
 

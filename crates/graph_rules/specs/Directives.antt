@@ -7,9 +7,9 @@ use Rattle.problem.specs.OfGraphCore.Graphs.{Content, edge_of}
 use Rattle.problem.specs.Nodes.{covers}
 use Rattle.problem.specs.OfGraphCore.Node.{Node}
 use Rattle.problem.specs.OfConditionRules.Holds.{holds, asked_node, suits}
-use Rattle.problem.specs.OfConditions.DependRow.{DependRow}
-use Rattle.problem.specs.OfConditions.ConflictRow.{ConflictRow}
-use Rattle.problem.specs.OfConditions.RequireRow.{RequireRow}
+use Rattle.problem.specs.OfRecipeData.DependRow.{DependRow}
+use Rattle.problem.specs.OfRecipeData.ConflictRow.{ConflictRow}
+use Rattle.problem.specs.OfRecipeData.RequireRow.{RequireRow}
 use Rattle.problem.specs.Problems.{world_of, applies, asked_by, Problem}
 
 -- Root: the spec's name is a node, and the spec holds there

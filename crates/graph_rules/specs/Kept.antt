@@ -13,7 +13,7 @@ use Rattle.problem.specs.OfGraphCore.Edge.{Edge}
 use Rattle.problem.specs.OfGraphCore.Kinds.{Kinds}
 use Rattle.problem.specs.OfGraphCore.Origin.{Origin}
 use Rattle.problem.specs.OfGraphCore.OriginVariants.{Built, External, Installed}
-use Rattle.problem.specs.OfConditions.VariantRow.{VariantRow}
+use Rattle.problem.specs.OfRecipeData.VariantRow.{VariantRow}
 use Rattle.problem.specs.Problems.{variants_at, entry_of, externals_in, same_compiler, record_at, Problem}
 use Rattle.problem.specs.OfSiteSettings.ExternalEntry.{ExternalEntry}
 use Rattle.problem.specs.OfReuseDb.Record.{Record}

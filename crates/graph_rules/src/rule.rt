@@ -1,4 +1,4 @@
-// The rules of a valid graph.
+//! The rules of a valid graph.
 
 use plain_data::Word;
 
@@ -28,9 +28,9 @@ pub enum Rule {
 pub enum Verdict {
     /// No rule is broken.
     Valid,
-    /// The first broken rule, there the least node by bytes, and there the least number of a directive. The number
-    /// is 0 for a rule without directives and the root's place for `Rule::Root`. For `Rule::Provider` and
-    /// `Rule::UnusedProvider` the node is the virtual.
+    /// The first broken rule, there the least node by bytes, and there the least number of a
+    /// directive. The number is 0 for a rule without directives and the root's place for
+    /// `Rule::Root`. For `Rule::Provider` and `Rule::UnusedProvider` the node is the virtual.
     Broken {
         rule: Rule,
         node: Word,

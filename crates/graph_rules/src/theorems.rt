@@ -1,9 +1,10 @@
-// What holds of all problems and graphs. The bodies are empty: what is proved are the contracts.
+//! What holds of all problems and graphs. The bodies are empty: what is proved are the contracts.
 ghost use Rattle.std.specs.Prelude.{◌≡◌, ◌↔◌, ◌++◌, ℕ, List, [], true, Some, slice_get, is_some};
 ghost use Rattle.std.specs.List.{list_all};
 ghost use Rattle.problem.specs.OfGraphCore.Graphs.{Text, Content, IsGraph, no_content};
 ghost use Rattle.problem.specs.OfConditionRules.Words.{among};
-ghost use Rattle.problem.specs.Problems.{world_of, entry_of, externals_in, record_at, with_budget, Problem};
+ghost use Rattle.problem.specs.Problems.{world_of, entry_of, externals_in, record_at, with_budget};
+ghost use Rattle.problem.specs.Problems.{Problem};
 ghost use Rattle.problem.specs.OfGraphCore.Node.{Node};
 ghost use Rattle.problem.specs.OfConditionRules.Holds.{governing};
 ghost use Rattle.graph_rules.specs.Built.{governed};
@@ -19,8 +20,8 @@ ghost use Rattle.problem.specs.OfReuseDb.Record.{Record};
 ghost use Rattle.problem.specs.OfSiteSettings.ExternalEntry.{ExternalEntry};
 ghost use Rattle.problem.specs.declared.demand.Demand.{Demand};
 
-/// A graph is valid exactly where it is valid for all demands, and then it is for fewer. The empty graph is
-/// valid for none. The budget changes nothing.
+/// A graph is valid exactly where it is valid for all demands, and then it is for fewer. The empty
+/// graph is valid for none. The budget changes nothing.
 pub fn valid_laws()
     ensures fewer { (problem : Problem) (graph : Content) (asked : List Demand)
         → valid problem graph ≡ true → valid_for asked problem graph ≡ true }

@@ -1,3 +1,5 @@
 pub mod Pointers
 pub mod Maps
 pub mod Raising
+pub mod Steps
+pub mod Once

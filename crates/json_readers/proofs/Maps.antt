@@ -9,6 +9,7 @@ moved : {T : Type 0} (done : List (List ℕ × T)) (key : List ℕ) (x : T) (res
 moved done key x (Ok ys) = ap Ok (sym (append_assoc done ((key, x) ∷ []) ys))
 moved done key x (Err fault) = refl
 
+-- one entry of a map more was read
 pub entries_more : {T : Type 0} (means : List ℕ → Option (List ℕ)) (read : Data → Reading T) (whole : Reading (List (List ℕ × T)))
     (done new : List (List ℕ × T)) (key word : List ℕ) (d : Data) (x : T) (ms : Members)
     → whole ≡ after_entries done (entries_of means read (member key d ms)) → entry_of means read key d ≡ Ok x → word ≡ key

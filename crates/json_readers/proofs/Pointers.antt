@@ -9,6 +9,7 @@ append-nil : (xs : List ℕ) → xs ++ [] ≡ xs
 append-nil [] = refl
 append-nil (x ∷ xs) = ap (λ l. x ∷ l) (append-nil xs)
 
+-- one character of a pointer more was written
 pub escaped_more : (front before after cs : List ℕ) (c : ℕ) → before ≡ front ++ encode_utf8_all (flat_map escaped cs)
     → after ≡ before ++ encode_utf8_all (escaped c)
     → after ≡ front ++ encode_utf8_all (flat_map escaped (cs ++ c ∷ []))

@@ -1,6 +1,7 @@
 //! What is wrong with a value, and where.
 
-ghost use Rattle.std.specs.Prelude.{◌≡◌, ◌∷◌, ◌++◌, [], decimal, Err, IfOk, OnOk, flat_map, string_bytes};
+ghost use Rattle.std.specs.Prelude.{◌≡◌, ◌∷◌, ◌++◌, [], decimal, Err, IfOk, OnOk, flat_map};
+ghost use Rattle.std.specs.Prelude.{string_bytes};
 ghost use Rattle.std.specs.Str.{chars, encode_utf8_all};
 ghost use Rattle.json_readers.specs.Faults.{Gives, escaped, misfit, pointed, Raises};
 ghost use Rattle.json_readers.specs.declared.fault.JsonFault.TheVariants.{OutOfMemory};
@@ -111,6 +112,7 @@ fn push_escaped(text: &mut String, key: &str) -> Result<(), AllocError>
     Ok(())
 }
 
+/// Puts a character of a key: `~` and `/` stand as `~0` and `~1` (RFC 6901).
 fn push_char(text: &mut String, c: char) -> Result<(), AllocError>
     ensures { OnOk result (string_bytes text.new ≡ string_bytes text.old
         ++ encode_utf8_all (escaped c)) }

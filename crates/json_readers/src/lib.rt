@@ -1,8 +1,10 @@
-//! Small readers of JSON values: each gives the typed value, or the first fault with its JSON pointer,
-//! in one pass.
+//! Small readers of JSON values: each gives the typed value, or the first fault with its JSON
+//! pointer, in one pass.
 //!
-//! What it is: readers of texts, numbers, lists, maps and the keys of objects, put together by types.
-//! What it promises: a reader gives what its ghost member `reads` computes, and want of memory besides.
+//! What it is: readers of texts, numbers, lists, maps and the keys of objects, put together by
+//! types.
+//! What it promises: a reader gives what its ghost member `reads` computes, and want of memory
+//! besides.
 //! What it stands on: `plain_data` for what is kept, `serde_json` for the values.
 //! What it must not know: any file format, and what texts mean; callers bring the forms of texts.
 #![tactic(auto)]

@@ -86,6 +86,7 @@ pub fn distinct<K: Ord + Drop>(alloc: Global, keys: Vec<K>) -> Result<(), JsonFa
     }
 }
 
+/// The place of the first key that one before it equals.
 pub(crate) fn first_twice<K: Ord + Drop>(
     alloc: Global,
     keys: Vec<K>,

@@ -4,7 +4,8 @@ ghost use Rattle.std.specs.Prelude.{◌≡◌, option_map, is_some};
 ghost use Rattle.serde_json.specs.View.{view, members_view};
 ghost use Rattle.json_readers.specs.Faults.{Gives, seen_as};
 ghost use Rattle.json_readers.specs.Objects.{null_or};
-ghost use Rattle.json_readers.specs.Maps.{entries_of, entry_of, first_other, known_map_of, map_of, named};
+ghost use Rattle.json_readers.specs.Maps.{entries_of, entry_of, first_other, known_map_of, map_of};
+ghost use Rattle.json_readers.specs.Maps.{named};
 
 use crate::fault::{at_key, at_root, below};
 use crate::{JsonFault, Reader, TextForm, Wrong, members_of};
@@ -60,6 +61,7 @@ pub fn named<'v, F: TextForm>(
     }
 }
 
+/// The least key that has not the form.
 fn first_other<'v, F: TextForm>(members: &'v Map<String, Value>, form: &F) -> Option<&'v str>
     ensures { option_map (λ k. k.now) result
         ≡ first_other (F.means form.now) (members_view members.now.entries) }
@@ -81,6 +83,7 @@ fn fits<F: TextForm>(form: &F, text: &str) -> bool
     }
 }
 
+/// Each member, by the form of its key and the reader of its value.
 fn read_entries<T: Drop, F: TextForm, R: Reader<T>>(
     alloc: Global,
     members: &Map<String, Value>,

@@ -6,7 +6,9 @@ ghost use Rattle.std.specs.Str.{bytes_eq};
 ghost use Rattle.serde_json.specs.View.{view, members_view};
 ghost use Rattle.serde_json.specs.Find.{get_member};
 ghost use Rattle.json_readers.specs.Faults.{Gives, seen_as};
-ghost use Rattle.json_readers.specs.Objects.{need, may, known, members_of, unless_unknown, first_unknown, first_odd, field, none_odd, read_needed, read_optional};
+ghost use Rattle.json_readers.specs.Objects.{need, may, known, members_of, unless_unknown};
+ghost use Rattle.json_readers.specs.Objects.{first_unknown, first_odd, field, none_odd};
+ghost use Rattle.json_readers.specs.Objects.{read_needed, read_optional};
 
 use crate::fault::{at_key, at_root, below};
 use crate::{JsonFault, Reader, Wrong};
@@ -108,6 +110,7 @@ pub fn known<'v>(
     }
 }
 
+/// The least key that is none of these.
 fn first_unknown<'v>(members: &'v Map<String, Value>, keys: &[&str]) -> Option<&'v str>
     ensures { option_map (λ k. k.now) result
         ≡ first_unknown (map (λ k. k.now) keys.now) (members_view members.now.entries) }
@@ -120,6 +123,7 @@ fn first_unknown<'v>(members: &'v Map<String, Value>, keys: &[&str]) -> Option<&
     None
 }
 
+/// Whether a text is one of some.
 fn is_among(text: &str, texts: &[&str]) -> bool
     ensures { result ≡ list_any (bytes_eq text.now) (map (λ k. k.now) texts.now) }
 {

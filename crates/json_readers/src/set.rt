@@ -3,7 +3,8 @@
 ghost use Rattle.std.specs.Prelude.{◌≡◌, IfOk, option_map};
 ghost use Rattle.serde_json.specs.View.{view, items_view};
 ghost use Rattle.json_readers.specs.Faults.{Gives};
-ghost use Rattle.json_readers.specs.Sets.{read_as, text_by, texts_by, unrepeated, set_of, filled_by};
+ghost use Rattle.json_readers.specs.Sets.{read_as, text_by, texts_by, unrepeated, set_of};
+ghost use Rattle.json_readers.specs.Sets.{filled_by};
 
 use crate::fault::at_root;
 use crate::list::{first_twice, read_list};
@@ -12,8 +13,9 @@ use plain_data::{List, Word};
 use serde_json::Value;
 use std::alloc::{AllocError, Global};
 
-/// A list in which no text stands twice, or none at a key of the entries. Texts count by what they mean
-/// by the form. That comes before what is wrong with an entry, and is of the wrong kind at the list.
+/// A list in which no text stands twice, or none at a key of the entries. Texts count by what they
+/// mean by the form. That comes before what is wrong with an entry, and is of the wrong kind at the
+/// list.
 #[derive(Clone, Copy)]
 pub struct SetOf<F, R> {
     pub texts: F,
@@ -48,6 +50,7 @@ fn unrepeated<F: TextForm>(
     }
 }
 
+/// The texts of the items that have one, each as the form reads it.
 fn texts_by<F: TextForm>(
     alloc: Global,
     form: &F,

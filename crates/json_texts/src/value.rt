@@ -10,8 +10,8 @@ ghost use Rattle.json_texts.specs.Forms.{value_meaning, plain_meaning};
 use json_readers::TextForm;
 use spec_grammar::is_name_byte;
 
-/// VALUE: letters, digits and `_ - + . : /`, one or more. `True` means `true`, `False` means `false`,
-/// and every other value itself.
+/// VALUE: letters, digits and `_ - + . : /`, one or more. `True` means `true`, `False` means
+/// `false`, and every other value itself.
 #[derive(Clone, Copy)]
 pub struct Value;
 
@@ -43,6 +43,7 @@ impl TextForm for PlainValue {
     }
 }
 
+/// `True` and `False` as they mean.
 fn truth(text: &str) -> &str
     ensures { result.now ≡ truth text.now }
 {

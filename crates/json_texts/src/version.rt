@@ -27,6 +27,7 @@ impl Reader<Version> for VersionText {
     }
 }
 
+/// A version, or the wrong kind where the text is none.
 fn read_version(alloc: Global, text: &str) -> Result<Version, JsonFault>
     ensures { Gives result (given (version_in text.now)) }
 {

@@ -20,20 +20,22 @@ use Rattle.keyed_lists.proofs.LookupLaws.{find_sound, same_lists}
 -- ---- what is given
 
 module _ {K X : Type 0} (given : K → Option X) where
+  -- each element of what is given at keys is what one of them gives
   pub given_at : (ks : List K) (x : X) → Contains (filter_map given ks) x → (k : K) × Contains ks k × (given k ≡ Some x)
   given_at [] x there = absurd (omega (arith, there.1))
-  given_at (k ∷ ks) x there = go (given k) refl there (given_at ks x)
+  given_at (k ∷ ks) x there = given_by_key (given k) refl there (given_at ks x)
     where
       later : ((j : K) × Contains ks j × (given j ≡ Some x)) → (j : K) × Contains (k ∷ ks) j × (given j ≡ Some x)
       later w = (w.0, has_later k ks w.0 w.1, w.2)
 
-      go : (r : Option X) → given k ≡ r → Contains (cons_option r (filter_map given ks)) x
+      given_by_key : (r : Option X) → given k ≡ r → Contains (cons_option r (filter_map given ks)) x
           → (Contains (filter_map given ks) x → (j : K) × Contains ks j × (given j ≡ Some x)) → (j : K) × Contains (k ∷ ks) j
           × (given j ≡ Some x)
-      go None is there rest = later (rest there)
-      go (Some y) is there rest = ⊎_elim (λ e. (k, has_first k ks, is ∙ ap (λ z. Some z) e)) (λ in_rest. later (rest in_rest))
+      given_by_key None is there rest = later (rest there)
+      given_by_key (Some y) is there rest = ⊎_elim (λ e. (k, has_first k ks, is ∙ ap (λ z. Some z) e)) (λ in_rest. later (rest in_rest))
           (first_or_later y (filter_map given ks) x there)
 
+  -- a test of all that is given, as a test at each key
   pub list_all-filter_map : (test : X → Bool) (ks : List K)
       → list_all test (filter_map given ks) ≡ list_all (λ k. passes_or_none test (given k)) ks
   list_all-filter_map test [] = refl
@@ -46,6 +48,7 @@ module _ {K X : Type 0} (given : K → Option X) where
             ap (λ b. test x && b) rest
       ]
 
+  -- a sum over all that is given, as a sum over the keys
   pub sum_by-filter_map : (cost : X → ℕ) (ks : List K) → sum_by cost (filter_map given ks) ≡ sum_by (λ k. adds_or_none cost (given k)) ks
   sum_by-filter_map cost [] = refl
   sum_by-filter_map cost (k ∷ ks) = step (given k) (filter_map given ks) (sum_by (λ j. adds_or_none cost (given j)) ks)
@@ -55,6 +58,7 @@ module _ {K X : Type 0} (given : K → Option X) where
       step None xs n e = omega (arith, e)
       step (Some x) xs n e = sum_by-cons cost x xs ∙ omega (arith, e)
 
+-- what agrees at each of the keys gives the same list
 pub filter_map-agree : {K X : Type 0} (f g : K → Option X) (ks : List K) → ((k : K) → Contains ks k → f k ≡ g k)
     → filter_map f ks ≡ filter_map g ks
 filter_map-agree f g [] same = refl
@@ -65,18 +69,20 @@ module _ {X K : Type 0} {R : K → K → Ordering} (o : IsTotalOrder R) (exact :
   not_tied a b less e = let both : Less ≡ Equal = sym less ∙ ap (R a) (sym e) ∙ tied_itself o a in cc
 
   module _ (given : K → Option X) (keyed : IsKeyed key given) where
+    -- what is given at keys that rise is in order
     pub in_order-filter_map : (ks : List K) → IsStrictlySortedBy R ks → IsInOrder R key (filter_map given ks)
     in_order-filter_map [] rising = rises_none R
-    in_order-filter_map (k ∷ ks) rising = go (given k) refl (in_order-filter_map ks (rises_rest R k ks rising))
+    in_order-filter_map (k ∷ ks) rising = in_order_by_key (given k) refl (in_order-filter_map ks (rises_rest R k ks rising))
       where
-        go : (r : Option X) → given k ≡ r → IsInOrder R key (filter_map given ks) → IsInOrder R key (cons_option r (filter_map given ks))
-        go None is rest = rest
-        go (Some x) is rest = rises_more R (key x) (map key (filter_map given ks)) (λ j there.
+        in_order_by_key : (r : Option X) → given k ≡ r → IsInOrder R key (filter_map given ks) → IsInOrder R key (cons_option r (filter_map given ks))
+        in_order_by_key None is rest = rest
+        in_order_by_key (Some x) is rest = rises_more R (key x) (map key (filter_map given ks)) (λ j there.
             let from = image_of key (filter_map given ks) j there in
             let at = given_at given ks from.0 from.1 in
             let is_j : at.0 ≡ j = sym (keyed at.0 from.0 at.2) ∙ from.2 in
             rw (keyed k x is) (subst (λ u. R k u ≡ Less) is_j (rises_above R k ks rising at.0 at.1))) rest
 
+    -- what is given at keys that rise is looked up as it was given
     pub find-filter_map : (ks : List K) (k : K) → IsStrictlySortedBy R ks → Contains ks k → find_key R key (filter_map given ks) k ≡ given k
     find-filter_map [] k rising there = absurd (omega (arith, there.1))
     find-filter_map (j ∷ js) k rising there = ⊎_elim (λ e. here (given j) refl e)
@@ -101,9 +107,11 @@ module _ {X K : Type 0} {R : K → K → Ordering} (o : IsTotalOrder R) (exact :
 
   -- ---- each list in order is what it gives at keys among which its own are
 
+  -- what is found at a key has that key
   pub keyed_found : (xs : List X) → IsKeyed key (find_key R key xs)
   keyed_found xs k x found = (find_sound o exact key xs k x found).1
 
+  -- a list in order is what its look-ups give, at keys among which its own are
   pub is_given : (ks : List K) (xs : List X) → IsStrictlySortedBy R ks → IsInOrder R key xs → All (λ x. Contains ks (key x)) xs
       → xs ≡ filter_map (find_key R key xs) ks
   is_given ks xs rising ordered within = same_lists o exact key xs again ordered

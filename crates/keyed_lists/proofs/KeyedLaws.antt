@@ -23,6 +23,7 @@ use Rattle.keyed_lists.specs.Keyed.{IsInOrder, find_key, with_one, IsPlaceOf, Is
 module _ {X K : Type 0} {R : K → K → Ordering} (o : IsTotalOrder R) (exact : IsAntisymmetric R) (key : X → K) where
   -- ---- one more element
 
+  -- the keys with one element more are the keys with one key more
   pub keys-with_one : (xs : List X) (x : X) → map key (with_one R key xs x) ≡ insert_key R (map key xs) (key x)
   keys-with_one [] x = refl
   keys-with_one (y ∷ ys) x =
@@ -33,9 +34,11 @@ module _ {X K : Type 0} {R : K → K → Ordering} (o : IsTotalOrder R) (exact :
         | Greater ↦ ap (λ l. key y ∷ l) (keys-with_one ys x)
       ]
 
+  -- one element more keeps the order
   pub in_order-with_one : (xs : List X) (x : X) → IsInOrder R key xs → IsInOrder R key (with_one R key xs x)
   in_order-with_one xs x ordered = rw (keys-with_one xs x) (IsStrictlySortedBy-insert_key o (map key xs) (key x) ordered)
 
+  -- what holds of all elements and of one more holds of all with that one
   pub all-with_one : (P : X → Type 0) (xs : List X) (x : X) → All P xs → P x → All P (with_one R key xs x)
   all-with_one P [] x all this = All-cons P x [] this all
   all-with_one P (y ∷ ys) x all this =
@@ -49,16 +52,17 @@ module _ {X K : Type 0} {R : K → K → Ordering} (o : IsTotalOrder R) (exact :
   turned : (a b : K) (r : Ordering) → R a b ≡ r → R b a ≡ ordering_reverse r
   turned a b r e = o.antisymm b a ∙ ap ordering_reverse e
 
+  -- an element put where its key would stand is one element more
   pub insert-at_gap : (xs : List X) (x : X) (i : ℕ) → IsGapFor R key xs (key x) i → insert xs i x ≡ with_one R key xs x
-  insert-at_gap xs x i gap = go xs i gap.within gap.parted
+  insert-at_gap xs x i gap = inserted_at xs i gap.within gap.parted
     where
-      go : (xs : List X) (i : ℕ) → i ≤ length xs → IsPartitionPoint (λ u. R (key u) (key x) ≡ Less) (λ u. R (key u) (key x) ≡ Greater) xs i
+      inserted_at : (xs : List X) (i : ℕ) → i ≤ length xs → IsPartitionPoint (λ u. R (key u) (key x) ≡ Less) (λ u. R (key u) (key x) ≡ Greater) xs i
           → insert xs i x ≡ with_one R key xs x
-      go [] zero le parted = refl
-      go [] (suc i) le parted = absurd (omega (arith, le))
-      go (y ∷ ys) zero le parted = rw (turned (key y) (key x) Greater (parted.1 0 x (omega arith) (omega arith))) refl
-      go (y ∷ ys) (suc i) le parted =
-          let rest = go ys i (omega (arith, le)) (
+      inserted_at [] zero le parted = refl
+      inserted_at [] (suc i) le parted = absurd (omega (arith, le))
+      inserted_at (y ∷ ys) zero le parted = rw (turned (key y) (key x) Greater (parted.1 0 x (omega arith) (omega arith))) refl
+      inserted_at (y ∷ ys) (suc i) le parted =
+          let rest = inserted_at ys i (omega (arith, le)) (
             λ n d a b. parted.0 (suc n) d (omega arith) (omega arith),
             λ n d a b. parted.1 (suc n) d
                 (omega arith) (omega arith),
@@ -67,6 +71,7 @@ module _ {X K : Type 0} {R : K → K → Ordering} (o : IsTotalOrder R) (exact :
 
   -- ---- where a binary search ends
 
+  -- the key at an earlier place is below the one at a later place
   pub key_less : (xs : List X) (i j : ℕ) (d : X) → IsInOrder R key xs → i < j → j < length xs
       → R (key (get_or xs i d)) (key (get_or xs j d)) ≡ Less
   key_less xs i j d ordered lt within =
@@ -78,6 +83,7 @@ module _ {X K : Type 0} {R : K → K → Ordering} (o : IsTotalOrder R) (exact :
   rising xs k ordered = searchable_from_sorted o key xs k
       (λ i d a b. ap is_lt (turned _ _ Less (key_less xs i (i + 1) d ordered (omega arith) b)))
 
+  -- where a binary search ends is the place of the key or the gap for it
   pub search_ends : (xs : List X) (k : K) (r : Result ℕ ℕ) → IsInOrder R key xs → IsSearchInRange r (length xs)
       → IsBinarySearchResult (λ x. R (key x) k) xs r → MatchResult r (IsPlaceOf R key xs k) (IsGapFor R key xs k)
   search_ends xs k (Ok i) ordered within is = record { within = within; there = is }
@@ -85,6 +91,7 @@ module _ {X K : Type 0} {R : K → K → Ordering} (o : IsTotalOrder R) (exact :
 
   -- ---- look-ups
 
+  -- nothing is found where no element has the key
   pub find_none : (xs : List X) (k : K) → ((x : X) → Contains xs x → R (key x) k ≡ Equal → ⊥) → find_key R key xs k ≡ None
   find_none [] k lacks = refl
   find_none (x ∷ xs) k lacks =
@@ -95,6 +102,7 @@ module _ {X K : Type 0} {R : K → K → Ordering} (o : IsTotalOrder R) (exact :
         | Greater ↦ λ f. rest
       ]) (lacks x (has_first x xs))
 
+  -- an element with the key is what is found
   pub find_some : (xs : List X) (k : K) (x : X) → IsInOrder R key xs → Contains xs x → R (key x) k ≡ Equal → find_key R key xs k ≡ Some x
   unfolding IsStrictlySortedBy
   find_some [] k x ordered there is = absurd (omega (arith, there.1))
@@ -107,6 +115,7 @@ module _ {X K : Type 0} {R : K → K → Ordering} (o : IsTotalOrder R) (exact :
       rw less (find_some ys k x ordered.1 later is))
       (first_or_later y ys x there)
 
+  -- nothing is found at the key that a gap is for
   pub find_gap : (xs : List X) (k : K) (i : ℕ) → IsGapFor R key xs k i → find_key R key xs k ≡ None
   find_gap xs k i gap = find_none xs k (λ x there is. ⊎_elim
       (λ lt. let e : Less ≡ Equal = sym (subst (λ u. R (key u) k ≡ Less) there.2 (gap.parted.0 there.0 x (omega arith) lt))
@@ -115,6 +124,7 @@ module _ {X K : Type 0} {R : K → K → Ordering} (o : IsTotalOrder R) (exact :
       ∙ is in absurd (cc))
       (cases_lt there.0 i))
 
+  -- what stands at the place of a key is what is found
   pub find_place : (xs : List X) (k : K) (i : ℕ) (x : X) → IsInOrder R key xs → IsPlaceOf R key xs k i → x ≡ get_or xs i x
       → find_key R key xs k ≡ Some x
   find_place xs k i x ordered place is = find_some xs k x ordered (i, place.within, sym is)
@@ -136,13 +146,16 @@ module _ {X K : Type 0} {R : K → K → Ordering} (o : IsTotalOrder R) (exact :
       later differs = ⊎_elim (λ is. absurd (differs (ap (R (key x)) (sym is) ∙ tied_itself o (key x)))) (λ rest. rest)
           (first_or_later (key x) (map key xs) k there)
 
+  -- something is found at each key of the list
   pub find_known : (xs : List X) (k : K) → Contains (map key xs) k → (x : X) × (find_key R key xs k ≡ Some x)
   find_known [] k there = absurd (omega (arith, there.1))
   find_known (x ∷ xs) k there = known_first x xs k there (find_known xs k) (R (key x) k) refl
 
+  -- the key that a gap is for is none of the list
   pub lacks_key : (xs : List X) (k : K) (i : ℕ) → IsGapFor R key xs k i → Contains (map key xs) k → ⊥
   lacks_key xs k i gap there = none-some _ (sym (find_gap xs k i gap) ∙ (find_known xs k there).1)
 
+  -- at the place of a key stands that key
   pub key_at : (xs : List X) (k : K) (i : ℕ) → IsPlaceOf R key xs k i → IsAt (map key xs) k i
   key_at xs k i place = (omega (arith, place.within, length-map xs key), stands xs i place.within (λ d. exact _ _ (place.there d)))
     where
@@ -151,6 +164,7 @@ module _ {X K : Type 0} {R : K → K → Ordering} (o : IsTotalOrder R) (exact :
       stands (x ∷ xs) zero lt is = is x
       stands (x ∷ xs) (suc i) lt is = stands xs i (omega (arith, lt)) is
 
+  -- a key that has a place is one of the list
   pub has_key : (xs : List X) (k : K) (i : ℕ) → IsPlaceOf R key xs k i → Contains (map key xs) k
   has_key xs k i place = let at = key_at xs k i place in (i, at.0, at.1)
 
@@ -166,6 +180,7 @@ module _ {X K : Type 0} {R : K → K → Ordering} (o : IsTotalOrder R) (exact :
           ∙ Less-from_sorted R keys i j k ordered lt at_j.0 in
           let same : Less ≡ Equal = sym less ∙ tied_itself o k in cc
 
+  -- something is found at a key that has a place
   pub place_known : (xs : List X) (k : K) (i : ℕ) → IsPlaceOf R key xs k i → find_key R key xs k ≡ None → ⊥
   place_known xs k i place none = none-some _ (sym none ∙ (find_known xs k (has_key xs k i place)).1)
 
@@ -173,9 +188,11 @@ module _ {X K : Type 0} {R : K → K → Ordering} (o : IsTotalOrder R) (exact :
 pub told_false : {P : Type 0} → (P → ⊥) → IsTrue false ↔ P
 told_false no_p = (λ t. absurd (false≢true t), λ p. absurd (no_p p))
 
+-- `true` is right where what it tells holds
 pub told_true : {P : Type 0} → P → IsTrue true ↔ P
 told_true p = (λ _. p, λ _. refl)
 
+-- what is mapped is nothing only where there was nothing
 pub none_from_map : {X Y : Type 0} (f : X → Y) (r : Option X) → option_map f r ≡ None → r ≡ None
 none_from_map f None e = refl
 none_from_map f (Some x) e = absurd (none-some (f x) (sym e))

@@ -16,28 +16,30 @@ use Rattle.std.proofs.lemmas.Bool.Decides.{same_from_decides}
 
 -- ---- texts
 
+-- texts compare as equal where their bytes are the same
 pub tells_alike : (p q : List ℕ) → is_eq (byte_cmp p q) ≡ bytes_eq p q
 tells_alike p q = same_from_decides (eq_by_cmp byte_cmp p q) (bytes_eq p q) (texts_decide p q) (bytes_decides p q)
 
 -- neither is below the other where they are one
 pub tie_is : (p q : List ℕ) → (not (is_lt (byte_cmp p q)) && not (is_lt (byte_cmp q p))) ≡ bytes_eq q p
-tie_is p q = rw (nat_list_cmp_total.antisymm p q) (go (byte_cmp q p)) ∙ tells_alike q p
+tie_is p q = rw (nat_list_cmp_total.antisymm p q) (tie_by_order (byte_cmp q p)) ∙ tells_alike q p
   where
-    go : (r : Ordering) → (not (is_lt (ordering_reverse r)) && not (is_lt r)) ≡ is_eq r
-    go Less = refl
-    go Equal = refl
-    go Greater = refl
+    tie_by_order : (r : Ordering) → (not (is_lt (ordering_reverse r)) && not (is_lt r)) ≡ is_eq r
+    tie_by_order Less = refl
+    tie_by_order Equal = refl
+    tie_by_order Greater = refl
 
 -- ---- elements with a text
 
+-- what passes after a map is what would pass, mapped
 pub filter_mapped : {X Y : Type 0} (f : X → Y) (p : Y → Bool) (xs : List X) → filter p (map f xs) ≡ map f (filter (λ x. p (f x)) xs)
 filter_mapped f p [] = refl
-filter_mapped f p (x ∷ xs) = go (p (f x)) (filter_mapped f p xs)
+filter_mapped f p (x ∷ xs) = filtered_by_test (p (f x)) (filter_mapped f p xs)
   where
-    go : (b : Bool) → filter p (map f xs) ≡ map f (filter (λ x. p (f x)) xs)
+    filtered_by_test : (b : Bool) → filter p (map f xs) ≡ map f (filter (λ x. p (f x)) xs)
         → cond b (f x ∷ filter p (map f xs)) (filter p (map f xs)) ≡ map f (cond b (x ∷ filter (λ x. p (f x)) xs) (filter (λ x. p (f x)) xs))
-    go true e = ap (λ l. f x ∷ l) e
-    go false e = e
+    filtered_by_test true e = ap (λ l. f x ∷ l) e
+    filtered_by_test false e = e
 
 module _ {X : Type 0} (text_of : X → List ℕ) where
   -- an element that passes, or none does
@@ -48,9 +50,10 @@ module _ {X : Type 0} (text_of : X → List ℕ) where
     | false ↦ λ is later. first_passing p ys x rest later
   ] refl e
 
+  -- a stable sort by a text keeps the elements with one text as they stood
   pub same_text : (xs ys : List X) (text : List ℕ) → IsStableBy (λ a b. is_lt (byte_cmp (text_of a) (text_of b))) xs ys
       → filter (λ x. bytes_eq (text_of x) text) ys ≡ filter (λ x. bytes_eq (text_of x) text) xs
-  same_text xs ys text stable = go _ refl _ refl
+  same_text xs ys text stable = same_by_first _ refl _ refl
     where
       has : X → Bool
       has x = bytes_eq (text_of x) text
@@ -61,10 +64,10 @@ module _ {X : Type 0} (text_of : X → List ℕ) where
           λ y. tie_is (text_of x) (text_of y) ∙ ap (bytes_eq (text_of y)) ((bytes_decides (text_of x) text).0 is) in
           sym (filter_agree _ has agree ys) ∙ stable x ∙ filter_agree _ has agree xs
 
-      go : (us : List X) → filter has ys ≡ us → (vs : List X) → filter has xs ≡ vs → filter has ys ≡ filter has xs
-      go [] e [] f = e ∙ sym f
-      go (u ∷ us) e vs f = at u (first_passing has ys u us e)
-      go [] e (v ∷ vs) f = at v (first_passing has xs v vs f)
+      same_by_first : (us : List X) → filter has ys ≡ us → (vs : List X) → filter has xs ≡ vs → filter has ys ≡ filter has xs
+      same_by_first [] e [] f = e ∙ sym f
+      same_by_first (u ∷ us) e vs f = at u (first_passing has ys u us e)
+      same_by_first [] e (v ∷ vs) f = at v (first_passing has xs v vs f)
 
 -- ---- the index of a list
 
@@ -73,6 +76,7 @@ module _ {T : Type 0} (text_of : T → List ℕ) where
   seconds [] = refl
   seconds (x ∷ xs) = ap (λ l. x ∷ l) (seconds xs)
 
+  -- what has at each text what the lent list has with it is an index of the elements
   pub indexes : (items : List T) (entries : List (Bor (List ℕ) × Bor T)) (index : List (List ℕ × T))
       → lent entries ≡ map (λ x. (text_of x, x)) items → ((text : List ℕ) → with_text text index ≡ with_text text (lent entries))
       → IsIndexOf text_of items index
@@ -103,18 +107,20 @@ module _ {X : Type 0} (p : X → Bool) where
   first_in [] = None
   first_in (x ∷ xs) = Some x
 
+  -- the first that passes is the first of those that pass
   pub find_first : (xs : List X) → find p xs ≡ first_in (filter p xs)
   find_first [] = refl
-  find_first (x ∷ xs) = go (p x) (find_first xs)
+  find_first (x ∷ xs) = found_by_test (p x) (find_first xs)
     where
-      go : (b : Bool) → find p xs ≡ first_in (filter p xs)
+      found_by_test : (b : Bool) → find p xs ≡ first_in (filter p xs)
           → cond b (Some x) (find p xs) ≡ first_in (cond b (x ∷ filter p xs) (filter p xs))
-      go true e = refl
-      go false e = e
+      found_by_test true e = refl
+      found_by_test false e = e
 
   not_none : (n : ℕ) → not (suc n == 0) ≡ true
   not_none n = grind arith
 
+  -- some are left where one passes
   pub some_kept : (xs : List X) → not (length (filter p xs) == 0) ≡ list_any p xs
   some_kept [] = refl
   some_kept (x ∷ xs) = step (p x) (filter p xs) (list_any p xs) (some_kept xs)

@@ -16,16 +16,17 @@ module _ {X K : Type 0} {R : K → K → Ordering} (o : IsTotalOrder R) (exact :
   -- what is found is there, with the key
   pub find_sound : (xs : List X) (k : K) (x : X) → find_key R key xs k ≡ Some x → Contains xs x × (key x ≡ k)
   find_sound [] k x e = absurd (none-some x e)
-  find_sound (y ∷ ys) k x e = go (R (key y) k) refl e (find_sound ys k x)
+  find_sound (y ∷ ys) k x e = sound_by_order (R (key y) k) refl e (find_sound ys k x)
     where
-      go : (r : Ordering) → R (key y) k ≡ r → cond (is_eq r) (Some y) (find_key R key ys k) ≡ Some x
+      sound_by_order : (r : Ordering) → R (key y) k ≡ r → cond (is_eq r) (Some y) (find_key R key ys k) ≡ Some x
           → (find_key R key ys k ≡ Some x → Contains ys x × (key x ≡ k)) → Contains (y ∷ ys) x × (key x ≡ k)
-      go Less is found rest = (has_later y ys x (rest found).0, (rest found).1)
-      go Equal is found rest =
+      sound_by_order Less is found rest = (has_later y ys x (rest found).0, (rest found).1)
+      sound_by_order Equal is found rest =
           let same : y ≡ x = cc in
           (subst (Contains (y ∷ ys)) same (has_first y ys), ap key (sym same) ∙ exact (key y) k is)
-      go Greater is found rest = (has_later y ys x (rest found).0, (rest found).1)
+      sound_by_order Greater is found rest = (has_later y ys x (rest found).0, (rest found).1)
 
+  -- what is found at a key is the element with it, and no other
   pub found_iff : (xs : List X) (k : K) (x : X) → IsInOrder R key xs → (find_key R key xs k ≡ Some x) ↔ (Contains xs x × (key x ≡ k))
   found_iff xs k x ordered = (find_sound xs k x, λ h. find_some o exact key xs k x ordered h.0 (ap (λ u. R u k) h.1 ∙ tied_itself o k))
 
@@ -46,6 +47,7 @@ module _ {X K : Type 0} {R : K → K → Ordering} (o : IsTotalOrder R) (exact :
   later_none y r true e = absurd (none-some y (sym e))
   later_none y r false e = e
 
+  -- with one element more its key finds it, and each other key what it found before
   pub find-with_one : (xs : List X) (x : X) (k : K) → find_key R key xs (key x) ≡ None
       → find_key R key (with_one R key xs x) k ≡ cond (eq_by_cmp R (key x) k) (Some x) (find_key R key xs k)
   find-with_one [] x k none = refl
@@ -119,6 +121,7 @@ module _ {X K : Type 0} {R : K → K → Ordering} (o : IsTotalOrder R) (exact :
       (first_or_later x xs y (find_sound (x ∷ xs) (key y) y (same (key y) ∙ head_found y ys)).0))
       (first_or_later y ys x (find_sound (y ∷ ys) (key x) x (sym (same (key x)) ∙ head_found x xs)).0)
 
+  -- lists in order that answer all look-ups alike are one
   pub same_lists : (xs ys : List X) → IsInOrder R key xs → IsInOrder R key ys
       → ((k : K) → find_key R key xs k ≡ find_key R key ys k) → xs ≡ ys
   same_lists [] [] a b same = refl

@@ -17,23 +17,28 @@ all_from P xs each k d lt = each (get_or xs k d) (Contains-get_or xs k d lt)
 -- ---- keys that rise
 
 module _ {K : Type 0} (R : K → K → Ordering) where
+  -- the first of keys that rise is below each behind it
   pub rises_above : (k : K) (ks : List K) → IsStrictlySortedBy R (k ∷ ks) → (j : K) → Contains ks j → R k j ≡ Less
   unfolding IsStrictlySortedBy
   rises_above k ks rising j there = All-contains (λ u. R k u ≡ Less) ks j (All-from_recursion _ ks rising.0) there
 
+  -- what stands behind the first of keys that rise rises
   pub rises_rest : (k : K) (ks : List K) → IsStrictlySortedBy R (k ∷ ks) → IsStrictlySortedBy R ks
   unfolding IsStrictlySortedBy
   rises_rest k ks rising = rising.1
 
+  -- no keys rise
   pub rises_none : IsStrictlySortedBy R []
   unfolding IsStrictlySortedBy
   rises_none = tt
 
+  -- a key below all keys that rise, put before them, rises with them
   pub rises_more : (k : K) (ks : List K) → ((j : K) → Contains ks j → R k j ≡ Less) → IsStrictlySortedBy R ks
       → IsStrictlySortedBy R (k ∷ ks)
   unfolding IsStrictlySortedBy
   rises_more k ks above rising = (recursion_from_All (λ j. R k j ≡ Less) ks (all_from (λ j. R k j ≡ Less) ks above), rising)
 
+  -- keys that rise behind keys that rise and are below them rise together
   pub rises_append : (ks js : List K) → IsStrictlySortedBy R ks → IsStrictlySortedBy R js
       → ((k j : K) → Contains ks k → Contains js j → R k j ≡ Less) → IsStrictlySortedBy R (ks ++ js)
   rises_append [] js front back below = back
@@ -49,6 +54,7 @@ module _ {K : Type 0} (R : K → K → Ordering) where
   is_less Equal e = cc
   is_less Greater e = cc
 
+  -- the test tells whether keys rise
   pub rises_decides : IsTotalOrder R → (ks : List K) → Decides (rises R ks) (IsStrictlySortedBy R ks)
   rises_decides o [] = (λ e. rises_none, λ rising. refl)
   rises_decides o (k ∷ []) = (λ e. rises_more k [] (λ j there. absurd (omega (arith, there.1))) rises_none, λ rising. refl)

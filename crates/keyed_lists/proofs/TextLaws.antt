@@ -16,14 +16,15 @@ use Rattle.keyed_lists.proofs.KeyedLaws as keyed
 -- texts are one where they compare as equal
 pub texts_decide : (p q : List ℕ) → Decides (eq_by_cmp byte_cmp p q) (p ≡ q)
 texts_decide p q =
-    (λ e. go (byte_cmp p q) (ties_are_equal p q) e, λ e. ap is_eq (ap (byte_cmp p) (sym e) ∙ tied_itself nat_list_cmp_total p))
+    (λ e. equal_by_order (byte_cmp p q) (ties_are_equal p q) e, λ e. ap is_eq (ap (byte_cmp p) (sym e) ∙ tied_itself nat_list_cmp_total p))
   where
-    go : (r : Ordering) → (r ≡ Equal → p ≡ q) → is_eq r ≡ true → p ≡ q
-    go Less f e = absurd (cc)
-    go Equal f e = f refl
-    go Greater f e = absurd (cc)
+    equal_by_order : (r : Ordering) → (r ≡ Equal → p ≡ q) → is_eq r ≡ true → p ≡ q
+    equal_by_order Less f e = absurd (cc)
+    equal_by_order Equal f e = f refl
+    equal_by_order Greater f e = absurd (cc)
 
 module _ {X : Type 0} (key : X → List ℕ) (xs : List X) (k : List ℕ) where
+  -- where a binary search for a text ends is its place or the gap for it
   pub search_ends : (r : Result ℕ ℕ) → IsInOrder byte_cmp key xs → IsSearchInRange r (length xs)
       → IsBinarySearchResult (λ x. byte_cmp (key x) k) xs r → MatchResult r (IsPlaceOf byte_cmp key xs k) (IsGapFor byte_cmp key xs k)
   search_ends = keyed.search_ends nat_list_cmp_total ties_are_equal key xs k
@@ -36,16 +37,20 @@ module _ {X : Type 0} (key : X → List ℕ) (xs : List X) (k : List ℕ) where
       (λ t. absurd (false≢true (sym e ∙ t)), λ has. absurd (keyed.lacks_key nat_list_cmp_total ties_are_equal key xs k i gap has))
 
   module _ (i : ℕ) where
+    -- what stands at the place of a text is what is found
     pub found : (x : X) → IsInOrder byte_cmp key xs → IsPlaceOf byte_cmp key xs k i → x ≡ get_or xs i x
         → Some x ≡ find_key byte_cmp key xs k
     found x ordered place is = sym (keyed.find_place nat_list_cmp_total ties_are_equal key xs k i x ordered place is)
 
+    -- nothing is found at the text that a gap is for
     pub not_found : IsGapFor byte_cmp key xs k i → find_key byte_cmp key xs k ≡ None
     not_found = keyed.find_gap nat_list_cmp_total ties_are_equal key xs k i
 
+    -- something is found at a text that has a place
     pub is_found : IsPlaceOf byte_cmp key xs k i → find_key byte_cmp key xs k ≡ None → ⊥
     is_found = keyed.place_known nat_list_cmp_total ties_are_equal key xs k i
 
+-- an element put where its text would stand is one element more
 pub put_in_gap : {X : Type 0} (key : X → List ℕ) (xs : List X) (x : X) (i : ℕ) → IsGapFor byte_cmp key xs (key x) i
     → insert xs i x ≡ with_one byte_cmp key xs x
 put_in_gap key = keyed.insert-at_gap nat_list_cmp_total ties_are_equal key

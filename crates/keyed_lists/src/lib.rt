@@ -1,15 +1,10 @@
-//! Lists in order by a key, each key once: look-ups, one element more, runs of one key.
+//! Lists in which elements are found by a key of each, by binary search.
 //!
-//! It promises: what `place_of`, `find` and `insert` answer, and the laws of `theorems`, as that lists
-//! that answer all look-ups alike are one. It stands on `plain_data`, on the order of texts of
-//! `variant_values`, and on the words for places of `reachability`. It must not know what the
-//! elements are: a type that has a key says so by `Keyed`.
-//!
-//! Elements that are found by a text of each.
-//!
-//! What it is: `TextIndex`, elements that are lent, each with a text, sorted by these once and found by search.
-//! What it promises: what is found at a text are just the elements with it, in the order in which they were given.
-//! What it stands on: `keyed_lists` for runs of one key.
+//! What it is: `Keyed` and the searches in lists in order by a key, each key once; and `TextIndex`, lent elements
+//! that are sorted once by a text of each, where several may have one text.
+//! What it promises: what each look-up and `insert` answers; that lists that answer all look-ups alike are one
+//! (`theorems`); that an index has at each text just the elements with it, in the order in which they were given.
+//! What it stands on: `plain_data`, the byte order of texts of `variant_values`; it passes on words of `reachability`.
 //! What it must not know: what the elements are.
 #![tactic(auto)]
 

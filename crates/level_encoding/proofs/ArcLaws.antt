@@ -15,10 +15,12 @@ use Rattle.level_encoding.specs.Input.{Input, numbers, same, possible}
 use Rattle.level_encoding.specs.Encoding.{below, width, level_width, level_start, level, is_inside, turns, arc_rules, arcs_rules}
 use Rattle.level_encoding.proofs.Lists.{In}
 
+-- an arc from a number to itself is not inside a component
 pub inside-self : (s : Input) (a : Arc) → a.parent ≡ a.child → is_inside s a ≡ false
 unfolding is_inside
 inside-self s a e = rw (eq-eqb a.parent a.child e) refl
 
+-- another is where its two numbers are joined
 pub inside-joined : (s : Input) (a : Arc) → a.parent ≢ a.child → is_inside s a ≡ joined same (possible s) a.parent a.child
 unfolding is_inside
 inside-joined s a ne = rw (ne_eqb a.parent a.child ne) refl

@@ -25,10 +25,13 @@ assert_all-none s = refl
 pub AllSaidBelow-le : (m n : ℕ) (fs : List Statement) → m ≤ n → AllSaidBelow m fs → AllSaidBelow n fs
 AllSaidBelow-le m n fs h b = SaidBelow-le m n (any_of fs) h b
 
-pub all-agree : (n : ℕ) (v w : ℕ → Bool) → Agree n v w → (fs : List Statement) → AllSaidBelow n fs → list_all (eval v) fs ≡ list_all (eval w) fs
+-- formulas rest on the values of their variables alone
+pub all-agree : (n : ℕ) (v w : ℕ → Bool) → Agree n v w → (fs : List Statement) → AllSaidBelow n fs
+    → list_all (eval v) fs ≡ list_all (eval w) fs
 all-agree n v w a [] b = refl
 all-agree n v w a (f ∷ fs) b = rw (eval-agree n v w a f b.0, all-agree n v w a fs b.1) refl
 
+-- what is asserted asks for all formulas, and for nothing else
 pub assert_all-says : (fs : List Statement) (s : Clauses) → AllSaidBelow s.vars fs
     → Says s (assert_all s fs) (λ asked v. list_all (eval v) fs)
 unfolding assert_all
@@ -40,6 +43,7 @@ assert_all-says (f ∷ fs) s b =
     Says-then s t (assert_all t fs) (λ asked v. eval v f) p p x (assert_all-says fs t (AllSaidBelow-le s.vars t.vars fs x.grows.more b.1))
     (λ asked v m. refl) (λ asked v w g. all-agree s.vars v w g fs b.1)
 
+-- assertions only take more variables
 pub assert_all-more : (s : Clauses) (fs : List Statement) → AllSaidBelow s.vars fs → s.vars ≤ (assert_all s fs).vars
 assert_all-more s fs b = (assert_all-says fs s b).grows.more
 
@@ -51,6 +55,7 @@ each-step old new all fs i f h e b q =
     ap (λ t. assert_all t (drop (i + 1) fs)) (b ∙ ap (assert_on Structure old true) e)
     ∙ sym (ap (assert_all old) (drop-cons fs i f h ∙ ap (λ k. get_or fs i f ∷ drop k fs) (sym (add-one i)))) ∙ q
 
+-- all formulas were asserted
 pub each-all : (now all : Clauses) (fs : List Statement) (i : ℕ) → length fs ≤ i → assert_all now (drop i fs) ≡ all → now ≡ all
 unfolding assert_all
 each-all now all fs i h e = sym (ap (assert_all now) (drop_all i fs h)) ∙ e

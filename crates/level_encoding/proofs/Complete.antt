@@ -181,17 +181,17 @@ module _ (s : Input) (v : ℕ → Bool) (right : IsRight s) (acyclic : IsAcyclic
   arc-met : (a : Arc) → In a s.arcs → (x : ℕ) → ((k : ℕ) → k < turns s a → extended (x + k) ≡ turn a k)
       → list_all (eval extended) (arc_rules s x a) ≡ true
   unfolding arc_rules rank_of turn
-  arc-met a i x values = go (cases_eq a.parent a.child)
+  arc-met a i x values = by-cases (cases_eq a.parent a.child)
     where
       took : lit_true extended a.lit ≡ true → HasArc (chosen s v) a.parent a.child
       took t = chosen-from s v a i (lit-same a i ∙ t)
 
-      go : ((a.parent ≡ a.child) ⊎ (a.parent ≡ a.child → ⊥)) → list_all (eval extended) (arc_rules s x a) ≡ true
-      go (inl e) = rw (arc_rules, inside-self s a e, eq-eqb a.parent a.child e)
+      by-cases : ((a.parent ≡ a.child) ⊎ (a.parent ≡ a.child → ⊥)) → list_all (eval extended) (arc_rules s x a) ≡ true
+      by-cases (inl e) = rw (arc_rules, inside-self s a e, eq-eqb a.parent a.child e)
           (and_from (eval extended (opposite (atom a.lit))) true
           (opposite-from extended (atom a.lit) (λ t. acyclic a.parent
           (one_arc (HasArc (chosen s v)) a.parent a.parent (subst (HasArc (chosen s v) a.parent) (sym e) (took t))))) refl)
-      go (inr ne) = elim (cases_Bool (joined same (possible s) a.parent a.child)) [
+      by-cases (inr ne) = elim (cases_Bool (joined same (possible s) a.parent a.child)) [
         | inl j ↦
             let d = within a.parent a.child (possible-from s a i) in
             let t = inside-joined s a ne ∙ j in
@@ -227,7 +227,7 @@ module _ (s : Input) (v : ℕ → Bool) (right : IsRight s) (acyclic : IsAcyclic
 
   node-met : (i : ℕ) → list_all (eval extended) (node_rules s i) ≡ true
   unfolding node_rules
-  node-met i = go (is_root s i) refl
+  node-met i = by-bool (is_root s i) refl
     where
       ends : Statement
       ends = any_of (map (λ a. atom a.lit) (filter (λ a. eqb a.child i) s.arcs))
@@ -247,9 +247,9 @@ module _ (s : Input) (v : ℕ → Bool) (right : IsRight s) (acyclic : IsAcyclic
             (opposite-from extended (node s i) (λ t. false≢true (sym f ∙ t)))
       ]
 
-      go : (b : Bool) → is_root s i ≡ b → list_all (eval extended) (node_rules s i) ≡ true
-      go true e = rw (node_rules, e) refl
-      go false e = rw (node_rules, e) (and_from (eval extended (opposite (node s i)) || eval extended ends) true (met e) refl)
+      by-bool : (b : Bool) → is_root s i ≡ b → list_all (eval extended) (node_rules s i) ≡ true
+      by-bool true e = rw (node_rules, e) refl
+      by-bool false e = rw (node_rules, e) (and_from (eval extended (opposite (node s i)) || eval extended ends) true (met e) refl)
 
   path-to : (p q : ℕ) → is_target s q ≡ true → Path (HasArc (chosen s v)) p q → eval extended (path s p q) ≡ true
   unfolding way leads_now
@@ -259,11 +259,11 @@ module _ (s : Input) (v : ℕ → Bool) (right : IsRight s) (acyclic : IsAcyclic
 
   path-of : (p q : ℕ) → eval extended (path s p q) ≡ true → Path (HasArc (chosen s v)) p q
   unfolding way leads_now
-  path-of p q h = go (leads s q p) refl h
+  path-of p q h = by-bool (leads s q p) refl h
     where
-      go : (b : Bool) → leads s q p ≡ b → eval extended (path s p q) ≡ true → Path (HasArc (chosen s v)) p q
-      go true e t = reaches-sound (chosen s v) p q (sym (way-at p q e) ∙ (rw (way, e) at t))
-      go false e t = absurd (false≢true (rw (way, e) at t))
+      by-bool : (b : Bool) → leads s q p ≡ b → eval extended (path s p q) ≡ true → Path (HasArc (chosen s v)) p q
+      by-bool true e t = reaches-sound (chosen s v) p q (sym (way-at p q e) ∙ (rw (way, e) at t))
+      by-bool false e t = absurd (false≢true (rw (way, e) at t))
 
   way-met : (p q : ℕ) → is_target s q ≡ true → list_all (eval extended) (way_rules s q p) ≡ true
   unfolding way_rules
@@ -294,6 +294,7 @@ module _ (s : Input) (v : ℕ → Bool) (right : IsRight s) (acyclic : IsAcyclic
   unfolding leads
   target-of q p h = (and_parts (is_target s q) (reaches same (possible s) p q) h).0
 
+  -- a choice without a cycle extends to a model of the constraints
   pub extends : HasModel s (constraints s) v
   unfolding constraints path_rules
   extends = record {

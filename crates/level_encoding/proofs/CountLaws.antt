@@ -3,6 +3,7 @@ use Rattle.std.proofs.Common.{◌≡◌, ℕ, zero, suc, ◌≤◌, Bool, true, 
 use Rattle.std.proofs.lemmas.Bool.{cases_lt}
 use Rattle.level_encoding.specs.Counts.{total, count}
 
+-- there are no more that pass than there are
 pub count-bound : (f : ℕ → Bool) (n : ℕ) → count f n ≤ n
 unfolding count total
 count-bound f zero = omega arith

@@ -16,6 +16,7 @@ pub width-le : (m : ℕ) → width m ≤ m
 unfolding width
 width-le m = omega (arith, prefix_len-le-length (λ k. not (leb m (2 ^ k))) (below m), length-range_with_len 0 m)
 
+-- so many digits tell so many numbers apart
 pub width-enough : (m : ℕ) → m ≤ 2 ^ width m
 unfolding width
 width-enough m =
@@ -32,6 +33,7 @@ pub row_at : (ℕ → ℕ) → (ℕ → ℕ → Bool) → ℕ → ℕ → Bool
 row_at f g zero x = false
 row_at f g (suc i) x = cond (leb (total f i) x) (g i (x - total f i)) (row_at f g i x)
 
+-- what stands at a place of rows behind one another
 pub row_at-is : (f : ℕ → ℕ) (g : ℕ → ℕ → Bool) (n i k : ℕ) → i < n → k < f i → row_at f g n (total f i + k) ≡ g i k
 unfolding row_at total
 row_at-is f g zero i k h l = absurd (omega arith)
@@ -44,6 +46,7 @@ row_at-is f g (suc n) i k h l =
           rw (e, le-leb (total f n) (total f n + k) (omega arith), d) refl
     ]
 
+-- one that passes is counted
 pub count-up : (test : ℕ → Bool) (n k : ℕ) → k < n → test k ≡ true → count test k < count test n
 unfolding count total
 count-up test n k h t =
@@ -56,6 +59,7 @@ pub passing_at : (ℕ → Bool) → (ℕ → Bool) → ℕ → ℕ → Bool
 passing_at test g zero j = false
 passing_at test g (suc k) j = cond (test k && eqb (count test k) j) (g k) (passing_at test g k j)
 
+-- what stands at the place of one that passes
 pub passing_at-is : (test g : ℕ → Bool) (n k : ℕ) → k < n → test k ≡ true → passing_at test g n (count test k) ≡ g k
 unfolding passing_at count total
 passing_at-is test g zero k h t = absurd (omega arith)

@@ -31,22 +31,27 @@ both-is v f g = rw (opposite-is v f, opposite-is v g) (turned (eval v f) (eval v
     turned true false = refl
     turned false b = refl
 
+-- where both are said each is
 pub both-parts : (v : ℕ → Bool) (f g : Statement) → eval v (both f g) ≡ true → (eval v f ≡ true) × (eval v g ≡ true)
 both-parts v f g h = and_parts (eval v f) (eval v g) (sym (both-is v f g) ∙ h)
 
+-- and the other way round
 pub both-from : (v : ℕ → Bool) (f g : Statement) → eval v f ≡ true → eval v g ≡ true → eval v (both f g) ≡ true
 both-from v f g a b = both-is v f g ∙ and_from (eval v f) (eval v g) a b
 
+-- a formula and its opposite are not both true
 pub opposite-at : (v : ℕ → Bool) (f : Statement) → eval v (opposite f) ≡ true → eval v f ≡ true → ⊥
 opposite-at v f h t = false≢true (sym (not-true (eval v f) (sym (opposite-is v f) ∙ h)) ∙ t)
 
+-- the opposite is true where the formula is not
 pub opposite-from : (v : ℕ → Bool) (f : Statement) → (eval v f ≡ true → ⊥) → eval v (opposite f) ≡ true
-opposite-from v f h = opposite-is v f ∙ go (eval v f) refl
+opposite-from v f h = opposite-is v f ∙ by-bool (eval v f) refl
   where
-    go : (b : Bool) → eval v f ≡ b → not b ≡ true
-    go true e = absurd (h e)
-    go false e = refl
+    by-bool : (b : Bool) → eval v f ≡ b → not b ≡ true
+    by-bool true e = absurd (h e)
+    by-bool false e = refl
 
+-- what follows is true
 pub implies-at : (v : ℕ → Bool) (f g : Statement) → eval v (implies f g) ≡ true → eval v f ≡ true → eval v g ≡ true
 unfolding implies
 implies-at v f g h t =
@@ -55,6 +60,7 @@ implies-at v f g h t =
       | inr a ↦ elim (or_cases (eval v g) false a) [ inl b ↦ b | inr b ↦ absurd (false≢true b) ]
     ]
 
+-- and the other way round
 pub implies-from : (v : ℕ → Bool) (f g : Statement) → (eval v f ≡ true → eval v g ≡ true) → eval v (implies f g) ≡ true
 unfolding implies
 implies-from v f g h =
@@ -70,6 +76,7 @@ first-or v f g h = elim (cases_Bool (eval v f)) [
   | inr e ↦ or_left (eval v (opposite f)) (eval v g) (opposite-from v f (λ t. false≢true (sym e ∙ t)))
 ]
 
+-- of a false formula or another, the other is true
 pub first-or-at : (v : ℕ → Bool) (f g : Statement) → eval v (or (opposite f) g) ≡ true → eval v f ≡ true → eval v g ≡ true
 first-or-at v f g h t = elim (or_cases (eval v (opposite f)) (eval v g) h) [ inl a ↦ absurd (opposite-at v f a t) | inr a ↦ a ]
 
@@ -87,6 +94,7 @@ number-small (b ∷ bs) = let h = number-small bs in rw pow-suc (part b h)
     part true h = omega (arith, h)
     part false h = omega (arith, h)
 
+-- the binary digits of a number, the highest first
 pub digits_of : ℕ → ℕ → List Bool
 digits_of zero x = []
 digits_of (suc w) x = leb (2 ^ w) x ∷ digits_of w (x - cond (leb (2 ^ w) x) (2 ^ w) 0)
@@ -96,17 +104,18 @@ unfolding digits_of
 length-digits_of zero x = refl
 length-digits_of (suc w) x = ap suc (length-digits_of w (x - cond (leb (2 ^ w) x) (2 ^ w) 0))
 
+-- they spell it
 pub number-digits_of : (w x : ℕ) → x < 2 ^ w → number (digits_of w x) ≡ x
 unfolding number digits_of
 number-digits_of zero x h = omega (arith, h)
 number-digits_of (suc w) x h =
-    go (leb (2 ^ w) x) refl (number-digits_of w)
+    by-bool (leb (2 ^ w) x) refl (number-digits_of w)
   where
-    go : (b : Bool) → leb (2 ^ w) x ≡ b → ((y : ℕ) → y < 2 ^ w → number (digits_of w y) ≡ y)
+    by-bool : (b : Bool) → leb (2 ^ w) x ≡ b → ((y : ℕ) → y < 2 ^ w → number (digits_of w y) ≡ y)
         → cond b (2 ^ length (digits_of w (x - cond b (2 ^ w) 0))) 0 + number (digits_of w (x - cond b (2 ^ w) 0)) ≡ x
-    go true e ih = let le = leb-true (2 ^ w) x e in let b : x < 2 ^ w * 2 = rw pow-suc at h in
+    by-bool true e ih = let le = leb-true (2 ^ w) x e in let b : x < 2 ^ w * 2 = rw pow-suc at h in
         rw (length-digits_of w (x - 2 ^ w)) (omega (arith, le, ih (x - 2 ^ w) (omega (arith, b, le))))
-    go false e ih = omega (arith, ih (x - 0) (omega (arith, leb-false (2 ^ w) x e)))
+    by-bool false e ih = omega (arith, ih (x - 0) (omega (arith, leb-false (2 ^ w) x e)))
 
 -- clauses of two and three formulas whose first one is met
 two-at : (v : ℕ → Bool) (r g : Statement) → eval v (any_of (opposite r ∷ g ∷ [])) ≡ true → eval v r ≡ true → eval v g ≡ true
@@ -160,6 +169,7 @@ small : (v : ℕ → Bool) (f g : Statement) (fs gs : List Statement) → length
     → shown v fs < 2 ^ length (map (eval v) gs)
 small v f g fs gs e = rw (← tails v f g fs gs e) (number-small (map (eval v) fs))
 
+-- where the rules hold the first number is smaller
 pub rising-at : (v : ℕ → Bool) (r : Statement) (fs gs ts : List Statement) → length fs ≡ length gs → length ts ≡ length fs - 1
     → list_all (eval v) (rising r fs gs ts) ≡ true → eval v r ≡ true → shown v fs < shown v gs
 unfolding rising number
@@ -199,6 +209,7 @@ unfolding number
 first-digit v r f g fs gs e h t = less-digit (eval v f) (eval v g) (shown v fs) (shown v gs) (2 ^ length (map (eval v) gs))
     (small v f g fs gs e) (number-small (map (eval v) gs)) (rw (tails v f g fs gs e) at (h t))
 
+-- where it is, the turns can be chosen so that the rules hold
 pub rising-from : (v : ℕ → Bool) (r : Statement) (fs gs ts : List Statement) → length fs ≡ length gs → length ts ≡ length fs - 1
     → Turns v fs gs ts → (eval v r ≡ true → shown v fs < shown v gs) → list_all (eval v) (rising r fs gs ts) ≡ true
 unfolding rising number
@@ -225,6 +236,7 @@ rising-from v r (f ∷ fs) (g ∷ gs) (t ∷ ts) e n m h =
     (three-from v r g t (λ u. elim (d u).2 [ inl x ↦ inl x | inr x ↦ inr (m.0.1 x) ]))
     (rising-from v t fs gs ts (omega (arith, e)) (omega (arith, n)) m.1 m.0.0)))
 
+-- turns that say whether what follows is smaller
 pub turns-from : (v : ℕ → Bool) (fs gs : List Statement) (x n : ℕ)
     → ((k : ℕ) → k < n → v (x + k) ≡ ltb (number (drop (suc k) (map (eval v) fs))) (number (drop (suc k) (map (eval v) gs))))
     → Turns v fs gs (row x n)

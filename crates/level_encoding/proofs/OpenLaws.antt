@@ -33,6 +33,7 @@ each-open n fs i f h e b asked v w a m =
 abbrev pub keeping : Input → Rule
 keeping s = λ asked v. Meets v (constraints s)
 
+-- the choice rests on the old variables alone
 pub same-kept : (s : Input) (n : ℕ) → IsRight s → end s ≤ n → (asked v w : ℕ → Bool) → Agree n v w → keeping s asked v → keeping s asked w
 same-kept s n right h asked v w a m =
     sym (all-agree n v w a (constraints s) (AllSaidBelow-le (end s) n (constraints s) h (constraints-below s right))) ∙ m
@@ -48,6 +49,7 @@ rule-parts s v m =
     let y = and_parts (list_all (eval v) a) (list_all (eval v) b) (sym (list_all-append (eval v) a b) ∙ x.0) in
     (y.0, y.1, x.1)
 
+-- the rules of all arcs are among the constraints
 pub arcs-kept : (s : Input) (x : ℕ) (arcs : List Arc) → x ≡ turn_start s → arcs ≡ s.arcs → (v : ℕ → Bool) → Meets v (constraints s)
     → Meets v (arcs_rules s x arcs)
 arcs-kept s x arcs e f v m = rw (e, f) ((rule-parts s v m).0)
@@ -59,20 +61,24 @@ unfolding arcs_rules
 arc-parts s x n arcs d v h m =
     let a = arc_rules s x (get_or arcs n d) in
     let b = arcs_rules s (x + turns s (get_or arcs n d)) (drop (n + 1) arcs) in
-    let e : drop n arcs ≡ get_or arcs n d ∷ drop (n + 1) arcs = drop-cons arcs n d h ∙ ap (λ k. get_or arcs n d ∷ drop k arcs) (sym (add-one n)) in
+    let e : drop n arcs ≡ get_or arcs n d ∷ drop (n + 1) arcs = drop-cons arcs n d h
+    ∙ ap (λ k. get_or arcs n d ∷ drop k arcs) (sym (add-one n)) in
     and_parts (list_all (eval v) a) (list_all (eval v) b) (sym (list_all-append (eval v) a b)
     ∙ sym (ap (λ xs. list_all (eval v) (arcs_rules s x xs)) e) ∙ m)
 
+-- so are those of the arcs that are left
 pub arcs-left : (s : Input) (x t n : ℕ) (arcs : List Arc) (d : Arc) → n < length arcs → t ≡ turns s (get_or arcs n d)
     → ((v : ℕ → Bool) → Meets v (constraints s) → Meets v (arcs_rules s x (drop n arcs)))
     → (v : ℕ → Bool) → Meets v (constraints s) → Meets v (arcs_rules s (x + t) (drop (n + 1) arcs))
 arcs-left s x t n arcs d h e left v m = rw e ((arc-parts s x n arcs d v h (left v m)).1)
 
+-- the rules of an arc may still be met
 pub arc-open : (s : Input) (n x i : ℕ) (arcs : List Arc) (d : Arc) → IsRight s → end s ≤ n → i < length arcs
     → ((v : ℕ → Bool) → Meets v (constraints s) → Meets v (arcs_rules s x (drop i arcs)))
     → (asked v w : ℕ → Bool) → Agree n v w → keeping s asked v → Meets w (arc_rules s x (get_or arcs i d))
 arc-open s n x i arcs d right h lt left asked v w a m = (arc-parts s x i arcs d w lt (left w (same-kept s n right h asked v w a m))).0
 
+-- so may those of a node
 pub node-open : (s : Input) (n i : ℕ) → IsRight s → end s ≤ n → i < numbers s → (asked v w : ℕ → Bool) → Agree n v w → keeping s asked v
     → Meets w (node_rules s i)
 node-open s n i right h lt asked v w a m =
@@ -87,13 +93,14 @@ way-kept s q p right v m t =
     (all-flat-at (eval v) (path_rules s) q (below (numbers s)) (rule-parts s v m).2 (In-below (numbers s) q d.1))
     (In-filter (leads s q) p (below (numbers s)) (In-below (numbers s) p d.0) t)
 
+-- and those of a path
 pub way-open : (s : Input) (n q p : ℕ) → IsRight s → end s ≤ n → (asked v w : ℕ → Bool) → Agree n v w → keeping s asked v
     → Meets w (cond (leads s q p) (way_rules s q p) [])
-way-open s n q p right h asked v w a m = go (leads s q p) (way-kept s q p right w (same-kept s n right h asked v w a m))
+way-open s n q p right h asked v w a m = by-bool (leads s q p) (way-kept s q p right w (same-kept s n right h asked v w a m))
   where
-    go : (b : Bool) → (b ≡ true → Meets w (way_rules s q p)) → Meets w (cond b (way_rules s q p) [])
-    go true k = k refl
-    go false k = refl
+    by-bool : (b : Bool) → (b ≡ true → Meets w (way_rules s q p)) → Meets w (cond b (way_rules s q p) [])
+    by-bool true k = k refl
+    by-bool false k = refl
 
 -- more variables alone
 pub more-open : (old new : Clauses) (p : Rule) → new.entries ≡ old.entries → old.vars ≤ new.vars → Allows old new p

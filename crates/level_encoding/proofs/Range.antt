@@ -76,12 +76,12 @@ module _ (s : Input) (right : IsRight s) where
 
   node-below : (i : ℕ) → SaidBelow (end s) (node s i)
   unfolding node
-  node-below i = go s.nodes i right.nodes_old
+  node-below i = along s.nodes i right.nodes_old
     where
-      go : (ls : List Lit) (i : ℕ) → All (λ l. var_of l < s.first) ls → SaidBelow (end s) (literal_at (slice_get ls i))
-      go [] i b = tt
-      go (l ∷ ls) zero b = omega (arith, first-le, All-head (λ m. var_of m < s.first) l ls b)
-      go (l ∷ ls) (suc i) b = go ls i (All-tail (λ m. var_of m < s.first) l ls b)
+      along : (ls : List Lit) (i : ℕ) → All (λ l. var_of l < s.first) ls → SaidBelow (end s) (literal_at (slice_get ls i))
+      along [] i b = tt
+      along (l ∷ ls) zero b = omega (arith, first-le, All-head (λ m. var_of m < s.first) l ls b)
+      along (l ∷ ls) (suc i) b = along ls i (All-tail (λ m. var_of m < s.first) l ls b)
 
   row-below : (x m : ℕ) → x + m ≤ end s → AllSaidBelow (end s) (row x m)
   row-below x m h = all-map (end s) (λ y. atom (lit_of y)) (range_with_len x m) (λ y i. let l = range-In x m y i in omega (arith, l, h))

@@ -12,9 +12,11 @@ use Rattle.reachability.proofs.PathLaws.{first_arc}
 use Rattle.level_encoding.specs.Input.{same}
 use Rattle.level_encoding.proofs.Lists.{In}
 
+-- the test of numbers is exact
 pub exact_same : IsExact same
 exact_same x y = (eqb-true x y, eq-eqb x y)
 
+-- what is in a list is contained
 pub In-has : {A : Type 0} (x : A) (xs : List A) → In x xs → Contains xs x
 In-has x [] i = absurd i
 In-has x (y ∷ ys) (inl e) = subst (λ z. Contains (z ∷ ys) x) e (has_first x ys)
@@ -25,15 +27,19 @@ has-In x [] h = absurd (omega (arith, h.1))
 has-In x (y ∷ ys) h = elim (first_or_later y ys x h) [ inl e ↦ inl (sym e) | inr t ↦ inr (has-In x ys t) ]
 
 module _ (arcs : List (ℕ × ℕ)) where
+  -- what the table says is reached is reached by a path
   pub reaches-sound : (p q : ℕ) → reaches same arcs p q ≡ true → Path (HasArc arcs) p q
   reaches-sound p q h = (reaches_decides same exact_same arcs p q).0 h
 
+  -- and the other way round
   pub reaches-complete : (p q : ℕ) → Path (HasArc arcs) p q → reaches same arcs p q ≡ true
   reaches-complete p q t = (reaches_decides same exact_same arcs p q).1 t
 
+  -- paths both ways join two numbers
   pub joined-from : (p q : ℕ) → Path (HasArc arcs) p q → Path (HasArc arcs) q p → joined same arcs p q ≡ true
   joined-from p q t u = (joined_decides same exact_same arcs p q).1 (inr (t, u))
 
+  -- a path has a first arc
   pub Path-first : (p q : ℕ) → Path (HasArc arcs) p q → (r : ℕ) × HasArc arcs p r × ((r ≡ q) ⊎ Path (HasArc arcs) r q)
   Path-first p q t = elim (first_arc (HasArc arcs) p q t) [ inl a ↦ (q, a, inl refl) | inr w ↦ (w.0, w.1, inr w.2) ]
 

@@ -14,10 +14,12 @@ use Rattle.level_encoding.specs.Encoding.{below, level_width, level_start, leads
 use Rattle.level_encoding.proofs.Digits.{count-up, width-le}
 use Rattle.std.proofs.Math.Nat.{suc-mul}
 
+-- the variables of a level lie below the end
 pub level-fits : (s : Input) (i : ℕ) → i < numbers s → level_start s i + level_width s i ≤ end s
 unfolding level_start end turn_start path_start total
 level-fits s i h = omega (arith, total-le (level_width s) (suc i) (numbers s) h)
 
+-- those of paths lie before those of turns
 pub path-fits : (s : Input) (q p : ℕ) → q < numbers s → p < numbers s → leads s q p ≡ true
     → path_start s q + count (leads s q) p < turn_start s
 unfolding path_start ways turn_start total
@@ -39,6 +41,7 @@ pub path_start-more : (s : Input) (q : ℕ) → path_start s (q + 1) ≡ path_st
 unfolding path_start total ways
 path_start-more s q = rw add-one (omega arith)
 
+-- behind the last target's paths the turns begin
 pub path_start-end : (s : Input) (q : ℕ) → q ≡ numbers s → path_start s q ≡ turn_start s
 unfolding turn_start
 path_start-end s q e = rw e refl
@@ -56,6 +59,7 @@ unfolding total
 total-small f m zero h = omega arith
 total-small f m (suc n) h = let e : suc n * m ≡ n * m + m = suc-mul n m in omega (arith, e, total-small f m n h, h n)
 
+-- a component has no more members than there are numbers
 pub members-few : (s : Input) (i : ℕ) → members same (possible s) (below (numbers s)) i ≤ numbers s
 members-few s i =
     omega (arith, count_by-le-length (λ p. joined same (possible s) p i) (below (numbers s)), length-range_with_len 0 (numbers s))
@@ -66,11 +70,11 @@ level_width-small s i = omega (arith, width-le (members same (possible s) (below
 
 turns-small : (s : Input) (a : Arc) → turns s a ≤ numbers s
 unfolding turns
-turns-small s a = go (is_inside s a)
+turns-small s a = by-bool (is_inside s a)
   where
-    go : (b : Bool) → cond b (level_width s a.parent - 1) 0 ≤ numbers s
-    go true = omega (arith, level_width-small s a.parent)
-    go false = omega arith
+    by-bool : (b : Bool) → cond b (level_width s a.parent - 1) 0 ≤ numbers s
+    by-bool true = omega (arith, level_width-small s a.parent)
+    by-bool false = omega arith
 
 -- few new variables for each pair of numbers, and for each arc and number
 pub end-small : (s : Input) → end s ≤ s.first + 2 * (numbers s * numbers s) + length s.arcs * numbers s
@@ -88,6 +92,7 @@ leads-never : (s : Input) (q p : ℕ) → is_target s q ≡ false → leads s q 
 unfolding leads
 leads-never s q p h = rw h refl
 
+-- where nobody asks there is no path literal
 pub way-never : (s : Input) (q p : ℕ) → is_target s q ≡ false → way s q p ≡ None
 unfolding way
 way-never s q p h = rw (way, leads-never s q p h) refl
@@ -97,6 +102,7 @@ unfolding count total
 count-never test zero h = refl
 count-never test (suc n) h = let t = h n in rw t (omega (arith, count-never test n h))
 
+-- nor a variable for one
 pub path_start-never : (s : Input) (q : ℕ) → is_target s q ≡ false → path_start s (q + 1) ≡ path_start s q
 path_start-never s q h = omega (arith, path_start-more s q, count-never (leads s q) (numbers s) (λ p. leads-never s q p h))
 
@@ -110,6 +116,7 @@ pub members-none : (s : Input) (q : ℕ) → members_to s q 0 ≡ 0
 unfolding members_to
 members-none s q = refl
 
+-- one more number of a component
 pub members-more : (s : Input) (q p : ℕ) → p < numbers s
     → members_to s q (p + 1) ≡ members_to s q p + cond (joined same (possible s) p q) 1 0
 unfolding members_to
@@ -122,6 +129,7 @@ members-more s q p h =
       | inr t ↦ count_by_more_no f (below (numbers s)) p 0 l (ap f at ∙ t) ∙ rw t (omega arith)
     ]
 
+-- all of them
 pub members-all : (s : Input) (q p : ℕ) → p ≡ numbers s → members_to s q p ≡ members same (possible s) (below (numbers s)) q
 unfolding members_to
 members-all s q p e = ap (count_by (λ x. joined same (possible s) x q))

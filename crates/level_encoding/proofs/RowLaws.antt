@@ -11,17 +11,20 @@ use Rattle.level_encoding.specs.Input.{Input, IsRight, same, possible}
 use Rattle.level_encoding.specs.Encoding.{level_width, level_start, level, is_inside, turns}
 use Rattle.level_encoding.proofs.ArcLaws.{same-width}
 
+-- numbers without digits: the first is never smaller
 pub rising-none : (r : Lit) (p q t digits : ℕ) → digits ≡ 0
     → rising (atom r) (row p digits) (row q digits) (row t (digits - 1)) ≡ opposite (atom r) ∷ []
 unfolding rising
 rising-none r p q t zero h = refl
 rising-none r p q t (suc digits) h = absurd (omega (arith, h))
 
+-- numbers of one digit
 pub rising-one : (r : Lit) (p q t digits : ℕ) → digits ≡ 1
     → rising (atom r) (row p digits) (row q digits) (row t (digits - 1)) ≡ last_rules (atom r) (atom (lit_of p)) (atom (lit_of q))
 unfolding rising
 rising-one r p q t digits h = rw h refl
 
+-- numbers of more digits
 pub rising-more : (r : Lit) (p q t digits : ℕ) → digits ≢ 0 → digits ≢ 1
     → rising (atom r) (row p digits) (row q digits) (row t (digits - 1)) ≡
     digit_rules (atom r) (atom (lit_of p)) (atom (lit_of q)) (atom (lit_of t))
@@ -36,15 +39,18 @@ rising-more r p q t (suc (suc n)) h k =
 
 pub ruleset rows_rising = (rising-none, rising-one, rising-more, append_assoc)
 
+-- a level is a row of variables
 pub level-is : (s : Input) (i : ℕ) → level s i ≡ row (level_start s i) (level_width s i)
 unfolding level
 level-is s i = refl
 
+-- the two levels of an arc inside a component are equally wide
 pub inside-width : (s : Input) (a : Arc) → IsRight s → is_inside s a ≡ true → level_width s a.child ≡ level_width s a.parent
 unfolding is_inside
 inside-width s a right h =
     sym (same-width s a.parent a.child (and_parts (not (eqb a.parent a.child)) (joined same (possible s) a.parent a.child) h).1)
 
+-- it takes one turn less than a level has digits
 pub inside-turns : (s : Input) (a : Arc) → is_inside s a ≡ true → turns s a ≡ level_width s a.parent - 1
 unfolding turns
 inside-turns s a h = rw h refl

@@ -18,17 +18,19 @@ use Rattle.level_encoding.specs.declared.input.Arc.{Arc}
 use Rattle.level_encoding.specs.Input.{Input, IsRight, numbers}
 use Rattle.level_encoding.specs.Encoding.{below, leads, leaving, way, turns, turn_start, arc_rules, arcs_rules, node_rules, way_rules, path_rules, end}
 
+-- arcs that leave lead to numbers
 pub leaving-child : (s : Input) (p : ℕ) → IsRight s → All (λ a. a.child < numbers s) (leaving s p)
 leaving-child s p right = All-weaker (λ a. (a.parent < numbers s) × (a.child < numbers s)) (λ a. a.child < numbers s) (λ a h. h.1)
     (leaving s p) (All-filter (λ a. eqb a.parent p) (λ a. (a.parent < numbers s) × (a.child < numbers s)) s.arcs right.ends)
 
+-- a path has a literal where arcs could lead
 pub way-is_some : (s : Input) (q p : ℕ) → is_some (way s q p) ≡ leads s q p
 unfolding way
-way-is_some s q p = go (leads s q p) _
+way-is_some s q p = by-bool (leads s q p) _
   where
-    go : (b : Bool) (l : Lit) → is_some (cond b (Some l) None) ≡ b
-    go true l = refl
-    go false l = refl
+    by-bool : (b : Bool) (l : Lit) → is_some (cond b (Some l) None) ≡ b
+    by-bool true l = refl
+    by-bool false l = refl
 
 range-more : (a n : ℕ) → range_with_len a (suc n) ≡ range_with_len a n ++ (a + n) ∷ []
 range-more a zero = let e : a + 0 ≡ a = omega arith in rw e refl
@@ -110,6 +112,7 @@ pub arcs_rules-all : (s : Input) (x n : ℕ) (arcs : List Arc) (now all : Clause
 unfolding arcs_rules assert_all
 arcs_rules-all s x n arcs now all h e = sym (ap (λ xs. assert_all now (arcs_rules s x xs)) (drop_all n arcs h)) ∙ e
 
+-- the rules of one more arc
 pub arcs_rules-step : (s : Input) (x t n : ℕ) (arcs : List Arc) (d : Arc) (old new all : Clauses) → n < length arcs
     → new ≡ assert_all old (arc_rules s x (get_or arcs n d)) → t ≡ turns s (get_or arcs n d)
     → assert_all old (arcs_rules s x (drop n arcs)) ≡ all → assert_all new (arcs_rules s (x + t) (drop (n + 1) arcs)) ≡ all
@@ -121,6 +124,7 @@ arcs_rules-step s x t n arcs d old new all h e f g =
     ∙ sym (ap (λ xs. assert_all old (arcs_rules s x xs)) (drop-cons arcs n d h ∙ ap (λ k. get_or arcs n d ∷ drop k arcs) (sym (add-one n))))
     ∙ g
 
+-- the turns of an arc lie below the end
 pub turns-fit : (s : Input) (x n : ℕ) (arcs : List Arc) (d : Arc) → n < length arcs → x + sum_by (turns s) (drop n arcs) ≡ end s
     → x + turns s (get_or arcs n d) ≤ end s
 turns-fit s x n arcs d h g = omega (arith, g, sum_by-drop_more (turns s) arcs n d h)
@@ -132,10 +136,12 @@ arc-below-at s right x n arcs d vars e h t m =
     AllSaidBelow-le (end s) vars (arc_rules s x (get_or arcs n d)) m
     (arc_rules-below s right x (get_or arcs n d) (subst (In (get_or arcs n d)) e (In-at arcs n d h)) (turns-fit s x n arcs d h t))
 
+-- the turns of one more arc
 pub turns-step : (s : Input) (x t n : ℕ) (arcs : List Arc) (d : Arc) → n < length arcs → t ≡ turns s (get_or arcs n d)
     → x + sum_by (turns s) (drop n arcs) ≡ end s → x + t + sum_by (turns s) (drop (n + 1) arcs) ≡ end s
 turns-step s x t n arcs d h f g = omega (arith, f, g, sum_by-drop_more (turns s) arcs n d h)
 
+-- the turns are the last variables
 pub end-is : (s : Input) → turn_start s + sum_by (turns s) s.arcs ≡ end s
 unfolding end
 end-is s = refl

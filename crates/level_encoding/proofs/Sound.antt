@@ -41,37 +41,37 @@ module _ (s : Input) (v : ℕ → Bool) (right : IsRight s) (starts_chosen : Sta
   inside : (a : Arc) → In a s.arcs → lit_true v a.lit ≡ true → Path (HasArc (possible s)) a.child a.parent
       → level_value a.parent < level_value a.child
   unfolding arc_rules level_value
-  inside a i l back = let m = arcs-at s v a (turn_start s) s.arcs parts.0 i in go (cases_eq a.parent a.child) m.0 m.1
+  inside a i l back = let m = arcs-at s v a (turn_start s) s.arcs parts.0 i in by-cases (cases_eq a.parent a.child) m.0 m.1
     where
-      go : ((a.parent ≡ a.child) ⊎ (a.parent ≡ a.child → ⊥)) → (x : ℕ) → list_all (eval v) (arc_rules s x a) ≡ true
+      by-cases : ((a.parent ≡ a.child) ⊎ (a.parent ≡ a.child → ⊥)) → (x : ℕ) → list_all (eval v) (arc_rules s x a) ≡ true
           → level_value a.parent < level_value a.child
-      go (inl e) x h =
+      by-cases (inl e) x h =
           absurd (opposite-at v (atom a.lit) (and_parts (eval v (opposite (atom a.lit))) true
           (rw (arc_rules, inside-self s a e, eq-eqb a.parent a.child e) at h)).0 l)
-      go (inr ne) x h =
+      by-cases (inr ne) x h =
           let j = joined-from (possible s) a.parent a.child (one_arc (HasArc (possible s)) a.parent a.child (possible-from s a i)) back in
           let t = inside-joined s a ne ∙ j in
           rising-at v (atom a.lit) (level s a.parent) (level s a.child) (row x (turns s a)) (same-length s a.parent a.child j)
           (turn-length s x a t) (rw (arc_rules, t) at h) l
 
   rises : (p q : ℕ) → HasArc (chosen s v) p q → Path (HasArc (possible s)) q p → level_value p < level_value q
-  rises p q h back = let c = chosen-to s v p q h in go p q c.0 c.1 c.2 c.3 c.4 back
+  rises p q h back = let c = chosen-to s v p q h in at-places p q c.0 c.1 c.2 c.3 c.4 back
     where
-      go : (p q : ℕ) (a : Arc) → In a s.arcs → a.parent ≡ p → a.child ≡ q → lit_true v a.lit ≡ true → Path (HasArc (possible s)) q p
+      at-places : (p q : ℕ) (a : Arc) → In a s.arcs → a.parent ≡ p → a.child ≡ q → lit_true v a.lit ≡ true → Path (HasArc (possible s)) q p
           → level_value p < level_value q
-      go p q a i e d l back = rw (← e, ← d) (inside a i l (rw (e, d) back))
+      at-places p q a i e d l back = rw (← e, ← d) (inside a i l (rw (e, d) back))
 
   acyclic : IsAcyclic (HasArc (chosen s v))
   acyclic = acyclic_by_parts (HasArc (possible s)) (HasArc (chosen s v)) (chosen-possible s v) level_value rises
 
   back : (i : ℕ) → eval v (node s i) ≡ true → (is_root s i ≡ true) ⊎ ((p : ℕ) × HasArc (chosen s v) p i)
   unfolding node_rules
-  back i h = go (is_root s i) refl (all-flat-at (eval v) (node_rules s) i (below (numbers s)) parts.1
+  back i h = by-bool (is_root s i) refl (all-flat-at (eval v) (node_rules s) i (below (numbers s)) parts.1
       (In-below (numbers s) i (node-within s v i h)))
     where
-      go : (b : Bool) → is_root s i ≡ b → list_all (eval v) (node_rules s i) ≡ true → (b ≡ true) ⊎ ((p : ℕ) × HasArc (chosen s v) p i)
-      go true e t = inl refl
-      go false e t =
+      by-bool : (b : Bool) → is_root s i ≡ b → list_all (eval v) (node_rules s i) ≡ true → (b ≡ true) ⊎ ((p : ℕ) × HasArc (chosen s v) p i)
+      by-bool true e t = inl refl
+      by-bool false e t =
           let ends = any_of (map (λ a. atom a.lit) (filter (λ a. eqb a.child i) s.arcs)) in
           let u : ((eval v (opposite (node s i)) || eval v ends) && true) ≡ true = rw (node_rules, e) at t in
           elim (or_cases (eval v (opposite (node s i))) (eval v ends) (and_parts (eval v (opposite (node s i)) || eval v ends) true u).0) [
@@ -83,6 +83,7 @@ module _ (s : Input) (v : ℕ → Bool) (right : IsRight s) (starts_chosen : Sta
                 inr (f.0.parent, subst (HasArc (chosen s v) f.0.parent) (eqb-true f.0.child i y.0) (chosen-from s v f.0 f.1 y.1))
           ]
 
+  -- a model's choice has no cycle and founds its nodes
   pub sound : IsSound s v
   sound = record {
     acyclic = acyclic;
@@ -117,6 +118,7 @@ module _ (s : Input) (v : ℕ → Bool) (right : IsRight s) (starts_chosen : Sta
       (all-map-at (eval v) (λ a. implies (begins s q a) (path s p q)) f.0 (leaving s p) m.1
       (In-filter (λ a. eqb a.parent p) f.0 s.arcs f.1 y.0)) y.1
 
+  -- its path literals are true exactly where chosen arcs lead
   pub exact : IsExact s v
   exact p q target = (
     told_by_path same exact_same (chosen s v) acyclic Told q owes p,

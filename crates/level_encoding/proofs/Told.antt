@@ -25,6 +25,7 @@ unfolding is_target
 asked-target s k d h = list_any_at (λ pair. eqb pair.1 (get_or s.asked k d).1) s.asked k d h
     (eq-eqb (get_or s.asked k d).1 (get_or s.asked k d).1 refl)
 
+-- the literals that are answered say so
 pub says-paths : (s : Input) (paths : List (Option Lit)) → IsRight s → paths ≡ paths_of s → (v : ℕ → Bool) → StartsChosen s v
     → list_all (eval v) (constraints s) ≡ true → SaysPaths s paths v
 unfolding paths_of
@@ -43,6 +44,7 @@ paths-below s n paths right h f =
     (All-map (λ path. SaidBelow n (literal_at path)) (λ pair. way s pair.1 pair.0) s.asked (λ k d g. let pair = get_or s.asked k d in
     SaidBelow-le (end s) n (path s pair.0 pair.1) h (path-below s right pair.0 pair.1)))
 
+-- the longer list keeps the three promises
 pub keeps : (s : Input) (old : Clauses) (paths : List (Option Lit)) → IsRight s → s.first ≡ old.vars → paths ≡ paths_of s
     → KeepsLevels s old (levels_on s old) paths
 unfolding levels_on

@@ -36,8 +36,8 @@ fn is_inside(input: &LevelInput, plan: &Plan, arc: &Arc) -> bool
         )
 }
 
-/// The parent's level is below the child's where the arc is chosen; the turns are the variables from
-/// `turn` on.
+/// The parent's level is below the child's where the arc is chosen; the turns are the variables
+/// from `turn` on.
 fn add_level_rules(
     alloc: Global,
     input: &LevelInput,
@@ -121,7 +121,8 @@ fn assert_arc(
     requires parent { arc.now.parent < numbers input.now }
     requires child { arc.now.child < numbers input.now }
     requires below { AllSaidBelow clauses.old.vars (arc_rules input.now turn arc.now) }
-    ensures built { OnOk result (clauses.new ≡ assert_all clauses.old (arc_rules input.now turn arc.now)) }
+    ensures built { OnOk result
+        (clauses.new ≡ assert_all clauses.old (arc_rules input.now turn arc.now)) }
     ensures more { OnOk result (clauses.old.vars ≤ clauses.new.vars) }
     ensures allows { Allows clauses.old clauses.new
         (λ asked v. Meets v (arc_rules input.now turn arc.now)) }

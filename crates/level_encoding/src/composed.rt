@@ -27,6 +27,7 @@ pub(crate) fn never(alloc: Global) -> Formula
     Formula::any(Vec::new(alloc))
 }
 
+/// True where both formulas are.
 #[tactic(auto, unfolding(crate::specs::Composed::both))]
 pub(crate) fn both(alloc: Global, f: Formula, g: Formula) -> Result<Formula, AllocError>
     ensures { IfOk result (λ h. h ≡ both f g) }
@@ -37,6 +38,7 @@ pub(crate) fn both(alloc: Global, f: Formula, g: Formula) -> Result<Formula, All
     Ok(Formula::any(parts).negated())
 }
 
+/// True where the second formula is, or the first is not.
 #[tactic(auto, unfolding(crate::specs::Composed::implies))]
 pub(crate) fn implies(alloc: Global, f: Formula, g: Formula) -> Result<Formula, AllocError>
     ensures { IfOk result (λ h. h ≡ implies f g) }
@@ -93,8 +95,8 @@ fn add_digit_rules(
     Ok(())
 }
 
-/// Where `first` is true, the number whose digits are the variables from `p` on is less than the one
-/// from `q` on; the turns are the variables from `turn` on.
+/// Where `first` is true, the number whose digits are the variables from `p` on is less than the
+/// one from `q` on; the turns are the variables from `turn` on.
 #[tactic(auto, using(crate::proofs::RowLaws::rows_rising))]
 pub(crate) fn add_rising(
     alloc: Global,

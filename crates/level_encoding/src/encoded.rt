@@ -17,15 +17,15 @@ use crate::plan::{Plan, make_plan};
 use clause_store::{ClauseList, Lit};
 use std::alloc::{AllocError, Global};
 
-/// Adds clauses that keep the chosen arcs free of cycles and the chosen nodes founded, and answers a
-/// literal for each asked pair that says whether chosen arcs lead from the first to the second: None
-/// where no arcs could.
+/// Adds clauses that keep the chosen arcs free of cycles and the chosen nodes founded, and answers
+/// a literal for each asked pair that says whether chosen arcs lead from the first to the second:
+/// None where no arcs could.
 ///
 /// Numbers are places in `nodes`, whose literals choose them. The promises on cycles, founded nodes
 /// and paths are of models in which a chosen arc's parent is chosen. New variables are at most two
 /// for each pair of numbers and one for each arc and number; where with the old ones they could be
-/// 2^63, as where there are 2^32 numbers, there is no memory for them. After want of memory the list
-/// may have grown by some of them and some of the clauses.
+/// 2^63, as where there are 2^32 numbers, there is no memory for them. After want of memory the
+/// list may have grown by some of them and some of the clauses.
 pub fn levels(
     alloc: Global,
     clauses: &mut ClauseList,

@@ -11,7 +11,8 @@ pub struct Arc {
     pub lit: Lit,
 }
 
-/// Numbers with the literals that choose them, roots, arcs, asked pairs, and the first new variable.
+/// Numbers with the literals that choose them, roots, arcs, asked pairs, and the first new
+/// variable.
 #[derive(Drop)]
 pub struct LevelInput<'a> {
     nodes: &'a [Lit],
@@ -33,6 +34,8 @@ impl<'a> LevelInput<'a> {
     ghost use Rattle.std.specs.Prelude.{◌≡◌};
     ghost use Rattle.level_encoding.specs.Input.{numbers};
 
+    /// Numbers from 0 on, each with the literal that chooses it; roots, arcs and asked pairs are of
+    /// these numbers, and `first` is the first variable that nothing has.
     pub fn new(
         nodes: &'a [Lit],
         roots: &'a [u64],
@@ -58,36 +61,42 @@ impl<'a> LevelInput<'a> {
         }
     }
 
+    /// How many numbers there are.
     pub(crate) fn size(&self) -> usize
         ensures { result ≡ numbers self.now }
     {
         self.nodes.len()
     }
 
+    /// The literals that choose the numbers.
     pub(crate) fn nodes(&self) -> &[Lit]
         ensures { result.now ≡ self.now.nodes }
     {
         self.nodes
     }
 
+    /// The numbers that are founded by themselves.
     pub(crate) fn roots(&self) -> &[u64]
         ensures { result.now ≡ self.now.roots }
     {
         self.roots
     }
 
+    /// The arcs, with the literals that choose them.
     pub(crate) fn arcs(&self) -> &[Arc]
         ensures { result.now ≡ self.now.arcs }
     {
         self.arcs
     }
 
+    /// The pairs that paths are asked for.
     pub(crate) fn asked(&self) -> &[(u64, u64)]
         ensures { result.now ≡ self.now.asked }
     {
         self.asked
     }
 
+    /// The first variable that nothing has.
     pub(crate) fn first(&self) -> u64
         ensures { result ≡ self.now.first }
     {

@@ -25,10 +25,13 @@ pub(crate) struct Plan {
     pub(crate) ways: Vec<WayRow>,
     /// The first variable behind those of paths.
     pub(crate) turns: u64,
+    /// For each number the arcs that lead to it.
     pub(crate) arriving: Vec<Group>,
+    /// For each number the arcs that lead from it.
     pub(crate) leaving: Vec<Group>,
 }
 
+/// Where each level, path and turn has its variables, and which arcs come to and leave each number.
 pub(crate) fn make_plan(alloc: Global, input: &LevelInput) -> Result<Plan, AllocError>
     requires right { IsRight input.now }
     requires few { numbers input.now < 2 ^ 32 }
@@ -53,6 +56,7 @@ pub(crate) fn make_plan(alloc: Global, input: &LevelInput) -> Result<Plan, Alloc
     })
 }
 
+/// The first variable of a number's level.
 pub(crate) fn level_start(input: &LevelInput, plan: &Plan, i: usize) -> u64
     requires plan { IsPlan input.now plan.now }
     requires number { i < numbers input.now }
@@ -61,6 +65,7 @@ pub(crate) fn level_start(input: &LevelInput, plan: &Plan, i: usize) -> u64
     plan.starts[i]
 }
 
+/// How many variables a number's level has.
 pub(crate) fn level_width(input: &LevelInput, plan: &Plan, i: usize) -> usize
     requires plan { IsPlan input.now plan.now }
     requires number { i < numbers input.now }

@@ -28,6 +28,7 @@ impl Model for WayRow {
 }
 
 impl WayRow {
+    /// The literal for paths from a number: none where no arcs lead, or beyond the last.
     pub(crate) fn at(&self, p: usize) -> Option<Lit>
         ensures { result ≡ slice_index_or self.now p None }
     {
@@ -47,6 +48,7 @@ fn is_target(input: &LevelInput, q: u64) -> bool
     input.asked().iter().any(|pair| pair.1 == q)
 }
 
+/// The true literal of a variable, where arcs lead.
 fn way_lit(leads: bool, variable: u64) -> Option<Lit>
     ensures { result ≡ (if leads then Some (lit_of variable) else None) }
 {

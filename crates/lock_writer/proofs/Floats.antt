@@ -1,9 +1,7 @@
 -- A lock file has no floats.
-use Rattle.std.proofs.Common.{◌≡◌, refl, ap, subst, ◌∙◌, ℕ, Bool, true, false, ◌||◌, List, [], ◌∷◌, map, fold}
-use Rattle.std.specs.Ordering.{nat_cmp, match_ordering}
-use Rattle.std.specs.declared.cmp.Ordering.TheVariants.{Less, Equal, Greater}
-use Rattle.std.specs.Cmp.Lexicographic.{slice_cmp}
-use Rattle.serde_json.specs.Data.{Data, string, Members, no_members, member, put}
+use Rattle.std.proofs.Common.{◌≡◌, refl, ap, subst, ◌∙◌, ℕ, false, List, [], ◌∷◌, map, fold}
+use Rattle.std.proofs.lemmas.Bool.{or_from}
+use Rattle.serde_json.specs.Data.{Data, string, Members, no_members, put}
 use Rattle.serde_json.specs.View.{items_of}
 use Rattle.serde_json.specs.Written.{compact_text, has_float, items_have_float, members_have_float}
 use Rattle.spec_grammar.specs.declared.part.Spec.{Spec}
@@ -12,21 +10,9 @@ use Rattle.graph_core.specs.declared.node.Node.{Node}
 use Rattle.graph_core.specs.declared.node.Origin.{Origin}
 use Rattle.graph_core.specs.declared.node.Origin.TheVariants.{Built, External, Installed}
 use Rattle.reuse_db.specs.declared.record.Record.{Record}
-use Rattle.reuse_db.proofs.Texts.{no_floats}
+use Rattle.reuse_db.proofs.Texts.{first_of, no_floats, put_float, second_of}
 use Rattle.lock_writer.specs.Hashes.{node_record}
 use Rattle.lock_writer.specs.Texts.{entry_data, node_data, data_of_node, root_data, lock_data}
-
-none_of : (a b : Bool) → a ≡ false → b ≡ false → (a || b) ≡ false
-none_of false b p q = q
-none_of true b p q = absurd (let wrong : true ≡ false = p in cc)
-
-first_of : (a b : Bool) → (a || b) ≡ false → a ≡ false
-first_of false b p = refl
-first_of true b p = absurd (let wrong : true ≡ false = p in cc)
-
-second_of : (a b : Bool) → (a || b) ≡ false → b ≡ false
-second_of false b p = p
-second_of true b p = absurd (let wrong : true ≡ false = p in cc)
 
 entry_float : (origin : Origin) → has_float (entry_data origin) ≡ false
 entry_float Built = refl
@@ -40,28 +26,16 @@ node_float entry origin =
     let behind_compiler = second_of _ _ all in
     let behind_dependencies = second_of _ _ behind_compiler in
     let behind_external = second_of _ _ behind_dependencies in
-    none_of _ _ (first_of _ _ all)
-    (none_of _ _ (first_of _ _ behind_compiler)
-    (none_of _ _ (entry_float origin)
-    (none_of _ _ (first_of _ _ behind_dependencies)
-    (none_of _ _ (first_of _ _ behind_external) refl))))
+    or_from _ _ (first_of _ _ all)
+    (or_from _ _ (first_of _ _ behind_compiler)
+    (or_from _ _ (entry_float origin)
+    (or_from _ _ (first_of _ _ behind_dependencies)
+    (or_from _ _ (first_of _ _ behind_external) refl))))
 
 nodes_float : (g : Content) (records : List Record) (nodes : List Node)
     → items_have_float (items_of (map (data_of_node g records) nodes)) ≡ false
 nodes_float g records [] = refl
-nodes_float g records (node ∷ nodes) = none_of _ _ (node_float (node_record g records node) node.origin) (nodes_float g records nodes)
-
-put_float : (k : Text) (d : Data) (ms : Members) → has_float d ≡ false → members_have_float ms ≡ false
-    → members_have_float (put k d ms) ≡ false
-put_float k d no_members f h = none_of _ _ f refl
-put_float k d (member l e ms) f h =
-    let rest = put_float k d ms f (second_of _ _ h) in
-    elim (slice_cmp nat_cmp k l) as (λ r. members_have_float
-    (match_ordering r (member k d (member l e ms)) (member l d ms) (member l e (put k d ms))) ≡ false) [
-      | Less ↦ none_of _ _ f h
-      | Equal ↦ none_of _ _ f (second_of _ _ h)
-      | Greater ↦ none_of _ _ (first_of _ _ h) rest
-    ]
+nodes_float g records (node ∷ nodes) = or_from _ _ (node_float (node_record g records node) node.origin) (nodes_float g records nodes)
 
 providers_float : (providers : List (Text × Text)) (ms : Members) → members_have_float ms ≡ false
     → members_have_float (fold (λ ms p. put p.0 (string p.1) ms) ms providers) ≡ false
@@ -72,12 +46,13 @@ roots_float : (g : Content) (roots : List Spec) → items_have_float (items_of (
 roots_float g [] = refl
 roots_float g (root ∷ roots) = roots_float g roots
 
+-- a lock file has no floats
 pub lock_float : (g : Content) (records : List Record) (roots : List Spec) → has_float (lock_data g records roots) ≡ false
 unfolding lock_data
 lock_float g records roots =
-    none_of _ _ (nodes_float g records g.nodes)
-    (none_of _ _ (providers_float g.providers no_members refl)
-    (none_of _ _ (roots_float g roots) refl))
+    or_from _ _ (nodes_float g records g.nodes)
+    (or_from _ _ (providers_float g.providers no_members refl)
+    (or_from _ _ (roots_float g roots) refl))
 
 -- the text of a value without floats
 pub written : (v d : Data) (text : List ℕ) → v ≡ d → has_float d ≡ false → (has_float v ≡ false → text ≡ compact_text v)

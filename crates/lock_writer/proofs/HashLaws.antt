@@ -46,6 +46,7 @@ map_same f h (x ∷ xs) same =
     let rest = map_same f h xs (λ y has. same y (has_later x xs y has)) in
     ap (λ y. y ∷ map f xs) first ∙ ap (λ ys. h x ∷ ys) rest
 
+-- no node waits for more rounds than there are nodes
 pub waits_below : (g : Content) (name : Text) → waits g name ≤ length g.nodes
 waits_below g name = no_more (length g.nodes) (level bytes_eq (arcs_of g) (names_of g) name)
 
@@ -56,6 +57,7 @@ module _ (g : Content) (graph : IsGraph g) where
       let from = from_filter (λ (e : Edge). bytes_eq e.parent name) g.edges edge has in
       subst (λ p. Contains (arcs_of g) (p, edge.child)) ((bytes_decides edge.parent name).0 from.1) (has_image ends_of g.edges edge from.0)
 
+  -- a child is a node
   pub child_there : (name : Text) (edge : Edge) → Contains (edges_from g name) edge → HasNode g edge.child
   child_there name edge has = (joins_nodes g graph name edge.child (edge_joins name edge has)).1
 
@@ -75,6 +77,7 @@ module _ (g : Content) (graph : IsGraph g) where
         (level_rises bytes_eq bytes_decides (arcs_of g) acyclic (names_of g) name edge.child nodes.0 joins)
         (level_low edge.child nodes.1)
 
+    -- a node waits for one round at least
     pub waits_some : (name : Text) → HasNode g name → waits g name ≤ 0 → ⊥
     waits_some name has = some_left (length g.nodes) (level_of name) (level_low name has)
 

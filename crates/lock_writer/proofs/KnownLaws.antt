@@ -32,6 +32,7 @@ pub zip_more : {A B : Type 0} (R : A → B → Type 0) (xs : List A) (i : ℕ) (
     → AllZip R (take i xs) ys → R x y → AllZip R (take (i + 1) xs) (ys ++ y ∷ [])
 zip_more R xs i x ys y lt is so_far here = rw (take_more xs i x lt, ← is) (zip_push R (take i xs) ys x y so_far here)
 
+-- what relates two lists relates what stands at one place of them
 pub zip_at : {A B : Type 0} (R : A → B → Type 0) (xs : List A) (ys : List B) (i : ℕ) (d : A) (e : B) → AllZip R xs ys → i < length xs
     → R (get_or xs i d) (get_or ys i e)
 zip_at R [] ys i d e all lt = absurd (omega (arith, lt))
@@ -53,6 +54,7 @@ module _ (g : Content) where
     get_or-map name_of g.nodes place node node.name lt ∙ ap name_of (sym is),
   )
 
+  -- a name with a place is that of a node
   pub name_there : (name : Text) (place : ℕ) → IsAt (names_of g) name place → HasNode g name
   name_there name place at = (place, at.0, at.1)
 
@@ -65,6 +67,7 @@ module _ (g : Content) where
         ((place, lt, sym is), refl),
   )
 
+  -- the places at that of a node are its children's
   pub children_at : (children : List (List ℕ)) (place : ℕ) (node : Node) (places : List ℕ)
       → AllZip (λ node places. AreChildren g (edges_from g node.name) places) g.nodes children
       → place < length g.nodes → node ≡ get_or g.nodes place node → places ≡ get_or children place places
@@ -86,29 +89,35 @@ module _ (g : Content) where
       let lt : place < length g.nodes = rw (← length-map g.nodes name_of) at.0 in
       sym (hash_named g.nodes place lt) ∙ ap (node_hash g) (get_or_default (names_of g) place [] name at.0 ∙ at.1)
 
+  -- the place of a name has a hash
   pub place_within : (hashes : List Text) (name : Text) (place : ℕ) → hashes ≡ all_hashes g → IsAt (names_of g) name place
       → place < length hashes
   place_within hashes name place is at = rw (is, length-map g.nodes (λ (node : Node). node_hash g node.name), ← length-map g.nodes name_of)
       at.0
 
+  -- the hash at the place of a name is the node's
   pub hash_of_place : (hashes : List Text) (name : Text) (place : ℕ) (hash : Text) → hashes ≡ all_hashes g → IsAt (names_of g) name place
       → hash ≡ get_or hashes place hash → hash ≡ node_hash g name
   hash_of_place hashes name place hash is at found =
       let lt = place_within hashes name place is at in
       found ∙ get_or_default hashes place hash [] lt ∙ ap (λ l. get_or l place []) is ∙ hash_there name place at
 
+  -- there are as many hashes as nodes
   pub hashes_long : (hashes : List Text) → hashes ≡ all_hashes g → length hashes ≡ length g.nodes
   hashes_long hashes is = ap length is ∙ length-map g.nodes (λ (node : Node). node_hash g node.name)
 
+  -- each edge leads to a node whose hash stands at its place
   pub all_hashed : (hashes : List Text) (edges : List Edge) → hashes ≡ all_hashes g → All (λ edge. IsHashAt g hashes edge.child) edges
   all_hashed hashes edges is = all_from (λ (e : Edge). IsHashAt g hashes e.child) edges (λ e has place at. ap (λ l. get_or l place []) is
       ∙ hash_there e.child place at)
 
+  -- each edge from a name leads to a node
   pub all_there : IsGraph g → (name : Text) → All (λ edge. HasNode g edge.child) (edges_from g name)
   all_there graph name = all_from (λ (e : Edge). HasNode g e.child) (edges_from g name) (child_there g graph name)
 
   -- ---- before the first round, and behind the last
 
+  -- before the first round nothing is told of hashes
   pub start_right : (hashes : List Text) (done : List Bool) (places : ℕ) → places ≡ length g.nodes → length hashes ≡ places
       → done ≡ replicate places false → AreHashes g hashes done
   start_right hashes done places count each is = record {
@@ -120,6 +129,7 @@ module _ (g : Content) where
         absurd (false≢true (sym no ∙ told));
   }
 
+  -- where all is done all hashes are right
   pub all_right : (hashes : List Text) (done : List Bool) → AreHashes g hashes done
       → ((place : ℕ) → place < length g.nodes → IsTrue (is_done done place)) → hashes ≡ all_hashes g
   all_right hashes done are all =
@@ -143,6 +153,7 @@ module _ (g : Content) where
   module _ (graph : IsGraph g) (hashes : List Text) (done : List Bool) (are : AreHashes g hashes done) where
     -- ---- children
 
+    -- a child's hash is right where all children are done
     pub child_known : (edges : List Edge) (places : List ℕ) → AreChildren g edges places → list_all (is_done done) places ≡ true
         → (e : Edge) → Contains edges e → IsHashAt g hashes e.child
     child_known [] places children all e has = absurd (lacks_all e has)
@@ -156,6 +167,7 @@ module _ (g : Content) where
         (λ later. child_known xs ps children.1 parts.1 e later)
         (first_or_later x xs e has)
 
+    -- the children's hashes are right where all of them are done
     pub children_known : (edges : List Edge) (places : List ℕ) → AreChildren g edges places → list_all (is_done done) places ≡ true
         → All (λ edge. IsHashAt g hashes edge.child) edges
     children_known edges places children all =
@@ -170,11 +182,13 @@ module _ (g : Content) where
         (λ later. child_within xs qs children.1 p later)
         (first_or_later q qs p has)
 
+    -- the places of children have a mark
     pub children_within : (edges : List Edge) (places : List ℕ) → AreChildren g edges places → All (λ place. place < length done) places
     children_within edges places children = all_from (λ p. p < length done) places (child_within edges places children)
 
     -- ---- one hash more
 
+    -- one hash more is right
     pub one_more : IsAcyclic (JoinedIn g) → (place : ℕ) (node : Node) (hash : Text) → IsAt (names_of g) node.name place
         → node_of g node.name ≡ Some node
         → hash ≡ hash_over g (node_hash g) node → AreHashes g (set hashes place hash) (set done place true)
@@ -192,16 +206,20 @@ module _ (g : Content) where
           (cases_eq q place);
     }
 
+    -- a place has a hash and a mark
     pub place_there : (name : Text) (place : ℕ) → IsAt (names_of g) name place → (place < length hashes) × (place < length done)
     place_there name place there =
         (omega (arith, there.0, length-map g.nodes name_of, are.each), omega (arith, there.0, length-map g.nodes name_of, are.marks))
 
+  -- what is done stays done
   pub kept_all : (done : List Bool) → Keeps done done
   kept_all done q told = told
 
+  -- a place that was marked is done
   pub done_there : (done : List Bool) (place : ℕ) → place < length done → IsTrue (is_done (set done place true) place)
   done_there done place lt = get_or-set_same done place true false lt
 
+  -- a place that is marked more keeps what is done
   pub kept_more : (done : List Bool) (place : ℕ) → place < length done → Keeps done (set done place true)
   kept_more done place lt q told = ⊎_elim
       (λ (same : q ≡ place). rw same (get_or-set_same done place true false lt))
@@ -211,9 +229,11 @@ module _ (g : Content) where
 -- ---- rounds
 
 module _ (g : Content) (graph : IsGraph g) (acyclic : IsAcyclic (JoinedIn g)) where
+  -- within no rounds nothing needs to be done
   pub none_waits : (done : List Bool) → DoneWithin g 0 done
   none_waits done name place at waits lt = absurd (waits_some g graph acyclic name (name_there g name place at) waits)
 
+  -- within as many rounds as there are nodes all is done
   pub all_within : (done : List Bool) (places rounds : ℕ) → places ≡ length g.nodes → places ≤ rounds → DoneWithin g rounds done
       → (place : ℕ) → place < length g.nodes → IsTrue (is_done done place)
   all_within done places rounds count enough within place lt =

@@ -112,16 +112,16 @@ same_head c (x ∷ xs) e = refl
 abbrev IsLess : List ℕ → Type 0
 IsLess t = (drop 1 (fed t) ≡ fed (drop 1 t)) × (length (drop 1 t) ≤ length t)
 
-one : (c : ℕ) (t : List ℕ) → (32 == c) ≡ false → (head t == c) ≡ true → IsLess t
-one c [] blank e = absurd (false≢true (sym blank ∙ e))
-one c (x ∷ xs) blank e = (refl, omega arith)
+byte-less : (c : ℕ) (t : List ℕ) → (32 == c) ≡ false → (head t == c) ≡ true → IsLess t
+byte-less c [] blank e = absurd (false≢true (sym blank ∙ e))
+byte-less c (x ∷ xs) blank e = (refl, omega arith)
 
 either : (a b : ℕ) (t : List ℕ) → (32 == a) ≡ false → (32 == b) ≡ false → ((head t == a) || (head t == b)) ≡ true → IsLess t
-either a b t p q e = go (or_cases _ _ e)
+either a b t p q e = either-cases (or_cases _ _ e)
   where
-    go : ((head t == a) ≡ true) ⊎ ((head t == b) ≡ true) → IsLess t
-    go (inl h) = one a t p h
-    go (inr h) = one b t q h
+    either-cases : ((head t == a) ≡ true) ⊎ ((head t == b) ≡ true) → IsLess t
+    either-cases (inl h) = byte-less a t p h
+    either-cases (inr h) = byte-less b t q h
 
 optional : (t : List ℕ) (b : Bool) → (b ≡ true → IsLess t) → (cond b (drop 1 (fed t)) (fed t) ≡ fed (cond b (drop 1 t) t))
     × (length (cond b (drop 1 t) t) ≤ length t)
@@ -131,11 +131,11 @@ optional t false f = (refl, omega arith)
 -- a part behind a front that was passed
 then : (n : ℕ) (u v : List ℕ) (f : List ℕ → Option (List ℕ)) → v ≡ fed u → length u ≤ n → Leaves (length u) (f u) (f (fed u))
     → Leaves n (f u) (f v)
-then n u v f is le = go (f u)
+then n u v f is le = then-cases (f u)
   where
-    go : (o : Option (List ℕ)) → Leaves (length u) o (f (fed u)) → Leaves n o (f v)
-    go None h = ap f is ∙ h
-    go (Some r) h = (ap f is ∙ h.0, omega (arith, h.1, le))
+    then-cases : (o : Option (List ℕ)) → Leaves (length u) o (f (fed u)) → Leaves n o (f v)
+    then-cases None h = ap f is ∙ h
+    then-cases (Some r) h = (ap f is ∙ h.0, omega (arith, h.1, le))
 
 by_test : (n : ℕ) (b c : Bool) (x y p q : Option (List ℕ)) → c ≡ b → (b ≡ true → Leaves n x p) → Leaves n y q
     → Leaves n (cond b x y) (cond c p q)
@@ -149,13 +149,13 @@ test_same : (t : List ℕ) (b c : Bool) → c ≡ b → (b ≡ true → IsLess t
 test_same t b c e f = (ap (λ d. cond d (drop 1 (fed t)) (fed t)) e ∙ (optional t b f).0, (optional t b f).1)
 
 whole : (t : List ℕ) → Leaves (length t) (after_whole t) (after_whole (fed t))
-whole t = by_test (length t) (head t == 48) _ (Some (drop 1 t)) _ _ _ (same_head 48 t refl) (λ e. let s = one 48 t refl e in
+whole t = by_test (length t) (head t == 48) _ (Some (drop 1 t)) _ _ _ (same_head 48 t refl) (λ e. let s = byte-less 48 t refl e in
     (ap Some s.0, s.1)) (digits t)
 
 fraction : (t : List ℕ) → Leaves (length t) (after_fraction t) (after_fraction (fed t))
 fraction t =
     by_test (length t) (head t == 46) _ _ (Some t) _ _ (same_head 46 t refl)
-    (λ e. let s = one 46 t refl e in then (length t) (drop 1 t) _ after_digits s.0 s.1 (digits (drop 1 t))) (refl, omega arith)
+    (λ e. let s = byte-less 46 t refl e in then (length t) (drop 1 t) _ after_digits s.0 s.1 (digits (drop 1 t))) (refl, omega arith)
 
 either_head : (a b : ℕ) (t : List ℕ) → (10 == a) ≡ (32 == a) → (10 == b) ≡ (32 == b)
     → ((head (fed t) == a) || (head (fed t) == b)) ≡ ((head t == a) || (head t == b))
@@ -181,7 +181,7 @@ all_parts : (t : List ℕ) → Leaves (length t) (after_number t) (after_number 
 unfolding after_number
 all_parts t =
     let n = length t in
-    let s = test_same t _ _ (same_head 45 t refl) (one 45 t refl) in
+    let s = test_same t _ _ (same_head 45 t refl) (byte-less 45 t refl) in
     behind n after_exponent exponent _ _ (behind n after_fraction fraction _ _
     (then n (after_minus t) _ after_whole s.0 s.1 (whole (after_minus t))))
 
@@ -205,14 +205,14 @@ name_fed : (name t : List ℕ) → IsPlain name
     ≡ (starts_with nat_eq t name && ends_word (drop (length name) t))
 name_fed [] t h = ends_fed t
 name_fed (c ∷ cs) [] h = rw h.0 refl
-name_fed (c ∷ cs) (x ∷ xs) h = go (nat_eq c x) (name_fed cs xs h.1)
+name_fed (c ∷ cs) (x ∷ xs) h = name_fed-cases (nat_eq c x) (name_fed cs xs h.1)
   where
-    go : (b : Bool) → (starts_with nat_eq (fed xs) cs && ends_word (drop (length cs) (fed xs)))
+    name_fed-cases : (b : Bool) → (starts_with nat_eq (fed xs) cs && ends_word (drop (length cs) (fed xs)))
         ≡ (starts_with nat_eq xs cs && ends_word (drop (length cs) xs))
         → ((b && starts_with nat_eq (fed xs) cs) && ends_word (drop (length cs) (fed xs)))
         ≡ ((b && starts_with nat_eq xs cs) && ends_word (drop (length cs) xs))
-    go true e = e
-    go false e = refl
+    name_fed-cases true e = e
+    name_fed-cases false e = refl
 
 word_fed : (x : ℕ) (xs : List ℕ) → word (x ∷ fed xs) ≡ word (x ∷ xs)
 unfolding word
@@ -263,6 +263,7 @@ lex_fed in_string [] = refl
 lex_fed in_escape [] = refl
 lex_fed m (x ∷ xs) = byte_fed m (class x) x xs (λ next. lex_fed next xs)
 
+-- a line feed at the end changes nothing that is read
 pub read_fed : (text : List ℕ) → read (text ++ 10 ∷ []) ≡ read text
 read_fed text = ap (λ ls. option_and_then of_json (option_and_then (λ p. json.if_last p.0 p.1) (json.value max_depth (punctuate fresh ls))))
     (lex_fed between text)

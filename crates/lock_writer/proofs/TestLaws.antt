@@ -72,6 +72,7 @@ module _ (g : Content) (graph : IsGraph g) where
         not_false (reaches_in g node.name node.name) (λ e. acyclic node.name ((reach node.name node.name).0 e)))),
   )
 
+  -- the test says exactly whether a lock file can be written
   pub told : (records : List Record) (roots : List Spec) → Decides (can_be_written g records roots) (CanBeWritten g records roots)
   told records roots =
       let recorded = all_decide (λ (node : Node). is_recorded records node.origin) (λ (node : Node). IsRecorded records node.origin)
@@ -87,6 +88,7 @@ module _ (g : Content) (graph : IsGraph g) where
 
 -- ---- what a call answered
 
+-- so does its answer, if it gave one
 pub told_ok : {E : Type 0} (g : Content) (records : List Record) (roots : List Spec) (r : Result Bool E) → IsGraph g
     → IfOk r (λ is. is ≡ can_be_written g records roots) → IfOk r (λ is. IsTrue is ↔ CanBeWritten g records roots)
 told_ok g records roots (Ok is) graph same =
@@ -94,6 +96,7 @@ told_ok g records roots (Ok is) graph same =
     (λ e. decides.0 (sym same ∙ e), λ can. same ∙ decides.1 can)
 told_ok g records roots (Err e) graph same = tt
 
+-- the test of a text says whether it is UTF-8
 pub text_told : {A E : Type 0} (r : Result A E) (bytes : List ℕ) (P : A → Type 0) (Q : E → Type 0) (is : Bool)
     → MatchResult r (λ s. P s × IsUtf8 bytes) (λ e. (IsUtf8 bytes → ⊥) × Q e) → is ≡ is_ok r → is ≡ is_utf8 bytes
 text_told (Ok s) bytes P Q is told same = same ∙ sym (is_utf8-from_IsUtf8 bytes told.1)

@@ -1,11 +1,10 @@
-// The places of each node's children.
-ghost use Rattle.std.specs.Prelude.{map, All, IfOk};
+//! The places of each node's children.
+ghost use Rattle.std.specs.Prelude.{All, IfOk};
 ghost use Rattle.std.specs.List.{AllZip};
-ghost use Rattle.reachability.specs.Places.{IsAt};
-ghost use Rattle.graph_core.specs.Graphs.{HasNode, name_of, edges_from};
+ghost use Rattle.graph_core.specs.Graphs.{HasNode, edges_from};
 ghost use Rattle.lock_writer.specs.Known.{AreChildren};
 
-use graph_core::{Edge, Graph};
+use graph_core::{Edge, Graph, known_place};
 use plain_data::List;
 use std::alloc::{AllocError, Global};
 
@@ -32,15 +31,4 @@ fn places_of(alloc: Global, graph: &Graph, edges: &[Edge]) -> Result<List<usize>
         places.push(known_place(graph, edge.child.as_str()))?;
     }
     Ok(places)
-}
-
-/// The place of a node that is there.
-pub(crate) fn known_place(graph: &Graph, name: &str) -> usize
-    requires { HasNode graph.now name.now }
-    ensures { IsAt (map name_of graph.now.nodes) name.now result }
-{
-    match graph.node_place(name) {
-        Ok(place) => place,
-        Err(_) => unreachable!(),
-    }
 }

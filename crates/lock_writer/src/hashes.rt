@@ -1,12 +1,14 @@
-// The hashes of all nodes.
-ghost use Rattle.std.specs.Prelude.{◌≡◌, ◌+◌, ℕ, All, IfOk, OnOk, IsTrue, Some, false, length, replicate};
+//! The hashes of all nodes.
+ghost use Rattle.std.specs.Prelude.{◌≡◌, ◌+◌, ℕ, All, IfOk, OnOk, IsTrue, Some, false, length};
+ghost use Rattle.std.specs.Prelude.{replicate};
 ghost use Rattle.std.specs.List.{AllZip, list_all};
 ghost use Rattle.reachability.specs.Paths.{IsAcyclic};
 ghost use Rattle.reachability.specs.Places.{IsAt};
 ghost use Rattle.graph_core.specs.Graphs.{IsGraph, edges_from, node_of};
 ghost use Rattle.graph_core.specs.Paths.{JoinedIn};
 ghost use Rattle.lock_writer.specs.Hashes.{node_hash, hash_over};
-ghost use Rattle.lock_writer.specs.Known.{AreChildren, AreHashes, DoneWithin, IsHashAt, Keeps, all_hashes, is_done, names_of};
+ghost use Rattle.lock_writer.specs.Known.{AreChildren, AreHashes, DoneWithin, IsHashAt, Keeps};
+ghost use Rattle.lock_writer.specs.Known.{all_hashes, is_done, names_of};
 
 use crate::children::children_of;
 use crate::record::{dependencies_of, own_hash};
@@ -17,8 +19,9 @@ use std::alloc::{AllocError, Global};
 
 /// The hash of each node, in the order of the nodes.
 ///
-/// Goes over the nodes in as many rounds as there are nodes, and takes each whose children's hashes are
-/// known. So it takes steps by the square of the number of nodes, most of which are one comparison.
+/// Goes over the nodes in as many rounds as there are nodes, and takes each whose children's hashes
+/// are known. So it takes steps by the square of the number of nodes, most of which are one
+/// comparison.
 pub fn node_hashes(alloc: Global, graph: &Graph) -> Result<Vec<Hash>, AllocError>
     requires { IsAcyclic (JoinedIn graph.now) }
     ensures { IfOk result (λ hashes. hashes.items ≡ all_hashes graph.now) }
@@ -61,7 +64,8 @@ fn find_hashes(
     done: &mut Vec<bool>,
 ) -> Result<(), AllocError>
     requires acyclic { IsAcyclic (JoinedIn graph.now) }
-    requires children { AllZip (λ node places. AreChildren graph.now (edges_from graph.now node.name) places)
+    requires children { AllZip
+        (λ node places. AreChildren graph.now (edges_from graph.now node.name) places)
         graph.now.nodes children.now }
     requires right { AreHashes graph.now hashes.old.items done.old.items }
     ensures right { OnOk result (AreHashes graph.now hashes.new.items done.new.items) }

@@ -1,4 +1,4 @@
-// Lock files.
+//! Lock files.
 ghost use Rattle.std.specs.Prelude.{◌≡◌, ◌++◌, ◌∷◌, [], All, Contains, IfOk, map, length};
 ghost use Rattle.std.specs.Str.{IsUtf8};
 ghost use Rattle.serde_json.specs.Data.{array, object};
@@ -8,14 +8,15 @@ ghost use Rattle.spec_grammar.specs.Canonical.{spec_text};
 ghost use Rattle.graph_core.specs.Graphs.{HasNode, IsGraph};
 ghost use Rattle.lock_writer.specs.Known.{all_hashes};
 ghost use Rattle.lock_writer.specs.Hashes.{node_hash};
-ghost use Rattle.lock_writer.specs.Texts.{CanBeWritten, IsOfNode, IsRecorded, data_of_node, lock_data, lock_text, own_data, provider_members, root_data, root_of};
+ghost use Rattle.lock_writer.specs.Texts.{CanBeWritten, IsOfNode, IsRecorded, data_of_node};
+ghost use Rattle.lock_writer.specs.Texts.{lock_data, lock_text, own_data, provider_members};
+ghost use Rattle.lock_writer.specs.Texts.{root_data, root_of};
 
-use crate::children::known_place;
 use crate::hashes::node_hashes;
 use crate::node::node_value;
 use crate::record::{dependencies_of, record_of_node};
 use crate::test::name_of;
-use graph_core::{Graph, Node, Origin};
+use graph_core::{Graph, Node, Origin, known_place};
 use plain_data::Word;
 use reuse_db::Database;
 use serde_json::{Map, Value, json, put};
@@ -23,8 +24,8 @@ use spec_grammar::{Spec, write_spec};
 use spec_hash::Hash;
 use std::alloc::{AllocError, Global};
 
-/// The lock file of a graph whose nodes are built, external or installed in the database, with the roots in
-/// order: one line of compact JSON, which is read as the value that it was written for.
+/// The lock file of a graph whose nodes are built, external or installed in the database, with the
+/// roots in order: one line of compact JSON, which is read as the value that it was written for.
 pub fn write_lock(
     alloc: Global,
     graph: &Graph,
@@ -79,6 +80,7 @@ fn nodes_value(
     Ok(Value::Array(values))
 }
 
+/// The object of a node: that of its record, where it is installed.
 fn value_of_node(
     alloc: Global,
     graph: &Graph,
@@ -132,6 +134,7 @@ fn hash_at(graph: &Graph, hashes: &[Hash], name: &str) -> Hash
 
 // ---- providers and roots
 
+/// Each virtual with the package that provides it.
 fn providers_value(alloc: Global, providers: &[(Word, Word)]) -> Result<Value, AllocError>
     ensures { IfOk result (λ value. view value ≡ object (provider_members providers.now)) }
 {
@@ -177,6 +180,7 @@ fn root_values(
     Ok(values)
 }
 
+/// A requested spec with the hash of its node.
 fn root_value(
     alloc: Global,
     graph: &Graph,

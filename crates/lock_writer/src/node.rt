@@ -1,4 +1,4 @@
-// Nodes as they are written.
+//! Nodes as they are written.
 ghost use Rattle.std.specs.Prelude.{◌≡◌, IfOk};
 ghost use Rattle.serde_json.specs.View.{view};
 ghost use Rattle.lock_writer.specs.Texts.{entry_data, node_data, origin_text};

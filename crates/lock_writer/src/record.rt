@@ -1,12 +1,11 @@
-// The records of nodes.
+//! The records of nodes.
 ghost use Rattle.std.specs.Prelude.{◌≡◌, [], length, map, All, IfOk};
 ghost use Rattle.graph_core.specs.Graphs.{HasNode};
 ghost use Rattle.reuse_db.specs.Canonical.{right_hash};
 ghost use Rattle.lock_writer.specs.Hashes.{child_of, node_hash, record_of_node};
 ghost use Rattle.lock_writer.specs.Known.{IsHashAt};
 
-use crate::children::known_place;
-use graph_core::{Edge, Graph, Kinds, Node};
+use graph_core::{Edge, Graph, Kinds, Node, known_place};
 use plain_data::{Duplicate, List};
 use reuse_db::{Record, canonical};
 use spec_hash::{Hash, hash_text};

@@ -1,8 +1,9 @@
-// Whether a lock file can be written.
+//! Whether a lock file can be written.
 ghost use Rattle.std.specs.Prelude.{◌≡◌, ◌↔◌, IfOk, IsTrue};
 ghost use Rattle.std.specs.List.{list_all};
 ghost use Rattle.spec_grammar.specs.Canonical.{word_text};
-ghost use Rattle.lock_writer.specs.Tests.{can_be_written, has_text, is_of_node, is_off_cycles, is_recorded};
+ghost use Rattle.lock_writer.specs.Tests.{can_be_written, has_text, is_of_node, is_off_cycles};
+ghost use Rattle.lock_writer.specs.Tests.{is_recorded};
 ghost use Rattle.lock_writer.specs.Texts.{CanBeWritten};
 
 use graph_core::{Graph, Origin, Reach};
@@ -10,8 +11,8 @@ use reuse_db::Database;
 use spec_grammar::{Spec, write_spec};
 use std::alloc::{AllocError, Global};
 
-/// Whether `write_lock` may be called: the graph has no cycle, each installed node is in the database, and
-/// each root is a node by its name.
+/// Whether `write_lock` may be called: the graph has no cycle, each installed node is in the
+/// database, and each root is a node by its name.
 pub fn can_be_written(
     alloc: Global,
     graph: &Graph,
@@ -25,6 +26,7 @@ pub fn can_be_written(
     test(alloc, graph, database, roots)
 }
 
+/// The four conditions, the cheap ones first.
 fn test(
     alloc: Global,
     graph: &Graph,
@@ -78,6 +80,7 @@ fn is_of_node(graph: &Graph, root: &Spec) -> bool
     graph.node(name_of(root)).is_some()
 }
 
+/// Whether the text of each root is UTF-8.
 fn are_texts(alloc: Global, roots: &[Spec]) -> Result<bool, AllocError>
     ensures { IfOk result (λ is. is ≡ list_all has_text roots.now) }
 {

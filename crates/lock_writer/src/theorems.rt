@@ -1,4 +1,4 @@
-// What holds of all hashes.
+//! What holds of all hashes.
 ghost use Rattle.std.specs.Prelude.{◌≡◌, ℕ, Some};
 ghost use Rattle.reachability.specs.Paths.{IsAcyclic};
 ghost use Rattle.graph_core.specs.Graphs.{Text, Content, IsGraph, node_of};

@@ -19,6 +19,7 @@ use Rattle.graph_core.specs.declared.node.Node.{Node}
 use Rattle.graph_core.proofs.PairLaws.{pair_total, pair_exact}
 use Rattle.lockfile.specs.Named.{later, Collected, Collects, HasEnds}
 
+-- nothing later changes nothing
 pub later_none : {X : Type 0} (r : Option X) → later r None ≡ r
 later_none None = refl
 later_none (Some x) = refl
@@ -59,6 +60,7 @@ pub one_less : {X K : Type 0} (R : K → K → Ordering) (key : X → K) (old ne
 one_less R key old new before rest all x adds is collects k =
     adds rest k ∙ ap (λ xs. later (find_key R key old k) (find_key R key xs k)) (sym is) ∙ collects k
 
+-- where nothing is left all was collected
 pub none_left : {X K : Type 0} (R : K → K → Ordering) (key : X → K) (done rest all : List X) → rest ≡ [] → Collects R key done rest all
     → (k : K) → find_key R key done k ≡ find_key R key all k
 none_left R key done rest all is collects k = sym (later_none (find_key R key done k))
@@ -66,6 +68,7 @@ none_left R key done rest all is collects k = sym (later_none (find_key R key do
 
 -- ---- the parts of a graph
 
+-- a node is taken where none has its name
 pub node_taken : (old new : Content) (node : Node) (added : Bool) → IsTrue added ↔ (node_of old node.name ≡ None)
     → new ≡ cond added (with_node old node) old
     → Collected byte_cmp name_of old.nodes node new.nodes × (new.edges ≡ old.edges) × (new.providers ≡ old.providers)
@@ -80,6 +83,7 @@ node_taken old new node false tells is = (
   ap (λ (g : Content). g.providers) is,
 )
 
+-- an edge is taken where none is between its ends
 pub edge_taken : (old new : Content) (edge : Edge) (added : Bool) → HasEnds old edge → IsTrue added
     ↔ ((edge_of old edge.parent edge.child ≡ None) × HasNode old edge.parent × HasNode old edge.child)
     → new ≡ cond added (with_edge old edge) old → Collected pair_cmp ends_of old.edges edge new.edges × (new.nodes ≡ old.nodes)
@@ -97,6 +101,7 @@ edge_taken old new edge false ends tells is = (
   ap (λ (g : Content). g.providers) is,
 )
 
+-- a provider is taken where its virtual has none
 pub provider_taken : (old new : Content) (name provider : Text) (added : Bool) → HasNode old provider → IsTrue added
     ↔ ((provider_of old name ≡ None) × HasNode old provider)
     → new ≡ cond added (with_provider old name provider) old → Collected byte_cmp virtual_of old.providers (name, provider) new.providers
@@ -122,6 +127,7 @@ provider_taken old new name provider false there tells is = (
 
 -- ---- names with hashes
 
+-- a hash is taken where its name has none
 pub hash_taken : (old new : List (Text × Text)) (x : Text × Text) (added : Bool) → IsInOrder byte_cmp (λ (h : Text × Text). h.0) old
     → IsTrue added ↔ (find_key byte_cmp (λ (h : Text × Text). h.0) old x.0 ≡ None)
     → new ≡ cond added (with_one byte_cmp (λ (h : Text × Text). h.0) old x) old
@@ -138,11 +144,13 @@ hash_taken old new x false order tells is = (
 
 -- ---- nodes stay
 
+-- ends of an edge stay nodes where the nodes stay
 pub ends_kept : (old new : Content) (edge made : Edge) → new.nodes ≡ old.nodes → made ≡ edge → HasEnds old edge → HasEnds new made
 ends_kept old new edge made nodes same ends = (
   subst (λ (e : Edge). HasNode new e.parent) (sym same) (subst (λ ns. Contains (map name_of ns) edge.parent) (sym nodes) ends.0),
   subst (λ (e : Edge). HasNode new e.child) (sym same) (subst (λ ns. Contains (map name_of ns) edge.child) (sym nodes) ends.1),
 )
 
+-- a name stays a node's where the nodes stay
 pub node_kept : (old new : Content) (name made : Text) → new.nodes ≡ old.nodes → made ≡ name → HasNode old name → HasNode new made
 node_kept old new name made nodes same has = subst (HasNode new) (sym same) (subst (λ ns. Contains (map name_of ns) name) (sym nodes) has)

@@ -33,27 +33,28 @@ use Rattle.lockfile.specs.declared.node.LockedNode.{LockedNode}
 -- what is named is one of the names
 pub named_there : (nodes : List LockedNode) (hash name : Text) → named_by nodes hash ≡ Some name → Contains (names_of nodes) name
 named_there [] hash name e = absurd (none-some name e)
-named_there (node ∷ nodes) hash name e = go (bytes_eq node.described.hash hash) e (named_there nodes hash name)
+named_there (node ∷ nodes) hash name e = named_there-cases (bytes_eq node.described.hash hash) e (named_there nodes hash name)
   where
-    go : (b : Bool) → option_map (λ (n : LockedNode). n.described.name)
+    named_there-cases : (b : Bool) → option_map (λ (n : LockedNode). n.described.name)
         (cond b (Some node) (find (λ (n : LockedNode). bytes_eq n.described.hash hash) nodes)) ≡ Some name
         → (named_by nodes hash ≡ Some name → Contains (names_of nodes) name) → Contains (node.described.name ∷ names_of nodes) name
-    go true e rest =
+    named_there-cases true e rest =
         let same : node.described.name ≡ name = cc in
         subst (Contains (node.described.name ∷ names_of nodes)) same (has_first node.described.name (names_of nodes))
-    go false e rest = has_later node.described.name (names_of nodes) name (rest e)
+    named_there-cases false e rest = has_later node.described.name (names_of nodes) name (rest e)
 
+-- what is left of a list, one element further on
 pub drop_one : {X : Type 0} (xs : List X) (i : ℕ) (x : X) → i < length xs → x ≡ get_or xs i x → drop i xs ≡ x ∷ drop (i + 1) xs
 drop_one xs i x lt is = drop_more xs i x lt ∙ ap (λ y. y ∷ drop (i + 1) xs) (sym is)
 
 one_named : (node : LockedNode) (nodes : List LockedNode) (q : Text) (old : Option Text) → old ≡ named_by nodes q
     → cond (bytes_eq node.described.hash q) (Some node.described.name) old ≡ named_by (node ∷ nodes) q
-one_named node nodes q old is = go (bytes_eq node.described.hash q)
+one_named node nodes q old is = one_named-cases (bytes_eq node.described.hash q)
   where
-    go : (b : Bool) → cond b (Some node.described.name) old ≡ option_map (λ (n : LockedNode). n.described.name)
+    one_named-cases : (b : Bool) → cond b (Some node.described.name) old ≡ option_map (λ (n : LockedNode). n.described.name)
         (cond b (Some node) (find (λ (n : LockedNode). bytes_eq n.described.hash q) nodes))
-    go true = refl
-    go false = is
+    one_named-cases true = refl
+    one_named-cases false = is
 
 -- one node more, before those whose names are there
 pub names_more : (nodes : List LockedNode) (i : ℕ) (node : LockedNode) (old new : BTreeMap (String Global) Text) → i < length nodes
@@ -102,16 +103,14 @@ has_name nodes g same name has =
     (subst (λ names. Contains names name) (names_as_nodes nodes) has) in
     (has_decides g name).0 (ap is_some (same name ∙ known.1))
 
+-- the edges of all nodes have their ends
 pub all_ends : (nodes : List LockedNode) (g : Content)
     → ((name : Text) → node_of g name ≡ find_key byte_cmp name_of (graph_nodes nodes) name) → All (HasEnds g) (all_edges nodes nodes)
 all_ends nodes g same = all_from (HasEnds g) (all_edges nodes nodes) (λ e has.
     let ends = ends_named nodes nodes e has in
     (has_name nodes g same e.parent ends.0, has_name nodes g same e.child ends.1))
 
--- what holds of all holds of the one at a place
-pub all_at : {X : Type 0} (P : X → Type 0) (xs : List X) (i : ℕ) (x : X) → All P xs → i < length xs → x ≡ get_or xs i x → P x
-all_at P xs i x each lt is = subst P (sym is) (each i x lt)
-
+-- so have these edges where they are those
 pub given_ends : (nodes : List LockedNode) (g : Content) (edges made : List Edge) → edges ≡ made → made ≡ all_edges nodes nodes
     → ((name : Text) → node_of g name ≡ find_key byte_cmp name_of (graph_nodes nodes) name) → All (HasEnds g) edges
 given_ends nodes g edges made given is same = subst (All (HasEnds g)) (sym (given ∙ is)) (all_ends nodes g same)

@@ -30,7 +30,7 @@ use Rattle.json_readers.specs.Json.{IsJson}
 use Rattle.lockfile.specs.Locks.{IsLock, IsLockOf}
 use Rattle.lockfile.specs.declared.lock.Lock.{Lock}
 use Rattle.lockfile.specs.Formed.{IsFormed, IsFormedNode, locked, locked_file, locked_root}
-use Rattle.lockfile.proofs.Lists.{same_some}
+use Rattle.json_readers.proofs.Once.{some_one}
 use Rattle.lockfile.proofs.NodeLaws.{node_again}
 use Rattle.lockfile.proofs.WrittenLaws.{entries_again, written}
 
@@ -48,6 +48,7 @@ nodes_again g records fit = items_mapped node_at (data_of_node g records) (locke
     let is = All-contains (λ (n : Node). IsFormedNode n (node_record g records n)) g.nodes node fit has in
     node_again (node_record g records node) node.origin is.form is.own)
 
+-- the names in the file are those of the nodes
 pub names_same : (g : Content) (records : List Record) (nodes : List Node)
     → ((node : Node) → Contains nodes node → (node_record g records node).name ≡ node.name)
     → names_of (map (locked g records) nodes) ≡ map name_of nodes
@@ -95,6 +96,7 @@ roots_again g roots fit = items_mapped root_at (root_data g) (locked_root g) 0 r
 
 -- ---- the whole
 
+-- the value that is written is read as the locked file
 pub file_again : (g : Content) (records : List Record) (roots : List Spec) → IsGraph g → IsFormed g records roots
     → file_at (lock_data g records roots) ≡ Ok (locked_file g records roots)
 unfolding file_at roots_at lock_data
@@ -116,7 +118,7 @@ pub text_again : (g : Content) (records : List Record) (roots : List Spec) → I
     → IsJson text (lock_data g records roots) → (lock : Lock) → IsLock text lock
     → IsLockOf (locked_file g records roots) lock
 text_again g records roots graph fit text json lock is =
-    let value = same_some (read text) is.0 (lock_data g records roots) is.1.1 json.1 in
+    let value = some_one (read text) is.0 (lock_data g records roots) is.1.1 json.1 in
     let file = same_ok (file_at is.0) is.2.0 (locked_file g records roots) is.2.1 (ap file_at value
     ∙ file_again g records roots graph fit) in
     subst (λ f. IsLockOf f lock) file is.2.2

@@ -38,6 +38,7 @@ dependencies_sorted dependencies each =
     ap (λ ms. set_of Some (Some (codes "hash")) dependency_at (array (values_of ms))) (sym (same_members dependencies))
     ∙ dependencies_again (by_hash dependencies) (still IsDependency dependencies each) (in_order dependencies)
 
+-- a node is read as it was written
 pub node_again : (entry : Record) (origin : Origin) → IsRecord entry → IsOwn origin entry.hash
     → node_at (node_data entry origin) ≡ Ok (record { described = sorted entry; origin = origin })
 unfolding node_at head_at body_at front_at middle_at back_at node_data

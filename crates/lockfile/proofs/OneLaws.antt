@@ -1,9 +1,10 @@
 -- Bytes are one lock file at most, or have one fault at most.
-use Rattle.std.proofs.Common.{◌≡◌, ◌≢◌, refl, sym, ap, ◌∙◌, subst, ℕ, List, Option, Some, None, Result, Ok, Err, inl, inr, unwrap_or}
+use Rattle.std.proofs.Common.{◌≡◌, ◌≢◌, refl, sym, ap, ◌∙◌, subst, ℕ, List, Option, Some, None, Result, Ok, Err, inl, inr}
 use Rattle.std.specs.Prelude.{option_map}
 use Rattle.serde_json.specs.Data.{Data}
 use Rattle.json_readers.specs.Json.{IsJson}
 use Rattle.json_readers.specs.declared.fault.Misfit.{Misfit}
+use Rattle.json_readers.proofs.Once.{json_one, some_one, none_or_some}
 use Rattle.variant_values.specs.Texts.{byte_cmp}
 use Rattle.keyed_lists.specs.Keyed.{IsInOrder, find_key}
 use Rattle.graph_core.specs.Graphs.{Text, Content, IsGraph, node_of, edge_of, provider_of}
@@ -44,9 +45,6 @@ lock_of_one laws file a b p q =
     same_lock a b (graph_one laws file a.graph b.graph p.graph q.graph) (p.roots ∙ sym q.roots)
     (laws.hashes a.hashes b.hashes p.hashes.order q.hashes.order (λ name. p.hashes.found name ∙ sym (q.hashes.found name)))
 
-json_one : (bytes : List ℕ) (d e : Data) → IsJson bytes d → IsJson bytes e → d ≡ e
-json_one bytes d e h k = ap (λ o. unwrap_or o d) (sym h.1 ∙ k.1)
-
 file_same : (d e : Data) (f g : File) → d ≡ e → file_at d ≡ Ok f → file_at e ≡ Ok g → f ≡ g
 file_same d e f g same p q =
     let is : (let T : Type 0 = Result File Misfit in let l : T = Ok f in let r : T = Ok g in l ≡ r) = sym p ∙ ap file_at same ∙ q in cc
@@ -54,6 +52,7 @@ file_same d e f g same p q =
 lock_here : AnswersOnce → (f g : File) (a b : Lock) → f ≡ g → IsLockOf f a → IsLockOf g b → a ≡ b
 lock_here laws f g a b same p q = lock_of_one laws g a b (subst (λ (file : File). IsLockOf file a) same p) q
 
+-- bytes are one lock file at most
 pub lock_one : AnswersOnce → (bytes : List ℕ) (a b : Lock) → IsLock bytes a → IsLock bytes b → a ≡ b
 lock_one laws bytes a b (d, json, (f, is, lock)) (e, other, (g, too, as_well)) =
     lock_here laws f g a b (file_same d e f g (json_one bytes d e json other) is too) lock as_well
@@ -96,13 +95,11 @@ is_by_value d f (inl is) other = absurd (other is)
 is_by_value d f (inr (inl (misfit, is, fault))) other = rw (is, fault) refl
 is_by_value d f (inr (inr (file, is, fault))) other = rw is (is_fault_in file f fault other)
 
-some_one : {A : Type 0} (o : Option A) (x y : A) → o ≡ Some x → o ≡ Some y → x ≡ y
-some_one {A = A} o x y p q = let is : (let T : Type 0 = Option A in let l : T = Some x in let r : T = Some y in l ≡ r) = sym p ∙ q in cc
-
 value_one : (d e : Data) (f g : LockFault) → d ≡ e → IsFaultOf d f → IsFaultOf e g → f ≢ OutOfMemory → g ≢ OutOfMemory → f ≡ g
 value_one d e f g same p q other not = some_one (by_value (file_at e)) f g (ap (λ v. by_value (file_at v)) (sym same)
     ∙ is_by_value d f p other) (is_by_value e g q not)
 
+-- bytes have one fault at most besides want of memory
 pub fault_one : (bytes : List ℕ) (f g : LockFault) → IsLockFault bytes f → IsLockFault bytes g → f ≢ OutOfMemory → g ≢ OutOfMemory → f ≡ g
 fault_one bytes f g (inl is) q other not = absurd (other is)
 fault_one bytes f g (inr p) (inl is) other not = absurd (not is)
@@ -113,10 +110,6 @@ fault_one bytes f g (inr (inr (d, json, p))) (inr (inr (e, too, q))) other not =
     value_one d e f g (json_one bytes d e json too) p q other not
 
 -- ---- not both
-
-none_or_some : {A B : Type 0} (o : Option A) (x : A) → o ≡ None → o ≡ Some x → B
-none_or_some {A = A} o x p q = absurd (let is : (let T : Type 0 = Option A in let l : T = None in let r : T = Some x in l ≡ r) =
-    sym p ∙ q in cc)
 
 lock_or_fault : (bytes : List ℕ) (d : Data) (file : File) (f : LockFault) → IsJson bytes d → file_at d ≡ Ok file → IsSound file
     → f ≢ OutOfMemory → IsLockFault bytes f → ⊥
@@ -134,5 +127,6 @@ other_than (HashDiffers written computed) h = absurd (h (λ e. absurd cc))
 other_than (Dangling parent child) h = absurd (h (λ e. absurd cc))
 other_than OutOfMemory h = refl
 
+-- a lock file is refused for want of memory alone
 pub lock_right : (bytes : List ℕ) (lock : Lock) (f : LockFault) → IsLock bytes lock → IsLockFault bytes f → f ≡ OutOfMemory
 lock_right bytes lock f (d, json, (file, is, of)) fault = other_than f (λ other. lock_or_fault bytes d file f json is of.sound other fault)

@@ -30,15 +30,15 @@ listed = members_by hash_in dependency_data
 
 put_listed : (d : Dependency) (es : List Dependency) → put d.0 (dependency_data d) (listed es) ≡ listed (placed d es)
 put_listed d [] = refl
-put_listed d (e ∷ es) = go (byte_cmp d.0 e.0) refl (put_listed d es)
+put_listed d (e ∷ es) = put_listed-cases (byte_cmp d.0 e.0) refl (put_listed d es)
   where
-    go : (r : Ordering) → byte_cmp d.0 e.0 ≡ r → put d.0 (dependency_data d) (listed es) ≡ listed (placed d es)
+    put_listed-cases : (r : Ordering) → byte_cmp d.0 e.0 ≡ r → put d.0 (dependency_data d) (listed es) ≡ listed (placed d es)
         → match_ordering r (member d.0 (dependency_data d) (listed (e ∷ es))) (member e.0 (dependency_data d) (listed es))
         (member e.0 (dependency_data e) (put d.0 (dependency_data d) (listed es)))
         ≡ listed (match_ordering r (d ∷ e ∷ es) (d ∷ es) (e ∷ placed d es))
-    go Less is rest = refl
-    go Equal is rest = ap (λ key. member key (dependency_data d) (listed es)) (sym (ties_are_equal d.0 e.0 is))
-    go Greater is rest = ap (member e.0 (dependency_data e)) rest
+    put_listed-cases Less is rest = refl
+    put_listed-cases Equal is rest = ap (λ key. member key (dependency_data d) (listed es)) (sym (ties_are_equal d.0 e.0 is))
+    put_listed-cases Greater is rest = ap (member e.0 (dependency_data e)) rest
 
 folded : (es ds : List Dependency) → fold (λ ms d. put d.0 (dependency_data d) ms) (listed es) ds
     ≡ listed (fold (λ sorted d. placed d sorted) es ds)
@@ -47,33 +47,34 @@ folded es (d ∷ ds) = ap (λ ms. fold (λ ms d. put d.0 (dependency_data d) ms)
 
 keys_placed : (d : Dependency) (es : List Dependency) → map hash_in (placed d es) ≡ with_text (map hash_in es) d.0
 keys_placed d [] = refl
-keys_placed d (e ∷ es) = go (byte_cmp d.0 e.0) refl (keys_placed d es)
+keys_placed d (e ∷ es) = keys_placed-cases (byte_cmp d.0 e.0) refl (keys_placed d es)
   where
-    go : (r : Ordering) → byte_cmp d.0 e.0 ≡ r → map hash_in (placed d es) ≡ with_text (map hash_in es) d.0
+    keys_placed-cases : (r : Ordering) → byte_cmp d.0 e.0 ≡ r → map hash_in (placed d es) ≡ with_text (map hash_in es) d.0
         → map hash_in (match_ordering r (d ∷ e ∷ es) (d ∷ es) (e ∷ placed d es)) ≡ match_ordering r (d.0 ∷ e.0 ∷ map hash_in es)
         (e.0 ∷ map hash_in es) (e.0 ∷ with_text (map hash_in es) d.0)
-    go Less is rest = refl
-    go Equal is rest = ap (λ key. key ∷ map hash_in es) (ties_are_equal d.0 e.0 is)
-    go Greater is rest = ap (λ keys. e.0 ∷ keys) rest
+    keys_placed-cases Less is rest = refl
+    keys_placed-cases Equal is rest = ap (λ key. key ∷ map hash_in es) (ties_are_equal d.0 e.0 is)
+    keys_placed-cases Greater is rest = ap (λ keys. e.0 ∷ keys) rest
 
 order_from : (es ds : List Dependency) → IsInOrder byte_cmp hash_in es
     → IsInOrder byte_cmp hash_in (fold (λ sorted d. placed d sorted) es ds)
 order_from es [] o = o
 order_from es (d ∷ ds) o = order_from (placed d es) ds (rw (keys_placed d es) (with_text_in_order (map hash_in es) d.0 o))
 
+-- dependencies by their hashes are in order
 pub in_order : (ds : List Dependency) → IsInOrder byte_cmp hash_in (by_hash ds)
 in_order ds = order_from [] ds (rises_none byte_cmp)
 
 -- each is one of those that were placed
 from_placed : (d : Dependency) (es : List Dependency) (q : Dependency) → Contains (placed d es) q → (d ≡ q) ⊎ Contains es q
 from_placed d [] q has = first_or_later d [] q has
-from_placed d (e ∷ es) q has = go (byte_cmp d.0 e.0) has (from_placed d es q)
+from_placed d (e ∷ es) q has = from_placed-cases (byte_cmp d.0 e.0) has (from_placed d es q)
   where
-    go : (r : Ordering) → Contains (match_ordering r (d ∷ e ∷ es) (d ∷ es) (e ∷ placed d es)) q
+    from_placed-cases : (r : Ordering) → Contains (match_ordering r (d ∷ e ∷ es) (d ∷ es) (e ∷ placed d es)) q
         → (Contains (placed d es) q → (d ≡ q) ⊎ Contains es q) → (d ≡ q) ⊎ Contains (e ∷ es) q
-    go Less h rest = first_or_later d (e ∷ es) q h
-    go Equal h rest = ⊎_elim (λ same. inl same) (λ later. inr (has_later e es q later)) (first_or_later d es q h)
-    go Greater h rest = ⊎_elim
+    from_placed-cases Less h rest = first_or_later d (e ∷ es) q h
+    from_placed-cases Equal h rest = ⊎_elim (λ same. inl same) (λ later. inr (has_later e es q later)) (first_or_later d es q h)
+    from_placed-cases Greater h rest = ⊎_elim
         (λ same. inr (subst (Contains (e ∷ es)) same (has_first e es)))
         (λ later. ⊎_elim (λ same. inl same) (λ there. inr (has_later e es q there)) (rest later))
         (first_or_later e (placed d es) q h)
@@ -86,6 +87,7 @@ from_folded es (d ∷ ds) q has = ⊎_elim
     (λ late. inr (has_later d ds q late))
     (from_folded (placed d es) ds q has)
 
+-- what holds of all dependencies holds of them in that order
 pub still : (P : Dependency → Type 0) (ds : List Dependency) → All P ds → All P (by_hash ds)
 still P ds all =
     all_from P (by_hash ds) (λ d has. ⊎_elim (λ none. absurd (lacks_all d none)) (λ there. All-contains P ds d all there)
@@ -99,25 +101,25 @@ same_members ds = written hash_in dependency_data (by_hash ds) (in_order ds) ∙
 
 in_placed : (d : Dependency) (es : List Dependency) → Contains (placed d es) d
 in_placed d [] = has_first d []
-in_placed d (e ∷ es) = go (byte_cmp d.0 e.0) (in_placed d es)
+in_placed d (e ∷ es) = in_placed-cases (byte_cmp d.0 e.0) (in_placed d es)
   where
-    go : (r : Ordering) → Contains (placed d es) d → Contains (match_ordering r (d ∷ e ∷ es) (d ∷ es) (e ∷ placed d es)) d
-    go Less rest = has_first d (e ∷ es)
-    go Equal rest = has_first d es
-    go Greater rest = has_later e (placed d es) d rest
+    in_placed-cases : (r : Ordering) → Contains (placed d es) d → Contains (match_ordering r (d ∷ e ∷ es) (d ∷ es) (e ∷ placed d es)) d
+    in_placed-cases Less rest = has_first d (e ∷ es)
+    in_placed-cases Equal rest = has_first d es
+    in_placed-cases Greater rest = has_later e (placed d es) d rest
 
 still_placed : (d : Dependency) (es : List Dependency) (q : Dependency) → (q.0 ≡ d.0 → q ≡ d) → Contains es q → Contains (placed d es) q
 still_placed d [] q once has = absurd (lacks_all q has)
-still_placed d (e ∷ es) q once has = go (byte_cmp d.0 e.0) refl (λ later. still_placed d es q once later)
+still_placed d (e ∷ es) q once has = still_placed-cases (byte_cmp d.0 e.0) refl (λ later. still_placed d es q once later)
   where
-    go : (r : Ordering) → byte_cmp d.0 e.0 ≡ r → (Contains es q → Contains (placed d es) q)
+    still_placed-cases : (r : Ordering) → byte_cmp d.0 e.0 ≡ r → (Contains es q → Contains (placed d es) q)
         → Contains (match_ordering r (d ∷ e ∷ es) (d ∷ es) (e ∷ placed d es)) q
-    go Less is rest = has_later d (e ∷ es) q has
-    go Equal is rest = ⊎_elim
+    still_placed-cases Less is rest = has_later d (e ∷ es) q has
+    still_placed-cases Equal is rest = ⊎_elim
         (λ same. subst (Contains (d ∷ es)) (sym (once (ap hash_in (sym same) ∙ sym (ties_are_equal d.0 e.0 is)))) (has_first d es))
         (λ later. has_later d es q later)
         (first_or_later e es q has)
-    go Greater is rest = ⊎_elim
+    still_placed-cases Greater is rest = ⊎_elim
         (λ same. subst (Contains (e ∷ placed d es)) same (has_first e (placed d es)))
         (λ later. has_later e (placed d es) q (rest later))
         (first_or_later e es q has)

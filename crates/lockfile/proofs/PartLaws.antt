@@ -67,6 +67,7 @@ dependency_again d fit = rw (fit.hash, kinds_again d.1.build d.1.link d.1.run fi
 
 -- ---- the lists
 
+-- variants are read as they were written
 pub variants_again : (variants : List (Text × List Text)) → All IsVariant variants
     → IsInOrder byte_cmp (λ (v : Text × List Text). v.0) variants
     → map_of name_meaning values_at (object (variant_members variants)) ≡ Ok variants
@@ -80,6 +81,7 @@ hashes_read : (dependencies : List (Text × Kinds)) → texts_by Some (Some (cod
 hashes_read [] = refl
 hashes_read (d ∷ dependencies) = ap (λ hashes. d.0 ∷ hashes) (hashes_read dependencies)
 
+-- dependencies are read as they were written
 pub dependencies_again : (dependencies : List (Text × Kinds)) → All IsDependency dependencies
     → IsInOrder byte_cmp (λ (d : Text × Kinds). d.0) dependencies
     → set_of Some (Some (codes "hash")) dependency_at (array (values_of (dependency_members dependencies))) ≡ Ok dependencies

@@ -1,8 +1,7 @@
 -- What a value that was read has: each package that provides is one of the nodes.
-use Rattle.std.proofs.Common.{◌≡◌, refl, sym, ap, subst, ◌∙◌, ℕ, Bool, true, false, Option, Some, None, Result, Ok, Err, List, [], ◌∷◌, All, Contains, ◌⊎◌, inl, inr, ⊎_elim, codes, cond}
+use Rattle.std.proofs.Common.{◌≡◌, refl, sym, ap, subst, ℕ, Bool, true, false, Option, Some, None, Ok, List, [], ◌∷◌, All, Contains, ◌⊎◌, inl, inr, ⊎_elim, codes, cond}
 use Rattle.std.specs.List.{list_any}
-use Rattle.std.specs.Ordering.{nat_cmp, is_le}
-use Rattle.std.specs.Cmp.Lexicographic.{slice_cmp, bytes_decides}
+use Rattle.std.specs.Cmp.Lexicographic.{bytes_decides}
 use Rattle.std.specs.Option.{is_some, option_and_then}
 use Rattle.std.specs.Str.{bytes_eq}
 use Rattle.std.proofs.lemmas.Option.{none-some}
@@ -13,13 +12,14 @@ use Rattle.variant_values.specs.Texts.{with_text, with_texts}
 use Rattle.variant_values.proofs.Keys.{lacks_all}
 use Rattle.variant_values.proofs.Texts.{adds_text}
 use Rattle.serde_json.specs.Data.{Data, Members, no_members, member}
-use Rattle.serde_json.specs.Find.{as_str, get_member}
-use Rattle.json_readers.specs.declared.fault.Misfit.{Misfit}
-use Rattle.json_readers.specs.Faults.{Reading, ◌>>=◌, below, given, wrong_kind}
+use Rattle.serde_json.specs.Find.{as_str}
+use Rattle.json_readers.specs.Faults.{Reading, given}
 use Rattle.json_readers.specs.Texts.{text_of}
 use Rattle.json_readers.specs.Maps.{entries_of, entry_of, map_of}
-use Rattle.json_readers.specs.Objects.{field, first_odd, members_of, read_needed, unless_odd}
+use Rattle.json_readers.specs.Objects.{field, first_odd, members_of}
 use Rattle.json_readers.specs.Lists.{list_of}
+use Rattle.json_readers.proofs.Steps.{no_ok, bind_ok, below_ok, form_ok}
+use Rattle.json_readers.proofs.Steps as steps
 use Rattle.json_texts.specs.Forms.{name_meaning}
 use Rattle.graph_core.specs.Graphs.{Text}
 use Rattle.graph_core.specs.declared.node.Origin.{Origin}
@@ -31,46 +31,18 @@ use Rattle.lockfile.specs.declared.node.Head.{Head}
 use Rattle.lockfile.specs.declared.file.File.{File}
 use Rattle.lockfile.specs.declared.node.LockedNode.{LockedNode}
 
-no_ok : {T E : Type 0} (m : E) (x : T) (r : Result T E) → r ≡ Err m → r ≡ Ok x → ⊥
-no_ok m x r is e = let wrong : Err m ≡ Ok x = sym is ∙ e in cc
-
 -- ---- steps that gave a value
-
-pub bind_ok : {A B : Type 0} (r : Reading A) (f : A → Reading B) (y : B) → (r >>= f) ≡ Ok y → (x : A) × (r ≡ Ok x) × (f x ≡ Ok y)
-bind_ok (Ok x) f y e = (x, refl, e)
-bind_ok (Err m) f y e = absurd (no_ok m y _ refl e)
-
-below_ok : {T : Type 0} (key : List ℕ) (r : Reading T) (x : T) → below key r ≡ Ok x → r ≡ Ok x
-below_ok key (Ok y) x e = e
-below_ok key (Err m) x e = absurd (no_ok _ x _ refl e)
-
-unless_ok : {T : Type 0} (b : Bool) (m : Misfit) (r : Reading T) (x : T) → cond b (Err m) r ≡ Ok x → r ≡ Ok x
-unless_ok true m r x e = absurd (no_ok m x _ refl e)
-unless_ok false m r x e = e
-
-odd_ok : {T : Type 0} (key : List ℕ) (odd : Option (List ℕ)) (r : Reading T) (x : T) → unless_odd key odd r ≡ Ok x → r ≡ Ok x
-odd_ok key None r x e = e
-odd_ok key (Some k) r x e = unless_ok (is_le (slice_cmp nat_cmp k key)) _ r x e
-
-needed_ok : {T : Type 0} (read : Data → Reading T) (found : Option Data) (x : T) → read_needed read found ≡ Ok x → (d : Data)
-    × (read d ≡ Ok x)
-needed_ok read None x e = absurd (no_ok _ x _ refl e)
-needed_ok read (Some d) x e = (d, e)
 
 -- what stands at a key was read
 field_ok : {T : Type 0} (read : Data → Reading T) (odd : Option (List ℕ)) (key : List ℕ) (ms : Members) (x : T)
     → field read odd key ms ≡ Ok x → (d : Data) × (read d ≡ Ok x)
-field_ok read odd key ms x e = needed_ok read (get_member key ms) x (below_ok key _ x (odd_ok key odd _ x e))
+field_ok read odd key ms x e = let found = steps.field_ok read odd key ms x e in (found.0, found.2)
 
 given_ok : {T : Type 0} (r : Option T) (x : T) → given r ≡ Ok x → r ≡ Some x
 given_ok None x e = absurd (no_ok _ x _ refl e)
 given_ok (Some y) x e = let same : y ≡ x = cc in ap (λ z. Some z) same
 
 -- ---- maps
-
-form_ok : {T : Type 0} (b : Bool) (r : Reading T) (x : T) → cond b r wrong_kind ≡ Ok x → r ≡ Ok x
-form_ok true r x e = e
-form_ok false r x e = absurd (no_ok _ x _ refl e)
 
 -- each entry of a map was read
 entries_ok : {T : Type 0} (means : List ℕ → Option (List ℕ)) (read : Data → Reading T) (ms : Members) (xs : List (List ℕ × T))
@@ -134,6 +106,7 @@ provider_ok nodes d providers e =
     let read = entries_ok name_meaning (text_of (among names)) members.0 providers members.2 provider has in
     of_names (names_of nodes) provider.1 (text_ok names (as_str read.0) provider.1 (given_ok _ provider.1 read.1)))
 
+-- each package that provides in a file that was read is one of its nodes
 pub provided : (d : Data) (file : File) → file_at d ≡ Ok file → AreProvided file
 unfolding file_at
 provided d file e =
@@ -148,6 +121,7 @@ provided d file e =
 
 -- ---- nodes
 
+-- what was read of a node, from its three runs of keys
 pub node_read : (d : Data) (ms : Members) (odd : Option Text) (head : Head) (body : Body) (described : Record) (origin : Origin)
     → members_of d ≡ Ok ms → odd ≡ first_odd node_keys ms → head_at odd ms ≡ Ok head
     → body_at odd ms ≡ Ok body → back_at head.front body.middle odd ms ≡ Ok described

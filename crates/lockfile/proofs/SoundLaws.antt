@@ -21,13 +21,14 @@ use Rattle.reuse_db.specs.declared.record.Record.{Record}
 use Rattle.lock_writer.specs.Hashes.{child_of, node_hash, node_record}
 use Rattle.lock_writer.specs.Texts.{IsOfNode}
 use Rattle.lockfile.specs.Children.{all_edges, children_by, children_of, edge_to, edges_of, is_needed, named_by, without_build}
-use Rattle.lockfile.specs.Faults.{IsSound, lost_child, lost_from, lost_root, records_of, twice_after, wrongly_hashed}
+use Rattle.lockfile.specs.Faults.{IsSound, lost_child, lost_from, lost_root, records_of, named_after, wrongly_hashed}
 use Rattle.lockfile.specs.declared.node.LockedNode.{LockedNode}
 use Rattle.lockfile.specs.Again.{by_hash, sorted}
 use Rattle.lockfile.specs.Formed.{locked, locked_file, locked_root}
 use Rattle.lockfile.specs.Writable.{IsWritable, children_in}
 use Rattle.lockfile.proofs.FileLaws.{names_same}
-use Rattle.lockfile.proofs.Lists.{find_no, find_one, from_flat, in_flat, in_given, same_some}
+use Rattle.json_readers.proofs.Once.{some_one}
+use Rattle.lockfile.proofs.Lists.{find_no, find_one, from_flat, in_flat, in_given}
 use Rattle.lockfile.proofs.NodeLaws.{same_hash}
 use Rattle.lockfile.proofs.OrderLaws.{same_dependencies}
 use Rattle.lockfile.proofs.WrittenLaws.{never_named_twice}
@@ -108,12 +109,13 @@ module _ (g : Content) (records : List Record) (graph : IsGraph g) (right : AreR
   edge_kept : (node : Node) → Contains g.nodes node → (e f : Edge) (d : Text × Kinds) → Contains (edges_from g node.name) e
       → child_of (node_hash g) e ≡ d → edge_to (locked g records node).described.name d (named_by nodes d.0) ≡ Some f → Contains g.edges f
   edge_kept node has e f d there is made =
-      let one = same_some (edge_to (locked g records node).described.name (child_of (node_hash g) e) (named_by nodes (node_hash g e.child)))
+      let one = some_one (edge_to (locked g records node).described.name (child_of (node_hash g) e) (named_by nodes (node_hash g e.child)))
       e f
       (edge_again node has e there) (subst (λ x. edge_to (locked g records node).described.name x (named_by nodes x.0) ≡ Some f)
       (sym is) made) in
       subst (Contains g.edges) one (from_node g node.name e there).0
 
+  -- each edge of the graph is read
   pub edge_read : (e : Edge) → Contains g.edges e → Contains (all_edges nodes nodes) e
   edge_read e has =
       let from = image_of name_of g.nodes e.parent (All-contains (λ (x : Edge). HasNode g x.parent) g.edges e graph.parents has) in
@@ -125,6 +127,7 @@ module _ (g : Content) (records : List Record) (graph : IsGraph g) (right : AreR
       (in_given (λ (d : Text × Kinds). edge_to (locked g records node).described.name d (named_by nodes d.0))
       (children_of (locked g records node)) (child_of (node_hash g) e) e child (edge_again node from.1 e here))
 
+  -- each edge that is read is one of the graph
   pub edge_of_graph : (e : Edge) → Contains (all_edges nodes nodes) e → Contains g.edges e
   edge_of_graph e has =
       let flat = from_flat (edges_of nodes) nodes e has in
@@ -158,9 +161,10 @@ module _ (g : Content) (records : List Record) (graph : IsGraph g) (right : AreR
       subst (λ (r : Record). not (bytes_eq r.hash (right_hash r)) ≡ false) is
       (rw ((bytes_decides own.hash (right_hash (sorted own))).1 same) refl))
 
+  -- the file of a writable graph has no fault
   pub is_sound : (roots : List Spec) → ((root : Spec) → Contains roots root → IsOfNode g root) → IsSound (locked_file g records roots)
   is_sound roots known = record {
-    named = ap (λ names. twice_after [] names) (names_same g records g.nodes name_written)
+    named = ap (λ names. named_after [] names) (names_same g records g.nodes name_written)
         ∙ never_named_twice [] (map name_of g.nodes) (λ b k none has. absurd (lacks_all b none)) graph.nodes;
     hashed = hashes_right;
     known = rw (no_child_lost nodes nodes child_known)

@@ -16,7 +16,7 @@ use Rattle.json_readers.specs.Lists.{items_from, twice_after}
 use Rattle.json_readers.specs.Maps.{entries_of}
 use Rattle.reuse_db.specs.Canonical.{values_of}
 use Rattle.graph_core.specs.Graphs.{Text}
-use Rattle.lockfile.specs.Faults.{twice_after as named_after}
+use Rattle.lockfile.specs.Faults.{named_after}
 use Rattle.lockfile.specs.Again.{Has}
 
 above : (a b : Text) → byte_cmp a b ≡ Less → byte_cmp b a ≡ Greater
@@ -53,6 +53,7 @@ module _ {X : Type 0} (key : X → Text) (f : X → Data) where
   pub written : (xs : List X) → IsInOrder byte_cmp key xs → fold (λ ms x. put (key x) (f x) ms) no_members xs ≡ members_by xs
   written xs o = behind [] xs o
 
+  -- the values of an object whose keys are in order are those of the list
   pub values_written : (xs : List X) → values_of (members_by xs) ≡ items_of (map f xs)
   values_written [] = refl
   values_written (x ∷ xs) = ap (item (f x)) (values_written xs)
@@ -86,6 +87,7 @@ low_more before k ks low o b j old new = ⊎_elim
     (λ later. low b j later (has_later k ks j new))
     (first_or_later k before b old)
 
+-- texts in order, all behind others, never stand twice
 pub never_twice : (before ks : List Text) (i : ℕ) → ((b k : Text) → Contains before b → Contains ks k → byte_cmp b k ≡ Less)
     → IsStrictlySortedBy byte_cmp ks → twice_after byte_cmp before i ks ≡ None
 never_twice before [] i low o = refl
@@ -93,6 +95,7 @@ never_twice before (k ∷ ks) i low o =
     rw (no_tie before k (λ b has. low b k has (has_first k ks)))
     (never_twice (k ∷ before) ks (i + 1) (low_more before k ks low o) (rises_rest byte_cmp k ks o))
 
+-- so no name is read twice
 pub never_named_twice : (before names : List Text) → ((b k : Text) → Contains before b → Contains names k → byte_cmp b k ≡ Less)
     → IsStrictlySortedBy byte_cmp names → named_after before names ≡ None
 never_named_twice before [] low o = refl

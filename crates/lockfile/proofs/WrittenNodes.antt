@@ -34,7 +34,7 @@ use Rattle.lockfile.specs.Locks.{graph_node}
 use Rattle.lockfile.specs.Again.{Has, HasKind, IsDependency, IsOwn}
 use Rattle.lockfile.specs.Formed.{IsFormed, IsFormedNode, locked_root}
 use Rattle.lockfile.specs.Writable.{AreDependencies, HasForms, IsAsInstalled, IsWritable, children_in}
-use Rattle.lockfile.proofs.Lists.{same_some}
+use Rattle.json_readers.proofs.Once.{some_one}
 
 -- ---- hashes of records
 
@@ -53,27 +53,27 @@ hash_formed entry = letters_formed _
 -- the record with a hash has it
 has_hash : (records : List Record) (hash : Text) (entry : Record) → record_of records hash ≡ Some entry → entry.hash ≡ hash
 has_hash [] hash entry found = absurd (none-some entry found)
-has_hash (r ∷ records) hash entry found = go (bytes_eq r.hash hash) refl found (has_hash records hash entry)
+has_hash (r ∷ records) hash entry found = has_hash-cases (bytes_eq r.hash hash) refl found (has_hash records hash entry)
   where
-    go : (b : Bool) → bytes_eq r.hash hash ≡ b → cond b (Some r) (record_of records hash) ≡ Some entry
+    has_hash-cases : (b : Bool) → bytes_eq r.hash hash ≡ b → cond b (Some r) (record_of records hash) ≡ Some entry
         → (record_of records hash ≡ Some entry → entry.hash ≡ hash) → entry.hash ≡ hash
-    go true is e rest = let one : r ≡ entry = cc in ap (λ (x : Record). x.hash) (sym one) ∙ (bytes_decides r.hash hash).0 is
-    go false is e rest = rest e
+    has_hash-cases true is e rest = let one : r ≡ entry = cc in ap (λ (x : Record). x.hash) (sym one) ∙ (bytes_decides r.hash hash).0 is
+    has_hash-cases false is e rest = rest e
 
 -- where no hash differs, it is that of its text
 is_right : (records : List Record) (hash : Text) (entry : Record) → differing records ≡ None → record_of records hash ≡ Some entry
     → entry.hash ≡ right_hash entry
 is_right [] hash entry none found = absurd (none-some entry found)
 is_right (r ∷ records) hash entry none found =
-    go (bytes_eq r.hash (right_hash r)) (bytes_eq r.hash hash) refl none found (is_right records hash entry)
+    is_right-cases (bytes_eq r.hash (right_hash r)) (bytes_eq r.hash hash) refl none found (is_right records hash entry)
   where
-    go : (b c : Bool) → bytes_eq r.hash (right_hash r) ≡ b → cond (not b) (Some r) (differing records) ≡ None
+    is_right-cases : (b c : Bool) → bytes_eq r.hash (right_hash r) ≡ b → cond (not b) (Some r) (differing records) ≡ None
         → cond c (Some r) (record_of records hash) ≡ Some entry
         → (differing records ≡ None → record_of records hash ≡ Some entry → entry.hash ≡ right_hash entry) → entry.hash ≡ right_hash entry
-    go true true is n e rest = let one : r ≡ entry = cc in
+    is_right-cases true true is n e rest = let one : r ≡ entry = cc in
         subst (λ (x : Record). x.hash ≡ right_hash x) one ((bytes_decides r.hash (right_hash r)).0 is)
-    go true false is n e rest = rest n e
-    go false c is n e rest = absurd (none-some r (sym n))
+    is_right-cases true false is n e rest = rest n e
+    is_right-cases false c is n e rest = absurd (none-some r (sym n))
 
 -- the record of a node: it tells the node and its edges, and has the node's hash, which is right
 pub record IsWritten (g : Content) (node : Node) (origin : Origin) (entry : Record) : Type 0 where
@@ -110,6 +110,7 @@ module _ (g : Content) (records : List Record) (graph : IsGraph g) (right : AreR
   installed : (node : Node) → Contains g.nodes node → IsAsInstalled g records node node.origin
   installed node has = All-contains (λ (n : Node). IsAsInstalled g records n n.origin) g.nodes node fit.installed has
 
+  -- the hash of a node has its form
   pub name_formed : (name : Text) → HasNode g name → Has hash_meaning (node_hash g name)
   name_formed name has =
       let from = image_of name_of g.nodes name has in
@@ -131,7 +132,7 @@ module _ (g : Content) (records : List Record) (graph : IsGraph g) (right : AreR
 
   one_edge : (e f : Edge) → Contains g.edges e → Contains g.edges f → ends_of e ≡ ends_of f → e ≡ f
   one_edge e f has_e has_f same =
-      same_some (find_key pair_cmp ends_of g.edges (ends_of f)) e f (ap (find_key pair_cmp ends_of g.edges) (sym same) ∙ edge_found e has_e)
+      some_one (find_key pair_cmp ends_of g.edges (ends_of f)) e f (ap (find_key pair_cmp ends_of g.edges) (sym same) ∙ edge_found e has_e)
       (edge_found f has_f)
 
   one_to : (name : Text) (e f : Edge) → Contains (edges_from g name) e → Contains (edges_from g name) f
@@ -163,9 +164,9 @@ module _ (g : Content) (records : List Record) (graph : IsGraph g) (right : AreR
   abbrev own_of : Node → Record
   own_of node = own_record g (node_hash g) (node_hash g node.name) node
 
-  by : (node : Node) → Contains g.nodes node → (origin : Origin) → node.origin ≡ origin → IsAsInstalled g records node origin
+  is_written_by : (node : Node) → Contains g.nodes node → (origin : Origin) → node.origin ≡ origin → IsAsInstalled g records node origin
       → IsWritten g node origin (record_by records origin (own_of node))
-  by node has Built is fits = record {
+  is_written_by node has Built is fits = record {
     own = tt;
     same = refl;
     edges = λ child. (λ there. there, λ there. there);
@@ -173,7 +174,7 @@ module _ (g : Content) (records : List Record) (graph : IsGraph g) (right : AreR
     hash = refl;
     right = hash_is node has Built is ∙ hash_free node [] (node_hash g node.name) (children_in g node);
   }
-  by node has (External entry) is fits = record {
+  is_written_by node has (External entry) is fits = record {
     own = tt;
     same = refl;
     edges = λ child. (λ there. there, λ there. there);
@@ -181,7 +182,7 @@ module _ (g : Content) (records : List Record) (graph : IsGraph g) (right : AreR
     hash = refl;
     right = hash_is node has (External entry) is ∙ hash_free node [] (node_hash g node.name) (children_in g node);
   }
-  by node has (Installed hash) is fits =
+  is_written_by node has (Installed hash) is fits =
       let found = has_hash records hash fits.0 fits.1 in
       subst (IsWritten g node (Installed hash)) (sym (ap (λ r. unwrap_or r (own_of node)) fits.1)) (record {
         own = sym found;
@@ -192,8 +193,9 @@ module _ (g : Content) (records : List Record) (graph : IsGraph g) (right : AreR
         right = is_right records hash fits.0 right.same fits.1;
       })
 
+  -- each node is as its record says
   pub is_written : (node : Node) → Contains g.nodes node → IsWritten g node node.origin (node_record g records node)
-  is_written node has = by node has node.origin refl (installed node has)
+  is_written node has = is_written_by node has node.origin refl (installed node has)
 
   formed : (node : Node) → Contains g.nodes node → IsFormedNode node (node_record g records node)
   formed node has =

@@ -20,12 +20,12 @@ use Rattle.lockfile.specs.declared.node.LockedNode.{LockedNode}
 -- ---- names
 
 -- the first name that is one of those before it
-abbrev pub twice_after : List Text → List Text → Option Text
-twice_after before [] = None
-twice_after before (name ∷ names) = if list_any (λ b. is_eq (byte_cmp b name)) before then Some name else twice_after (name ∷ before) names
+abbrev pub named_after : List Text → List Text → Option Text
+named_after before [] = None
+named_after before (name ∷ names) = if list_any (λ b. is_eq (byte_cmp b name)) before then Some name else named_after (name ∷ before) names
 
 abbrev pub twice_named : List LockedNode → Option Text
-twice_named nodes = twice_after [] (names_of nodes)
+twice_named nodes = named_after [] (names_of nodes)
 
 -- ---- hashes
 

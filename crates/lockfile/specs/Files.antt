@@ -1,5 +1,5 @@
 -- What a lock file's JSON says. Keys go in byte order, missing and unknown ones among them, and each fault is a wrong kind.
-use Rattle.std.specs.Prelude.{ℕ, All, Contains, ◌==◌, Bool, true, false, List, [], ◌∷◌, map, codes, Option, Some, None, Ok, if◌then◌else◌, option_and_then}
+use Rattle.std.specs.Prelude.{ℕ, All, Contains, Bool, true, false, List, [], ◌∷◌, map, codes, Option, Some, None, Ok, if◌then◌else◌, option_and_then}
 use Rattle.std.specs.List.{list_any}
 use Rattle.std.specs.Str.{bytes_eq}
 use Rattle.variant_values.specs.Texts.{with_texts}
@@ -15,6 +15,7 @@ use Rattle.graph_core.specs.Graphs.{Text}
 use Rattle.graph_core.specs.declared.node.Origin.{Origin}
 use Rattle.graph_core.specs.declared.node.Origin.TheVariants.{Built, External, Installed}
 use Rattle.record_reader.specs.Texts.{hash_meaning}
+use Rattle.record_reader.specs.Files.{version_at}
 use Rattle.record_reader.specs.Records.{front_at, middle_at, back_at}
 use Rattle.lockfile.specs.declared.file.File.{File}
 use Rattle.lockfile.specs.declared.node.Body.{Body}
@@ -89,10 +90,6 @@ root_at d = do
     spec ← field (text_of Some) odd (codes "spec") ms
     _ ← none_odd odd
     Ok (spec, hash)
-
--- the number 1
-abbrev pub version_at : Data → Reading ℕ
-version_at d = whole_number d >>= λ version. if version == 1 then Ok version else wrong_kind
 
 abbrev pub file_keys : List Text
 file_keys = codes "nodes" ∷ codes "providers" ∷ codes "roots" ∷ codes "version" ∷ []

@@ -1,17 +1,18 @@
-// A lock file, written and read.
+//! A lock file, written and read.
 ghost use Rattle.std.specs.Prelude.{◌≡◌, IfErr, IfOk};
 ghost use Rattle.lock_writer.specs.Texts.{CanBeWritten};
 ghost use Rattle.lockfile.specs.declared.fault.LockFault.TheVariants.{OutOfMemory};
 ghost use Rattle.lockfile.specs.Writable.{IsWritable, lock_of};
 
-use crate::lock_again_theorems::again_laws;
+use crate::written_again::again_laws;
 use crate::{Lock, LockFault, lock_laws, read_lock, write_lock};
 use graph_core::Graph;
 use reuse_db::Database;
 use spec_grammar::Spec;
 use std::alloc::Global;
 
-/// Writes the lock file of a writable graph, and reads it again: as the graph itself, with its roots.
+/// Writes the lock file of a writable graph, and reads it again: as the graph itself, with its
+/// roots.
 ///
 /// # Errors
 ///

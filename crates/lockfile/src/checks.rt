@@ -1,7 +1,9 @@
-// What is looked for over a whole file, one kind of fault after another.
+//! What is looked for over a whole file, one kind of fault after another.
 ghost use Rattle.std.specs.Prelude.{◌≡◌, [], None, IfOk, IfErr, OnOk, is_none};
 ghost use Rattle.lockfile.specs.Children.{named_by};
-ghost use Rattle.lockfile.specs.Faults.{IsFileFault, IsHashFault, IsSound, IsTwiceFault, dangling, lost_child, lost_from, lost_root, twice_after, twice_named, wrongly_hashed};
+ghost use Rattle.lockfile.specs.Faults.{IsFileFault, IsHashFault, IsSound, IsTwiceFault, dangling};
+ghost use Rattle.lockfile.specs.Faults.{lost_child, lost_from, lost_root, named_after, twice_named};
+ghost use Rattle.lockfile.specs.Faults.{wrongly_hashed};
 ghost use Rattle.lockfile.specs.Named.{AreNames};
 
 use crate::LockFault;
@@ -44,8 +46,9 @@ fn check_names(alloc: Global, nodes: &[LockedNode]) -> Result<(), LockFault>
     }
 }
 
+/// The first name that stood before.
 fn twice_in(alloc: Global, names: Vec<Word>) -> Result<Option<Word>, AllocError>
-    ensures { IfOk result (λ name. name ≡ twice_after [] names.items) }
+    ensures { IfOk result (λ name. name ≡ named_after [] names.items) }
 {
     let mut before = BTreeSet::new(alloc);
     for name in names {
@@ -57,6 +60,7 @@ fn twice_in(alloc: Global, names: Vec<Word>) -> Result<Option<Word>, AllocError>
     Ok(None)
 }
 
+/// Refuses the first node whose hash is not that of its record.
 fn check_hashes(alloc: Global, nodes: &[LockedNode]) -> Result<(), LockFault>
     ensures same { OnOk result (wrongly_hashed nodes.now ≡ None) }
     ensures fault { IfErr result (IsHashFault nodes.now) }
@@ -88,6 +92,7 @@ fn first_dangling(
     }
 }
 
+/// The first node with a child that is none, and that child's hash.
 fn lost_from(
     alloc: Global,
     nodes: &[LockedNode],
@@ -104,6 +109,7 @@ fn lost_from(
     Ok(None)
 }
 
+/// The first child of a node that is no node.
 fn lost_child(
     alloc: Global,
     nodes: &[LockedNode],
@@ -122,6 +128,7 @@ fn lost_child(
     Ok(None)
 }
 
+/// The first root that is no node; its hash stands for both ends.
 fn lost_root(
     nodes: &[LockedNode],
     roots: &[(Word, Hash)],

@@ -1,6 +1,7 @@
-// The children of nodes.
+//! The children of nodes.
 ghost use Rattle.std.specs.Prelude.{◌≡◌, ◌++◌, Some, map, filter, IfOk, OnOk};
-ghost use Rattle.lockfile.specs.Children.{all_edges, children_of, edge_to, edges_of, is_needed, named_by, without_build};
+ghost use Rattle.lockfile.specs.Children.{all_edges, children_of, edge_to, edges_of, is_needed};
+ghost use Rattle.lockfile.specs.Children.{named_by, without_build};
 ghost use Rattle.lockfile.specs.Named.{AreNames};
 
 use crate::names::name_in;
@@ -35,6 +36,7 @@ fn all(alloc: Global, dependencies: &[(Hash, Kinds)]) -> Result<List<(Hash, Kind
     Ok(list)
 }
 
+/// The children that an installed node has edges to, without `build`.
 fn needed(alloc: Global, dependencies: &[(Hash, Kinds)]) -> Result<List<(Hash, Kinds)>, AllocError>
     ensures { IfOk result (λ list. list ≡ map without_build (filter is_needed dependencies.now)) }
 {
@@ -53,6 +55,7 @@ fn is_needed(dependency: &(Hash, Kinds)) -> bool
     dependency.1.link || dependency.1.run
 }
 
+/// A dependency as an edge from an installed node.
 fn without_build(dependency: &(Hash, Kinds)) -> (Hash, Kinds)
     ensures { result ≡ without_build dependency.now }
 {
@@ -80,6 +83,7 @@ pub(crate) fn all_edges(
     Ok(edges)
 }
 
+/// Adds the edges from one node; a child that is no node adds none.
 fn push_edges(
     alloc: Global,
     nodes: &[LockedNode],

@@ -1,4 +1,4 @@
-// Why a text is no lock file.
+//! Why a text is no lock file.
 ghost use Rattle.std.specs.Prelude.{◌≡◌};
 ghost use Rattle.lockfile.specs.declared.fault.LockFault.TheVariants.{OutOfMemory};
 

@@ -1,20 +1,20 @@
-// A whole lock file.
+//! A whole lock file.
 ghost use Rattle.std.specs.Prelude.{◌≡◌, [], IfOk, option_map};
 ghost use Rattle.std.specs.List.{list_any};
 ghost use Rattle.std.specs.Str.{bytes_eq};
 ghost use Rattle.variant_values.specs.Texts.{with_texts};
 ghost use Rattle.serde_json.specs.View.{members_view};
 ghost use Rattle.json_readers.specs.Faults.{Gives};
-ghost use Rattle.lockfile.specs.Files.{among, file_at, names_of, providers_at, root_at, roots_at, version_at};
+ghost use Rattle.lockfile.specs.Files.{among, file_at, names_of, providers_at, root_at, roots_at};
 
 use crate::node::{LockedNode, NodeForm};
 use json_readers::{
-    AnyText, JsonFault, ListOf, MapOf, Reader, Text, TextForm, WholeNumber, Wrong, at_root, field,
-    first_odd, members_of, none_odd,
+    AnyText, JsonFault, ListOf, MapOf, Reader, Text, TextForm, field, first_odd, members_of,
+    none_odd,
 };
 use json_texts::Name;
 use plain_data::{Duplicate, List, Word};
-use record_reader::HashText;
+use record_reader::{HashText, VersionOne};
 use serde_json::{Map, Value};
 use spec_hash::Hash;
 use std::alloc::{AllocError, Global};
@@ -52,6 +52,7 @@ impl Reader<File> for FileForm {
     }
 }
 
+/// Each virtual with its package, which is one of the nodes.
 fn read_providers(
     alloc: Global,
     members: &Map<String, Value>,
@@ -140,22 +141,5 @@ impl Reader<(Word, Hash)> for RootForm {
         let spec = field(alloc, members, odd, "spec", &Text(AnyText))?;
         none_odd(alloc, odd)?;
         Ok((spec, hash))
-    }
-}
-
-/// The number 1.
-#[derive(Clone, Copy)]
-struct VersionOne;
-
-impl Reader<u64> for VersionOne {
-    ghost reads = { λ _. version_at };
-
-    fn read(&self, alloc: Global, value: &Value) -> Result<u64, JsonFault> {
-        let version = WholeNumber.read(alloc, value)?;
-        if version == 1 {
-            Ok(version)
-        } else {
-            at_root(alloc, Wrong::WrongKind)
-        }
     }
 }

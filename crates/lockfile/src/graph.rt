@@ -1,8 +1,9 @@
-// The graph of a file.
+//! The graph of a file.
 ghost use Rattle.std.specs.Prelude.{◌≡◌, [], All, IfOk, OnOk, ℕ, List};
 ghost use Rattle.variant_values.specs.Texts.{byte_cmp};
 ghost use Rattle.keyed_lists.specs.Keyed.{IsInOrder, find_key};
-ghost use Rattle.graph_core.specs.Graphs.{HasNode, IsGraph, node_of, name_of, ends_of, virtual_of, pair_cmp};
+ghost use Rattle.graph_core.specs.Graphs.{HasNode, IsGraph, node_of, name_of, ends_of, virtual_of};
+ghost use Rattle.graph_core.specs.Graphs.{pair_cmp};
 ghost use Rattle.lockfile.specs.Children.{all_edges};
 ghost use Rattle.lockfile.specs.Files.{AreProvided};
 ghost use Rattle.lockfile.specs.Locks.{AreHashesOf, IsGraphOf, graph_node, graph_nodes};
@@ -36,17 +37,18 @@ pub(crate) fn graph_of(
     let mut graph = graph_of_nodes(alloc, nodes)?;
     add_edges(alloc, &mut graph, edges.as_slice())?;
     add_providers(alloc, &mut graph, file.providers.as_slice())?;
-    whole(&graph);
+    graph_invariant(&graph);
     Ok(graph)
 }
 
-/// What each graph is.
-fn whole(graph: &Graph)
+/// Brings what is known of each graph.
+fn graph_invariant(graph: &Graph)
     ensures { IsGraph graph.now }
 {
     let _ = graph.nodes();
 }
 
+/// A graph of the nodes alone; of two with one name the first stands.
 fn graph_of_nodes(alloc: Global, nodes: &[LockedNode]) -> Result<Graph, AllocError>
     ensures nodes { IfOk result (λ g. (name : List ℕ)
         → node_of g name ≡ find_key byte_cmp name_of (graph_nodes nodes.now) name) }
@@ -93,7 +95,8 @@ fn front_of(
     alloc: Global,
     entry: &Record,
 ) -> Result<(Word, Version, List<(Word, ValueSet)>), AllocError>
-    ensures { IfOk result (λ front. front ≡ (entry.now.name, entry.now.version, entry.now.variants)) }
+    ensures { IfOk result (λ front. front
+        ≡ (entry.now.name, entry.now.version, entry.now.variants)) }
 {
     let name = entry.name.duplicate(alloc)?;
     let version = entry.version.duplicate(alloc)?;
@@ -153,6 +156,7 @@ fn push_edge(graph: &mut Graph, edge: Edge) -> Result<(), AllocError>
     Ok(())
 }
 
+/// Adds each virtual with its package; of two the first stands.
 fn add_providers(
     alloc: Global,
     graph: &mut Graph,

@@ -1,17 +1,13 @@
-//! Lock files: their reader, and with `lock_writer` their writer.
+//! Lock files: their reader, with `lock_writer` their writer, and that what was written is read
+//! again.
 //!
-//! What it is: `read_lock`, which gives the graph that a lock file says with its roots and hashes.
-//! What it promises: a file is read as what it says, or refused at its first fault.
-//! What it stands on: `record_reader` for what a node has in common with a record, `reuse_db` for hashes,
-//! `graph_core` for graphs, `json_readers`, and `lock_writer`.
+//! What it is: `read_lock`, which gives the graph that a lock file says with its roots and hashes;
+//! `write_and_read`, the writer and the reader one after the other; laws on both.
+//! What it promises: a file is read as what it says, or refused at its first fault; the text that
+//! is written for a writable graph is read as that graph with its roots, without a fault.
+//! What it stands on: `record_reader` for what a node has in common with a record, `reuse_db` for
+//! hashes, `graph_core` for graphs, `json_readers`, and `lock_writer`.
 //! What it must not know: whether the graph is valid, and what is installed.
-//!
-//! What is written of a lock file is read again.
-//!
-//! What it is: laws on `lock_writer` and `lockfile`, with empty bodies, and the two calls one after the other.
-//! What it promises: the text that is written for a writable graph is read as that graph with its roots, without a fault.
-//! What it stands on: the writer and the reader of lock files.
-//! What it must not know: which graphs are valid.
 #![tactic(auto)]
 
 mod again;
@@ -21,16 +17,16 @@ mod fault;
 mod file;
 mod graph;
 mod lock;
-mod lock_again_theorems;
 mod names;
 mod node;
 mod theorems;
+mod written_again;
 
 pub use again::write_and_read;
 pub use fault::LockFault;
 pub use file::File;
 pub use lock::{Lock, read_lock};
-pub use lock_again_theorems::{again_laws, file_laws, graph_laws, node_laws, written_laws};
 pub use lock_writer::{can_be_written, node_hashes, write_lock};
 pub use node::{Body, Head, LockedNode};
 pub use theorems::lock_laws;
+pub use written_again::{again_laws, file_laws, graph_laws, node_laws, written_laws};

@@ -1,4 +1,4 @@
-// Reading a lock file.
+//! Reading a lock file.
 ghost use Rattle.std.specs.Prelude.{◌≡◌, Ok, IfOk, IfErr};
 ghost use Rattle.serde_json.specs.View.{view};
 ghost use Rattle.lockfile.specs.Faults.{IsFaultOf, IsLockFault, IsFileFault};
@@ -33,10 +33,11 @@ pub struct Lock {
 ///
 /// # Errors
 ///
-/// The first of these kinds that the file has anywhere, at its first place. `NotJson`: the bytes are no JSON
-/// text, or nest deeper than 127. `WrongKind`: a value has not its form; a value comes before what it holds,
-/// lists go from the front, and the keys of an object in byte order, missing and unknown ones among them.
-/// `TwiceNamed`, `HashDiffers`, `Dangling`: as the faults say; of children before roots.
+/// The first of these kinds that the file has anywhere, at its first place. `NotJson`: the bytes
+/// are no JSON text, or nest deeper than 127. `WrongKind`: a value has not its form; a value comes
+/// before what it holds, lists go from the front, and the keys of an object in byte order, missing
+/// and unknown ones among them. `TwiceNamed`, `HashDiffers`, `Dangling`: as the faults say; of
+/// children before roots.
 pub fn read_lock(alloc: Global, bytes: &[u8]) -> Result<Lock, LockFault>
     ensures found { IfOk result (IsLock bytes.now) }
     ensures fault { IfErr result (IsLockFault bytes.now) }
@@ -59,6 +60,7 @@ fn read_value(alloc: Global, value: &Value) -> Result<Lock, LockFault>
     }
 }
 
+/// The graph of a file whose values have their forms, or the first fault of the whole file.
 fn lock_of(alloc: Global, file: File) -> Result<Lock, LockFault>
     requires { AreProvided file }
     ensures found { IfOk result (IsLockOf file) }

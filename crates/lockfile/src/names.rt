@@ -1,4 +1,4 @@
-// The names of nodes by their hashes.
+//! The names of nodes by their hashes.
 ghost use Rattle.std.specs.Prelude.{◌≡◌, ℕ, List, Some, IfOk, OnOk};
 ghost use Rattle.std.specs.Option.{option_copied};
 ghost use Rattle.std.specs.BTreeMap.{get_by_text};

@@ -1,9 +1,10 @@
-// A node of a lock file.
+//! A node of a lock file.
 ghost use Rattle.std.specs.Prelude.{◌≡◌, codes, option_and_then, option_map};
 ghost use Rattle.serde_json.specs.Find.{as_str, get_member};
 ghost use Rattle.serde_json.specs.View.{members_view};
 ghost use Rattle.json_readers.specs.Faults.{Gives};
-ghost use Rattle.lockfile.specs.Files.{body_at, entry_at, head_at, is_external, node_at, origin_by, origin_meaning};
+ghost use Rattle.lockfile.specs.Files.{body_at, entry_at, head_at, is_external, node_at, origin_by};
+ghost use Rattle.lockfile.specs.Files.{origin_meaning};
 
 use graph_core::Origin;
 use json_readers::{
@@ -70,6 +71,7 @@ pub struct Body {
     pub origin: Word,
 }
 
+/// The keys up to `entry`.
 #[tactic(auto, unfolding(crate::specs::Files::head_at))]
 fn read_head(
     alloc: Global,

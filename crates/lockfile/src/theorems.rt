@@ -1,4 +1,4 @@
-// What holds of all lock files.
+//! What holds of all lock files.
 ghost use Rattle.std.specs.Prelude.{◌≡◌, ◌≢◌, ℕ, List};
 ghost use Rattle.lockfile.specs.Faults.{IsLockFault};
 ghost use Rattle.lockfile.specs.Locks.{IsLock};
@@ -11,8 +11,8 @@ use keyed_lists::keyed_laws;
 use plain_data::Word;
 use spec_hash::Hash;
 
-/// Bytes are one lock file at most, and have one fault at most besides want of memory; a lock file is refused for
-/// want of memory alone.
+/// Bytes are one lock file at most, and have one fault at most besides want of memory; a lock file
+/// is refused for want of memory alone.
 pub fn lock_laws()
     ensures one_reading { (bytes : List ℕ) (a b : Lock) → IsLock bytes a → IsLock bytes b → a ≡ b }
     ensures one_fault { (bytes : List ℕ) (f g : LockFault) → IsLockFault bytes f

@@ -12,6 +12,7 @@ use Rattle.optimum_search.specs.declared.found.Found.TheVariants.{Optimal, Refut
 use Rattle.optimum_search.specs.Finding.{IsFound, IsBest}
 use Rattle.clause_store.proofs.Entries.{Meets-all}
 
+-- no assignment has smaller bits than what was found
 pub best : (s : Clauses) (bits : List Lit) (budget : ℕ) (found : Found) → AllClauses (clauses_of s.entries) → IsFound s bits budget found
     → IsBest s bits budget found
 best s bits budget (Optimal model log) i f =

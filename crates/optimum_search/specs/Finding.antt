@@ -47,9 +47,9 @@ abbrev pub IsOver : List (List Lit) → ℕ → SolverValue → Type 0
 IsOver input vars t = (t.input ≡ input) × (t.vars ≡ vars)
 
 -- one more bit is settled, or the budget is spent
-abbrev pub Settles : List Lit → ℕ → ℕ → SolverValue → SolverValue → Bool → Type 0
-Settles bits budget n old new true = IsOver old.input old.vars new × IsSearching bits budget (n + 1) new
-Settles bits budget n old new false = IsOver old.input old.vars new × IsSpentLog new.vars new.input bits budget new.lines
+abbrev pub FixesBit : List Lit → ℕ → ℕ → SolverValue → SolverValue → Bool → Type 0
+FixesBit bits budget n old new true = IsOver old.input old.vars new × IsSearching bits budget (n + 1) new
+FixesBit bits budget n old new false = IsOver old.input old.vars new × IsSpentLog new.vars new.input bits budget new.lines
 
 -- a number ends behind a place, and not beyond the bits
 abbrev pub ends_past : List Lit → ℕ → Number → Bool

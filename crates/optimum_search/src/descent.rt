@@ -6,7 +6,7 @@ ghost use Rattle.clause_store.specs.Clauses.{clauses_of};
 ghost use Rattle.proof_log.specs.Known.{AllClauses};
 ghost use Rattle.optimum_search.specs.Finding.{IsFound};
 
-use crate::settle::settle_next;
+use crate::fix_bits::fix_next_bit;
 use crate::{Found, Number, Progress, Stage, Untold};
 use clause_solver::{Outcome, Solver};
 use clause_store::{ClauseList, Lit};
@@ -40,8 +40,9 @@ fn stage_at(numbers: &[Number], at: usize, learnt: u64) -> Stage {
 
 /// The same where the bits spell numbers, one behind another.
 ///
-/// While a number's bits are settled, those that are left are decided first, at 0, and its parts soon, at false. What is found
-/// has the same bits, whatever stands in `numbers`; how long it takes may differ. Before each bit `progress` is told how far it is.
+/// While a number's bits are settled, those that are left are decided first, at 0, and its parts
+/// soon, at false. What is found has the same bits, whatever stands in `numbers`; how long it takes
+/// may differ. Before each bit `progress` is told how far it is.
 pub fn search_by_numbers<P: Progress>(
     alloc: Global,
     clauses: &ClauseList,
@@ -70,7 +71,7 @@ pub fn search_by_numbers<P: Progress>(
     }
     for at in 0..bits.len() {
         progress.tell(stage_at(numbers, at, solver.learnt()));
-        if !settle_next(alloc, &mut solver, bits, numbers, at, budget)? {
+        if !fix_next_bit(alloc, &mut solver, bits, numbers, at, budget)? {
             return Ok(Found::Spent {
                 log: solver.into_log(),
             });

@@ -16,6 +16,7 @@ use Rattle.outside_desk.specs.FileMap.{file_of, files_of}
 abbrev pub items_of : Option (Vec ℕ Global) → Option (List ℕ)
 items_of file = option_map (λ v. v.items) file
 
+-- a look-up by path in the map is the one in its entries
 pub find_file : (es : List (String Global × Vec ℕ Global)) (q : List ℕ)
     → find (slice_cmp nat_cmp) q (map file_of es) ≡ items_of (lookup (is_at (text_cmp q)) es)
 find_file [] q = refl

@@ -25,6 +25,7 @@ use Rattle.outside_desk.specs.Listing.{behind, with_name, AreInOrder}
 chosen : (b : Bool) (t : Bool) (x : List ℕ) → b ≡ t → (if b then Some x else None) ≡ (if t then Some x else None)
 chosen b t x e = ap (λ c. if c then Some x else None) e
 
+-- a prefix stripped from a path leaves what stands behind it
 pub strip_is : (front text : List ℕ) (r : Option (Bor (List ℕ)))
     → MatchOption r (FindsTextPrefix front text None) (λ x. StripsPrefix (FindsTextPrefix front) text x.now)
     → option_copied r ≡ behind front text

@@ -113,6 +113,8 @@ pub fn file_id<R: Files>(alloc: Global, rt: &R, path: &str) -> Result<FileId, De
     }
 }
 
+/// The file that a path leads to, links followed; where there is none, the folder that it would stand in and its name
+/// there. None where a put would replace no regular file.
 fn find_id<R: Files>(alloc: Global, rt: &R, path: &str) -> Result<Option<FileId>, Error> {
     let Some(path) = replaced_path(alloc, rt, path)? else {
         return Ok(None);

@@ -79,7 +79,7 @@ impl<A: Same, B: Same> Same for (A, B) {
 
 impl<T: Duplicate> Duplicate for List<T> {
     fn duplicate(&self, alloc: Global) -> Result<List<T>, AllocError> {
-        let mut copy = List::new(alloc);
+        let mut copy = List::from_vec(Vec::with_capacity(alloc, self.len())?);
         for value in self.as_slice() {
             copy.push(value.duplicate(alloc)?)?;
         }

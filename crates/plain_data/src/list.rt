@@ -55,10 +55,16 @@ impl<T> List<T> {
 
 impl<T: Drop> List<T> {
     /// Adds an element at the end. After an error the list is as it was.
+    ///
+    /// The first element takes room for one alone, since most lists of a recipe have no second; from
+    /// the second on the room is at least doubled, as a `Vec` does it.
     pub fn push(&mut self, value: T) -> Result<(), AllocError>
         ensures ok { OnOk result (self.new ≡ self.old ++ value ∷ []) }
         ensures err { OnErr result (self.new ≡ self.old) }
     {
+        if self.items.capacity() == 0 {
+            self.items.reserve_exact(1)?;
+        }
         self.items.push(value)?;
         Ok(())
     }

@@ -10,16 +10,20 @@ module _ {T : Type 0} where
   abbrev pub seen : List (Bor (List ℕ) × Bor T) → List T
   seen run = map (λ (e : List ℕ × T). e.1) (lent run)
 
+  -- an empty run finds nothing
   pub none_found : (p : T → Bool) (xs : List T) (run : List (Bor (List ℕ) × Bor T)) → seen run ≡ filter p xs → length run < 1
       → find p xs ≡ None
   none_found p xs [] is short = find_first p xs ∙ ap (first_in p) (sym is)
   none_found p xs (e ∷ run) is short = absurd (omega (arith, short))
 
+  -- the first of a run is what is found
   pub first_found : (p : T → Bool) (xs : List T) (run : List (Bor (List ℕ) × Bor T)) (e : Bor (List ℕ) × Bor T) → seen run ≡ filter p xs
       → 1 ≤ length run → e ≡ get_or run 0 e → find p xs ≡ Some e.1.now
   first_found p xs [] e is long at = absurd (omega (arith, long))
-  first_found p xs (f ∷ run) e is long at = find_first p xs ∙ ap (first_in p) (sym is) ∙ ap (λ (g : Bor (List ℕ) × Bor T). Some g.1.now) (sym at)
+  first_found p xs (f ∷ run) e is long at = find_first p xs ∙ ap (first_in p) (sym is)
+      ∙ ap (λ (g : Bor (List ℕ) × Bor T). Some g.1.now) (sym at)
 
+  -- a run that is not empty finds something
   pub some_found : (p : T → Bool) (xs : List T) (run : List (Bor (List ℕ) × Bor T)) → seen run ≡ filter p xs
       → not (length run == 0) ≡ list_any p xs
   some_found p xs run is =

@@ -1,4 +1,4 @@
-// A problem in which names are found by search.
+//! A problem in which names are found by search.
 ghost use Rattle.std.specs.Prelude.{◌≡◌, map, filter, IfOk};
 ghost use Rattle.std.specs.List.{list_any};
 ghost use Rattle.std.specs.Option.{option_copied};
@@ -14,7 +14,8 @@ use site_settings::PackageEntry;
 use std::alloc::{AllocError, Global};
 use std::marker::Model;
 
-/// A problem whose packages of the settings and whose records are found by search of their name, seen as the problem.
+/// A problem whose packages of the settings and whose records are found by search of their name,
+/// seen as the problem.
 #[derive(Drop)]
 pub struct IndexedProblem<'a> {
     problem: &'a Problem,
@@ -34,7 +35,8 @@ impl<'a> Model for IndexedProblem<'a> {
 }
 
 impl<'a> IndexedProblem<'a> {
-    /// The same problem; takes n log n comparisons of names for n packages of the settings and records.
+    /// The same problem; takes n log n comparisons of names for n packages of the settings and
+    /// records.
     pub fn new(alloc: Global, problem: &'a Problem) -> Result<IndexedProblem<'a>, AllocError>
         ensures { IfOk result (λ indexed. indexed ≡ problem.now) }
     {

@@ -16,6 +16,7 @@ use Rattle.reuse_db.specs.declared.record.Record.{Record}
 use Rattle.problem.specs.Assembled.{is_assembled}
 use Rattle.problem.specs.Problems.{problem_of}
 
+-- parts that are put together meet the test
 pub assembled : (recipes : List Recipe) (settings : Settings) (database : List Record) (roots : List Spec) → AreInOrder recipes
     → list_all is_right_recipe recipes ≡ true → list_all (λ spec. is_some spec.top.name) roots ≡ true
     → is_assembled (problem_of recipes settings database roots) ≡ true

@@ -2,4 +2,3 @@ pub mod AssembledLaws
 pub mod NumberLaws
 pub mod OfVariantValues
 pub mod OfKeyedLists
-pub mod Stops

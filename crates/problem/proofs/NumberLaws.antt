@@ -33,6 +33,7 @@ has (n ∷ numbers) kept q =
           (λ old. rest.1 (inr (adds.1 (inr old)))) h,
     )
 
+-- a sort without its repeats is the numbers put in order, each once
 pub once : (numbers sorted : List ℕ) → IsPermutation numbers sorted → IsSorted nat_cmp sorted
     → dedup (λ x y. x == y) sorted ≡ fold (insert_key nat_cmp) [] numbers
 once numbers sorted moved order = same_keys nat_cmp_total _ _ (IsStrictlySortedBy-dedup nat_cmp_total unsigned_ties sorted order)
@@ -55,6 +56,7 @@ map_more : {X Y : Type 0} (f : X → Y) (xs : List X) (x : X) → map f (xs ++ x
 map_more f [] x = refl
 map_more f (y ∷ ys) x = ap (λ l. f y ∷ l) (map_more f ys x)
 
+-- one root's demand more
 pub roots_more : (list more : List Demand) (i : ℕ) → list ≡ map Root (range_with_len 0 i) → more ≡ list ++ Root i ∷ []
     → more ≡ map Root (range_with_len 0 (i + 1))
 roots_more list more i is grown =
@@ -66,6 +68,7 @@ roots_more list more i is grown =
 
 -- ---- one recipe after another
 
+-- one element of a list more was gone over
 pub flat_step : {X A : Type 0} (f : X → List A) (xs : List X) (i : ℕ) (x : X) (acc more whole : List A) → i < length xs → x ≡ get_or xs i x
     → more ≡ acc ++ f x → acc ++ flat_map f (drop i xs) ≡ whole → more ++ flat_map f (drop (i + 1) xs) ≡ whole
 flat_step f xs i x acc more whole lt is grown before =

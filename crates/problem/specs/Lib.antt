@@ -11,7 +11,7 @@ pub mod OfSpecGrammar
 pub mod OfKeyedLists
 pub mod OfGraphCore
 pub mod OfSiteSettings
-pub mod OfConditions
+pub mod OfRecipeData
 pub mod OfVirtuals
 pub mod OfConditionRules
 pub mod OfReuseDb

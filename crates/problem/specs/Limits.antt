@@ -1,9 +1,9 @@
 -- How large a problem is, and which problems are within the limits.
-use Rattle.std.specs.Prelude.{ℕ, ◌+◌, ◌-◌, ◌^◌, Bool, ◌&&◌, List, length, min, nat_le}
+use Rattle.std.specs.Prelude.{ℕ, ◌+◌, ◌^◌, Bool, ◌&&◌, List, length, nat_le}
 use Rattle.std.specs.List.{sum_by}
 use Rattle.problem.specs.OfGraphCore.Graphs.{Text}
-use Rattle.problem.specs.OfConditions.Recipe.{Recipe}
-use Rattle.problem.specs.OfConditions.VariantRow.{VariantRow}
+use Rattle.problem.specs.OfRecipeData.Recipe.{Recipe}
+use Rattle.problem.specs.OfRecipeData.VariantRow.{VariantRow}
 use Rattle.problem.specs.OfSiteSettings.ExternalEntry.{ExternalEntry}
 use Rattle.site_settings.specs.declared.settings.PackageEntry.{PackageEntry}
 use Rattle.site_settings.specs.declared.settings.Settings.{Settings}
@@ -53,6 +53,10 @@ size_of_database records = length records + sum_by record_members records
 
 -- ---- the limits
 
+-- how many names nodes of a problem's graphs may have
+abbrev pub most_names : ℕ
+most_names = 1024
+
 abbrev pub are_few_rows : List Recipe → Bool
 are_few_rows recipes = nat_le (size_of_recipes recipes) (2 ^ 28)
 
@@ -64,7 +68,3 @@ are_few_records records = nat_le (size_of_database records) (2 ^ 26)
 
 unfoldable pub is_within_limits : Problem → Bool
 is_within_limits problem = are_few_rows problem.recipes && are_small problem.settings && are_few_records problem.database
-
--- a count that stops at the largest number of 64 bits
-abbrev pub stopped : ℕ → ℕ
-stopped n = min n (2 ^ 64 - 1)

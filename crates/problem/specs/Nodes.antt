@@ -1,5 +1,5 @@
 -- Words on nodes and kinds.
-use Rattle.std.specs.Prelude.{Bool, true, false, ◌&&◌, ◌||◌, All}
+use Rattle.std.specs.Prelude.{Bool, true, false, ◌&&◌, All}
 use Rattle.std.specs.Str.{bytes_eq}
 use Rattle.condition_rules.specs.OfVariantValues.Texts.{IsInByteOrder}
 use Rattle.condition_rules.specs.OfGraphCore.Graphs.{Text, Content, IsGraph}
@@ -7,6 +7,7 @@ use Rattle.condition_rules.specs.OfGraphCore.Node.{Node}
 use Rattle.condition_rules.specs.OfGraphCore.Kinds.{Kinds}
 use Rattle.condition_rules.specs.OfGraphCore.OriginVariants.{Built, External, Installed}
 use Rattle.condition_rules.specs.Words.{implies}
+pub use Rattle.graph_core.specs.Graphs.{has_kind}
 
 -- the node is to be built
 abbrev pub is_built : Node → Bool
@@ -15,9 +16,6 @@ is_built node = elim node.origin [ Built ↦ true | External place ↦ false | I
 -- the node is the installed one of this hash
 abbrev pub is_installed : Text → Node → Bool
 is_installed hash node = elim node.origin [ Built ↦ false | External place ↦ false | Installed h ↦ bytes_eq h hash ]
-
-abbrev pub has_kind : Kinds → Bool
-has_kind kinds = kinds.build || kinds.link || kinds.run
 
 -- all kinds that are wanted are there
 abbrev pub covers : Kinds → Kinds → Bool

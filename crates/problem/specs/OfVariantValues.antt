@@ -1,2 +1,2 @@
 -- What is passed on of `variant_values`, so that the crates above need not name it.
-pub use Rattle.condition_rules.specs.OfVariantValues.Texts
+pub use Rattle.variant_values.specs.Texts

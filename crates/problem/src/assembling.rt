@@ -1,11 +1,13 @@
-// Putting a problem together.
-ghost use Rattle.std.specs.Prelude.{◌≡◌, true, None, is_some, IfOk, IfErr, OnOk, map, option_map, ◌∷◌, ◌++◌};
+//! Putting a problem together.
+ghost use Rattle.std.specs.Prelude.{◌≡◌, true, None, is_some, IfOk, IfErr, OnOk, map, option_map};
+ghost use Rattle.std.specs.Prelude.{◌∷◌, ◌++◌};
 ghost use Rattle.std.specs.List.{list_all, range_with_len};
 ghost use Rattle.condition_rules.specs.OfConditions.Right.{is_right_recipe};
 ghost use Rattle.condition_rules.specs.OfVirtuals.Virtuals.{AreInOrder, AreProviders};
 ghost use Rattle.problem.specs.Demands.{directives_of};
 ghost use Rattle.problem.specs.Problems.{problem_of};
-ghost use Rattle.problem.specs.Roots.{IsProblemFault, name_fault, root_fault, first_fault, roots_fault, wrong_platform};
+ghost use Rattle.problem.specs.Roots.{IsProblemFault, name_fault, root_fault, first_fault};
+ghost use Rattle.problem.specs.Roots.{roots_fault, wrong_platform};
 ghost use Rattle.problem.specs.declared.demand.Demand.TheVariants.{Root};
 ghost use Rattle.problem.specs.declared.fault.ProblemFault.TheVariants.{WrongPlatform};
 
@@ -21,7 +23,8 @@ use std::alloc::{AllocError, Global};
 
 /// The problem of these parts; takes them whatever it answers.
 ///
-/// It looks at the requested specs in order, and at each for what `ProblemFault` names, in its order.
+/// It looks at the requested specs in order, and at each for what `ProblemFault` names, in its
+/// order.
 pub fn assemble(
     alloc: Global,
     recipes: List<Recipe>,
@@ -32,7 +35,8 @@ pub fn assemble(
     requires order { AreInOrder recipes }
     requires right { list_all is_right_recipe recipes ≡ true }
     requires named { list_all (λ spec. is_some spec.top.name) roots ≡ true }
-    ensures problem { IfOk result (λ problem. problem ≡ problem_of recipes settings database roots) }
+    ensures problem { IfOk result (λ problem. problem
+        ≡ problem_of recipes settings database roots) }
     ensures known { OnOk result (roots_fault (problem_of recipes settings database roots) ≡ None) }
     ensures fault { IfErr result (IsProblemFault (problem_of recipes settings database roots)) }
 {
@@ -63,6 +67,7 @@ fn found_in(
     Ok((providers, demands))
 }
 
+/// The problem itself, or why one of its roots is refused.
 fn unless_refused(alloc: Global, problem: Problem) -> Result<Problem, ProblemFault>
     ensures problem { IfOk result (λ made. made ≡ problem) }
     ensures known { OnOk result (roots_fault problem ≡ None) }
@@ -89,6 +94,7 @@ fn refused(alloc: Global, problem: &Problem) -> Result<Option<ProblemFault>, All
     first_of(alloc, problem, problem.roots())
 }
 
+/// The first fault of a requested spec.
 fn first_of(
     alloc: Global,
     problem: &Problem,
@@ -118,6 +124,7 @@ fn fault_of(
     }
 }
 
+/// What is wrong with a root's name: it is a virtual, or nothing has it.
 fn name_fault(
     alloc: Global,
     problem: &Problem,

@@ -1,8 +1,9 @@
-// What may be demanded of a graph.
+//! What may be demanded of a graph.
 
 use plain_data::Word;
 
-/// A root by its place among the requested specs, or a directive by its package and its number there.
+/// A root by its place among the requested specs, or a directive by its package and its number
+/// there.
 #[derive(Debug, Drop)]
 pub enum Demand {
     Root(u64),

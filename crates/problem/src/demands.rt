@@ -1,4 +1,4 @@
-// What may be demanded of a graph, as a list.
+//! What may be demanded of a graph, as a list.
 ghost use Rattle.std.specs.Prelude.{◌≡◌, ◌++◌, map, IfOk, OnOk};
 ghost use Rattle.std.specs.List.{range_with_len};
 ghost use Rattle.condition_rules.specs.OfConditions.Right.{numbers_of};
@@ -37,6 +37,7 @@ fn roots_of(alloc: Global, roots: usize) -> Result<List<Demand>, AllocError>
     Ok(list)
 }
 
+/// Adds the demand of each directive of a package.
 fn add_directives(
     alloc: Global,
     list: &mut List<Demand>,

@@ -1,4 +1,4 @@
-// A graph with all its paths.
+//! A graph with all its paths.
 ghost use Rattle.std.specs.Prelude.{◌≡◌, IfOk};
 
 use condition_rules::Paths;

@@ -1,4 +1,4 @@
-// Why requested specs are refused.
+//! Why requested specs are refused.
 ghost use Rattle.std.specs.Prelude.{◌≡◌};
 ghost use Rattle.problem.specs.declared.fault.ProblemFault.TheVariants.{OutOfMemory};
 

@@ -1,27 +1,14 @@
-// Names that are known.
-ghost use Rattle.std.specs.Prelude.{◌≡◌, find};
+//! Names that are known.
+ghost use Rattle.std.specs.Prelude.{◌≡◌};
 ghost use Rattle.std.specs.List.{list_any};
-ghost use Rattle.std.specs.Option.{option_copied};
 ghost use Rattle.std.specs.Str.{bytes_eq};
 ghost use Rattle.problem.specs.Closure.{is_known, is_some_list};
 ghost use Rattle.problem.specs.Problems.{entry_of, externals_in};
 
 use crate::Problem;
+use crate::lookup::entry_of;
 use reuse_db::Record;
-use site_settings::{ExternalEntry, PackageEntry};
-
-/// What the settings say of a package.
-#[tactic(auto, unfolding(crate::specs::Problems::entry_of))]
-pub fn entry_of<'a>(problem: &'a Problem, name: &str) -> Option<&'a PackageEntry>
-    ensures { option_copied result ≡ entry_of problem.now name.now }
-{
-    let settings = problem.settings();
-    settings
-        .packages
-        .as_slice()
-        .iter()
-        .find(|entry| entry.name.as_str() == name)
-}
+use site_settings::ExternalEntry;
 
 fn is_some_list(entries: &[ExternalEntry]) -> bool
     ensures { result ≡ is_some_list entries.now }

@@ -1,8 +1,10 @@
-// Looking up in a problem.
+//! Looking up in a problem.
 ghost use Rattle.std.specs.Prelude.{◌≡◌, IfOk, map};
 ghost use Rattle.std.specs.Option.{option_copied};
 ghost use Rattle.problem.specs.Nodes.{is_built, covers};
-ghost use Rattle.problem.specs.Problems.{recipe_at, versions_at, variants_at, depends_at, conflicts_at, requirements_at, entry_of, is_buildable_in, same_compiler, applies, asked_by};
+ghost use Rattle.problem.specs.Problems.{recipe_at, versions_at, variants_at, depends_at};
+ghost use Rattle.problem.specs.Problems.{conflicts_at, requirements_at, entry_of, is_buildable_in};
+ghost use Rattle.problem.specs.Problems.{same_compiler, applies, asked_by};
 
 use crate::{Explored, Problem};
 use condition_rules::{Paths, all_hold, asked_node};

@@ -1,4 +1,4 @@
-// Platforms that are not the machine's.
+//! Platforms that are not the machine's.
 ghost use Rattle.std.specs.Prelude.{◌≡◌, ◌∷◌};
 ghost use Rattle.std.specs.Option.{option_copied};
 ghost use Rattle.problem.specs.Roots.{other_than, wrong_platform};
@@ -6,6 +6,7 @@ ghost use Rattle.problem.specs.Roots.{other_than, wrong_platform};
 use condition_rules::{Part, Spec};
 use plain_data::Word;
 
+/// A platform that is written and is not the machine's.
 fn other_than<'a>(platform: &str, written: &'a Option<Word>) -> Option<&'a Word>
     ensures { option_copied result ≡ other_than platform.now written.now }
 {
@@ -21,6 +22,7 @@ fn other_than<'a>(platform: &str, written: &'a Option<Word>) -> Option<&'a Word>
     }
 }
 
+/// The first such platform of some parts.
 fn first_wrong<'a>(platform: &str, parts: &'a [Part]) -> Option<&'a Word>
     ensures { option_copied result ≡ wrong_platform platform.now parts.now }
 {

@@ -1,4 +1,4 @@
-// A problem.
+//! A problem.
 ghost use Rattle.std.specs.Prelude.{◌≡◌, true, length, slice_get};
 ghost use Rattle.std.specs.Option.{option_copied};
 ghost use Rattle.condition_rules.specs.OfVirtuals.Virtuals.{AreInOrder, AreProviders};
@@ -90,7 +90,8 @@ impl Problem {
         )
     }
 
-    /// How many demands there are: the roots in order, and then the directives by package and number.
+    /// How many demands there are: the roots in order, and then the directives by package and
+    /// number.
     pub fn demands(&self) -> u64
         ensures { result ≡ length (demands self.now) }
     {

@@ -9,10 +9,11 @@ as-long [] (n ∷ ns) h = absurd (cc)
 as-long (t ∷ ts) [] h = absurd (cc)
 as-long (t ∷ ts) (n ∷ ns) h = omega (arith, as-long ts ns (and_parts (leb n t) (within ts ns) h).1)
 
+-- a vector of another length is not spelled
 pub unspelled : (tops numbers : List ℕ) → (length numbers ≡ length tops → ⊥) → bits_for tops numbers ≡ None
 unfolding bits_for
-unspelled tops numbers other = go (within tops numbers) refl
+unspelled tops numbers other = unspelled-cases (within tops numbers) refl
   where
-    go : (b : Bool) → within tops numbers ≡ b → bits_for tops numbers ≡ None
-    go true is = absurd (other (as-long tops numbers is))
-    go false is = rw is refl
+    unspelled-cases : (b : Bool) → within tops numbers ≡ b → bits_for tops numbers ≡ None
+    unspelled-cases true is = absurd (other (as-long tops numbers is))
+    unspelled-cases false is = rw is refl

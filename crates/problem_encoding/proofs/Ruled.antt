@@ -8,17 +8,17 @@ use Rattle.problem.specs.Closure.{IsClosure}
 use Rattle.literal_table.specs.Tables.{Table}
 use Rattle.problem_formulas.specs.OfGraphEncoding.Encodings.{encode_on, told_in}
 use Rattle.problem_formulas.specs.OfGraphEncoding.Best.{values_for}
-use Rattle.problem_formulas.specs.OfGraphClauses.Ranges.{AreInRange}
-use Rattle.problem_formulas.specs.OfGraphClauses.ProblemClauses.{ProblemClauses}
-use Rattle.problem_formulas.proofs.OfGraphClauses.CallSteps.{ranges_of}
+use Rattle.problem_formulas.specs.OfGraphEncoding.Ranges.{AreInRange}
+use Rattle.problem_formulas.specs.OfGraphEncoding.ProblemClauses.{ProblemClauses}
+use Rattle.problem_formulas.proofs.OfGraphEncoding.CallSteps.{ranges_of}
 use Rattle.problem_formulas.specs.OfGraphDecoding.Decoding.{decode}
-use Rattle.ranked_costs.specs.OfClosureEncoding.Kept.{have_values}
-use Rattle.ranked_costs.specs.OfClosureEncoding.Tables.{table_for, size_for}
-use Rattle.ranked_costs.specs.OfClosureEncoding.Targets.{conditions_of, targets_of}
-use Rattle.ranked_costs.specs.OfClosureEncoding.Joined.{IsPlaced, holds_at}
-use Rattle.ranked_costs.specs.OfClosureEncoding.Closures.{closure_formulas, ClosureIsRight}
+use Rattle.ranked_costs.specs.OfTablePlan.Kept.{have_values}
+use Rattle.ranked_costs.specs.OfValidModels.Tables.{table_for, size_for}
+use Rattle.ranked_costs.specs.OfValidModels.Targets.{conditions_of, targets_of}
+use Rattle.ranked_costs.specs.OfValidModels.Joined.{IsPlaced, holds_at}
+use Rattle.ranked_costs.specs.OfValidModels.Closures.{closure_formulas, ClosureIsRight}
 use Rattle.problem_formulas.specs.Given.{no_place, formulas_given}
-use Rattle.ranked_costs.specs.OfClosureEncoding.Closures.{closure_clauses}
+use Rattle.ranked_costs.specs.OfValidModels.Closures.{closure_clauses}
 use Rattle.ranked_costs.specs.Ranked.{closure_values}
 use Rattle.possible_closure.specs.Closures.{closure_of}
 use Rattle.problem_encoding.specs.Encodings.{IsRuled}
@@ -62,12 +62,15 @@ module _ (problem : Problem) (names : List Text) (closure : IsClosure problem na
     values ∙ (λ i. values_for problem (e i) (s i) (formulas_given problem (e i)) ((w ∙ ap (targets_of problem) e) i)),
   )
 
+  -- the clauses that are made are those of the closure
   pub ruled : names ≡ closure_of problem → (t : Table) (n : ℕ) (targets : List Text) (made : ProblemClauses)
       → t ≡ table_for problem names → n ≡ size_for problem names → targets ≡ targets_of problem t
-      → encode_on problem t n (formulas_given problem t) targets ≡ made.list → made.values ≡ values_for problem t n (formulas_given problem t) targets
+      → encode_on problem t n (formulas_given problem t) targets ≡ made.list
+      → made.values ≡ values_for problem t n (formulas_given problem t) targets
       → IsRuled problem t made
   ruled same t n targets made e s w built values =
-      let all : Over problem t made (closure_of problem) = subst (Over problem t made) same (over t n targets made e s w built values) in record {
+      let all : Over problem t made (closure_of problem) = subst (Over problem t made) same (over t n targets made e s w built values) in
+      record {
         closure = all.0;
         has = all.1;
         is_table = all.2;

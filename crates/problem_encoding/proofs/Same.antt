@@ -5,12 +5,13 @@ use Rattle.criteria_totals.specs.Totals.{Spelling}
 use Rattle.problem.specs.Problems.{Problem}
 use Rattle.literal_table.specs.Tables.{Table}
 use Rattle.ranked_costs.specs.Built.{rank_costs_on}
-use Rattle.problem_formulas.specs.OfGraphClauses.ProblemClauses.{ProblemClauses}
+use Rattle.problem_formulas.specs.OfGraphEncoding.ProblemClauses.{ProblemClauses}
 use Rattle.problem_encoding.specs.Built.{order_in, encoding_of}
 use Rattle.problem_encoding.specs.Encodings.{IsRuled}
 use Rattle.problem_encoding.specs.declared.encoded.Encoded.{Encoded}
 
 module _ (problem : Problem) (t : Table) (made : ProblemClauses) (ruled : IsRuled problem t made) where
+  -- what is made is the encoding of the definition
   pub encoded-is : (new : Clauses) (bits : Spelling)
       → rank_costs_on made.list problem t made.values (order_in problem t) ≡ record { list = new; answer = bits }
       → (e : Encoded) → e ≡ record { clauses = new; bits = bits; table = t } → e ≡ encoding_of problem

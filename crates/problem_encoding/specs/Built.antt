@@ -8,8 +8,8 @@ use Rattle.possible_closure.specs.Closures.{root_names, closure_of}
 use Rattle.literal_table.specs.Tables.{Table}
 use Rattle.ranked_costs.specs.Walks.{post_order}
 use Rattle.problem_formulas.specs.Given.{no_place}
-use Rattle.ranked_costs.specs.OfClosureEncoding.Tables.{table_for}
-use Rattle.ranked_costs.specs.OfClosureEncoding.Closures.{closure_clauses}
+use Rattle.ranked_costs.specs.OfValidModels.Tables.{table_for}
+use Rattle.ranked_costs.specs.OfValidModels.Closures.{closure_clauses}
 use Rattle.ranked_costs.specs.Ranked.{closure_values}
 use Rattle.ranked_costs.specs.Built.{rank_costs_on}
 use Rattle.problem_encoding.specs.declared.encoded.Encoded.{Encoded}

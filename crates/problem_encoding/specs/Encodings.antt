@@ -13,11 +13,11 @@ use Rattle.graph_levels.specs.Stages.{Decodes}
 use Rattle.problem_formulas.specs.OfGraphDecoding.Decoding.{decode, IsStructured}
 use Rattle.problem_formulas.specs.OfGraphEncoding.Encodings.{IsValid}
 use Rattle.problem_formulas.specs.OfGraphEncoding.Best.{RanksGraphs}
-use Rattle.problem_formulas.specs.OfGraphClauses.ProblemClauses.{ProblemClauses}
+use Rattle.problem_formulas.specs.OfGraphEncoding.ProblemClauses.{ProblemClauses}
 use Rattle.literal_table.specs.Tables.{Table}
 use Rattle.problem.specs.Closure.{IsClosure}
 use Rattle.possible_closure.specs.Closures.{closure_of}
-use Rattle.ranked_costs.specs.OfClosureEncoding.Kept.{have_values}
+use Rattle.ranked_costs.specs.OfTablePlan.Kept.{have_values}
 use Rattle.problem_encoding.specs.Built.{table_of, rule_clauses, rule_values}
 use Rattle.problem_encoding.specs.declared.encoded.Encoded.{Encoded}
 use Rattle.problem_encoding.specs.declared.encoded.Rules.{Rules}

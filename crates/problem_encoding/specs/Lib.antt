@@ -1,4 +1,4 @@
 -- what public contracts say
 pub mod Encodings
 pub mod Built
-pub mod OfRankedCosts
+pub mod OfTablePlan

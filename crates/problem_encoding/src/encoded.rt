@@ -1,20 +1,19 @@
 //! The clauses of a problem and their bits.
 ghost use Rattle.std.specs.Prelude.{◌≡◌, ◌≤◌, true, length, IfOk};
 ghost use Rattle.possible_closure.specs.Closures.{closure_of};
-ghost use Rattle.ranked_costs.specs.OfClosureEncoding.Kept.{has_right_values};
-ghost use Rattle.ranked_costs.specs.OfClosureEncoding.Tables.{table_for, size_for};
-ghost use Rattle.ranked_costs.specs.OfProblemLimits.Limits.{is_within_limits};
+ghost use Rattle.ranked_costs.specs.OfTablePlan.Kept.{has_right_values};
+ghost use Rattle.ranked_costs.specs.OfValidModels.Tables.{table_for, size_for};
+ghost use Rattle.problem.specs.Limits.{is_within_limits, most_names};
 ghost use Rattle.ranked_costs.specs.Built.{rank_costs_on};
 ghost use Rattle.problem_encoding.specs.Built.{order_in, encoding_of};
 ghost use Rattle.problem_encoding.specs.Encodings.{AreCosted, AreRules, IsEncoded, IsRuled, RulesDecode};
 
-use crate::roots::root_names;
 use clause_formulas::Defined;
 use clause_store::ClauseList;
 use criteria_totals::Bits;
 use literal_table::LiteralTable;
 use plain_data::List;
-use possible_closure::{Closure, possible_laws};
+use possible_closure::{Closure, possible_laws, root_names};
 use problem::Problem;
 use problem_formulas::{ProblemClauses, ProblemFormulas, targets_of};
 use ranked_costs::{closure_laws, costs_laws, order_laws, plan_laws, post_order, rank_costs};
@@ -25,7 +24,8 @@ use table_building::table_of;
 #[derive(Drop)]
 pub struct Encoded {
     pub clauses: ClauseList,
-    /// The bits of the 31 numbers, one number behind the other, the first bit counting most; and the greatest value of each number.
+    /// The bits of the 31 numbers, one number behind the other, the first bit counting most; and
+    /// the greatest value of each number.
     pub bits: Bits,
     pub table: LiteralTable,
 }
@@ -39,9 +39,10 @@ pub struct Rules {
     pub values: List<Defined>,
 }
 
-/// The clauses of the rules over the names that nodes may have: they alone say whether there is a graph.
+/// The clauses of the rules over the names that nodes may have: they alone say whether there is a
+/// graph.
 ///
-/// Externals and records have values for their variants, as all that are read do; `has_right_values` tests it.
+/// Externals and records have values for their variants, as all that are read do.
 ///
 /// An error is want of memory.
 pub fn encode_rules(
@@ -64,15 +65,17 @@ pub fn encode_rules(
     })
 }
 
-/// The clauses of a problem over the names that its nodes may have: one encoding for each problem, that of the rules in front.
+/// The clauses of a problem over the names that its nodes may have: one encoding for each problem,
+/// that of the rules in front.
 ///
-/// Externals and records have values for their variants, as all that are read do; `has_right_values` tests it. The problem is within
-/// the limits, and its closure has at most 1,024 names (`may_encode`): so the weights of each number add up to less than 2^63.
+/// Externals and records have values for their variants, as all that are read do. The problem is
+/// within the limits, and its closure has at most `most_names` names: so the weights of each number
+/// add up to less than 2^63.
 ///
 /// An error is want of memory.
 pub fn encode(alloc: Global, problem: &Problem, closure: &Closure) -> Result<Encoded, AllocError>
     requires closure { closure.now ≡ closure_of problem.now }
-    requires few { length (closure_of problem.now) ≤ 1024 }
+    requires few { length (closure_of problem.now) ≤ most_names }
     requires values { has_right_values problem.now ≡ true }
     requires limits { is_within_limits problem.now ≡ true }
     ensures encoded { IfOk result (IsEncoded problem.now) }
@@ -116,7 +119,7 @@ fn add_costs(
 ) -> Result<Bits, AllocError>
     requires ruled { IsRuled problem.now table.now
         (record { list = clauses.old; values = values.now }) }
-    requires few { length (closure_of problem.now) ≤ 1024 }
+    requires few { length (closure_of problem.now) ≤ most_names }
     requires limits { is_within_limits problem.now ≡ true }
     ensures costed { IfOk result (AreCosted problem.now table.now clauses.new) }
     ensures built { IfOk result (λ bits. rank_costs_on clauses.old problem.now table.now values.now
@@ -130,10 +133,11 @@ fn add_costs(
     rank_costs(alloc, clauses, problem, table, values, order.as_slice())
 }
 
-/// The clauses of the rules with the bits of the costs behind them. What is asked of the problem is what `encode` asks.
+/// The clauses of the rules with the bits of the costs behind them. What is asked of the problem is
+/// what `encode` asks.
 pub fn with_costs(alloc: Global, problem: &Problem, rules: Rules) -> Result<Encoded, AllocError>
     requires ruled { AreRules problem.now rules }
-    requires few { length (closure_of problem.now) ≤ 1024 }
+    requires few { length (closure_of problem.now) ≤ most_names }
     requires limits { is_within_limits problem.now ≡ true }
     ensures encoded { IfOk result (IsEncoded problem.now) }
     ensures built { IfOk result (λ encoded. encoded ≡ encoding_of problem.now) }

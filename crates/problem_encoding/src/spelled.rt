@@ -8,7 +8,8 @@ use std::alloc::{AllocError, Global};
 
 /// The values of the bits that spell a cost vector, the first number first.
 ///
-/// None where a number is above the greatest value of its sum, as no valid graph's is, or where there are not 31 of them.
+/// None where a number is above the greatest value of its sum, as no valid graph's is, or where
+/// there are not 31 of them.
 pub fn values_of(
     alloc: Global,
     encoded: &Encoded,

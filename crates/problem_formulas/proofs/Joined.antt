@@ -4,6 +4,7 @@ use Rattle.std.specs.List.{flat_map}
 use Rattle.std.proofs.lemmas.List.{append_assoc, map-append}
 use Rattle.std.proofs.lemmas.List.Folds.{flat_map-map}
 use Rattle.std.proofs.lemmas.Grind.{flat_map-append}
+use Rattle.std.proofs.lemmas.Simd.{map-map}
 use Rattle.clause_formulas.specs.Statements.{Statement}
 use Rattle.spec_grammar.specs.declared.part.Spec.{Spec}
 use Rattle.graph_core.specs.Graphs.{Text}
@@ -12,7 +13,7 @@ use Rattle.problem.specs.Problems.{Problem, world_of, variants_at, depends_at, c
 use Rattle.literal_table.specs.Tables.{Table, name_of}
 use Rattle.literal_table.specs.declared.block.Block.{Block}
 use Rattle.graph_formulas.specs.Words.{names_for}
-use Rattle.valid_models.specs.OfGraphEncoding.Formulas.{PathFormulas}
+use Rattle.graph_encoding.specs.Formulas.{PathFormulas}
 use Rattle.valid_models.specs.Targets.{spec_names, condition_names, conditions_at, specs_at, targets_at, asked_targets, conditions_of}
 use Rattle.valid_models.specs.Joined.{condition_said}
 use Rattle.problem_formulas.specs.Asked.{formulas_at, formulas_of}
@@ -26,13 +27,10 @@ six : {X : Type 0} (o a b c d e f : List X) → (((((o ++ a) ++ b) ++ c) ++ d) +
 six o a b c d e f = append_assoc ((((o ++ a) ++ b) ++ c) ++ d) e f ∙ ap (λ xs. xs ++ (e ++ f)) (four o a b c d)
     ∙ append_assoc o (a ++ (b ++ (c ++ d))) (e ++ f)
 
-flat-flat : {X Y Z : Type 0} (g : Y → List Z) (f : X → List Y) (xs : List X) → flat_map g (flat_map f xs) ≡ flat_map (λ x. flat_map g (f x)) xs
+flat-flat : {X Y Z : Type 0} (g : Y → List Z) (f : X → List Y) (xs : List X)
+    → flat_map g (flat_map f xs) ≡ flat_map (λ x. flat_map g (f x)) xs
 flat-flat g f [] = refl
 flat-flat g f (x ∷ xs) = flat_map-append g (f x) (flat_map f xs) ∙ ap (λ zs. flat_map g (f x) ++ zs) (flat-flat g f xs)
-
-mapped : {X Y Z : Type 0} (g : Y → Z) (f : X → Y) (xs : List X) → map g (map f xs) ≡ map (λ x. g (f x)) xs
-mapped g f [] = refl
-mapped g f (x ∷ xs) = ap (λ zs. g (f x) ∷ zs) (mapped g f xs)
 
 module _ (problem : Problem) where
   abbrev when-lists : {Z : Type 0} → (Condition → Z) → Text → List Z
@@ -44,20 +42,24 @@ module _ (problem : Problem) where
   of-conditions : {Z : Type 0} (g : Condition → Z) (name : Text) → when-lists g name ≡ map g (conditions_at problem name)
   of-conditions g name = sym (
       map-append g (map (λ row. row.when) (variants_at problem name)) _
-      ∙ ap (λ zs. map g (map (λ row. row.when) (variants_at problem name)) ++ zs) (map-append g (map (λ row. row.when) (depends_at problem name)) _
-      ∙ ap (λ zs. map g (map (λ row. row.when) (depends_at problem name)) ++ zs) (map-append g (map (λ row. row.when) (conflicts_at problem name)) _))
-      ∙ ap (λ zs. zs ++ (map g (map (λ row. row.when) (depends_at problem name)) ++ (map g (map (λ row. row.when) (conflicts_at problem name))
-      ++ map g (map (λ row. row.when) (requirements_at problem name))))) (mapped g (λ row. row.when) (variants_at problem name))
+      ∙ ap (λ zs. map g (map (λ row. row.when) (variants_at problem name)) ++ zs)
+      (map-append g (map (λ row. row.when) (depends_at problem name)) _
+      ∙ ap (λ zs. map g (map (λ row. row.when) (depends_at problem name)) ++ zs)
+      (map-append g (map (λ row. row.when) (conflicts_at problem name)) _))
+      ∙ ap (λ zs. zs ++ (map g (map (λ row. row.when) (depends_at problem name))
+      ++ (map g (map (λ row. row.when) (conflicts_at problem name))
+      ++ map g (map (λ row. row.when) (requirements_at problem name))))) (map-map g (λ row. row.when) (variants_at problem name))
       ∙ ap (λ zs. map (λ row. g row.when) (variants_at problem name) ++ (zs ++ (map g (map (λ row. row.when) (conflicts_at problem name))
-      ++ map g (map (λ row. row.when) (requirements_at problem name))))) (mapped g (λ row. row.when) (depends_at problem name))
+      ++ map g (map (λ row. row.when) (requirements_at problem name))))) (map-map g (λ row. row.when) (depends_at problem name))
       ∙ ap (λ zs. map (λ row. g row.when) (variants_at problem name) ++ (map (λ row. g row.when) (depends_at problem name) ++ (zs
-      ++ map g (map (λ row. row.when) (requirements_at problem name))))) (mapped g (λ row. row.when) (conflicts_at problem name))
+      ++ map g (map (λ row. row.when) (requirements_at problem name))))) (map-map g (λ row. row.when) (conflicts_at problem name))
       ∙ ap (λ zs. map (λ row. g row.when) (variants_at problem name) ++ (map (λ row. g row.when) (depends_at problem name)
-      ++ (map (λ row. g row.when) (conflicts_at problem name) ++ zs))) (mapped g (λ row. row.when) (requirements_at problem name)))
+      ++ (map (λ row. g row.when) (conflicts_at problem name) ++ zs))) (map-map g (λ row. row.when) (requirements_at problem name)))
 
 -- ---- formulas
 
 module _ (problem : Problem) (t : Table) (path : PathFormulas) where
+  -- the conditions of one package
   pub package-formulas : (name : Text) (old : List Statement)
       → (((old ++ map (λ row. condition_said problem t path name row.when) (variants_at problem name))
       ++ map (λ row. condition_said problem t path name row.when) (depends_at problem name))
@@ -66,15 +68,19 @@ module _ (problem : Problem) (t : Table) (path : PathFormulas) where
       ≡ old ++ formulas_at problem t path name
   package-formulas name old = four old _ _ _ _ ∙ ap (λ zs. old ++ zs) (of-conditions problem (condition_said problem t path name) name)
 
+  -- of all
   pub all-formulas : (blocks : List Block) → flat_map (λ (block : Block). formulas_at problem t path block.name) blocks
-      ≡ map (λ (c : Text × Condition). condition_said problem t path c.0 c.1) (flat_map (λ name. map (λ when. (name, when)) (conditions_at problem name)) (map name_of blocks))
+      ≡ map (λ (c : Text × Condition). condition_said problem t path c.0 c.1)
+      (flat_map (λ name. map (λ when. (name, when)) (conditions_at problem name)) (map name_of blocks))
   all-formulas [] = refl
   all-formulas (b ∷ bs) =
       ap (λ zs. formulas_at problem t path b.name ++ zs) (all-formulas bs)
       ∙ ap (λ zs. zs ++ map (λ (c : Text × Condition). condition_said problem t path c.0 c.1)
       (flat_map (λ name. map (λ when. (name, when)) (conditions_at problem name)) (map name_of bs)))
-      (sym (mapped (λ (c : Text × Condition). condition_said problem t path c.0 c.1) (λ when. (b.name, when)) (conditions_at problem b.name)))
-      ∙ sym (map-append (λ (c : Text × Condition). condition_said problem t path c.0 c.1) (map (λ when. (b.name, when)) (conditions_at problem b.name)) _)
+      (sym (map-map (λ (c : Text × Condition). condition_said problem t path c.0 c.1) (λ when. (b.name, when))
+      (conditions_at problem b.name)))
+      ∙ sym (map-append (λ (c : Text × Condition). condition_said problem t path c.0 c.1)
+      (map (λ when. (b.name, when)) (conditions_at problem b.name)) _)
 
 -- ---- targets
 
@@ -85,7 +91,8 @@ module _ (problem : Problem) (t : Table) where
   abbrev specs : Spec → List Text
   specs = spec_names (world_of problem) (names_for t)
 
-  flat-conditions : (name : Text) → flat_map (λ row. whens row.when) (variants_at problem name) ++ (flat_map (λ row. whens row.when) (depends_at problem name)
+  flat-conditions : (name : Text) → flat_map (λ row. whens row.when) (variants_at problem name)
+      ++ (flat_map (λ row. whens row.when) (depends_at problem name)
       ++ (flat_map (λ row. whens row.when) (conflicts_at problem name) ++ flat_map (λ row. whens row.when) (requirements_at problem name)))
       ≡ flat_map whens (conditions_at problem name)
   flat-conditions name = sym (
@@ -95,10 +102,12 @@ module _ (problem : Problem) (t : Table) where
       ∙ ap (λ zs. flat_map whens (map (λ row. row.when) (depends_at problem name)) ++ zs)
       (flat_map-append whens (map (λ row. row.when) (conflicts_at problem name)) _))
       ∙ ap (λ zs. zs ++ (flat_map whens (map (λ row. row.when) (depends_at problem name))
-      ++ (flat_map whens (map (λ row. row.when) (conflicts_at problem name)) ++ flat_map whens (map (λ row. row.when) (requirements_at problem name)))))
+      ++ (flat_map whens (map (λ row. row.when) (conflicts_at problem name))
+      ++ flat_map whens (map (λ row. row.when) (requirements_at problem name)))))
       (flat_map-map whens (λ row. row.when) (variants_at problem name))
       ∙ ap (λ zs. flat_map (λ row. whens row.when) (variants_at problem name) ++ (zs
-      ++ (flat_map whens (map (λ row. row.when) (conflicts_at problem name)) ++ flat_map whens (map (λ row. row.when) (requirements_at problem name)))))
+      ++ (flat_map whens (map (λ row. row.when) (conflicts_at problem name))
+      ++ flat_map whens (map (λ row. row.when) (requirements_at problem name)))))
       (flat_map-map whens (λ row. row.when) (depends_at problem name))
       ∙ ap (λ zs. flat_map (λ row. whens row.when) (variants_at problem name) ++ (flat_map (λ row. whens row.when) (depends_at problem name)
       ++ (zs ++ flat_map whens (map (λ row. row.when) (requirements_at problem name)))))
@@ -107,22 +116,31 @@ module _ (problem : Problem) (t : Table) where
       ++ (flat_map (λ row. whens row.when) (conflicts_at problem name) ++ zs)))
       (flat_map-map whens (λ row. row.when) (requirements_at problem name)))
 
-  flat-specs : (name : Text) → flat_map (λ row. specs row.spec) (conflicts_at problem name) ++ flat_map (λ row. flat_map specs row.specs) (requirements_at problem name)
+  flat-specs : (name : Text) → flat_map (λ row. specs row.spec) (conflicts_at problem name)
+      ++ flat_map (λ row. flat_map specs row.specs) (requirements_at problem name)
       ≡ flat_map specs (specs_at problem name)
   flat-specs name = sym (
       flat_map-append specs (map (λ row. row.spec) (conflicts_at problem name)) _
       ∙ ap (λ zs. zs ++ flat_map specs (flat_map (λ row. row.specs) (requirements_at problem name)))
       (flat_map-map specs (λ row. row.spec) (conflicts_at problem name))
-      ∙ ap (λ zs. flat_map (λ row. specs row.spec) (conflicts_at problem name) ++ zs) (flat-flat specs (λ row. row.specs) (requirements_at problem name)))
+      ∙ ap (λ zs. flat_map (λ row. specs row.spec) (conflicts_at problem name) ++ zs)
+      (flat-flat specs (λ row. row.specs) (requirements_at problem name)))
 
+  -- the targets of one package
   pub package-targets : (name : Text) (old : List Text)
-      → (((((old ++ flat_map (λ row. whens row.when) (variants_at problem name)) ++ flat_map (λ row. whens row.when) (depends_at problem name))
+      → (((((old ++ flat_map (λ row. whens row.when) (variants_at problem name))
+      ++ flat_map (λ row. whens row.when) (depends_at problem name))
       ++ flat_map (λ row. whens row.when) (conflicts_at problem name)) ++ flat_map (λ row. whens row.when) (requirements_at problem name))
-      ++ flat_map (λ row. specs row.spec) (conflicts_at problem name)) ++ flat_map (λ row. flat_map specs row.specs) (requirements_at problem name)
+      ++ flat_map (λ row. specs row.spec) (conflicts_at problem name))
+      ++ flat_map (λ row. flat_map specs row.specs) (requirements_at problem name)
       ≡ old ++ targets_at problem t name
   package-targets name old = six old _ _ _ _ _ _
-      ∙ ap (λ zs. old ++ (zs ++ (flat_map (λ row. specs row.spec) (conflicts_at problem name) ++ flat_map (λ row. flat_map specs row.specs) (requirements_at problem name)))) (flat-conditions name)
+      ∙ ap (λ zs. old
+      ++ (zs ++ (flat_map (λ row. specs row.spec) (conflicts_at problem name)
+      ++ flat_map (λ row. flat_map specs row.specs) (requirements_at problem name)))) (flat-conditions name)
       ∙ ap (λ zs. old ++ (flat_map whens (conditions_at problem name) ++ zs)) (flat-specs name)
 
-  pub all-targets : flat_map (λ (block : Block). targets_at problem t block.name) t.blocks ++ flat_map specs problem.roots ≡ asked_targets problem t
+  -- of all
+  pub all-targets : flat_map (λ (block : Block). targets_at problem t block.name) t.blocks
+      ++ flat_map specs problem.roots ≡ asked_targets problem t
   all-targets = ap (λ zs. zs ++ flat_map specs problem.roots) (sym (flat_map-map (targets_at problem t) name_of t.blocks))

@@ -1,3 +1,3 @@
 pub mod Joined
 pub mod RowsSame
-pub mod OfGraphClauses
+pub mod OfGraphEncoding

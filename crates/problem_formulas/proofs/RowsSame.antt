@@ -5,15 +5,15 @@ use Rattle.clause_formulas.specs.Statements.{Statement, all_of, implies}
 use Rattle.graph_core.specs.Graphs.{Text}
 use Rattle.recipe_data.specs.declared.recipe.Condition.{Condition}
 use Rattle.problem.specs.Problems.{Problem}
-use Rattle.literal_table.specs.Tables.{Table}
+use Rattle.literal_table.specs.Tables.{Table, names_of, children_of}
 use Rattle.graph_formulas.specs.Facts.{has_origin}
 use Rattle.graph_formulas.specs.Words.{names_for}
-use Rattle.rule_formulas.specs.OfGraphFormulas.Terms.{builds, known_rule, where_built}
-use Rattle.rule_formulas.specs.OfGraphFormulas.Built.{version_rule, machine_rule}
-use Rattle.rule_formulas.specs.OfGraphFormulas.Edges.{extra_edges_rule, used_rule, of_provider}
-use Rattle.rule_formulas.specs.OfGraphFormulas.Variants.{variants_rule}
-use Rattle.rule_formulas.specs.OfGraphFormulas.Laws.{term_formula, names_of, virtuals_of, children_of, variants_of}
-use Rattle.problem_formulas.specs.OfRightRules.Joined.{rule_rows, row_said}
+use Rattle.graph_formulas.specs.Terms.{builds, known_rule, where_built}
+use Rattle.graph_formulas.specs.Built.{version_rule, machine_rule}
+use Rattle.graph_formulas.specs.Edges.{extra_edges_rule, used_rule, of_provider}
+use Rattle.graph_formulas.specs.Variants.{variants_rule}
+use Rattle.graph_formulas.specs.Laws.{term_formula, virtuals_of, variants_of}
+use Rattle.valid_models.specs.Joined.{rule_rows, row_said}
 use Rattle.rule_formulas.specs.OfWordFormulas.Builders.{node_said, plain_said}
 use Rattle.node_formulas.specs.Rows.{built_row}
 use Rattle.node_formulas.proofs.RowLaws.{buildable-row, compiler-row, kept-row, provider-row}
@@ -22,7 +22,8 @@ use Rattle.rule_formulas.proofs.Governing.{variants-agree}
 use Rattle.problem_formulas.specs.Rows.{variant_row, extra_row, used_row, rows_said}
 
 -- three more formulas
-pub three : (xs ys zs us : List Statement) (a b c f g h : Statement) → a ≡ f → b ≡ g → c ≡ h → ys ≡ xs ++ a ∷ [] → zs ≡ ys ++ b ∷ [] → us ≡ zs ++ c ∷ []
+pub three : (xs ys zs us : List Statement) (a b c f g h : Statement) → a ≡ f → b ≡ g → c ≡ h → ys ≡ xs ++ a ∷ [] → zs ≡ ys ++ b ∷ []
+    → us ≡ zs ++ c ∷ []
     → us ≡ xs ++ f ∷ g ∷ h ∷ []
 three xs ys zs us a b c f g h p q r first second third =
     third ∙ ap (λ l. l ++ c ∷ []) (second ∙ ap (λ l. l ++ b ∷ []) first)
@@ -40,21 +41,32 @@ no-more : ◌≡◌ {A = List Statement} [] []
 no-more = refl
 
 module _ (path : Text → Text → Statement) (condition : Text → Condition → Statement) (t : Table) (problem : Problem) where
-  variants-same : all_of (map (λ name. term_formula path condition t (where_built name (variants_rule problem (variants_of t name) name))) (names_of t)) ≡ variant_row problem t condition
-  variants-same = ap all_of (map-agree _ _ (λ name. ap (λ s. implies (node_said t name (has_origin builds)) s) (variants-agree path condition t problem (variants_of t name) name)) (names_of t))
+  variants-same : all_of (map (λ name. term_formula path condition t (where_built name (variants_rule problem (variants_of t name) name)))
+      (names_of t)) ≡ variant_row problem t condition
+  variants-same =
+      ap all_of (map-agree _ _ (λ name. ap (λ s. implies (node_said t name (has_origin builds)) s)
+      (variants-agree path condition t problem (variants_of t name) name)) (names_of t))
 
-  extra-same : all_of (map (λ name. term_formula path condition t (where_built name (extra_edges_rule problem (names_for t) (children_of t name) name))) (names_of t)) ≡ extra_row problem t condition
-  extra-same = ap all_of (map-agree _ _ (λ name. ap (λ s. implies (node_said t name (has_origin builds)) s) (extras-agree path condition t problem (children_of t name) name)) (names_of t))
+  extra-same : all_of
+      (map (λ name. term_formula path condition t (where_built name (extra_edges_rule problem (names_for t) (children_of t name) name)))
+      (names_of t)) ≡ extra_row problem t condition
+  extra-same = ap all_of
+      (map-agree _ _ (λ name. ap (λ s. implies (node_said t name (has_origin builds)) s)
+      (extras-agree path condition t problem (children_of t name) name)) (names_of t))
 
-  used-same : all_of (map (λ name. term_formula path condition t (of_provider (names_for t) (used_rule problem (names_of t)) name)) (virtuals_of t)) ≡ used_row problem t condition
+  used-same : all_of (map (λ name. term_formula path condition t (of_provider (names_for t) (used_rule problem (names_of t)) name))
+      (virtuals_of t)) ≡ used_row problem t condition
   used-same = ap all_of (map-agree _ _ (provider-agree path condition t problem (names_of t)) (virtuals_of t))
 
-  version-same : all_of (map (λ name. term_formula path condition t (where_built name (known_rule (version_rule problem name)))) (names_of t)) ≡ built_row t (λ name. plain_said t (version_rule problem name))
+  version-same : all_of (map (λ name. term_formula path condition t (where_built name (known_rule (version_rule problem name))))
+      (names_of t)) ≡ built_row t (λ name. plain_said t (version_rule problem name))
   version-same = refl
 
-  machine-same : all_of (map (λ name. term_formula path condition t (where_built name (known_rule (machine_rule problem name)))) (names_of t)) ≡ built_row t (λ name. plain_said t (machine_rule problem name))
+  machine-same : all_of (map (λ name. term_formula path condition t (where_built name (known_rule (machine_rule problem name))))
+      (names_of t)) ≡ built_row t (λ name. plain_said t (machine_rule problem name))
   machine-same = refl
 
+  -- the rows that are built are those of the rules
   pub rows-same : map (row_said problem t path condition) (rule_rows problem t) ≡ rows_said problem t condition
   rows-same =
       cons-same _ _ _ _ (buildable-row path condition t problem)

@@ -6,7 +6,7 @@ use Rattle.graph_core.specs.Graphs.{Text}
 use Rattle.recipe_data.specs.declared.recipe.Condition.{Condition}
 use Rattle.problem.specs.Problems.{Problem}
 use Rattle.literal_table.specs.Tables.{Table}
-use Rattle.valid_models.specs.OfGraphEncoding.Formulas.{PathFormulas}
+use Rattle.graph_encoding.specs.Formulas.{PathFormulas}
 use Rattle.valid_models.specs.Targets.{conditions_at, conditions_of}
 use Rattle.valid_models.specs.Joined.{condition_said}
 

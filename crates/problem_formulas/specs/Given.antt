@@ -3,9 +3,9 @@ use Rattle.std.specs.Prelude.{None}
 use Rattle.problem.specs.Problems.{Problem}
 use Rattle.literal_table.specs.Tables.{Table}
 use Rattle.graph_decoding.specs.Structure.{structure}
-use Rattle.problem_formulas.specs.OfGraphEncoding.Formulas.{Formulas}
-use Rattle.problem_formulas.specs.OfRightRules.Targets.{conditions_of}
-use Rattle.problem_formulas.specs.OfRightRules.Joined.{Places, formulas_for}
+use Rattle.graph_encoding.specs.Formulas.{Formulas}
+use Rattle.valid_models.specs.Targets.{conditions_of}
+use Rattle.valid_models.specs.Joined.{Places, formulas_for}
 
 -- no condition is looked up
 abbrev pub no_place : Places

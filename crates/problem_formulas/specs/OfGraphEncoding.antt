@@ -1,4 +1,6 @@
 -- What is passed on of `graph_encoding`, so that the crates above need not name it.
-pub use Rattle.valid_models.specs.OfGraphEncoding.Best
-pub use Rattle.valid_models.specs.OfGraphEncoding.Encodings
-pub use Rattle.valid_models.specs.OfGraphEncoding.Formulas
+pub use Rattle.graph_encoding.specs.Best
+pub use Rattle.graph_encoding.specs.Encodings
+pub use Rattle.graph_encoding.specs.Formulas
+pub use Rattle.graph_encoding.specs.Ranges
+pub use Rattle.graph_encoding.specs.declared.calls.ProblemClauses

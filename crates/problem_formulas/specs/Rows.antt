@@ -4,33 +4,38 @@ use Rattle.clause_formulas.specs.Statements.{Statement, all_of}
 use Rattle.graph_core.specs.Graphs.{Text}
 use Rattle.recipe_data.specs.declared.recipe.Condition.{Condition}
 use Rattle.problem.specs.Problems.{Problem}
-use Rattle.literal_table.specs.Tables.{Table}
+use Rattle.literal_table.specs.Tables.{Table, names_of, children_of}
 use Rattle.graph_formulas.specs.Words.{names_for}
-use Rattle.rule_formulas.specs.OfGraphFormulas.Terms.{where_built}
-use Rattle.rule_formulas.specs.OfGraphFormulas.Built.{buildable_rule, version_rule, compiler_rule, machine_rule, provider_rule}
-use Rattle.rule_formulas.specs.OfGraphFormulas.Edges.{extra_edges_rule, used_rule, of_provider}
-use Rattle.rule_formulas.specs.OfGraphFormulas.Variants.{variants_rule}
-use Rattle.rule_formulas.specs.OfGraphFormulas.Kept.{kept_rule, origins_of}
-use Rattle.rule_formulas.specs.OfGraphFormulas.Laws.{names_of, virtuals_of, children_of, variants_of}
+use Rattle.graph_formulas.specs.Terms.{where_built}
+use Rattle.graph_formulas.specs.Built.{buildable_rule, version_rule, compiler_rule, machine_rule, provider_rule}
+use Rattle.graph_formulas.specs.Edges.{extra_edges_rule, used_rule, of_provider}
+use Rattle.graph_formulas.specs.Variants.{variants_rule}
+use Rattle.graph_formulas.specs.Kept.{kept_rule, origins_of}
+use Rattle.graph_formulas.specs.Laws.{virtuals_of, variants_of}
 use Rattle.rule_formulas.specs.OfWordFormulas.Builders.{plain_said}
 use Rattle.node_formulas.specs.Rows.{built_row, there_row, provided_row}
 use Rattle.rule_formulas.specs.Terms.{plain_term}
 
 module _ (problem : Problem) (t : Table) (condition : Text → Condition → Statement) where
   abbrev pub variant_row : Statement
-  variant_row = all_of (map (λ name. plain_term t condition (where_built name (variants_rule problem (variants_of t name) name))) (names_of t))
+  variant_row =
+      all_of (map (λ name. plain_term t condition (where_built name (variants_rule problem (variants_of t name) name))) (names_of t))
 
   abbrev pub extra_row : Statement
-  extra_row = all_of (map (λ name. plain_term t condition (where_built name (extra_edges_rule problem (names_for t) (children_of t name) name))) (names_of t))
+  extra_row = all_of
+      (map (λ name. plain_term t condition (where_built name (extra_edges_rule problem (names_for t) (children_of t name) name)))
+      (names_of t))
 
   abbrev pub used_row : Statement
   used_row = all_of (map (λ name. plain_term t condition (of_provider (names_for t) (used_rule problem (names_of t)) name)) (virtuals_of t))
 
   abbrev pub first_rows : List Statement
-  first_rows = built_row t (λ name. plain_said t (buildable_rule problem name)) ∷ built_row t (λ name. plain_said t (version_rule problem name)) ∷ variant_row ∷ []
+  first_rows = built_row t (λ name. plain_said t (buildable_rule problem name))
+      ∷ built_row t (λ name. plain_said t (version_rule problem name)) ∷ variant_row ∷ []
 
   abbrev pub more_rows : List Statement
-  more_rows = built_row t (λ name. plain_said t (compiler_rule problem name)) ∷ built_row t (λ name. plain_said t (machine_rule problem name)) ∷ extra_row ∷ []
+  more_rows = built_row t (λ name. plain_said t (compiler_rule problem name))
+      ∷ built_row t (λ name. plain_said t (machine_rule problem name)) ∷ extra_row ∷ []
 
   abbrev pub last_rows : List Statement
   last_rows =

@@ -17,8 +17,8 @@ pub(crate) struct KnownConditions<'a> {
 }
 
 impl<'a> MetConditions for KnownConditions<'a> {
-    ghost use Rattle.problem_formulas.specs.OfRightRules.Joined.{condition_said};
-    ghost use Rattle.problem_formulas.specs.OfPathFormulas.Paths.{path_by};
+    ghost use Rattle.valid_models.specs.Joined.{condition_said};
+    ghost use Rattle.rule_formulas.specs.Paths.{path_by};
 
     ghost condition_of = { λ known name when. condition_said known.problem.now known.table.now (path_by known.table.now known.paths.now) name when };
 

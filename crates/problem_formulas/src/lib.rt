@@ -1,14 +1,14 @@
-//! The conditions of a problem's directives, and the names to which they ask for paths.
-//!
-//! It promises: `targets_of` gives just the names that `right_rules` says, each once, and `condition_formulas` the formula of
-//! each condition, package by package, in the order of the lists of a recipe. It stands on `path_formulas`. It must not know
-//! how rules use conditions.
-//!
 //! The formulas of a problem over a table.
 //!
-//! It promises: `ProblemFormulas` gives the formulas that `right_rules` says are right, and errs for want of memory
-//! alone. It stands on the builders of `node_formulas`, `rule_formulas` and `problem_conditions`, and on
-//! `graph_decoding` for the structure. It must not know clauses.
+//! What it is: `ProblemFormulas`, which has `RuleFormulas` of `graph_encoding`;
+//! `condition_formulas`, the formula of each condition, package by package, in the order of the
+//! lists of a recipe; `targets_of`, the names to which directives and requested specs ask for
+//! paths.
+//! What it promises: the formulas are those that `valid_models` says are right; the targets are
+//! just the names that it asks for, each once; each call errs for want of memory alone.
+//! What it stands on: the builders of `node_formulas` and `rule_formulas`, and `graph_decoding` for
+//! the structure.
+//! What it must not know: clauses.
 #![tactic(auto)]
 
 mod formulas;

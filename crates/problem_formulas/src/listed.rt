@@ -23,7 +23,8 @@ fn push_condition(
     formulas: &mut Vec<Formula>,
 ) -> Result<(), AllocError>
     ensures { OnOk result (formulas.new.items ≡ formulas.old.items
-        ++ condition_said problem.now table.now (path_by table.now paths.now) name.now when.now ∷ []) }
+        ++ condition_said problem.now table.now (path_by table.now paths.now) name.now
+        when.now ∷ []) }
 {
     let formula = condition_formula(alloc, table, &problem.world(), paths, name, when)?;
     formulas.push(formula)?;
@@ -40,7 +41,8 @@ fn push_variants(
     formulas: &mut Vec<Formula>,
 ) -> Result<(), AllocError>
     ensures { OnOk result (formulas.new.items ≡ formulas.old.items
-        ++ map (λ row. condition_said problem.now table.now (path_by table.now paths.now) name.now row.when)
+        ++ map (λ row. condition_said problem.now table.now (path_by table.now paths.now)
+        name.now row.when)
         rows.now) }
 {
     for row in rows {
@@ -59,7 +61,8 @@ fn push_depends(
     formulas: &mut Vec<Formula>,
 ) -> Result<(), AllocError>
     ensures { OnOk result (formulas.new.items ≡ formulas.old.items
-        ++ map (λ row. condition_said problem.now table.now (path_by table.now paths.now) name.now row.when)
+        ++ map (λ row. condition_said problem.now table.now (path_by table.now paths.now)
+        name.now row.when)
         rows.now) }
 {
     for row in rows {
@@ -78,7 +81,8 @@ fn push_conflicts(
     formulas: &mut Vec<Formula>,
 ) -> Result<(), AllocError>
     ensures { OnOk result (formulas.new.items ≡ formulas.old.items
-        ++ map (λ row. condition_said problem.now table.now (path_by table.now paths.now) name.now row.when)
+        ++ map (λ row. condition_said problem.now table.now (path_by table.now paths.now)
+        name.now row.when)
         rows.now) }
 {
     for row in rows {
@@ -97,7 +101,8 @@ fn push_requirements(
     formulas: &mut Vec<Formula>,
 ) -> Result<(), AllocError>
     ensures { OnOk result (formulas.new.items ≡ formulas.old.items
-        ++ map (λ row. condition_said problem.now table.now (path_by table.now paths.now) name.now row.when)
+        ++ map (λ row. condition_said problem.now table.now (path_by table.now paths.now)
+        name.now row.when)
         rows.now) }
 {
     for row in rows {
@@ -106,6 +111,7 @@ fn push_requirements(
     Ok(())
 }
 
+// The formulas of the conditions of a package's directives, list by list.
 fn push_package(
     alloc: Global,
     problem: &Problem,
@@ -128,8 +134,8 @@ fn push_package(
     Ok(())
 }
 
-/// The formula of each condition of the directives of the table's packages: package by package, and of each those of variants,
-/// dependencies, conflicts and requirements, in the order of the recipe.
+/// The formula of each condition of the directives of the table's packages: package by package, and
+/// of each those of variants, dependencies, conflicts and requirements, in the order of the recipe.
 pub fn condition_formulas(
     alloc: Global,
     problem: &Problem,

@@ -1,9 +1,10 @@
 //! Rows of rules over conditions, at all names of a table.
 ghost use Rattle.std.specs.Prelude.{◌≡◌, IfOk};
-ghost use Rattle.rule_formulas.specs.OfGraphFormulas.Variants.{variants_rule};
-ghost use Rattle.rule_formulas.specs.OfGraphFormulas.Edges.{extra_edges_rule};
-ghost use Rattle.rule_formulas.specs.OfGraphFormulas.Laws.{children_of, variants_of};
-ghost use Rattle.rule_formulas.specs.OfGraphFormulas.Terms.{where_built};
+ghost use Rattle.graph_formulas.specs.Variants.{variants_rule};
+ghost use Rattle.graph_formulas.specs.Edges.{extra_edges_rule};
+ghost use Rattle.literal_table.specs.Tables.{children_of};
+ghost use Rattle.graph_formulas.specs.Laws.{variants_of};
+ghost use Rattle.graph_formulas.specs.Terms.{where_built};
 ghost use Rattle.graph_formulas.specs.Words.{names_for};
 ghost use Rattle.rule_formulas.specs.Terms.{plain_term};
 ghost use Rattle.problem_formulas.specs.Rows.{variant_row, extra_row, used_row};
@@ -26,7 +27,8 @@ fn variants_at<C: MetConditions>(
     name: &Word,
 ) -> Result<Formula, AllocError>
     ensures { IfOk result (λ formula. formula ≡ plain_term table.now (C.condition_of conditions.now)
-        (where_built name.now (variants_rule problem.now (variants_of table.now name.now) name.now))) }
+        (where_built name.now (variants_rule problem.now
+        (variants_of table.now name.now) name.now))) }
 {
     let rule = variants_formula(alloc, problem, table, conditions, name.as_str())?;
     where_built(alloc, table, name.as_str(), rule)

@@ -13,6 +13,7 @@ use problem::Problem;
 use rule_formulas::MetConditions;
 use std::alloc::{AllocError, Global};
 
+// The rules Buildable, Version and Variant.
 fn push_first<C: MetConditions>(
     alloc: Global,
     parts: &mut Vec<Formula>,
@@ -32,6 +33,7 @@ fn push_first<C: MetConditions>(
     Ok(())
 }
 
+// The rules Compiler, Machine and of edges that none asks for.
 fn push_more<C: MetConditions>(
     alloc: Global,
     parts: &mut Vec<Formula>,
@@ -51,6 +53,7 @@ fn push_more<C: MetConditions>(
     Ok(())
 }
 
+// The rules of kept nodes, of providers, and of providers that none uses.
 fn push_last<C: MetConditions>(
     alloc: Global,
     parts: &mut Vec<Formula>,

@@ -32,6 +32,8 @@ fn push_packages(
     Ok(())
 }
 
+// The names of the nodes that may be what is asked for: the packages of a virtual, or the name
+// itself.
 fn push_nodes(
     alloc: Global,
     world: &World,
@@ -189,7 +191,8 @@ fn push_required(
     names: &mut Vec<Word>,
 ) -> Result<(), AllocError>
     ensures { OnOk result (names.new.items ≡ names.old.items
-        ++ flat_map (λ row. flat_map (spec_names world.now (names_for table.now)) row.specs) rows.now) }
+        ++ flat_map (λ row. flat_map (spec_names world.now (names_for table.now)) row.specs)
+        rows.now) }
 {
     for row in rows {
         push_specs(alloc, world, table, row.specs.as_slice(), names)?;
@@ -197,6 +200,7 @@ fn push_required(
     Ok(())
 }
 
+// The names to which the directives of a package ask for paths.
 fn push_targets(
     alloc: Global,
     problem: &Problem,
@@ -236,7 +240,8 @@ fn push_all(
     Ok(())
 }
 
-/// The names to which the directives of the table's packages and the requested specs ask for paths, in byte order, each once.
+/// The names to which the directives of the table's packages and the requested specs ask for paths,
+/// in byte order, each once.
 pub fn targets_of(
     alloc: Global,
     problem: &Problem,

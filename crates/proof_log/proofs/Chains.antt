@@ -43,6 +43,7 @@ resolvents-same a b r q p o d e l = iff-same (has r l) (has q l)
     iff-same false true f g = g refl
     iff-same false false f g = refl
 
+-- each literal of a list that is contained is in the other
 pub contained-has : (a b : List Lit) → contained a b ≡ true → (l : Lit) → has a l ≡ true → has b l ≡ true
 contained-has [] b e l h = absurd (false≢true h)
 contained-has (k ∷ a) b e l h =
@@ -64,8 +65,8 @@ clause_at-is : (known : List (List Lit)) (id : ℕ) → 0 < id → id ≤ length
     → (at_id known id ≡ Some (clause_at known id)) × IsClause (clause_at known id)
 clause_at-is known id h k i = let r = clause-at known (id - 1) (omega arith) i in (get-at_id known id (clause_at known id) h r.0, r.1)
 
-one : (c : List Lit) → IsClause c → OneSign c
-one c i l m h k e = one_sign c l m i h k e
+clause-one_sign : (c : List Lit) → IsClause c → OneSign c
+clause-one_sign c i l m h k e = one_sign c l m i h k e
 
 fault_from-none : (known : List (List Lit)) (ids : List ℕ) (stated a : List Lit) → AllClauses known → IdsIn (length known) ids → IsClause a
     → fault_from known ids stated a ≡ None → DerivesFrom known a ids stated
@@ -75,17 +76,17 @@ fault_from-none known [] stated a i n j e =
       | inr f ↦ absurd (none-some NotContained (sym (rw f at e)))
     ]
 fault_from-none known (id ∷ ids) stated a i n j e =
-    go (resolved a (clause_at known id)) refl e (λ r k f. fault_from-none known ids stated r i n.2 k f)
+    by-resolved (resolved a (clause_at known id)) refl e (λ r k f. fault_from-none known ids stated r i n.2 k f)
   where
     b : List Lit
     b = clause_at known id
 
-    go : (r : Resolved) → resolved a b ≡ r → after_step (fault_from known ids stated) r ≡ None
+    by-resolved : (r : Resolved) → resolved a b ≡ r → after_step (fault_from known ids stated) r ≡ None
         → ((r : List Lit) → IsClause r → fault_from known ids stated r ≡ None → DerivesFrom known r ids stated)
         → DerivesFrom known a (id ∷ ids) stated
-    go no_pivot q f ih = absurd (none-some NoPivot (sym f))
-    go two_pivots q f ih = absurd (none-some TwoPivots (sym f))
-    go (result r) q f ih =
+    by-resolved no_pivot q f ih = absurd (none-some NoPivot (sym f))
+    by-resolved two_pivots q f ih = absurd (none-some TwoPivots (sym f))
+    by-resolved (result r) q f ih =
         let k = clause_at-is known id n.0 n.1 i in
         let d = resolved-result a b r j k.1 q in
         (b, r, d.0, k.0, d.1, ih r d.2 f)
@@ -93,7 +94,7 @@ fault_from-none known (id ∷ ids) stated a i n j e =
 none-fault_from : (known : List (List Lit)) (ids : List ℕ) (stated a : List Lit) → AllClauses known → IdsIn (length known) ids → IsClause a
     → DerivesFrom known a ids stated → fault_from known ids stated a ≡ None
 none-fault_from known [] stated a i n j d = rw (has-contained a stated d) refl
-none-fault_from known (id ∷ ids) stated a i n j d = go (resolved a b) refl (λ r k f. none-fault_from known ids stated r i n.2 k f)
+none-fault_from known (id ∷ ids) stated a i n j d = by-resolved (resolved a b) refl (λ r k f. none-fault_from known ids stated r i n.2 k f)
   where
     b : List Lit
     b = clause_at known id
@@ -107,13 +108,13 @@ none-fault_from known (id ∷ ids) stated a i n j d = go (resolved a b) refl (λ
     resolvent : IsResolvent a b d.1 d.2
     resolvent = let P : List Lit → Type 0 = λ c. IsResolvent a c d.1 d.2 in subst P same d.4
 
-    go : (r : Resolved) → resolved a b ≡ r → ((r : List Lit) → IsClause r → DerivesFrom known r ids stated
+    by-resolved : (r : Resolved) → resolved a b ≡ r → ((r : List Lit) → IsClause r → DerivesFrom known r ids stated
         → fault_from known ids stated r ≡ None) → after_step (fault_from known ids stated) r ≡ None
-    go no_pivot q ih = absurd (resolved-no_pivot a b q d.2 resolvent.clash)
-    go two_pivots q ih =
-        let t = resolved-two_pivots a b (one b k.1) q in
+    by-resolved no_pivot q ih = absurd (resolved-no_pivot a b q d.2 resolvent.clash)
+    by-resolved two_pivots q ih =
+        let t = resolved-two_pivots a b (clause-one_sign b k.1) q in
         absurd (t.4 (resolvent.only t.0 t.2 ∙ sym (resolvent.only t.1 t.3)))
-    go (result r) q ih =
+    by-resolved (result r) q ih =
         let e = resolved-result a b r j k.1 q in
         ih r e.2 (DerivesFrom-same known d.1 r ids stated (resolvents-same a b d.1 r d.2 e.0 resolvent e.1) d.5)
 

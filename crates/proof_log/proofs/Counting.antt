@@ -12,6 +12,7 @@ lit x p = record { var = record { 0 = x }; positive = p }
 abbrev pub digit : List Lit → ℕ → ℕ
 digit c x = cond (has c (lit x true)) 1 (cond (has c (lit x false)) 2 0)
 
+-- a clause as a number of base 3, a digit for each variable
 pub number : ℕ → List Lit → ℕ
 number zero c = 0
 number (suc n) c = 3 * number n c + digit c n
@@ -24,11 +25,13 @@ digit-small c x = small (has c (lit x true)) (has c (lit x false))
     small false true = omega arith
     small false false = omega arith
 
+-- it is below 3 to the number of variables
 pub number-small : (n : ℕ) (c : List Lit) → number n c < 3 ^ n
 unfolding number
 number-small zero c = omega arith
 number-small (suc n) c = let h = number-small n c in let d = digit-small c n in rw pow-suc (omega (arith, h, d))
 
+-- equal numbers have equal digits
 pub number-digits : (n : ℕ) (c d : List Lit) → number n c ≡ number n d → (x : ℕ) → x < n → digit c x ≡ digit d x
 unfolding number
 number-digits zero c d e x h = absurd (omega arith)

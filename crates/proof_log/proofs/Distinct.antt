@@ -12,18 +12,21 @@ use Rattle.proof_log.specs.Logs.{IsDistinct, AreDistinct, AreUseful}
 use Rattle.proof_log.proofs.Useful.{useful-new}
 use Rattle.proof_log.proofs.Logs.{EachLine-map}
 
+-- a new clause is none of the known ones
 pub new-apart : (known : List (List Lit)) (c : List Lit) (k : ℕ) (d : List Lit) → IsNew known c → slice_get known k ≡ Some d
     → SameLits d c → ⊥
 new-apart [] c k d w e s = none-some d e
 new-apart (x ∷ known) c zero d w e s = w.0 (subst (λ y. SameLits y c) (sym (same_Some x d e)) s)
 new-apart (x ∷ known) c (suc k) d w e s = new-apart known c k d w.1 e s
 
+-- the known clauses stand before the new one
 pub get-front : (known : List (List Lit)) (c : List Lit) (k : ℕ) (d : List Lit) → slice_get known k ≡ Some d
     → slice_get (known ++ c ∷ []) k ≡ Some d
 get-front [] c k d e = absurd (none-some d e)
 get-front (x ∷ known) c zero d e = e
 get-front (x ∷ known) c (suc k) d e = get-front known c k d e
 
+-- the new one stands last
 pub get-last : (known : List (List Lit)) (c : List Lit) → slice_get (known ++ c ∷ []) (length known) ≡ Some c
 get-last [] c = refl
 get-last (x ∷ known) c = get-last known c
@@ -35,7 +38,8 @@ get-kept known None k d e = e
 get-kept known (Some c) k d e = get-front known c k d e
 
 -- a learnt clause is new among all that is known before it
-pub useful-news : (input : List (List Lit)) (bits : List Lit) (ls : List Line) → AreUseful input bits ls → EachLine (λ k n. OfLearnt (IsNew k)) bits input 0 ls
+pub useful-news : (input : List (List Lit)) (bits : List Lit) (ls : List Line) → AreUseful input bits ls
+    → EachLine (λ k n. OfLearnt (IsNew k)) bits input 0 ls
 useful-news input bits ls a = EachLine-map (λ k n. OfLearnt (IsUseful k)) (λ k n. OfLearnt (IsNew k)) bits each input 0 ls a
   where
     each : (known : List (List Lit)) (n : ℕ) (l : Line) → OfLearnt (IsUseful known) l → OfLearnt (IsNew known) l
@@ -83,19 +87,19 @@ distinct-from : (bits : List Lit) (rivals known : List (List Lit)) (n : ℕ) (ls
     → EachLine (λ k m. OfLearnt (IsNew k)) bits known n ls → AreDistinct rivals ls
 distinct-from bits rivals known n [] w a = tt
 distinct-from bits rivals known n (l ∷ ls) w a = (
-  one l a.0,
+  by-line l a.0,
   distinct-from bits (with_added rivals (learnt l)) (with_added known (added bits l)) (n + settles l) ls
       (within-added bits rivals known w l) a.1,
 )
   where
-    one : (l : Line) → OfLearnt (IsNew known) l → IsDistinct rivals (learnt l)
-    one (Learnt id c chain) h = new-within rivals known c w h
-    one (Header vars clauses m) h = tt
-    one (Zero id b) h = tt
-    one (One id b chain) h = tt
-    one (Unsat chain) h = tt
-    one Spent h = tt
-    one End h = tt
+    by-line : (l : Line) → OfLearnt (IsNew known) l → IsDistinct rivals (learnt l)
+    by-line (Learnt id c chain) h = new-within rivals known c w h
+    by-line (Header vars clauses m) h = tt
+    by-line (Zero id b) h = tt
+    by-line (One id b chain) h = tt
+    by-line (Unsat chain) h = tt
+    by-line Spent h = tt
+    by-line End h = tt
 
 -- useful clauses are distinct: each is new among the input clauses and the earlier learnt ones
 pub useful-distinct : (input : List (List Lit)) (bits : List Lit) (ls : List Line) → AreUseful input bits ls → AreDistinct input ls

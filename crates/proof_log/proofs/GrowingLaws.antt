@@ -67,6 +67,7 @@ pub record IsOverBits (vars : ℕ) (input : List (List Lit)) (bits : List Lit) (
   pub useful : AreUseful input bits lines
   pub knows : known_after bits input lines ≡ known
 
+-- its clauses are over the variables, whatever bits come
 pub growing-over : (vars : ℕ) (input : List (List Lit)) (count : ℕ) (given : List Lit) (known : List (List Lit)) (lines : List Line)
     (bits : List Lit) (n : ℕ) →
     IsGrowing vars input count given known lines → count ≡ length bits → given ≡ take n bits → IsOverBits vars input bits known lines

@@ -101,6 +101,7 @@ module _ (v : ℕ → Bool) (bits : List Lit) where
       subst (λ xs. IsBelow xs (drop n values)) (drop_all n (bits_at v bits) (let q = length-map bits (lit_true v) in omega (arith, q, h.0)))
       b
 
+  -- a refutation that settles no bit leaves no model
   pub refuted-from : (known : List (List Lit)) (n : ℕ) (ls : List Line) → AllOneSign known → AllTrue v known
       → EachLine (LineHolds bits) bits known n ls → AllLines SettlesNone ls → LastIs IsUnsat ls → ⊥
   refuted-from known n [] o t h w e = e
@@ -125,6 +126,7 @@ pub derived-true : (known : List (List Lit)) (chain : List ℕ) (stated : List L
     → IsDerived known chain stated → AllTrue v known → clause_true v stated ≡ true
 derived-true known chain stated v i d t = derived_holds v known chain stated (AllOneSign-clauses known i) d t
 
+-- no assignment has smaller bits than a certificate says
 pub certificate_least : (vars : ℕ) (input : List (List Lit)) (bits : List Lit) (values : List Bool) (lines : List Line) (v : ℕ → Bool) →
     AllClauses input → IsCertificate vars input bits values lines → AllTrue v input → IsBelow (bits_at v bits) values → ⊥
 certificate_least vars input bits values [] v i c t b = c.last
@@ -132,6 +134,7 @@ certificate_least vars input bits values (l ∷ ls) v i c t b =
     least-from v bits values input 0 ls (AllOneSign-clauses input i) t c.sound.1 c.valued.1
     (LastIs-rest _ l ls c.last (λ q. no-end _ _ _ (sym c.sound.0 ∙ q))) b
 
+-- a refuted list has no model
 pub refutation_none : (vars : ℕ) (input : List (List Lit)) (bits : List Lit) (lines : List Line) (v : ℕ → Bool) → AllClauses input
     → IsRefutation vars input bits lines → AllTrue v input → ⊥
 refutation_none vars input bits [] v i c t = c.last

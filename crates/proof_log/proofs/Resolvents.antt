@@ -13,13 +13,13 @@ use Rattle.clause_store.proofs.Sets.{has-with_lits, IsClause-with_lits, one_sign
 use Rattle.proof_log.proofs.Without.{IsClause-without, has-without, union-clash}
 
 flipped : (v : ℕ → Bool) (l : Lit) → lit_true v l ≡ true → lit_true v (negation l) ≡ true → ⊥
-flipped v l p q = go l.positive (v (var_of l)) p q
+flipped v l p q = by-bools l.positive (v (var_of l)) p q
   where
-    go : (s t : Bool) → cond s t (not t) ≡ true → cond (not s) t (not t) ≡ true → ⊥
-    go true true p q = false≢true q
-    go true false p q = false≢true p
-    go false true p q = false≢true p
-    go false false p q = false≢true q
+    by-bools : (s t : Bool) → cond s t (not t) ≡ true → cond (not s) t (not t) ≡ true → ⊥
+    by-bools true true p q = false≢true q
+    by-bools true false p q = false≢true p
+    by-bools false true p q = false≢true p
+    by-bools false false p q = false≢true q
 
 -- a resolvent holds wherever both clauses do
 pub resolvent_holds : (v : ℕ → Bool) (a b r : List Lit) (p : Lit) → OneSign a → OneSign b → IsResolvent a b r p → clause_true v a ≡ true
@@ -137,7 +137,7 @@ one_sign-without x c o l m h k e = o l m (without-parts x c l h).0 (without-part
 
 -- what the computing step answers
 pub resolved-result : (a b r : List Lit) → IsClause a → IsClause b → resolved a b ≡ result r → (p : Lit) × IsResolvent a b r p × IsClause r
-resolved-result a b r i j e = go (first_clash a b) refl e
+resolved-result a b r i j e = by-option (first_clash a b) refl e
   where
     some : (l : Lit) → first_clash a b ≡ Some l → (o : Option (List Lit)) → with_lits (without (var_of l) a) (without (var_of l) b) ≡ o
         → union_or_clash o ≡ result r → (p : Lit) × IsResolvent a b r p × IsClause r
@@ -159,28 +159,29 @@ resolved-result a b r i j e = go (first_clash a b) refl e
           k,
         )
 
-    go : (o : Option Lit) → first_clash a b ≡ o → resolved_at o a b ≡ result r → (p : Lit) × IsResolvent a b r p × IsClause r
-    go None q f = absurd (no-result r f)
+    by-option : (o : Option Lit) → first_clash a b ≡ o → resolved_at o a b ≡ result r → (p : Lit) × IsResolvent a b r p × IsClause r
+    by-option None q f = absurd (no-result r f)
       where
         no-result : (r : List Lit) → no_pivot ≡ result r → ⊥
         no-result r f = cc
-    go (Some l) q f = some l q (with_lits (without (var_of l) a) (without (var_of l) b)) refl f
+    by-option (Some l) q f = some l q (with_lits (without (var_of l) a) (without (var_of l) b)) refl f
 
+-- without a pivot no literals clash
 pub resolved-no_pivot : (a b : List Lit) → resolved a b ≡ no_pivot → (l : Lit) → Clashes a b l → ⊥
-resolved-no_pivot a b e l c = go (first_clash a b) refl e
+resolved-no_pivot a b e l c = by-option (first_clash a b) refl e
   where
     some : (o : Option (List Lit)) → union_or_clash o ≡ no_pivot → ⊥
     some None f = cc
     some (Some d) f = cc
 
-    go : (o : Option Lit) → first_clash a b ≡ o → resolved_at o a b ≡ no_pivot → ⊥
-    go None q f = first_clash-None a b l q c
-    go (Some k) q f = some (with_lits (without (var_of k) a) (without (var_of k) b)) f
+    by-option : (o : Option Lit) → first_clash a b ≡ o → resolved_at o a b ≡ no_pivot → ⊥
+    by-option None q f = first_clash-None a b l q c
+    by-option (Some k) q f = some (with_lits (without (var_of k) a) (without (var_of k) b)) f
 
 -- two variables clash
 pub resolved-two_pivots : (a b : List Lit) → OneSign b → resolved a b ≡ two_pivots → (l : Lit) × (m : Lit) × Clashes a b l × Clashes a b m
     × (var_of l ≢ var_of m)
-resolved-two_pivots a b j e = go (first_clash a b) refl e
+resolved-two_pivots a b j e = by-option (first_clash a b) refl e
   where
     some : (l : Lit) → first_clash a b ≡ Some l → (o : Option (List Lit)) → with_lits (without (var_of l) a) (without (var_of l) b) ≡ o
         → union_or_clash o ≡ two_pivots → (x : Lit) × (m : Lit) × Clashes a b x × Clashes a b m × (var_of x ≢ var_of m)
@@ -194,10 +195,11 @@ resolved-two_pivots a b j e = go (first_clash a b) refl e
         result-two : (r : List Lit) → result r ≡ two_pivots → ⊥
         result-two r f = cc
 
-    go : (o : Option Lit) → first_clash a b ≡ o → resolved_at o a b ≡ two_pivots → (x : Lit) × (m : Lit) × Clashes a b x × Clashes a b m
+    by-option : (o : Option Lit) → first_clash a b ≡ o → resolved_at o a b ≡ two_pivots → (x : Lit) × (m : Lit) × Clashes a b x
+        × Clashes a b m
         × (var_of x ≢ var_of m)
-    go None q f = absurd (no-two f)
+    by-option None q f = absurd (no-two f)
       where
         no-two : no_pivot ≡ two_pivots → ⊥
         no-two f = cc
-    go (Some l) q f = some l q (with_lits (without (var_of l) a) (without (var_of l) b)) refl f
+    by-option (Some l) q f = some l q (with_lits (without (var_of l) a) (without (var_of l) b)) refl f

@@ -118,39 +118,40 @@ module _ (n : ℕ) where
         λ i j d lt below. absurd (omega (arith, lt, below));
     later = λ k d e j r. All-nil _;
   }
-  counted bits known m (l ∷ ls) h w r = go l h w r (counted bits (with_added known (added bits l)) (m + settles l) ls h.1 w.1 r.1)
+  counted bits known m (l ∷ ls) h w r = by-line l h w r (counted bits (with_added known (added bits l)) (m + settles l) ls h.1 w.1 r.1)
     where
-      go : (l : Line) → EachLine (LineHolds bits) bits known m (l ∷ ls) → EachLine (λ k m. OfLearnt (IsNew k)) bits known m (l ∷ ls)
+      by-line : (l : Line) → EachLine (LineHolds bits) bits known m (l ∷ ls) → EachLine (λ k m. OfLearnt (IsNew k)) bits known m (l ∷ ls)
           → AreOver n (l ∷ ls) → AreCounted (with_added known (added bits l)) (numbers ls) (learnt_in ls)
           → AreCounted known (numbers (l ∷ ls)) (learnt_in (l ∷ ls))
-      go (Learnt id c chain) h w r a = learn known c (numbers ls) (learnt_in ls) h.0.1 r.0 w.0 a
-      go (Header x y z) h w r a = skip known None (numbers ls) (learnt_in ls) a
-      go (Zero id b) h w r a = skip known (added bits (Zero id b)) (numbers ls) (learnt_in ls) a
-      go (One id b chain) h w r a = skip known (added bits (One id b chain)) (numbers ls) (learnt_in ls) a
-      go (Unsat chain) h w r a = skip known None (numbers ls) (learnt_in ls) a
-      go Spent h w r a = skip known None (numbers ls) (learnt_in ls) a
-      go End h w r a = skip known None (numbers ls) (learnt_in ls) a
+      by-line (Learnt id c chain) h w r a = learn known c (numbers ls) (learnt_in ls) h.0.1 r.0 w.0 a
+      by-line (Header x y z) h w r a = skip known None (numbers ls) (learnt_in ls) a
+      by-line (Zero id b) h w r a = skip known (added bits (Zero id b)) (numbers ls) (learnt_in ls) a
+      by-line (One id b chain) h w r a = skip known (added bits (One id b chain)) (numbers ls) (learnt_in ls) a
+      by-line (Unsat chain) h w r a = skip known None (numbers ls) (learnt_in ls) a
+      by-line Spent h w r a = skip known None (numbers ls) (learnt_in ls) a
+      by-line End h w r a = skip known None (numbers ls) (learnt_in ls) a
 
 spent_bound : (vars : ℕ) (input : List (List Lit)) (bits : List Lit) (budget : ℕ) (lines : List Line)
     → IsSpentLog vars input bits budget lines → budget < 3 ^ vars
 spent_bound vars input bits budget [] s = absurd s.sound
-spent_bound vars input bits budget (l ∷ ls) s = go l s.sound.0 (useful-news input bits (l ∷ ls) s.useful) s.in_range s.count
+spent_bound vars input bits budget (l ∷ ls) s = by-line l s.sound.0 (useful-news input bits (l ∷ ls) s.useful) s.in_range s.count
   where
-    go : (l : Line) → l ≡ Header vars (length input) (length bits) → EachLine (λ k m. OfLearnt (IsNew k)) bits input 0 (l ∷ ls)
+    by-line : (l : Line) → l ≡ Header vars (length input) (length bits) → EachLine (λ k m. OfLearnt (IsNew k)) bits input 0 (l ∷ ls)
         → AreOver vars (l ∷ ls) → learnt_in (l ∷ ls) ≡ budget + 1 → budget < 3 ^ vars
-    go (Header x y z) e w r q =
+    by-line (Header x y z) e w r q =
         let a = counted vars bits input 0 ls s.sound.1 w.1 r.1 in
         let b = length-le_from_distinct_below (numbers vars ls) (3 ^ vars)
         (IsDistinct-from_AllPairs Decides-eqb (numbers vars ls) a.distinct) a.small in
         let c = a.size in
         omega (arith, b, c, q)
-    go (Learnt id c chain) e w r q = cc
-    go (Zero id b) e w r q = cc
-    go (One id b chain) e w r q = cc
-    go (Unsat chain) e w r q = cc
-    go Spent e w r q = cc
-    go End e w r q = cc
+    by-line (Learnt id c chain) e w r q = cc
+    by-line (Zero id b) e w r q = cc
+    by-line (One id b chain) e w r q = cc
+    by-line (Unsat chain) e w r q = cc
+    by-line Spent e w r q = cc
+    by-line End e w r q = cc
 
+-- a spent budget is below 3 to the variables, and below the lines
 pub spent_budget : (vars : ℕ) (input : List (List Lit)) (bits : List Lit) (budget : ℕ) (lines : List Line)
     → IsSpentLog vars input bits budget lines → (budget < 3 ^ vars) × (budget < length lines)
 spent_budget vars input bits budget lines s =

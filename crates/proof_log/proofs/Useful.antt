@@ -53,5 +53,6 @@ module _ (clause : List Lit) (lit : Lit) (s : List Lit) (consistent : IsConsiste
     new-from ds t.1,
   )
 
+-- a useful clause is new
 pub useful-new : (known : List (List Lit)) (clause : List Lit) → IsUseful known clause → IsNew known clause
 useful-new known clause u = new-from clause u.lit u.given u.consistent u.free u.others known u.settled

@@ -42,6 +42,7 @@ AllAbove-without n x (k ∷ ks) a =
       | inr ne ↦ rw (ne_eqb (var_of k) x ne) (a.0, AllAbove-without n x ks a.1)
     ]
 
+-- a clause without a variable is in order
 pub IsClause-without : (x : ℕ) (ks : List Lit) → IsClause ks → IsClause (without x ks)
 IsClause-without x [] i = tt
 IsClause-without x (k ∷ ks) i =

@@ -18,6 +18,7 @@ in-order = (((omega arith, tt), (tt, tt)), (((omega arith, tt), (tt, tt)), tt))
 derived : IsDerived two (1 ∷ 2 ∷ []) (pos 2 ∷ [])
 derived = (chain_fault-is two (1 ∷ 2 ∷ []) (pos 2 ∷ []) in-order (omega arith, omega arith, (omega arith, omega arith, tt))).0 refl
 
+-- the worked log is a certificate
 pub certificate : IsCertificate 2 two two_bits (true ∷ false ∷ []) two_log
 certificate = record {
   sound = (
@@ -70,6 +71,7 @@ useful-four = record {
     same_one : (l : Lit) → has (pos 1 ∷ []) l ≡ true → pos 1 ≡ l
     same_one l h = elim (or_cases _ false h) [ inl e ↦ same_lit (pos 1) l e | inr f ↦ absurd (false≢true f) ]
 
+-- the worked spent log is one
 pub spent : IsSpentLog 2 four [] 0 four_log
 spent = record {
   sound = (refl, ((refl, (tt, tt), derived-four), (tt, tt)), ((λ e. absurd (false≢true e)), ((λ e. refl), tt)));
@@ -81,5 +83,6 @@ spent = record {
   met = inl (refl, (refl, (refl, tt)));
 }
 
+-- with one learnt clause less it is none
 pub one_too_few : IsSpentLog 2 four [] 1 four_log → ⊥
 one_too_few s = let c = s.count in omega (arith, c)

@@ -62,13 +62,13 @@ module _ (n : ℕ) (small : n < 2 ^ 64) (bits : List Lit) where
 pub sound-written : (vars : ℕ) (input : List (List Lit)) (bits : List Lit) (lines : List Line) → vars < 2 ^ 64
     → IsSound vars input bits lines → AreOver vars lines → AllLines (λ l. may_write l ≡ true) lines
 sound-written vars input bits [] small s o = absurd s
-sound-written vars input bits (l ∷ ls) small s o = (first l s.0, lines-written vars small bits input 0 ls s.1 o.1)
+sound-written vars input bits (l ∷ ls) small s o = (by-line l s.0, lines-written vars small bits input 0 ls s.1 o.1)
   where
-    first : (l : Line) → l ≡ Header vars (length input) (length bits) → may_write l ≡ true
-    first (Header x y z) e = refl
-    first (Learnt id c chain) e = cc
-    first (Zero id b) e = cc
-    first (One id b chain) e = cc
-    first (Unsat chain) e = cc
-    first Spent e = cc
-    first End e = cc
+    by-line : (l : Line) → l ≡ Header vars (length input) (length bits) → may_write l ≡ true
+    by-line (Header x y z) e = refl
+    by-line (Learnt id c chain) e = cc
+    by-line (Zero id b) e = cc
+    by-line (One id b chain) e = cc
+    by-line (Unsat chain) e = cc
+    by-line Spent e = cc
+    by-line End e = cc

@@ -1,10 +1,11 @@
 //! Derivations of clauses, logs of what a search learnt, and the text of a log both ways.
 //!
-//! It promises: what a whole log shows (the least bits, that no model exists, that a budget was spent) as
-//! definitions over lines alone, with their laws as theorems; each line that may be written has one text,
-//! and a text is read as the line whose text it is, or refused; the lines that a `Reader` gives depend on
-//! the bytes and not on how they were cut. It stands on `clause_store` and `plain_data`. It must not know
-//! how clauses are learnt or checked. `docs/formats/proof_log.md` has the text of a log.
+//! It promises: what a whole log shows (the least bits, that no model exists, that a budget was
+//! spent) as definitions over lines alone, with their laws as theorems; each line that may be
+//! written has one text, and a text is read as the line whose text it is, or refused; the lines
+//! that a `Reader` gives depend on the bytes and not on how they were cut. It stands on
+//! `clause_store` and `plain_data`. It must not know how clauses are learnt or checked.
+//! `docs/formats/proof_log.md` has the text of a log.
 #![tactic(auto)]
 
 mod draft;

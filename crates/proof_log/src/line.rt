@@ -7,9 +7,9 @@ use plain_data::List;
 /// A line of a log.
 ///
 /// Clauses that are known have ids from 1: the input clauses first, and then the clause of each
-/// `Learnt`, `Zero` and `One` line. Bits count from 0. A chain lists ids of known clauses: it starts
-/// with the first clause, and each further one is resolved with what there is, on the one variable
-/// that stands in both with opposite signs.
+/// `Learnt`, `Zero` and `One` line. Bits count from 0. A chain lists ids of known clauses: it
+/// starts with the first clause, and each further one is resolved with what there is, on the one
+/// variable that stands in both with opposite signs.
 #[derive(Drop)]
 pub enum Line {
     /// The first line: how many variables, input clauses and bits there are.

@@ -13,8 +13,8 @@ ghost use Rattle.proof_log.specs.Logs.{AreUseful, AreDistinct};
 ghost use Rattle.proof_log.specs.Certificates.{bits_at, IsBelow, IsCertificate, IsRefutation, IsSpentLog};
 ghost use Rattle.proof_log.specs.Worked.{pos, neg, five, four, four_log, two, two_bits, two_log};
 
-/// A derived clause holds wherever the known clauses do. The check of a chain finds no fault exactly
-/// where the chain derives the stated clause. A useful clause is new.
+/// A derived clause holds wherever the known clauses do. The check of a chain finds no fault
+/// exactly where the chain derives the stated clause. A useful clause is new.
 pub fn derivation_laws()
     ensures holds { (known : List (List Lit)) (chain : List ℕ) (stated : List Lit) (v : ℕ → Bool) →
         AllClauses known → IsDerived known chain stated → AllTrue v known
@@ -43,8 +43,8 @@ pub fn log_laws()
         AreUseful input bits lines → AreDistinct input lines }
 {}
 
-/// Chains over `1 2`, `1 -2`, `-1 2`, `-1 -2` and the learnt `1`, a certificate, and a log that spends the budget 0 and has
-/// one line too few for the budget 1, computed.
+/// Chains over `1 2`, `1 -2`, `-1 2`, `-1 -2` and the learnt `1`, a certificate, and a log that
+/// spends the budget 0 and has one line too few for the budget 1, computed.
 pub fn worked_logs()
     ensures learns { chain_fault five (1 ∷ 2 ∷ []) (pos 1 ∷ []) ≡ None }
     ensures refutes { chain_fault five (5 ∷ 3 ∷ 4 ∷ 5 ∷ []) [] ≡ None }

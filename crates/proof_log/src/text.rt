@@ -13,6 +13,7 @@ use crate::fields::{Field, read_fields, write_fields};
 use clause_store::Lit;
 use std::alloc::{AllocError, Global};
 
+/// The letter that a line begins with.
 fn letter(line: &Line) -> u8
     ensures { result ≡ letter line.now }
 {
@@ -40,7 +41,8 @@ fn have_numbers(lits: &[Lit]) -> bool
     lits.iter().all(|lit| lit.var.0 < u64::MAX)
 }
 
-/// Whether the line may be written: its chain has an id and no id 0, and its variables have numbers.
+/// Whether the line may be written: its chain has an id and no id 0, and its variables have
+/// numbers.
 pub fn may_write(line: &Line) -> bool
     ensures { result ≡ may_write line.now }
 {
@@ -74,6 +76,8 @@ fn push_chain(fields: &mut Vec<Field>, chain: &[u64]) -> Result<(), AllocError>
     push_number(fields, 0)
 }
 
+/// Appends literals as DIMACS numbers them: variables from 1 on, with a minus where they are
+/// negated.
 fn push_lits(fields: &mut Vec<Field>, lits: &[Lit]) -> Result<(), AllocError>
     requires { list_all (λ l. nat_lt (var_of l) (2 ^ 64 - 1)) lits.now ≡ true }
     ensures { OnOk result (fields.new.items ≡ fields.old.items ++ map of_lit lits.now) }

@@ -17,7 +17,8 @@ pub fn text_laws()
     ensures { (text : List ℕ) (l : Line) → (line_of text ≡ Some l) ↔ Spells text l }
 {}
 
-/// The text of lines that may be written is read as these lines, and after a bad line nothing counts.
+/// The text of lines that may be written is read as these lines, and after a bad line nothing
+/// counts.
 pub fn reading_laws()
     ensures reads_back { (lines : List Line) → AreWritable lines
         → reading (log_text lines) ≡ record { lines = lines; rest = []; failed = false } }

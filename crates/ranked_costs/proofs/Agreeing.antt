@@ -18,22 +18,26 @@ module _ (problem : Problem) (table : Table) (order : List Text) (held other : H
   abbrev Alike : (Block → List Weighted) → (Block → List Weighted) → Type 0
   Alike f g = (name : Text) (b : Block) → block_of table name ≡ Some b → f b ≡ g b
 
-  number-alike : (built : Bool) (f g : Block → List Weighted) → Alike f g → number_terms built table order f ≡ number_terms built table order g
-  number-alike built f g alike = go order
+  number-alike : (built : Bool) (f g : Block → List Weighted) → Alike f g
+      → number_terms built table order f ≡ number_terms built table order g
+  number-alike built f g alike = number-alike-cases order
     where
       at : (name : Text) (o : Option Block) → block_of table name ≡ o → part_terms built f o ≡ part_terms built g o
       at name None e = refl
       at name (Some b) e = ap (in_part built b.origins) (alike name b e)
 
-      go : (names : List Text) → flat_map (λ name. part_terms built f (block_of table name)) names
+      number-alike-cases : (names : List Text) → flat_map (λ name. part_terms built f (block_of table name)) names
           ≡ flat_map (λ name. part_terms built g (block_of table name)) names
-      go [] = refl
-      go (n ∷ ns) =
-          flat_map-cons (λ name. part_terms built f (block_of table name)) n ns ∙ (λ i. at n (block_of table n) refl i ++ go ns i)
+      number-alike-cases [] = refl
+      number-alike-cases (n ∷ ns) =
+          flat_map-cons (λ name. part_terms built f (block_of table name)) n ns
+          ∙ (λ i. at n (block_of table n) refl i ++ number-alike-cases ns i)
           ∙ sym (flat_map-cons (λ name. part_terms built g (block_of table name)) n ns)
 
-  variants-alike : (terms : Row → Choices Text → List Weighted) → Alike (over_variants_terms terms problem held) (over_variants_terms terms problem other)
-  variants-alike terms name b e = ap (λ fs. flat_map (variant_terms terms (with_formulas (variants_at problem b.name) fs)) b.variants) (same name b e)
+  variants-alike : (terms : Row → Choices Text → List Weighted)
+      → Alike (over_variants_terms terms problem held) (over_variants_terms terms problem other)
+  variants-alike terms name b e = ap (λ fs. flat_map (variant_terms terms (with_formulas (variants_at problem b.name) fs)) b.variants)
+      (same name b e)
 
   at-alike : (f g : Block → List Weighted) → Alike f g → Alike (at_root_terms problem f) (at_root_terms problem g)
   at-alike f g alike name b e = ap (λ ts. if is_root_name problem b.name then ts else []) (alike name b e)
@@ -58,11 +62,13 @@ module _ (problem : Problem) (table : Table) (order : List Text) (held other : H
       let number = number_terms built table order in
       λ i.
       number (deprecated_terms problem) ∷ number (at_root_terms problem (version_terms problem)) ∷ a i
-      ∷ number (at_root_terms problem (provider_terms problem table)) ∷ b i ∷ c i ∷ number (off_root_terms problem (provider_terms problem table))
+      ∷ number (at_root_terms problem (provider_terms problem table)) ∷ b i ∷ c i
+      ∷ number (off_root_terms problem (provider_terms problem table))
       ∷ number (edges_terms compilers_differ table) ∷ number (edges_terms os_differ table) ∷ number (os_terms problem)
       ∷ number (off_root_terms problem (version_terms problem)) ∷ d i ∷ number (compiler_terms problem)
       ∷ number (edges_terms targets_differ table) ∷ number (target_terms problem) ∷ []
 
+  -- formulas that agree at the table's names make the same terms
   pub same-terms : cost_terms problem table held order ≡ cost_terms problem table other order
   unfolding cost_terms
   same-terms = λ i. numbers-alike true i ++ (number_terms true table order presence_terms ∷ numbers-alike false i)

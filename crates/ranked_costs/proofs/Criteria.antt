@@ -26,7 +26,7 @@ use Rattle.cost_terms.specs.Differ.{is_text, is_some_compiler, same_compilers}
 use Rattle.cost_terms.specs.Governing.{Row, of_variant, other_terms, unused_terms, variant_terms}
 use Rattle.cost_terms.specs.Terms.{Held, is_root_name, at_root_terms, off_root_terms, presence_terms, deprecated_terms, version_terms, os_terms, target_terms, compiler_terms, rows_at, over_variants_terms, other_values_terms, unused_defaults_terms, virtual_terms, provider_terms, edges_terms, compilers_differ, os_differ, targets_differ, criteria_terms}
 use Rattle.cost_terms.proofs.Lists.{sum-map, sum-flat}
-use Rattle.problem.specs.Limits.{set_members}
+use Rattle.problem.specs.Limits.{set_members, most_names}
 use Rattle.ranked_costs.proofs.Sums.{sum-le-in, sum-same, once, shared}
 use Rattle.ranked_costs.proofs.Digits.{weights-top}
 use Rattle.ranked_costs.proofs.Weights.{IsWithin, rows-in, deprecated-few, version-few, os-few, target-few, compiler-few, provider-few}
@@ -34,7 +34,8 @@ use Rattle.ranked_costs.proofs.Values.{values-few}
 use Rattle.ranked_costs.proofs.Tables.{run-length, run-sum, eq-same, virtuals-few, Own, own-block, own-edges}
 use Rattle.ranked_costs.proofs.Terms.{other-top, unused-top, governing-top, formulas-sum, differ-top, edges-top, passing-numbered}
 
-module _ (problem : Problem) (limits : IsWithin problem) (names : List Text) (rising : IsInByteOrder names) (few : length names ≤ 1024)
+module _ (problem : Problem) (limits : IsWithin problem) (names : List Text) (rising : IsInByteOrder names)
+    (few : length names ≤ most_names)
     (n : ℕ) (held : Held) where
   -- the bound of all criteria: by the definitions of variants, and what is left
   abbrev pub Bounded : (Block → List Weighted) → Type 0
@@ -44,19 +45,20 @@ module _ (problem : Problem) (limits : IsWithin problem) (names : List Text) (ri
   -- ---- roots, presence and weights
 
   at-root : (terms : Block → List Weighted) → Bounded terms → Bounded (at_root_terms problem terms)
-  at-root terms le b there = by (is_root_name problem b.name)
+  at-root terms le b there = at-root-cases (is_root_name problem b.name)
     where
-      by : (c : Bool) → top_said (cond c (terms b) []) ≤ length (variants_at problem b.name) * 2 ^ 29 + 2 ^ 52
-      by true = le b there
-      by false = omega arith
+      at-root-cases : (c : Bool) → top_said (cond c (terms b) []) ≤ length (variants_at problem b.name) * 2 ^ 29 + 2 ^ 52
+      at-root-cases true = le b there
+      at-root-cases false = omega arith
 
   off-root : (terms : Block → List Weighted) → Bounded terms → Bounded (off_root_terms problem terms)
-  off-root terms le b there = by (is_root_name problem b.name)
+  off-root terms le b there = off-root-cases (is_root_name problem b.name)
     where
-      by : (c : Bool) → top_said (cond c [] (terms b)) ≤ length (variants_at problem b.name) * 2 ^ 29 + 2 ^ 52
-      by true = omega arith
-      by false = le b there
+      off-root-cases : (c : Bool) → top_said (cond c [] (terms b)) ≤ length (variants_at problem b.name) * 2 ^ 29 + 2 ^ 52
+      off-root-cases true = omega arith
+      off-root-cases false = le b there
 
+  -- one for the node
   pub presence : Bounded presence_terms
   presence b there = omega arith
 
@@ -225,6 +227,7 @@ module _ (problem : Problem) (limits : IsWithin problem) (names : List Text) (ri
   EachBounded [] = Unit {0}
   EachBounded (terms ∷ more) = Bounded terms × EachBounded more
 
+  -- each criterion is bounded
   pub criteria-bounded : EachBounded (criteria_terms problem (Own problem names n) held)
   unfolding criteria_terms
   criteria-bounded =

@@ -1,8 +1,7 @@
 -- What the terms of choices add up to.
 use Prim.Native.Nat.{suc, zero}
-use Rattle.std.proofs.Common.{◌≡◌, refl, sym, ap, ◌∙◌, ℕ, ◌+◌, ◌*◌, ◌/◌, ◌^◌, ◌<◌, ◌≤◌, Bool, true, false, cond, List, [], ◌∷◌, map, eqb, ◌⊎◌, inl, inr, ⊎_elim, arith, pow-suc}
+use Rattle.std.proofs.Common.{◌≡◌, refl, ap, ◌∙◌, ℕ, ◌+◌, ◌*◌, ◌/◌, ◌^◌, ◌<◌, ◌≤◌, Bool, true, false, cond, List, [], ◌∷◌, map, eqb, ◌⊎◌, inl, inr, ⊎_elim, arith, pow-suc}
 use Rattle.std.specs.List.{list_all, list_any}
-use Rattle.std.proofs.Math.Nat.{mul_comm, mul_assoc}
 use Rattle.std.proofs.lemmas.Bool.{cases_eq, eqb-true, eqb-false, lt-ltb}
 use Rattle.std.proofs.lemmas.List.Sums.{sum_by-cons}
 use Rattle.clause_circuits.specs.Binary.{size, size_below}
@@ -14,11 +13,9 @@ use Rattle.cost_terms.specs.Spread.{weighed, is_odd, half_of, digit_terms, great
 use Rattle.cost_terms.specs.Parts.{part_said, only_where, is_of, in_part}
 use Rattle.cost_terms.specs.Terms.{weight_terms}
 use Rattle.cost_terms.proofs.Lists.{sum-map}
+use Rattle.cost_terms.proofs.DigitSteps.{doubled}
 
 -- ---- digits
-
-doubled : (unit k : ℕ) → 2 * unit * 2 ^ k ≡ unit * 2 ^ suc k
-doubled unit k = rw (mul_comm 2 unit) (mul_assoc unit 2 (2 ^ k) ∙ ap (λ p. unit * p) (mul_comm 2 (2 ^ k) ∙ sym (pow-suc 2 k)))
 
 -- so many digits spell less than the next
 digits-top : (k unit : ℕ) (choices : Choices ℕ) → top_said (digit_terms k unit choices) + unit ≡ unit * 2 ^ k
@@ -38,12 +35,12 @@ size-top zero n = elim (cases_eq n 0) [
   | inl is ↦ inl (is, refl)
   | inr other ↦ inr (omega arith)
 ]
-size-top (suc k) n = go (size-top k (n / 2)) (eqb n 0) refl
+size-top (suc k) n = size-top-cases (size-top k (n / 2)) (eqb n 0) refl
   where
-    go : ((n / 2 ≡ 0) × (size_below k (n / 2) ≡ 0)) ⊎ (2 ^ size_below k (n / 2) ≤ 2 * (n / 2)) → (b : Bool) → eqb n 0 ≡ b
+    size-top-cases : ((n / 2 ≡ 0) × (size_below k (n / 2) ≡ 0)) ⊎ (2 ^ size_below k (n / 2) ≤ 2 * (n / 2)) → (b : Bool) → eqb n 0 ≡ b
         → ((n ≡ 0) × (cond b 0 (suc (size_below k (n / 2))) ≡ 0)) ⊎ (2 ^ cond b 0 (suc (size_below k (n / 2))) ≤ 2 * n)
-    go rest true is = inl (eqb-true n 0 is, refl)
-    go rest false is = let some : n ≡ 0 → ⊥ = eqb-false n 0 is in inr (⊎_elim
+    size-top-cases rest true is = inl (eqb-true n 0 is, refl)
+    size-top-cases rest false is = let some : n ≡ 0 → ⊥ = eqb-false n 0 is in inr (⊎_elim
         (λ none. let one : 2 ^ suc (size_below k (n / 2)) ≡ 2 = ap (λ j. 2 ^ suc j) none.1 in omega arith)
         (λ more. omega (arith, pow-suc 2 (size_below k (n / 2))))
         rest)
@@ -66,6 +63,7 @@ greatest-top : {T : Type 0} (weight : T → ℕ) (most : ℕ) → ((x : T) → w
 greatest-top weight most le [] = omega arith
 greatest-top weight most le (c ∷ cs) = omega (arith, le c.0, greatest-top weight most le cs)
 
+-- digits add up to less than twice the greatest weight
 pub weights-top : {T : Type 0} (weight : T → ℕ) (most : ℕ) → ((x : T) → weight x ≤ most) → most < 2 ^ 63 → (choices : Choices T)
     → top_said (weight_terms weight choices) ≤ 2 * most
 weights-top weight most le small choices =
@@ -74,13 +72,14 @@ weights-top weight most le small choices =
 
 -- ---- parts
 
+-- a half has no more than the whole
 pub part-top : (built : Bool) (origins : Choices Origin) (ts : List Weighted) → top_said (in_part built origins ts) ≤ top_said ts
 unfolding in_part
-part-top built origins ts = by (list_all (λ c. is_of built c.0) origins) (list_any (λ c. is_of built c.0) origins)
+part-top built origins ts = part-top-cases (list_all (λ c. is_of built c.0) origins) (list_any (λ c. is_of built c.0) origins)
     (map (only_where (part_said built origins)) ts)
     (sum-map (λ (t : Weighted). t.weight) (only_where (part_said built origins)) ts)
   where
-    by : (a b : Bool) (us : List Weighted) → top_said us ≡ top_said ts → top_said (cond a ts (cond b us [])) ≤ top_said ts
-    by true b us e = omega arith
-    by false true us e = omega arith
-    by false false us e = omega arith
+    part-top-cases : (a b : Bool) (us : List Weighted) → top_said us ≡ top_said ts → top_said (cond a ts (cond b us [])) ≤ top_said ts
+    part-top-cases true b us e = omega arith
+    part-top-cases false true us e = omega arith
+    part-top-cases false false us e = omega arith

@@ -12,15 +12,15 @@ use Rattle.criteria_totals.specs.Totals.{values_at}
 use Rattle.literal_table.specs.Tables.{Table, IsTable, name_of}
 use Rattle.graph_levels.proofs.Growing.{meets-parts}
 use Rattle.graph_encoding.proofs.Ranking.{all-said}
-use Rattle.valid_models.specs.OfGraphEncoding.Formulas.{Formulas, IsRightTable, AreRightFormulas}
-use Rattle.valid_models.specs.OfGraphEncoding.Encodings.{edges_made, levels_made, rules_on, encode_on, told_in}
-use Rattle.valid_models.specs.OfGraphEncoding.Best.{SaysAll}
+use Rattle.graph_encoding.specs.Formulas.{Formulas, IsRightTable, AreRightFormulas}
+use Rattle.graph_encoding.specs.Encodings.{edges_made, levels_made, rules_on, encode_on, told_in}
+use Rattle.graph_encoding.specs.Best.{SaysAll}
 use Rattle.valid_models.specs.OfGraphDecoding.Decoding.{decode}
 use Rattle.valid_models.specs.Tables.{table_for, size_for}
 use Rattle.valid_models.specs.Targets.{conditions_of, targets_of}
 use Rattle.valid_models.specs.Joined.{Places, holds_at}
 use Rattle.valid_models.specs.Closures.{closure_formulas, closure_clauses}
-use Rattle.ranked_costs.specs.Least.{AreCostBits}
+use Rattle.ranked_costs.specs.CostBits.{AreCostBits}
 use Rattle.term_builder.specs.Held.{held_in}
 use Rattle.ranked_costs.specs.Given.{held_for}
 use Rattle.ranked_costs.specs.Ranked.{closure_values}
@@ -29,6 +29,7 @@ use Rattle.ranked_costs.proofs.Steps.{same}
 -- a model of an encoding says all of the graph that it decodes to
 module _ (problem : Problem) (t : Table) (n : ℕ) (f : Formulas) (read : (ℕ → Bool) → Content) (right : IsRightTable problem t n f read)
     (targets : List Text) (holds : ℕ → Content → Bool) (says : AreRightFormulas problem t n f (told_in t targets) holds) where
+  -- a model says all of the graph that it decodes to
   pub model-says : (asked v : ℕ → Bool) → Meets asked v (encode_on problem t n f targets).entries
       → SaysAll problem t n f targets holds v (read v) × IsWellFormed (read v)
   unfolding encode_on rules_on levels_made edges_made
@@ -46,14 +47,19 @@ module _ (problem : Problem) (names : List Text) (place : Places) (order : List 
   abbrev all : ℕ → Bool
   all d = true
 
+  -- and its bits spell the graph's cost vector
   pub found : IsRightTable problem t (size_for problem names) f (λ v. decode v t)
-      → AreRightFormulas problem t (size_for problem names) f (told_in t (targets_of problem t)) (holds_at problem (conditions_of problem t))
+      → AreRightFormulas problem t (size_for problem names) f (told_in t (targets_of problem t))
+      (holds_at problem (conditions_of problem t))
       → (new : Clauses) (bits : List Lit) (tops : List ℕ)
-      → AreCostBits (closure_clauses problem names place) new bits tops problem t (held_in (held_for problem t (closure_values problem names place))) order
+      → AreCostBits (closure_clauses problem names place) new bits tops problem t
+      (held_in (held_for problem t (closure_values problem names place))) order
       → IsTable t → IsPermutation (map name_of t.blocks) order → (v : ℕ → Bool) → Meets all v new.entries
       → bits_for tops (vector problem (decode v t)) ≡ Some (values_at v bits)
   found right says new bits tops costs table ordered v meets =
       let p = meets-parts (closure_clauses problem names place) new all v costs.totals.defines.says.grows meets in
-      let w = model-says problem t (size_for problem names) f (λ v. decode v t) right (targets_of problem t) (holds_at problem (conditions_of problem t)) says
+      let w = model-says problem t (size_for problem names) f (λ v. decode v t) right (targets_of problem t)
+      (holds_at problem (conditions_of problem t)) says
       all v p.0 in
-      ap (bits_for tops) (sym (same problem names place order new bits tops costs table ordered v (decode v t) w.0 w.1)) ∙ costs.totals.found all v p.1
+      ap (bits_for tops) (sym (same problem names place order new bits tops costs table ordered v (decode v t) w.0 w.1))
+      ∙ costs.totals.found all v p.1

@@ -7,6 +7,7 @@ use Rattle.std.proofs.Math.Seq.{take-append_seam, drop-append_seam}
 use Rattle.std.proofs.lemmas.Bool.{false≢true}
 use Rattle.std.proofs.lemmas.List.{map-append, length-map, take-map, drop-map}
 use Rattle.std.proofs.lemmas.List.Concat.{flat_map-cons}
+use Rattle.std.proofs.lemmas.Simd.{map-map}
 use Rattle.clause_store.specs.Clauses.{Clauses}
 use Rattle.clause_formulas.specs.Statements.{Statement, eval}
 use Rattle.clause_formulas.specs.declared.defined.Defined.{Defined}
@@ -29,10 +30,6 @@ pub as-many : (s : Gated) (fs : List Statement) → length (define_all_in s fs).
 as-many s [] = refl
 as-many s (f ∷ fs) = ap (λ k. suc k) (as-many (define_in s f).state fs)
 
-map-twice : {X Y Z : Type 0} (f : Y → Z) (g : X → Y) (xs : List X) → map f (map g xs) ≡ map (λ x. f (g x)) xs
-map-twice f g [] = refl
-map-twice f g (x ∷ xs) = ap (λ ys. f (g x) ∷ ys) (map-twice f g xs)
-
 seam-take : (k : ℕ) (xs ys : List Bool) → length xs ≡ k → take k (xs ++ ys) ≡ xs
 seam-take k xs ys e = ap (λ j. take j (xs ++ ys)) (sym e) ∙ take-append_seam xs ys
 
@@ -53,6 +50,7 @@ module _ (v : ℕ → Bool) (problem : Problem) (graph : Content) where
   abbrev pub listed : List Text → List (Text × Condition)
   listed names = flat_map (λ name. map (λ when. (name, when)) (conditions_at problem name)) names
 
+  -- values of conditions say where these hold
   pub told : (values : List Defined) (cs : List (Text × Condition)) → length values ≡ length cs
       → ((k : ℕ) → eval v (value_at values k) ≡ holds_at problem cs k graph) → map said values ≡ map tested cs
   told [] [] e h = refl
@@ -73,7 +71,8 @@ module _ (v : ℕ → Bool) (problem : Problem) (graph : Content) where
     abbrev requirements : List Bool
     requirements = tests name (map (λ row. row.when) (requirements_at problem name))
 
-    parts : (rest : List Bool) → tests name (conditions_at problem name) ++ rest ≡ variants ++ (depends ++ (conflicts ++ (requirements ++ rest)))
+    parts : (rest : List Bool) → tests name (conditions_at problem name) ++ rest ≡ variants
+        ++ (depends ++ (conflicts ++ (requirements ++ rest)))
     parts rest =
         ap (λ xs. xs ++ rest) (map-append _ (map (λ row. row.when) (variants_at problem name)) _
         ∙ ap (λ xs. variants ++ xs) (map-append _ (map (λ row. row.when) (depends_at problem name)) _
@@ -88,7 +87,7 @@ module _ (v : ℕ → Bool) (problem : Problem) (graph : Content) where
       first-are =
           sym (take-map said (length (variants_at problem name)) values) ∙ ap (take (length (variants_at problem name))) (e ∙ parts rest)
           ∙ seam-take (length (variants_at problem name)) variants _ (length-map _ _ ∙ length-map (variants_at problem name) _)
-          ∙ map-twice _ _ (variants_at problem name)
+          ∙ map-map _ _ (variants_at problem name)
 
       rest-is : map said (passed problem name values) ≡ rest
       rest-is =
@@ -97,16 +96,20 @@ module _ (v : ℕ → Bool) (problem : Problem) (graph : Content) where
           let c = length (conflicts_at problem name) in
           let d = length (requirements_at problem name) in
           let one : map said (drop a values) ≡ depends ++ (conflicts ++ (requirements ++ rest)) =
-          sym (drop-map said a values) ∙ ap (drop a) (e ∙ parts rest) ∙ seam-drop a variants _ (length-map _ _ ∙ length-map (variants_at problem name) _) in
+          sym (drop-map said a values) ∙ ap (drop a) (e ∙ parts rest)
+          ∙ seam-drop a variants _ (length-map _ _ ∙ length-map (variants_at problem name) _) in
           let two : map said (drop b (drop a values)) ≡ conflicts ++ (requirements ++ rest) =
-          sym (drop-map said b (drop a values)) ∙ ap (drop b) one ∙ seam-drop b depends _ (length-map _ _ ∙ length-map (depends_at problem name) _) in
+          sym (drop-map said b (drop a values)) ∙ ap (drop b) one
+          ∙ seam-drop b depends _ (length-map _ _ ∙ length-map (depends_at problem name) _) in
           let three : map said (drop c (drop b (drop a values))) ≡ requirements ++ rest =
-          sym (drop-map said c (drop b (drop a values))) ∙ ap (drop c) two ∙ seam-drop c conflicts _ (length-map _ _ ∙ length-map (conflicts_at problem name) _) in
+          sym (drop-map said c (drop b (drop a values))) ∙ ap (drop c) two
+          ∙ seam-drop c conflicts _ (length-map _ _ ∙ length-map (conflicts_at problem name) _) in
           sym (drop-map said d (drop c (drop b (drop a values)))) ∙ ap (drop d) three
           ∙ seam-drop d requirements rest (length-map _ _ ∙ length-map (requirements_at problem name) _)
 
   -- what is given for a name says where its definitions' conditions hold
-  pub held-says : (names : List Text) (values : List Defined) (name : Text) → map said values ≡ map tested (listed names) → among names name ≡ true
+  pub held-says : (names : List Text) (values : List Defined) (name : Text) → map said values ≡ map tested (listed names)
+      → among names name ≡ true
       → map (eval v) (held_in (held_from problem names values) name)
       ≡ map (λ row. all_hold (world_of problem) row.when graph name) (variants_at problem name)
   held-says [] values name e there = absurd (false≢true there)
@@ -114,23 +117,25 @@ module _ (v : ℕ → Bool) (problem : Problem) (graph : Content) where
       let split : map said values ≡ tests n (conditions_at problem n) ++ map tested (listed ns) =
       e ∙ ap (map tested) (flat_map-cons (λ name. map (λ when. (name, when)) (conditions_at problem name)) n ns)
       ∙ map-append tested (map (λ when. (n, when)) (conditions_at problem n)) (listed ns)
-      ∙ ap (λ xs. xs ++ map tested (listed ns)) (map-twice tested (λ when. (n, when)) (conditions_at problem n)) in
-      go (bytes_eq name n) refl split there
+      ∙ ap (λ xs. xs ++ map tested (listed ns)) (map-map tested (λ when. (n, when)) (conditions_at problem n)) in
+      held-says-cases (bytes_eq name n) refl split there
       (held-says ns (passed problem n values) name (rest-is n values (map tested (listed ns)) split))
     where
-      go : (b : Bool) → bytes_eq name n ≡ b → map said values ≡ tests n (conditions_at problem n) ++ map tested (listed ns)
+      held-says-cases : (b : Bool) → bytes_eq name n ≡ b → map said values ≡ tests n (conditions_at problem n) ++ map tested (listed ns)
           → (bytes_eq name n || among ns name) ≡ true
           → (among ns name ≡ true → map (eval v) (held_in (held_from problem ns (passed problem n values)) name)
           ≡ map (λ row. all_hold (world_of problem) row.when graph name) (variants_at problem name))
           → map (eval v) (held_in (held_from problem (n ∷ ns) values) name)
           ≡ map (λ row. all_hold (world_of problem) row.when graph name) (variants_at problem name)
-      go true is split there later =
-          let shape : Bool → List Bool = λ b. map (eval v) (map said_of (defined_in (cond b (Some (n, take (length (variants_at problem n)) values))
+      held-says-cases true is split there later =
+          let shape : Bool → List Bool =
+          λ b. map (eval v) (map said_of (defined_in (cond b (Some (n, take (length (variants_at problem n)) values))
           (find (λ h. bytes_eq name h.0) (held_from problem ns (passed problem n values)))))) in
           ap shape is ∙ subst (λ m. map (eval v) (map said_of (take (length (variants_at problem n)) values))
           ≡ map (λ row. all_hold (world_of problem) row.when graph m) (variants_at problem m)) (sym (bytes_eq-same name n is))
-          (map-twice (eval v) said_of (take (length (variants_at problem n)) values) ∙ first-are n values (map tested (listed ns)) split)
-      go false is split there later =
-          let shape : Bool → List Bool = λ b. map (eval v) (map said_of (defined_in (cond b (Some (n, take (length (variants_at problem n)) values))
+          (map-map (eval v) said_of (take (length (variants_at problem n)) values) ∙ first-are n values (map tested (listed ns)) split)
+      held-says-cases false is split there later =
+          let shape : Bool → List Bool =
+          λ b. map (eval v) (map said_of (defined_in (cond b (Some (n, take (length (variants_at problem n)) values))
           (find (λ h. bytes_eq name h.0) (held_from problem ns (passed problem n values)))))) in
           ap shape is ∙ later (sym (ap (λ b. b || among ns name) is) ∙ there)

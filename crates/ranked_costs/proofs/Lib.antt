@@ -8,14 +8,11 @@ pub mod Tables
 pub mod Terms
 pub mod Criteria
 pub mod Whole
-pub mod Order
 pub mod HeldLaws
 pub mod Agreeing
-pub mod RankedCostsSums
+pub mod VectorSums
 pub mod Ranges
 pub mod Lists
 pub mod SmallSums
 pub mod Finding
 pub mod Steps
-pub mod Optimal
-pub mod OfEncodingStages

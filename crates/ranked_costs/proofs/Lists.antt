@@ -7,14 +7,14 @@ use Rattle.clause_formulas.specs.Drafts.{value_at}
 use Rattle.graph_core.specs.Graphs.{Text}
 use Rattle.problem.specs.Problems.{Problem}
 use Rattle.literal_table.specs.Tables.{Table}
-use Rattle.valid_models.specs.OfGraphEncoding.Formulas.{MetBelow}
+use Rattle.graph_encoding.specs.Formulas.{MetBelow}
 use Rattle.cost_terms.specs.declared.weighted.Weighted.{Weighted}
 use Rattle.criteria_totals.specs.Spellings.{AllSmall}
 use Rattle.cost_terms.specs.Weighed.{AllWeighedBelow, AreTotals, tops_said}
 use Rattle.cost_terms.specs.Ranges.{IsTableBelow}
 use Rattle.cost_terms.specs.Sums.{cost_terms}
 use Rattle.cost_terms.proofs.Ranges.{costs-below}
-use Rattle.ranked_costs.specs.Least.{AreCostBits}
+use Rattle.ranked_costs.specs.CostBits.{AreCostBits}
 use Rattle.term_builder.specs.Held.{HeldRow, held_in}
 use Rattle.criteria_totals.specs.Totals.{Spelling}
 use Rattle.cost_terms.specs.Built.{define_totals_on}
@@ -31,14 +31,17 @@ module _ (problem : Problem) (t : Table) (values : List Defined) (order : List T
   items-are : items ≡ cost_terms problem t (held_in (held_for problem t values)) order
   items-are = taken ∙ built ∙ ap (λ held. cost_terms problem t (held_in held) order) (seen ∙ made)
 
+  -- the lists are over the variables
   pub items-below : (n : ℕ) → IsTableBelow n t → MetBelow n (value_at values) → AllWeighedBelow n items
   items-below n table below =
       subst (AllWeighedBelow n) (sym items-are)
       (costs-below n problem t (held_in (held_for problem t values)) table (held-below n problem t values below) order)
 
+  -- their sums are small
   pub items-small : are_small (terms_for problem t values order) ≡ true → AllSmall (tops_said items)
   items-small small = subst (λ ls. AllSmall (tops_said ls)) (sym items-are) (all-small (terms_for problem t values order) small)
 
+  -- so the bits are those of the costs
   pub are-cost-bits : (old new : Clauses) (bits : List Lit) (tops : List ℕ) → are_small (terms_for problem t values order) ≡ true
       → AreTotals old new bits tops items → AreCostBits old new bits tops problem t (held_in (held_for problem t values)) order
   are-cost-bits old new bits tops small totals = record {

@@ -14,8 +14,8 @@ use Rattle.graph_core.specs.Graphs.{Text}
 use Rattle.problem.specs.Problems.{Problem, variants_at, depends_at, conflicts_at, requirements_at}
 use Rattle.literal_table.specs.Choices.{Choices, lits_of}
 use Rattle.literal_table.specs.Tables.{Table, name_of}
-use Rattle.valid_models.specs.OfGraphEncoding.Formulas.{MetBelow}
-use Rattle.valid_models.specs.OfTableNumbers.Ranges as numbers
+use Rattle.graph_encoding.specs.Formulas.{MetBelow}
+use Rattle.literal_table.specs.Ranges as numbers
 use Rattle.cost_terms.specs.Ranges.{IsTableBelow, AreHeldBelow}
 use Rattle.term_builder.specs.Held.{defined_in, held_in}
 use Rattle.ranked_costs.specs.Given.{passed, held_from, held_for}
@@ -33,10 +33,13 @@ right-below n (k ∷ ks) ls b = right-below n ks ls b.1
 values-below : (n : ℕ) (ws : List (Text × Choices Text)) → AllBelow n (flat_map (λ w. lits_of w.1) ws)
     → All (λ (w : Text × Choices Text). AllBelow n (lits_of w.1)) ws
 values-below n [] b k d lt = absurd (omega (arith, lt))
-values-below n (w ∷ ws) b zero d lt = left-below n (lits_of w.1) (flat_map (λ w. lits_of w.1) ws) (subst (AllBelow n) (flat_map-cons (λ w. lits_of w.1) w ws) b)
+values-below n (w ∷ ws) b zero d lt = left-below n (lits_of w.1) (flat_map (λ w. lits_of w.1) ws)
+    (subst (AllBelow n) (flat_map-cons (λ w. lits_of w.1) w ws) b)
 values-below n (w ∷ ws) b (suc k) d lt =
-    values-below n ws (right-below n (lits_of w.1) (flat_map (λ w. lits_of w.1) ws) (subst (AllBelow n) (flat_map-cons (λ w. lits_of w.1) w ws) b)) k d (omega (arith, lt))
+    values-below n ws (right-below n (lits_of w.1) (flat_map (λ w. lits_of w.1) ws)
+    (subst (AllBelow n) (flat_map-cons (λ w. lits_of w.1) w ws) b)) k d (omega (arith, lt))
 
+-- a table below a number is below a greater one
 pub table-below : (m n : ℕ) (t : Table) → m ≤ n → numbers.IsTableBelow m t → IsTableBelow n t
 table-below m n t h below = record {
   blocks = λ k d lt. let b = below.blocks k d lt in record {
@@ -79,19 +82,24 @@ passed-below n problem name ds b =
 from-below : (n : ℕ) (problem : Problem) (names : List Text) (values : List Defined) → ValuesBelow n values
     → AreHeldBelow n (held_in (held_from problem names values))
 from-below n problem [] values b name = tt
-from-below n problem (x ∷ names) values b name = go (bytes_eq name x) refl (from-below n problem names (passed problem x values) (passed-below n problem x values b) name)
+from-below n problem (x ∷ names) values b name =
+    from-below-cases (bytes_eq name x) refl (from-below n problem names (passed problem x values) (passed-below n problem x values b) name)
   where
-    go : (same : Bool) → bytes_eq name x ≡ same → SaidBelow n (any_of (held_in (held_from problem names (passed problem x values)) name))
+    from-below-cases : (same : Bool) → bytes_eq name x ≡ same
+        → SaidBelow n (any_of (held_in (held_from problem names (passed problem x values)) name))
         → SaidBelow n (any_of (held_in (held_from problem (x ∷ names) values) name))
-    go true is later =
-        let there : Bool → Type 0 = λ same. SaidBelow n (any_of (map said_of (defined_in (cond same (Some (x, take (length (variants_at problem x)) values))
+    from-below-cases true is later =
+        let there : Bool → Type 0 =
+        λ same. SaidBelow n (any_of (map said_of (defined_in (cond same (Some (x, take (length (variants_at problem x)) values))
         (find (λ h. bytes_eq name h.0) (held_from problem names (passed problem x values))))))) in
         subst there (sym is) (take-below n (length (variants_at problem x)) values b)
-    go false is later =
-        let there : Bool → Type 0 = λ same. SaidBelow n (any_of (map said_of (defined_in (cond same (Some (x, take (length (variants_at problem x)) values))
+    from-below-cases false is later =
+        let there : Bool → Type 0 =
+        λ same. SaidBelow n (any_of (map said_of (defined_in (cond same (Some (x, take (length (variants_at problem x)) values))
         (find (λ h. bytes_eq name h.0) (held_from problem names (passed problem x values))))))) in
         subst there (sym is) later
 
+-- so are the formulas of conditions
 pub held-below : (n : ℕ) (problem : Problem) (t : Table) (values : List Defined) → MetBelow n (value_at values)
     → AreHeldBelow n (held_in (held_for problem t values))
 held-below n problem t values b = from-below n problem (map name_of t.blocks) values (all-below n values b)

@@ -7,6 +7,7 @@ use Rattle.cost_terms.specs.declared.weighted.Weighted.{Weighted}
 use Rattle.cost_terms.specs.Weighed.{top_said, tops_said}
 use Rattle.ranked_costs.specs.Small.{are_small}
 
+-- sums that test small are small
 pub all-small : (lists : List (List Weighted)) → are_small lists ≡ true → AllSmall (tops_said lists)
 all-small [] h = tt
 all-small (terms ∷ lists) h =

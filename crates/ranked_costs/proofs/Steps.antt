@@ -16,8 +16,8 @@ use Rattle.literal_table.specs.Tables.{Table, IsTable, name_of, block_of}
 use Rattle.literal_table.specs.declared.block.Block.{Block}
 use Rattle.valid_models.proofs.OfGraphFormulas.AllVariants.{among-In}
 use Rattle.valid_models.proofs.Found.{found-passes}
-use Rattle.valid_models.specs.OfGraphEncoding.Formulas.{Formulas}
-use Rattle.valid_models.specs.OfGraphEncoding.Best.{SaysAll, OrdersBits}
+use Rattle.graph_encoding.specs.Formulas.{Formulas}
+use Rattle.graph_encoding.specs.Best.{SaysAll, OrdersBits}
 use Rattle.valid_models.specs.Tables.{table_for, size_for}
 use Rattle.valid_models.specs.Targets.{conditions_of, targets_of}
 use Rattle.valid_models.specs.Joined.{Places, holds_at}
@@ -25,12 +25,12 @@ use Rattle.valid_models.specs.Closures.{closure_formulas, closure_clauses}
 use Rattle.cost_terms.specs.Weighed.{sums_said}
 use Rattle.cost_terms.specs.Terms.{Held}
 use Rattle.cost_terms.specs.Sums.{cost_terms}
-use Rattle.ranked_costs.specs.Least.{AreCostBits}
+use Rattle.ranked_costs.specs.CostBits.{AreCostBits}
 use Rattle.term_builder.specs.Held.{held_in}
 use Rattle.ranked_costs.specs.Given.{held_for}
 use Rattle.ranked_costs.specs.Ranked.{closure_values}
 use Rattle.ranked_costs.proofs.HeldLaws.{as-many, told, held-says}
-use Rattle.ranked_costs.proofs.RankedCostsSums.{holding, sums-are}
+use Rattle.ranked_costs.proofs.VectorSums.{holding, sums-are}
 
 -- a name that is found is among the names
 found-among : (t : Table) (name : Text) (b : Block) → block_of t name ≡ Some b → among (map name_of t.blocks) name ≡ true
@@ -62,13 +62,16 @@ module _ (problem : Problem) (names : List Text) (place : Places) (order : List 
       (told v problem g values (conditions_of problem t) (as-many _ _ ∙ length-map (conditions_of problem t) _) all.conditions)
       (found-among t name b found)
 
-  module _ (new : Clauses) (bits : List Lit) (tops : List ℕ) (costs : AreCostBits (closure_clauses problem names place) new bits tops problem t held order) where
+  module _ (new : Clauses) (bits : List Lit) (tops : List ℕ)
+      (costs : AreCostBits (closure_clauses problem names place) new bits tops problem t held order) where
     abbrev pub sums : (ℕ → Bool) → List ℕ
     sums v = sums_said v (cost_terms problem t held order)
 
+    -- the bits compare as the sums
     pub orders : OrdersBits (closure_clauses problem names place) new bits sums
     orders = record { defines = costs.totals.defines; order = costs.totals.order; equal = costs.totals.equal }
 
+    -- which are the cost vector
     pub same : IsTable t → IsPermutation (map name_of t.blocks) order → (v : ℕ → Bool) (g : Content) → Says v g → IsWellFormed g
         → sums v ≡ vector problem g
     same table ordered v g all formed =

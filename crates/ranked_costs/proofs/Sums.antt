@@ -14,6 +14,7 @@ use Rattle.graph_core.specs.Graphs.{Text}
 
 -- ---- bounds
 
+-- a sum of smaller terms
 pub sum-le-in : {X : Type 0} (f g : X → ℕ) (xs : List X) → ((x : X) → Contains xs x → f x ≤ g x) → sum_by f xs ≤ sum_by g xs
 sum-le-in f g [] le = omega arith
 sum-le-in f g (x ∷ xs) le =
@@ -21,6 +22,7 @@ sum-le-in f g (x ∷ xs) le =
     let rest = sum-le-in f g xs (λ y h. le y (has_later x xs y h)) in
     omega (arith, sum_by-cons f x xs, sum_by-cons g x xs)
 
+-- one term is at most the sum
 pub sum-at : {X : Type 0} (f : X → ℕ) (xs : List X) (x : X) → Contains xs x → f x ≤ sum_by f xs
 sum-at f [] x there = absurd (omega (arith, there.1))
 sum-at f (y ∷ ys) x there = ⊎_elim
@@ -28,14 +30,17 @@ sum-at f (y ∷ ys) x there = ⊎_elim
     (λ later. let rest = sum-at f ys x later in omega (arith, sum_by-cons f y ys))
     (first_or_later y ys x there)
 
+-- a sum of sums
 pub sum-add : {X : Type 0} (f g : X → ℕ) (xs : List X) → sum_by (λ x. f x + g x) xs ≡ sum_by f xs + sum_by g xs
 sum-add f g [] = refl
 sum-add f g (x ∷ xs) = omega (arith, sum-add f g xs, sum_by-cons f x xs, sum_by-cons g x xs, sum_by-cons (λ y. f y + g y) x xs)
 
+-- a sum of ones
 pub sum-ones : {X : Type 0} (xs : List X) → sum_by (λ x. 1) xs ≡ length xs
 sum-ones [] = refl
 sum-ones (x ∷ xs) = omega (arith, sum-ones xs, sum_by-cons (λ y. 1) x xs)
 
+-- a sum of equal terms
 pub sum-same : {X : Type 0} (k : ℕ) (xs : List X) → sum_by (λ x. k) xs ≡ length xs * k
 sum-same k [] = omega arith
 sum-same k (x ∷ xs) = omega (arith, sum-same k xs, sum_by-cons (λ y. k) x xs)
@@ -53,10 +58,10 @@ module _ (same : Text → Text → Bool) (exact : (a b : Text) → same a b ≡ 
   -- a number that is added at one key alone
   pub once : (t : Text) (n : ℕ) (ks : List Text) → IsInByteOrder ks → sum_by (λ k. cond (same t k) n 0) ks ≤ n
   once t n [] rising = omega arith
-  once t n (k ∷ ks) rising = go (once t n ks (rises_rest byte_cmp k ks rising)) (same t k) refl
+  once t n (k ∷ ks) rising = once-cases (once t n ks (rises_rest byte_cmp k ks rising)) (same t k) refl
     where
-      go : sum_by (λ j. cond (same t j) n 0) ks ≤ n → (b : Bool) → same t k ≡ b → sum_by (λ j. cond (same t j) n 0) (k ∷ ks) ≤ n
-      go others true is =
+      once-cases : sum_by (λ j. cond (same t j) n 0) ks ≤ n → (b : Bool) → same t k ≡ b → sum_by (λ j. cond (same t j) n 0) (k ∷ ks) ≤ n
+      once-cases others true is =
           let here : cond (same t k) n 0 ≡ n = ap (λ b. cond b n 0) is in
           let rest = none-passes n (same t) ks (λ j there. false_from_ne_true (same t j) (λ also.
           let twice : k ≡ j = sym (exact t k is) ∙ exact t j also in
@@ -64,19 +69,19 @@ module _ (same : Text → Text → Bool) (exact : (a b : Text) → same a b ≡ 
           let both : Less ≡ Equal = sym less ∙ tied_itself nat_list_cmp_total k in
           cc)) in
           omega (arith, here, rest, sum_by-cons (λ j. cond (same t j) n 0) k ks)
-      go others false is =
+      once-cases others false is =
           let here : cond (same t k) n 0 ≡ 0 = ap (λ b. cond b n 0) is in
           omega (arith, here, sum_by-cons (λ j. cond (same t j) n 0) k ks)
 
   module _ {X : Type 0} (f : X → ℕ) (key : X → Text) where
     one-more : (x : X) (xs : List X) (k : Text)
         → sum_by f (filter (λ y. same (key y) k) (x ∷ xs)) ≡ cond (same (key x) k) (f x) 0 + sum_by f (filter (λ y. same (key y) k) xs)
-    one-more x xs k = by (same (key x) k)
+    one-more x xs k = one-more-cases (same (key x) k)
       where
-        by : (b : Bool) → sum_by f (cond b (x ∷ filter (λ y. same (key y) k) xs) (filter (λ y. same (key y) k) xs))
+        one-more-cases : (b : Bool) → sum_by f (cond b (x ∷ filter (λ y. same (key y) k) xs) (filter (λ y. same (key y) k) xs))
             ≡ cond b (f x) 0 + sum_by f (filter (λ y. same (key y) k) xs)
-        by true = sum_by-cons f x (filter (λ y. same (key y) k) xs)
-        by false = omega arith
+        one-more-cases true = sum_by-cons f x (filter (λ y. same (key y) k) xs)
+        one-more-cases false = omega arith
 
     -- what each key has of a list is no more than the list
     pub shared : (ks : List Text) → IsInByteOrder ks → (xs : List X)
@@ -101,10 +106,10 @@ module _ (same : Text → Text → Bool) (exact : (a b : Text) → same a b ≡ 
       where
         first-of : (k : Text) (ys : List X) → adds_or_none f (find (λ x. same (key x) k) ys) ≤ sum_by f (filter (λ x. same (key x) k) ys)
         first-of k [] = omega arith
-        first-of k (y ∷ ys) = by (same (key y) k) (first-of k ys)
+        first-of k (y ∷ ys) = first-of-cases (same (key y) k) (first-of k ys)
           where
-            by : (b : Bool) → adds_or_none f (find (λ x. same (key x) k) ys) ≤ sum_by f (filter (λ x. same (key x) k) ys)
+            first-of-cases : (b : Bool) → adds_or_none f (find (λ x. same (key x) k) ys) ≤ sum_by f (filter (λ x. same (key x) k) ys)
                 → adds_or_none f (cond b (Some y) (find (λ x. same (key x) k) ys))
                 ≤ sum_by f (cond b (y ∷ filter (λ x. same (key x) k) ys) (filter (λ x. same (key x) k) ys))
-            by true rest = omega (arith, sum_by-cons f y (filter (λ x. same (key x) k) ys))
-            by false rest = rest
+            first-of-cases true rest = omega (arith, sum_by-cons f y (filter (λ x. same (key x) k) ys))
+            first-of-cases false rest = rest

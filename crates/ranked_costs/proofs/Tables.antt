@@ -26,7 +26,7 @@ use Rattle.literal_table.specs.Tables as tables
 use Rattle.literal_table.specs.Tables.{Table}
 use Rattle.literal_table.specs.declared.block.Block.{Block}
 use Rattle.table_plan.specs.Numbers.{run, width, widths, block_from, blocks_from, edge_from, table_from}
-use Rattle.problem.specs.Limits.{size_of_recipe}
+use Rattle.problem.specs.Limits.{size_of_recipe, most_names}
 use Rattle.ranked_costs.proofs.Sums.{sum-le-in, sum-same, found}
 use Rattle.ranked_costs.proofs.Weights.{IsWithin}
 use Rattle.ranked_costs.proofs.Values.{texts-few}
@@ -34,6 +34,7 @@ use Rattle.ranked_costs.proofs.Values.{texts-few}
 -- ---- what is numbered one after another
 
 module _ {X Y : Type 0} (make : ℕ → X → Y) (wide : X → ℕ) where
+  -- an element of a run is made of one of the list
   pub run-from : (n : ℕ) (xs : List X) (y : Y) → Contains (run make wide n xs) y → (m : ℕ) × (x : X) × Contains xs x × (make m x ≡ y)
   run-from n [] y there = absurd (omega (arith, there.1))
   run-from n (x ∷ xs) y there = ⊎_elim
@@ -41,10 +42,12 @@ module _ {X Y : Type 0} (make : ℕ → X → Y) (wide : X → ℕ) where
       (λ later. let rest = run-from (n + wide x) xs y later in (rest.0, rest.1, has_later x xs rest.1 rest.2, rest.3))
       (first_or_later (make n x) (run make wide (n + wide x) xs) y there)
 
+  -- a run is as long as its list
   pub run-length : (n : ℕ) (xs : List X) → length (run make wide n xs) ≡ length xs
   run-length n [] = refl
   run-length n (x ∷ xs) = omega (arith, run-length (n + wide x) xs)
 
+  -- a bound for the sum over a run
   pub run-sum : (f : Y → ℕ) (g : X → ℕ) (n : ℕ) (xs : List X) → ((m : ℕ) (x : X) → Contains xs x → f (make m x) ≤ g x)
       → sum_by f (run make wide n xs) ≤ sum_by g xs
   run-sum f g n [] le = omega arith
@@ -55,14 +58,15 @@ module _ {X Y : Type 0} (make : ℕ → X → Y) (wide : X → ℕ) where
 
 filter_map-le : {X Y : Type 0} (f : X → Option Y) (xs : List X) → length (filter_map f xs) ≤ length xs
 filter_map-le f [] = omega arith
-filter_map-le {Y = Y} f (x ∷ xs) = by (filter_map-le f xs) (f x)
+filter_map-le {Y = Y} f (x ∷ xs) = filter_map-le-cases (filter_map-le f xs) (f x)
   where
-    by : length (filter_map f xs) ≤ length xs → (o : Option Y) → length (cons_option o (filter_map f xs)) ≤ length (x ∷ xs)
-    by rest None = omega arith
-    by rest (Some y) = omega arith
+    filter_map-le-cases : length (filter_map f xs) ≤ length xs → (o : Option Y) → length (cons_option o (filter_map f xs)) ≤ length (x ∷ xs)
+    filter_map-le-cases rest None = omega arith
+    filter_map-le-cases rest (Some y) = omega arith
 
 -- ---- what is found at names that stand once
 
+-- texts that test equal
 pub eq-same : (a b : Text) → bytes_eq a b ≡ true → a ≡ b
 eq-same a b = (bytes_decides a b).0
 
@@ -89,6 +93,7 @@ module _ (problem : Problem) (limits : IsWithin problem) (names : List Text) (ri
 
   -- ---- virtuals
 
+  -- few virtuals are asked for
   pub virtuals-few : length (asked_virtuals problem names) ≤ 2 ^ 28
   unfolding asked_virtuals
   virtuals-few =
@@ -109,15 +114,15 @@ module _ (problem : Problem) (limits : IsWithin problem) (names : List Text) (ri
 
 -- ---- the table
 
-pairs-few : (names : List Text) → length names ≤ 1024 → length (pairs_of names) ≤ 2 ^ 20
+pairs-few : (names : List Text) → length names ≤ most_names → length (pairs_of names) ≤ 2 ^ 20
 pairs-few names few =
     let each = sum-le-in (λ (parent : Text). length (map (λ child. let p : Text × Text = (parent, child) in p) names))
-    (λ parent. 1024) names
+    (λ parent. most_names) names
     (λ parent there. omega (arith, length-map names (λ child. let p : Text × Text = (parent, child) in p))) in
     omega (
       arith,
       each,
-      sum-same 1024 names,
+      sum-same most_names names,
       length-flat_map
           (λ (parent : Text). map (λ child. let p : Text × Text = (parent, child) in p) names) names,
     )
@@ -126,6 +131,7 @@ module _ (problem : Problem) (names : List Text) (n : ℕ) where
   abbrev pub Own : Table
   Own = table_from n (plan_of problem names)
 
+  -- a block of the own table is made of what may be chosen
   pub own-block : (b : Block) → Contains Own.blocks b → (m : ℕ) × (name : Text) × (block_from m (possible_at problem name) ≡ b)
   unfolding table_from plan_of
   own-block b there =
@@ -138,11 +144,13 @@ module _ (problem : Problem) (names : List Text) (n : ℕ) where
   names-in m [] = refl
   names-in m (name ∷ rest) = ap (λ more. name ∷ more) (names-in (m + width (possible_at problem name)) rest)
 
+  -- its names are those of the closure
   pub own-names : map tables.name_of Own.blocks ≡ names
   unfolding table_from plan_of
   own-names = names-in n names
 
-  pub own-edges : length names ≤ 1024 → length Own.edges ≤ 2 ^ 20
+  -- it has few edges
+  pub own-edges : length names ≤ most_names → length Own.edges ≤ 2 ^ 20
   unfolding table_from plan_of possible_edges
   own-edges few =
       let test = λ (pair : Text × Text). among (next_names problem pair.0) pair.1 in

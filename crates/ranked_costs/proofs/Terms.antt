@@ -17,7 +17,8 @@ use Rattle.cost_terms.specs.declared.weighted.Weighted.{Weighted}
 use Rattle.cost_terms.specs.Weighed.{top_said}
 use Rattle.cost_terms.specs.Differ.{differ_said, differ_terms, can_differ}
 use Rattle.cost_terms.specs.Governing.{Row, with_formulas, formulas_of, governing_rows, once as once_term, other_terms, unused_terms}
-use Rattle.cost_terms.specs.Terms.{edge_said, child_terms, edge_terms, edges_terms}
+use Rattle.literal_table.specs.Edges.{edge_there}
+use Rattle.cost_terms.specs.Terms.{child_terms, edge_terms, edges_terms}
 use Rattle.cost_terms.proofs.Lists.{sum-map, sum-flat}
 use Rattle.ranked_costs.proofs.Sums.{sum-le-in, sum-ones}
 
@@ -27,6 +28,7 @@ use Rattle.ranked_costs.proofs.Sums.{sum-le-in, sum-ones}
 ones-top : {X : Type 0} (said : X → Statement) (xs : List X) → top_said (map (λ x. once_term (said x)) xs) ≡ length xs
 ones-top said xs = sum-map (λ (t : Weighted). t.weight) (λ x. once_term (said x)) xs ∙ sum-ones xs
 
+-- values that are no defaults
 pub other-top : (r : Row) (values : Choices Text) → top_said (other_terms r values) ≤ length values
 other-top r values =
     let test = λ (c : Text × Lit). not (among r.0.default c.0) in
@@ -37,6 +39,7 @@ other-top r values =
       count_by-le-length test values,
     )
 
+-- defaults that are not used
 pub unused-top : (r : Row) (values : Choices Text) → top_said (unused_terms r values) ≤ length r.0.default
 unused-top r values =
     omega (
@@ -62,11 +65,13 @@ module _ (terms : Row → Choices Text → List Weighted) (f : VariantRow → �
             (λ (s : Row). f s.0) r rs,
       )
 
+  -- all definitions
   pub governing-top : (values : Choices Text) → ((r : Row) → top_said (terms r values) ≤ f r.0) → (rs : List Row)
       → top_said (flat_map (λ r. terms r values) (governing_rows rs)) ≤ sum_by (λ (r : Row). f r.0) rs
   governing-top values le rs =
       omega (arith, governing-sum values le rs, sum-flat (λ (t : Weighted). t.weight) (λ r. terms r values) (governing_rows rs))
 
+-- definitions with formulas are no more than the rows
 pub formulas-sum : (f : VariantRow → ℕ) (rows : List VariantRow) (fs : List Statement)
     → sum_by (λ (r : Row). f r.0) (with_formulas rows fs) ≤ sum_by f rows
 formulas-sum f [] fs = omega arith
@@ -77,23 +82,25 @@ formulas-sum f (row ∷ rows) (said ∷ fs) =
 
 -- ---- edges
 
+-- one edge adds one at most
 pub differ-top : {T : Type 0} (filled : T → Bool) (same : T → T → Bool) (there : Statement) (xs ys : Choices T)
     → top_said (differ_terms filled same there xs ys) ≤ 1
-differ-top filled same there xs ys = by (can_differ filled same xs ys)
+differ-top filled same there xs ys = differ-top-cases (can_differ filled same xs ys)
   where
-    by : (b : Bool) → top_said (cond b (record { weight = 1; formula = differ_said filled same there xs ys } ∷ []) []) ≤ 1
-    by true = omega arith
-    by false = omega arith
+    differ-top-cases : (b : Bool) → top_said (cond b (record { weight = 1; formula = differ_said filled same there xs ys } ∷ []) []) ≤ 1
+    differ-top-cases true = omega arith
+    differ-top-cases false = omega arith
 
 edge-top : (terms : Statement → Block → Block → List Weighted) → ((there : Statement) (a b : Block) → top_said (terms there a b) ≤ 1)
     → (table : Table) (b : Block) (e : EdgeLits) → top_said (edge_terms terms table b e) ≤ 1
-edge-top terms le table b e = by (bytes_eq e.parent b.name) (block_of table e.child)
+edge-top terms le table b e = edge-top-cases (bytes_eq e.parent b.name) (block_of table e.child)
   where
-    by : (c : Bool) (o : Option Block) → top_said (cond c (child_terms terms (edge_said e) b o) []) ≤ 1
-    by true None = omega arith
-    by true (Some child) = le (edge_said e) b child
-    by false o = omega arith
+    edge-top-cases : (c : Bool) (o : Option Block) → top_said (cond c (child_terms terms (edge_there e) b o) []) ≤ 1
+    edge-top-cases true None = omega arith
+    edge-top-cases true (Some child) = le (edge_there e) b child
+    edge-top-cases false o = omega arith
 
+-- so the edges
 pub edges-top : (terms : Statement → Block → Block → List Weighted) → ((there : Statement) (a b : Block) → top_said (terms there a b) ≤ 1)
     → (table : Table) (b : Block) → top_said (edges_terms terms table b) ≤ length table.edges
 edges-top terms le table b =
@@ -102,12 +109,13 @@ edges-top terms le table b =
 
 -- ---- providers
 
+-- numbered literals that pass a test
 pub passing-numbered : (test : Text → Bool) (m : ℕ) (xs : List Text) → length (passing test (numbered m xs)) ≡ length (filter test xs)
 passing-numbered test m [] = refl
-passing-numbered test m (x ∷ xs) = by (passing-numbered test (m + 1) xs) (test x)
+passing-numbered test m (x ∷ xs) = passing-numbered-cases (passing-numbered test (m + 1) xs) (test x)
   where
-    by : length (passing test (numbered (m + 1) xs)) ≡ length (filter test xs) → (b : Bool)
+    passing-numbered-cases : length (passing test (numbered (m + 1) xs)) ≡ length (filter test xs) → (b : Bool)
         → length (cond b ((x, lit_of m) ∷ passing test (numbered (m + 1) xs)) (passing test (numbered (m + 1) xs)))
         ≡ length (cond b (x ∷ filter test xs) (filter test xs))
-    by rest true = omega arith
-    by rest false = rest
+    passing-numbered-cases rest true = omega arith
+    passing-numbered-cases rest false = rest

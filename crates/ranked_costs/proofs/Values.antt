@@ -32,14 +32,15 @@ use Rattle.ranked_costs.proofs.Weights.{IsWithin, rows-in}
 
 length-insert : (texts : Texts) (text : Text) → length (with_text texts text) ≤ length texts + 1
 length-insert [] text = omega arith
-length-insert (x ∷ xs) text = by (length-insert xs text) (byte_cmp text x)
+length-insert (x ∷ xs) text = length-insert-cases (length-insert xs text) (byte_cmp text x)
   where
-    by : length (with_text xs text) ≤ length xs + 1 → (o : Ordering)
+    length-insert-cases : length (with_text xs text) ≤ length xs + 1 → (o : Ordering)
         → length (match_ordering o (text ∷ x ∷ xs) (x ∷ xs) (x ∷ with_text xs text)) ≤ length (x ∷ xs) + 1
-    by rest Less = omega arith
-    by rest Equal = omega arith
-    by rest Greater = omega arith
+    length-insert-cases rest Less = omega arith
+    length-insert-cases rest Equal = omega arith
+    length-insert-cases rest Greater = omega arith
 
+-- a set has no more texts than were put in
 pub texts-few : (texts words : Texts) → length (with_texts texts words) ≤ length texts + length words
 unfolding with_texts
 texts-few texts [] = omega arith
@@ -242,6 +243,7 @@ module _ (problem : Problem) (limits : IsWithin problem) where
       (λ e there. omega (arith, length-values e.variants)) in
       omega (arith, each, limits.database, length-flat_map (λ (e : Record). values_of e.variants) problem.database)
 
+  -- a variant has at most 2^29 values
   pub values-few : (name variant : Text) → length (variant_values problem name variant) ≤ 2 ^ 29
   values-few name variant =
       omega (

@@ -9,8 +9,8 @@ use Rattle.std.proofs.lemmas.Bool.{cases_Bool}
 use Rattle.std.proofs.lemmas.List.Sorted.{IsPermutation-refl, IsPermutation-sym, IsPermutation-trans, IsPermutation-cons, IsPermutation-middle, IsPermutation-append_right}
 use Rattle.graph_core.specs.Graphs.{Text}
 use Rattle.condition_rules.specs.Words.{among}
-use Rattle.literal_table.specs.Tables.{Table}
-use Rattle.ranked_costs.specs.Walks.{Walk, without, entered, leaving, visit, children_of, all_names, start, post_order}
+use Rattle.literal_table.specs.Tables.{Table, children_of}
+use Rattle.ranked_costs.specs.Walks.{Walk, without, entered, leaving, visit, all_names, start, post_order}
 
 -- what is taken out stood there
 taken : (name : Text) (names : List Text) → among names name ≡ true → IsPermutation names (name ∷ without name names)
@@ -27,7 +27,8 @@ taken name (n ∷ ns) there = elim (cases_Bool (bytes_eq name n)) [
 abbrev pub Keeps : Walk → Walk → Type 0
 Keeps w u = IsPermutation (w.left ++ w.rest) (u.left ++ u.rest)
 
-fold-keeps : (f : Walk → Text → Walk) → ((w : Walk) (name : Text) → Keeps w (f w name)) → (w : Walk) (names : List Text) → Keeps w (fold f w names)
+fold-keeps : (f : Walk → Text → Walk) → ((w : Walk) (name : Text) → Keeps w (f w name)) → (w : Walk) (names : List Text)
+    → Keeps w (fold f w names)
 fold-keeps f each w [] = IsPermutation-refl (w.left ++ w.rest)
 fold-keeps f each w (n ∷ ns) =
     let one = f w n in
@@ -38,10 +39,13 @@ fold-keeps f each w (n ∷ ns) =
 entered-left : (name : Text) (w u : Walk) → among w.rest name ≡ true → Keeps (entered name w) u → Keeps w (leaving name u)
 entered-left name w u there inside =
     let out : List Text = without name w.rest in
-    let first : IsPermutation (w.left ++ w.rest) (w.left ++ name ∷ out) = IsPermutation-append_right w.left w.rest (name ∷ out) (taken name w.rest there) in
+    let first : IsPermutation (w.left ++ w.rest) (w.left ++ name ∷ out) =
+    IsPermutation-append_right w.left w.rest (name ∷ out) (taken name w.rest there) in
     let front : IsPermutation (w.left ++ name ∷ out) (name ∷ (w.left ++ out)) = IsPermutation-middle w.left name out in
-    let within : IsPermutation (name ∷ (w.left ++ out)) (name ∷ (u.left ++ u.rest)) = IsPermutation-cons name (w.left ++ out) (u.left ++ u.rest) inside in
-    let back : IsPermutation (name ∷ (u.left ++ u.rest)) (u.left ++ name ∷ u.rest) = IsPermutation-sym (u.left ++ name ∷ u.rest) (name ∷ (u.left ++ u.rest)) (IsPermutation-middle u.left name u.rest) in
+    let within : IsPermutation (name ∷ (w.left ++ out)) (name ∷ (u.left ++ u.rest)) =
+    IsPermutation-cons name (w.left ++ out) (u.left ++ u.rest) inside in
+    let back : IsPermutation (name ∷ (u.left ++ u.rest)) (u.left ++ name ∷ u.rest) =
+    IsPermutation-sym (u.left ++ name ∷ u.rest) (name ∷ (u.left ++ u.rest)) (IsPermutation-middle u.left name u.rest) in
     let whole = IsPermutation-trans (w.left ++ w.rest) (w.left ++ name ∷ out) (u.left ++ name ∷ u.rest) first
     (IsPermutation-trans (w.left ++ name ∷ out) (name ∷ (w.left ++ out)) (u.left ++ name ∷ u.rest) front
     (IsPermutation-trans (name ∷ (w.left ++ out)) (name ∷ (u.left ++ u.rest)) (u.left ++ name ∷ u.rest) within back)) in
@@ -55,6 +59,7 @@ visit-keeps (suc fuel) table w name = elim (cases_Bool (among w.rest name)) [
   | inr gone ↦ rw gone (IsPermutation-refl (w.left ++ w.rest))
 ]
 
+-- each name of the table stands in the order once
 pub each-name : (table : Table) (roots : List Text) → IsPermutation (all_names table) (post_order table roots)
 unfolding post_order
 each-name table roots =

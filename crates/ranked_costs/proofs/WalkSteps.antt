@@ -13,7 +13,8 @@ use Rattle.literal_table.specs.declared.block.EdgeLits.{EdgeLits}
 use Rattle.ranked_costs.specs.Walks.{Walk, without, entered, leaving, visit, all_names, post_order}
 use Rattle.ranked_costs.specs.Steps.{walk_at, visit_all}
 
-next : (name n : Text) (ns : List Text) → bytes_eq name n ≡ false → position_or_len (bytes_eq name) (n ∷ ns) ≡ suc (position_or_len (bytes_eq name) ns)
+next : (name n : Text) (ns : List Text) → bytes_eq name n ≡ false
+    → position_or_len (bytes_eq name) (n ∷ ns) ≡ suc (position_or_len (bytes_eq name) ns)
 next name n ns other = rw other (omega arith)
 
 -- what stands nowhere has no place
@@ -29,7 +30,8 @@ absent name (n ∷ ns) h = elim (cases_Bool (bytes_eq name n)) [
 later-place : (name n : Text) (ns : List Text) → bytes_eq name n ≡ false → position_or_len (bytes_eq name) (n ∷ ns) < suc (length ns)
     → position_or_len (bytes_eq name) ns < length ns
 later-place name n ns other h =
-    let less : suc (position_or_len (bytes_eq name) ns) < suc (length ns) = subst (λ p. p < suc (length ns)) (next name n ns other) h in omega (arith, less)
+    let less : suc (position_or_len (bytes_eq name) ns) < suc (length ns) = subst (λ p. p < suc (length ns)) (next name n ns other) h in
+    omega (arith, less)
 
 present : (name : Text) (names : List Text) → position_or_len (bytes_eq name) names < length names → among names name ≡ true
 present name [] h = absurd (omega (arith, h))
@@ -75,7 +77,8 @@ visit-some (suc fuel) table w name some there =
     rw there (ap (λ k. leaving name (visit_all k table name (entered name w) table.edges)) less
     ∙ ap (leaving name) (all-edges fuel table name (entered name w) table.edges))
 
-module _ (table : Table) (name : Text) (rest left slice : List Text) (at len : ℕ) (told : slice ≡ rest) (is : at ≡ position_or_len (bytes_eq name) slice)
+module _ (table : Table) (name : Text) (rest left slice : List Text) (at len : ℕ) (told : slice ≡ rest)
+    (is : at ≡ position_or_len (bytes_eq name) slice)
     (counted : len ≡ length slice) where
   here : at ≡ position_or_len (bytes_eq name) rest
   here = is ∙ ap (position_or_len (bytes_eq name)) told
@@ -86,18 +89,22 @@ module _ (table : Table) (name : Text) (rest left slice : List Text) (at len : �
   within : at < len → position_or_len (bytes_eq name) rest < length rest
   within h = omega (arith, here, long, h)
 
+  -- a name that was entered is left alone
   pub not-there : (fuel : ℕ) → len ≤ at → walk_at rest left ≡ visit fuel table (walk_at rest left) name
   not-there fuel le = visit-none fuel table (walk_at rest left) name (absent name rest (omega (arith, here, long, le)))
 
+  -- one that is entered leaves the rest
   pub entering : (more : ℕ) (out : List Text) (edges : List EdgeLits) → out ≡ remove rest at
       → visit_all more table name (walk_at out left) edges ≡ visit_all more table name (entered name (walk_at rest left)) edges
   entering more out edges gone =
       let same : out ≡ without name rest = gone ∙ ap (remove rest) here ∙ removed name rest in
       ap (λ names. visit_all more table name (walk_at names left) edges) same
 
+  -- and comes behind its children
   pub returned : (fuel i : ℕ) (word : Text) (rest2 left2 new : List Text) (items : List EdgeLits) → (fuel ≡ 0 → ⊥) → at < len
       → word ≡ slice_index_or rest at word
-      → visit_all (fuel - 1) table name (walk_at rest2 left2) (drop i table.edges) ≡ visit_all (fuel - 1) table name (entered name (walk_at rest left)) table.edges
+      → visit_all (fuel - 1) table name (walk_at rest2 left2) (drop i table.edges) ≡ visit_all (fuel - 1) table name
+      (entered name (walk_at rest left)) table.edges
       → items ≡ table.edges → drop i items ≡ [] → new ≡ left2 ++ word ∷ []
       → walk_at rest2 new ≡ visit fuel table (walk_at rest left) name
   returned fuel i word rest2 left2 new items some inside w loop edges done n =
@@ -109,9 +116,11 @@ module _ (table : Table) (name : Text) (rest left slice : List Text) (at len : �
       ∙ ap (leaving name) walked ∙ visit-some fuel table (walk_at rest left) name some (present name rest (within inside))
 
 -- what the roots do not reach comes last
-pub ordered : (table : Table) (roots rest left rest2 left2 new : List Text) (blocks blocks2 : List Block) → blocks ≡ table.blocks → blocks2 ≡ table.blocks
+pub ordered : (table : Table) (roots rest left rest2 left2 new : List Text) (blocks blocks2 : List Block) → blocks ≡ table.blocks
+    → blocks2 ≡ table.blocks
     → rest ≡ map name_of blocks → left ≡ []
-    → walk_at rest2 left2 ≡ fold (visit (length blocks2 + 1) table) (walk_at rest left) roots → new ≡ left2 ++ rest2 → new ≡ post_order table roots
+    → walk_at rest2 left2 ≡ fold (visit (length blocks2 + 1) table) (walk_at rest left) roots → new ≡ left2 ++ rest2
+    → new ≡ post_order table roots
 unfolding post_order
 ordered table roots rest left rest2 left2 new blocks blocks2 b b2 r l walked n =
     let from : rest ≡ all_names table = r ∙ ap (map name_of) b in

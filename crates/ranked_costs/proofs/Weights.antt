@@ -27,10 +27,13 @@ place-le p xs = prefix_len-le-length (λ x. not (p x)) xs
 -- ---- the limits
 
 pub record IsWithin (problem : Problem) : Type 0 where
+  -- rows of recipes
   pub recipes : size_of_recipes problem.recipes ≤ 2 ^ 28
+  -- rows of settings
   pub settings : size_of_settings problem.settings ≤ 2 ^ 24
   pub database : size_of_database problem.database ≤ 2 ^ 26
 
+-- a problem within the limits
 pub within : (problem : Problem) → is_within_limits problem ≡ true → IsWithin problem
 unfolding is_within_limits
 within problem is =
@@ -59,6 +62,7 @@ module _ (problem : Problem) (limits : IsWithin problem) where
             (found-there (λ (r : Recipe). eq_by_cmp byte_cmp r.name name) problem.recipes recipe is).0,
       )
 
+  -- a field of one recipe
   pub rows-in : {R : Type 0} (field : Recipe → List R) (measure : List R → ℕ) → measure [] ≡ 0
       → ((recipe : Recipe) → measure (field recipe) ≤ size_of_recipe recipe) → (name : Text)
       → measure (rows field (recipe_at problem name)) ≤ 2 ^ 28
@@ -71,20 +75,22 @@ module _ (problem : Problem) (limits : IsWithin problem) where
 
   -- ---- weights
 
+  -- weights of deprecated versions; so with the others
   pub deprecated-few : (name version : Text) → cond (is_deprecated problem name version) 1 0 ≤ 2 ^ 28
-  deprecated-few name version = by (is_deprecated problem name version)
+  deprecated-few name version = deprecated-few-cases (is_deprecated problem name version)
     where
-      by : (b : Bool) → cond b 1 0 ≤ 2 ^ 28
-      by true = omega arith
-      by false = omega arith
+      deprecated-few-cases : (b : Bool) → cond b 1 0 ≤ 2 ^ 28
+      deprecated-few-cases true = omega arith
+      deprecated-few-cases false = omega arith
 
   pub version-few : (name version : Text) → version_weight problem name version ≤ 2 ^ 28
   unfolding version_weight
-  version-few name version = by (listed_in (entry_of problem name)) (find (λ row. bytes_eq row.version version) (versions_at problem name))
+  version-few name version = version-few-cases (listed_in (entry_of problem name))
+      (find (λ row. bytes_eq row.version version) (versions_at problem name))
     where
-      by : (lists : List (List Range)) (o : Option VersionRow) → place_or_number lists (versions_at problem name) o ≤ 2 ^ 28
-      by lists None = versions-few name
-      by lists (Some row) =
+      version-few-cases : (lists : List (List Range)) (o : Option VersionRow) → place_or_number lists (versions_at problem name) o ≤ 2 ^ 28
+      version-few-cases lists None = versions-few name
+      version-few-cases lists (Some row) =
           omega (arith, versions-few name, count_by-le-length (λ other. is_lt (row_cmp lists other row)) (versions_at problem name))
 
   pub os-few : (name : Text) → os_weight problem name ≤ 2 ^ 28
@@ -99,12 +105,12 @@ module _ (problem : Problem) (limits : IsWithin problem) where
       omega (arith, limits.settings, place-le (λ entry. same_compiler entry.compiler compiler) problem.settings.compilers)
 
   pub provider-few : (p : Text × Text) → provider_weight problem p ≤ 2 ^ 24
-  provider-few p = by (find (λ q. bytes_eq q.0 p.0) problem.settings.providers) refl
+  provider-few p = provider-few-cases (find (λ q. bytes_eq q.0 p.0) problem.settings.providers) refl
     where
-      by : (o : Option (Text × List Text)) → find (λ q. bytes_eq q.0 p.0) problem.settings.providers ≡ o
+      provider-few-cases : (o : Option (Text × List Text)) → find (λ q. bytes_eq q.0 p.0) problem.settings.providers ≡ o
           → position_or_len (bytes_eq p.1) (packages_in o) ≤ 2 ^ 24
-      by None is = omega arith
-      by (Some q) is = omega (
+      provider-few-cases None is = omega arith
+      provider-few-cases (Some q) is = omega (
         arith,
         limits.settings,
         place-le (bytes_eq p.1) q.1,

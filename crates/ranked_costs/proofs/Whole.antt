@@ -11,6 +11,7 @@ use Rattle.variant_values.specs.Texts.{byte_cmp, IsInByteOrder}
 use Rattle.keyed_lists.proofs.RiseLaws.{rises_decides}
 use Rattle.graph_core.specs.Graphs.{Text}
 use Rattle.problem.specs.Problems.{Problem, variants_at}
+use Rattle.problem.specs.Limits.{most_names}
 use Rattle.possible_closure.proofs.Lists.{found-there}
 use Rattle.literal_table.specs.Tables.{name_of, block_of}
 use Rattle.literal_table.specs.declared.block.Block.{Block}
@@ -36,7 +37,8 @@ all-joined p (x ∷ xs) ys front back =
 abbrev is_small : List Weighted → Bool
 is_small terms = ltb (top_said terms) (2 ^ 63)
 
-module _ (problem : Problem) (limits : IsWithin problem) (names : List Text) (rising : IsInByteOrder names) (few : length names ≤ 1024)
+module _ (problem : Problem) (limits : IsWithin problem) (names : List Text) (rising : IsInByteOrder names)
+    (few : length names ≤ most_names)
     (n : ℕ) (held : Held)
     (order : List Text) (ordered : IsPermutation (map name_of (Own problem names n).blocks) order) where
   abbrev Rows : Text → ℕ
@@ -48,11 +50,12 @@ module _ (problem : Problem) (limits : IsWithin problem) (names : List Text) (ri
 
   part-bounded : (built : Bool) (terms : Block → List Weighted) → Bounded problem limits names rising few n held terms → (name : Text)
       → top_said (part_terms built terms (block_of (Own problem names n) name)) ≤ Rows name * 2 ^ 29 + 2 ^ 52
-  part-bounded built terms le name = by (block_of (Own problem names n) name) refl
+  part-bounded built terms le name = part-bounded-cases (block_of (Own problem names n) name) refl
     where
-      by : (o : Option Block) → block_of (Own problem names n) name ≡ o → top_said (part_terms built terms o) ≤ Rows name * 2 ^ 29 + 2 ^ 52
-      by None is = omega arith
-      by (Some b) is =
+      part-bounded-cases : (o : Option Block) → block_of (Own problem names n) name ≡ o
+          → top_said (part_terms built terms o) ≤ Rows name * 2 ^ 29 + 2 ^ 52
+      part-bounded-cases None is = omega arith
+      part-bounded-cases (Some b) is =
           let there = (found-there (λ (c : Block). eq_by_cmp byte_cmp c.name name) (Own problem names n).blocks b is).0 in
           let here = subst (λ key. top_said (terms b) ≤ Rows key * 2 ^ 29 + 2 ^ 52)
           (found-named name_of (Own problem names n).blocks name b is) (le b there) in
@@ -68,7 +71,8 @@ module _ (problem : Problem) (limits : IsWithin problem) (names : List Text) (ri
       let rows : sum_by Rows order ≤ 2 ^ 28 =
       subst (λ k. k ≤ 2 ^ 28) (sym (in-order Rows))
       (rows-shared problem limits names rising (λ recipe. recipe.variants) (λ recipe. omega arith)) in
-      let size : length order ≤ 1024 = subst (λ k. k ≤ 1024) (sym (sym (sum-ones order) ∙ in-order (λ name. 1) ∙ sum-ones names)) few in
+      let size : length order ≤ most_names = subst (λ k. k ≤ most_names)
+      (sym (sym (sum-ones order) ∙ in-order (λ name. 1) ∙ sum-ones names)) few in
       omega (
         arith,
         each,
@@ -104,6 +108,7 @@ module _ (problem : Problem) (limits : IsWithin problem) (names : List Text) (ri
       (list_all is_small (map (number_terms false (Own problem names n) order) criteria))
       (number-small true presence_terms (presence problem limits names rising few n held)) (numbers-small false criteria all))
 
+-- within the limits all sums are small
 pub limits-keep-small : LimitsKeepSmall
 limits-keep-small problem names n held order limits closed few ordered =
     costs-small problem (within problem limits) names ((rises_decides byte_cmp nat_list_cmp_total names).0 closed.rising) few n

@@ -2,11 +2,11 @@
 pub mod Walks
 pub mod Steps
 pub mod Small
-pub mod OfProblemLimits
-pub mod Least
+pub mod CostBits
 pub mod Given
 pub mod Ranked
 pub mod Built
-pub mod OfClosureEncoding
-pub mod OfGraphTerms
 pub mod OfCostTerms
+pub mod OfValidModels
+pub mod OfTablePlan
+pub mod OfTermBuilder

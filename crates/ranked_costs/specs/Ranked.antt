@@ -9,24 +9,22 @@ use Rattle.graph_core.specs.Graphs.{Text}
 use Rattle.problem.specs.Problems.{Problem}
 use Rattle.problem.specs.Closure.{IsClosure}
 use Rattle.graph_rules.specs.Costs.{vector}
-use Rattle.graph_rules.specs.Optimal.{IsOptimal, HasNoGraph}
-use Rattle.literal_table.specs.Tables.{Table, name_of}
+use Rattle.literal_table.specs.Tables.{name_of}
 use Rattle.criteria_totals.specs.Spellings.{bits_for}
 use Rattle.criteria_totals.specs.Totals.{values_at}
-use Rattle.graph_levels.specs.Bits.{IsLeastModel}
-use Rattle.valid_models.specs.OfTablePlan.Kept.{have_values}
+use Rattle.table_plan.specs.Kept.{have_values}
 use Rattle.valid_models.specs.OfGraphDecoding.Decoding.{decode}
-use Rattle.valid_models.specs.OfGraphEncoding.Formulas.{MetBelow}
-use Rattle.valid_models.specs.OfGraphEncoding.Encodings.{IsValid}
-use Rattle.valid_models.specs.OfGraphEncoding.Best.{values_for, RanksGraphs}
+use Rattle.graph_encoding.specs.Formulas.{MetBelow}
+use Rattle.graph_encoding.specs.Encodings.{IsValid}
+use Rattle.graph_encoding.specs.Best.{values_for, RanksGraphs}
 use Rattle.valid_models.specs.Tables.{table_for, size_for}
 use Rattle.valid_models.specs.Targets.{conditions_of, targets_of}
 use Rattle.valid_models.specs.Joined.{Places, IsPlaced}
 use Rattle.valid_models.specs.Closures.{closure_formulas, closure_clauses}
 use Rattle.cost_terms.specs.Ranges.{IsTableBelow}
-use Rattle.ranked_costs.specs.OfProblemLimits.Limits.{is_within_limits}
+use Rattle.problem.specs.Limits.{is_within_limits, most_names}
 use Rattle.ranked_costs.specs.Small.{are_small}
-use Rattle.ranked_costs.specs.Least.{AreCostBits}
+use Rattle.ranked_costs.specs.CostBits.{AreCostBits}
 use Rattle.term_builder.specs.Held.{held_in}
 use Rattle.ranked_costs.specs.Given.{held_for}
 use Rattle.ranked_costs.specs.Built.{terms_for}
@@ -47,7 +45,7 @@ ClosureInRange = (problem : Problem) (names : List Text) (place : Places) → Is
 -- within the limits the weights of each of the 31 lists of terms add up to less than 2^63
 abbrev pub ClosureSmall : Type 0
 ClosureSmall = (problem : Problem) (names : List Text) (values : List Defined) (order : List Text) → is_within_limits problem ≡ true
-    → IsClosure problem names → length names ≤ 1024 → IsPermutation (map name_of (table_for problem names).blocks) order
+    → IsClosure problem names → length names ≤ most_names → IsPermutation (map name_of (table_for problem names).blocks) order
     → are_small (terms_for problem (table_for problem names) values order) ≡ true
 
 -- the bits of costs rank the valid graphs by their cost vectors, whatever the order of the names
@@ -70,15 +68,3 @@ ClosureSpells = (problem : Problem) (names : List Text) (place : Places) (new : 
     (held_in (held_for problem (table_for problem names) (closure_values problem names place))) order
     → (v : ℕ → Bool) → Meets (λ d. true) v new.entries
     → bits_for tops (vector problem (decode v (table_for problem names))) ≡ Some (values_at v bits)
-
--- a model of all clauses with the least bits decodes to an optimal graph
-abbrev pub LeastIsOptimal : Type 0
-LeastIsOptimal = (problem : Problem) (t : Table) (new : Clauses) (bits : List Lit)
-    → RanksGraphs new (λ v. decode v t) (IsValid problem) bits (vector problem)
-    → (v : ℕ → Bool) → Meets (λ d. true) v new.entries → IsLeastModel new bits (λ d. true) v → IsOptimal problem (decode v t)
-
--- where no assignment meets all clauses, no graph is valid
-abbrev pub NoModelNoGraph : Type 0
-NoModelNoGraph = (problem : Problem) (t : Table) (new : Clauses) (bits : List Lit)
-    → RanksGraphs new (λ v. decode v t) (IsValid problem) bits (vector problem)
-    → ((v : ℕ → Bool) → Meets (λ d. true) v new.entries → ⊥) → HasNoGraph problem

@@ -5,7 +5,7 @@ use Rattle.std.specs.List.Sorted.{IsPermutation}
 use Rattle.graph_core.specs.Graphs.{Text}
 use Rattle.problem.specs.Problems.{Problem}
 use Rattle.problem.specs.Closure.{IsClosure}
-use Rattle.problem.specs.Limits.{is_within_limits}
+use Rattle.problem.specs.Limits.{is_within_limits, most_names}
 use Rattle.table_plan.specs.Plans.{plan_of}
 use Rattle.literal_table.specs.Tables.{name_of}
 use Rattle.table_plan.specs.Numbers.{table_from}
@@ -21,6 +21,6 @@ are_small lists = list_all (λ terms. nat_lt (top_said terms) (2 ^ 63)) lists
 -- within the limits, the terms of the 31 numbers are small over a problem's own table, whatever formulas its conditions have
 abbrev pub LimitsKeepSmall : Type 0
 LimitsKeepSmall = (problem : Problem) (names : List Text) (n : ℕ) (held : Held) (order : List Text)
-    → is_within_limits problem ≡ true → IsClosure problem names → length names ≤ 1024
+    → is_within_limits problem ≡ true → IsClosure problem names → length names ≤ most_names
     → IsPermutation (map name_of (table_from n (plan_of problem names)).blocks) order
     → are_small (cost_terms problem (table_from n (plan_of problem names)) held order) ≡ true

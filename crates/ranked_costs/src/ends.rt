@@ -1,4 +1,4 @@
-// Where numbers end among their bits.
+//! Where numbers end among their bits.
 ghost use Rattle.std.specs.Prelude.{◌≡◌, IfOk};
 ghost use Rattle.ranked_costs.specs.Built.{width_of, ends_from};
 
@@ -12,8 +12,8 @@ fn width(top: u64) -> usize
     if top <= 64 { top as usize } else { size(top) }
 }
 
-/// The place behind the last bit of each number, where the numbers' bits stand one behind another and
-/// these are their greatest values: what a search by numbers takes.
+/// The place behind the last bit of each number, where the numbers' bits stand one behind another
+/// and these are their greatest values: what a search by numbers takes.
 pub fn number_ends(alloc: Global, tops: &[u64]) -> Result<Vec<usize>, AllocError>
     ensures { IfOk result (λ ends. ends.items ≡ ends_from 0 tops.now) }
 {

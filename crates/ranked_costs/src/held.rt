@@ -1,4 +1,4 @@
-// The conditions of definitions of variants, out of those of all directives.
+//! The conditions of definitions of variants, out of those of all directives.
 ghost use Rattle.std.specs.Prelude.{◌≡◌, take, drop, length, map, IfOk};
 ghost use Rattle.problem.specs.Problems.{variants_at};
 ghost use Rattle.ranked_costs.specs.Given.{passed, held_for};
@@ -53,9 +53,9 @@ fn held_row(
     Ok((name.duplicate(alloc)?, List::from_vec(conditions)))
 }
 
-/// For each name of the table, the values of the conditions of its definitions of variants, where the
-/// values are those of all directives, name by name: of each package the definitions of variants come
-/// first, then dependencies, conflicts and requirements.
+/// For each name of the table, the values of the conditions of its definitions of variants, where
+/// the values are those of all directives, name by name: of each package the definitions of
+/// variants come first, then dependencies, conflicts and requirements.
 pub(crate) fn held_for(
     alloc: Global,
     problem: &Problem,

@@ -1,10 +1,10 @@
-// The totals of the costs.
+//! The totals of the costs.
 ghost use Rattle.std.specs.Prelude.{◌≡◌, true, IfOk};
 ghost use Rattle.clause_formulas.specs.Drafts.{value_at};
 ghost use Rattle.clause_circuits.specs.Growth.{Extends};
 ghost use Rattle.cost_terms.specs.Ranges.{IsTableBelow};
-ghost use Rattle.ranked_costs.specs.Least.{AreCostBits};
-ghost use Rattle.valid_models.specs.OfGraphEncoding.Formulas.{MetBelow};
+ghost use Rattle.ranked_costs.specs.CostBits.{AreCostBits};
+ghost use Rattle.graph_encoding.specs.Formulas.{MetBelow};
 ghost use Rattle.term_builder.specs.Held.{held_in};
 ghost use Rattle.ranked_costs.specs.Given.{held_for};
 ghost use Rattle.ranked_costs.specs.Small.{are_small};
@@ -23,9 +23,9 @@ use term_builder::cost_terms;
 
 /// Bits of the 31 numbers of the cost vector, the first to compare first, behind the clauses.
 ///
-/// `values` are those of the conditions of all directives of the table's packages, name by name, and
-/// `order` has the names of the table in any order. The weights of each number add up to less than 2^63, as those of
-/// each problem within the limits do (`costs_laws`).
+/// `values` are those of the conditions of all directives of the table's packages, name by name,
+/// and `order` has the names of the table in any order. The weights of each number add up to less
+/// than 2^63, as those of each problem within the limits do (`costs_laws`).
 pub fn rank_costs(
     alloc: Global,
     clauses: &mut ClauseList,

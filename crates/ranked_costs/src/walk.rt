@@ -32,6 +32,8 @@ fn depth(edge: &EdgeLits, parent: &str, more: usize) -> usize
     }
 }
 
+// Enters a name that is still to be entered, visits what its edges lead to, and leaves it: `rest`
+// loses it, and `left` has it behind its children. Calls go no deeper than `fuel`.
 fn visit(
     alloc: Global,
     fuel: usize,

@@ -8,12 +8,15 @@ use Rattle.std.proofs.lemmas.List.FromFn.{length-map-range_with_len, get_or-map-
 use Rattle.std.proofs.lemmas.Nat.Bits.{shr_and_one, bit_at-zero, bit_at_set_same, bit_at_set_other}
 use Rattle.reachability.specs.Bits.{is_set, bits_of}
 
+-- so many bits are read as were asked for
 pub length-bits_of : (len : ℕ) (words : List ℕ) → length (bits_of len words) ≡ len
 length-bits_of len words = length-map-range_with_len (is_set words) 0 len
 
+-- a bit of the row is the bit of its word
 pub bits_at : (len : ℕ) (words : List ℕ) (place : ℕ) (d : Bool) → place < len → get_or (bits_of len words) place d ≡ is_set words place
 bits_at len words place d lt = get_or-map-range_with_len (is_set words) 0 len place place d lt (omega arith)
 
+-- words of 0 are a row without a bit
 pub no_bits : (len count : ℕ) → len < 64 * count → bits_of len (replicate count 0) ≡ replicate len false
 no_bits len count room =
     ext_get_or false (bits_of len (replicate count 0)) (replicate len false) (length-bits_of len (replicate count 0)
@@ -27,6 +30,7 @@ no_bits len count room =
 abbrev pub with_bit : ℕ → ℕ → ℕ
 with_bit word bit = bit_or word (1 * 2 ^ bit % 2 ^ 64)
 
+-- a bit set in its word is that bit set in the row
 pub one_more_bit : (len : ℕ) (words : List ℕ) (place : ℕ) → place < len → place / 64 < length words
     → bits_of len (set words (place / 64) (with_bit (get_or words (place / 64) 0) (place % 64))) ≡ set (bits_of len words) place true
 one_more_bit len words place lt word =
@@ -65,10 +69,12 @@ one_more_bit len words place lt word =
 -- ---- words that are seen as a list
 
 module _ (len : ℕ) (words : List ℕ) (now : List Bool) (seen : bits_of len words ≡ now) where
+  -- the row has as many bits as its length says
   pub length-seen : len ≡ length now
   length-seen = sym (length-bits_of len words) ∙ ap length seen
 
   module _ (place : ℕ) (lt : place < length now) where
+    -- the word of a place is one of the words
     pub word_within : (count : ℕ) → len < 64 * count → place / 64 < count
     word_within count room = let is : len ≡ length now = length-seen in omega arith
 
@@ -76,12 +82,14 @@ module _ (len : ℕ) (words : List ℕ) (now : List Bool) (seen : bits_of len wo
       word_is : word ≡ get_or words (place / 64) 0
       word_is = get_or_read words (place / 64) word within read 0
 
+      -- what is read of a word is the bit at the place
       pub bit_read : eqb (bit_and (word / 2 ^ (place % 64)) 1) 1 ≡ get_or now place false
       bit_read =
           ap (λ n. eqb n 1) (shr_and_one word (place % 64) ∙ ap (λ w. bit_at w (place % 64)) word_is)
           ∙ sym (bits_at len words place false (omega (arith, lt, length-seen)))
           ∙ ap (λ l. get_or l place false) seen
 
+      -- a word with its bit set is the row with that place set
       pub bit_written : bits_of len (set words (place / 64) (with_bit word (place % 64))) ≡ set now place true
       bit_written =
           rw word_is (one_more_bit len words place (omega (arith, lt, length-seen)) within)

@@ -4,18 +4,21 @@ use Rattle.std.specs.List.{count_by}
 use Rattle.std.proofs.lemmas.List.Sums.{sum_by-cons}
 
 module _ {X : Type 0} where
+  -- a list has its first element
   pub has_first : (x : X) (xs : List X) → Contains (x ∷ xs) x
   has_first x xs = (0, omega arith, refl)
 
+  -- a list has what stands behind its first element
   pub has_later : (x : X) (xs : List X) (q : X) → Contains xs q → Contains (x ∷ xs) q
   has_later x xs q h = (suc h.0, omega arith, h.2)
 
+  -- what a list has is its first element or stands behind it
   pub first_or_later : (x : X) (xs : List X) (q : X) → Contains (x ∷ xs) q → (x ≡ q) ⊎ Contains xs q
-  first_or_later x xs q h = go h.0 h.1 h.2
+  first_or_later x xs q h = at_place h.0 h.1 h.2
     where
-      go : (k : ℕ) → k < length (x ∷ xs) → get_or (x ∷ xs) k q ≡ q → (x ≡ q) ⊎ Contains xs q
-      go zero lt e = inl e
-      go (suc k) lt e = inr (k, omega arith, e)
+      at_place : (k : ℕ) → k < length (x ∷ xs) → get_or (x ∷ xs) k q ≡ q → (x ≡ q) ⊎ Contains xs q
+      at_place zero lt e = inl e
+      at_place (suc k) lt e = inr (k, omega arith, e)
 
   -- ---- counts by two tests, the first of which implies the second
 
@@ -27,6 +30,7 @@ module _ {X : Type 0} where
     tested : (a b : Bool) → a ≡ b → cond a 1 0 ≡ cond b (suc 0) 0
     tested a b e = ap (λ t. cond t 1 0) e
 
+    -- no more pass the first test
     pub count_le : (xs : List X) → count_by p xs ≤ count_by q xs
     count_le [] = omega arith
     count_le (x ∷ xs) =
@@ -39,6 +43,7 @@ module _ {X : Type 0} where
               (q x) (implies x),
         )
 
+    -- fewer pass the first test, where an element passes the second alone
     pub count_less : (xs : List X) (x : X) → Contains xs x → p x ≡ false → q x ≡ true → count_by p xs < count_by q xs
     count_less [] x h p_no q_yes = absurd (omega (arith, h.1))
     count_less (y ∷ ys) x h p_no q_yes =
@@ -52,6 +57,7 @@ module _ {X : Type 0} where
 
   -- ---- an element of the least number
 
+  -- some element of a list that is not empty has the least number
   pub least : (f : X → ℕ) (x : X) (xs : List X) → (m : X) × Contains (x ∷ xs) m × ((y : X) → Contains (x ∷ xs) y → f m ≤ f y)
   least f x [] =
       (x, has_first x [], λ y h. ⊎_elim (λ e. rw e (omega arith)) (λ later. absurd (omega (arith, later.1))) (first_or_later x [] y h))
@@ -75,11 +81,13 @@ module _ {X : Type 0} where
       cases_le : (a b : ℕ) → (a ≤ b) ⊎ (b < a)
       cases_le a b = grind arith
 
+-- the image of an element is one of the images
 pub has_image : {X Y : Type 0} (f : X → Y) (xs : List X) (x : X) → Contains xs x → Contains (map f xs) (f x)
 has_image f [] x h = absurd (omega (arith, h.1))
 has_image f (y ∷ ys) x h = ⊎_elim (λ e. subst (Contains (map f (y ∷ ys))) (ap f e) (has_first (f y) (map f ys)))
     (λ later. has_later (f y) (map f ys) (f x) (has_image f ys x later)) (first_or_later y ys x h)
 
+-- each of the images is that of an element
 pub image_of : {X Y : Type 0} (f : X → Y) (xs : List X) (y : Y) → Contains (map f xs) y → (x : X) × Contains xs x × (f x ≡ y)
 image_of f [] y there = absurd (omega (arith, there.1))
 image_of f (x ∷ xs) y there = ⊎_elim

@@ -11,6 +11,7 @@ use Rattle.reachability.proofs.PathLaws.{one_arc, arc_before, along, carried}
 
 -- ---- heads
 
+-- without arcs no place has a head
 pub no_heads : (n : ℕ) → AreHeads n [] (replicate n [])
 no_heads n = record {
   each = length-replicate n [];
@@ -21,6 +22,7 @@ no_heads n = record {
     empty n p = ⊎_elim (λ lt. get_or-replicate n p [] [] lt)
         (λ le. get_or_past (replicate n []) p [] (omega (arith, le, length-replicate {A = List ℕ} n []))) (cases_lt p n)
 
+-- one arc more is one head more of its tail
 pub one_more_arc : (n : ℕ) (arcs : List (ℕ × ℕ)) (heads : List (List ℕ)) (a b : ℕ) → a < n → AreHeads n arcs heads
     → AreHeads n (arcs ++ (a, b) ∷ []) (set heads a (get_or heads a [] ++ b ∷ []))
 one_more_arc n arcs heads a b lt are = record {
@@ -47,6 +49,7 @@ one_more_arc n arcs heads a b lt are = record {
       (cases_eq p a);
 }
 
+-- heads are places where the ends of all arcs are
 pub heads_within : (n : ℕ) (arcs : List (ℕ × ℕ)) (heads : List (List ℕ)) → All (λ arc. (arc.0 < n) × (arc.1 < n)) arcs
     → AreHeads n arcs heads → AreWithin heads
 heads_within n arcs heads within are k d lt j e in_list =
@@ -58,6 +61,7 @@ heads_within n arcs heads within are k d lt j e in_list =
 -- ---- keys and places
 
 module _ {A B : Type 0} (R : A → B → Type 0) where
+  -- each element of the first list stands beside one of the second
   pub zip_to : (xs : List A) (ys : List B) → AllZip R xs ys → (x : A) → Contains xs x → (y : B) × R x y × Contains ys y
   zip_to [] ys all x there = absurd (omega (arith, there.1))
   zip_to (z ∷ zs) [] all x there = elim all [ ]
@@ -66,6 +70,7 @@ module _ {A B : Type 0} (R : A → B → Type 0) where
       (λ later. let rest = zip_to zs ys all.1 x later in (rest.0, rest.1, has_later y ys rest.0 rest.2))
       (first_or_later z zs x there)
 
+  -- each element of the second list stands beside one of the first
   pub zip_from : (xs : List A) (ys : List B) → AllZip R xs ys → (y : B) → Contains ys y → (x : A) × R x y × Contains xs x
   zip_from xs [] all y there = absurd (omega (arith, there.1))
   zip_from [] (z ∷ zs) all y there = elim all [ ]
@@ -74,6 +79,7 @@ module _ {A B : Type 0} (R : A → B → Type 0) where
       (λ later. let rest = zip_from xs zs all.1 y later in (rest.0, rest.1, has_later x xs rest.0 rest.2))
       (first_or_later z zs y there)
 
+  -- lists that stand beside each other do so with one pair more
   pub zip_push : (xs : List A) (ys : List B) (x : A) (y : B) → AllZip R xs ys → R x y → AllZip R (xs ++ x ∷ []) (ys ++ y ∷ [])
   zip_push [] [] x y all r = (r, tt)
   zip_push [] (z ∷ zs) x y all r = elim all [ ]
@@ -95,10 +101,12 @@ module _ {K : Type 0} (keys : List K) (arcs : List (K × K)) (numbers : List (�
   one_key : (i : ℕ) (p q : K) → IsAt keys p i → IsAt keys q i → p ≡ q
   one_key i p q a b = sym a.1 ∙ get_or_default keys i p q a.0 ∙ b.1
 
+  -- the numbers of arcs are places of keys
   pub numbers_within : All (λ number. (number.0 < length keys) × (number.1 < length keys)) numbers
   numbers_within k d lt = let w = zip_from _ arcs numbers numbered (get_or numbers k d) (Contains-get_or numbers k d lt) in
       (w.1.0.0, w.1.1.0)
 
+  -- paths between places are the paths between their keys
   pub number_path : AreOnce keys → (p q : K) (i j : ℕ) → IsAt keys p i → IsAt keys q j → Path (HasArc numbers) i j ↔ Path (HasArc arcs) p q
   number_path once p q i j at_i at_j = (
     λ path. carried_by (HasArc numbers) (HasArc arcs) (λ i p. IsAt keys p i) one_key

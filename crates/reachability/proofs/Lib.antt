@@ -7,3 +7,4 @@ pub mod SpreadLaws
 pub mod TableLaws
 pub mod SearchLaws
 pub mod PartLaws
+pub mod TextPlaces

@@ -23,6 +23,7 @@ module _ {K : Type 0} (Joins : K → K → Type 0) where
       front
 
 module _ {K : Type 0} (same : K → K → Bool) (exact : (x y : K) → Decides (same x y) (x ≡ y)) where
+  -- the test tells whether two keys are one, or have paths both ways
   pub joined_decides : (arcs : List (K × K)) (p q : K) → Decides (joined same arcs p q) (AreTogether (HasArc arcs) p q)
   unfolding joined
   joined_decides arcs p q = Decides-or _ _ (exact p q)
@@ -36,6 +37,7 @@ module _ {K : Type 0} (same : K → K → Bool) (exact : (x y : K) → Decides (
     joined_back : (p q : K) → joined same arcs p q ≡ true → joined same arcs q p ≡ true
     joined_back p q both = (joined_decides arcs q p).1 (together_back (HasArc arcs) p q ((joined_decides arcs p q).0 both))
 
+    -- keys of one component have as many members
     pub members_alike : (keys : List K) (p q : K) → joined same arcs p q ≡ true → members same arcs keys p ≡ members same arcs keys q
     members_alike keys p q both =
         let up = count_le (λ k. joined same arcs k p) (λ k. joined same arcs k q) (λ k e. joined_on k p q e both) keys in
@@ -52,6 +54,7 @@ module _ {K : Type 0} (same : K → K → Bool) (exact : (x y : K) → Decides (
     not_itself p = and_right (joined same possible p p) (reaches same chosen p p)
         (false_from_ne_true _ (λ e. acyclic p ((reaches_decides same exact chosen p p).0 e)))
 
+    -- ranks rise along a chosen arc with a way back
     pub rank_rises : (keys : List K) (p q : K) → Contains keys p → HasArc chosen p q → joined same possible p q ≡ true
         → rank same possible chosen keys p < rank same possible chosen keys q
     rank_rises keys p q there arc both =
@@ -65,6 +68,7 @@ module _ {K : Type 0} (same : K → K → Bool) (exact : (x y : K) → Decides (
         keys p there (not_itself p) (and_from (joined same possible p q) (reaches same chosen p q) both
         ((reaches_decides same exact chosen p q).1 last))
 
+    -- a rank is below the number of the component's members
     pub rank_below : (keys : List K) (q : K) → Contains keys q → rank same possible chosen keys q < members same possible keys q
     rank_below keys q there =
         count_less (IsBefore q) (λ k. joined same possible k q)

@@ -11,6 +11,7 @@ use Rattle.reachability.proofs.PathLaws.{one_arc, along, two_paths, last_arc}
 
 -- ---- one more mark
 
+-- a place that is marked is one of the row
 pub marked_place : (marks : List Bool) (k : ℕ) → IsMarked marks k → k < length marks
 marked_place marks k marked = ⊎_elim (λ lt. lt) (λ past. absurd (false≢true (sym (get_or_past marks k false past) ∙ marked)))
     (cases_lt k (length marks))
@@ -26,6 +27,7 @@ mark_kept marks k x marked = ⊎_elim
 mark_cases : (marks : List Bool) (k x : ℕ) → IsMarked (set marks k true) x → IsMarked marks x ⊎ (x ≡ k)
 mark_cases marks k x marked = ⊎_elim (λ e. inr e) (λ other. inl (sym (get_or-set_other marks k x true false other) ∙ marked)) (cases_eq x k)
 
+-- a row without marks has none
 pub no_marks : (n k : ℕ) → IsMarked (replicate n false) k → ⊥
 no_marks n k marked =
     let lt : k < n = omega (arith, marked_place (replicate n false) k marked, length-replicate n false) in
@@ -33,6 +35,7 @@ no_marks n k marked =
 
 -- ---- a visit
 
+-- no places visited change nothing
 pub visits_none : (base : ℕ) (marks : List Bool) (waiting : List ℕ) → Visits base [] marks marks waiting waiting
 visits_none base marks waiting = record {
   each = refl;
@@ -46,6 +49,7 @@ visits_none base marks waiting = record {
 
 module _ (base : ℕ) (places : List ℕ) (marks new : List Bool) (waiting now : List ℕ)
     (so_far : Visits base places marks new waiting now) (q : ℕ) where
+  -- a visit of a marked place changes nothing
   pub visits_seen : IsMarked new (base + q) → Visits base (places ++ q ∷ []) marks new waiting now
   visits_seen seen = record {
     each = so_far.each;
@@ -59,6 +63,7 @@ module _ (base : ℕ) (places : List ℕ) (marks new : List Bool) (waiting now :
     work = so_far.work;
   }
 
+  -- a visit of a place that is not marked marks it and lets it wait
   pub visits_new : base + q < length new → get_or new (base + q) false ≡ false
       → Visits base (places ++ q ∷ []) marks (set new (base + q) true) waiting (now ++ q ∷ [])
   visits_new lt unmarked =
@@ -104,6 +109,7 @@ head_within heads p q within arc = ⊎_elim
     (cases_lt p (length heads))
 
 module _ (heads : List (List ℕ)) (from base : ℕ) (within : AreWithin heads) (before : List Bool) where
+  -- a search begins with its start waiting and nothing marked
   pub starts : from < length heads → ((q : ℕ) → q < length heads → IsMarked before (base + q) → ⊥)
       → IsSearched heads from base before before (from ∷ [])
   starts lt fresh = record {
@@ -122,15 +128,18 @@ module _ (heads : List (List ℕ)) (from base : ℕ) (within : AreWithin heads) 
     searched : IsSearched heads from base before marks (waiting ++ p ∷ [])
     searched = subst (IsSearched heads from base before marks) popped began
 
+    -- what waits is a place
     pub next_place : p < length heads
     next_place = (searched.waits p (Contains-push waiting p)).0
 
+    -- heads have room in the row of marks
     pub heads_marked : base + length heads ≤ length before → All (λ q. base + q < length marks) (get_or heads p [])
     heads_marked room =
         All-weaker (λ q. q < length heads) (λ q. base + q < length marks) (λ q lt. omega (arith, lt, room, searched.each))
         (get_or heads p [])
         (All-get_or (All (λ q. q < length heads)) heads p [] next_place within)
 
+    -- the heads of a place visited are one step of the search
     pub follows : (new : List Bool) (now : List ℕ) → Visits base (get_or heads p []) marks new waiting now
         → IsSearched heads from base before new now
     follows new now visits = record {
@@ -165,6 +174,7 @@ module _ (heads : List (List ℕ)) (from base : ℕ) (within : AreWithin heads) 
             (Contains-push_cases waiting p x there))
             (λ marked. inr (visits.kept (base + q) marked)) (searched.followed x q begun arc)
 
+  -- where nothing waits, just what paths lead to is marked
   pub ends : (marks : List Bool) (waiting : List ℕ) → length waiting ≡ 0 → IsSearched heads from base before marks waiting
       → MarksRow heads from base before marks
   ends marks waiting none searched = record {

@@ -11,12 +11,14 @@ use Rattle.reachability.proofs.CountLaws.{has_first, has_later, first_or_later, 
 use Rattle.reachability.proofs.PathLaws.{one_arc, arc_before, along, first_arc, carried}
 
 module _ {X : Type 0} (p : X → Bool) where
+  -- what is left is of the list and passes
   pub from_filter : (xs : List X) (x : X) → Contains (filter p xs) x → Contains xs x × (p x ≡ true)
   from_filter xs x there = (
     All-contains (Contains xs) (filter p xs) x (All-filter p (Contains xs) xs (All-contains_itself xs)) there,
     All-contains (λ y. p y ≡ true) (filter p xs) x (filter_passes p xs) there,
   )
 
+  -- what is of the list and passes is left
   pub in_filter : (xs : List X) (x : X) → Contains xs x → p x ≡ true → Contains (filter p xs) x
   in_filter [] x there passes = absurd (omega (arith, there.1))
   in_filter (y ∷ ys) x there passes =
@@ -29,6 +31,7 @@ module _ {X : Type 0} (p : X → Bool) where
       ]
 
 module _ {K : Type 0} (same : K → K → Bool) (exact : (x y : K) → Decides (same x y) (x ≡ y)) where
+  -- the test tells whether a key is one of the keys
   pub among_decides : (keys : List K) (key : K) → Decides (among same keys key) (Contains keys key)
   among_decides [] key = (λ e. absurd (false≢true e), λ there. absurd (omega (arith, there.1)))
   among_decides (x ∷ xs) key = Decides-like _
@@ -69,10 +72,10 @@ module _ {K : Type 0} (same : K → K → Bool) (exact : (x y : K) → Decides (
 
     next : (p q : K) → Contains tails p → Path (HasArc arcs) p q → IsNext q
     next p q there path = ⊎_elim (λ is. is) (λ w. absurd (false≢true (sym w.0 ∙ (among_decides tails p).1 there)))
-        (along (HasArc arcs) (Begins q) q one more p path)
+        (along (HasArc arcs) (Begins q) q begins_by_arc more p path)
       where
-        one : (x : K) → HasArc arcs x q → Begins q x
-        one x arc = ⊎_elim
+        begins_by_arc : (x : K) → HasArc arcs x q → Begins q x
+        begins_by_arc x arc = ⊎_elim
             (λ here. inl (inl (head x q ((among_decides tails x).0 here) arc)))
             (λ elsewhere. inr (elsewhere, one_arc Others x q (other x q elsewhere arc)))
             (cases_Bool (among same tails x))
@@ -127,16 +130,19 @@ module _ {K : Type 0} (same : K → K → Bool) (exact : (x y : K) → Decides (
       (spread-has rounds (arcs_left same arcs tails) heads (omega (arith, le, fewer arcs tails w.0 w.1)) w.0 q w.1 w.2))
       (next arcs tails p q there path)
 
+  -- what is listed as reached ends a path
   pub reached_has : (arcs : List (K × K)) (p q : K) → Contains (reached same arcs p) q → Path (HasArc arcs) p q
   unfolding reached
   reached_has arcs p q there =
       let w = spread-from (length arcs) arcs (p ∷ []) q there in
       ⊎_elim (λ e. subst (λ x. Path (HasArc arcs) x q) (sym e) w.2) (λ none. absurd (omega (arith, none.1))) (first_or_later p [] w.0 w.1)
 
+  -- what ends a path is listed as reached
   pub has_reached : (arcs : List (K × K)) (p q : K) → Path (HasArc arcs) p q → Contains (reached same arcs p) q
   unfolding reached
   has_reached arcs p q path = spread-has (length arcs) arcs (p ∷ []) (omega arith) p q (has_first p []) path
 
+  -- the test tells whether there is a path
   pub reaches_decides : (arcs : List (K × K)) (p q : K) → Decides (reaches same arcs p q) (Path (HasArc arcs) p q)
   unfolding reaches
   reaches_decides arcs p q = Decides-like _ (reached_has arcs p q) (has_reached arcs p q) (among_decides (reached same arcs p) q)

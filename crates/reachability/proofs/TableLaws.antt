@@ -18,12 +18,15 @@ module _ (heads : List (List ℕ)) where
     pub fresh : (k : ℕ) → done * n ≤ k → IsMarked marks k → ⊥
 
   module _ (n done : ℕ) (marks : List Bool) (first : AreFirstRows n done marks) (lt : done < n) where
+    -- the next row has room
     pub row_room : done * n + n ≤ length marks
     row_room = rw first.each (row_fits done n n n lt (omega arith))
 
+    -- the next row has no mark
     pub row_fresh : (q : ℕ) → q < n → IsMarked marks (done * n + q) → ⊥
     row_fresh q q_lt = first.fresh (done * n + q) (omega arith)
 
+    -- a search from a place marks its row
     pub one_more_row : (new : List Bool) → n ≡ length heads → MarksRow heads done (done * n) marks new → AreFirstRows n (done + 1) new
     one_more_row new is row = record {
       each = row.each ∙ first.each;
@@ -40,6 +43,7 @@ module _ (heads : List (List ℕ)) where
           first.fresh k (omega (arith, after)) ((row.others k (inr (omega (arith, after, is)))).0 marked);
     }
 
+-- the rows of all places are the table of paths
 pub all_rows : (n : ℕ) (arcs : List (ℕ × ℕ)) (heads : List (List ℕ)) (marks : List Bool) → AreHeads n arcs heads
     → AreFirstRows heads n n marks → IsPathTable n arcs (record { places = n; marks = marks })
 all_rows n arcs heads marks are first = record {
@@ -51,11 +55,13 @@ all_rows n arcs heads marks are first = record {
       );
 }
 
+-- the place of a pair is one of the table
 pub place_within : (n len p q : ℕ) → len ≡ n * n → p < n → q < n → p * n + q < len
 place_within n len p q is p_lt q_lt = omega (arith, is, mul-add-lt p n q n p_lt q_lt)
 
 -- ---- keys
 
+-- a table of numbers is the table of their keys
 pub key_table : {K : Type 0} (keys : List K) (arcs : List (K × K)) (numbers : List (ℕ × ℕ)) (table : PathMarks)
     → AreNumbered keys arcs numbers → AreOnce keys → IsPathTable (length keys) numbers table → IsKeyTable keys arcs table
 key_table keys arcs numbers table numbered once are = record {

@@ -3,3 +3,4 @@ pub mod Places
 pub mod Searches
 pub mod Laws
 pub mod Bits
+pub mod TextPlaces

@@ -18,4 +18,3 @@ pub use recipe::{
     Condition, ConflictRow, DependRow, ProvideRow, Recipe, RequireRow, VariantRow, VersionRow,
 };
 pub use spec_grammar::{Part, Spec, TargetItem};
-pub use specs_exact::duplicate_spec;

@@ -22,7 +22,7 @@ fn duplicate_targets(
 ) -> Result<List<TargetItem>, AllocError>
     ensures { IfOk result (λ copy. copy ≡ items.now) }
 {
-    let mut copy = List::new(alloc);
+    let mut copy = List::from_vec(Vec::with_capacity(alloc, items.len())?);
     for value in items.as_slice() {
         copy.push(duplicate_target(alloc, value)?)?;
     }
@@ -59,7 +59,7 @@ pub(crate) fn duplicate_part(alloc: Global, part: &Part) -> Result<Part, AllocEr
 fn duplicate_parts(alloc: Global, parts: &List<Part>) -> Result<List<Part>, AllocError>
     ensures { IfOk result (λ copy. copy ≡ parts.now) }
 {
-    let mut copy = List::new(alloc);
+    let mut copy = List::from_vec(Vec::with_capacity(alloc, parts.len())?);
     for value in parts.as_slice() {
         copy.push(duplicate_part(alloc, value)?)?;
     }
@@ -67,7 +67,7 @@ fn duplicate_parts(alloc: Global, parts: &List<Part>) -> Result<List<Part>, Allo
 }
 
 /// A copy of a spec that is seen as the same.
-pub fn duplicate_spec(alloc: Global, spec: &Spec) -> Result<Spec, AllocError>
+pub(crate) fn duplicate_spec(alloc: Global, spec: &Spec) -> Result<Spec, AllocError>
     ensures { IfOk result (λ copy. copy ≡ spec.now) }
 {
     Ok(Spec {
@@ -80,7 +80,7 @@ pub fn duplicate_spec(alloc: Global, spec: &Spec) -> Result<Spec, AllocError>
 pub(crate) fn duplicate_specs(alloc: Global, specs: &List<Spec>) -> Result<List<Spec>, AllocError>
     ensures { IfOk result (λ copy. copy ≡ specs.now) }
 {
-    let mut copy = List::new(alloc);
+    let mut copy = List::from_vec(Vec::with_capacity(alloc, specs.len())?);
     for value in specs.as_slice() {
         copy.push(duplicate_spec(alloc, value)?)?;
     }

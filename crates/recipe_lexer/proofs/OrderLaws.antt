@@ -31,6 +31,7 @@ line_later : (m place n : ℕ) (line : Line) → LineFits m place line → place
 line_later m place n Begun f le = omega (arith, f, le)
 line_later m place n (Blank from to) f le = (f.0, f.1, omega (arith, f.2, le))
 
+-- a state that fits a place fits a later one
 pub later : (place n : ℕ) (s : State) → Fits place s → place ≤ n → Fits n s
 later place n s f le = (f.0, f.1, line_later f.0 place n s.line f.2 le)
 
@@ -141,6 +142,7 @@ step_fits_by bytes (shape.Op b) start end s f le =
     ok_then (Up Begun start) (Fits end) (bracket start b t) last (bracket_up start b t up)
     (λ u now. solid_fits (kind.Op b) start end (b == 58) u now le))
 
+-- a step leads from a state that fits a piece's start to one that fits its end
 pub step_fits : (bytes : List ℕ) (p : Piece) (s : State) → Fits p.start s → p.start ≤ p.end → IfOk (step bytes p s) (Fits p.end)
 unfolding step
 step_fits bytes p s f le = step_fits_by bytes p.shape p.start p.end s f le
@@ -157,6 +159,7 @@ finish_up end [] s f =
     (dedents_up t.line end end 0 s.indents t (last_up f.0 end s.line s (f.1, refl) f.2, refl))
     (λ u up. one_more 0 end u.tokens (record { kind = kind.End; start = end; end = end }) up.0 (omega arith) (omega arith))
 
+-- the tokens of a file that ends are in order
 pub finish_in_order : (end : ℕ) (s : State) → Fits end s → IfOk (finish end s) (λ t. InOrder 0 end t.tokens)
 unfolding finish
 finish_in_order end s f = finish_up end s.brackets s f

@@ -6,11 +6,10 @@ use Rattle.std.specs.Str.{is_utf8}
 use Rattle.std.proofs.lemmas.Grind.{fold-append}
 use Rattle.std.proofs.lemmas.Bool.{leb-true, ne_eqb, le-ltb}
 use Rattle.recipe_lexer.specs.Order.{Stand, At, by_closing, by_sign, after, after_token, stand_of, AreWhole}
-use Rattle.recipe_lexer.specs.Layout.{State, Step, put, put_solid, dedents, deeper, top, indent, indented, is_no_tab, spaces, slice, begin, begin_by, white_by, line_end_by, is_closing, close, closing, bracket_by, bracket, step, step_by, last_line, finish_by, finish, lay, start, then_do, tokens_of, text_tokens, tokens, pieces}
+use Rattle.recipe_lexer.specs.Layout.{State, Step, put, put_solid, dedents, deeper, top, indent, indented, is_no_tab, spaces, slice, begin, begin_by, white_by, line_end_by, is_closing, close, closing, bracket_by, bracket, step, step_by, last_line, finish_by, finish, lay, start, then_do, text_tokens, tokens, pieces}
 use Rattle.recipe_lexer.specs.declared.piece.Shape.{Shape}
 use Rattle.recipe_lexer.specs.declared.piece.Shape.TheVariants as shape
 use Rattle.recipe_lexer.specs.declared.piece.Piece.{Piece}
-use Rattle.recipe_lexer.specs.declared.token.Token.{Token}
 use Rattle.recipe_lexer.specs.declared.token.TokenKind.{TokenKind}
 use Rattle.recipe_lexer.specs.declared.token.TokenKind.TheVariants as kind
 use Rattle.recipe_lexer.specs.declared.token.LexFault.TheVariants as fault
@@ -18,6 +17,7 @@ use Rattle.recipe_lexer.specs.declared.line.Line.{Line}
 use Rattle.recipe_lexer.specs.declared.line.Line.TheVariants.{Begun, Blank}
 use Rattle.recipe_lexer.specs.declared.line.Opened.{Opened}
 use Rattle.recipe_lexer.proofs.Keeping.{cond_all, ok_map, ok_then}
+use Rattle.recipe_lexer.proofs.TokenLaws.{tokens_ok}
 
 -- ---- what is kept
 
@@ -250,10 +250,7 @@ finish_whole : (to : ℕ) (s : State) → Ready s → IfOk (finish to s) (λ t. 
 unfolding finish
 finish_whole to s r = finish_whole_by to s.brackets s refl r
 
-tokens_ok : (P : List Token → Type 0) (r : Step) → IfOk r (λ t. P t.tokens) → IfOk (tokens_of r) P
-tokens_ok P (Ok s) p = p
-tokens_ok P (Err e) p = tt
-
+-- the lines, blocks and brackets of a file's tokens are whole
 pub tokens_whole : (bytes : List ℕ) → IfOk (tokens bytes) AreWhole
 unfolding text_tokens
 tokens_whole bytes =

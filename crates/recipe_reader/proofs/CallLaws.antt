@@ -40,6 +40,7 @@ add_ignores directive.Provides place number g o when s = refl
 add_ignores directive.Conflicts place number g o when s = refl
 add_ignores directive.Requires place number g o when s = refl
 
+-- a directive with its conditions adds what the definition adds
 pub added : {X : Type 0} (d : Directive) (place number : ℕ) (g : Given) (o : Option Spec) (when : Condition) (around : Option Head)
     (s : State) (r : Result X RecipeFault) (new : State)
     → when.specs ≡ when_in around ++ option_to_list g.options.when → Gives r new (add d place number (with_when o g) when s)
@@ -49,6 +50,7 @@ added d place number g o when around s r new specs given =
     subst (λ (step : Step State). Gives r new step) (add_ignores d place number g o when s
     ∙ ap (λ (w : Condition). add d place number g w s) same) given
 
+-- equal blocks and conditions give equal conditions of a row
 pub specs_by : (a b : Option Head) (o p : Option Spec) (specs : List Spec) → a ≡ b → o ≡ p → specs ≡ when_in a ++ option_to_list o
     → specs ≡ when_in b ++ option_to_list p
 specs_by a b o p specs e f h =

@@ -17,6 +17,7 @@ slice_at [] i x h is = absurd (omega (arith, h))
 slice_at (y ∷ xs) zero x h is = ap (λ (z : _). Some z) (sym is)
 slice_at (y ∷ xs) (suc i) x h is = slice_at xs i x (omega arith) is
 
+-- the first file that has a fault fails, where all before it have recipes
 pub first_fault : (place : ℕ) (e : RecipeFault) (file : RecipeFile) (files : List RecipeFile) (recipes : List Recipe) → place < length files
     → file ≡ get_or files place file → map recipe_in_file (take place files) ≡ map Ok recipes → Fails e (recipe_in_file file)
     → FailsAt place e files
@@ -29,6 +30,7 @@ first_fault place e file files recipes h is before fails =
 heads_are : {X : Type 0} (x y : X) (xs ys : List X) → x ∷ xs ≡ y ∷ ys → (x ≡ y) × (xs ≡ ys)
 heads_are x y xs ys e = (cc, cc)
 
+-- each of the recipes of files is right
 pub all_right : (files : List RecipeFile) (recipes : List Recipe) → map recipe_in_file files ≡ map Ok recipes
     → list_all is_right_recipe recipes ≡ true
 all_right files [] are = refl
@@ -41,6 +43,7 @@ all_right (file ∷ files) (recipe ∷ recipes) are =
 file_named : (file : RecipeFile) (recipe : Recipe) → recipe_in_file file ≡ Ok recipe → recipe.name ≡ file.name
 file_named file recipe is = subst (λ (a : Step Recipe). IfOk a (λ r. r.name ≡ file.name)) is (named file.name file.bytes.items)
 
+-- recipes have the names of their files
 pub all_named : (files : List RecipeFile) (recipes : List Recipe) → map recipe_in_file files ≡ map Ok recipes
     → map (λ recipe. recipe.name) recipes ≡ map (λ file. file.name) files
 all_named [] [] are = refl

@@ -27,6 +27,7 @@ around_cond : (b : Bool) (o : Option Head) → IfSome o IsHead → IsAround (con
 around_cond true o h = λ e. tt
 around_cond false o h = around_by o h
 
+-- the innermost of right heads is right
 pub around_is : (heads : List Head) (depth : ℕ) → AllByRecursion IsHead heads → IsAround (innermost heads depth)
 around_is heads depth h = around_cond (eqb depth 0) (slice_get heads (depth - 1)) (all_at IsHead heads (depth - 1) h)
 
@@ -43,6 +44,7 @@ own_none s place text e =
     nil_from_length s.below (eqb-true (length s.below) 0
     (none_cond (eqb (length s.below) 0) (nested_of place (condition_at true place text)) e))
 
+-- a head in right heads is right
 pub head_is : (around : Option Head) (place : ℕ) (text : List ℕ) → IsAround around → IfOk (head around place text) IsHead
 head_is around place text h =
     any_then IsHead (condition_at false place text) _ (λ s. λ e.

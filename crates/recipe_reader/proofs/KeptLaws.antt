@@ -216,9 +216,11 @@ module _ (owner : List ℕ) where
   second_of (Ok recipe) h = h.1
   second_of (Err e) h = tt
 
+  -- each recipe that is read is right
   pub kept : (bytes : List ℕ) → IfOk (recipe_of owner bytes) IsKept
   kept bytes = first_of (recipe_of owner bytes) (both bytes)
 
+  -- each recipe that is read has the name of its file
   pub named : (bytes : List ℕ) → IfOk (recipe_of owner bytes) (λ recipe. recipe.name ≡ owner)
   named bytes = second_of (recipe_of owner bytes) (both bytes)
 

@@ -19,6 +19,7 @@ use Rattle.directive_arguments.proofs.ListLaws.{all_append, all_push, all_weaker
 abbrev pub Below : ℕ → List ℕ → Type 0
 Below n ks = AllByRecursion (λ k. k < n) ks
 
+-- numbers below one are below the next
 pub below_more : (n : ℕ) (ks : List ℕ) → Below n ks → Below (n + 1) ks
 below_more n ks b = all_weaker (λ k. k < n) (λ k. k < n + 1) (λ k lt. omega (arith, lt)) ks b
 
@@ -38,12 +39,15 @@ rises_push (k ∷ j ∷ more) n r b =
     let parts = and_parts (is_lt (nat_cmp k j)) (rises nat_cmp (j ∷ more)) r in
     and_from (is_lt (nat_cmp k j)) (rises nat_cmp (j ∷ more ++ n ∷ [])) parts.0 (rises_push (j ∷ more) n parts.1 b.1)
 
+-- no numbers rise and are below 0
 pub none_numbered : IsNumbered 0 []
 none_numbered = record { rising = refl; below = tt }
 
+-- numbers that rise below one do so below the next
 pub numbered_more : (n : ℕ) (ks : List ℕ) → IsNumbered n ks → IsNumbered (n + 1) ks
 numbered_more n ks k = record { rising = k.rising; below = below_more n ks k.below }
 
+-- the next number behind numbers that rise below it
 pub numbered_push : (n : ℕ) (ks js : List ℕ) → js ≡ ks ++ n ∷ [] → IsNumbered n ks → IsNumbered (n + 1) js
 numbered_push n ks js e k = subst (IsNumbered (n + 1)) (sym e) (record {
   rising = rises_push ks n k.rising k.below;
@@ -63,9 +67,11 @@ climbs_push (k ∷ j ∷ more) n r b =
     let parts = and_parts (nat_le k j) (climbs (j ∷ more)) r in
     and_from (nat_le k j) (climbs (j ∷ more ++ n ∷ [])) parts.0 (climbs_push (j ∷ more) n parts.1 b.1)
 
+-- no numbers climb and are below 0
 pub none_climbing : IsClimbing 0 []
 none_climbing = record { climbing = refl; below = tt }
 
+-- numbers that climb below one do so below the next
 pub climbing_more : (n : ℕ) (ks : List ℕ) → IsClimbing n ks → IsClimbing (n + 1) ks
 climbing_more n ks k = record { climbing = k.climbing; below = below_more n ks k.below }
 
@@ -104,12 +110,15 @@ module _ (a b c : List ℕ) (n : ℕ) (differ : Differ (a ++ b ++ c)) (in_a : Be
   between xs ys after before now = subst Differ (sym now)
       (differ_between xs ys n (subst Differ before differ) (subst (Below n) before all_below))
 
+  -- a new number in the first of three lists differs from all
   pub differ_first : Differ ((a ++ n ∷ []) ++ b ++ c)
   differ_first = between a (b ++ c) _ (append_assoc a b c) (append_assoc (a ++ n ∷ []) b c ∙ append_assoc a (n ∷ []) (b ++ c))
 
+  -- a new number in the second of three lists differs from all
   pub differ_second : Differ (a ++ (b ++ n ∷ []) ++ c)
   differ_second = between (a ++ b) c _ refl (ap (λ l. l ++ c) (sym (append_assoc a b (n ∷ []))) ∙ append_assoc (a ++ b) (n ∷ []) c)
 
+  -- a new number in the third of three lists differs from all
   pub differ_third : Differ (a ++ b ++ (c ++ n ∷ []))
   differ_third = between (a ++ b ++ c) [] _ (sym (append-nil (a ++ b ++ c))) (sym (append_assoc (a ++ b) c (n ∷ [])))
 
@@ -117,23 +126,23 @@ module _ (a b c : List ℕ) (n : ℕ) (differ : Differ (a ++ b ++ c)) (in_a : Be
 
 put_length : (acc : List ℕ) (k : ℕ) → Lacks k acc → length (insert_key nat_cmp acc k) ≡ length acc + 1
 put_length [] k lacks = refl
-put_length (x ∷ acc) k lacks = by (nat_cmp k x) refl (put_length acc k lacks.1)
+put_length (x ∷ acc) k lacks = longer_by_order (nat_cmp k x) refl (put_length acc k lacks.1)
   where
-    by : (r : Ordering) → nat_cmp k x ≡ r → length (insert_key nat_cmp acc k) ≡ length acc + 1
+    longer_by_order : (r : Ordering) → nat_cmp k x ≡ r → length (insert_key nat_cmp acc k) ≡ length acc + 1
         → length (match_ordering r (k ∷ x ∷ acc) (x ∷ acc) (x ∷ insert_key nat_cmp acc k)) ≡ length (x ∷ acc) + 1
-    by Less e rest = omega arith
-    by Equal e rest = absurd (lacks.0 (sym (nat_cmp-IsAntisymmetric k x e)))
-    by Greater e rest = omega (arith, rest)
+    longer_by_order Less e rest = omega arith
+    longer_by_order Equal e rest = absurd (lacks.0 (sym (nat_cmp-IsAntisymmetric k x e)))
+    longer_by_order Greater e rest = omega (arith, rest)
 
 put_lacks : (acc : List ℕ) (k j : ℕ) → Lacks j acc → (k ≢ j) → Lacks j (insert_key nat_cmp acc k)
 put_lacks [] k j lacks ne = (ne, tt)
-put_lacks (x ∷ acc) k j lacks ne = by (nat_cmp k x) (put_lacks acc k j lacks.1 ne)
+put_lacks (x ∷ acc) k j lacks ne = lacks_by_order (nat_cmp k x) (put_lacks acc k j lacks.1 ne)
   where
-    by : (r : Ordering) → Lacks j (insert_key nat_cmp acc k)
+    lacks_by_order : (r : Ordering) → Lacks j (insert_key nat_cmp acc k)
         → Lacks j (match_ordering r (k ∷ x ∷ acc) (x ∷ acc) (x ∷ insert_key nat_cmp acc k))
-    by Less rest = (ne, lacks)
-    by Equal rest = lacks
-    by Greater rest = (lacks.0, rest)
+    lacks_by_order Less rest = (ne, lacks)
+    lacks_by_order Equal rest = lacks
+    lacks_by_order Greater rest = (lacks.0, rest)
 
 all_lack : (acc ks : List ℕ) (k : ℕ) → Lacks k ks → AllByRecursion (λ j. Lacks j acc) ks
     → AllByRecursion (λ j. Lacks j (insert_key nat_cmp acc k)) ks
@@ -152,5 +161,6 @@ none_lack : (ks : List ℕ) → AllByRecursion (λ k. Lacks k []) ks
 none_lack [] = tt
 none_lack (k ∷ ks) = (tt, none_lack ks)
 
+-- numbers that differ are as many as their set has
 pub all_differ : (ks : List ℕ) → Differ ks → length (fold (insert_key nat_cmp) [] ks) ≡ length ks
 all_differ ks d = let all = put_all ks [] d (none_lack ks) in omega (arith, all)

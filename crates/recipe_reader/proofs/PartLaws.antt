@@ -63,6 +63,7 @@ first_at place before e front files more recipes are count fits first =
     let at : length front + place ≡ min (place + before) 18446744073709551615 = omega arith in
     subst (λ (n : ℕ). IsFirstFault n e (front ++ (files ++ more))) at (first_behind place e front files more recipes are first)
 
+-- a fault of files behind others stands as many places further
 pub stands_behind : (place before : ℕ) (e : RecipeFault) (front files more : List RecipeFile) (recipes : List Recipe)
     → map recipe_in_file front ≡ map Ok recipes → length recipes ≡ before → length (front ++ (files ++ more)) < 2 ^ 64
     → FailsAt place e files → FailsAt (min (place + before) 18446744073709551615) e (front ++ (files ++ more))
@@ -117,6 +118,7 @@ flat_split : (parts : List (List RecipeFile)) (before : List Answer) (answer : A
     → flat parts ≡ flat at.front ++ (at.part ++ flat at.later)
 flat_split parts before answer more at = ap flat at.are ∙ flat_map-append (λ part. part) at.front (at.part ∷ at.later)
 
+-- one answer more with recipes
 pub one_more : (before : List Answer) (recipes more : List Recipe) → AreSoFar before recipes
     → AreSoFar (before ++ Ok more ∷ []) (recipes ++ more)
 one_more before recipes more so_far parts all =
@@ -133,6 +135,7 @@ one_more before recipes more so_far parts all =
       at.is.found,
     ) refl
 
+-- the first answer with a fault is the fault of all parts
 pub first_faulty : (before later : List Answer) (recipes : List Recipe) (count : ℕ) (fault told : ℕ × RecipeFault)
     → AreSoFar before recipes → count ≡ length recipes
     → ((front files more : List RecipeFile) (recipes : List Recipe) → map recipe_in_file front ≡ map Ok recipes → length recipes ≡ count
@@ -150,6 +153,7 @@ first_faulty before later recipes count fault told so_far is behind parts all fi
 
 -- ---- answers to each part
 
+-- answers that are each that of their part stand beside the parts
 pub each_read : {X : Type 0} (f : X → List RecipeFile) (parts : List X) (answers : List Answer) → length answers ≡ length parts
     → ((i : ℕ) (d : X) (e : Answer) → i < length answers → IsReadOf (f (get_or parts i d)) (get_or answers i e))
     → AllZip IsReadOf (map f parts) answers
@@ -159,9 +163,11 @@ each_read f (p ∷ parts) [] same each = absurd (omega arith)
 each_read f (p ∷ parts) (a ∷ answers) same each =
     (each 0 p a (omega arith), each_read f parts answers (omega arith) (λ i d e h. each (suc i) d e (omega arith)))
 
+-- the files of all parts are the files
 pub flat_is : {X : Type 0} (f : X → List RecipeFile) (parts : List X) → flat_map (λ part. part) (map f parts) ≡ flat_map f parts
 flat_is f [] = refl
 flat_is f (p ∷ parts) = ap (λ (files : List RecipeFile). f p ++ files) (flat_is f parts)
 
+-- no answers have no recipes
 pub none_yet : AreSoFar [] []
 none_yet parts all = ap (λ (ps : List (List RecipeFile)). map recipe_in_file (flat ps)) (none_left parts all)

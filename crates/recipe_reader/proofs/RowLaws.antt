@@ -165,6 +165,7 @@ module _ (owner : List ℕ) where
         heads = k.heads;
       }
 
+  -- a version more keeps the rows right
   pub add_version_keeps : (place number : ℕ) (v : Option (List ℕ)) (o : Options) (s : State) → Keeps number s
       → IfOk (add_version place number v o s) (Keeps (number + 1))
   add_version_keeps place number None o s k = tt
@@ -204,6 +205,7 @@ module _ (owner : List ℕ) where
         apart = more.apart;
       }
 
+  -- a variant more keeps the rows right
   pub add_variant_keeps : (place number : ℕ) (name : Option (List ℕ)) (o : Options) (when : Condition) (s : State) → IfSome name IsName
       → Keeps number s → IfOk (add_variant place number name o when s.recipe) (KeepsWith (number + 1) s)
   add_variant_keeps place number None o when s named k = tt
@@ -217,6 +219,7 @@ module _ (owner : List ℕ) where
   depends_by true next s recipe more k m = k
   depends_by false next s recipe more k m = m
 
+  -- a dependency more keeps the rows right
   pub add_depends_keeps : (place number : ℕ) (p : Option Part) (kinds : Kinds) (when : Condition) (s : State) → IfSome p IsNamed
       → Keeps number s → IfOk (add_depends place number p kinds when s.recipe) (KeepsWith (number + 1) s)
   add_depends_keeps place number None kinds when s named k = tt
@@ -249,6 +252,7 @@ module _ (owner : List ℕ) where
   unless_empty true e next s more k = tt
   unless_empty false e next s more k = k
 
+  -- provided virtuals more keep the rows right
   pub add_provides_keeps : (place number : ℕ) (parts : List Part) (when : Condition) (s : State) → AllByRecursion IsNamed parts
       → AllByRecursion IsLocal when.specs → Keeps number s → IfOk (add_provides place number parts when s.recipe) (KeepsWith (number + 1) s)
   add_provides_keeps place number parts when s named local k =
@@ -274,6 +278,7 @@ module _ (owner : List ℕ) where
 
   -- ---- conflicts and requires
 
+  -- a conflict more keeps the rows right
   pub add_conflict_keeps : (place number : ℕ) (spec : Option Spec) (when : Condition) (s : State) → Keeps number s
       → IfOk (add_conflict place number spec when s.recipe) (KeepsWith (number + 1) s)
   add_conflict_keeps place number None when s k = tt
@@ -294,6 +299,7 @@ module _ (owner : List ℕ) where
             k.rows.depends.numbers.below k.rows.conflicts.below k.rows.requirements.below);
       }
 
+  -- a requirement more keeps the rows right
   pub add_requirement_keeps : (place number : ℕ) (specs : List Spec) (one_of : Bool) (when : Condition) (s : State) → Keeps number s
       → IfOk (add_requirement place number specs one_of when s.recipe) (KeepsWith (number + 1) s)
   add_requirement_keeps place number specs one_of when s k =
@@ -317,11 +323,13 @@ module _ (owner : List ℕ) where
 
   -- ---- the state
 
+  -- a right recipe in a right state is a right state
   pub into_keeps : (next : ℕ) (s : State) (step : Step Recipe) → AllByRecursion IsHead s.heads → IfOk step (KeepsWith next s)
       → IfOk (into s step) (Keeps next)
   into_keeps next s (Ok recipe) heads k = record { rows = k; heads = heads }
   into_keeps next s (Err e) heads k = tt
 
+  -- an empty recipe is right
   pub starts_rows : KeepsRows 0 [] (empty_recipe owner)
   starts_rows = record {
     name = refl;

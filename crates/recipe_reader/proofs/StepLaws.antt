@@ -16,29 +16,34 @@ pub fails_then : {A B : Type 0} (e : RecipeFault) (a : Step A) (f : A → Step B
 fails_then fault.OutOfMemory a f h = tt
 fails_then e a f h = rw h refl
 
+-- equal steps have the same faults
 pub fails_along : {A : Type 0} (e : RecipeFault) (a b : Step A) → a ≡ b → Fails e a → Fails e b
 fails_along fault.OutOfMemory a b same h = tt
 fails_along e a b same h = sym same ∙ h
 
 -- ---- items
 
+-- the items from a place on begin with the one there
 pub items_here : (bytes : List ℕ) (tokens : List Token) (number : ℕ) (xs : List Item) (i : ℕ) (x : Item) (s : State) → i < length xs
     → x ≡ get_or xs i x → read_items bytes tokens number (drop i xs) s ≡ then_do (item bytes tokens number x s)
     (read_items bytes tokens (count x number) (drop (i + 1) xs))
 unfolding read_items
 items_here bytes tokens number xs i x s h is = rw (drop_here xs i x h is) refl
 
+-- behind the last item none is left
 pub items_past : (bytes : List ℕ) (tokens : List Token) (number : ℕ) (xs : List Item) (i : ℕ) (s : State) → length xs ≤ i
     → read_items bytes tokens number (drop i xs) s ≡ Ok s
 unfolding read_items
 items_past bytes tokens number xs i s h = rw (drop_past xs i h) refl
 
+-- an item that is read leaves the others
 pub items_ok : (bytes : List ℕ) (tokens : List Token) (number : ℕ) (xs : List Item) (i : ℕ) (x : Item) (s t : State) (all : Step State)
     → i < length xs → x ≡ get_or xs i x → read_items bytes tokens number (drop i xs) s ≡ all → item bytes tokens number x s ≡ Ok t
     → read_items bytes tokens (count x number) (drop (i + 1) xs) t ≡ all
 items_ok bytes tokens number xs i x s t all h is inv took = let here = items_here bytes tokens number xs i x s h is in let then_t =
     rw took at here in sym then_t ∙ inv
 
+-- an item that fails is the fault of all
 pub items_err : (bytes : List ℕ) (tokens : List Token) (number : ℕ) (xs : List Item) (i : ℕ) (x : Item) (s : State) (all : Step State)
     (e : RecipeFault) → i < length xs → x ≡ get_or xs i x → read_items bytes tokens number (drop i xs) s ≡ all
     → Fails e (item bytes tokens number x s) → Fails e all
@@ -51,12 +56,14 @@ get_same [] i d e h = absurd (omega (arith, h))
 get_same (x ∷ xs) zero d e h = refl
 get_same (x ∷ xs) (suc i) d e h = get_same xs i d e (omega arith)
 
+-- the same, for the item that stands at the place
 pub items_ok_at : (bytes : List ℕ) (tokens : List Token) (number : ℕ) (xs : List Item) (i : ℕ) (d : Item) (s t : State) (all : Step State)
     → i < length xs → read_items bytes tokens number (drop i xs) s ≡ all → item bytes tokens number (get_or xs i d) s ≡ Ok t
     → read_items bytes tokens (count (get_or xs i d) number) (drop (i + 1) xs) t ≡ all
 items_ok_at bytes tokens number xs i d s t all h inv took =
     items_ok bytes tokens number xs i (get_or xs i d) s t all h (get_same xs i d (get_or xs i d) h) inv took
 
+-- the same, for the item that stands at the place
 pub items_err_at : (bytes : List ℕ) (tokens : List Token) (number : ℕ) (xs : List Item) (i : ℕ) (d : Item) (s : State) (all : Step State)
     (e : RecipeFault) → i < length xs → read_items bytes tokens number (drop i xs) s ≡ all
     → Fails e (item bytes tokens number (get_or xs i d) s) → Fails e all

@@ -9,35 +9,36 @@ use Rattle.variant_values.specs.Texts.{Texts}
 use Rattle.recipe_data.specs.Right.{is_distinct}
 
 other : (v w : List ℕ) → bytes_eq v w ≡ false → bytes_eq w v ≡ false
-other v w e = by (bytes_eq w v) refl
+other v w e = differs_by_test (bytes_eq w v) refl
   where
-    by : (b : Bool) → bytes_eq w v ≡ b → b ≡ false
-    by true is = let same : v ≡ w = sym ((bytes_eq-Decides w v).0 is) in sym ((bytes_eq-Decides v w).1 same) ∙ e
-    by false is = refl
+    differs_by_test : (b : Bool) → bytes_eq w v ≡ b → b ≡ false
+    differs_by_test true is = let same : v ≡ w = sym ((bytes_eq-Decides w v).0 is) in sym ((bytes_eq-Decides v w).1 same) ∙ e
+    differs_by_test false is = refl
 
 none_more : (t v : List ℕ) (texts : Texts) → list_any (bytes_eq t) texts ≡ false → bytes_eq t v ≡ false
     → list_any (bytes_eq t) (texts ++ v ∷ []) ≡ false
 none_more t v [] none ne = rw ne refl
-none_more t v (u ∷ texts) none ne = by (bytes_eq t u) none (none_more t v texts)
+none_more t v (u ∷ texts) none ne = none_by_test (bytes_eq t u) none (none_more t v texts)
   where
-    by : (b : Bool) → (b || list_any (bytes_eq t) texts) ≡ false
+    none_by_test : (b : Bool) → (b || list_any (bytes_eq t) texts) ≡ false
         → (list_any (bytes_eq t) texts ≡ false → bytes_eq t v ≡ false → list_any (bytes_eq t) (texts ++ v ∷ []) ≡ false)
         → (b || list_any (bytes_eq t) (texts ++ v ∷ [])) ≡ false
-    by true h rest = h
-    by false h rest = rest h ne
+    none_by_test true h rest = h
+    none_by_test false h rest = rest h ne
 
 first_of_none : (v t : List ℕ) (texts : Texts) → list_any (bytes_eq v) (t ∷ texts) ≡ false → (bytes_eq v t ≡ false)
     × (list_any (bytes_eq v) texts ≡ false)
-first_of_none v t texts none = by (bytes_eq v t) none
+first_of_none v t texts none = apart_by_test (bytes_eq v t) none
   where
-    by : (b : Bool) → (b || list_any (bytes_eq v) texts) ≡ false → (b ≡ false) × (list_any (bytes_eq v) texts ≡ false)
-    by true h = absurd cc
-    by false h = (refl, h)
+    apart_by_test : (b : Bool) → (b || list_any (bytes_eq v) texts) ≡ false → (b ≡ false) × (list_any (bytes_eq v) texts ≡ false)
+    apart_by_test true h = absurd cc
+    apart_by_test false h = (refl, h)
 
 not_false : (b : Bool) → not b ≡ true → b ≡ false
 not_false true e = absurd cc
 not_false false e = refl
 
+-- a new text behind texts that differ differs from them
 pub distinct_push : (texts : Texts) (v : List ℕ) → is_distinct texts ≡ true → list_any (bytes_eq v) texts ≡ false
     → is_distinct (texts ++ v ∷ []) ≡ true
 distinct_push [] v d none = refl

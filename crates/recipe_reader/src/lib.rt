@@ -4,7 +4,7 @@
 //! What it promises: a file has exactly the recipe, or the first fault, that the definitions give; so have many files,
 //! whatever the number of threads that read them.
 //! What it stands on: `recipe_statements` for the calls and heads of a file, `directive_arguments` for what the calls
-//! say, `conditions` for the rows.
+//! say, `recipe_data` for the rows.
 //! What it must not know: other recipes, settings, and what is done with a recipe.
 #![tactic(auto)]
 

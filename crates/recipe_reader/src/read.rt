@@ -34,6 +34,40 @@ fn start(alloc: Global, name: &str) -> Result<State, AllocError>
     })
 }
 
+/// The list, with no room beyond its rows.
+fn fitted<T>(list: List<T>) -> List<T>
+    ensures { result ≡ list }
+{
+    let mut rows = list.into_vec();
+    rows.shrink_to_fit();
+    List::from_vec(rows)
+}
+
+/// The recipe, whose lists keep no room beyond their rows: a list that grew by doubling has a third of its room empty,
+/// and a repository's recipes are all kept.
+fn kept(recipe: Recipe) -> Recipe
+    ensures { result ≡ recipe }
+{
+    let Recipe {
+        name,
+        versions,
+        variants,
+        depends,
+        provides,
+        conflicts,
+        requirements,
+    } = recipe;
+    Recipe {
+        name,
+        versions: fitted(versions),
+        variants: fitted(variants),
+        depends: fitted(depends),
+        provides: fitted(provides),
+        conflicts: fitted(conflicts),
+        requirements: fitted(requirements),
+    }
+}
+
 /// Counts the calls.
 fn count(one: Item, number: u64) -> u64
     requires { number + 1 < 2 ^ 64 }
@@ -81,7 +115,7 @@ fn read_file(alloc: Global, name: &str, bytes: &[u8]) -> Result<Recipe, RecipeFa
         items.as_slice(),
         &mut state,
     )?;
-    Ok(state.recipe)
+    Ok(kept(state.recipe))
 }
 
 /// The recipe of a file with these bytes, whose package has this name. It is right.

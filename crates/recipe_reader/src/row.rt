@@ -14,6 +14,7 @@ use std::alloc::{AllocError, Global};
 use std::mem;
 use version_order::Version;
 
+/// Adds a version, or refuses one that is missing or whose text stands there already.
 fn add_version(
     alloc: Global,
     place: u64,
@@ -39,6 +40,7 @@ fn add_version(
     Ok(())
 }
 
+/// Adds a variant of this shape, or refuses its default where there is none.
 fn with_variant(
     place: u64,
     number: u64,
@@ -63,6 +65,7 @@ fn with_variant(
     Ok(())
 }
 
+/// Adds a variant by its keywords, or refuses one without a name.
 fn add_variant(
     alloc: Global,
     place: u64,
@@ -91,6 +94,7 @@ fn name_in(alloc: Global, name: &Option<Word>) -> Result<Word, AllocError>
     }
 }
 
+/// The row of one text of `provides`.
 fn provided(
     alloc: Global,
     number: u64,
@@ -155,6 +159,7 @@ fn add_conflict(
     Ok(())
 }
 
+/// Adds what is required, or refuses a directive that names no spec.
 fn add_requirement(
     place: u64,
     number: u64,

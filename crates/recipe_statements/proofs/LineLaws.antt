@@ -87,6 +87,7 @@ all_fits : (from to : ℕ) (bs : List Block) → BlocksFit from to bs → LinesF
 all_fits from to [] fits = fits
 all_fits from to (b ∷ bs) (m, first, others_fit) = followed_fits from m to b (all_of bs) first (all_fits m to bs others_fit)
 
+-- the lines of a file stand one behind the other inside of its tokens
 pub file_fits : (tokens : List Token) → LinesFit 0 (length tokens) (file_of tokens)
 file_fits tokens =
     let none : List Token = [] in

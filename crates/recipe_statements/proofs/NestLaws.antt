@@ -118,6 +118,7 @@ nested_of : (found : Items) → IfOk found (Fit 0) → IfOk found (AreNested 0)
 nested_of (Ok xs) fits = fits.0
 nested_of (Err e) fits = tt
 
+-- an item of a file stands at most one block deeper than the head before it
 pub items_nested : (bytes : List ℕ) (tokens : List Token) → IfOk (items bytes tokens) (AreNested 0)
 unfolding items
 items_nested bytes tokens = nested_of (outer bytes false (file_of tokens)) (outer_fits bytes false (file_of tokens))

@@ -138,6 +138,7 @@ outer_order bytes seen from to (Headed line inner rest) (start, (m, inside, behi
     (order_le (line_end line) m inner inside)
     (body_order bytes 0 (line_end line) m inner inside) (outer_order bytes after m to rest behind)
 
+-- the items of a file stand in order inside of its tokens
 pub items_in_order : (bytes : List ℕ) (tokens : List Token) → IfOk (items bytes tokens) (AreInOrder 0 (length tokens))
 unfolding items
 items_in_order bytes tokens = outer_order bytes false 0 (length tokens) (file_of tokens) (file_fits tokens)

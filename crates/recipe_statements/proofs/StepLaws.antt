@@ -43,6 +43,7 @@ closed_by bytes seen level (suc n) first items following = rw (some_passed n, su
 closed_by bytes seen zero zero first items following = refl
 closed_by bytes seen (suc d) zero first items following = rw (sub_suc d, join_none) refl
 
+-- a block that is closed counts as an empty one before the rest
 pub closed_law : (bytes : List ℕ) (s : State) (following : List Block)
     → remaining bytes (closed s) following ≡ remaining bytes s (Empty ∷ following)
 closed_law bytes s following = closed_by bytes s.seen s.level s.passed s.first s.items following
@@ -142,6 +143,7 @@ took_by bytes line true seen level (suc n) first items bs =
 took_by bytes line false seen level zero first items bs = plain_law bytes line seen level first items bs
 took_by bytes line true seen level zero first items bs = headed_law bytes line seen level first items bs
 
+-- a line that is taken is one line more before the rest
 pub took_law : (bytes : List ℕ) (line : Line) (has : Bool) (s : State) (bs : List Block)
     → Agrees bytes bs (remaining bytes s (add line has bs)) (took bytes line has s)
 took_law bytes line has s bs = took_by bytes line has s.seen s.level s.passed s.first s.items bs

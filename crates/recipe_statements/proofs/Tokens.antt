@@ -23,6 +23,7 @@ use Rattle.recipe_statements.proofs.StepLaws.{Agrees, closed_law, took_law}
 abbrev pub nothing : Token
 nothing = record { kind = kind.Word; start = 0; end = 0 }
 
+-- the token at a place stands before those behind it
 pub drop_at : (tokens : List Token) (i : ℕ) → i < length tokens → drop i tokens ≡ get_or tokens i nothing ∷ drop (i + 1) tokens
 drop_at tokens i lt = drop_more tokens i nothing lt
 
@@ -32,6 +33,7 @@ take_one (suc n) [] t rest e = absurd cc
 take_one zero (x ∷ xs) t rest e = let same : x ≡ t = cc in ap (λ (y : Token). y ∷ []) same
 take_one (suc n) (x ∷ xs) t rest e = ap (λ (ys : List Token). x ∷ ys) (take_one n xs t rest e)
 
+-- one token more between two places
 pub between_more : (tokens : List Token) (first i : ℕ) (t : Token) (rest : List Token) → first ≤ i → drop i tokens ≡ t ∷ rest
     → between tokens first (i + 1) ≡ between tokens first i ++ t ∷ []
 between_more tokens first i t rest le e =
@@ -39,6 +41,7 @@ between_more tokens first i t rest le e =
     let there : first + (i - first) ≡ i = omega arith in
     rw more (take_one (i - first) (drop first tokens) t rest (drop-drop (i - first) first tokens ∙ rw there e))
 
+-- between a place and itself is no token
 pub between_none : (tokens : List Token) (i : ℕ) → between tokens i i ≡ []
 between_none tokens i = let none : i - i ≡ zero = omega arith in rw none refl
 
@@ -89,6 +92,7 @@ by_kind bytes tokens i s t kind.Text le lt e = more bytes tokens i s t le e
 by_kind bytes tokens i s t (kind.Op b) le lt e = more bytes tokens i s t le e
 by_kind bytes tokens i s t kind.End le lt e = more bytes tokens i s t le e
 
+-- a step keeps what the whole file gives
 pub step_keeps : (bytes : List ℕ) (tokens : List Token) (i : ℕ) (s : State) (t : Token) → s.first ≤ i → i < length tokens
     → drop i tokens ≡ t ∷ drop (i + 1) tokens → Keeps bytes tokens (i + 1) (whole bytes tokens i s) (stepped bytes tokens i t.kind s)
 unfolding whole blocks
@@ -99,6 +103,7 @@ pub ok_keeps : {X : Type 0} (x : X) (new : Reader) (bytes : List ℕ) (tokens : 
     → Gives {X = X} (Ok x) new step → Keeps bytes tokens i all step → whole bytes tokens i (view new) ≡ all
 ok_keeps x new bytes tokens i all step gives keeps = subst (Keeps bytes tokens i all) gives keeps
 
+-- a step that fails is the fault of the file
 pub err_fails : (f : StatementFault) (bytes : List ℕ) (tokens : List Token) (i : ℕ) (all : Items) (step : Step) → Fails f step
     → Keeps bytes tokens i all step → Fails f all
 err_fails fault.OutOfMemory bytes tokens i all step gives keeps = tt
@@ -118,6 +123,7 @@ finished_by : (found : List Item) (seen : Bool) → join (Ok found) (at_end seen
 finished_by found true = ap (λ (xs : List Item). let r : Items = Ok xs in r) (append-nil found)
 finished_by found false = refl
 
+-- behind the last token the file is finished
 pub whole_end : (bytes : List ℕ) (tokens : List Token) (i : ℕ) (s : State) → length tokens ≤ i
     → whole bytes tokens i s ≡ finished s.items s.seen
 unfolding whole blocks remaining
@@ -125,6 +131,7 @@ whole_end bytes tokens i s le =
     rw (drop_all i tokens le, drop-nil {A = Block} s.passed) (ap (join (Ok s.items)) (rest_end bytes s.seen s.level)
     ∙ finished_by s.items s.seen)
 
+-- before the first token the whole file is left
 pub whole_start : (bytes : List ℕ) (tokens : List Token) (found : List Item) → found ≡ []
     → whole bytes tokens 0 (record { seen = false; level = 0; passed = 0; first = 0; items = found }) ≡ items bytes tokens
 unfolding whole remaining rest_of items
@@ -132,16 +139,19 @@ whole_start bytes tokens found e = rw e (join_none (outer bytes false (all_of (b
 
 -- ---- brackets
 
+-- a token inside of brackets is passed over
 pub behind_more : (inner now i : ℕ) (tokens : List Token) (t : Token) → drop i tokens ≡ t ∷ drop (i + 1) tokens
     → turned inner t.kind ≡ Some now → behind inner (drop i tokens) ≡ behind now (drop (i + 1) tokens)
 unfolding behind
 behind_more inner now i tokens t e turns = rw (e, turns) refl
 
+-- the bracket that closes ends the search
 pub behind_closed : (inner i : ℕ) (tokens : List Token) (t : Token) → drop i tokens ≡ t ∷ drop (i + 1) tokens → turned inner t.kind ≡ None
     → behind inner (drop i tokens) ≡ Some (drop (i + 1) tokens)
 unfolding behind
 behind_closed inner i tokens t e turns = rw (e, turns) refl
 
+-- brackets that nothing closes have no end
 pub behind_none : (inner i : ℕ) (tokens : List Token) → length tokens ≤ i → behind inner (drop i tokens) ≡ None
 unfolding behind
 behind_none inner i tokens le = rw (drop_all i tokens le) refl

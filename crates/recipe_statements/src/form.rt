@@ -104,6 +104,7 @@ fn ends_call(rest: &[Token]) -> bool
     }
 }
 
+/// What a line is that calls this name.
 fn call_form(name: &[u8]) -> PlainForm
     ensures { result ≡ call_form name.now }
 {

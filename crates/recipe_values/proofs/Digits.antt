@@ -17,6 +17,7 @@ digits_ascii [] e i = omega arith
 digits_ascii (b ∷ w) e zero = digit_small b (and_parts _ _ e).0
 digits_ascii (b ∷ w) e (suc i) = digits_ascii w (and_parts _ _ e).1 i
 
+-- a number is UTF-8
 pub number_utf8 : (w : List ℕ) → is_number w ≡ true → IsUtf8 w
 number_utf8 w e = IsUtf8-from_ascii w (digits_ascii w (and_parts _ _ e).1)
 
@@ -28,5 +29,6 @@ below_ascii [] e i = omega arith
 below_ascii (b ∷ w) e zero = small_by b (and_parts _ _ e).0
 below_ascii (b ∷ w) e (suc i) = below_ascii w (and_parts _ _ e).1 i
 
+-- bytes below 128 are UTF-8
 pub ascii_utf8 : (w : List ℕ) → list_all (λ b. nat_lt b 128) w ≡ true → is_utf8 w ≡ true
 ascii_utf8 w e = is_utf8-from_IsUtf8 w (IsUtf8-from_ascii w (below_ascii w e))

@@ -3,10 +3,12 @@ use Rattle.std.proofs.Common.{◌≡◌, ◌∙◌, ℕ, List, [], append-nil, a
 use Rattle.std.specs.Prelude.{Ok, Err}
 use Rattle.recipe_values.specs.Reads.{Read, join, Gives}
 
+-- nothing behind what is read leaves it
 pub join_nil : {A : Type 0} (a : Read (List A)) → join a (Ok []) ≡ a
 join_nil {A = A} (Ok a) = ap (λ (xs : List A). let r : Read (List A) = Ok xs in r) (append-nil a)
 join_nil {A = A} (Err place) = refl
 
+-- what is read joins in any grouping
 pub join_assoc : {A : Type 0} (a b c : Read (List A)) → join (join a b) c ≡ join a (join b c)
 join_assoc {A = A} (Ok a) (Ok b) (Ok c) = ap (λ (xs : List A). let r : Read (List A) = Ok xs in r) (append_assoc a b c)
 join_assoc {A = A} (Ok a) (Ok b) (Err place) = refl
@@ -28,6 +30,7 @@ pub gives_ok : {A : Type 0} (read : Read (Unit {0})) (done : Unit {0}) (new : Li
     → Gives read new part → part ≡ Ok new
 gives_ok {A = A} read done new part e gives = subst (λ (r : Read (Unit {0})). Gives r new part) e gives
 
+-- a part that gives a fault has it
 pub gives_err : {A : Type 0} (read : Read (Unit {0})) (place : ℕ) (new : List A) (part : Read (List A)) → read ≡ Err place
     → Gives read new part → part ≡ Err place
 gives_err {A = A} read place new part e gives = subst (λ (r : Read (Unit {0})). Gives r new part) e gives

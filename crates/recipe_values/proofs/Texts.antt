@@ -12,6 +12,7 @@ use Rattle.recipe_values.proofs.Joins.{join_nil, more_read, not_read}
 
 -- ---- UTF-8
 
+-- UTF-8 is the text that it is
 pub is_text : (place : ℕ) (w : List ℕ) → IsUtf8 w → as_text place (Ok w) ≡ Ok w
 is_text place w h = rw (is_utf8-from_IsUtf8 w h) refl
 
@@ -19,6 +20,7 @@ no_text_by : (b : Bool) (place : ℕ) (w : List ℕ) → (b ≡ true → ⊥) �
 no_text_by true place w h = absurd (h refl)
 no_text_by false place w h = refl
 
+-- what is no UTF-8 is a fault at its place
 pub no_text : (place : ℕ) (w : List ℕ) → (IsUtf8 w → ⊥) → as_text place (Ok w) ≡ Err place
 no_text place w h = no_text_by (is_utf8 w) place w (λ e. h (IsUtf8-from_is_utf8 w e))
 
@@ -28,6 +30,7 @@ no_text place w h = no_text_by (is_utf8 w) place w (λ e. h (IsUtf8-from_is_utf8
 abbrev pub nothing : Token
 nothing = record { kind = Word; start = 0; end = 0 }
 
+-- a byte more behind the text so far
 pub byte_more : (old new : List ℕ) (place i : ℕ) (taken : Bool) (bytes : List ℕ) → i < length bytes
     → join (Ok old) (byte_text (place + i) taken (get_or bytes i 0)) ≡ Ok new
     → join (Ok old) (decoded (place + i) taken (drop i bytes))
@@ -37,6 +40,7 @@ byte_more old new place i taken bytes lt e =
     let next : place + i + 1 ≡ place + (i + 1) = omega arith in
     rw (drop_more bytes i 0 lt, next) (more_read old new (byte_text (place + i) taken (get_or bytes i 0)) _ e)
 
+-- a byte that is no text is the fault of all
 pub byte_fails : (old : List ℕ) (place i fault : ℕ) (taken : Bool) (bytes : List ℕ) → i < length bytes
     → join (Ok old) (byte_text (place + i) taken (get_or bytes i 0)) ≡ Err fault
     → join (Ok old) (decoded (place + i) taken (drop i bytes)) ≡ Err fault
@@ -44,22 +48,26 @@ unfolding decoded
 byte_fails old place i fault taken bytes lt e =
     rw (drop_more bytes i 0 lt) (not_read old fault (byte_text (place + i) taken (get_or bytes i 0)) _ e)
 
+-- no bytes more leave the text
 pub bytes_end : (text : List ℕ) (place i : ℕ) (taken : Bool) (bytes : List ℕ) → length bytes ≤ i
     → join (Ok text) (decoded place taken (drop i bytes)) ≡ Ok text
 unfolding decoded
 bytes_end text place i taken bytes le = rw (drop_all i bytes le) (join_nil (Ok text))
 
+-- a string more behind the text so far
 pub string_more : (old new : List ℕ) (i : ℕ) (bytes : List ℕ) (tokens : List Token) (t : Token) → drop i tokens ≡ t ∷ drop (i + 1) tokens
     → join (Ok old) (string bytes t) ≡ Ok new → join (Ok old) (strings bytes (drop i tokens))
     ≡ join (Ok new) (strings bytes (drop (i + 1) tokens))
 unfolding strings
 string_more old new i bytes tokens t is e = rw is (more_read old new (string bytes t) _ e)
 
+-- a string that is no text is the fault of all
 pub string_fails : (old : List ℕ) (i fault : ℕ) (bytes : List ℕ) (tokens : List Token) (t : Token) → drop i tokens ≡ t ∷ drop (i + 1) tokens
     → join (Ok old) (string bytes t) ≡ Err fault → join (Ok old) (strings bytes (drop i tokens)) ≡ Err fault
 unfolding strings
 string_fails old i fault bytes tokens t is e = rw is (not_read old fault (string bytes t) _ e)
 
+-- no strings more leave the text
 pub strings_end : (text : List ℕ) (i : ℕ) (bytes : List ℕ) (tokens : List Token) → length tokens ≤ i
     → join (Ok text) (strings bytes (drop i tokens)) ≡ Ok text
 unfolding strings

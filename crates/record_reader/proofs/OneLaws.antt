@@ -1,9 +1,9 @@
 -- Bytes are one database at most, or have one fault at most.
-use Rattle.std.proofs.Common.{◌≡◌, ◌≢◌, refl, sym, ap, ◌∙◌, subst, ℕ, ◌<◌, List, Option, Some, None, Result, Ok, Err, inl, inr, unwrap_or, ⊎_elim, [], ◌∷◌, length, get_or, arith}
+use Rattle.std.proofs.Common.{◌≡◌, ◌≢◌, refl, sym, ap, ◌∙◌, subst, ℕ, ◌<◌, List, Some, None, Result, Ok, Err, inl, inr, ⊎_elim, [], ◌∷◌, length, get_or, arith}
 use Rattle.std.proofs.lemmas.Bool.{cases_lt}
 use Rattle.serde_json.specs.Data.{Data}
-use Rattle.json_readers.specs.Json.{IsJson}
 use Rattle.json_readers.specs.declared.fault.Misfit.{Misfit}
+use Rattle.json_readers.proofs.Once.{json_one, ok_one, some_one, none_or_some}
 use Rattle.reuse_db.specs.Canonical.{right_hash}
 use Rattle.reuse_db.specs.Databases.{AreRecords, HasNoTwice, IsDatabaseFault, IsFirstTwice, dangling, differing, hashes_of}
 use Rattle.reuse_db.specs.declared.record.Record.{Record}
@@ -14,24 +14,12 @@ use Rattle.record_reader.specs.Faults.{IsFaultOf, IsTextFault}
 
 -- ---- the records
 
-json_one : (bytes : List ℕ) (d e : Data) → IsJson bytes d → IsJson bytes e → d ≡ e
-json_one bytes d e h k = ap (λ o. unwrap_or o d) (sym h.1 ∙ k.1)
-
-ok_one : {T E : Type 0} (r : Result T E) (x y : T) → r ≡ Ok x → r ≡ Ok y → x ≡ y
-ok_one {T = T} {E = E} r x y p q = let is : (let R : Type 0 = Result T E in let l : R = Ok x in let s : R = Ok y in l ≡ s) = sym p ∙ q in cc
-
+-- bytes are one database at most
 pub database_one : (bytes : List ℕ) (a b : List Record) → IsDatabase bytes a → IsDatabase bytes b → a ≡ b
 database_one bytes a b (d, json, p) (e, other, q) =
     ok_one (records_at e) a b (ap records_at (sym (json_one bytes d e json other)) ∙ p.0) q.0
 
 -- ---- the fault of records
-
-some_one : {A : Type 0} (o : Option A) (x y : A) → o ≡ Some x → o ≡ Some y → x ≡ y
-some_one {A = A} o x y p q = let is : (let T : Type 0 = Option A in let l : T = Some x in let r : T = Some y in l ≡ r) = sym p ∙ q in cc
-
-none_or_some : {A B : Type 0} (o : Option A) (x : A) → o ≡ None → o ≡ Some x → B
-none_or_some {A = A} o x p q = absurd (let is : (let T : Type 0 = Option A in let l : T = None in let r : T = Some x in l ≡ r) =
-    sym p ∙ q in cc)
 
 ordered : (i k : ℕ) → (i < k → ⊥) → (k < i → ⊥) → i ≡ k
 ordered i k not_less not_more = ⊎_elim (λ lt. absurd (not_less lt))
@@ -120,6 +108,7 @@ value_one d f g (inr (inr (records, read, p))) (inr (inl (m, is, fault))) other 
 value_one d f g (inr (inr (records, read, p))) (inr (inr (others, too, q))) other not =
     records_one records f g p (subst (λ (l : List Record). IsDatabaseFault l g) (ok_one (records_at d) others records too read) q) other not
 
+-- bytes have one fault at most besides want of memory
 pub fault_one : (bytes : List ℕ) (f g : DbFault) → IsTextFault bytes f → IsTextFault bytes g → f ≢ OutOfMemory → g ≢ OutOfMemory → f ≡ g
 fault_one bytes f g (inl is) q other not = absurd (other is)
 fault_one bytes f g (inr p) (inl is) other not = absurd (not is)
@@ -137,6 +126,7 @@ value_right d records f is (inr (inl (m, wrong, q))) = ok_or_err (records_at d) 
 value_right d records f is (inr (inr (others, too, q))) =
     sound_none records f is.1 (subst (λ (l : List Record). IsDatabaseFault l f) (ok_one (records_at d) others records too is.0) q)
 
+-- a database is refused for want of memory alone
 pub database_right : (bytes : List ℕ) (records : List Record) (f : DbFault) → IsDatabase bytes records → IsTextFault bytes f
     → f ≡ OutOfMemory
 database_right bytes records f (d, json, is) (inl q) = q

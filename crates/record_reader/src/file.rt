@@ -1,4 +1,4 @@
-// The values of a file.
+//! The values of a file.
 ghost use Rattle.record_reader.specs.Files.{records_at, version_at};
 
 use crate::RecordForm;
@@ -28,9 +28,9 @@ impl Reader<List<Record>> for RecordsForm {
     }
 }
 
-/// The number 1.
+/// The number 1, the version of a file's format.
 #[derive(Clone, Copy)]
-struct VersionOne;
+pub struct VersionOne;
 
 impl Reader<u64> for VersionOne {
     ghost reads = { λ _. version_at };

@@ -1,4 +1,4 @@
-// Reading a database.
+//! Reading a database.
 ghost use Rattle.std.specs.Prelude.{IfOk, IfErr};
 ghost use Rattle.serde_json.specs.View.{view};
 ghost use Rattle.record_reader.specs.Faults.{IsFaultOf, IsTextFault};
@@ -10,15 +10,15 @@ use reuse_db::{Database, DbFault};
 use serde_json::Value;
 use std::alloc::Global;
 
-/// Reads a database: JSON of the form `{"version":1,"records":[..]}`, keys in any order. The records keep
-/// the order of the file, and have their variants in byte order.
+/// Reads a database: JSON of the form `{"version":1,"records":[..]}`, keys in any order. The
+/// records keep the order of the file, and have their variants in byte order.
 ///
 /// # Errors
 ///
-/// The first of these kinds that the file has anywhere, at its first place. `NotJson`: the bytes are no JSON
-/// text, or nest deeper than 127. `WrongKind`: a value has not its form; a value comes before what it holds,
-/// lists go from the front, and the keys of an object in byte order, missing and unknown ones among them.
-/// `HashDiffers`, `TwiceHash`, `Dangling`: as the faults say.
+/// The first of these kinds that the file has anywhere, at its first place. `NotJson`: the bytes
+/// are no JSON text, or nest deeper than 127. `WrongKind`: a value has not its form; a value comes
+/// before what it holds, lists go from the front, and the keys of an object in byte order, missing
+/// and unknown ones among them. `HashDiffers`, `TwiceHash`, `Dangling`: as the faults say.
 pub fn read_database(alloc: Global, bytes: &[u8]) -> Result<Database, DbFault>
     ensures found { IfOk result (IsDatabase bytes.now) }
     ensures fault { IfErr result (IsTextFault bytes.now) }

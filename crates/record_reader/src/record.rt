@@ -32,7 +32,8 @@ pub struct Middle {
     pub name: Word,
 }
 
-/// An object with just the keys of a record: missing and unknown keys go with the others in byte order.
+/// An object with just the keys of a record: missing and unknown keys go with the others in byte
+/// order.
 #[derive(Clone, Copy)]
 pub struct RecordForm;
 

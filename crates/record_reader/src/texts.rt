@@ -1,4 +1,4 @@
-// The texts of faults of databases.
+//! The texts of faults of databases.
 ghost use Rattle.std.specs.Prelude.{◌≡◌, IfOk};
 ghost use Rattle.std.specs.String.{string_bytes};
 ghost use Rattle.record_reader.specs.FaultTexts as texts;

@@ -10,12 +10,13 @@ use Rattle.std.proofs.lemmas.List.{get_or-map, get_or-take, get_or_default, leng
 use Rattle.graph_core.proofs.OfReachability.CountLaws.{has_first, has_later, first_or_later}
 use Rattle.graph_core.specs.Graphs.{Text}
 use Rattle.reuse_db.specs.declared.record.Record.{Record}
-use Rattle.reuse_db.specs.Places.{ArePlaces}
-use Rattle.reuse_db.proofs.PlaceLaws.{lacks_hash, has_hash}
+use Rattle.reachability.specs.TextPlaces.{ArePlaces}
+use Rattle.reachability.proofs.TextPlaces.{lacks_text, has_text}
 use Rattle.reuse_db.specs.Databases.{hashes_of, HasNoTwice, record_of}
 
 -- ---- a hash that none has
 
+-- no record is found by a hash that is none of theirs
 pub not_found : (records : List Record) (hash : Text) → (Contains (hashes_of records) hash → ⊥) → record_of records hash ≡ None
 not_found [] hash lacks = refl
 not_found (entry ∷ records) hash lacks =
@@ -28,6 +29,7 @@ not_found (entry ∷ records) hash lacks =
 
 -- ---- the first that has it
 
+-- the record at the only place of its hash is found by it
 pub found_at : (records : List Record) (hash : Text) (i : ℕ) (entry : Record) → i < length records → entry ≡ get_or records i entry
     → entry.hash ≡ hash
     → ((j : ℕ) → j < i → (get_or records j entry).hash ≡ hash → ⊥) → record_of records hash ≡ Some entry
@@ -43,6 +45,7 @@ found_at (e ∷ es) hash (suc i) entry lt is has first =
 
 -- ---- hashes that are known
 
+-- the test of a hash that is one of some
 pub known_test : (hashes : List Text) (hash : Text) → Contains hashes hash → list_any (bytes_eq hash) hashes ≡ true
 known_test [] hash there = absurd (omega (arith, there.1))
 known_test (h ∷ hs) hash there = ⊎_elim
@@ -51,6 +54,7 @@ known_test (h ∷ hs) hash there = ⊎_elim
     elim (bytes_eq hash h) as (λ b. (b || list_any (bytes_eq hash) hs) ≡ true) [ true ↦ refl | false ↦ rest ])
     (first_or_later h hs hash there)
 
+-- the test of a hash that is none of some
 pub unknown_test : (hashes : List Text) (hash : Text) → (Contains hashes hash → ⊥) → list_any (bytes_eq hash) hashes ≡ false
 unknown_test [] hash lacks = refl
 unknown_test (h ∷ hs) hash lacks =
@@ -72,18 +76,23 @@ not_got (e ∷ es) zero lt got = let no : Some e ≡ None = got in cc
 not_got (e ∷ es) (suc i) lt got = not_got es i (omega (arith, lt)) got
 
 module _ (records : List Record) (m : BTreeMap (String Global) ℕ) (are : ArePlaces (hashes_of records) m) where
+  -- a hash without a place is unknown
   pub lost : (hash : Text) → get_by_text m hash ≡ None → list_any (bytes_eq hash) (hashes_of records) ≡ false
-  lost hash none = unknown_test (hashes_of records) hash (lacks_hash (hashes_of records) m are hash none)
+  lost hash none = unknown_test (hashes_of records) hash (lacks_text (hashes_of records) m are hash none)
 
+  -- a hash with a place is known
   pub known : (hash : Text) (i : ℕ) → get_by_text m hash ≡ Some i → list_any (bytes_eq hash) (hashes_of records) ≡ true
-  known hash i some = known_test (hashes_of records) hash (has_hash (hashes_of records) m are hash i some)
+  known hash i some = known_test (hashes_of records) hash (has_text (hashes_of records) m are hash i some)
 
+  -- the place of a hash is one of a record
   pub within : (hash : Text) (i : ℕ) → get_by_text m hash ≡ Some i → i < length records
   within hash i some = omega (arith, ((are hash i).0 some).0, length-map records (λ (e : Record). e.hash))
 
+  -- a hash without a place has no record
   pub none_there : (hash : Text) → get_by_text m hash ≡ None → record_of records hash ≡ None
-  none_there hash none = not_found records hash (lacks_hash (hashes_of records) m are hash none)
+  none_there hash none = not_found records hash (lacks_text (hashes_of records) m are hash none)
 
+  -- a hash with a place has the record there
   pub one_there : HasNoTwice records → (hash : Text) (i : ℕ) (entry : Record) → get_by_text m hash ≡ Some i → entry ≡ get_or records i entry
       → record_of records hash ≡ Some entry
   one_there once hash i entry some is =
@@ -104,13 +113,15 @@ module _ (records : List Record) (m : BTreeMap (String Global) ℕ) (are : ArePl
             ∙ ap (λ (e : Record). e.hash) (is ∙ get_or_default records i entry d lt)) earlier,
       ))
 
+  -- what stands at the place of a hash is its record
   pub got_there : HasNoTwice records → (hash : Text) (i : ℕ) → get_by_text m hash ≡ Some i → slice_get records i ≡ record_of records hash
-  got_there once hash i some = go (slice_get records i) refl
+  got_there once hash i some = got_there-cases (slice_get records i) refl
     where
-      go : (o : Option Record) → slice_get records i ≡ o → o ≡ record_of records hash
-      go (Some entry) got = sym (one_there once hash i entry some (get_or_got records i entry got))
-      go None got = absurd (not_got records i (within hash i some) got)
+      got_there-cases : (o : Option Record) → slice_get records i ≡ o → o ≡ record_of records hash
+      got_there-cases (Some entry) got = sym (one_there once hash i entry some (get_or_got records i entry got))
+      got_there-cases None got = absurd (not_got records i (within hash i some) got)
 
+  -- whether a place is there tells whether the hash is known
   pub told_known : (hash : Text) (o : Option ℕ) (is : Bool) → o ≡ get_by_text m hash → is ≡ is_some o
       → is ≡ list_any (bytes_eq hash) (hashes_of records)
   told_known hash (Some i) is e told = told ∙ sym (known hash i (sym e))

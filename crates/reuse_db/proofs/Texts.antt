@@ -4,6 +4,7 @@ use Rattle.std.specs.declared.alloc.Global.{Global}
 use Rattle.std.specs.Ordering.{nat_cmp, match_ordering}
 use Rattle.std.specs.declared.cmp.Ordering.TheVariants.{Less, Equal, Greater}
 use Rattle.std.specs.Cmp.Lexicographic.{slice_cmp}
+use Rattle.std.proofs.lemmas.Bool.{or_from}
 use Rattle.serde_json.specs.Data.{Data, string, item, Members, no_members, member, put}
 use Rattle.serde_json.specs.View.{view, items_of, members_of}
 use Rattle.serde_json.specs.Written.{compact_text, has_float, items_have_float, members_have_float}
@@ -14,6 +15,7 @@ use Rattle.graph_core.specs.declared.node.Compiler.{Compiler}
 use Rattle.reuse_db.specs.Canonical.{texts_data, compiler_data, external_data, dependency_data, dependency_members, kind_texts, values_of, record_data}
 use Rattle.reuse_db.specs.declared.record.Record.{Record}
 
+-- the values of a map, in the order of its keys
 pub values_seen : (entries : List (String Global × Value))
     → items_of (map view (map (λ e. e.1) entries)) ≡ values_of (members_of (map (λ e. (e.0, view e.1)) entries))
 values_seen [] = refl
@@ -21,15 +23,13 @@ values_seen (e ∷ entries) = ap (item (view e.1)) (values_seen entries)
 
 -- ---- no floats
 
-none_of : (a b : Bool) → a ≡ false → b ≡ false → (a || b) ≡ false
-none_of false b p q = q
-none_of true b p q = absurd (let wrong : true ≡ false = p in cc)
-
-first_of : (a b : Bool) → (a || b) ≡ false → a ≡ false
+-- the first of two that do not hold
+pub first_of : (a b : Bool) → (a || b) ≡ false → a ≡ false
 first_of false b p = refl
 first_of true b p = absurd (let wrong : true ≡ false = p in cc)
 
-second_of : (a b : Bool) → (a || b) ≡ false → b ≡ false
+-- the second of two that do not hold
+pub second_of : (a b : Bool) → (a || b) ≡ false → b ≡ false
 second_of false b p = p
 second_of true b p = absurd (let wrong : true ≡ false = p in cc)
 
@@ -37,16 +37,17 @@ texts_float : (texts : List Text) → items_have_float (items_of (map string tex
 texts_float [] = refl
 texts_float (text ∷ texts) = texts_float texts
 
-put_float : (k : Text) (d : Data) (ms : Members) → has_float d ≡ false → members_have_float ms ≡ false
+-- a member without floats adds none
+pub put_float : (k : Text) (d : Data) (ms : Members) → has_float d ≡ false → members_have_float ms ≡ false
     → members_have_float (put k d ms) ≡ false
-put_float k d no_members f h = none_of _ _ f refl
+put_float k d no_members f h = or_from _ _ f refl
 put_float k d (member l e ms) f h =
     let rest = put_float k d ms f (second_of _ _ h) in
     elim (slice_cmp nat_cmp k l) as (λ r. members_have_float
     (match_ordering r (member k d (member l e ms)) (member l d ms) (member l e (put k d ms))) ≡ false) [
-      | Less ↦ none_of _ _ f h
-      | Equal ↦ none_of _ _ f (second_of _ _ h)
-      | Greater ↦ none_of _ _ (first_of _ _ h) rest
+      | Less ↦ or_from _ _ f h
+      | Equal ↦ or_from _ _ f (second_of _ _ h)
+      | Greater ↦ or_from _ _ (first_of _ _ h) rest
     ]
 
 variants_float : (variants : List (Text × List Text)) (ms : Members) → members_have_float ms ≡ false
@@ -56,7 +57,7 @@ variants_float (v ∷ variants) ms h = variants_float variants (put v.0 (texts_d
     (put_float v.0 (texts_data v.1) ms (texts_float v.1) h)
 
 dependency_float : (d : Text × Kinds) → has_float (dependency_data d) ≡ false
-dependency_float d = none_of _ _ (texts_float (kind_texts d.1)) refl
+dependency_float d = or_from _ _ (texts_float (kind_texts d.1)) refl
 
 dependencies_float : (dependencies : List (Text × Kinds)) (ms : Members) → members_have_float ms ≡ false
     → members_have_float (fold (λ ms d. put d.0 (dependency_data d) ms) ms dependencies) ≡ false
@@ -66,7 +67,7 @@ dependencies_float (d ∷ dependencies) ms h =
 
 values_float : (ms : Members) → members_have_float ms ≡ false → items_have_float (values_of ms) ≡ false
 values_float no_members h = refl
-values_float (member k d ms) h = none_of _ _ (first_of _ _ h) (values_float ms (second_of _ _ h))
+values_float (member k d ms) h = or_from _ _ (first_of _ _ h) (values_float ms (second_of _ _ h))
 
 compiler_float : (compiler : Option Compiler) → has_float (compiler_data compiler) ≡ false
 compiler_float None = refl
@@ -76,12 +77,13 @@ external_float : (external : Option Text) → has_float (external_data external)
 external_float None = refl
 external_float (Some prefix) = refl
 
+-- a record has no floats
 pub no_floats : (entry : Record) → has_float (record_data entry) ≡ false
 no_floats entry =
-    none_of _ _ (compiler_float entry.compiler)
-    (none_of _ _ (values_float (dependency_members entry.dependencies) (dependencies_float entry.dependencies no_members refl))
-    (none_of _ _ (external_float entry.external)
-    (none_of _ _ (variants_float entry.variants no_members refl) refl)))
+    or_from _ _ (compiler_float entry.compiler)
+    (or_from _ _ (values_float (dependency_members entry.dependencies) (dependencies_float entry.dependencies no_members refl))
+    (or_from _ _ (external_float entry.external)
+    (or_from _ _ (variants_float entry.variants no_members refl) refl)))
 
 -- what a writer gives for a value that is seen as the data
 pub ok_text : {T E : Type 0} (r : Result T E) (items : T → List ℕ) (v d : Data) → v ≡ d → has_float d ≡ false

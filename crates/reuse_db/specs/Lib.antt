@@ -1,5 +1,3 @@
 -- what public contracts say
 pub mod Canonical
 pub mod Databases
--- inside
-pub mod Places

@@ -1,10 +1,11 @@
-// Installed packages.
+//! Installed packages.
 ghost use Rattle.std.specs.Prelude.{◌≡◌, [], None, find, slice_get, IfOk, IfErr, OnOk};
 ghost use Rattle.std.specs.List.{list_any};
 ghost use Rattle.std.specs.Option.{option_copied};
 ghost use Rattle.std.specs.Str.{bytes_eq};
-ghost use Rattle.reuse_db.specs.Places.{ArePlaces};
-ghost use Rattle.reuse_db.specs.Databases.{AreRecords, IsDatabaseFault, IsHashFault, hashes_of, record_of, differing, dangling, is_lost};
+ghost use Rattle.reachability.specs.TextPlaces.{ArePlaces};
+ghost use Rattle.reuse_db.specs.Databases.{AreRecords, IsDatabaseFault, IsHashFault, hashes_of};
+ghost use Rattle.reuse_db.specs.Databases.{record_of, differing, dangling, is_lost};
 
 use crate::places::{place_in, places_of};
 use crate::text::canonical;
@@ -27,7 +28,7 @@ pub struct Database {
 impl Model for Database {
     ghost use Rattle.std.specs.Prelude.{List};
     ghost use Rattle.reuse_db.specs.Databases.{AreRecords, hashes_of};
-    ghost use Rattle.reuse_db.specs.Places.{ArePlaces};
+    ghost use Rattle.reachability.specs.TextPlaces.{ArePlaces};
     ghost use Rattle.reuse_db.specs.declared.record.Record.{Record};
 
     ghost Value = { List Record };
@@ -134,6 +135,7 @@ fn first_dangling(records: &[Record], places: &BTreeMap<String, usize>) -> Optio
     None
 }
 
+/// The first child of a record that is needed at run time or for linking and is not there.
 fn lost_child<'a>(
     records: &[Record],
     entry: &'a Record,

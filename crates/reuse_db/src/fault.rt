@@ -1,4 +1,4 @@
-// Why records are no database.
+//! Why records are no database.
 ghost use Rattle.std.specs.Prelude.{◌≡◌};
 ghost use Rattle.reuse_db.specs.declared.fault.DbFault.TheVariants.{OutOfMemory};
 
@@ -7,7 +7,8 @@ use spec_hash::Hash;
 use std::alloc::{AllocError, AllocFailed};
 use thiserror::Error;
 
-/// Why a text or a list of records is no database: the first of these that exists, at its first place.
+/// Why a text or a list of records is no database: the first of these that exists, at its first
+/// place.
 #[derive(Debug, Drop, Error)]
 pub enum DbFault {
     #[error("not JSON")]

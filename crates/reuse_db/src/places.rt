@@ -1,9 +1,9 @@
-// The places of hashes.
+//! The places of hashes.
 ghost use Rattle.std.specs.Prelude.{◌≡◌, ◌⊎◌, ℕ, List, Some, OnOk, IfOk, IfErr};
 ghost use Rattle.std.specs.BTreeMap.{get_by_text};
 ghost use Rattle.std.specs.Map.{update};
 ghost use Rattle.std.specs.Str.{bytes_eq};
-ghost use Rattle.reuse_db.specs.Places.{ArePlaces};
+ghost use Rattle.reachability.specs.TextPlaces.{ArePlaces};
 ghost use Rattle.reuse_db.specs.Databases.{HasNoTwice, IsTwiceFault, hashes_of};
 
 use crate::{DbFault, Record};

@@ -1,4 +1,4 @@
-// What is installed.
+//! What is installed.
 
 use graph_core::{Compiler, Kinds, ValueSet, Version};
 use plain_data::{List, Word};
@@ -18,6 +18,7 @@ pub struct Record {
     pub target: Word,
     /// The prefix of an external.
     pub external: Option<Word>,
-    /// The hashes of what it was built with, linked to or run with, each once and with at least one kind.
+    /// The hashes of what it was built with, linked to or run with, each once and with at least one
+    /// kind.
     pub dependencies: List<(Hash, Kinds)>,
 }

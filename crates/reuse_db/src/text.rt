@@ -1,8 +1,10 @@
-// The canonical text of a record.
+//! The canonical text of a record.
 ghost use Rattle.std.specs.Prelude.{◌≡◌, List, ◌∷◌, map, codes, IfOk, if◌then◌else◌};
 ghost use Rattle.serde_json.specs.Data.{Data, array, object, member, no_members, string};
 ghost use Rattle.serde_json.specs.View.{view, members_view, items_view};
-ghost use Rattle.reuse_db.specs.Canonical.{texts_data, compiler_data, external_data, variant_members, kind_texts, dependency_data, dependency_members, values_of, record_data, canonical};
+ghost use Rattle.reuse_db.specs.Canonical.{texts_data, compiler_data, external_data};
+ghost use Rattle.reuse_db.specs.Canonical.{variant_members, kind_texts, dependency_data};
+ghost use Rattle.reuse_db.specs.Canonical.{dependency_members, values_of, record_data, canonical};
 
 use crate::Record;
 use graph_core::{Compiler, Kinds, ValueSet};
@@ -26,10 +28,11 @@ pub fn record_value(alloc: Global, entry: &Record) -> Result<Value, AllocError>
     let dependencies = dependencies_value(alloc, entry.dependencies.as_slice())?;
     let external = external_value(alloc, &entry.external)?;
     let variants = variants_value(alloc, entry.variants.as_slice())?;
-    whole(alloc, entry, compiler, dependencies, external, variants)
+    record_object(alloc, entry, compiler, dependencies, external, variants)
 }
 
-fn whole(
+/// The object of a record, its keys in byte order.
+fn record_object(
     alloc: Global,
     entry: &Record,
     compiler: Value,
@@ -59,6 +62,7 @@ fn whole(
     })
 }
 
+/// A compiler as an object, or null.
 fn compiler_value(alloc: Global, compiler: &Option<Compiler>) -> Result<Value, AllocError>
     ensures { IfOk result (λ value. view value ≡ compiler_data compiler.now) }
 {
@@ -89,6 +93,7 @@ fn texts_value(alloc: Global, texts: &[Word]) -> Result<Value, AllocError>
     Ok(Value::Array(list))
 }
 
+/// Each variant with the list of its values.
 fn variants_value(alloc: Global, variants: &[(Word, ValueSet)]) -> Result<Value, AllocError>
     ensures { IfOk result (λ value. view value ≡ object (variant_members variants.now)) }
 {
@@ -100,6 +105,7 @@ fn variants_value(alloc: Global, variants: &[(Word, ValueSet)]) -> Result<Value,
     Ok(Value::Object(map))
 }
 
+/// The kinds of a dependency as a list, in the order build, link, run.
 fn kinds_value(alloc: Global, kinds: &Kinds) -> Result<Value, AllocError>
     ensures { IfOk result (λ value. view value ≡ texts_data (kind_texts kinds.now)) }
 {
@@ -122,6 +128,7 @@ fn dependency_value(alloc: Global, dependency: &(Hash, Kinds)) -> Result<Value, 
     json!(in alloc; {"hash": dependency.0.as_str(), "kinds": kinds})
 }
 
+/// The dependencies in byte order of their hashes, which the map's keys give.
 fn dependencies_by_hash(
     alloc: Global,
     dependencies: &[(Hash, Kinds)],

@@ -4,6 +4,7 @@ use Rattle.std.specs.List.{list_all, list_any, filter}
 use Rattle.condition_rules.specs.Words.{implies}
 
 module _ {X : Type 0} (p test : X → Bool) where
+  -- a test of all under a premise is one of all that meet it
   pub all-filter : (xs : List X) → list_all (λ x. implies (p x) (test x)) xs ≡ list_all test (filter p xs)
   all-filter [] = refl
   all-filter (x ∷ xs) =
@@ -11,6 +12,7 @@ module _ {X : Type 0} (p test : X → Bool) where
       elim (p x) as (λ b. (implies b (test x) && list_all (λ y. implies (p y) (test y)) xs)
       ≡ list_all test (cond b (x ∷ filter p xs) (filter p xs))) [ true ↦ ap (λ b. test x && b) rest | false ↦ rest ]
 
+  -- a test of some under a premise is one of some that meet it
   pub any-filter : (xs : List X) → list_any (λ x. p x && test x) xs ≡ list_any test (filter p xs)
   any-filter [] = refl
   any-filter (x ∷ xs) =

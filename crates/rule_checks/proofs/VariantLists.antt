@@ -16,6 +16,7 @@ variants-themselves : (a : Variants) → same_variants a a ≡ true
 variants-themselves [] = refl
 variants-themselves (v ∷ more) = and_from _ _ (and_from _ _ (bytes_eq-itself v.0) (texts-themselves v.1)) (variants-themselves more)
 
+-- a test that decides equality of variants is that of the book
 pub variants-decide : (r : Bool) (a b : Variants) → (IsTrue r ↔ (a ≡ b)) → r ≡ same_variants a b
 variants-decide true a b h = sym (subst (λ c. same_variants a c ≡ true) (h.0 refl) (variants-themselves a))
 variants-decide false a b h =

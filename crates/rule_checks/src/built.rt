@@ -1,10 +1,11 @@
-// The rules of a node to build, apart from variants, edges and directives.
+//! The rules of a node to build, apart from variants, edges and directives.
 ghost use Rattle.std.specs.Prelude.{◌≡◌, ◌&&◌};
 ghost use Rattle.std.specs.Str.{bytes_eq};
 ghost use Rattle.std.specs.List.{list_any};
 ghost use Rattle.condition_rules.specs.Words.{among, if_written};
 ghost use Rattle.problem.specs.Problems.{same_compiler};
-ghost use Rattle.graph_rules.specs.Built.{keeps_buildable, keeps_version, keeps_compiler, keeps_machine, supports};
+ghost use Rattle.graph_rules.specs.Built.{keeps_buildable, keeps_version, keeps_compiler};
+ghost use Rattle.graph_rules.specs.Built.{keeps_machine, supports};
 
 use graph_core::{Compiler, Node};
 use plain_data::{List, Word};

@@ -1,4 +1,4 @@
-// The rules of roots, and of directives at a node to build.
+//! The rules of roots, and of directives at a node to build.
 ghost use Rattle.std.specs.Prelude.{◌≡◌, IfOk, count_by};
 ghost use Rattle.std.specs.List.{list_any};
 ghost use Rattle.std.specs.Option.{option_copied};
@@ -7,7 +7,8 @@ ghost use Rattle.graph_core.specs.Graphs.{edge_of};
 ghost use Rattle.problem.specs.Nodes.{covers};
 ghost use Rattle.condition_rules.specs.Holds.{asked_node, suits, holds};
 ghost use Rattle.problem.specs.Problems.{world_of, asked_by};
-ghost use Rattle.graph_rules.specs.Directives.{keeps_root, keeps_edge, keeps_constraint, keeps_conflict, keeps_requirement, has_choice};
+ghost use Rattle.graph_rules.specs.Directives.{keeps_root, keeps_edge, keeps_constraint};
+ghost use Rattle.graph_rules.specs.Directives.{keeps_conflict, keeps_requirement, has_choice};
 
 use condition_rules::{Paths, asked_node, holds, suits};
 use graph_core::{Kinds, Node};
@@ -143,6 +144,7 @@ pub fn keeps_conflict(
     Ok(!spec_holds(alloc, problem, graph, node, &row.spec)?)
 }
 
+/// How many of some specs hold at a node.
 fn count_held(
     alloc: Global,
     problem: &Problem,
@@ -162,6 +164,7 @@ fn count_held(
     Ok(count)
 }
 
+/// Whether one of some specs holds at a node.
 fn some_holds(
     alloc: Global,
     problem: &Problem,

@@ -1,4 +1,4 @@
-// The edges of a node to build.
+//! The edges of a node to build.
 ghost use Rattle.std.specs.Prelude.{◌≡◌, IfOk, filter};
 ghost use Rattle.std.specs.List.{list_all};
 ghost use Rattle.std.specs.Str.{bytes_eq};
@@ -51,6 +51,7 @@ fn joined(a: Kinds, b: Kinds) -> Kinds
     }
 }
 
+/// All kinds that the rows of a node ask for of one child.
 fn asked_kinds(
     alloc: Global,
     problem: &Problem,
@@ -81,6 +82,7 @@ fn has_kind(kinds: Kinds) -> bool
     kinds.build || kinds.link || kinds.run
 }
 
+/// Whether rows ask for all kinds of an edge, which has one at least.
 fn is_asked(
     alloc: Global,
     problem: &Problem,
@@ -98,6 +100,7 @@ fn is_asked(
     Ok(covers(kinds, edge.kinds))
 }
 
+/// Whether that is so of each edge.
 fn all_asked(
     alloc: Global,
     problem: &Problem,

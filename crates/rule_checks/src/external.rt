@@ -1,5 +1,6 @@
-// The node of an external, in which what is not written is completed.
-ghost use Rattle.std.specs.Prelude.{◌≡◌, [], ◌++◌, Some, IfOk, OnOk, find, map, unwrap_or, if◌then◌else◌};
+//! The node of an external, in which what is not written is completed.
+ghost use Rattle.std.specs.Prelude.{◌≡◌, [], ◌++◌, Some, IfOk, OnOk, find, map, unwrap_or};
+ghost use Rattle.std.specs.Prelude.{if◌then◌else◌};
 ghost use Rattle.std.specs.Option.{option_copied};
 ghost use Rattle.std.specs.Str.{bytes_eq};
 ghost use Rattle.variant_values.specs.Texts.{with_texts};
@@ -95,6 +96,7 @@ fn variant_names(
     Ok(ValueSet::from_words(names))
 }
 
+/// Each of these variants with the values of an external's completed entry.
 fn completed_each(
     alloc: Global,
     written: &[(Word, ValueSet)],

@@ -1,4 +1,4 @@
-// The rule of kept nodes.
+//! The rule of kept nodes.
 ghost use Rattle.std.specs.Prelude.{◌≡◌, ◌&&◌, ◌||◌, false, IfOk, filter, slice_get};
 ghost use Rattle.std.specs.List.{list_all, list_any};
 ghost use Rattle.std.specs.Option.{option_copied};
@@ -9,7 +9,8 @@ ghost use Rattle.problem.specs.Nodes.{is_installed};
 ghost use Rattle.graph_core.specs.declared.node.Origin.TheVariants.{External, Installed};
 ghost use Rattle.rule_checks.specs.Records.{keeps_record};
 ghost use Rattle.problem.specs.Problems.{entry_of, externals_in, record_at};
-ghost use Rattle.graph_rules.specs.Kept.{same_attributes, external_node, has_kinds, keeps_child, is_child, keeps_origin, keeps_kept};
+ghost use Rattle.graph_rules.specs.Kept.{same_attributes, external_node, has_kinds, keeps_child};
+ghost use Rattle.graph_rules.specs.Kept.{is_child, keeps_origin, keeps_kept};
 
 use crate::external::external_node;
 use crate::same::{same_attributes, same_installed};
@@ -97,6 +98,7 @@ fn is_there(graph: &Explored, name: &str, hash: &Hash) -> bool
     }
 }
 
+/// Whether an edge has just the link and run kinds of a dependency.
 fn has_kinds(kinds: Kinds, edge: &Edge) -> bool
     ensures { result ≡ has_kinds kinds edge.now }
 {
@@ -117,6 +119,7 @@ fn is_joined(graph: &Explored, parent: &str, child: &str, kinds: Kinds) -> bool
     }
 }
 
+/// Whether an installed node has the edge to a child of its record, which is a node.
 fn keeps_child(problem: &Problem, graph: &Explored, name: &str, dependency: &(Hash, Kinds)) -> bool
     ensures { result ≡ keeps_child problem.now graph.now name.now dependency.now }
 {
@@ -227,8 +230,8 @@ fn keeps_installed(problem: &Problem, graph: &Explored, node: &Node, hash: &Hash
     }
 }
 
-/// A built node has no prefix, an external is its completed entry and has no edge, and an installed node is its
-/// record, with edges exactly to the link and run children.
+/// A built node has no prefix, an external is its completed entry and has no edge, and an installed
+/// node is its record, with edges exactly to the link and run children.
 #[tactic(auto, unfolding(graph_rules::specs::Kept::keeps_kept))]
 pub fn keeps_kept(
     alloc: Global,

@@ -1,17 +1,10 @@
-//! The test of the rule of kept nodes.
+//! The checks of the rules of a valid graph, at one node, one directive, one provider or one root.
 //!
-//! What it is: `keeps_kept`, of one node of a graph.
-//! What it promises: it answers what the definition of its name in `graph_rules` computes, and errs for want of memory
-//! alone.
-//! What it stands on: `graph_rules` for the definition, `problem_lookups` for what is looked up.
-//! What it must not know: the other rules, their order, costs.
-//!
-//! The tests of the rules of a valid graph but that of kept nodes, at one node, one directive, one provider or one root.
-//!
-//! What it is: a call `keeps_..` for each definition of that name of `graph_rules`.
+//! What it is: a call `keeps_..` for each definition of that name of `graph_rules`; `judge` runs
+//! them.
 //! What it promises: each answers what its definition computes, and errs for want of memory alone.
-//! What it stands on: `graph_rules` for the definitions, `problem_lookups` for what is looked up, `condition_rules` for
-//! conditions.
+//! What it stands on: `graph_rules` for the definitions, `problem` for what is looked up,
+//! `condition_rules` for conditions.
 //! What it must not know: the order of the rules, which place is named, costs.
 #![tactic(auto)]
 

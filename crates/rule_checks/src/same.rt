@@ -1,4 +1,4 @@
-// Attributes of nodes that are the same.
+//! Attributes of nodes that are the same.
 ghost use Rattle.std.specs.Prelude.{◌≡◌, ◌&&◌};
 ghost use Rattle.std.specs.Option.{option_eq};
 ghost use Rattle.std.specs.Str.{bytes_eq};

@@ -1,4 +1,4 @@
-// The variants of a node to build.
+//! The variants of a node to build.
 ghost use Rattle.std.specs.Prelude.{◌≡◌, IfOk, map, filter};
 ghost use Rattle.std.specs.List.{list_all};
 ghost use Rattle.std.specs.Str.{bytes_eq};
@@ -6,7 +6,8 @@ ghost use Rattle.std.specs.Cmp.Lexicographic.{pointwise};
 ghost use Rattle.condition_rules.specs.Words.{includes};
 ghost use Rattle.recipe_data.specs.Right.{is_count_of};
 ghost use Rattle.problem.specs.Problems.{applies};
-ghost use Rattle.graph_rules.specs.Built.{governed, allows, is_allowed, has_governed, keeps_variant};
+ghost use Rattle.graph_rules.specs.Built.{governed, allows, is_allowed, has_governed};
+ghost use Rattle.graph_rules.specs.Built.{keeps_variant};
 
 use condition_rules::governing;
 use graph_core::Node;
@@ -16,6 +17,7 @@ use recipe_data::VariantRow;
 use std::alloc::{AllocError, Global};
 use variant_values::{ValueSet, VariantKind};
 
+/// The names of the variants whose rows apply at a node.
 fn governed_names(
     alloc: Global,
     problem: &Problem,
@@ -106,6 +108,7 @@ fn is_allowed(
     }
 }
 
+/// Whether each variant has values that the row that governs it allows.
 fn all_allowed(
     alloc: Global,
     problem: &Problem,

@@ -1,4 +1,4 @@
-// The rules of providers, and of the graph as a whole.
+//! The rules of providers, and of the graph as a whole.
 ghost use Rattle.std.specs.Prelude.{◌≡◌, ◌&&◌, ◌||◌, IfOk, None, is_some};
 ghost use Rattle.std.specs.List.{list_any};
 ghost use Rattle.std.specs.Str.{bytes_eq};
@@ -7,7 +7,8 @@ ghost use Rattle.graph_core.specs.Graphs.{edge_of};
 ghost use Rattle.graph_core.specs.Paths.{reaches_in};
 ghost use Rattle.virtuals.specs.Virtuals.{is_virtual};
 ghost use Rattle.problem.specs.Problems.{world_of, applies};
-ghost use Rattle.graph_rules.specs.Whole.{keeps_provider, keeps_used, keeps_no_cycle, keeps_reachable, uses, needs};
+ghost use Rattle.graph_rules.specs.Whole.{keeps_provider, keeps_used, keeps_no_cycle};
+ghost use Rattle.graph_rules.specs.Whole.{keeps_reachable, uses, needs};
 
 use condition_rules::{Paths, provides};
 use graph_core::Node;
@@ -38,6 +39,7 @@ fn is_named(row: &DependRow, name: &str) -> bool
     }
 }
 
+/// Whether a row that applies asks for this name.
 fn some_asks(
     alloc: Global,
     problem: &Problem,
@@ -64,6 +66,7 @@ fn has_edge(graph: &Explored, parent: &str, child: &str) -> bool
     graph.graph().edge(parent, child).is_some()
 }
 
+/// Whether a built node with an edge to the package asks for the virtual.
 fn uses(
     alloc: Global,
     problem: &Problem,
@@ -86,6 +89,7 @@ fn uses(
     )
 }
 
+/// Whether one of the nodes does.
 fn some_uses(
     alloc: Global,
     problem: &Problem,
@@ -151,6 +155,7 @@ fn needs(alloc: Global, graph: &Explored, node: &Node, spec: &Spec) -> Result<bo
     }
 }
 
+/// Whether one of some specs asks for a node or leads to it.
 fn some_needs(
     alloc: Global,
     graph: &Explored,

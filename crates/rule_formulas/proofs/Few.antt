@@ -13,6 +13,7 @@ use Rattle.graph_formulas.specs.Lists.{first_rules, apart_rules, half_of, halves
 use Rattle.graph_formulas.specs.Words.{rule_said}
 use Rattle.rule_formulas.specs.Terms.{apart_said}
 
+-- an either of equal formulas
 pub either-same : (a b c d : Statement) → a ≡ c → b ≡ d → any_of (a ∷ b ∷ []) ≡ any_of (c ∷ d ∷ [])
 either-same a b c d first second = rw (first, second) refl
 
@@ -20,24 +21,29 @@ module _ {T : Type 0} (path : Text → Text → Statement) (table : Table) (rule
   abbrev words : List (Rule Word) → List Statement
   words rs = map (rule_said path table) rs
 
+  -- an element before none
   pub first_none : (old : List Statement) (x : T) (rest : List T) → length rest ≡ 0 → old ++ words (first_rules rule x rest) ≡ old
   first_none old x [] is = append-nil old
   first_none old x (y ∷ ys) is = absurd (omega (arith, is))
 
+  -- an element before some: none of them beside it
   pub first_some : (old : List Statement) (x : T) (rest : List T) → (length rest ≡ 0 → ⊥)
       → old ++ words (first_rules rule x rest) ≡ old ++ apart_said path table rule x rest ∷ []
   first_some old x [] some = absurd (some refl)
   first_some old x (y ∷ ys) some = refl
 
+  -- one element more
   pub apart_step : (old : List Statement) (x : T) (xs : List T)
       → (old ++ words (first_rules rule x xs)) ++ words (apart_rules rule xs) ≡ old ++ words (apart_rules rule (x ∷ xs))
   apart_step old x xs = append_assoc old (words (first_rules rule x xs)) (words (apart_rules rule xs))
       ∙ ap (λ fs. old ++ fs) (sym (map-append (rule_said path table) (first_rules rule x xs) (apart_rules rule xs)))
 
+  -- a list that may not be halved
   pub few-none : (times : ℕ) (xs : List T) → times ≡ 0 → few_rules times rule xs ≡ apart_rules rule xs
   unfolding few_rules
   few-none times xs e = rw e refl
 
+  -- a short list
   pub few-short : (times : ℕ) (xs : List T) → length xs ≤ 8 → few_rules times rule xs ≡ apart_rules rule xs
   unfolding few_rules
   few-short zero xs le = refl
@@ -53,6 +59,7 @@ module _ {T : Type 0} (path : Text → Text → Statement) (table : Table) (rule
       let less : suc times - 1 ≡ times = omega arith in
       rw (long, less) refl
 
+  -- the halves and what joins them
   pub few-joined : (old one two three : List Statement) (times : ℕ) (xs : List T) (h : Statement) → (times ≡ 0 → ⊥) → 8 < length xs
       → one ≡ old ++ h ∷ [] → h ≡ rule_said path table (halves_rule rule (take (half_of xs) xs) (drop (half_of xs) xs))
       → two ≡ one ++ words (few_rules (times - 1) rule (take (half_of xs) xs)) → three ≡ two ++ words (few_rules (times - 1) rule (drop (half_of xs) xs))

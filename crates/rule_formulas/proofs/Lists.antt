@@ -32,10 +32,12 @@ any-offered child [] = refl
 any-offered child (c ∷ cs) = rw (any-offered child cs) refl
 
 module _ (table : Table) (world : World) (child asked : Text) where
+  -- a virtual may ask for the packages of the table
   pub asked-virtual : is_virtual world.recipes asked ≡ true
       → list_any (λ (c : Text × Lit). bytes_eq child c.0) (packages_of table asked) ≡ is_asked world (names_for table) child asked
   asked-virtual is = rw is (any-offered child (packages_of table asked))
 
+  -- a package for itself
   pub asked-package : is_virtual world.recipes asked ≡ false → bytes_eq asked child ≡ is_asked world (names_for table) child asked
   asked-package is = rw is refl
 
@@ -48,17 +50,18 @@ over-mapped f g (x ∷ xs) = ap (λ l. f (g x) ∷ l) (over-mapped f g xs)
 pub filter-mapped : {A B : Type 0} (f : B → Statement) (g : A → B) (p : B → Bool) (xs : List A)
     → map (λ x. f (g x)) (filter (λ x. p (g x)) xs) ≡ map f (filter p (map g xs))
 filter-mapped f g p [] = refl
-filter-mapped f g p (x ∷ xs) = go (p (g x)) (filter-mapped f g p xs)
+filter-mapped f g p (x ∷ xs) = filter-mapped-cases (p (g x)) (filter-mapped f g p xs)
   where
-    go : (b : Bool) → map (λ x. f (g x)) (filter (λ x. p (g x)) xs) ≡ map f (filter p (map g xs))
+    filter-mapped-cases : (b : Bool) → map (λ x. f (g x)) (filter (λ x. p (g x)) xs) ≡ map f (filter p (map g xs))
         → map (λ x. f (g x)) (if b then x ∷ filter (λ x. p (g x)) xs else filter (λ x. p (g x)) xs)
         ≡ map f (if b then g x ∷ filter p (map g xs) else filter p (map g xs))
-    go true rest = ap (λ l. f (g x) ∷ l) rest
-    go false rest = rest
+    filter-mapped-cases true rest = ap (λ l. f (g x) ∷ l) rest
+    filter-mapped-cases false rest = rest
 
 -- rules of what is known
 module _ (path : Text → Text → Statement) (condition : Text → Condition → Statement) (table : Table) where
   module _ {T : Type 0} (rule : T → Rule Word) where
+    -- a rule over facts is one over terms: some of a list
     pub some-known : (xs : List T) → rule_said path table (some rule xs) ≡ term_formula path condition table (some (λ x. known_rule (rule x)) xs)
     some-known [] = refl
     some-known (x ∷ xs) = ap (λ f. or (rule_said path table (rule x)) f) (some-known xs)
@@ -101,26 +104,30 @@ module _ (path : Text → Text → Statement) (condition : Text → Condition �
           | false ↦ apart-known xs
         ]
 
+    -- so for exactly one
     pub one-known : (xs : List T) → rule_said path table (just_one rule xs) ≡ term_formula path condition table (just_one known xs)
     one-known xs =
         let times = length xs / 8 in
         both-same _ _ _ _ (some-known xs) (all_rules-said (word_said path table) (few_rules times rule xs)
         ∙ ap all_of (few-known times xs) ∙ sym (all_rules-said (term_said path condition table) (few_rules times known xs)))
 
+  -- and for a requirement's specs
   pub choice-known : (problem : Problem) (name : Text) (row : RequireRow)
       → choice_said path table (world_of problem) name row ≡ term_formula path condition table (choice_rule problem (names_for table) name row)
-  choice-known problem name row = go row.one_of
+  choice-known problem name row = choice-known-cases row.one_of
     where
-      go : (b : Bool) → (if b then rule_said path table (just_one (holds_rule (world_of problem) (names_for table) name) row.specs)
+      choice-known-cases : (b : Bool) → (if b then rule_said path table (just_one (holds_rule (world_of problem) (names_for table) name) row.specs)
           else rule_said path table (some (holds_rule (world_of problem) (names_for table) name) row.specs))
           ≡ in_words (term_said path condition table) (if b then just_one (λ spec. known_rule (holds_rule (world_of problem) (names_for table) name spec)) row.specs
           else some (λ spec. known_rule (holds_rule (world_of problem) (names_for table) name spec)) row.specs)
-      go true = one-known (holds_rule (world_of problem) (names_for table) name) row.specs
-      go false = some-known (holds_rule (world_of problem) (names_for table) name) row.specs
+      choice-known-cases true = one-known (holds_rule (world_of problem) (names_for table) name) row.specs
+      choice-known-cases false = some-known (holds_rule (world_of problem) (names_for table) name) row.specs
 
 module _ (path : Text → Text → Statement) (table : Table) (world : World) (name : Text) (row : RequireRow) where
+  -- a requirement of one
   pub chosen-one : row.one_of ≡ true → rule_said path table (just_one (holds_rule world (names_for table) name) row.specs) ≡ choice_said path table world name row
   chosen-one is = rw is refl
 
+  -- a requirement of some
   pub chosen-some : row.one_of ≡ false → rule_said path table (some (holds_rule world (names_for table) name) row.specs) ≡ choice_said path table world name row
   chosen-some is = rw is refl

@@ -38,6 +38,7 @@ module _ (path : Text → Text → Statement) (condition : Text → Condition �
       (kind-agree (record no_kinds { link = true }) (λ kinds. kinds.link) name child))
       (kind-agree (record no_kinds { run = true }) (λ kinds. kinds.run) name child)
 
+  -- the rule of edges, for all formulas of paths
   pub extras-agree : (children : List Text) (name : Text) → in_words f (extra_edges_rule problem (names_for table) children name) ≡ in_words g (extra_edges_rule problem (names_for table) children name)
   extras-agree children name = each-agree f g (extra_edge_rule problem (names_for table) name) (extra-agree name) children
 
@@ -49,6 +50,7 @@ module _ (path : Text → Text → Statement) (condition : Text → Condition �
   used-agree names p = both-same _ _ _ _ (given-agree f g (is_virtual problem.recipes p.0))
       (some-agree f g (use_rule problem p) (use-agree p) (filter (may_use problem p.0) names))
 
+  -- that of used providers
   pub provider-agree : (names : List Text) (virtual : Text)
       → in_words f (of_provider (names_for table) (used_rule problem names) virtual) ≡ in_words g (of_provider (names_for table) (used_rule problem names) virtual)
   provider-agree names virtual = each-agree f g (λ p. if_so (known_rule (fact (provides_as virtual p))) (used_rule problem names (virtual, p)))

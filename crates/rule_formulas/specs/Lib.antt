@@ -3,4 +3,3 @@ pub mod Paths
 pub mod Terms
 pub mod Governing
 pub mod OfWordFormulas
-pub mod OfGraphFormulas

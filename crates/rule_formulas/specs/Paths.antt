@@ -4,8 +4,7 @@ use Rattle.clause_formulas.specs.Rules.{Rule, fact, both_of}
 use Rattle.spec_grammar.specs.declared.part.Part.{Part}
 use Rattle.graph_core.specs.Graphs.{Text}
 use Rattle.condition_rules.specs.Worlds.{World}
-use Rattle.literal_table.specs.Tables.{Table}
-use Rattle.graph_levels.specs.Numbers.{names_of}
+use Rattle.literal_table.specs.Tables.{Table, names_of}
 use Rattle.graph_levels.specs.Levels.{PathTable, path_said}
 use Rattle.graph_formulas.specs.Facts.{Word, has_path}
 use Rattle.graph_formulas.specs.Parts.{suits_rule}

@@ -24,8 +24,8 @@ use Rattle.graph_formulas.specs.Edges.{no_kinds}
 use Rattle.graph_formulas.specs.Demands.{demand_rule}
 use Rattle.graph_formulas.specs.Laws.{has_name, term_formula}
 use Rattle.word_formulas.specs.Builders.{no_paths}
-use Rattle.rule_formulas.specs.declared.extra_edges.Kind.{Kind}
-use Rattle.rule_formulas.specs.declared.extra_edges.Kind.TheVariants as kind
+use Rattle.rule_formulas.specs.declared.extra_edges.EdgeKind.{EdgeKind}
+use Rattle.rule_formulas.specs.declared.extra_edges.EdgeKind.TheVariants as kind
 
 -- the formula of a rule that speaks of no path but by conditions
 abbrev pub plain_term : Table → (Text → Condition → Statement) → Rule Term → Statement
@@ -33,12 +33,12 @@ plain_term table condition rule = term_formula no_paths condition table rule
 
 -- ---- kinds of edges
 
-abbrev pub kinds_of : Kind → Kinds
+abbrev pub kinds_of : EdgeKind → Kinds
 kinds_of kind.Build = record no_kinds { build = true }
 kinds_of kind.Link = record no_kinds { link = true }
 kinds_of kind.Run = record no_kinds { run = true }
 
-abbrev pub has_of : Kind → Kinds → Bool
+abbrev pub has_of : EdgeKind → Kinds → Bool
 has_of kind.Build = λ kinds. kinds.build
 has_of kind.Link = λ kinds. kinds.link
 has_of kind.Run = λ kinds. kinds.run

@@ -35,7 +35,8 @@ fn reached_formula(
     Formula::both(alloc, suits, path)
 }
 
-/// The package of a choice provides the virtual, the part holds at its node, and a path leads to it.
+/// The package of a choice provides the virtual, the part holds at its node, and a path leads to
+/// it.
 fn provided_formula(
     alloc: Global,
     table: &LiteralTable,

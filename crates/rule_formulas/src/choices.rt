@@ -134,7 +134,8 @@ fn push_apart(
     Ok(())
 }
 
-/// No two specs hold. It calls itself for each half, so as deep as the logarithm of the list's length.
+/// No two specs hold. It calls itself for each half, so as deep as the logarithm of the list's
+/// length.
 fn push_few(
     alloc: Global,
     parts: &mut Vec<Formula>,

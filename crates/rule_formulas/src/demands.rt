@@ -89,7 +89,8 @@ fn built_formula<C: MetConditions>(
     where_built(alloc, table, name, rule)
 }
 
-/// The directives with this number are kept. Of a name that no node can have nothing is said, and nothing is built.
+/// The directives with this number are kept. Of a name that no node can have nothing is said, and
+/// nothing is built.
 fn directives_formula<C: MetConditions>(
     alloc: Global,
     problem: &Problem,

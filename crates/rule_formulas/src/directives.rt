@@ -21,7 +21,8 @@ use recipe_data::{ConflictRow, DependRow, RequireRow};
 use std::alloc::{AllocError, Global};
 use word_formulas::{MetConditions, constraint_formula, edge_formula};
 
-/// Where the condition of the row is met, its edge is there, and the node that it asks for suits it.
+/// Where the condition of the row is met, its edge is there, and the node that it asks for suits
+/// it.
 fn depend_formula<C: MetConditions>(
     alloc: Global,
     problem: &Problem,
@@ -103,6 +104,7 @@ fn requirement_formula<C: MetConditions>(
     Formula::implies(alloc, met, choice)
 }
 
+// Each dependency of this number is met, and so is what it asks of its child.
 fn depends_formula<C: MetConditions>(
     alloc: Global,
     problem: &Problem,
@@ -126,6 +128,7 @@ fn depends_formula<C: MetConditions>(
     )
 }
 
+// No conflict of this number holds.
 fn conflicts_formula<C: MetConditions>(
     alloc: Global,
     problem: &Problem,
@@ -148,6 +151,7 @@ fn conflicts_formula<C: MetConditions>(
     )
 }
 
+// Each requirement of this number is met.
 fn requirements_formula<C: MetConditions>(
     alloc: Global,
     problem: &Problem,

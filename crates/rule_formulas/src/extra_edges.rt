@@ -6,7 +6,7 @@ ghost use Rattle.problem.specs.Problems.{depends_at};
 ghost use Rattle.graph_formulas.specs.Lists.{some};
 ghost use Rattle.graph_formulas.specs.Words.{names_for};
 ghost use Rattle.graph_formulas.specs.Edges.{asks_rule, may_ask, kind_rule, extra_edge_rule, extra_edges_rule};
-ghost use Rattle.graph_formulas.specs.Laws.{children_of};
+ghost use Rattle.literal_table.specs.Tables.{children_of};
 ghost use Rattle.rule_formulas.specs.Terms.{plain_term, kinds_of, has_of, is_asked};
 
 use crate::loops::{each_where, some_where};
@@ -23,27 +23,28 @@ use word_formulas::{MetConditions, asks_formula, has_edge};
 
 /// What an edge is for.
 #[derive(Clone, Copy)]
-enum Kind {
+enum EdgeKind {
     Build,
     Link,
     Run,
 }
 
-fn kinds_of(kind: Kind) -> Kinds
+// The kind alone.
+fn kinds_of(kind: EdgeKind) -> Kinds
     ensures { result ≡ kinds_of kind }
 {
     match kind {
-        Kind::Build => Kinds {
+        EdgeKind::Build => Kinds {
             build: true,
             link: false,
             run: false,
         },
-        Kind::Link => Kinds {
+        EdgeKind::Link => Kinds {
             build: false,
             link: true,
             run: false,
         },
-        Kind::Run => Kinds {
+        EdgeKind::Run => Kinds {
             build: false,
             link: false,
             run: true,
@@ -51,13 +52,13 @@ fn kinds_of(kind: Kind) -> Kinds
     }
 }
 
-fn has(kind: Kind, kinds: &Kinds) -> bool
+fn has(kind: EdgeKind, kinds: &Kinds) -> bool
     ensures { result ≡ has_of kind kinds.now }
 {
     match kind {
-        Kind::Build => kinds.build,
-        Kind::Link => kinds.link,
-        Kind::Run => kinds.run,
+        EdgeKind::Build => kinds.build,
+        EdgeKind::Link => kinds.link,
+        EdgeKind::Run => kinds.run,
     }
 }
 
@@ -92,7 +93,7 @@ fn may_ask(problem: &Problem, table: &LiteralTable, child: &str, row: &DependRow
 fn may_ask_as(
     problem: &Problem,
     table: &LiteralTable,
-    kind: Kind,
+    kind: EdgeKind,
     child: &str,
     row: &DependRow,
 ) -> bool
@@ -125,7 +126,7 @@ fn asking_formula<C: MetConditions>(
     problem: &Problem,
     table: &LiteralTable,
     conditions: &C,
-    kind: Kind,
+    kind: EdgeKind,
     name: &str,
     child: &str,
 ) -> Result<Formula, AllocError>
@@ -148,7 +149,7 @@ fn kind_formula<C: MetConditions>(
     problem: &Problem,
     table: &LiteralTable,
     conditions: &C,
-    kind: Kind,
+    kind: EdgeKind,
     name: &str,
     child: &str,
 ) -> Result<Formula, AllocError>
@@ -173,9 +174,33 @@ fn extra_edge_formula<C: MetConditions>(
     ensures { IfOk result (λ formula. formula ≡ plain_term table.now (C.condition_of conditions.now)
         (extra_edge_rule problem.now (names_for table.now) name.now child.now)) }
 {
-    let build = kind_formula(alloc, problem, table, conditions, Kind::Build, name, child)?;
-    let link = kind_formula(alloc, problem, table, conditions, Kind::Link, name, child)?;
-    let run = kind_formula(alloc, problem, table, conditions, Kind::Run, name, child)?;
+    let build = kind_formula(
+        alloc,
+        problem,
+        table,
+        conditions,
+        EdgeKind::Build,
+        name,
+        child,
+    )?;
+    let link = kind_formula(
+        alloc,
+        problem,
+        table,
+        conditions,
+        EdgeKind::Link,
+        name,
+        child,
+    )?;
+    let run = kind_formula(
+        alloc,
+        problem,
+        table,
+        conditions,
+        EdgeKind::Run,
+        name,
+        child,
+    )?;
     let most = Formula::both(alloc, build, link)?;
     Formula::both(alloc, most, run)
 }

@@ -1,14 +1,12 @@
-//! Formulas of specs and conditions, which speak of paths.
+//! The formulas of demands and conditions, of variants, of edges that none asks for, and of
+//! providers that none uses.
 //!
-//! It promises: each builder answers the formula that the definition of its name in `graph_words` computes,
-//! where the formulas of paths are those of the literals that levels gave. It stands on `word_formulas` for
-//! parts and on `graph_levels` for paths. It must not know where a formula is used.
-//!
-//! Formulas of directives, of variants, of edges that none asks for, and of providers that none uses.
-//!
-//! It promises: each builder answers the formula that the definition of its name in `graph_formulas` computes,
-//! where conditions have formulas. It stands on `word_formulas` for rows and on `path_formulas` for specs. It
-//! must not know what gives a condition its formula.
+//! What it is: builders of what speaks of paths, of conditions, or of all edges and names at once.
+//! What it promises: each builder answers the formula that the definition of its name in
+//! `graph_formulas` computes, where the formulas of paths are those of the literals that levels
+//! gave, and conditions have formulas (`MetConditions`); each errs for want of memory alone.
+//! What it stands on: `word_formulas` for parts and rows, `graph_levels` for paths.
+//! What it must not know: where a formula is used, and what gives a condition its formula.
 #![tactic(auto)]
 
 mod below;

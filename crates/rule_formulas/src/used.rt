@@ -6,7 +6,7 @@ ghost use Rattle.graph_formulas.specs.Lists.{some};
 ghost use Rattle.graph_formulas.specs.Words.{names_for};
 ghost use Rattle.graph_formulas.specs.Terms.{builds, met_rule};
 ghost use Rattle.graph_formulas.specs.Edges.{names_virtual, may_use, no_kinds, use_rule, used_rule, of_provider};
-ghost use Rattle.graph_formulas.specs.Laws.{names_of};
+ghost use Rattle.literal_table.specs.Tables.{names_of};
 ghost use Rattle.graph_formulas.specs.Terms.{known_rule};
 ghost use Rattle.clause_formulas.specs.Rules.{fact, if_so};
 ghost use Rattle.graph_formulas.specs.Facts.{provides_as};

@@ -42,7 +42,8 @@ fn met_formula<C: MetConditions>(
     )
 }
 
-/// The condition is met, and none of the variant's later definitions; and the definition allows the values.
+/// The condition is met, and none of the variant's later definitions; and the definition allows the
+/// values.
 fn governs_formula<C: MetConditions>(
     alloc: Global,
     table: &LiteralTable,

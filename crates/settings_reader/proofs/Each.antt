@@ -1,5 +1,6 @@
 -- Values that are read one after another, by a loop.
 use Rattle.std.proofs.Common.{◌≡◌, refl, sym, ap, subst, ℕ, List, [], ◌∷◌, ◌++◌, append_assoc, Ok, Err}
+use Rattle.std.proofs.lemmas.List.{append-nil}
 use Rattle.serde_json.specs.Data.{Data, Members, member, no_members}
 use Rattle.settings_reader.specs.Told.{Outcome, Told, Tells, Below}
 use Rattle.settings_reader.specs.Parsed.{AreEach, members_of}
@@ -15,10 +16,6 @@ after xs (Err m) = Err m
 pub record Continues {T : Type 0} (tells : List ℕ → Data → Told T) (whole rest : List (List ℕ × Data)) (read : List T) : Type 0 where
   pub to : (out : Outcome (List T)) → AreEach tells rest out → AreEach tells whole (after read out)
 
-append-nil : {T : Type 0} (xs : List T) → xs ++ [] ≡ xs
-append-nil [] = refl
-append-nil (x ∷ xs) = ap (λ l. x ∷ l) (append-nil xs)
-
 after_none : {T : Type 0} (out : Outcome (List T)) → after [] out ≡ out
 after_none (Ok xs) = refl
 after_none (Err m) = refl
@@ -27,6 +24,7 @@ after_more : {T : Type 0} (xs : List T) (x : T) (out : Outcome (List T)) → aft
 after_more xs x (Ok ys) = ap Ok (sym (append_assoc xs (x ∷ []) ys))
 after_more xs x (Err m) = refl
 
+-- at the beginning nothing was read
 pub each_none : {T : Type 0} (tells : List ℕ → Data → Told T) (whole : List (List ℕ × Data)) → Continues tells whole whole []
 each_none tells whole = record { to = λ out h. let P : Outcome (List _) → Type 0 = AreEach tells whole in subst P (sym (after_none out)) h }
 
@@ -37,6 +35,7 @@ each_cons : {T : Type 0} (tells : List ℕ → Data → Told T) (key : List ℕ)
 each_cons tells key d rest x (Ok xs) below h = record { step = Ok x; told = below; goes = record { step = Ok xs; told = h; goes = refl } }
 each_cons tells key d rest x (Err m) below h = record { step = Ok x; told = below; goes = record { step = Err m; told = h; goes = refl } }
 
+-- one value more was read
 pub each_more : {T : Type 0} (tells : List ℕ → Data → Told T) (whole : List (List ℕ × Data)) (key : List ℕ) (d : Data)
     (rest : List (List ℕ × Data)) (read new : List T) (x : T)
     → Continues tells whole ((key, d) ∷ rest) read → Below key (tells key d) (Ok x) → new ≡ read ++ x ∷ [] → Continues tells whole rest new
@@ -46,6 +45,7 @@ each_more tells whole key d rest read new x was below is = record {
       rw is (subst P (after_more read x out) (was.to (after (x ∷ []) out) (each_cons tells key d rest x out below h)));
 }
 
+-- a value that is refused refuses the whole
 pub each_stop : {T : Type 0} (tells : List ℕ → Data → Told T) (whole : List (List ℕ × Data)) (key : List ℕ) (d : Data)
     (rest : List (List ℕ × Data)) (read : List T) (s : Stop)
     → Continues tells whole ((key, d) ∷ rest) read → Tells {T = T} (Err s) (Below key (tells key d))
@@ -53,6 +53,7 @@ pub each_stop : {T : Type 0} (tells : List ℕ → Data → Told T) (whole : Lis
 each_stop tells whole key d rest read (stop.Misread m) was below = was.to (Err m) (record { step = Err m; told = below; goes = refl })
 each_stop tells whole key d rest read stop.OutOfMemory was below = tt
 
+-- at the end all was read
 pub each_end : {T : Type 0} (tells : List ℕ → Data → Told T) (whole : List (List ℕ × Data)) (read : List T) → Continues tells whole [] read
     → AreEach tells whole (Ok read)
 each_end tells whole read was = let P : List _ → Type 0 = λ xs. AreEach tells whole (Ok xs) in
@@ -64,6 +65,7 @@ each_end tells whole read was = let P : List _ → Type 0 = λ xs. AreEach tells
 abbrev pub Before : {T : Type 0} (tells : List ℕ → Data → Told T) (whole : List (List ℕ × Data)) (ms : Members) (read : List T) → Type 0
 Before tells whole ms read = Continues tells whole (members_of ms) read
 
+-- one member of an object more was read
 pub member_more : {T : Type 0} (tells : List ℕ → Data → Told T) (whole : List (List ℕ × Data)) (key word : List ℕ) (d : Data)
     (now rest : Members) (read new : List T) (x : T)
     → Before tells whole now read → now ≡ member key d rest → word ≡ key → Below word (tells word d) (Ok x) → new ≡ read ++ x ∷ []
@@ -73,6 +75,7 @@ member_more tells whole key word d now rest read new x was is same below more =
     let Q : List ℕ → Type 0 = λ k. Before tells whole (member k d rest) read in
     each_more tells whole word d (members_of rest) read new x (subst Q (sym same) (subst P is was)) below more
 
+-- a member that is refused refuses the object
 pub member_stop : {T : Type 0} (tells : List ℕ → Data → Told T) (whole : List (List ℕ × Data)) (key word : List ℕ) (d : Data)
     (now rest : Members) (read : List T) (s : Stop)
     → Before tells whole now read → now ≡ member key d rest → word ≡ key → Tells {T = T} (Err s) (Below word (tells word d))
@@ -82,6 +85,7 @@ member_stop tells whole key word d now rest read s was is same below =
     let Q : List ℕ → Type 0 = λ k. Before tells whole (member k d rest) read in
     each_stop tells whole word d (members_of rest) read s (subst Q (sym same) (subst P is was)) below
 
+-- at the end all members were read
 pub member_end : {T : Type 0} (tells : List ℕ → Data → Told T) (whole : List (List ℕ × Data)) (now : Members) (read : List T)
     → Before tells whole now read → now ≡ no_members → AreEach tells whole (Ok read)
 member_end tells whole now read was is =

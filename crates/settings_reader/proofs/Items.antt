@@ -28,6 +28,7 @@ at_item tells items i x read was lt is =
     let P : List (List ℕ × Data) → Type 0 = λ rest. Continues (λ key. tells) (items_at 0 (items_view items)) rest read in
     subst P (rest_more items i x lt is) was
 
+-- one item of a list more was read
 pub item_more : {T : Type 0} (tells : Data → Told T) (items : List Value) (i : ℕ) (x : Value) (read new : List T) (y : T)
     → So tells items i read → i < length items → x ≡ get_or items i x
     → Below (decimal i) (tells (view x)) (Ok y) → new ≡ read ++ y ∷ [] → So tells items (i + 1) new
@@ -35,6 +36,7 @@ item_more tells items i x read new y was lt is below more =
     each_more (λ key. tells) (items_at 0 (items_view items)) (decimal i) (view x) (rest_at (i + 1) items) read new y
     (at_item tells items i x read was lt is) below more
 
+-- an item that is refused refuses the list
 pub item_stop : {T : Type 0} (tells : Data → Told T) (items : List Value) (i : ℕ) (x : Value) (read : List T) (s : Stop)
     → So tells items i read → i < length items → x ≡ get_or items i x
     → Tells {T = T} (Err s) (Below (decimal i) (tells (view x)))
@@ -43,6 +45,7 @@ item_stop tells items i x read s was lt is below =
     each_stop (λ key. tells) (items_at 0 (items_view items)) (decimal i) (view x) (rest_at (i + 1) items) read s
     (at_item tells items i x read was lt is) below
 
+-- at the end all items were read
 pub item_end : {T : Type 0} (tells : Data → Told T) (items : List Value) (i : ℕ) (read : List T) → So tells items i read → length items ≤ i
     → AreEach (λ key. tells) (items_at 0 (items_view items)) (Ok read)
 item_end tells items i read was le =

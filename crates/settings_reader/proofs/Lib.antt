@@ -3,4 +3,5 @@ pub mod Each
 pub mod Items
 pub mod One
 pub mod OneFile
+pub mod Outcomes
 pub mod Valued

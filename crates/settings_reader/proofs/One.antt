@@ -20,12 +20,15 @@ IsOne told = (a b : Outcome _) → told a → told b → a ≡ b
 
 -- ---- steps
 
+-- a reading has one outcome
 pub said_one : {T : Type 0} (read : Reading T) → IsOne (said read)
 said_one read a b h k = h ∙ sym k
 
+-- a step that is done has one outcome
 pub done_one : {T : Type 0} (x : T) → IsOne (done x)
 done_one x a b h k = h ∙ sym k
 
+-- what is told below a key has one outcome, if it has there
 pub below_one : {T : Type 0} (key : List ℕ) (told : Told T) → IsOne told → IsOne (Below key told)
 below_one key told one a b h k = h.is ∙ ap (raised key) (one h.inner k.inner h.right k.right) ∙ sym k.is
 
@@ -34,6 +37,7 @@ goes_one : {A B : Type 0} (step : Outcome A) (next : A → Told B) → ((x : A) 
 goes_one (Ok x) next one a b h k = one x a b h k
 goes_one (Err m) next one a b h k = h ∙ sym k
 
+-- two steps have one outcome, if each has
 pub then_one : {A B : Type 0} (first : Told A) (next : A → Told B) → IsOne first → ((x : A) → IsOne (next x)) → IsOne (Then first next)
 then_one first next first_one next_one a b h k =
     let P : Outcome _ → Type 0 = λ step. Goes step next a in
@@ -41,6 +45,7 @@ then_one first next first_one next_one a b h k =
 
 -- ---- lists
 
+-- all entries have one outcome, if each has
 pub each_one : {T : Type 0} (tells : List ℕ → Data → Told T) → ((key : List ℕ) (d : Data) → IsOne (tells key d))
     → (vs : List (List ℕ × Data)) → IsOne (AreEach tells vs)
 each_one tells one [] = done_one []
@@ -48,6 +53,7 @@ each_one tells one (v ∷ vs) =
     then_one (Below v.0 (tells v.0 v.1)) _ (below_one v.0 (tells v.0 v.1) (one v.0 v.1))
     (λ x. then_one (AreEach tells vs) _ (each_one tells one vs) (λ xs. done_one (x ∷ xs)))
 
+-- what may be missing has one outcome, if it has where it is there
 pub optional_one : {T : Type 0} (tells : Data → Told (List T)) → ((d : Data) → IsOne (tells d)) → (found : Option Data)
     → IsOne (IsOptional tells found)
 optional_one tells one None = done_one []
@@ -64,6 +70,7 @@ set_one laws text (Ok a) (Err m) h k = absurd (k.1 a h)
 set_one laws text (Err m) (Ok b) h k = absurd (h.1 b k)
 set_one laws text (Err m) (Err n) h k = ap Err (h.0 ∙ sym k.0)
 
+-- a set of versions in a value has one outcome
 pub set_in_one : ReadsSetsOnce → (text : Option (List ℕ)) → IsOne (IsSetIn text)
 set_in_one laws None a b h k = h ∙ sym k
 set_in_one laws (Some text) a b h k = set_one laws text a b h k
@@ -81,6 +88,7 @@ read_one laws text (Ok a) (Err f) h k = absurd (k.1 (laws.right text a f h k.0))
 read_one laws text (Err f) (Ok b) h k = absurd (h.1 (laws.right text b f k h.0))
 read_one laws text (Err f) (Err e) h k = ap Err (laws.one_fault text f e h.0 k.0 h.1 k.1)
 
+-- what a spec describes has one outcome
 pub described_one : ReadsSpecsOnce → (name platform text : List ℕ) → IsOne (IsDescribed name platform text)
 described_one laws name platform text a b h k =
     h.is ∙ ap (described_of name platform) (read_one laws text h.read k.read h.right k.right) ∙ sym k.is

@@ -1,13 +1,12 @@
 -- A file says one thing at most.
 use Rattle.std.proofs.Common.{◌≡◌, ◌≢◌, sym, ap, ◌∙◌, subst, ℕ, List, Some, Result, Ok, Err, codes, inl, inr}
-use Rattle.std.specs.Option.{unwrap_or}
 use Rattle.serde_json.specs.Data.{Data, Members}
 use Rattle.serde_json.specs.Find.{as_array, as_str, get_member}
-use Rattle.json_readers.specs.Json.{IsJson}
 use Rattle.json_readers.specs.Faults.{given}
 use Rattle.json_readers.specs.Maps.{named}
 use Rattle.json_readers.specs.Objects.{known, may, need}
 use Rattle.json_readers.specs.Texts.{text_of, truth_value}
+use Rattle.json_readers.proofs.Once.{json_one}
 use Rattle.json_texts.specs.Forms.{name_meaning}
 use Rattle.settings_reader.specs.Told.{Outcome, Told, Below, said}
 use Rattle.settings_reader.specs.Parsed.{IsList, IsListAt, IsOptional, items_at, members_of}
@@ -56,6 +55,7 @@ packages_one : ReadsSetsOnce → ReadsSpecsOnce → (platform : List ℕ) (d : D
 packages_one sets specs platform d = then_one (said (named name_meaning d)) _ (said_one (named name_meaning d))
     (λ ms. each_one _ (λ name. package_one sets specs name platform) (members_of ms))
 
+-- the settings of a value have one outcome
 pub settings_one : ReadsSetsOnce → ReadsSpecsOnce → (d : Data) → IsOne (IsSettings d)
 settings_one sets specs d =
     then_one (said (known settings.keys d)) _ (said_one (known settings.keys d)) (λ ms.
@@ -67,9 +67,6 @@ settings_one sets specs d =
     (get_member (codes "packages") ms))) (λ packages. done_one _)))))
 
 -- ---- files
-
-json_one : (bytes : List ℕ) (d e : Data) → IsJson bytes d → IsJson bytes e → d ≡ e
-json_one bytes d e h k = ap (λ o. unwrap_or o d) (sym h.1 ∙ k.1)
 
 abbrev ok_or : {T E : Type 0} → T → Result T E → T
 ok_or x (Ok y) = y
@@ -83,6 +80,7 @@ err_or e (Err f) = f
 same_one : ReadsSetsOnce → ReadsSpecsOnce → (d e : Data) (a b : Outcome Settings) → d ≡ e → IsSettings d a → IsSettings e b → a ≡ b
 same_one sets specs d e a b is h k = let P : Data → Type 0 = λ v. IsSettings v a in settings_one sets specs e a b (subst P is h) k
 
+-- a file says one settings at most
 pub file_one : ReadsSetsOnce → ReadsSpecsOnce → (bytes : List ℕ) (a b : Settings) → IsOfFile bytes a → IsOfFile bytes b → a ≡ b
 file_one sets specs bytes a b h k = ap (ok_or a) (same_one sets specs h.0 k.0 (Ok a) (Ok b) (json_one bytes h.0 k.0 h.1 k.1) h.2 k.2)
 
@@ -91,6 +89,7 @@ first_one sets specs d e f g is h k =
     h.is ∙ ap (λ m. with_pointer m.what m.at) (ap (err_or h.misread)
     (same_one sets specs d e (Err h.misread) (Err k.misread) is h.first k.first)) ∙ sym k.is
 
+-- a file has one fault at most besides want of memory
 pub fault_one : ReadsSetsOnce → ReadsSpecsOnce → (bytes : List ℕ) (f g : SettingsFault) → IsFileFault bytes f → IsFileFault bytes g
     → f ≢ fault.OutOfMemory → g ≢ fault.OutOfMemory → f ≡ g
 fault_one sets specs bytes f g (inl h) k nf ng = absurd (nf h)
@@ -103,6 +102,7 @@ fault_one sets specs bytes f g (inr (inr h)) (inr (inr k)) nf ng = first_one set
 ok_is_not_err : {T E : Type 0} (x : T) (e : E) → Ok x ≡ Err e → ⊥
 ok_is_not_err x e h = cc
 
+-- a file of settings is refused for want of memory alone
 pub right_one : ReadsSetsOnce → ReadsSpecsOnce → (bytes : List ℕ) (settings : Settings) (f : SettingsFault) → IsOfFile bytes settings
     → IsFileFault bytes f → f ≡ fault.OutOfMemory
 right_one sets specs bytes settings f h (inl k) = k

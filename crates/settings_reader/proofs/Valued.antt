@@ -1,5 +1,5 @@
 -- Each variant that a file writes of an external has a value.
-use Rattle.std.proofs.Common.{◌≡◌, refl, sym, ap, subst, ℕ, ◌<◌, Bool, true, false, List, [], ◌∷◌, length, Option, Some, None, option_map, option_and_then, if◌then◌else◌, Result, Ok, Err, codes, All, Contains, arith}
+use Rattle.std.proofs.Common.{◌≡◌, refl, sym, ap, subst, ℕ, ◌<◌, Bool, true, false, List, [], ◌∷◌, length, Option, Some, None, option_map, option_and_then, Result, Ok, Err, codes, All, Contains, arith, if◌then◌else◌}
 use Rattle.std.proofs.lemmas.Option.{none-some}
 use Rattle.std.proofs.lemmas.List.Elements.{All-contains, All-weaker}
 use Rattle.std.proofs.lemmas.List.Sums.{list_all-from_AllPass}
@@ -13,7 +13,7 @@ use Rattle.spec_grammar.specs.declared.mode.Mode.TheVariants.{Specs}
 use Rattle.spec_grammar.specs.declared.part.Part.{Part}
 use Rattle.spec_grammar.specs.declared.part.Spec.{Spec}
 use Rattle.spec_grammar.specs.declared.fault.SpecFault.{SpecFault}
-use Rattle.settings_reader.specs.Told.{Outcome, Told, Then, Goes, Below, raised}
+use Rattle.settings_reader.specs.Told.{Told, Below}
 use Rattle.settings_reader.specs.Parsed.{AreEach, IsList, IsListAt, IsOptional, items_at, members_of}
 use Rattle.settings_reader.specs.Externals.{IsDescribed, IsExternal, IsReadAs, compiler_in, described_of, described_or_bad, is_alone, only_described, parts_of, target_in, version_in, with_prefix}
 use Rattle.settings_reader.specs.Packages.{ArePackages, ArePackagesAt, IsPackage}
@@ -21,41 +21,15 @@ use Rattle.settings_reader.specs.Settings.{IsSettings}
 use Rattle.settings_reader.specs.Files.{IsOfFile}
 use Rattle.settings_reader.specs.Values.{is_filled, has_values, are_valued}
 use Rattle.settings_reader.specs.declared.external.Described.{Described}
-use Rattle.settings_reader.specs.declared.stop.Misread.{Misread}
+use Rattle.settings_reader.proofs.Outcomes.{ok_same, ok_no, then_ok, below_ok}
 use Rattle.site_settings.specs.declared.settings.ExternalEntry.{ExternalEntry}
 use Rattle.site_settings.specs.declared.settings.PackageEntry.{PackageEntry}
 use Rattle.site_settings.specs.declared.settings.Settings.{Settings}
 
 -- ---- outcomes
 
-ok_same : {T : Type 0} (x y : T) → (let l : Outcome T = Ok x in let r : Outcome T = Ok y in l ≡ r) → x ≡ y
-ok_same x y e = cc
-
-ok_no : {T : Type 0} (x : T) (m : Misread) → (let l : Outcome T = Ok x in let r : Outcome T = Err m in l ≡ r) → ⊥
-ok_no x m e = cc
-
 some_same : {T : Type 0} (x y : T) → (let l : Option T = Some x in let r : Option T = Some y in l ≡ r) → x ≡ y
 some_same x y e = cc
-
--- ---- steps that gave a value
-
-abbrev Gave : {A B : Type 0} → Told A → (A → Told B) → B → Type 0
-Gave {A = A} first next y = (x : A) × first (Ok x) × next x (Ok y)
-
-goes_ok : {A B : Type 0} (first : Told A) (next : A → Told B) (y : B) (step : Outcome A) → first step → Goes step next (Ok y)
-    → Gave first next y
-goes_ok first next y (Ok x) told goes = (x, told, goes)
-goes_ok first next y (Err m) told goes = absurd (ok_no y m goes)
-
-then_ok : {A B : Type 0} (first : Told A) (next : A → Told B) (y : B) → Then first next (Ok y) → Gave first next y
-then_ok first next y h = goes_ok first next y h.step h.told h.goes
-
-raised_ok : {T : Type 0} (key : List ℕ) (told : Told T) (x : T) (inner : Outcome T) → told inner → Ok x ≡ raised key inner → told (Ok x)
-raised_ok key told x (Ok y) right is = subst (λ z. told (Ok z)) (sym (ok_same x y is)) right
-raised_ok key told x (Err m) right is = absurd (ok_no x _ is)
-
-below_ok : {T : Type 0} (key : List ℕ) (told : Told T) (x : T) → Below key told (Ok x) → told (Ok x)
-below_ok key told x h = raised_ok key told x h.inner h.right h.is
 
 -- ---- lists of which each entry passes
 
@@ -95,14 +69,15 @@ some_map f None y e = absurd (none-some y e)
 some_map f (Some x) y e = (x, some_same (f x) y e)
 
 -- its variants are those of its part
-part_variants : (part : Part) (d : Described) → parts_of part ≡ Some d → part.variants ≡ d.variants
+pub part_variants : (part : Part) (d : Described) → parts_of part ≡ Some d → part.variants ≡ d.variants
 part_variants part d e =
     let version = some_then _ (version_in part.versions) d e in
     let compiler = some_then _ (compiler_in part.compiler) d version.1 in
     let target = some_map _ (target_in part.targets) d compiler.1 in
     ap (λ (x : Described). x.variants) target.1
 
-some_if : {T : Type 0} (b : Bool) (o : Option T) (x : T) → (if b then o else None) ≡ Some x → o ≡ Some x
+-- what is there where a test holds
+pub some_if : {T : Type 0} (b : Bool) (o : Option T) (x : T) → (if b then o else None) ≡ Some x → o ≡ Some x
 some_if true o x e = e
 some_if false o x e = absurd (none-some x e)
 
@@ -132,7 +107,8 @@ only_filled laws name platform text (spec ∷ []) d spells e =
     subst IsFilled same (all_filled spec.top.variants some)
 only_filled laws name platform text (spec ∷ other ∷ specs) d spells e = absurd (none-some d e)
 
-some_described : (o : Option Described) (d : Described) → Ok d ≡ described_or_bad o → o ≡ Some d
+-- what was described is there
+pub some_described : (o : Option Described) (d : Described) → Ok d ≡ described_or_bad o → o ≡ Some d
 some_described None d is = absurd (ok_no d _ is)
 some_described (Some x) d is = ap Some (sym (ok_same d x is))
 
@@ -182,5 +158,6 @@ settings_filled laws d settings h =
     (optional_ok has_values (ArePackages head.0.platform) (packages_filled laws head.0.platform) found packages.0
     (below_ok (codes "packages") (IsOptional (ArePackages head.0.platform) found) packages.0 packages.1))
 
+-- what a file says of externals has a value for each variant
 pub file_valued : SpecsAreValued → (bytes : List ℕ) (settings : Settings) → IsOfFile bytes settings → are_valued settings ≡ true
 file_valued laws bytes settings (d, json, is) = settings_filled laws d settings is

@@ -3,7 +3,10 @@
 ghost use Rattle.std.specs.Prelude.{◌≡◌, IfOk, Ok, codes};
 ghost use Rattle.serde_json.specs.View.{view};
 ghost use Rattle.settings_reader.specs.Told.{Below, Tells};
-ghost use Rattle.settings_reader.specs.Externals.{IsDescribed, IsExternal, compiler_in, described_of, is_alone, is_word, only_described, parts_of, target_in, target_of, version_in, with_prefix};
+ghost use Rattle.settings_reader.specs.Externals.{IsDescribed, IsExternal, compiler_in};
+ghost use Rattle.settings_reader.specs.Externals.{described_of, is_alone, is_word, only_described};
+ghost use Rattle.settings_reader.specs.Externals.{parts_of, target_in, target_of, version_in};
+ghost use Rattle.settings_reader.specs.Externals.{with_prefix};
 
 use crate::parser::Parser;
 use crate::stop::{Stop, What, at_root, below};
@@ -57,6 +60,7 @@ fn parse_external(
     Ok(with_prefix(described, prefix))
 }
 
+/// An external with what its spec says, and where it stands.
 fn with_prefix(described: Described, prefix: Word) -> ExternalEntry
     ensures { result ≡ with_prefix described prefix }
 {
@@ -140,7 +144,8 @@ fn is_word(word: &Option<Word>, text: &str) -> bool
     }
 }
 
-/// What a spec of one node says, and `None` where it leaves the version, the compiler or the target open.
+/// What a spec of one node says, and `None` where it leaves the version, the compiler or the target
+/// open.
 fn parts_of(alloc: Global, spec: &Spec) -> Result<Option<Described>, AllocError>
     ensures { IfOk result (λ d. d ≡ parts_of spec.now.top) }
 {

@@ -10,8 +10,8 @@ use spec_grammar::SpecFault;
 use std::alloc::AllocError;
 use target_table::TargetFault;
 
-/// Why a file of settings is not read: its first fault. A `Word` is the JSON pointer (RFC 6901) of what
-/// has the fault.
+/// Why a file of settings is not read: its first fault. A `Word` is the JSON pointer (RFC 6901) of
+/// what has the fault.
 #[derive(Debug, Drop)]
 pub enum SettingsFault {
     /// The file is no JSON text.
@@ -53,6 +53,7 @@ impl From<Stop> for SettingsFault {
     }
 }
 
+/// The fault of what is wrong at a pointer.
 fn with_pointer(what: What, at: Word) -> SettingsFault
     ensures { result ≡ with_pointer what at }
 {

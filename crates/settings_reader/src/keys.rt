@@ -2,7 +2,8 @@
 
 ghost use Rattle.serde_json.specs.View.{members_view};
 ghost use Rattle.json_readers.specs.Faults.{Gives};
-ghost use Rattle.settings_reader.specs.Keys.{budget_at, compilers_at, os_at, platform_at, providers_at, targets_at};
+ghost use Rattle.settings_reader.specs.Keys.{budget_at, compilers_at, os_at, platform_at};
+ghost use Rattle.settings_reader.specs.Keys.{providers_at, targets_at};
 
 use crate::lists::{CompilerList, OsList, ProviderList, TargetList};
 use json_readers::{JsonFault, KnownMapOf, Text, WholeNumber, may};
@@ -63,6 +64,7 @@ pub(crate) fn compilers_at(
     }
 }
 
+/// The lists of providers, none where the key is missing.
 pub(crate) fn providers_at(
     alloc: Global,
     members: &Members,

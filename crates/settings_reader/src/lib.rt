@@ -1,9 +1,10 @@
 //! The settings of a site, read from their JSON file.
 //!
 //! What it is: the reader of the file of settings.
-//! What it promises: a file is read as what it says, or refused at its first fault, with its pointer.
-//! What it stands on: `site_settings` for what is read, `json_readers` and `text_forms`, the grammar of specs and
-//! the table of targets.
+//! What it promises: a file is read as what it says, or refused at its first fault, with its
+//! pointer.
+//! What it stands on: `site_settings` for what is read, `json_readers` and `json_texts`, the
+//! grammar of specs and the table of targets.
 //! What it must not know: recipes, and what the settings are asked for.
 #![tactic(auto)]
 

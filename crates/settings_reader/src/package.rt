@@ -78,6 +78,7 @@ fn parse_entry(
     below(alloc, name, parse_package(alloc, name, platform, value))
 }
 
+/// What is said of one package; without `buildable` it may be built.
 fn parse_package(
     alloc: Global,
     name: &str,

@@ -19,17 +19,18 @@ use site_settings::{CompilerEntry, Settings};
 use std::alloc::Global;
 use target_table::{TargetEntry, TargetFault, TargetTable, fault_laws};
 
-/// The settings that a file says: a JSON object, in which a key that is not written has the standard's
-/// value. Of a key that is repeated the last value counts.
+/// The settings that a file says: a JSON object, in which a key that is not written has the
+/// standard's value. Of a key that is repeated the last value counts.
 ///
 /// # Errors
 ///
-/// `NotJson` where the bytes are no JSON text, or nest lists and objects deeper than 127. Else the first
-/// fault: in each object first the least key that it may not have, then its values, key by key, in the
-/// order `platform`, `conflict_budget`, `os`, `targets`, `compilers`, `providers`, `packages`; of a
-/// target `name`, `parents`; of a compiler `name`, `version`, `os`, `targets`; of a package `versions`,
-/// `buildable`, `externals`; of an external `spec`, `prefix`. What is said of a list as a whole comes
-/// behind its entries. An object that maps names is read in byte order of them.
+/// `NotJson` where the bytes are no JSON text, or nest lists and objects deeper than 127. Else the
+/// first fault: in each object first the least key that it may not have, then its values, key by
+/// key, in the order `platform`, `conflict_budget`, `os`, `targets`, `compilers`, `providers`,
+/// `packages`; of a target `name`, `parents`; of a compiler `name`, `version`, `os`, `targets`; of
+/// a package `versions`, `buildable`, `externals`; of an external `spec`, `prefix`. What is said of
+/// a list as a whole comes behind its entries. An object that maps names is read in byte order of
+/// them.
 pub fn read_settings(alloc: Global, bytes: &[u8]) -> Result<Settings, SettingsFault>
     ensures found { IfOk result (IsOfFile bytes.now) }
     ensures fault { IfErr result (IsFileFault bytes.now) }
@@ -88,6 +89,7 @@ pub(crate) struct Head {
     pub targets: List<TargetEntry>,
 }
 
+/// The keys up to `targets`; their table is made before any key behind them is read.
 #[tactic(auto, unfolding(crate::specs::Order::head_of))]
 fn head_of(alloc: Global, members: &Map<String, Value>) -> Result<Head, JsonFault>
     ensures { Gives result (head_of (members_view members.now.entries)) }
@@ -111,6 +113,7 @@ pub(crate) struct Tail {
     pub providers: List<(Word, List<Word>)>,
 }
 
+/// The keys behind `targets`, but for `packages`.
 #[tactic(auto, unfolding(crate::specs::Order::tail_of))]
 fn tail_of(alloc: Global, members: &Map<String, Value>) -> Result<Tail, JsonFault>
     ensures { Gives result (tail_of (members_view members.now.entries)) }

@@ -59,6 +59,7 @@ impl From<JsonFault> for Stop {
     }
 }
 
+/// What a reader of JSON found wrong, among what may be wrong with settings.
 fn what_of(wrong: Wrong) -> What
     ensures { result ≡ what_of wrong }
 {

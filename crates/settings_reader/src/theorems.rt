@@ -1,7 +1,8 @@
 //! What holds of all files of settings, and rows that show it.
 
 ghost use Rattle.std.specs.Prelude.{◌≡◌, ◌≢◌, ℕ, true, List, [], ◌∷◌, Ok, codes};
-ghost use Rattle.serde_json.specs.Data.{Data, array, boolean, item, member, no_items, no_members, number, object, string, unsigned};
+ghost use Rattle.serde_json.specs.Data.{Data, array, boolean, item, member, no_items, no_members};
+ghost use Rattle.serde_json.specs.Data.{number, object, string, unsigned};
 ghost use Rattle.settings_reader.specs.Files.{IsFileFault, IsFirstFault, IsOfFile};
 ghost use Rattle.settings_reader.specs.Settings.{IsSettings};
 ghost use Rattle.settings_reader.specs.Values.{are_valued};
@@ -13,8 +14,9 @@ ghost use Rattle.target_table.specs.declared.fault.TargetFault.TheVariants.{Cycl
 use spec_grammar::{reading_laws, writing_laws};
 use version_order::set_reading_laws;
 
-/// A file says one thing at most: one settings, or one fault besides want of memory. A file of settings is
-/// refused for want of memory alone. What it writes of an external has a value for each variant.
+/// A file says one thing at most: one settings, or one fault besides want of memory. A file of
+/// settings is refused for want of memory alone. What it writes of an external has a value for each
+/// variant.
 pub fn settings_laws()
     ensures one_reading { (bytes : List ℕ) (a b : Settings) → IsOfFile bytes a
         → IsOfFile bytes b → a ≡ b }

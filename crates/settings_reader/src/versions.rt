@@ -26,6 +26,7 @@ impl Parser<VersionSet> for SetText {
     }
 }
 
+/// A set of versions, or the wrong kind where the text is none.
 fn parse_set(alloc: Global, text: &str) -> Result<VersionSet, Stop>
     ensures { Tells result (IsSet text.now) }
 {

@@ -14,7 +14,8 @@ pub struct CompilerEntry {
     pub targets: Option<List<Word>>,
 }
 
-/// A package that the site has, outside what is built: `{"spec":"zlib@1.3 %gcc@12.3.0","prefix":"/usr"}`
+/// A package that the site has, outside what is built: `{"spec":"zlib@1.3
+/// %gcc@12.3.0","prefix":"/usr"}`
 #[derive(Debug, Drop)]
 pub struct ExternalEntry {
     pub version: Version,

@@ -2,7 +2,8 @@
 
 ghost use Rattle.std.specs.Prelude.{◌≡◌, IfOk, [], ◌∷◌, codes};
 ghost use Rattle.target_table.specs.Targets.{IsTargetFault};
-ghost use Rattle.site_settings.specs.Standard.{platform, conflict_budget, os, standard, targets, compilers};
+ghost use Rattle.site_settings.specs.Standard.{platform, conflict_budget, os, standard, targets};
+ghost use Rattle.site_settings.specs.Standard.{compilers};
 
 use crate::{CompilerEntry, Settings};
 use graph_core::{Compiler, Version, VersionFault, reading_laws};
@@ -69,7 +70,7 @@ pub fn compilers(alloc: Global) -> Result<List<CompilerEntry>, AllocError>
     ensures { IfOk result (λ entries. entries ≡ compilers) }
 {
     let name = Word::new(alloc, "gcc")?;
-    let version = version(alloc)?;
+    let version = compiler_version(alloc)?;
     let mut entries = List::new(alloc);
     entries.push(CompilerEntry {
         compiler: Compiler { name, version },
@@ -79,7 +80,8 @@ pub fn compilers(alloc: Global) -> Result<List<CompilerEntry>, AllocError>
     Ok(entries)
 }
 
-fn version(alloc: Global) -> Result<Version, AllocError>
+/// The version of the standard compiler.
+fn compiler_version(alloc: Global) -> Result<Version, AllocError>
     ensures { IfOk result (λ version. version ≡ codes "12.3.0") }
 {
     reading_laws();

@@ -45,6 +45,7 @@ fn set_os(alloc: Global, part: &mut OpenPart, text: &str) -> Result<bool, AllocE
     Ok(true)
 }
 
+/// Sets the one target that `arch=` names; `false` where targets are set.
 fn set_target(alloc: Global, part: &mut OpenPart, text: &str) -> Result<bool, AllocError>
     ensures { IfOk result (λ done. Becomes (set_targets (text.now ∷ []) part.old) done part.new) }
 {
@@ -91,6 +92,7 @@ fn first_value(values: &[Word]) -> &str
     }
 }
 
+/// Sets what a key sets; `false` where that is set, and for flags, which are not read.
 fn set_key(
     alloc: Global,
     part: &mut OpenPart,

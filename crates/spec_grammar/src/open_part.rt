@@ -109,7 +109,7 @@ fn in_order(
 ) -> Result<List<(Word, ValueSet)>, AllocError>
     ensures { IfOk result (λ all. all ≡ variants.entries) }
 {
-    let mut all = List::new(alloc);
+    let mut all = List::from_vec(Vec::with_capacity(alloc, variants.len())?);
     for variant in variants {
         all.push(variant)?;
     }

@@ -90,7 +90,7 @@ pub(crate) fn target_of(alloc: Global, text: &str) -> Result<TargetItem, AllocEr
 pub(crate) fn targets_of(alloc: Global, values: &[Word]) -> Result<List<TargetItem>, AllocError>
     ensures { IfOk result (λ targets. targets ≡ map target_of values.now) }
 {
-    let mut targets = List::new(alloc);
+    let mut targets = List::from_vec(Vec::with_capacity(alloc, values.len())?);
     for value in values {
         targets.push(target_of(alloc, value.as_str())?)?;
     }

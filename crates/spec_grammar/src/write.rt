@@ -106,6 +106,7 @@ pub fn write_variants(variants: &[(Word, ValueSet)], out: &mut Vec<u8>) -> Resul
     Ok(())
 }
 
+/// ` %gcc@12`, where a compiler is asked for.
 fn write_compiler(
     compiler: &Option<(Word, Option<VersionSet>)>,
     out: &mut Vec<u8>,
@@ -131,6 +132,7 @@ fn write_one(key: &[u8], value: &Option<Word>, out: &mut Vec<u8>) -> Result<(), 
     write_word(value, out)
 }
 
+/// `zen3`, or a range as `zen2:zen4`, of which an end may be missing.
 fn write_target(target: &TargetItem, out: &mut Vec<u8>) -> Result<(), AllocError>
     ensures { OnOk result (out.new.items ≡ out.old.items ++ target_text target.now) }
 {
@@ -152,6 +154,7 @@ fn write_more_targets(targets: &[TargetItem], out: &mut Vec<u8>) -> Result<(), A
     Ok(())
 }
 
+/// ` target=zen3,x86_64:`, where targets are asked for.
 fn write_targets(targets: &Option<List<TargetItem>>, out: &mut Vec<u8>) -> Result<(), AllocError>
     ensures { OnOk result (out.new.items ≡ out.old.items ++ targets_text targets.now) }
 {
@@ -166,6 +169,7 @@ fn write_targets(targets: &Option<List<TargetItem>>, out: &mut Vec<u8>) -> Resul
     write_more_targets(others, out)
 }
 
+/// A part, its constraints in the order of canonical texts.
 #[tactic(auto, unfolding(crate::specs::Canonical::part_text))]
 fn write_part(part: &Part, out: &mut Vec<u8>) -> Result<(), AllocError>
     ensures { OnOk result (out.new.items ≡ out.old.items ++ part_text part.now) }

@@ -1,4 +1,4 @@
-// The table of a problem.
+//! The table of a problem.
 ghost use Rattle.std.specs.Prelude.{◌≡◌, ◌+◌, IfOk, OnOk};
 ghost use Rattle.table_plan.specs.Plans.{plan_of};
 ghost use Rattle.table_plan.specs.Numbers.{table_from, variables_of};
@@ -10,8 +10,8 @@ use problem::Problem;
 use std::alloc::{AllocError, Global};
 use table_plan::table_from;
 
-/// The literals of what may be chosen at the names of a closure, over variables from a number on, the next one
-/// that is free.
+/// The literals of what may be chosen at the names of a closure, over variables from a number on,
+/// the next one that is free.
 pub fn table_of(
     alloc: Global,
     problem: &Problem,

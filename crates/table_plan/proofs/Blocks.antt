@@ -26,12 +26,14 @@ use Rattle.table_plan.proofs.Choices.{attribute_reads, variants_spelled}
 
 -- ---- how many values
 
+-- an attribute has as many bits as variables
 pub length-bits_of : {T : Type 0} (same : T → T → Bool) (part : Node → T) (xs : List T) (o : Option Node)
     → length (bits_of same part xs o) ≡ width_of xs
 length-bits_of same part [] o = refl
 length-bits_of same part (x ∷ []) o = refl
 length-bits_of same part (x ∷ y ∷ more) o = length-map (x ∷ y ∷ more) (λ z. is_some_and o (λ node. same (part node) z))
 
+-- so have the values
 pub length-value_bits : (vs variants : List (Text × List Text)) → length (value_bits vs variants) ≡ values_in vs
 length-value_bits [] variants = refl
 length-value_bits (v ∷ vs) variants = omega (
@@ -51,7 +53,8 @@ variant_keys : (n : ℕ) (vs : List (Text × List Text)) → map variant_of (var
 variant_keys n [] = refl
 variant_keys n (v ∷ vs) = ap (λ ys. v.0 ∷ ys) (variant_keys (n + length v.1) vs)
 
-pair_keys : (names : List Text) (values : Text → List Text) → map (λ (p : Text × List Text). p.0) (map (λ name. (name, values name)) names) ≡ names
+pair_keys : (names : List Text) (values : Text → List Text)
+    → map (λ (p : Text × List Text). p.0) (map (λ name. (name, values name)) names) ≡ names
 pair_keys [] values = refl
 pair_keys (name ∷ names) values = ap (λ ys. name ∷ ys) (pair_keys names values)
 
@@ -66,13 +69,15 @@ values_in_order n (v ∷ vs) each w there = ⊎_elim
 
 sets_in_order : (vs : List (Text × List Text)) → AreVariants vs → (v : Text × List Text) → Contains vs v → IsInByteOrder v.1
 sets_in_order vs a v there =
-    let from = image_of (λ (name : Text). let p : Text × List Text = (name, a.values name) in p) a.names v (subst (λ us. Contains us v) a.are there) in
+    let from = image_of (λ (name : Text). let p : Text × List Text = (name, a.values name) in
+    p) a.names v (subst (λ us. Contains us v) a.are there) in
     subst (λ (u : Text × List Text). IsInByteOrder u.1) from.2 (a.sets from.0)
 
 names_in_order : (n : ℕ) (vs : List (Text × List Text)) → AreVariants vs → IsInOrder byte_cmp variant_of (variants_from n vs)
 names_in_order n vs a =
     subst IsInByteOrder (sym (variant_keys n vs ∙ ap (map (λ (v : Text × List Text). v.0)) a.are ∙ pair_keys a.names a.values)) a.order
 
+-- the variants of a block are in order
 pub block_ordered : (n : ℕ) (p : Possible) → IsPossible p → AreVariantsInOrder (block_from n p)
 unfolding block_from
 block_ordered n p is = record {
@@ -81,6 +86,7 @@ block_ordered n p is = record {
       (values_in_order _ p.variants (sets_in_order p.variants is.variants));
 }
 
+-- a block has the name that it is made for
 pub block_named : (n : ℕ) (p : Possible) → (block_from n p).name ≡ p.name
 unfolding block_from
 block_named n p = refl
@@ -92,6 +98,7 @@ next_part v m bs cs k e r =
     let parts = reads_parts v m bs cs r in
     (parts.0, subst (λ j. Reads v (m + j) cs) e parts.1)
 
+-- a node has as many bits as its block has variables
 pub length-node_bits : (p : Possible) (o : Option Node) → length (node_bits p o) ≡ width p
 length-node_bits p o =
     let a = bits_of same_origin (λ (node : Node). node.origin) p.origins o in
@@ -118,16 +125,19 @@ length-node_bits p o =
       length-bits_of (option_eq bytes_eq) (λ (node : Node). node.prefix) p.prefixes o,
     )
 
-module _ (v : ℕ → Bool) (n : ℕ) (p : Possible) (o : Option Node) (is : IsPossible p) (offers : (node : Node) → o ≡ Some node → Offers p node) where
+module _ (v : ℕ → Bool) (n : ℕ) (p : Possible) (o : Option Node) (is : IsPossible p) (offers : (node : Node) → o ≡ Some node
+    → Offers p node) where
   variants_case : (variants_of o ≡ []) ⊎ (IsInOrder byte_cmp (λ w. w.0) (variants_of o)
       × ((w : Text × List Text) → Contains (variants_of o) w → OffersVariant p.variants w))
-  variants_case = go o offers
+  variants_case = variants_case-cases o offers
     where
-      go : (r : Option Node) → ((node : Node) → r ≡ Some node → Offers p node) → (variants_of r ≡ [])
-          ⊎ (IsInOrder byte_cmp (λ w. w.0) (variants_of r) × ((w : Text × List Text) → Contains (variants_of r) w → OffersVariant p.variants w))
-      go None f = inl refl
-      go (Some node) f = let has = f node refl in inr (has.variant_order, has.variants)
+      variants_case-cases : (r : Option Node) → ((node : Node) → r ≡ Some node → Offers p node) → (variants_of r ≡ [])
+          ⊎ (IsInOrder byte_cmp (λ w. w.0) (variants_of r)
+          × ((w : Text × List Text) → Contains (variants_of r) w → OffersVariant p.variants w))
+      variants_case-cases None f = inl refl
+      variants_case-cases (Some node) f = let has = f node refl in inr (has.variant_order, has.variants)
 
+  -- bits of a node at the variables of its block spell it
   pub node_read : Reads v n (node_bits p o) → SpellsNode v (block_from n p) o
   unfolding block_from
   node_read r =
@@ -140,7 +150,8 @@ module _ (v : ℕ → Bool) (n : ℕ) (p : Possible) (o : Option Node) (is : IsP
       let g = bits_of (option_eq bytes_eq) (λ (node : Node). node.prefix) p.prefixes o in
       let ra = next_part v (n + 1) a (b ++ (c ++ (d ++ (e ++ (f ++ g))))) (width_of p.origins)
       (length-bits_of same_origin (λ (node : Node). node.origin) p.origins o) r.1 in
-      let rb = next_part v _ b (c ++ (d ++ (e ++ (f ++ g)))) (width_of p.versions) (length-bits_of bytes_eq (λ (node : Node). node.version) p.versions o) ra.1 in
+      let rb = next_part v _ b (c ++ (d ++ (e ++ (f ++ g)))) (width_of p.versions)
+      (length-bits_of bytes_eq (λ (node : Node). node.version) p.versions o) ra.1 in
       let rc = next_part v _ c (d ++ (e ++ (f ++ g))) (values_in p.variants) (length-value_bits p.variants (variants_of o)) rb.1 in
       let rd = next_part v _ d (e ++ (f ++ g)) (width_of p.compilers)
       (length-bits_of (option_eq same_compiler) (λ (node : Node). node.compiler) p.compilers o) rc.1 in
@@ -149,16 +160,19 @@ module _ (v : ℕ → Bool) (n : ℕ) (p : Possible) (o : Option Node) (is : IsP
       let ordered = block_ordered n p is in
       record {
         present = r.0;
-        origin = attribute_reads v same_origin origins_exact (λ node. node.origin) (lit_of n) _ p.origins o is.origins r.0 (λ node s. (offers node s).origin) ra.0;
+        origin = attribute_reads v same_origin origins_exact (λ node. node.origin) (lit_of n) _ p.origins o is.origins r.0
+            (λ node s. (offers node s).origin) ra.0;
         version = attribute_reads v bytes_eq bytes_decides (λ node. node.version) (lit_of n) _ p.versions o is.versions r.0
             (λ node s. (offers node s).version) rb.0;
         ordered = ordered;
         variants = variants_spelled v _ p.variants (variants_of o) is.variants variants_case rc.0;
-        compiler = attribute_reads v (option_eq same_compiler) (options_exact same_compiler compilers_exact) (λ node. node.compiler) (lit_of n) _
+        compiler = attribute_reads v (option_eq same_compiler) (options_exact same_compiler compilers_exact)
+            (λ node. node.compiler) (lit_of n) _
             p.compilers o is.compilers r.0 (λ node s. (offers node s).compiler) rd.0;
         os = attribute_reads v bytes_eq bytes_decides (λ node. node.os) (lit_of n) _ p.os o is.os r.0 (λ node s. (offers node s).os) re.0;
         target = attribute_reads v bytes_eq bytes_decides (λ node. node.target) (lit_of n) _ p.targets o is.targets r.0
             (λ node s. (offers node s).target) rf.0;
-        prefix = attribute_reads v (option_eq bytes_eq) (options_exact bytes_eq bytes_decides) (λ node. node.prefix) (lit_of n) _ p.prefixes o
+        prefix = attribute_reads v (option_eq bytes_eq) (options_exact bytes_eq bytes_decides) (λ node. node.prefix) (lit_of n)
+            _ p.prefixes o
             is.prefixes r.0 (λ node s. (offers node s).prefix) rf.1;
       }

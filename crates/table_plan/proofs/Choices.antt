@@ -30,6 +30,7 @@ use Rattle.table_plan.specs.Numbers.{lit_of, numbered, attribute, variants_from}
 use Rattle.table_plan.specs.Spellings.{bits_of, value_bits}
 use Rattle.table_plan.proofs.ReadLaws.{Reads, reads_parts}
 
+-- no element passes what is always false
 pub nothing_kept : {T : Type 0} (xs : List T) → filter (λ x. false) xs ≡ []
 nothing_kept [] = refl
 nothing_kept (x ∷ xs) = nothing_kept xs
@@ -39,7 +40,9 @@ abbrev kept_values : List (Text × List Text) → Text × List Text → Option (
 kept_values variants w = with_values w.0 (filter (among (values_at variants w.0)) w.1)
 
 module _ (v : ℕ → Bool) where
-  pub numbered_reads : {T : Type 0} (test : T → Bool) (n : ℕ) (xs : List T) → Reads v n (map test xs) → chosen v (numbered n xs) ≡ filter test xs
+  -- bits that are tests choose what passes
+  pub numbered_reads : {T : Type 0} (test : T → Bool) (n : ℕ) (xs : List T) → Reads v n (map test xs)
+      → chosen v (numbered n xs) ≡ filter test xs
   numbered_reads test n [] r = refl
   numbered_reads test n (x ∷ xs) r =
       let rest = numbered_reads test (n + 1) xs r.1 in
@@ -52,6 +55,7 @@ module _ (v : ℕ → Bool) where
   -- ---- an attribute
 
   module _ {T : Type 0} (same : T → T → Bool) (exact : IsExact same) (part : Node → T) (present : Lit) where
+    -- the bits of an attribute choose what the node has
     pub attribute_reads : (n : ℕ) (xs : List T) (o : Option Node) → EachOnce xs → lit_true v present ≡ is_some o
         → ((node : Node) → o ≡ Some node → Contains xs (part node)) → Reads v n (bits_of same part xs o)
         → SpellsOne v (attribute present n xs) part o
@@ -59,7 +63,8 @@ module _ (v : ℕ → Bool) where
     attribute_reads n [] (Some node) once is there r = absurd (let none = there node refl in omega (arith, none.1))
     attribute_reads n (x ∷ []) None once is there r = rw is refl
     attribute_reads n (x ∷ []) (Some node) once is there r =
-        rw is (⊎_elim (λ one. ap (λ y. y ∷ []) one) (λ none. absurd (omega (arith, none.1))) (first_or_later x [] (part node) (there node refl)))
+        rw is (⊎_elim (λ one. ap (λ y. y ∷ []) one) (λ none. absurd (omega (arith, none.1)))
+        (first_or_later x [] (part node) (there node refl)))
     attribute_reads n (x ∷ y ∷ more) None once is there r = numbered_reads (λ z. false) n (x ∷ y ∷ more) r ∙ nothing_kept (x ∷ y ∷ more)
     attribute_reads n (x ∷ y ∷ more) (Some node) once is there r = numbered_reads (same (part node)) n (x ∷ y ∷ more) r
         ∙ only_one same exact (x ∷ y ∷ more) (part node) once (there node refl)
@@ -72,7 +77,8 @@ module _ (v : ℕ → Bool) where
   variants_read n (w ∷ ws) variants r =
       let parts = reads_parts v n (map (among (values_at variants w.0)) w.1) (value_bits ws variants) r in
       let here = numbered_reads (among (values_at variants w.0)) n w.1 parts.0 in
-      let at : n + length (map (among (values_at variants w.0)) w.1) ≡ n + length w.1 = ap (λ m. n + m) (length-map w.1 (among (values_at variants w.0))) in
+      let at : n + length (map (among (values_at variants w.0)) w.1) ≡ n + length w.1 =
+      ap (λ m. n + m) (length-map w.1 (among (values_at variants w.0))) in
       let rest = variants_read (n + length w.1) ws variants (subst (λ m. Reads v m (value_bits ws variants)) at parts.1) in
       λ i. cons_option (with_values w.0 (here i)) (rest i)
 
@@ -90,7 +96,8 @@ some_values : (name : Text) (values : List Text) → (values ≡ [] → ⊥) →
 some_values name [] some = absurd (some refl)
 some_values name (x ∷ xs) some = refl
 
-module _ (names : List Text) (values : Text → List Text) (order : IsInByteOrder names) (sets : (name : Text) → IsInByteOrder (values name)) where
+module _ (names : List Text) (values : Text → List Text) (order : IsInByteOrder names) (sets : (name : Text)
+    → IsInByteOrder (values name)) where
   abbrev Pairs : List (Text × List Text)
   Pairs = map (λ name. (name, values name)) names
 
@@ -124,10 +131,12 @@ module _ (names : List Text) (values : Text → List Text) (order : IsInByteOrde
     at_name : (name : Text) → kept_values variants (name, values name) ≡ find_key byte_cmp (λ w. w.0) variants name
     at_name name = at_found name (find (λ w. bytes_eq w.0 name) variants) refl ∙ sym (λ i. find (λ w. tells_alike w.0 name i) variants)
 
+    -- all variants are kept with their values
     pub kept_all : filter_map (kept_values variants) Pairs ≡ variants
     kept_all =
         mapped_kept variants names
-        ∙ filter_map-agree (λ name. kept_values variants (name, values name)) (find_key byte_cmp (λ w. w.0) variants) names (λ name there. at_name name)
+        ∙ filter_map-agree (λ name. kept_values variants (name, values name)) (find_key byte_cmp (λ w. w.0) variants) names
+        (λ name there. at_name name)
         ∙ sym (is_given nat_list_cmp_total ties_are_equal (λ (w : Text × List Text). w.0) names variants order rise
         (all_from (λ (w : Text × List Text). Contains names w.0) variants (λ w there. (pair_is w (offered w there)).0)))
 
@@ -141,7 +150,8 @@ pub variants_spelled : (v : ℕ → Bool) (n : ℕ) (vs variants : List (Text ×
     → Reads v n (value_bits vs variants) → chosen_variants v (variants_from n vs) ≡ variants
 variants_spelled v n vs variants are which r =
     variants_read v n vs variants r ∙ ap (filter_map (kept_values variants)) are.are ∙ ⊎_elim
-    (λ none. subst (λ us. filter_map (kept_values us) (map (λ name. (name, are.values name)) are.names) ≡ us) (sym none) (none_chosen are.names are.values))
+    (λ none. subst (λ us. filter_map (kept_values us) (map (λ name. (name, are.values name)) are.names) ≡ us) (sym none)
+    (none_chosen are.names are.values))
     (λ some. kept_all are.names are.values are.order are.sets variants some.0
     (λ w there. subst (λ us. OffersVariant us w) are.are (some.1 w there)))
     which

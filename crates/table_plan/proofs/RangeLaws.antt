@@ -13,7 +13,7 @@ use Rattle.literal_table.specs.declared.block.ProviderLits.{ProviderLits}
 use Rattle.table_plan.specs.declared.plan.Possible.{Possible}
 use Rattle.table_plan.specs.declared.plan.Plan.{Plan}
 use Rattle.table_plan.specs.Numbers.{lit_of, numbered, attribute, width_of, variants_from, values_in, total, width, widths, block_from, blocks_from, edges_from, edge_from, provider_from, providers_from, table_from, variables_of}
-use Rattle.table_plan.specs.Ranges.{AreBelow, IsBlockBelow, IsTableBelow}
+use Rattle.literal_table.specs.Ranges.{AreBelow, IsBlockBelow, IsTableBelow}
 use Rattle.table_plan.proofs.Runs.{threes}
 
 append_below : (m : ℕ) (ls ks : List Lit) → AllBelow m ls → AllBelow m ks → AllBelow m (ls ++ ks)
@@ -29,7 +29,8 @@ attribute_below m p n [] lt le = tt
 attribute_below m p n (x ∷ []) lt le = (lt, tt)
 attribute_below m p n (x ∷ y ∷ more) lt le = numbered_below m n (x ∷ y ∷ more) le
 
-variants_below : (m n : ℕ) (vs : List (Text × List Text)) → n + values_in vs ≤ m → AllBelow m (flat_map (λ w. lits_of w.1) (variants_from n vs))
+variants_below : (m n : ℕ) (vs : List (Text × List Text)) → n + values_in vs ≤ m
+    → AllBelow m (flat_map (λ w. lits_of w.1) (variants_from n vs))
 variants_below m n [] le = tt
 variants_below m n (v ∷ vs) le = append_below m (lits_of (numbered n v.1)) (flat_map (λ w. lits_of w.1) (variants_from (n + length v.1) vs))
     (numbered_below m n v.1 (omega (arith, le))) (variants_below m (n + length v.1) vs (omega (arith, le)))
@@ -73,6 +74,7 @@ providers_below m n (w ∷ ws) le p there = ⊎_elim
     (λ later. providers_below m (n + length w.1) ws (omega (arith, le)) p later)
     (first_or_later (provider_from n w) (providers_from (n + length w.1) ws) p there)
 
+-- the literals of a table are over its variables
 pub table_below : (n : ℕ) (plan : Plan) → IsTableBelow (n + variables_of plan) (table_from n plan)
 unfolding table_from variables_of
 table_below n plan =
@@ -80,6 +82,7 @@ table_below n plan =
       blocks = all_from (IsBlockBelow m) (blocks_from n plan.nodes) (blocks_below m n plan.nodes (omega arith));
       edges = all_from (EdgeBelow m) (edges_from (n + widths plan.nodes) plan.edges)
           (edges_below m (n + widths plan.nodes) plan.edges (omega (arith, threes plan.edges)));
-      providers = all_from (λ (p : ProviderLits). AreBelow m p.packages) (providers_from (n + widths plan.nodes + 3 * length plan.edges) plan.providers)
+      providers = all_from (λ (p : ProviderLits). AreBelow m p.packages)
+          (providers_from (n + widths plan.nodes + 3 * length plan.edges) plan.providers)
           (providers_below m (n + widths plan.nodes + 3 * length plan.edges) plan.providers (omega arith));
     }

@@ -9,6 +9,7 @@ abbrev pub Reads : (ℕ → Bool) → ℕ → List Bool → Type 0
 Reads v n [] = Unit {0}
 Reads v n (b ∷ bs) = (v n ≡ b) × Reads v (n + 1) bs
 
+-- bits behind one another are read part by part
 pub reads_parts : (v : ℕ → Bool) (n : ℕ) (bs cs : List Bool) → Reads v n (bs ++ cs) → Reads v n bs × Reads v (n + length bs) cs
 reads_parts v n [] cs r = (tt, let e : n ≡ n + 0 = omega arith in subst (λ m. Reads v m cs) e r)
 reads_parts v n (b ∷ bs) cs r =
@@ -27,9 +28,11 @@ reads_from v n (b ∷ bs) f =
     )
 
 module _ (n : ℕ) (bits : List Bool) (v : ℕ → Bool) where
+  -- variables before the bits stay
   pub bits_before : (k : ℕ) → k < n → with_bits n bits v k ≡ v k
   bits_before k lt = rw (lt-ltb k n lt) refl
 
+  -- so do those behind
   pub bits_after : (k : ℕ) → n + length bits ≤ k → with_bits n bits v k ≡ v k
   bits_after k le = rw (le-ltb k n (omega arith)) (get_or_past bits (k - n) (v k) (omega arith))
 
@@ -38,6 +41,7 @@ module _ (n : ℕ) (bits : List Bool) (v : ℕ → Bool) where
       let back : n + k - n ≡ k = omega arith in
       rw (le-ltb (n + k) n (omega arith), back) refl
 
+  -- bits that are written are read
   pub reads_bits : Reads (with_bits n bits v) n bits
   reads_bits = reads_from (with_bits n bits v) n bits (λ k lt. at_bit k ∙ within bits k (v (n + k)) (with_bits n bits v (n + k)) lt)
     where

@@ -18,9 +18,11 @@ module _ {X Y : Type 0} (make : ℕ → X → Y) (width : X → ℕ) where
     front : take (i + 1) xs ≡ take i xs ++ x ∷ []
     front = take_more xs i x lt ∙ ap (λ z. take i xs ++ z ∷ []) (sym is)
 
+    -- the variables of one element more
     pub total_more : total width (take (i + 1) xs) ≡ total width (take i xs) + width x
     total_more = ap (total width) front ∙ total-append (take i xs) x
 
+    -- a run of one element more
     pub run_more : (n : ℕ) → run make width n (take i xs) ++ make (n + total width (take i xs)) x ∷ [] ≡ run make width n (take (i + 1) xs)
     run_more n = sym (ap (run make width n) front ∙ run-append n (take i xs) x)
 
@@ -31,10 +33,12 @@ pub run_next : {X Y : Type 0} (make : ℕ → X → Y) (width : X → ℕ) (xs :
 run_next make width xs i x lt is n next e =
     ap (λ m. run make width n (take i xs) ++ make m x ∷ []) e ∙ run_more make width xs i x lt is n
 
+-- a variable for each element
 pub ones : {X : Type 0} (xs : List X) → total (λ x. 1) xs ≡ length xs
 ones [] = refl
 ones (x ∷ xs) = omega (arith, ones xs)
 
+-- three for each
 pub threes : {X : Type 0} (xs : List X) → total (λ x. 3) xs ≡ 3 * length xs
 threes [] = refl
 threes (x ∷ xs) = omega (arith, threes xs)

@@ -2,8 +2,7 @@
 use Rattle.std.proofs.Common.{◌≡◌, refl, sym, ap, subst, ◌∙◌, ℕ, ◌+◌, ◌*◌, ◌<◌, ◌≤◌, Bool, true, false, ◌||◌, cond, List, [], ◌∷◌, ◌++◌, map, filter, length, Option, Some, None, Contains, All, ◌⊎◌, inl, inr, ⊎_elim, arith}
 use Rattle.std.specs.Option.{option_map, option_to_list, is_some}
 use Rattle.std.specs.Ordering.{eq_by_cmp, is_eq}
-use Rattle.std.specs.declared.cmp.Ordering.{Ordering}
-use Rattle.std.specs.declared.cmp.Ordering.TheVariants.{Less, Equal, Greater}
+use Rattle.std.specs.declared.cmp.Ordering.TheVariants.{Less, Equal}
 use Rattle.std.specs.Str.{bytes_eq}
 use Rattle.std.specs.Cmp.{tied_itself}
 use Rattle.std.specs.Cmp.Lexicographic.{bytes_decides, nat_list_cmp_total}
@@ -23,12 +22,12 @@ use Rattle.graph_core.specs.declared.node.Edge.{Edge}
 use Rattle.graph_core.specs.declared.node.Kinds.{Kinds}
 use Rattle.condition_rules.specs.Words.{is_some_and}
 use Rattle.problem.specs.Nodes.{has_kind}
-use Rattle.possible_closure.proofs.Lists.{found-there}
 use Rattle.literal_table.specs.Choices.{Choices, chosen}
 use Rattle.literal_table.specs.Tables.{Table, IsTable, AreVariantsInOrder, name_of, ends_of, virtual_of, block_of, edge_lits_of, packages_of, packages_in}
 use Rattle.literal_table.specs.Spells.{SpellsNode, SpellsAt, SpellsEdge, Spells, chosen_kinds, with_kind}
 use Rattle.literal_table.specs.declared.block.Block.{Block}
 use Rattle.literal_table.specs.declared.block.EdgeLits.{EdgeLits}
+use Rattle.literal_table.proofs.Spelling.{named-so}
 use Rattle.table_plan.specs.Gathering.{EachOnce}
 use Rattle.table_plan.specs.Offers.{Offers, IsOffered, IsPossible, IsPlan}
 use Rattle.table_plan.specs.declared.plan.Possible.{Possible}
@@ -39,6 +38,7 @@ use Rattle.table_plan.specs.Spellings.{node_bits, nodes_bits, edge_bits, edges_b
 use Rattle.table_plan.proofs.ReadLaws.{Reads, reads_parts, reads_bits, bits_before, bits_after}
 use Rattle.table_plan.proofs.Choices.{numbered_reads, nothing_kept}
 use Rattle.table_plan.proofs.Blocks.{length-node_bits, block_ordered, block_named, node_read}
+use Rattle.table_plan.proofs.PlanLaws.{ties}
 
 -- ---- lengths
 
@@ -86,11 +86,6 @@ length-graph_bits plan graph = omega (
 
 -- ---- small facts
 
-ties : (o : Ordering) → is_eq o ≡ true → o ≡ Equal
-ties Less h = absurd cc
-ties Equal h = refl
-ties Greater h = absurd cc
-
 apart : (a b : Text) → byte_cmp a b ≡ Less → a ≡ b → ⊥
 apart a b less e = let both : Less ≡ Equal = sym less ∙ ap (byte_cmp a) (sym e) ∙ tied_itself nat_list_cmp_total a in cc
 
@@ -102,10 +97,6 @@ texts_once (x ∷ xs) rising =
 nothing_there : {X : Type 0} (o : Option X) → ((x : X) → o ≡ Some x → ⊥) → o ≡ None
 nothing_there None f = refl
 nothing_there (Some x) f = absurd (f x refl)
-
-node_named : (graph : Content) (name : Text) (node : Node) → node_of graph name ≡ Some node → node.name ≡ name
-node_named graph name node e =
-    (texts_decide node.name name).0 (found-there (λ (n : Node). eq_by_cmp byte_cmp n.name name) graph.nodes node e).1
 
 -- ---- nodes, edges and providers
 
@@ -119,7 +110,8 @@ module _ (v : ℕ → Bool) (graph : Content) where
       let later = subst (λ m. Reads v (n + m) (nodes_bits graph ps)) (length-node_bits p (node_of graph p.name)) parts.1 in
       let all = λ (q : Possible) (there : Contains ps q). All-contains IsPossible (p ∷ ps) q is (has_later p ps q there) in
       let first : IsPossible p = All-contains IsPossible (p ∷ ps) p is (has_first p ps) in
-      let rest = nodes_read (n + width p) ps (rises_rest byte_cmp p.name (map (λ q. q.name) ps) rising) (all_from IsPossible ps all) later name in
+      let rest = nodes_read (n + width p) ps (rises_rest byte_cmp p.name (map (λ q. q.name) ps) rising)
+      (all_from IsPossible ps all) later name in
       ⊎_elim
       (λ hit.
       let key : p.name ≡ name = sym (block_named n p) ∙ (texts_decide (block_from n p).name name).0 hit in
@@ -167,7 +159,8 @@ module _ (v : ℕ → Bool) (graph : Content) where
       ))))
       (cases_Bool (eq_by_cmp pair_cmp pair (parent, child)))
 
-  packages_read : (n : ℕ) (packages : List Text) (o : Option Text) → IsInByteOrder packages → ((p : Text) → o ≡ Some p → Contains packages p)
+  packages_read : (n : ℕ) (packages : List Text) (o : Option Text) → IsInByteOrder packages
+      → ((p : Text) → o ≡ Some p → Contains packages p)
       → Reads v n (map (λ one. is_some_and o (λ p. bytes_eq p one)) packages) → chosen v (numbered n packages) ≡ option_to_list o
   packages_read n packages None rising f r = numbered_reads v (λ one. false) n packages r ∙ nothing_kept packages
   packages_read n packages (Some p) rising f r =
@@ -199,7 +192,8 @@ module _ (v : ℕ → Bool) (graph : Content) where
       (subst (λ m. Reads v n (map (λ one. is_some_and (provider_of graph m) (λ p. bytes_eq p one)) w.1)) key parts.0)))
       (λ miss. rw miss (rest (λ p e. let at = f p e in (
         at.0,
-        ⊎_elim (λ same. absurd (false≢true (sym miss ∙ (texts_decide w.0 name).1 (ap (λ (u : Text × List Text). u.0) same)))) (λ in_ws. in_ws)
+        ⊎_elim (λ same. absurd (false≢true (sym miss ∙ (texts_decide w.0 name).1 (ap (λ (u : Text × List Text). u.0) same))))
+            (λ in_ws. in_ws)
             (first_or_later w ws (name, at.0) at.1),
         at.2,
       ))))
@@ -212,22 +206,27 @@ module _ (n : ℕ) (plan : Plan) (graph : Content) (is : IsPlan plan) (has : IsO
   unfolding graph_bits table_from
   table_read v r =
       let nodes = reads_parts v n (nodes_bits graph plan.nodes) (edges_bits graph plan.edges ++ providers_bits graph plan.providers) r in
-      let after = subst (λ m. Reads v (n + m) (edges_bits graph plan.edges ++ providers_bits graph plan.providers)) (length-nodes_bits graph plan.nodes) nodes.1 in
+      let after = subst (λ m. Reads v (n + m) (edges_bits graph plan.edges ++ providers_bits graph plan.providers))
+      (length-nodes_bits graph plan.nodes) nodes.1 in
       let edges = reads_parts v (n + widths plan.nodes) (edges_bits graph plan.edges) (providers_bits graph plan.providers) after in
-      let last = subst (λ m. Reads v (n + widths plan.nodes + m) (providers_bits graph plan.providers)) (length-edges_bits graph plan.edges) edges.1 in
+      let last = subst (λ m. Reads v (n + widths plan.nodes + m) (providers_bits graph plan.providers))
+      (length-edges_bits graph plan.edges) edges.1 in
       record {
         nodes = λ name. nodes_read v graph n plan.nodes is.nodes is.possible nodes.0 name (λ node e.
             let at = has.nodes name node e in
-            (at.0, at.1, sym at.2.name ∙ node_named graph name node e, at.2));
+            (at.0, at.1, sym at.2.name ∙ named-so graph name node e, at.2));
         edges = λ parent child. edges_read v graph (n + widths plan.nodes) plan.edges edges.0 parent child (has.edges parent child);
-        providers = λ name. providers_read v graph (n + widths plan.nodes + 3 * length plan.edges) plan.providers is.providers is.packages last name
+        providers = λ name. providers_read v graph (n + widths plan.nodes + 3 * length plan.edges) plan.providers is.providers
+            is.packages last name
             (has.providers name);
       }
 
+  -- what a plan offers is spelled
   pub spelled : (v : ℕ → Bool) → Spells (spelling n plan graph v) (table_from n plan) graph
   unfolding spelling
   spelled v = table_read (with_bits n (graph_bits plan graph) v) (reads_bits n (graph_bits plan graph) v)
 
+-- the other variables stay
 pub others_stay : (n : ℕ) (plan : Plan) (graph : Content) (v : ℕ → Bool) → AgreeOutside n (variables_of plan) (spelling n plan graph v) v
 unfolding spelling
 others_stay n plan graph v k = (
@@ -245,7 +244,8 @@ made_keys make width key from same n (x ∷ xs) =
     let rest = made_keys make width key from same (n + width x) xs in
     λ i. first i ∷ rest i
 
-blocks_ordered : (n : ℕ) (ps : List Possible) → ((p : Possible) → Contains ps p → IsPossible p) → (b : Block) → Contains (blocks_from n ps) b
+blocks_ordered : (n : ℕ) (ps : List Possible) → ((p : Possible) → Contains ps p → IsPossible p) → (b : Block)
+    → Contains (blocks_from n ps) b
     → AreVariantsInOrder b
 blocks_ordered n [] is b there = absurd (omega (arith, there.1))
 blocks_ordered n (p ∷ ps) is b there = ⊎_elim
@@ -257,6 +257,7 @@ pair_itself : (pairs : List (Text × Text)) → map (λ pair. pair) pairs ≡ pa
 pair_itself [] = refl
 pair_itself (pair ∷ pairs) = ap (λ ps. pair ∷ ps) (pair_itself pairs)
 
+-- the table of a plan is in order
 pub table_right : (n : ℕ) (plan : Plan) → IsPlan plan → IsTable (table_from n plan)
 unfolding table_from
 table_right n plan is = record {

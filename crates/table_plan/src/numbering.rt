@@ -1,4 +1,4 @@
-// The table of a plan.
+//! The table of a plan.
 ghost use Rattle.std.specs.Prelude.{◌≡◌, ◌+◌, ◌*◌, [], ◌∷◌, length, IfOk, OnOk};
 ghost use Rattle.table_plan.specs.Offers.{IsPlan};
 ghost use Rattle.table_plan.specs.Numbers.{lit_of, numbered, attribute, width_of, variants_from, values_in, width, widths, block_from, blocks_from, edge_from, edges_from, provider_from, providers_from, table_from, variables_of};
@@ -25,6 +25,7 @@ pub fn table_from(alloc: Global, next: &mut u64, plan: &Plan) -> Result<LiteralT
     Ok(LiteralTable::new(blocks, edges, providers))
 }
 
+// The literal of the next variable. Numbers end with those of 64 bits.
 fn new_lit(next: &mut u64) -> Result<Lit, AllocError>
     ensures lit { IfOk result (λ lit. lit ≡ lit_of next.old) }
     ensures next { OnOk result (next.new ≡ next.old + 1) }
@@ -40,6 +41,7 @@ fn new_lit(next: &mut u64) -> Result<Lit, AllocError>
     })
 }
 
+// A new literal for each element.
 fn numbered<T: Duplicate>(
     alloc: Global,
     next: &mut u64,
@@ -64,6 +66,7 @@ fn alone<T: Duplicate>(alloc: Global, item: &T, lit: Lit) -> Result<List<(T, Lit
     Ok(choices)
 }
 
+// The literals of an attribute: one that alone may be chosen has the literal of the node.
 fn attribute<T: Duplicate>(
     alloc: Global,
     present: Lit,
@@ -100,6 +103,7 @@ fn variant_from(
     Ok((variant.0.duplicate(alloc)?, values))
 }
 
+// The values of each variant, each with a new literal.
 fn variants_from(
     alloc: Global,
     next: &mut u64,
@@ -116,6 +120,7 @@ fn variants_from(
     Ok(made)
 }
 
+// What may be chosen at a name, each with its literal.
 #[tactic(auto, unfolding(crate::specs::Numbers::block_from))]
 fn block_from(alloc: Global, next: &mut u64, p: &Possible) -> Result<Block, AllocError>
     ensures block { IfOk result (λ block. block ≡ block_from next.old p.now) }
@@ -142,6 +147,7 @@ fn block_from(alloc: Global, next: &mut u64, p: &Possible) -> Result<Block, Allo
     })
 }
 
+// A block for each name, one behind the other.
 fn blocks_from(alloc: Global, next: &mut u64, nodes: &[Possible]) -> Result<Vec<Block>, AllocError>
     ensures blocks { IfOk result (λ blocks. blocks.items ≡ blocks_from next.old nodes.now) }
     ensures next { OnOk result (next.new ≡ next.old + widths nodes.now) }
@@ -154,6 +160,7 @@ fn blocks_from(alloc: Global, next: &mut u64, nodes: &[Possible]) -> Result<Vec<
     Ok(blocks)
 }
 
+// A new literal for each kind of an edge.
 fn edge_from(alloc: Global, next: &mut u64, pair: &(Word, Word)) -> Result<EdgeLits, AllocError>
     ensures edge { IfOk result (λ edge. edge ≡ edge_from next.old pair.now) }
     ensures next { OnOk result (next.new ≡ next.old + 3) }
@@ -170,6 +177,7 @@ fn edge_from(alloc: Global, next: &mut u64, pair: &(Word, Word)) -> Result<EdgeL
     })
 }
 
+// The literals of each edge, one behind the other.
 fn edges_from(
     alloc: Global,
     next: &mut u64,
@@ -201,12 +209,14 @@ fn provider_from(
     })
 }
 
+// A new literal for each package that may provide a virtual, virtual by virtual.
 fn providers_from(
     alloc: Global,
     next: &mut u64,
     virtuals: &[(Word, List<Word>)],
 ) -> Result<Vec<ProviderLits>, AllocError>
-    ensures providers { IfOk result (λ providers. providers.items ≡ providers_from next.old virtuals.now) }
+    ensures providers { IfOk result
+        (λ providers. providers.items ≡ providers_from next.old virtuals.now) }
     ensures next { OnOk result (next.new ≡ next.old + values_in virtuals.now) }
 {
     let mut providers = Vec::new(alloc);

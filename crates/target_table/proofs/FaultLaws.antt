@@ -16,7 +16,7 @@ use Rattle.target_table.specs.declared.fault.TargetFault.{TargetFault}
 use Rattle.target_table.specs.declared.fault.TargetFault.TheVariants.{TwiceNamed, UnknownParent, CyclicTargets, OutOfMemory}
 use Rattle.target_table.specs.Targets.{names_of, arcs_of, HasAncestor, IsTwice, IsUnknown, IsFirst, IsTargetFault, AreTargets}
 use Rattle.target_table.specs.Faults.{is_one_of, first_twice, first_unknown, is_cyclic, first_fault, fault_of}
-use Rattle.target_table.proofs.PlaceLaws.{none_more}
+use Rattle.reachability.proofs.TextPlaces.{none_more}
 use Rattle.target_table.proofs.TableLaws.{from_name}
 
 -- ---- tests of lists
@@ -59,6 +59,7 @@ module _ {X : Type 0} (p : X → Bool) where
       (λ k d less. not-true _ (prefix_len_passes (λ x. not (p x)) xs k d (omega (arith, less, le)))))
       (cases_lt (position_or_len p xs) (length xs))
 
+-- the test whether a text is one of some names
 pub one_of_decides : (names : List (List ℕ)) (name : List ℕ) → Decides (is_one_of names name) (Contains names name)
 one_of_decides names name = (
   λ e. let w = any_true (λ other. bytes_eq other name) names e in subst (Contains names) ((bytes_decides w.0 name).0 w.2) w.1,
@@ -157,8 +158,9 @@ module _ (entries : List TargetEntry) where
 
   -- ---- the fault
 
+  -- what is computed is the fault that there is, or none
   pub fault_means : MatchOption (fault_of entries) (AreTargets entries) (IsTargetFault entries)
-  fault_means = go (first_twice 0 [] (names_of entries))
+  fault_means = fault_means-cases (first_twice 0 [] (names_of entries))
       (twice_means (names_of entries) 0 [] (names_of entries) refl (omega arith) (λ x. (λ h. h, λ h. h))
       (λ k lt. absurd (omega (arith, lt))))
       (first_unknown entries) (position_means lacks_parent entries) (is_cyclic entries) refl
@@ -168,16 +170,16 @@ module _ (entries : List TargetEntry) where
           (λ i. (i < length entries) × ((d : TargetEntry) → lacks_parent (get_or entries i d) ≡ true)
           × ((k : ℕ) (d : TargetEntry) → k < i → lacks_parent (get_or entries k d) ≡ false))
 
-      go : (r : Option ℕ) → TwiceTold (names_of entries) r → (u : Option ℕ) → UnknownTold u → (b : Bool) → is_cyclic entries ≡ b
+      fault_means-cases : (r : Option ℕ) → TwiceTold (names_of entries) r → (u : Option ℕ) → UnknownTold u → (b : Bool) → is_cyclic entries ≡ b
           → MatchOption (first_fault r u b) (AreTargets entries) (IsTargetFault entries)
-      go (Some i) told u unknown b e = (to_entries entries i told.0, λ k lt twice. told.1 k lt (to_names entries k twice))
-      go None told (Some i) unknown b e = (
+      fault_means-cases (Some i) told u unknown b e = (to_entries entries i told.0, λ k lt twice. told.1 k lt (to_names entries k twice))
+      fault_means-cases None told (Some i) unknown b e = (
         λ k twice. told k (to_names entries k twice),
         ((unknown.0, λ d. lacking (get_or entries i d) (unknown.1 d)), λ k lt. known_at k (λ d. unknown.2 k d lt)),
       )
-      go None told None unknown true e =
+      fault_means-cases None told None unknown true e =
           (λ k twice. told k (to_names entries k twice), (λ k h. known_at k (λ d. unknown k d h.0) h), a_cycle e)
-      go None told None unknown false e = record {
+      fault_means-cases None told None unknown false e = record {
         once = λ k twice. told k (to_names entries k twice);
         known =
             λ k h. known_at k (λ d. unknown k d h.0) h;
@@ -210,22 +212,24 @@ module _ (entries : List TargetEntry) where
   same_fault CyclicTargets (UnknownParent j) a b memory = absurd (a.1 j b.1.0)
   same_fault CyclicTargets CyclicTargets a b memory = inr refl
 
+  -- each fault but want of memory is the one that is computed
   pub fault_is : (f : TargetFault) → IsTargetFault entries f → (f ≡ OutOfMemory) ⊎ (fault_of entries ≡ Some f)
-  fault_is f is = go (first_twice 0 [] (names_of entries)) (first_unknown entries) (is_cyclic entries) fault_means
+  fault_is f is = fault_is-cases (first_twice 0 [] (names_of entries)) (first_unknown entries) (is_cyclic entries) fault_means
     where
-      go : (r u : Option ℕ) (b : Bool) → MatchOption (first_fault r u b) (AreTargets entries) (IsTargetFault entries) → (f ≡ OutOfMemory)
+      fault_is-cases : (r u : Option ℕ) (b : Bool) → MatchOption (first_fault r u b) (AreTargets entries) (IsTargetFault entries) → (f ≡ OutOfMemory)
           ⊎ (first_fault r u b ≡ Some f)
-      go (Some i) u b means = same_fault f (TwiceNamed i) is means (λ e. cc)
-      go None (Some i) b means = same_fault f (UnknownParent i) is means (λ e. cc)
-      go None None true means = same_fault f CyclicTargets is means (λ e. cc)
-      go None None false means = inl (no_fault f means is)
+      fault_is-cases (Some i) u b means = same_fault f (TwiceNamed i) is means (λ e. cc)
+      fault_is-cases None (Some i) b means = same_fault f (UnknownParent i) is means (λ e. cc)
+      fault_is-cases None None true means = same_fault f CyclicTargets is means (λ e. cc)
+      fault_is-cases None None false means = inl (no_fault f means is)
 
+  -- entries without a fault have none that is computed
   pub none_is : AreTargets entries → fault_of entries ≡ None
-  none_is right = go (first_twice 0 [] (names_of entries)) (first_unknown entries) (is_cyclic entries) fault_means
+  none_is right = none_is-cases (first_twice 0 [] (names_of entries)) (first_unknown entries) (is_cyclic entries) fault_means
     where
-      go : (r u : Option ℕ) (b : Bool) → MatchOption (first_fault r u b) (AreTargets entries) (IsTargetFault entries)
+      none_is-cases : (r u : Option ℕ) (b : Bool) → MatchOption (first_fault r u b) (AreTargets entries) (IsTargetFault entries)
           → first_fault r u b ≡ None
-      go (Some i) u b means = let e : TwiceNamed i ≡ OutOfMemory = no_fault (TwiceNamed i) right means in absurd (cc)
-      go None (Some i) b means = let e : UnknownParent i ≡ OutOfMemory = no_fault (UnknownParent i) right means in absurd (cc)
-      go None None true means = let e : CyclicTargets ≡ OutOfMemory = no_fault CyclicTargets right means in absurd (cc)
-      go None None false means = refl
+      none_is-cases (Some i) u b means = let e : TwiceNamed i ≡ OutOfMemory = no_fault (TwiceNamed i) right means in absurd (cc)
+      none_is-cases None (Some i) b means = let e : UnknownParent i ≡ OutOfMemory = no_fault (UnknownParent i) right means in absurd (cc)
+      none_is-cases None None true means = let e : CyclicTargets ≡ OutOfMemory = no_fault CyclicTargets right means in absurd (cc)
+      none_is-cases None None false means = refl

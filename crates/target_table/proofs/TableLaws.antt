@@ -20,6 +20,7 @@ use Rattle.target_table.specs.Targets.{names_of, arcs_of, place_of, HasAncestor,
 -- ---- names and places
 
 module _ (entries : List TargetEntry) where
+  -- a name that never stands twice has one place
   pub one_place : HasNone IsTwice entries → (name : List ℕ) (i j : ℕ) → IsAt (names_of entries) name i
       → IsAt (names_of entries) name j → i ≡ j
   one_place once name i j at_i at_j =
@@ -44,16 +45,17 @@ module _ (entries : List TargetEntry) where
 
   -- an arc leads from the name of an entry to one of its parents
   pub arc_is : (p q : List ℕ) → HasArc (arcs_of entries) p q → (e : TargetEntry) × Contains entries e × (e.name ≡ p) × Contains e.parents q
-  arc_is p q = go entries
+  arc_is p q = arc_is-cases entries
     where
-      go : (es : List TargetEntry) → HasArc (arcs_of es) p q → (e : TargetEntry) × Contains es e × (e.name ≡ p) × Contains e.parents q
-      go [] arc = absurd (omega (arith, arc.1))
-      go (e ∷ es) arc = ⊎_elim
+      arc_is-cases : (es : List TargetEntry) → HasArc (arcs_of es) p q → (e : TargetEntry) × Contains es e × (e.name ≡ p) × Contains e.parents q
+      arc_is-cases [] arc = absurd (omega (arith, arc.1))
+      arc_is-cases (e ∷ es) arc = ⊎_elim
           (λ here. let w = image_of (λ parent. (e.name, parent)) e.parents (p, q) here in
           (e, has_first e es, ap (λ a. a.0) w.2, subst (Contains e.parents) (ap (λ a. a.1) w.2) w.1))
-          (λ later. let w = go es later in (w.0, has_later e es w.0 w.1, w.2, w.3))
+          (λ later. let w = arc_is-cases es later in (w.0, has_later e es w.0 w.1, w.2, w.3))
           (Contains-append_cases (map (λ parent. (e.name, parent)) e.parents) (arcs_of es) (p, q) arc)
 
+  -- what has an ancestor is a name
   pub from_name : (p q : List ℕ) → HasAncestor entries p q → Contains (names_of entries) p
   from_name p q path = ⊎_elim (begins p q) (λ w. begins p w.0 w.1) (first_arc (HasArc (arcs_of entries)) p q path)
     where
@@ -61,6 +63,7 @@ module _ (entries : List TargetEntry) where
       begins p q arc = let w = arc_is p q arc in
           subst (Contains (names_of entries)) w.2 (has_image (λ (e : TargetEntry). e.name) entries w.0 w.1)
 
+  -- an ancestor is a name, where no parent is unknown
   pub to_name : HasNone IsUnknown entries → (p q : List ℕ) → HasAncestor entries p q → (Contains (names_of entries) q → ⊥) → ⊥
   to_name known p q path lacks = ⊎_elim (λ arc. ends p arc) (λ w. ends w.0 w.2) (last_arc (HasArc (arcs_of entries)) p q path)
     where
@@ -86,6 +89,7 @@ stopped_at : (a b : List ℕ) → a ≡ b → not (bytes_eq a b) ≡ false
 stopped_at a b e = ap not ((bytes_decides a b).1 e)
 
 module _ (entries : List TargetEntry) where
+  -- the place that is computed is that of the name
   pub place_is : HasNone IsTwice entries → (name : List ℕ) (i : ℕ) → IsAt (names_of entries) name i → Some i ≡ place_of entries name
   place_is once name i at =
       let first : position_or_len (λ other. bytes_eq other name) (names_of entries) ≡ i =
@@ -94,6 +98,7 @@ module _ (entries : List TargetEntry) where
       omega (arith, lt, same))) (λ _. stopped_at _ name at.1) in
       rw (first, lt-ltb i (length (names_of entries)) at.0) refl
 
+  -- a text that is no name has no place
   pub no_place : (name : List ℕ) → (Contains (names_of entries) name → ⊥) → None ≡ place_of entries name
   no_place name lacks =
       let all : position_or_len (λ other. bytes_eq other name) (names_of entries) ≡ length (names_of entries) =
@@ -103,6 +108,7 @@ module _ (entries : List TargetEntry) where
 
 -- ---- ancestors, and cycles
 
+-- a table over the arcs of entries tells of their ancestors
 pub table_of : (entries : List TargetEntry) → HasNone IsTwice entries → (numbers : List (ℕ × ℕ))
     → AreNumbered (names_of entries) (arcs_of entries) numbers → (slice : List (ℕ × ℕ)) → slice ≡ numbers → (table : PathMarks)
     → IsPathTable (length entries) slice table → IsKeyTable (names_of entries) (arcs_of entries) table
@@ -111,17 +117,20 @@ table_of entries once numbers numbered slice is table are =
     (rw (length-map entries (λ (e : TargetEntry). e.name), ← is) are)
 
 module _ (entries : List TargetEntry) (table : PathMarks) (are : IsKeyTable (names_of entries) (arcs_of entries) table) where
+  -- where no place leads to itself there is no cycle
   pub no_cycle : ((i : ℕ) → i < table.places → IsTrue (leads table i i) → ⊥) → IsAcyclic (HasArc (arcs_of entries))
   no_cycle none name path =
       let at = from_name entries name name path in
       none at.0 (omega (arith, are.each, at.1)) ((are.marks name name at.0 at.0 (at.1, at.2) (at.1, at.2)).1 path)
 
+  -- a place that leads to itself is that of an entry that is its own ancestor
   pub own_ancestor : (i : ℕ) → i < table.places → IsTrue (leads table i i) → (name : List ℕ) × HasAncestor entries name name
   own_ancestor i lt marked =
       let within : i < length (names_of entries) = omega (arith, lt, are.each) in
       let at : IsAt (names_of entries) (get_or (names_of entries) i []) i = (within, get_or_default (names_of entries) i _ [] within) in
       (get_or (names_of entries) i [], (are.marks _ _ i i at at).0 marked)
 
+  -- the place of a name lies within the table
   pub place_below : (name : List ℕ) (i : ℕ) → IsAt (names_of entries) name i → i < table.places
   place_below name i at = omega (arith, are.each, at.0)
 
@@ -131,6 +140,7 @@ pub told_ancestor : (entries : List TargetEntry) (target low : List ℕ) (is : B
 told_ancestor entries target low is tells =
     same_from_decides is (has_ancestor entries target low) tells (reaches_decides bytes_eq bytes_decides (arcs_of entries) target low)
 
+-- the test whether a target is at least another
 pub at_least_decides : (entries : List TargetEntry) (target low : List ℕ)
     → Decides (at_least entries target low) (IsAtLeast entries target low)
 at_least_decides entries target low = Decides-or (bytes_eq target low) (has_ancestor entries target low) (bytes_decides target low)
@@ -141,6 +151,7 @@ module _ (P : List ℕ → Type 0) (test : List ℕ → Bool) (tells : (end : Li
   end_decides None = (λ _. tt, λ _. refl)
   end_decides (Some end) = tells end
 
+-- the test whether a target is in a range
 pub in_range_decides : (entries : List TargetEntry) (target : List ℕ) (low high : Option (List ℕ))
     → Decides (in_range entries target low high) (IsInRange entries target low high)
 in_range_decides entries target low high = Decides-and _ _

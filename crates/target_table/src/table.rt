@@ -1,9 +1,10 @@
-// A table of targets.
+//! A table of targets.
 ghost use Rattle.std.specs.Prelude.{◌≡◌, IfOk, IfErr, OnOk};
 ghost use Rattle.std.specs.Option.{option_copied};
 ghost use Rattle.reachability.specs.Places.{IsKeyTable};
-ghost use Rattle.target_table.specs.Places.{ArePlaces};
-ghost use Rattle.target_table.specs.Targets.{IsTargetFault, AreTargets, names_of, arcs_of, place_of, has_ancestor, at_least, keeps_end, in_range};
+ghost use Rattle.reachability.specs.TextPlaces.{ArePlaces};
+ghost use Rattle.target_table.specs.Targets.{IsTargetFault, AreTargets, names_of, arcs_of};
+ghost use Rattle.target_table.specs.Targets.{place_of, has_ancestor, at_least, keeps_end, in_range};
 
 use crate::arcs::numbered;
 use crate::places::{place_in, places_of};
@@ -27,7 +28,7 @@ pub struct TargetTable {
 impl Model for TargetTable {
     ghost use Rattle.std.specs.Prelude.{List};
     ghost use Rattle.target_table.specs.declared.entry.TargetEntry.{TargetEntry};
-    ghost use Rattle.target_table.specs.Places.{ArePlaces};
+    ghost use Rattle.reachability.specs.TextPlaces.{ArePlaces};
     ghost use Rattle.reachability.specs.Places.{IsKeyTable};
     ghost use Rattle.target_table.specs.Targets.{AreTargets, names_of, arcs_of};
 
@@ -41,7 +42,8 @@ impl Model for TargetTable {
 impl TargetTable {
     /// The table of some entries; takes them whatever it answers.
     ///
-    /// It needs a search for each entry, and memory for a bit for each two entries in one allocation.
+    /// It needs a search for each entry, and memory for a bit for each two entries in one
+    /// allocation.
     pub fn new(alloc: Global, entries: List<TargetEntry>) -> Result<TargetTable, TargetFault>
         ensures table { IfOk result (λ table. table ≡ entries) }
         ensures targets { OnOk result (AreTargets entries) }

@@ -1,9 +1,14 @@
-// What holds of all tables of targets, and of small ones.
-ghost use Rattle.std.specs.Prelude.{◌≡◌, ◌⊎◌, ◌↔◌, ℕ, List, [], ◌∷◌, Option, Some, None, IsTrue, true, false, MatchOption};
+//! What holds of all tables of targets, and of small ones.
+ghost use Rattle.std.specs.Prelude.{◌≡◌, ◌⊎◌, ◌↔◌, ℕ, List, [], ◌∷◌, Option, Some, None, IsTrue};
+ghost use Rattle.std.specs.Prelude.{true, false, MatchOption};
 ghost use Rattle.target_table.specs.declared.entry.TargetEntry.{TargetEntry};
 ghost use Rattle.target_table.specs.declared.fault.TargetFault.{TargetFault};
-ghost use Rattle.target_table.specs.declared.fault.TargetFault.TheVariants.{TwiceNamed, UnknownParent, CyclicTargets, OutOfMemory};
-ghost use Rattle.target_table.specs.Targets.{AreTargets, IsTargetFault, HasAncestor, has_ancestor, IsAtLeast, IsInRange, at_least, in_range, place_of};
+ghost use Rattle.target_table.specs.declared.fault.TargetFault.TheVariants.{TwiceNamed};
+ghost use Rattle.target_table.specs.declared.fault.TargetFault.TheVariants.{UnknownParent};
+ghost use Rattle.target_table.specs.declared.fault.TargetFault.TheVariants.{CyclicTargets};
+ghost use Rattle.target_table.specs.declared.fault.TargetFault.TheVariants.{OutOfMemory};
+ghost use Rattle.target_table.specs.Targets.{AreTargets, IsTargetFault, HasAncestor, has_ancestor};
+ghost use Rattle.target_table.specs.Targets.{IsAtLeast, IsInRange, at_least, in_range, place_of};
 ghost use Rattle.target_table.specs.Faults.{fault_of};
 ghost use Rattle.target_table.specs.Rows.{a, b, v1, v2, v3, v9, entry, three_levels, diamond};
 

@@ -12,15 +12,16 @@ use Rattle.std.specs.Prelude.{flat_map}
 use Rattle.cost_terms.specs.Governing.{with_formulas, variant_terms}
 use Rattle.cost_terms.specs.Terms.{Held, criteria_terms, over_variants_terms}
 use Rattle.cost_terms.specs.Sums.{number_terms, cost_terms}
-use Rattle.term_builder.specs.declared.values.Counted.{Counted}
-use Rattle.term_builder.specs.VariantBuilderRows.{counted_terms}
+use Rattle.term_builder.specs.declared.variant_terms.Counted.{Counted}
+use Rattle.term_builder.specs.VariantTerms.{counted_terms}
 use Rattle.term_builder.specs.declared.criteria.Criterion.{Criterion}
 use Rattle.term_builder.specs.declared.criteria.Summed.TheVariants as summands
 use Rattle.term_builder.specs.declared.criteria.Place.TheVariants as places
 use Rattle.term_builder.specs.Criteria.{summed_terms, criterion_terms, criteria}
 
 -- one list more
-pub pushed : {X : Type 0} (f : X → List Weighted) (xs : List X) (i : ℕ) (d : X) (made given : List Weighted) (old new whole : List (List Weighted))
+pub pushed : {X : Type 0} (f : X → List Weighted) (xs : List X) (i : ℕ) (d : X) (made given : List Weighted)
+    (old new whole : List (List Weighted))
     → i < length xs → made ≡ f (get_or xs i d) → given ≡ made → new ≡ old ++ given ∷ [] → old ++ map f (drop i xs) ≡ whole
     → new ++ map f (drop (i + 1) xs) ≡ whole
 pushed f xs i d made given old new whole less m g e rest =

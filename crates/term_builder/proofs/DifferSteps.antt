@@ -14,6 +14,7 @@ all-texts : (xs : Choices Text) → list_all (λ x. is_text x.0) xs ≡ true
 all-texts [] = refl
 all-texts (x ∷ xs) = all-texts xs
 
+-- a text is always something
 pub texts-filled : (xs : Choices Text) → no never ≡ filled_said is_text bytes_eq xs
 texts-filled xs = sym (ap (λ b. if b then no never else any_choice is_text xs) (all-texts xs))
 
@@ -23,7 +24,9 @@ module _ {T : Type 0} (filled : T → Bool) (same : T → T → Bool) (there : S
       → old ≡ old ++ differ_terms filled same there xs ys
   cannot-step can old told wrong = rw (sym told ∙ wrong) (sym (append-nil old))
 
-  pub can-step : (can : Bool) (old new : List Weighted) (left right : Statement) (parts : List Statement) → can ≡ can_differ filled same xs ys → can ≡ true
+  -- the term where ends can differ
+  pub can-step : (can : Bool) (old new : List Weighted) (left right : Statement) (parts : List Statement)
+      → can ≡ can_differ filled same xs ys → can ≡ true
       → left ≡ filled_said filled same xs → right ≡ filled_said filled same ys
       → parts ≡ map (λ x. both (atom x.1) (any_choice (same x.0) ys)) xs
       → new ≡ old ++ record { weight = 1; formula = all_of (there ∷ left ∷ right ∷ no (any_of parts) ∷ []) } ∷ []
@@ -31,6 +34,8 @@ module _ {T : Type 0} (filled : T → Bool) (same : T → T → Bool) (there : S
   can-step can old new left right parts told right-so l r p n =
       rw (sym told ∙ right-so) (n ∙ λ i. old ++ record { weight = 1; formula = all_of (there ∷ l i ∷ r i ∷ no (any_of (p i)) ∷ []) } ∷ [])
 
-pub some-step : {T : Type 0} (filled : T → Bool) (same : T → T → Bool) (xs : Choices T) (all : Bool) → all ≡ list_all (λ x. filled x.0) xs → all ≡ false
+-- a formula where some may be nothing
+pub some-step : {T : Type 0} (filled : T → Bool) (same : T → T → Bool) (xs : Choices T) (all : Bool)
+    → all ≡ list_all (λ x. filled x.0) xs → all ≡ false
     → any_choice filled xs ≡ filled_said filled same xs
 some-step filled same xs all is wrong = sym (ap (λ b. if b then no never else any_choice filled xs) (sym is ∙ wrong))

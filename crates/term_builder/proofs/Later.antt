@@ -1,34 +1,16 @@
--- Conditions of later definitions, and terms that are pushed one by one.
-use Rattle.std.proofs.Common.{◌≡◌, refl, sym, ap, ◌∙◌, Bool, ℕ, List, [], ◌∷◌, ◌++◌, map, flat_map, drop, inl, inr}
-use Rattle.std.specs.List.{filter}
-use Rattle.std.proofs.lemmas.List.{append-nil}
-use Rattle.std.proofs.lemmas.Bool.{cases_Bool}
-use Rattle.std.proofs.lemmas.List.Concat.{flat_map-cons}
+-- Conditions of later definitions.
+use Rattle.std.proofs.Common.{◌≡◌, ap, ◌∙◌, List, [], ◌++◌}
 use Rattle.clause_formulas.specs.Statements.{Statement, both, no, any_of, opposite}
 use Rattle.graph_core.specs.Graphs.{Text}
 use Rattle.recipe_data.specs.declared.recipe.VariantRow.{VariantRow}
 use Rattle.cost_terms.proofs.PartLaws.{opposite-any}
-use Rattle.cost_terms.specs.declared.weighted.Weighted.{Weighted}
-use Rattle.term_builder.specs.VariantBuilderRows.{only_if, later, governs}
+use Rattle.term_builder.specs.VariantTerms.{later, governs}
 
+-- a condition that holds, and none of the later definitions' that was gathered, is the formula that governs
 pub governs-is : (variant : Text) (f said some none : Statement) (rows : List VariantRow) (fs start parts : List Statement) → said ≡ f
-    → start ≡ [] → parts ≡ start ++ later variant rows fs → some ≡ any_of parts → none ≡ opposite some → both said none ≡ governs variant f rows fs
+    → start ≡ [] → parts ≡ start ++ later variant rows fs → some ≡ any_of parts → none ≡ opposite some
+    → both said none ≡ governs variant f rows fs
 governs-is variant f said some none rows fs start parts s z p a n =
     let is : parts ≡ later variant rows fs = p ∙ ap (λ ts. ts ++ later variant rows fs) z in
     let last : none ≡ no (any_of (later variant rows fs)) = n ∙ ap opposite (a ∙ ap any_of is) ∙ opposite-any (later variant rows fs) in
     λ i. both (s i) (last i)
-
--- those that pass a test are pushed if they pass
-pub pushed-if : {X : Type 0} (test : X → Bool) (term : X → Weighted) (xs : List X)
-    → flat_map (λ x. only_if (test x) (term x)) xs ≡ map term (filter test xs)
-pushed-if test term [] = refl
-pushed-if test term (x ∷ xs) = flat_map-cons (λ x. only_if (test x) (term x)) x xs ∙ elim (cases_Bool (test x)) [
-  | inl t ↦ rw t (ap (λ ts. term x ∷ ts) (pushed-if test term xs))
-  | inr f ↦ rw f (pushed-if test term xs)
-]
-
--- all were pushed
-pub ended : {X : Type 0} (g : X → List Weighted) (xs items : List X) (i : ℕ) (terms old whole : List Weighted) → items ≡ xs → drop i items ≡ []
-    → terms ++ flat_map g (drop i xs) ≡ old ++ flat_map g xs → flat_map g xs ≡ whole → terms ≡ old ++ whole
-ended g xs items i terms old whole told over done is =
-    sym (append-nil terms) ∙ ap (λ rest. terms ++ flat_map g rest) (sym over ∙ ap (drop i) told) ∙ done ∙ ap (λ ts. old ++ ts) is

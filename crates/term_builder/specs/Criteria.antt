@@ -5,8 +5,8 @@ use Rattle.literal_table.specs.Tables.{Table}
 use Rattle.literal_table.specs.declared.block.Block.{Block}
 use Rattle.cost_terms.specs.declared.weighted.Weighted.{Weighted}
 use Rattle.cost_terms.specs.Terms.{Held, at_root_terms, off_root_terms, presence_terms, deprecated_terms, version_terms, os_terms, target_terms, compiler_terms, other_values_terms, unused_defaults_terms, provider_terms, edges_terms}
-use Rattle.term_builder.specs.Rows.{compared}
-use Rattle.term_builder.specs.declared.compared.Attribute.TheVariants as attributes
+use Rattle.term_builder.specs.EdgeTerms.{compared}
+use Rattle.term_builder.specs.declared.edge_terms.Attribute.TheVariants as attributes
 use Rattle.term_builder.specs.declared.criteria.Summed.{Summed}
 use Rattle.term_builder.specs.declared.criteria.Summed.TheVariants as summands
 use Rattle.term_builder.specs.declared.criteria.Place.{Place}

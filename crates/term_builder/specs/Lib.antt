@@ -1,7 +1,7 @@
 -- no definitions of its own
 -- what public contracts say
-pub mod Rows
-pub mod CostBuilderRows
-pub mod VariantBuilderRows
+pub mod EdgeTerms
+pub mod Tests
+pub mod VariantTerms
 pub mod Held
 pub mod Criteria

@@ -1,4 +1,4 @@
-// The lists of all criteria.
+//! The lists of all criteria.
 ghost use Rattle.std.specs.Prelude.{◌≡◌, ◌++◌, ◌∷◌, [], true, false, map, IfOk, OnOk};
 ghost use Rattle.literal_table.specs.Tables.{block_of};
 ghost use Rattle.cost_terms.specs.Sums.{part_terms, number_terms, cost_terms};
@@ -95,9 +95,9 @@ fn push_numbers(
 
 /// The lists of terms whose sums are the numbers of the cost vector, the first to compare first.
 ///
-/// `held` has, for each name of the table, the values of the conditions of the package's definitions
-/// of variants, in the order of these; `order` has the names of the table in the order in which
-/// their terms are to stand. An error is want of memory.
+/// `held` has, for each name of the table, the values of the conditions of the package's
+/// definitions of variants, in the order of these; `order` has the names of the table in the order
+/// in which their terms are to stand. An error is want of memory.
 pub fn cost_terms(
     alloc: Global,
     problem: &Problem,

@@ -1,10 +1,10 @@
-// What the node of a block adds to each criterion.
+//! What the node of a block adds to each criterion.
 ghost use Rattle.std.specs.Prelude.{◌≡◌, IfOk};
 ghost use Rattle.std.specs.Str.{bytes_eq};
 ghost use Rattle.condition_rules.specs.Words.{is_some_and};
 ghost use Rattle.cost_terms.specs.Terms.{is_root_name, presence_terms, provider_terms, edges_terms, over_variants_terms};
-ghost use Rattle.term_builder.specs.Rows.{compared};
-ghost use Rattle.term_builder.specs.VariantBuilderRows.{counted_terms};
+ghost use Rattle.term_builder.specs.EdgeTerms.{compared};
+ghost use Rattle.term_builder.specs.VariantTerms.{counted_terms};
 ghost use Rattle.term_builder.specs.Held.{held_in};
 ghost use Rattle.term_builder.specs.Criteria.{summed_terms, criterion_terms};
 
@@ -41,6 +41,7 @@ fn is_root_name(problem: &Problem, name: &str) -> bool
 
 // ---- what is summed
 
+// One for the node.
 fn presence_terms(alloc: Global, block: &Block) -> Result<Vec<Weighted>, AllocError>
     ensures { IfOk result (λ terms. terms.items ≡ presence_terms block.now) }
 {
@@ -96,6 +97,7 @@ fn edge_terms(
     Ok(terms)
 }
 
+// What the node adds to one sum, wherever it stands.
 #[tactic(auto, unfolding(crate::specs::Criteria::summed_terms))]
 fn summed_terms(
     alloc: Global,

@@ -1,4 +1,4 @@
-// The criteria as data.
+//! The criteria as data.
 ghost use Rattle.std.specs.Prelude.{◌≡◌};
 ghost use Rattle.term_builder.specs.Criteria.{criteria};
 

@@ -1,7 +1,7 @@
 //! Which definition of a variant governs.
 ghost use Rattle.std.specs.Prelude.{◌≡◌, ◌++◌, map, IfOk, OnOk};
 ghost use Rattle.clause_formulas.specs.Drafts.{said_of};
-ghost use Rattle.term_builder.specs.VariantBuilderRows.{said_if, later, governs};
+ghost use Rattle.term_builder.specs.VariantTerms.{said_if, later, governs};
 
 use clause_formulas::{Defined, Formula};
 use recipe_data::VariantRow;
@@ -14,7 +14,8 @@ fn push_said(
     counts: bool,
     condition: Defined,
 ) -> Result<(), AllocError>
-    ensures { OnOk result (parts.new.items ≡ parts.old.items ++ said_if counts (said_of condition)) }
+    ensures { OnOk result (parts.new.items ≡ parts.old.items
+        ++ said_if counts (said_of condition)) }
 {
     if !counts {
         return Ok(());

@@ -1,4 +1,4 @@
-// The conditions that are given for a name.
+//! The conditions that are given for a name.
 ghost use Rattle.std.specs.Prelude.{◌≡◌, find, map};
 ghost use Rattle.std.specs.Option.{option_copied};
 ghost use Rattle.std.specs.Str.{bytes_eq};

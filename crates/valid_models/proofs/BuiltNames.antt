@@ -26,15 +26,15 @@ use Rattle.literal_table.specs.Choices as choices
 use Rattle.literal_table.specs.Tables.{name_of, variant_of, block_of}
 use Rattle.literal_table.specs.declared.block.Block.{Block}
 use Rattle.literal_table.proofs.Spelling.{found-named}
-use Rattle.valid_models.specs.OfTablePlan.Gathering.{gathered, listed}
-use Rattle.valid_models.specs.OfTablePlan.Kept.{external_nodes, kept_nodes}
-use Rattle.valid_models.specs.OfTablePlan.Plans.{same_origin, can_build, offered, variant_names, variant_values, possible_at, plan_of}
-use Rattle.valid_models.proofs.OfTablePlan.GatherLaws.{from_gathered}
-use Rattle.valid_models.proofs.OfTablePlan.NodeLaws.{origins_exact}
-use Rattle.valid_models.specs.OfTableNumbers.Numbers.{lit_of, numbered, attribute, variants_from, width, block_from, blocks_from, table_from}
-use Rattle.valid_models.specs.OfGraphFormulas.Terms.{builds}
-use Rattle.valid_models.specs.OfGraphFormulas.Laws.{variants_in, variants_of}
-use Rattle.valid_models.proofs.OfGraphFormulas.AllVariants.{among-In}
+use Rattle.table_plan.specs.Gathering.{gathered, listed}
+use Rattle.table_plan.specs.Kept.{external_nodes, kept_nodes}
+use Rattle.table_plan.specs.Plans.{same_origin, can_build, offered, variant_names, variant_values, possible_at, plan_of}
+use Rattle.table_plan.proofs.GatherLaws.{from_gathered}
+use Rattle.table_plan.proofs.NodeLaws.{origins_exact}
+use Rattle.table_plan.specs.Numbers.{lit_of, numbered, attribute, variants_from, width, block_from, blocks_from, table_from}
+use Rattle.graph_formulas.specs.Terms.{builds}
+use Rattle.graph_formulas.specs.Laws.{variants_in, variants_of}
+use Rattle.graph_formulas.proofs.AllVariants.{among-In}
 use Rattle.valid_models.specs.Tables.{table_for}
 use Rattle.valid_models.specs.Joined.{HasBuiltVariants}
 
@@ -111,18 +111,19 @@ found-block : (problem : Problem) (names : List Text) (n : ℕ) (name : Text) (b
     → (k : ℕ) × (m : Text) × (block_from k (possible_at problem m) ≡ b)
 found-block problem [] n name b e = absurd (none-some b e)
 found-block problem (m ∷ ms) n name b e =
-    go (eq_by_cmp byte_cmp (name_of (block_from n (possible_at problem m))) name) e (found-block problem ms (n + width (possible_at problem m)) name b)
+    found-block-cases (eq_by_cmp byte_cmp (name_of (block_from n (possible_at problem m))) name) e (found-block problem ms (n + width (possible_at problem m)) name b)
   where
-    go : (d : Bool) → cond d (Some (block_from n (possible_at problem m))) (find_key byte_cmp name_of (blocks_from (n + width (possible_at problem m)) (map (possible_at problem) ms)) name) ≡ Some b
+    found-block-cases : (d : Bool) → cond d (Some (block_from n (possible_at problem m))) (find_key byte_cmp name_of (blocks_from (n + width (possible_at problem m)) (map (possible_at problem) ms)) name) ≡ Some b
         → (find_key byte_cmp name_of (blocks_from (n + width (possible_at problem m)) (map (possible_at problem) ms)) name ≡ Some b → (k : ℕ) × (m : Text) × (block_from k (possible_at problem m) ≡ b))
         → (k : ℕ) × (m : Text) × (block_from k (possible_at problem m) ≡ b)
-    go true is rest = let same : block_from n (possible_at problem m) ≡ b = cc in (n, m, same)
-    go false is rest = rest is
+    found-block-cases true is rest = let same : block_from n (possible_at problem m) ≡ b = cc in (n, m, same)
+    found-block-cases false is rest = rest is
 
 block-name : (problem : Problem) (k : ℕ) (m : Text) → name_of (block_from k (possible_at problem m)) ≡ m
 unfolding block_from possible_at
 block-name problem k m = refl
 
+-- a name that may be built has all variants of its recipe
 pub has-built-variants : (problem : Problem) (names : List Text) → HasBuiltVariants problem (table_for problem names)
 unfolding table_from plan_of
 has-built-variants problem names name b at offers =

@@ -1,5 +1,5 @@
 -- The rule of variants, where the table has all variants of the names that it offers to build.
-use Rattle.std.proofs.Common.{◌≡◌, refl, sym, ap, subst, ◌∙◌, Bool, true, false, not, ◌||◌, ℕ, List, [], ◌∷◌, map, Option, Some, None, inl, inr}
+use Rattle.std.proofs.Common.{◌≡◌, refl, sym, ap, subst, ◌∙◌, Bool, true, false, not, ◌||◌, ℕ, [], ◌∷◌, map, Option, Some, None, inl, inr}
 use Rattle.std.specs.List.{list_all, list_any}
 use Rattle.std.proofs.lemmas.Bool.{cases_Bool, or_left, or_right}
 use Rattle.clause_store.specs.Lits.{lit_true}
@@ -16,39 +16,37 @@ use Rattle.problem.specs.Problems.{Problem, world_of, variants_at}
 use Rattle.graph_rules.specs.Built.{keeps_variant}
 use Rattle.graph_rules.specs.Valid.{keeps}
 use Rattle.graph_rules.specs.declared.rule.Rule.TheVariants as rules
-use Rattle.graph_rules.proofs.Lists.{In, list_all-from}
+use Rattle.graph_rules.proofs.Lists.{In}
 use Rattle.literal_table.specs.Choices.{Choices, chosen, offered}
-use Rattle.literal_table.specs.Tables.{Table, block_of}
+use Rattle.literal_table.specs.Tables.{Table, block_of, names_of}
 use Rattle.literal_table.specs.Spells.{SpellsNode, SpellsAt}
 use Rattle.literal_table.specs.declared.block.Block.{Block}
 use Rattle.literal_table.proofs.Spelling.{named-so}
 use Rattle.graph_formulas.specs.Facts.{Word, word_said, is_in}
 use Rattle.graph_formulas.specs.Words.{names_for}
-use Rattle.graph_formulas.proofs.Said.{word-said}
+use Rattle.graph_formulas.proofs.WordsSaid.{word-said}
 use Rattle.graph_formulas.proofs.Rules.{each-kept}
 use Rattle.graph_formulas.proofs.Kept.{by_node}
 use Rattle.graph_formulas.specs.Terms.{Term, known, met, is_true, term_said, builds, where_built}
 use Rattle.graph_formulas.specs.Variants.{variant_rule, variants_rule, keeps_one_variant}
-use Rattle.graph_formulas.specs.Laws.{SpellsProblem, rule_says, names_of, variants_in, variants_of}
+use Rattle.graph_formulas.specs.Laws.{SpellsProblem, rule_says, variants_in, variants_of}
 use Rattle.graph_formulas.proofs.Names.{all-same, each-node-said}
-use Rattle.graph_formulas.proofs.GraphFormulasVariants.{variant-kept}
-use Rattle.graph_formulas.proofs.AllVariants.{spelled-variants, among-In}
+use Rattle.graph_formulas.proofs.VariantRule.{variant-kept}
+use Rattle.graph_formulas.proofs.AllVariants.{spelled-variants}
+use Rattle.graph_formulas.proofs.RulesSaid.{all-among}
 use Rattle.valid_models.specs.Joined.{HasBuiltVariants}
 
 -- what is chosen is offered
 any-offered : {T : Type 0} (v : ℕ → Bool) (p : T → Bool) (cs : Choices T) → list_any p (chosen v cs) ≡ true → list_any p (offered cs) ≡ true
 any-offered v p [] h = h
 any-offered v p (c ∷ cs) h = elim (cases_Bool (lit_true v c.1)) [
-  | inl t ↦ go (p c.0) (list_any p (chosen v cs)) (list_any p (offered cs)) (any-offered v p cs) (rw t at h)
+  | inl t ↦ any-offered-cases (p c.0) (list_any p (chosen v cs)) (list_any p (offered cs)) (any-offered v p cs) (rw t at h)
   | inr f ↦ or_right (p c.0) (list_any p (offered cs)) (any-offered v p cs (rw f at h))
 ]
   where
-    go : (a b c : Bool) → (b ≡ true → c ≡ true) → (a || b) ≡ true → (a || c) ≡ true
-    go true b c f h = refl
-    go false b c f h = f h
-
-all-among : (xs : List Text) → list_all (among xs) xs ≡ true
-all-among xs = list_all-from (among xs) xs (λ x there. among-In xs x there)
+    any-offered-cases : (a b c : Bool) → (b ≡ true → c ≡ true) → (a || b) ≡ true → (a || c) ≡ true
+    any-offered-cases true b c f h = refl
+    any-offered-cases false b c f h = f h
 
 module _ (problem : Problem) (v : ℕ → Bool) (path : Text → Text → Statement) (condition : Text → Condition → Statement) (table : Table) (graph : Content)
     (s : SpellsProblem problem v path condition table graph) (has : HasBuiltVariants problem table) where
@@ -85,14 +83,15 @@ module _ (problem : Problem) (v : ℕ → Bool) (path : Text → Text → Statem
       rule-said v (term_said path condition table) (is_true (world_of problem) graph) term-said (where_built name (variants_rule problem (variants_of table name) name))
       ∙ by_node graph name (λ o. (not (is_some_and o is_built) || holds_here (variants_rule problem (variants_of table name) name))
       ≡ if_written o (λ node. implies (is_built node) (keeps_variant problem graph node)))
-      (λ node here. go node (is_built node) (at-node name node here))
+      (λ node here. at-name-cases node (is_built node) (at-node name node here))
       (λ absent. refl)
     where
-      go : (node : Node) (b : Bool) → (b ≡ true → holds_here (variants_rule problem (variants_of table name) name) ≡ keeps_variant problem graph node)
+      at-name-cases : (node : Node) (b : Bool) → (b ≡ true → holds_here (variants_rule problem (variants_of table name) name) ≡ keeps_variant problem graph node)
           → (not b || holds_here (variants_rule problem (variants_of table name) name)) ≡ implies b (keeps_variant problem graph node)
-      go node true h = h refl
-      go node false h = refl
+      at-name-cases node true h = h refl
+      at-name-cases node false h = refl
 
+  -- the formulas of variants say whether the graph keeps the rule
   pub all-built-variant : list_all (λ name. rule_says v path condition table (where_built name (variants_rule problem (variants_of table name) name))) (names_of table)
       ≡ keeps rules.Variant problem graph
   unfolding keeps

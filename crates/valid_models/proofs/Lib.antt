@@ -1,5 +1,4 @@
 pub mod RightTable
-pub mod OfTablePlan
 pub mod Words
 pub mod Mentions
 pub mod Terms

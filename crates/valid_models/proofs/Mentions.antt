@@ -38,6 +38,7 @@ module _ (v : ℕ → Bool) (t : Table) (path other : PathFormulas) (told : Text
   Alike w = eval v (word_said path t w) ≡ eval v (word_said other t w)
 
   module _ (world : World) where
+    -- the words of a part
     pub rest-alike : (name : Text) (part : Part) → AllWords Alike (rest_rule world name part)
     unfolding rest_rule
     rest-alike name part = (
@@ -54,6 +55,7 @@ module _ (v : ℕ → Bool) (t : Table) (path other : PathFormulas) (told : Text
       written-all Alike (λ items. fact (node_has name (has_target (λ target. list_any (is_target world target) items)))) (λ items. refl) part.targets,
     )
 
+    -- of what a node meets
     pub meets-alike : (name : Text) (part : Part) → AllWords Alike (meets_rule world name part)
     unfolding meets_rule
     meets-alike name part = (
@@ -65,34 +67,37 @@ module _ (v : ℕ → Bool) (t : Table) (path other : PathFormulas) (told : Text
     )
 
     row-alike : (name virtual : Text) (wanted : Option (List Item)) (row : ProvideRow) → AllWords Alike (row_rule world name virtual wanted row)
-    row-alike name virtual wanted row = go (bytes_eq row.name virtual && lists_overlap row.versions wanted)
+    row-alike name virtual wanted row = row-alike-cases (bytes_eq row.name virtual && lists_overlap row.versions wanted)
       where
-        go : (b : Bool) → AllWords Alike (if b then tops_rule world name row.when.specs else nowhere)
-        go true = (
+        row-alike-cases : (b : Bool) → AllWords Alike (if b then tops_rule world name row.when.specs else nowhere)
+        row-alike-cases true = (
           unless-all Alike (is_filled row.when.specs) (there_rule name) refl,
           each-all Alike (λ (spec : Spec). meets_rule world name spec.top) (λ spec. meets-alike name spec.top) row.when.specs,
         )
-        go false = tt
+        row-alike-cases false = tt
 
+    -- of a provider
     pub provides-alike : (name virtual : Text) (wanted : Option (List Item)) → AllWords Alike (provides_rule world name virtual wanted)
     unfolding provides_rule
     provides-alike name virtual wanted =
         some-all Alike (row_rule world name virtual wanted) (row-alike name virtual wanted) (rows (λ recipe. recipe.provides) (recipe_of world name))
 
     module _ (packages : Text → List Text) where
+      -- of the node that a name asks for
       pub asked-alike : (asked : Text) (rule : Text → Rule Word) → ((name : Text) → AllWords Alike (rule name)) → AllWords Alike (asked_rule world packages asked rule)
-      asked-alike asked rule h = go (is_virtual world.recipes asked)
+      asked-alike asked rule h = asked-alike-cases (is_virtual world.recipes asked)
         where
-          go : (b : Bool) → AllWords Alike (if b then some (λ name. fact (provides_as asked name) and rule name) (packages asked) else rule asked)
-          go true = some-all Alike (λ name. fact (provides_as asked name) and rule name) (λ name. (refl, h name)) (packages asked)
-          go false = h asked
+          asked-alike-cases : (b : Bool) → AllWords Alike (if b then some (λ name. fact (provides_as asked name) and rule name) (packages asked) else rule asked)
+          asked-alike-cases true = some-all Alike (λ name. fact (provides_as asked name) and rule name) (λ name. (refl, h name)) (packages asked)
+          asked-alike-cases false = h asked
 
+      -- of a node that a part names
       pub suits-alike : (part : Part) (asked name : Text) → AllWords Alike (suits_rule world part asked name)
-      suits-alike part asked name = go (is_virtual world.recipes asked)
+      suits-alike part asked name = suits-alike-cases (is_virtual world.recipes asked)
         where
-          go : (b : Bool) → AllWords Alike (if b then provides_rule world name asked part.versions and rest_rule world name part else meets_rule world name part)
-          go true = (provides-alike name asked part.versions, rest-alike name part)
-          go false = meets-alike name part
+          suits-alike-cases : (b : Bool) → AllWords Alike (if b then provides_rule world name asked part.versions and rest_rule world name part else meets_rule world name part)
+          suits-alike-cases true = (provides-alike name asked part.versions, rest-alike name part)
+          suits-alike-cases false = meets-alike name part
 
       -- paths to what is asked for
       below-rule : (from : Text) (part : Part) (asked : Text) (b : Bool)
@@ -105,13 +110,14 @@ module _ (v : ℕ → Bool) (t : Table) (path other : PathFormulas) (told : Text
       below-rule from part asked false e = (suits-alike part asked asked, same from asked (and_parts (told asked) true e).0)
 
       below-alike : (from : Text) (part : Part) → list_all told (asked_names world packages part.name) ≡ true → AllWords Alike (below_rule world packages from part)
-      below-alike from part e = go part.name e
+      below-alike from part e = below-alike-cases part.name e
         where
-          go : (o : Option Text) → list_all told (asked_names world packages o) ≡ true
+          below-alike-cases : (o : Option Text) → list_all told (asked_names world packages o) ≡ true
               → AllWords Alike (named o (λ asked. asked_rule world packages asked (λ name. suits_rule world part asked name and fact (has_path from name))))
-          go None h = tt
-          go (Some asked) h = below-rule from part asked (is_virtual world.recipes asked) h
+          below-alike-cases None h = tt
+          below-alike-cases (Some asked) h = below-rule from part asked (is_virtual world.recipes asked) h
 
+      -- of a spec whose targets are told
       pub holds-alike : (name : Text) (spec : Spec) → list_all told (spec_names world packages spec) ≡ true → AllWords Alike (holds_rule world packages name spec)
       unfolding holds_rule
       holds-alike name spec e = (
@@ -120,6 +126,7 @@ module _ (v : ℕ → Bool) (t : Table) (path other : PathFormulas) (told : Text
             (sym (all-flat told (λ (part : Part). asked_names world packages part.name) spec.below) ∙ e),
       )
 
+      -- of a condition whose targets are
       pub condition-alike : (name : Text) (when : Condition) → list_all told (condition_names world packages when) ≡ true
           → AllWords Alike (condition_rule world packages name when)
       unfolding condition_rule

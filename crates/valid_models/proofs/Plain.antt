@@ -30,6 +30,7 @@ module _ (v : ℕ → Bool) (t : Table) (path other : PathFormulas) (told : Text
   abbrev W : Word → Type 0
   W = Alike v t path other told same
 
+  -- the words of the rule of buildable names; so with the other rules
   pub buildable-alike : (name : Text) → AllWords W (buildable_rule problem name)
   buildable-alike name = given-all W (is_some (recipe_at problem name) && is_buildable_in (entry_of problem name))
 
@@ -78,6 +79,7 @@ module _ (v : ℕ → Bool) (t : Table) (path other : PathFormulas) (told : Text
         ))
         (record_at problem hash)
 
+    -- the words of the rule of kept nodes
     pub kept-alike : (origins : List Origin) (name : Text) → AllWords W (kept_rule problem children origins name)
     kept-alike origins name = each-all W (λ origin. if_so (fact (node_has name (has_origin (same_origin origin)))) (origin_rule problem children name origin))
         (λ origin. (refl, origin-alike name origin)) origins

@@ -25,36 +25,33 @@ use Rattle.literal_table.specs.declared.block.Block.{Block}
 use Rattle.literal_table.specs.declared.block.EdgeLits.{EdgeLits}
 use Rattle.literal_table.specs.declared.block.ProviderLits.{ProviderLits}
 use Rattle.graph_decoding.specs.Structure.{value_lits, kind_lits}
-use Rattle.graph_decoding.specs.Range.{AreBelow, IsBlockBelow, IsTableBelow}
+use Rattle.graph_decoding.proofs.LocalLaws.{below-parts}
+use Rattle.literal_table.specs.Ranges.{AreBelow, IsBlockBelow, IsTableBelow}
 use Rattle.graph_formulas.specs.Facts as facts
 use Rattle.graph_formulas.specs.Facts.{Word, Fact, Variants, just_parts, some_parts, variant_parts, fact_said, said_in, kind_parts, edge_said, word_said, node_has, provides_as, has_edge, has_path}
 use Rattle.graph_encoding.specs.Formulas.{PathFormulas, PathsBelow}
 use Rattle.valid_models.specs.Joined.{WordsBelow}
 
-below-parts : (m : ℕ) (ls ks : List Lit) → AllBelow m (ls ++ ks) → AllBelow m ls × AllBelow m ks
-below-parts m [] ks h = (tt, h)
-below-parts m (l ∷ ls) ks h = let r = below-parts m ls ks h.1 in ((h.0, r.0), r.1)
-
 -- ---- choices
 
 choice-below : {T : Type 0} (m : ℕ) (test : T → Bool) (cs : Choices T) → AreBelow m cs → SaidBelow m (any_choice test cs)
 choice-below m test [] h = tt
-choice-below m test (c ∷ cs) h = go (test c.0) h.0 (choice-below m test cs h.1)
+choice-below m test (c ∷ cs) h = choice-below-cases (test c.0) h.0 (choice-below m test cs h.1)
   where
-    go : (b : Bool) → var_of c.1 < m → SaidBelow m (any_choice test cs) → SaidBelow m (any_of (map (λ d. atom d.1) (if b then c ∷ passing test cs else passing test cs)))
-    go true own rest = (own, rest)
-    go false own rest = rest
+    choice-below-cases : (b : Bool) → var_of c.1 < m → SaidBelow m (any_choice test cs) → SaidBelow m (any_of (map (λ d. atom d.1) (if b then c ∷ passing test cs else passing test cs)))
+    choice-below-cases true own rest = (own, rest)
+    choice-below-cases false own rest = rest
 
 just-below : (m : ℕ) (cs : Choices Text) (xs : List Text) → AreBelow m cs → SaidBelow m (any_of (just_parts cs xs))
 just-below m [] [] h = tt
 just-below m [] (x ∷ xs) h = (tt, tt)
 just-below m (c ∷ cs) [] h = (h.0, just-below m cs [] h.1)
-just-below m (c ∷ cs) (x ∷ xs) h = go (bytes_eq c.0 x) (just-below m cs xs h.1) (just-below m cs (x ∷ xs) h.1)
+just-below m (c ∷ cs) (x ∷ xs) h = just-below-cases (bytes_eq c.0 x) (just-below m cs xs h.1) (just-below m cs (x ∷ xs) h.1)
   where
-    go : (b : Bool) → SaidBelow m (any_of (just_parts cs xs)) → SaidBelow m (any_of (just_parts cs (x ∷ xs)))
+    just-below-cases : (b : Bool) → SaidBelow m (any_of (just_parts cs xs)) → SaidBelow m (any_of (just_parts cs (x ∷ xs)))
         → SaidBelow m (any_of (if b then atom c.1 ∷ just_parts cs xs else atom (negation c.1) ∷ just_parts cs (x ∷ xs)))
-    go true a b = (h.0, a)
-    go false a b = (h.0, b)
+    just-below-cases true a b = (h.0, a)
+    just-below-cases false a b = (h.0, b)
 
 some-below : (m : ℕ) (xs : List Text) → SaidBelow m (any_of (some_parts xs))
 some-below m [] = (tt, tt)
@@ -66,22 +63,22 @@ variants-below m [] (w ∷ ws) h = (tt, tt)
 variants-below m (u ∷ us) [] h = let p = below-parts m (lits_of u.1) (value_lits us) h in
     any_of-below m (just_parts u.1 []) (variant_parts us []) (just-below m u.1 [] p.0) (variants-below m us [] p.1)
 variants-below m (u ∷ us) (w ∷ ws) h = let p = below-parts m (lits_of u.1) (value_lits us) h in
-    go p.0 (bytes_eq u.0 w.0) (variants-below m us ws p.1) (variants-below m us (w ∷ ws) p.1)
+    variants-below-cases p.0 (bytes_eq u.0 w.0) (variants-below m us ws p.1) (variants-below m us (w ∷ ws) p.1)
   where
-    go : AreBelow m u.1 → (b : Bool) → SaidBelow m (any_of (variant_parts us ws)) → SaidBelow m (any_of (variant_parts us (w ∷ ws)))
+    variants-below-cases : AreBelow m u.1 → (b : Bool) → SaidBelow m (any_of (variant_parts us ws)) → SaidBelow m (any_of (variant_parts us (w ∷ ws)))
         → SaidBelow m (any_of (if b then some_parts w.1 ++ (just_parts u.1 w.1 ++ variant_parts us ws) else just_parts u.1 [] ++ variant_parts us (w ∷ ws)))
-    go own true a b = any_of-below m (some_parts w.1) (just_parts u.1 w.1 ++ variant_parts us ws) (some-below m w.1)
+    variants-below-cases own true a b = any_of-below m (some_parts w.1) (just_parts u.1 w.1 ++ variant_parts us ws) (some-below m w.1)
         (any_of-below m (just_parts u.1 w.1) (variant_parts us ws) (just-below m u.1 w.1 own) a)
-    go own false a b = any_of-below m (just_parts u.1 []) (variant_parts us (w ∷ ws)) (just-below m u.1 [] own) b
+    variants-below-cases own false a b = any_of-below m (just_parts u.1 []) (variant_parts us (w ∷ ws)) (just-below m u.1 [] own) b
 
 found-below : (m : ℕ) (us : List (Text × Choices Text)) (variant : Text) → AllBelow m (value_lits us) → AreBelow m (values_in (find_key byte_cmp variant_of us variant))
 found-below m [] variant h = tt
-found-below m (u ∷ us) variant h = let p = below-parts m (lits_of u.1) (value_lits us) h in go p.0 (eq_by_cmp byte_cmp u.0 variant) (found-below m us variant p.1)
+found-below m (u ∷ us) variant h = let p = below-parts m (lits_of u.1) (value_lits us) h in found-below-cases p.0 (eq_by_cmp byte_cmp u.0 variant) (found-below m us variant p.1)
   where
-    go : AreBelow m u.1 → (b : Bool) → AreBelow m (values_in (find_key byte_cmp variant_of us variant))
+    found-below-cases : AreBelow m u.1 → (b : Bool) → AreBelow m (values_in (find_key byte_cmp variant_of us variant))
         → AreBelow m (values_in (if b then Some u else find_key byte_cmp variant_of us variant))
-    go own true rest = own
-    go own false rest = rest
+    found-below-cases own true rest = own
+    found-below-cases own false rest = rest
 
 -- ---- words
 
@@ -103,15 +100,15 @@ kind-below m true l h = (h, tt)
 kind-below m false l h = tt
 
 edge-below : (m : ℕ) (kinds : Kinds) (e : EdgeLits) → AllBelow m (kind_lits e) → SaidBelow m (edge_said kinds e)
-edge-below m kinds e h = go (has_kind kinds)
+edge-below m kinds e h = edge-below-cases (has_kind kinds)
   where
-    go : (b : Bool) → SaidBelow m (if b then all_of (kind_parts kinds.build e.build ++ (kind_parts kinds.link e.link ++ kind_parts kinds.run e.run))
+    edge-below-cases : (b : Bool) → SaidBelow m (if b then all_of (kind_parts kinds.build e.build ++ (kind_parts kinds.link e.link ++ kind_parts kinds.run e.run))
         else any_of (atom e.build ∷ atom e.link ∷ atom e.run ∷ []))
-    go true =
+    edge-below-cases true =
         all_of-below m (kind_parts kinds.build e.build ++ (kind_parts kinds.link e.link ++ kind_parts kinds.run e.run))
         (any_of-below m (kind_parts kinds.build e.build) (kind_parts kinds.link e.link ++ kind_parts kinds.run e.run) (kind-below m kinds.build e.build h.0)
         (any_of-below m (kind_parts kinds.link e.link) (kind_parts kinds.run e.run) (kind-below m kinds.link e.link h.1.0) (kind-below m kinds.run e.run h.1.1.0)))
-    go false = (h.0, (h.1.0, (h.1.1.0, tt)))
+    edge-below-cases false = (h.0, (h.1.0, (h.1.1.0, tt)))
 
 module _ (n : ℕ) (t : Table) (below : IsTableBelow n t) where
   block-below : (name : Text) (f : Fact) (o : Option Block) → block_of t name ≡ o → SaidBelow n (said_in (λ b. fact_said b f) o)

@@ -23,7 +23,7 @@ use Rattle.graph_rules.specs.Valid.{keeps, keeps_all, keeps_demand}
 use Rattle.graph_rules.specs.declared.rule.Rule.TheVariants as rules
 use Rattle.graph_rules.proofs.Lists.{In, In-map, contains-In, list_all-each}
 use Rattle.literal_table.specs.Tables as tables
-use Rattle.literal_table.specs.Tables.{Table, IsTable, block_of}
+use Rattle.literal_table.specs.Tables.{Table, IsTable, block_of, names_of, children_of}
 use Rattle.literal_table.specs.Spells.{Spells}
 use Rattle.literal_table.specs.declared.block.Block.{Block}
 use Rattle.graph_formulas.specs.Facts.{Word, word_said, fact_said, said_in, has_origin}
@@ -38,9 +38,10 @@ use Rattle.graph_formulas.specs.Edges.{extra_edges_rule, used_rule, of_provider}
 use Rattle.graph_formulas.specs.Variants.{variants_rule}
 use Rattle.graph_formulas.specs.Kept.{kept_rule, origins_of}
 use Rattle.graph_formulas.specs.Demands.{demand_rule, directive_rule}
-use Rattle.graph_formulas.specs.Laws.{SpellsProblem, term_formula, rule_says, has_name, names_of, virtuals_of, children_of, variants_of}
-use Rattle.graph_formulas.proofs.GraphFormulasSaid.{demand-said, all-buildable, all-version, all-compiler, all-machine, all-extra_edge, all-kept, all-provider, all-used}
-use Rattle.graph_decoding.specs.Range.{IsTableBelow}
+use Rattle.graph_formulas.specs.Laws.{SpellsProblem, term_formula, rule_says, has_name, virtuals_of, variants_of}
+use Rattle.graph_formulas.proofs.RulesSaid.{demand-said, all-buildable, all-version, all-compiler, all-machine, all-extra_edge, all-kept, all-provider, all-used}
+use Rattle.graph_formulas.proofs.Edges.{all-true}
+use Rattle.literal_table.specs.Ranges.{IsTableBelow}
 use Rattle.graph_encoding.specs.Formulas.{PathFormulas, PathsTold, ConditionsTold, PathsBelow, MetBelow, AreRightFormulas, other_rules, part_of}
 use Rattle.graph_encoding.specs.Encodings.{told_in}
 use Rattle.valid_models.specs.Targets.{conditions_at, conditions_of, targets_at, asked_targets, targets_of, condition_names, spec_names}
@@ -63,20 +64,16 @@ constant-is v false = refl
 
 -- a formula of a list says each
 all-said : {X : Type 0} (v : ℕ → Bool) (f : X → Statement) (xs : List X) → eval v (all_of (map f xs)) ≡ list_all (λ x. eval v (f x)) xs
-all-said v f xs = eval-all_of v (map f xs) ∙ go xs
+all-said v f xs = eval-all_of v (map f xs) ∙ all-said-cases xs
   where
-    go : (xs : List _) → all_eval v (map f xs) ≡ list_all (λ x. eval v (f x)) xs
-    go [] = refl
-    go (x ∷ xs) = rw (go xs) refl
+    all-said-cases : (xs : List _) → all_eval v (map f xs) ≡ list_all (λ x. eval v (f x)) xs
+    all-said-cases [] = refl
+    all-said-cases (x ∷ xs) = rw (all-said-cases xs) refl
 
 -- what two tests say of a list
 all-alike : {X : Type 0} (p q test : X → Bool) → ((x : X) → test x ≡ true → p x ≡ q x) → (xs : List X) → list_all test xs ≡ true → list_all p xs ≡ list_all q xs
 all-alike p q test same [] e = refl
 all-alike p q test same (x ∷ xs) e = let h = and_parts (test x) (list_all test xs) e in rw (same x h.0, all-alike p q test same xs h.1) refl
-
-always : {X : Type 0} (xs : List X) → list_all (λ x. true) xs ≡ true
-always [] = refl
-always (x ∷ xs) = always xs
 
 all-from : {X : Type 0} (p q : X → Bool) → ((x : X) → p x ≡ true → q x ≡ true) → (xs : List X) → list_all p xs ≡ true → list_all q xs ≡ true
 all-from p q h [] e = refl
@@ -133,11 +130,11 @@ module _ (problem : Problem) (t : Table) (told : Text → Bool) (all : list_all 
     same from to is = rw is refl
 
     exact-says : (from to : Text) → eval v (exact from to) ≡ reaches_in g from to
-    exact-says from to = go (told to) refl
+    exact-says from to = exact-says-cases (told to) refl
       where
-        go : (b : Bool) → told to ≡ b → eval v (if b then path from to else constant (reaches_in g from to)) ≡ reaches_in g from to
-        go true is = paths from to is
-        go false is = constant-is v (reaches_in g from to)
+        exact-says-cases : (b : Bool) → told to ≡ b → eval v (if b then path from to else constant (reaches_in g from to)) ≡ reaches_in g from to
+        exact-says-cases true is = paths from to is
+        exact-says-cases false is = constant-is v (reaches_in g from to)
 
     whole : SpellsPaths v exact t g
     whole = record { facts = spells; paths = exact-says }
@@ -164,18 +161,18 @@ module _ (problem : Problem) (t : Table) (told : Text → Bool) (all : list_all 
       cond_exact = condition_by problem t place exact met_by
 
       same-met : (name : Text) (when : Condition) → is_told_when when ≡ true → eval v (cond_path name when) ≡ eval v (cond_exact name when)
-      same-met name when e = go (place name when)
+      same-met name when e = same-met-cases (place name when)
         where
-          go : (o : Option ℕ) → eval v (placed_or met_by (condition_said problem t path name when) o) ≡ eval v (placed_or met_by (condition_said problem t exact name when) o)
-          go None = when-alike name when e
-          go (Some k) = refl
+          same-met-cases : (o : Option ℕ) → eval v (placed_or met_by (condition_said problem t path name when) o) ≡ eval v (placed_or met_by (condition_said problem t exact name when) o)
+          same-met-cases None = when-alike name when e
+          same-met-cases (Some k) = refl
 
       met-says : (name : Text) (when : Condition) → eval v (cond_exact name when) ≡ all_hold (world_of problem) when g name
-      met-says name when = go (place name when) refl
+      met-says name when = met-says-cases (place name when) refl
         where
-          go : (o : Option ℕ) → place name when ≡ o → eval v (placed_or met_by (condition_said problem t exact name when) o) ≡ all_hold (world_of problem) when g name
-          go None at = when-says name when
-          go (Some k) at = conds k ∙ ap (λ c. condition_holds problem c g) (placed name when k at)
+          met-says-cases : (o : Option ℕ) → place name when ≡ o → eval v (placed_or met_by (condition_said problem t exact name when) o) ≡ all_hold (world_of problem) when g name
+          met-says-cases None at = when-says name when
+          met-says-cases (Some k) at = conds k ∙ ap (λ c. condition_holds problem c g) (placed name when k at)
 
       spelled : SpellsProblem problem v exact cond_exact t g
       spelled = record { whole = whole; conditions = met-says; is_table = table; is_graph = formed.is_graph }
@@ -205,7 +202,7 @@ module _ (problem : Problem) (t : Table) (told : Text → Bool) (all : list_all 
       -- at all names
       row-free : (rule : Text → Rule Term) → ((name : Text) → AllWords T (rule name)) → (names : List Text)
           → eval v (row_said problem t path cond_path (rule, names)) ≡ list_all (λ name. says_exact (rule name)) names
-      row-free rule h names = row-says rule (λ name. true) (λ name is. h name) names (always names)
+      row-free rule h names = row-says rule (λ name. true) (λ name is. h name) names (all-true names)
 
       rules-say : HasBuiltVariants problem t → eval v (all_of (map (row_said problem t path cond_path) (rule_rows problem t))) ≡ keeps_all other_rules problem g
       rules-say has =
@@ -251,13 +248,13 @@ module _ (problem : Problem) (t : Table) (told : Text → Bool) (all : list_all 
       roots-alike (spec ∷ specs) e (suc k) = roots-alike specs (and_parts _ _ e).1 k
 
       directive-alike : (name : Text) (rule : Rule Term) → (is_told_name name ≡ true → AllWords T rule) → says_path (where_built name rule) ≡ says_exact (where_built name rule)
-      directive-alike name rule h = go (block_of t name) refl
+      directive-alike name rule h = directive-alike-cases (block_of t name) refl
         where
-          go : (o : Option Block) → block_of t name ≡ o → says_path (where_built name rule) ≡ says_exact (where_built name rule)
-          go None at =
+          directive-alike-cases : (o : Option Block) → block_of t name ≡ o → says_path (where_built name rule) ≡ says_exact (where_built name rule)
+          directive-alike-cases None at =
               subst (λ o. eval v (implies (said_in (λ b. fact_said b (has_origin builds)) o) (term_formula path cond_path t rule))
               ≡ eval v (implies (said_in (λ b. fact_said b (has_origin builds)) o) (term_formula exact cond_exact t rule))) (sym at) refl
-          go (Some b) at = alike (where_built name rule) (refl, h (found-passes is_told_name t.blocks name b told-names at))
+          directive-alike-cases (Some b) at = alike (where_built name rule) (refl, h (found-passes is_told_name t.blocks name b told-names at))
 
       -- of a name that the table does not have both say nothing
       named-alike : (name : Text) (number : ℕ) (b : Bool) → says_path (if b then where_built name (directive_rule problem (names_for t) number name) else given true)
@@ -281,11 +278,11 @@ module _ (problem : Problem) (t : Table) (n : ℕ) (words : WordsBelow n t) (m :
   module _ (place : Places) (met_by : ℕ → Statement) (mets : MetBelow m met_by) where
     term-below : (w : Term) → SaidBelow m (term_said path (condition_by problem t place path met_by) t w)
     term-below (known rule) = rule-below m (word_said path t) (words m path le paths) rule
-    term-below (met name when) = go (place name when)
+    term-below (met name when) = term-below-cases (place name when)
       where
-        go : (o : Option ℕ) → SaidBelow m (placed_or met_by (condition_said problem t path name when) o)
-        go None = when-below name when
-        go (Some k) = mets k
+        term-below-cases : (o : Option ℕ) → SaidBelow m (placed_or met_by (condition_said problem t path name when) o)
+        term-below-cases None = when-below name when
+        term-below-cases (Some k) = mets k
 
     formula-below : (rule : Rule Term) → SaidBelow m (term_formula path (condition_by problem t place path met_by) t rule)
     formula-below rule = rule-below m (term_said path (condition_by problem t place path met_by) t) term-below rule
@@ -294,6 +291,7 @@ module _ (problem : Problem) (t : Table) (n : ℕ) (words : WordsBelow n t) (m :
     row-below row = all_of-below m (map (λ name. term_formula path (condition_by problem t place path met_by) t (row.0 name)) row.1)
         (listed-below m (λ name. term_formula path (condition_by problem t place path met_by) t (row.0 name)) (λ name. formula-below (row.0 name)) row.1)
 
+-- the formulas of a problem are right
 pub rules-right : (problem : Problem) (t : Table) (n : ℕ) (structure : List Statement) (place : Places) → IsTable t → IsTableBelow n t
     → HasBuiltVariants problem t → IsPlaced (conditions_of problem t) place
     → AreRightFormulas problem t n (formulas_for problem t structure (conditions_of problem t) place) (told_in t (targets_of problem t))

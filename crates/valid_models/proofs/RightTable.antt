@@ -10,32 +10,15 @@ use Rattle.problem.specs.Nodes.{IsWellFormed}
 use Rattle.problem.specs.Problems.{Problem}
 use Rattle.problem.specs.declared.demand.Demand.{Demand}
 use Rattle.graph_rules.specs.Valid.{valid_for}
+use Rattle.literal_table.specs.Ranges.{IsTableBelow}
 use Rattle.literal_table.specs.Tables.{Table, IsTable}
 use Rattle.literal_table.specs.Spells.{Spells}
-use Rattle.table_plan.specs.Ranges as numbers
-use Rattle.graph_decoding.specs.Range as decoded
 use Rattle.graph_decoding.specs.Structure.{structure}
 use Rattle.graph_decoding.specs.Decoding.{decode, IsStructured}
 use Rattle.graph_encoding.specs.Formulas.{Formulas, IsRightTable, IsSpelled}
 
--- the same of both layers
-pub same-below : (n : ℕ) (t : Table) → numbers.IsTableBelow n t → decoded.IsTableBelow n t
-same-below n t below = record {
-  blocks = λ k d lt. let b = below.blocks k d lt in record {
-    present = b.present;
-    origins = b.origins;
-    versions = b.versions;
-    values = b.values;
-    compilers = b.compilers;
-    os = b.os;
-    targets = b.targets;
-    prefixes = b.prefixes;
-  };
-  edges = below.edges;
-  providers = below.providers;
-}
-
-pub right-table : (problem : Problem) (t : Table) (n : ℕ) (f : Formulas) → IsTable t → numbers.IsTableBelow n t → f.structure ≡ structure t
+-- a table of a closure, with its decoding, is right
+pub right-table : (problem : Problem) (t : Table) (n : ℕ) (f : Formulas) → IsTable t → IsTableBelow n t → f.structure ≡ structure t
     → SaidBelow n (any_of (structure t))
     → ((v : ℕ → Bool) → IsStructured v t → Spells v t (decode v t))
     → ((v : ℕ → Bool) (g : Content) → IsGraph g → Spells v t g → IsStructured v t)

@@ -7,15 +7,15 @@ use Rattle.graph_core.specs.Graphs.{Text}
 use Rattle.variant_values.specs.Texts.{with_texts}
 use Rattle.possible_closure.proofs.Lists.{in_texts}
 use Rattle.graph_rules.proofs.Lists.{In, In-contains, contains-In, list_all-each, list_all-from}
-use Rattle.literal_table.specs.Tables.{Table}
-use Rattle.graph_levels.specs.Numbers.{names_of, place_in}
+use Rattle.literal_table.specs.Tables.{Table, names_of}
+use Rattle.graph_levels.specs.Numbers.{place_in}
 use Rattle.graph_levels.specs.Levels.{among_places}
 use Rattle.graph_encoding.specs.Encodings.{told_in}
 
 module _ (place : Text → Option ℕ) where
-  first : (o : Option ℕ) (x : Text) (ys : List Text) → place x ≡ o → among_places (filter_map place (x ∷ ys)) o ≡ true
-  first None x ys e = refl
-  first (Some q) x ys e = rw (e, eq-eqb q q refl) refl
+  told-first : (o : Option ℕ) (x : Text) (ys : List Text) → place x ≡ o → among_places (filter_map place (x ∷ ys)) o ≡ true
+  told-first None x ys e = refl
+  told-first (Some q) x ys e = rw (e, eq-eqb q q refl) refl
 
   later : (o r : Option ℕ) (y : Text) (ys : List Text) → place y ≡ r → among_places (filter_map place ys) o ≡ true
       → among_places (filter_map place (y ∷ ys)) o ≡ true
@@ -23,11 +23,13 @@ module _ (place : Text → Option ℕ) where
   later (Some q) None y ys e h = rw e h
   later (Some q) (Some k) y ys e h = rw e (or_right (k == q) (list_any (λ j. j == q) (filter_map place ys)) h)
 
+  -- the place of a target is among the places
   pub there : (x : Text) (ys : List Text) → In x ys → among_places (filter_map place ys) (place x) ≡ true
   there x [] none = absurd none
-  there x (y ∷ ys) (inl same) = ap (λ z. among_places (filter_map place (z ∷ ys)) (place x)) (sym same) ∙ first (place x) x ys refl
+  there x (y ∷ ys) (inl same) = ap (λ z. among_places (filter_map place (z ∷ ys)) (place x)) (sym same) ∙ told-first (place x) x ys refl
   there x (y ∷ ys) (inr more) = later (place x) (place y) y ys refl (there x ys more)
 
+-- all targets are told
 pub all-told : (t : Table) (targets : List Text) → list_all (told_in t targets) targets ≡ true
 all-told t targets = list_all-from (told_in t targets) targets (λ x at. there (place_in (names_of t)) x targets at)
 

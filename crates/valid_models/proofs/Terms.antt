@@ -40,11 +40,11 @@ use Rattle.valid_models.proofs.Mentions.{Alike, all-flat, asked-alike, suits-ali
 -- a test of the filtered
 pub all-filtered : {X : Type 0} (p q : X → Bool) (xs : List X) → list_all p xs ≡ true → list_all p (filter q xs) ≡ true
 all-filtered p q [] e = refl
-all-filtered p q (x ∷ xs) e = let h = and_parts (p x) (list_all p xs) e in go (q x) h.0 (all-filtered p q xs h.1)
+all-filtered p q (x ∷ xs) e = let h = and_parts (p x) (list_all p xs) e in all-filtered-cases (q x) h.0 (all-filtered p q xs h.1)
   where
-    go : (b : Bool) → p x ≡ true → list_all p (filter q xs) ≡ true → list_all p (if b then x ∷ filter q xs else filter q xs) ≡ true
-    go true a rest = and_from (p x) _ a rest
-    go false a rest = rest
+    all-filtered-cases : (b : Bool) → p x ≡ true → list_all p (filter q xs) ≡ true → list_all p (if b then x ∷ filter q xs else filter q xs) ≡ true
+    all-filtered-cases true a rest = and_from (p x) _ a rest
+    all-filtered-cases false a rest = rest
 
 -- of both of two lists that are tested
 pub both-all : {X : Type 0} (p q : X → Bool) (xs : List X) → list_all p xs ≡ true → list_all q xs ≡ true → list_all (λ x. p x && q x) xs ≡ true
@@ -102,12 +102,12 @@ module _ (problem : Problem) (v : ℕ → Bool) (t : Table) (path other : PathFo
   conflict-alike name row e f = (same_met name row.when e, spec-alike name row.spec f)
 
   choice-alike : (name : Text) (row : RequireRow) → list_all is_told_spec row.specs ≡ true → AllWords TermAlike (choice_rule problem packages name row)
-  choice-alike name row e = go row.one_of
+  choice-alike name row e = choice-alike-cases row.one_of
     where
-      go : (b : Bool) → AllWords TermAlike (if b then just_one (λ spec. known_rule (holds_rule (world_of problem) packages name spec)) row.specs
+      choice-alike-cases : (b : Bool) → AllWords TermAlike (if b then just_one (λ spec. known_rule (holds_rule (world_of problem) packages name spec)) row.specs
           else some (λ spec. known_rule (holds_rule (world_of problem) packages name spec)) row.specs)
-      go true = just-if TermAlike (λ spec. known_rule (holds_rule (world_of problem) packages name spec)) is_told_spec (spec-alike name) row.specs e
-      go false = some-if TermAlike (λ spec. known_rule (holds_rule (world_of problem) packages name spec)) is_told_spec (spec-alike name) row.specs e
+      choice-alike-cases true = just-if TermAlike (λ spec. known_rule (holds_rule (world_of problem) packages name spec)) is_told_spec (spec-alike name) row.specs e
+      choice-alike-cases false = some-if TermAlike (λ spec. known_rule (holds_rule (world_of problem) packages name spec)) is_told_spec (spec-alike name) row.specs e
 
   requirement-alike : (name : Text) (row : RequireRow) → is_told_condition row.when ≡ true → list_all is_told_spec row.specs ≡ true
       → AllWords TermAlike (requirement_rule problem packages name row)

@@ -6,15 +6,15 @@ use Rattle.graph_core.specs.Graphs.{Text, Content}
 use Rattle.problem.specs.Nodes.{IsWellFormed}
 use Rattle.problem.specs.Problems.{Problem}
 use Rattle.problem.specs.Closure.{IsClosure}
-use Rattle.valid_models.specs.OfTablePlan.Kept.{have_values}
-use Rattle.valid_models.specs.OfTableNumbers.Ranges.{IsTableBelow}
-use Rattle.valid_models.specs.OfGraphDecoding.Structure.{structure}
-use Rattle.valid_models.specs.OfGraphDecoding.Decoding.{decode, IsStructured}
+use Rattle.table_plan.specs.Kept.{have_values}
+use Rattle.literal_table.specs.Ranges.{IsTableBelow}
+use Rattle.graph_decoding.specs.Structure.{structure}
+use Rattle.graph_decoding.specs.Decoding.{decode, IsStructured}
 use Rattle.literal_table.specs.Tables.{IsTable}
 use Rattle.graph_levels.specs.Stages.{Decodes}
-use Rattle.valid_models.specs.OfGraphEncoding.Formulas.{Formulas, MetBelow, IsRightTable, AreRightFormulas}
-use Rattle.valid_models.specs.OfGraphEncoding.Encodings.{encode_on, told_in, IsValid}
-use Rattle.valid_models.specs.OfGraphEncoding.Best.{met_for, SaysAll, OrdersBits, RanksGraphs}
+use Rattle.graph_encoding.specs.Formulas.{Formulas, MetBelow, IsRightTable, AreRightFormulas}
+use Rattle.graph_encoding.specs.Encodings.{encode_on, told_in, IsValid}
+use Rattle.graph_encoding.specs.Best.{met_for, SaysAll, OrdersBits, RanksGraphs}
 use Rattle.valid_models.specs.Tables.{table_for, size_for}
 use Rattle.valid_models.specs.Targets.{conditions_of, targets_of}
 use Rattle.valid_models.specs.Joined.{Places, IsPlaced, formulas_for, holds_at}

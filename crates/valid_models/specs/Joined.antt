@@ -8,7 +8,7 @@ use Rattle.condition_rules.specs.Holds.{all_hold}
 use Rattle.recipe_data.specs.declared.recipe.Condition.{Condition}
 use Rattle.problem.specs.Problems.{Problem, world_of, variants_at}
 use Rattle.problem.specs.declared.demand.Demand.{Demand}
-use Rattle.literal_table.specs.Tables.{Table, IsTable, block_of}
+use Rattle.literal_table.specs.Tables.{Table, IsTable, block_of, names_of, children_of}
 use Rattle.literal_table.specs.Choices.{offered}
 use Rattle.literal_table.specs.declared.block.Block.{Block}
 use Rattle.condition_rules.specs.Words.{among}
@@ -21,8 +21,8 @@ use Rattle.graph_formulas.specs.Edges.{extra_edges_rule, used_rule, of_provider}
 use Rattle.graph_formulas.specs.Variants.{variants_rule}
 use Rattle.graph_formulas.specs.Kept.{kept_rule, origins_of}
 use Rattle.graph_formulas.specs.Demands.{demand_rule}
-use Rattle.graph_formulas.specs.Laws.{term_formula, has_name, names_of, virtuals_of, children_of, variants_of}
-use Rattle.graph_decoding.specs.Range.{IsTableBelow}
+use Rattle.graph_formulas.specs.Laws.{term_formula, has_name, virtuals_of, variants_of}
+use Rattle.literal_table.specs.Ranges.{IsTableBelow}
 use Rattle.graph_encoding.specs.Formulas.{Formulas, PathFormulas, PathsBelow, AreRightFormulas}
 use Rattle.graph_encoding.specs.Encodings.{told_in}
 use Rattle.valid_models.specs.Targets.{conditions_of, targets_of}

@@ -1,26 +1,21 @@
-//! The table of a problem is right: its literals spell each graph that is valid for any demands, and an
-//! assignment that meets its structure spells the graph that it decodes to.
+//! Models of a problem's clauses are its valid graphs: three laws, no code.
 //!
-//! It promises what `graph_encoding` asks of a table, from the laws of plans, of numbers and of decodings.
-//!
-//! The formulas of rules over a table are what an encoding asks for.
-//!
-//! It promises: where the formulas of paths are exact to the targets of a problem, those of conditions,
-//! rules and demands say just what they test. It stands on `graph_formulas` for the laws of rules and on
-//! `graph_encoding` for what is asked. It must not know clauses.
-//!
-//! The clauses of a closure, whose models are the valid graphs.
-//!
-//! It promises: over the table of a closure, with the formulas of its rules, models decode to just the valid
-//! graphs, for each set of demands. It joins `right_tables` and `right_rules` with `graph_encoding`.
+//! What it is: `right_tables`, that the literals of a closure's table spell just the graphs that
+//! may be valid; `right_rules`, that the formulas of the problem's rules say just what they test,
+//! where those of paths are exact to the problem's targets; `closure_laws`, which joins both.
+//! What it promises: over the clauses of a closure, models decode to just the valid graphs, for
+//! each set of demands, and bits behind them that compare as the graphs' numbers rank these.
+//! What it stands on: `table_plan` and `graph_decoding` for tables, `graph_formulas` for rules,
+//! `graph_encoding` for what is asked of both.
+//! What it must not know: how formulas are built, and how models are found.
 #![tactic(auto)]
 
-mod closure_encoding_theorems;
-mod right_rules_theorems;
-mod theorems;
+mod closure_theorems;
+mod rule_theorems;
+mod table_theorems;
 
-pub use closure_encoding_theorems::closure_laws;
+pub use closure_theorems::closure_laws;
 pub use graph_encoding::{encoding_laws, model_laws, ranking_laws};
-pub use right_rules_theorems::right_rules;
+pub use rule_theorems::right_rules;
 pub use table_plan::{plan_laws, spelling_laws};
-pub use theorems::right_tables;
+pub use table_theorems::right_tables;

@@ -21,10 +21,12 @@ module _ {K : Type 0} where
   first_or_later x xs q zero lt e = inl (sym e)
   first_or_later x xs q (suc k) lt e = inr (k, omega arith, e)
 
+  -- what a list has is its first element or stands behind it
   pub Contains-cons : (x : K) (xs : List K) (q : K) → Contains (x ∷ xs) q ↔ ((q ≡ x) ⊎ Contains xs q)
   Contains-cons x xs q =
       (λ h. first_or_later x xs q h.0 h.1 h.2, λ h. ⊎_elim (λ e. (0, omega arith, sym e)) (λ r. (suc r.0, omega arith, r.2)) h)
 
+  -- the empty list has nothing
   pub lacks_all : (q : K) → Contains [] q → ⊥
   lacks_all q h = omega (arith, h.1)
 
@@ -41,6 +43,7 @@ module _ {K : Type 0} {R : K → K → Ordering} (o : IsTotalOrder R) where
   -- ---- one more key
 
   module _ (exact : IsAntisymmetric R) where
+    -- with one key more a list has that key and what it had
     pub Contains-insert_key : (xs : List K) (k q : K) → Contains (insert_key R xs k) q ↔ ((q ≡ k) ⊎ Contains xs q)
     Contains-insert_key [] k q = Contains-cons k [] q
     Contains-insert_key (x ∷ xs) k q =
@@ -59,6 +62,7 @@ module _ {K : Type 0} {R : K → K → Ordering} (o : IsTotalOrder R) where
           )
         ] refl
 
+  -- one key more keeps the order
   pub IsStrictlySortedBy-insert_key : (xs : List K) (k : K) → IsStrictlySortedBy R xs → IsStrictlySortedBy R (insert_key R xs k)
   unfolding IsStrictlySortedBy
   IsStrictlySortedBy-insert_key [] k s = (tt, tt)
@@ -82,6 +86,7 @@ module _ {K : Type 0} {R : K → K → Ordering} (o : IsTotalOrder R) where
 
   -- ---- a gap: each key before a place is below k, and each one from there on is above
 
+  -- a key put where it would stand is one key more
   pub insert-gap : (xs : List K) (k : K) (i : ℕ) → i ≤ length xs → IsPartitionPoint (λ u. R u k ≡ Less) (λ u. R u k ≡ Greater) xs i
       → insert xs i k ≡ insert_key R xs k
   insert-gap [] k zero le gap = refl
@@ -92,6 +97,7 @@ module _ {K : Type 0} {R : K → K → Ordering} (o : IsTotalOrder R) where
       (λ n d a b. gap.0 (suc n) d (omega arith) (omega arith), λ n d a b. gap.1 (suc n) d (omega arith) (omega arith)) in
       rw (turned x k Less (gap.0 0 x (omega arith) (omega arith))) (ap (λ l. x ∷ l) rest)
 
+  -- a key that has a gap is none of the list
   pub lacks_gap : (xs : List K) (k : K) (i : ℕ) → IsPartitionPoint (λ u. R u k ≡ Less) (λ u. R u k ≡ Greater) xs i → Contains xs k → ⊥
   lacks_gap xs k i gap h = ⊎_elim
       (λ lt. not_below_itself k (subst (λ u. R u k ≡ Less) h.2 (gap.0 h.0 k (omega arith) lt)))
@@ -127,6 +133,7 @@ module _ {K : Type 0} {R : K → K → Ordering} (o : IsTotalOrder R) where
       (λ later. later)
       ((Contains-cons y ys q).0 (f ((Contains-cons x xs q).1 (inr h))))
 
+  -- keys in order that are the same keys are one list
   pub same_keys : (xs ys : List K) → IsStrictlySortedBy R xs → IsStrictlySortedBy R ys → ((q : K) → Contains xs q ↔ Contains ys q) → xs ≡ ys
   unfolding IsStrictlySortedBy
   same_keys [] [] s t h = refl

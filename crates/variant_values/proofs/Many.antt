@@ -41,9 +41,11 @@ one_by_one kept words ordered same = same_texts _ _ ordered (with_texts_in_order
 
 -- ---- sorted, each once
 
+-- a sorted list without its repeats is in byte order
 pub once_in_order : (sorted : Texts) → IsSorted byte_cmp sorted → IsInByteOrder (dedup (pointwise nat_eq) sorted)
 once_in_order = IsStrictlySortedBy-dedup nat_list_cmp_total texts_ties
 
+-- a sorted list without its repeats has the same texts
 pub once_same : (words sorted : Texts) → IsPermutation words sorted → HaveSameTexts (dedup (pointwise nat_eq) sorted) words
 once_same words sorted moved q = (
   λ h. Contains-permutation sorted words q (IsPermutation-sym words sorted moved) (Contains-from_dedup (pointwise nat_eq) sorted q h),

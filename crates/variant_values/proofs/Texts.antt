@@ -8,6 +8,7 @@ use Rattle.std.specs.FinMap.{IsAntisymmetric, nat_cmp-IsAntisymmetric, slice_cmp
 use Rattle.variant_values.specs.Texts.{Texts, byte_cmp, IsInByteOrder, HaveSameTexts, AddsText, with_text, IsGapFor}
 use Rattle.variant_values.proofs.Keys.{Contains-insert_key, IsStrictlySortedBy-insert_key, insert-gap, lacks_gap, comparisons_rise, same_keys}
 
+-- texts that compare as equal are one
 pub ties_are_equal : IsAntisymmetric byte_cmp
 ties_are_equal = slice_cmp-IsAntisymmetric nat_cmp-IsAntisymmetric
 
@@ -19,12 +20,15 @@ same_texts = same_keys nat_list_cmp_total
 pub adds_text : (texts : Texts) (text : List ℕ) → AddsText texts text (with_text texts text)
 adds_text = Contains-insert_key nat_list_cmp_total ties_are_equal
 
+-- one text more keeps the order
 pub with_text_in_order : (texts : Texts) (text : List ℕ) → IsInByteOrder texts → IsInByteOrder (with_text texts text)
 with_text_in_order = IsStrictlySortedBy-insert_key nat_list_cmp_total
 
+-- a text put where it would stand is one text more
 pub insert-at_gap : (texts : Texts) (text : List ℕ) (i : ℕ) → IsGapFor texts text i → insert texts i text ≡ with_text texts text
 insert-at_gap texts text i gap = insert-gap nat_list_cmp_total texts text i gap.within gap.parted
 
+-- a text that has a gap is none of the list
 pub gap_lacks : (texts : Texts) (text : List ℕ) (i : ℕ) → IsGapFor texts text i → Contains texts text → ⊥
 gap_lacks texts text i gap = lacks_gap nat_list_cmp_total texts text i gap.parted
 
@@ -34,6 +38,7 @@ pub found : (texts : Texts) (text : List ℕ) (r : Result ℕ ℕ) → IsSearchI
 found texts text (Ok i) within is = (i, within, ties_are_equal _ _ (is text))
 found texts text (Err i) within is = tt
 
+-- a search that finds no place finds the gap
 pub absent : (texts : Texts) (text : List ℕ) (r : Result ℕ ℕ) → IsInByteOrder texts → IsSearchInRange r (length texts)
     → IsBinarySearchResult (λ u. byte_cmp u text) texts r → IfErr r (IsGapFor texts text)
 absent texts text (Ok i) ordered within is = tt

@@ -44,7 +44,7 @@ impl ValueSet {
 
     /// The set of some texts, in whatever order and however often they stand there.
     ///
-    /// Takes n log n comparisons for n texts, and no memory.
+    /// Takes n log n comparisons for n texts, and no memory; room beyond the texts is given back.
     pub fn from_words(mut words: Vec<Word>) -> ValueSet
         ensures texts { HaveSameTexts result words.items }
         ensures ordered { IsInByteOrder result }
@@ -54,6 +54,7 @@ impl ValueSet {
     {
         words.sort_unstable();
         words.dedup();
+        words.shrink_to_fit();
         ValueSet { items: words }
     }
 

@@ -87,6 +87,7 @@ more_goes (x ∷ items) t h ends =
     let others = more_goes items one.0 h.1 one.2 in
     (others.0, rw ends.1 (one.1 (spell_more items) ∙ others.1), others.2)
 
+-- the machine accepts each LIST
 pub list_accepted : (text : List ℕ) → IsList text → (s : Place) × (run step place.Item text ≡ Some s) × (is_final s ≡ true)
 list_accepted text ([], r) = absurd (omega (arith, r.some))
 list_accepted text (x ∷ items, r) =

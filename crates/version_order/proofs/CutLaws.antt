@@ -45,6 +45,7 @@ parted_separator [] ys b h = tt
 parted_separator (x ∷ []) ys b h = alike-separator x b h
 parted_separator (x ∷ y ∷ xs) ys b h = parted_separator (y ∷ xs) ys b h
 
+-- a separator ends a piece
 pub cut_separator : (xs ys : List ℕ) (b : ℕ) → is_separator b ≡ true → pieces (xs ++ b ∷ ys) ≡ pieces xs ++ pieces ys
 cut_separator xs ys b h = parts xs (b ∷ ys) (parted_separator xs ys b h) ∙ ap (λ ps. pieces xs ++ ps) (pieces-separator b ys h)
 
@@ -68,6 +69,7 @@ parted_change [] ys b c h = h
 parted_change (x ∷ []) ys b c h = h
 parted_change (x ∷ y ∷ xs) ys b c h = parted_change (y ∷ xs) ys b c h
 
+-- a change between digits and letters ends a piece
 pub cut_change : (xs ys : List ℕ) (b c : ℕ) → (is_ascii_digit b ≡ is_ascii_digit c → ⊥) → pieces (xs ++ b ∷ c ∷ ys) ≡ pieces (xs ++ b ∷ [])
     ++ pieces (c ∷ ys)
 cut_change xs ys b c h = ap pieces (sym (append_assoc xs (b ∷ []) (c ∷ ys)))
@@ -78,6 +80,7 @@ cut_change xs ys b c h = ap pieces (sym (append_assoc xs (b ∷ []) (c ∷ ys)))
 digit-no_separator : (b : ℕ) → is_ascii_digit b ≡ true → is_separator b ≡ false
 digit-no_separator b h = grind (arith, nat_tests)
 
+-- digits are one piece
 pub digits_whole : (b : ℕ) (rest : List ℕ) → list_all is_ascii_digit (b ∷ rest) ≡ true → pieces (b ∷ rest) ≡ (b ∷ rest) ∷ []
 unfolding pieces
 digits_whole b [] h =
@@ -102,6 +105,7 @@ letters-alike b c h k = elim (cases_Bool (is_ascii_digit b)) [
   | inr other ↦ rw other k
 ]
 
+-- letters are one piece
 pub letters_whole : (b : ℕ) (rest : List ℕ) → list_all is_letter (b ∷ rest) ≡ true → pieces (b ∷ rest) ≡ (b ∷ rest) ∷ []
 unfolding pieces
 letters_whole b [] h =

@@ -68,6 +68,7 @@ colon_then w high items h =
     let f = front_is (written high) (spell_more items) (written_bytes high h) (more_ends items) in
     rw (f.0, f.1, end_of_written high h) refl
 
+-- the first item of a text of items is the first of them
 pub first_item_is : (x : Item) (items : List Item) → IsItem x → first_item (spell x ++ spell_more items) ≡ (x, spell_more items)
 unfolding first_item
 first_item_is (Exact w) items h =
@@ -96,6 +97,7 @@ after_low-le low (b ∷ rest) = elim (cases_Bool (b == 58)) [
   | inr other ↦ rw other (omega arith)
 ]
 
+-- what stands behind the first item is no longer than the text
 pub first_item-le : (text : List ℕ) → length (first_item text).1 ≤ length text
 unfolding first_item
 first_item-le [] = omega (arith, after_low-le (front []) (behind []), behind-le [])

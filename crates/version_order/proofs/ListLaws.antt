@@ -24,11 +24,13 @@ list_completes place.InLow = ([], place.InLow, refl, refl)
 list_completes place.High = ([], place.High, refl, refl)
 list_completes place.InHigh = ([], place.InHigh, refl, refl)
 
+-- the machine tells which texts are LISTs
 pub list_tells : Tells step IsList place.Item is_final
 list_tells = record { accepts = list_accepted; completes = list_completes; ends = list_from_end }
 
 -- ---- where it stops
 
+-- where the machine stops short the text is no LIST from there on
 pub bad : (text : List ℕ) (place : Place) (n : ℕ) → Stops text place n → (n < length text) ⊎ (is_final place ≡ false)
     → IsBadAt IsList text n
 bad text place n stops (inl lt) = bad_at_stop step list_tells text n place lt stops.reached (stops.stuck lt)
@@ -41,21 +43,25 @@ bad text place n stops (inr open_) =
           subst (λ (k : ℕ). IsBadAt IsList text k) same (bad_at_end step list_tells text place reached open_)
     ]
 
+-- a text on which the machine ends right is a LIST
 pub good : (text : List ℕ) (place : Place) (n : ℕ) → Stops text place n → length text ≤ n → is_final place ≡ true → IsList text
 good text place n stops le final = list_from_end text place (rw (take_all n text le) at stops.reached) final
 
+-- the text of items with a comma before each is longer by one
 pub more-length : (text : List ℕ) (items : List Item) → Reads text items → length (spell_more items) ≡ length text + 1
 more-length text [] r = absurd (omega (arith, r.some))
 more-length text (x ∷ items) r = omega (arith, ap length r.spelled)
 
 -- ---- how far a LIST goes
 
+-- where the machine stops is the longest front that may begin a LIST
 pub stops_longest : (text : List ℕ) (place : Place) (n : ℕ) → Stops text place n → IsLongestFront IsList text n
 stops_longest text place n stops = elim (cases_lt n (length text)) [
   | inl lt ↦ (bad_at_stop step list_tells text n place lt stops.reached (stops.stuck lt)).front
   | inr le ↦ record { within = stops.within; begins = begins step list_tells _ place stops.reached; longest = λ q within b. omega arith }
 ]
 
+-- a front that is a LIST ends right
 pub stops_whole : (text : List ℕ) (place : Place) (n : ℕ) → Stops text place n → IsList (take n text) → is_final place ≡ true
 stops_whole text place n stops is =
     let a = list_accepted (take n text) is in

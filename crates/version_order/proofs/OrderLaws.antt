@@ -91,6 +91,7 @@ pre_total = total_same pre_key (then_total (on_total key_stage nat_cmp_total) (o
 
 -- ---- versions
 
+-- versions are in a total order
 pub version_total : IsTotalOrder version_cmp
 unfolding version_cmp
 version_total = then_total (on_total (λ text. release (pieces text)) (lists_total component_total))
@@ -101,6 +102,7 @@ then_second Less s e = cc e
 then_second Equal s e = e
 then_second Greater s e = cc e
 
+-- versions that compare as equal are one
 pub version_apart : (a b : List ℕ) → version_cmp a b ≡ Equal → a ≡ b
 unfolding version_cmp
 version_apart a b e = slice_cmp-IsAntisymmetric nat_cmp-IsAntisymmetric a b (then_second _ _ (then_second _ _ e))
@@ -110,5 +112,6 @@ own_reverse Less e = cc e
 own_reverse Equal e = refl
 own_reverse Greater e = cc e
 
+-- a version compares as equal to itself
 pub version_same : (a b : List ℕ) → a ≡ b → version_cmp a b ≡ Equal
 version_same a b e = rw e (own_reverse (version_cmp b b) (version_total.antisymm b b))

@@ -34,6 +34,7 @@ bytes_comm a b =
     let back = bytes_eq-Decides b a in
     same_from_decides (bytes_eq a b) (bytes_eq b a) (bytes_eq-Decides a b) (λ e. sym (back.0 e), λ e. back.1 (sym e))
 
+-- items overlap both ways
 pub items_symmetric : (a b : Item) → items_overlap a b ≡ items_overlap b a
 unfolding items_overlap item_contains
 items_symmetric (Exact w) (Exact x) = bytes_comm x w
@@ -60,6 +61,7 @@ more_overlaps [] y b = refl
 more_overlaps (x ∷ a) y b = rw (more_overlaps a y b, items_symmetric x y)
     (regroup (items_overlap y x) (overlaps_item b x) (overlaps_item a y) (sets_overlap a b))
 
+-- sets overlap both ways
 pub sets_symmetric : (a b : List Item) → sets_overlap a b ≡ sets_overlap b a
 sets_symmetric a [] = none_overlaps a
 sets_symmetric a (y ∷ b) = more_overlaps a y b ∙ ap (λ rest. overlaps_item a y || rest) (sets_symmetric a b)
@@ -72,10 +74,12 @@ any_same : {A : Type 0} (p q : A → Bool) → ((x : A) → p x ≡ q x) → (xs
 any_same p q h [] = refl
 any_same p q h (x ∷ xs) = rw (h x, any_same p q h xs) refl
 
+-- an exact version overlaps the items that contain it
 pub exact_overlaps : (w : List ℕ) (item : Item) → items_overlap (Exact w) item ≡ item_contains item w
 unfolding items_overlap
 exact_overlaps w item = refl
 
+-- an exact version overlaps the sets that contain it
 pub exact_set : (w : List ℕ) (items : List Item) → sets_overlap (Exact w ∷ []) items ≡ set_contains items w
 exact_set w items = or_none (overlaps_item items (Exact w))
     ∙ any_same (items_overlap (Exact w)) (λ item. item_contains item w) (exact_overlaps w) items
@@ -92,6 +96,7 @@ not_empty Equal p = refl
 not_empty Greater true = refl
 not_empty Greater false = refl
 
+-- an item overlaps itself unless it is an empty range
 pub own_overlap : (item : Item) → items_overlap item item ≡ not (is_empty_range item)
 unfolding items_overlap item_contains is_under is_empty_range
 own_overlap (Exact w) = (bytes_eq-Decides w w).1 refl

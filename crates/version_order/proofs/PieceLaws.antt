@@ -53,6 +53,7 @@ pieces-run b (c ∷ rest) h =
       | inr other ↦ rw (h, other) refl
     ]
 
+-- the empty text has no pieces
 pub pieces-none : pieces [] ≡ []
 unfolding pieces
 pieces-none = refl

@@ -21,6 +21,7 @@ pre-here (a ∷ []) x e = absurd (none_some e)
 pre-here (a ∷ b ∷ []) x e = e
 pre-here (a ∷ b ∷ c ∷ ps) x e = absurd (none_some e)
 
+-- where a pre-release begins the release ends
 pub release-here : (ps : List (List ℕ)) (x : ℕ × ℕ) → staged ps ≡ Some x → release ps ≡ []
 unfolding staged pre_release release
 release-here [] x e = absurd (none_some e)
@@ -35,16 +36,19 @@ pre-later p [] e = refl
 pre-later p (a ∷ []) e = e
 pre-later p (a ∷ b ∷ ps) e = rw (two_less (length ps)) refl
 
+-- a component before the pre-release is one of the release
 pub release-later : (p : List ℕ) (ps : List (List ℕ)) → staged (p ∷ ps) ≡ None → release (p ∷ ps) ≡ p ∷ release ps
 unfolding staged pre_release release
 release-later p [] e = refl
 release-later p (a ∷ []) e = rw e refl
 release-later p (a ∷ b ∷ ps) e = rw (two_less (length ps)) (cond-cons _ p _ _)
 
+-- no components, no release
 pub release-none : release [] ≡ []
 unfolding staged pre_release release
 release-none = refl
 
+-- no components, no pre-release
 pub pre-none : pre_release [] ≡ None
 unfolding staged pre_release
 pre-none = refl

@@ -15,6 +15,7 @@ use Rattle.version_order.specs.declared.scan.Sign.{Sign}
 use Rattle.version_order.specs.declared.scan.Sign.TheVariants.{Start, Inner, Equals, Colon, Comma, Other}
 use Rattle.version_order.specs.declared.scan.Place.{Place}
 use Rattle.version_order.specs.declared.scan.Place.TheVariants as place
+use Rattle.version_order.proofs.VersionLaws.{start_byte}
 
 abbrev AreItems : List Item → Type 0
 AreItems items = AllByRecursion IsItem items
@@ -68,9 +69,6 @@ says b =
 
 bytes-cons : (b : ℕ) (w : List ℕ) → is_version_byte b ≡ true → AreBytes w → AreBytes (b ∷ w)
 bytes-cons b w h e = rw (h, e) refl
-
-start_byte : (b : ℕ) → is_start b ≡ true → is_version_byte b ≡ true
-start_byte b h = rw h refl
 
 version-cons : (b : ℕ) (w : List ℕ) → is_start b ≡ true → AreBytes w → IsVersion (b ∷ w)
 version-cons b w h e = rw (h, e) refl
@@ -134,5 +132,6 @@ final_rest place.InLow h = inl ([], [], refl, tt, refl)
 final_rest place.High h = (None, [], tt, tt, refl)
 final_rest place.InHigh h = ([], [], refl, tt, refl)
 
+-- a text that the machine accepts is a LIST
 pub list_from_end : (text : List ℕ) (s : Place) → run step place.Item text ≡ Some s → is_final s ≡ true → IsList text
 list_from_end text s e h = from_rest text (rw append-nil at (back place.Item s text [] e (final_rest s h)))

@@ -19,6 +19,7 @@ some_text items r =
     let final : false ≡ true = rw (← is) at a.2 in
     cc
 
+-- a right text has want of memory as its only fault
 pub only_memory : (text : List ℕ) (items : List item.Item) (fault : VersionSetFault) → Reads text items → first_empty 0 items ≡ None
     → IsSetFault text fault → fault ≡ OutOfMemory
 only_memory text items Empty r none fault = absurd (some_text items (rw fault at r))

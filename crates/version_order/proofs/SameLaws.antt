@@ -87,6 +87,7 @@ by_ranks a b (Some i) (Some j) None None x y p q = equal_words a b i j x y
 by_ranks a b (Some i) (Some j) None (Some n) x y p q = not_number b j n y q
 by_ranks a b (Some i) (Some j) (Some m) n x y p q = not_number a i m x p
 
+-- components are the same exactly where they compare as equal
 pub same_by_order : (a b : List ℕ) → is_same a b ≡ is_eq (component_cmp a b)
 unfolding is_same rank_of
 same_by_order a b = by_ranks a b (word_of a) (word_of b) (number_of a) (number_of b) refl refl refl refl

@@ -15,6 +15,7 @@ pub record Left (items : List Item) (rest : List ℕ) (all : List Item) : Type 0
 abbrev pub IsSoFar : List ℕ → List Item → List ℕ → Type 0
 IsSoFar text items rest = (all : List Item) → Reads text all → Left items rest all
 
+-- before the first item the whole text is left
 pub so_far_none : (text : List ℕ) → IsSoFar text [] text
 so_far_none text all r = record { left = all; joined = refl; reads = r }
 
@@ -84,6 +85,7 @@ more_same (x ∷ a) (y ∷ b) p q e =
     let others : a ≡ b = more_same a b p.1 q.1 (ap (λ (r : Item × List ℕ). r.1) firsts) in
     cc
 
+-- a text is read as one list of items
 pub one_reading : (text : List ℕ) (a b : List Item) → Reads text a → Reads text b → a ≡ b
 one_reading text [] b r s = absurd (omega (arith, r.some))
 one_reading text (x ∷ a) [] r s = absurd (omega (arith, s.some))

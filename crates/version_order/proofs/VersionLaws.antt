@@ -40,6 +40,7 @@ inside_bytes (b ∷ w) s e = elim (cases_Bool (is_version_byte b)) [
   | inr other ↦ absurd (let no : None ≡ Some s = rw other at e in cc)
 ]
 
+-- a text that the machine of versions runs through is a version, unless it is empty
 pub version_all : (text : List ℕ) (inside : Bool) → run version_step false text ≡ Some inside → 0 < length text → IsVersion text
 version_all [] inside e lt = absurd (omega arith)
 version_all (b ∷ w) inside e lt = elim (cases_Bool (is_start b)) [
@@ -51,6 +52,7 @@ version_ends : (w : List ℕ) (s : Bool) → run version_step false w ≡ Some s
 version_ends [] s e h = absurd (let no : Some false ≡ Some true = e ∙ ap (λ (b : Bool). Some b) h in cc)
 version_ends (b ∷ w) s e h = version_all (b ∷ w) s e (omega arith)
 
+-- the machine tells which texts are versions
 pub version_tells : Tells version_step IsVersion false is_inside
 version_tells = record {
   accepts = λ w h. (true, version_goes w h, refl);
@@ -58,10 +60,12 @@ version_tells = record {
   ends = version_ends;
 }
 
+-- where the machine stops the text is bad
 pub version_stop : (text : List ℕ) (i : ℕ) (inside : Bool) → i < length text → run version_step false (take i text) ≡ Some inside
     → version_step inside (get_or text i 0) ≡ None → IsBadAt IsVersion text i
 version_stop text i inside lt here stop = bad_at_stop version_step version_tells text i inside lt here stop
 
+-- the machine goes one byte further
 pub version_more : (text : List ℕ) (i : ℕ) (inside : Bool) → i < length text → run version_step false (take i text) ≡ Some inside
     → version_step inside (get_or text i 0) ≡ Some true
     → run version_step false (take (i + 1) text) ≡ Some true
@@ -78,12 +82,15 @@ bytes_ascii (b ∷ w) h =
     let p = and_parts (is_version_byte b) (list_all is_version_byte w) h in
     IsAscii-cons b w (byte_ascii b p.0) (bytes_ascii w p.1)
 
+-- the bytes of versions are UTF-8
 pub bytes_utf8 : (w : List ℕ) → AreBytes w → IsUtf8 w
 bytes_utf8 w h = IsUtf8-from_ascii w (bytes_ascii w h)
 
-start_byte : (b : ℕ) → is_start b ≡ true → is_version_byte b ≡ true
+-- what may begin a version may stand in one
+pub start_byte : (b : ℕ) → is_start b ≡ true → is_version_byte b ≡ true
 start_byte b h = rw h refl
 
+-- a version has only bytes of versions
 pub version_bytes : (w : List ℕ) → IsVersion w → AreBytes w
 version_bytes [] h = absurd cc
 version_bytes (b ∷ w) h =
@@ -92,6 +99,7 @@ version_bytes (b ∷ w) h =
 
 -- ---- one place where a text goes wrong
 
+-- a text is bad at one place
 pub one_place : (Right : List ℕ → Type 0) (text : List ℕ) (p q : ℕ) → IsBadAt Right text p → IsBadAt Right text q → p ≡ q
 one_place Right text p q a b =
     let below : q ≤ p = a.front.longest q b.front.within b.front.begins in

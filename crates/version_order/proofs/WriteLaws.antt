@@ -10,6 +10,7 @@ more-append [] x = ap (λ (l : List ℕ). 44 ∷ l) (append-nil (spell x))
 more-append (y ∷ items) x = ap (λ (l : List ℕ). 44 ∷ l) (ap (λ (l : List ℕ). spell y ++ l) (more-append items x)
     ∙ sym (append_assoc (spell y) (spell_more items) (44 ∷ spell x)))
 
+-- the text of one item more
 pub more-take : (items : List Item) (i : ℕ) (d : Item) → i < length items → spell_more (take (i + 1) items) ≡ spell_more (take i items)
     ++ 44 ∷ spell (get_or items i d)
 more-take items i d lt = rw (take_more items i d lt) (more-append (take i items) (get_or items i d))
@@ -18,6 +19,7 @@ more-take items i d lt = rw (take_more items i d lt) (more-append (take i items)
 pub front_more : (front middle : List ℕ) (before now : List ℕ) → middle ≡ front ++ before → IsFront middle now → IsFront front now
 front_more front middle before now e (rest, r) = (before ++ rest, r ∙ ap (λ (l : List ℕ). l ++ rest) e ∙ append_assoc front before rest)
 
+-- a front that is kept anyhow is kept on an error
 pub kept_on_err : {T E : Type 0} (r : Result T E) (front now : List ℕ) → IsFront front now → OnErr r (IsFront front now)
 kept_on_err (Ok v) front now h = tt
 kept_on_err (Err e) front now h = h

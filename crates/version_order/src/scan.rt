@@ -43,6 +43,7 @@ pub enum Place {
     InHigh,
 }
 
+/// What a byte is to the machine that reads a LIST.
 fn sign_of(b: u8) -> Sign
     ensures { result ≡ sign_of b }
 {

@@ -16,12 +16,12 @@ use Rattle.recipe_data.proofs.OfGraphCore.PairLaws.{tells_alike}
 use Rattle.virtuals.specs.Virtuals.{Pairs}
 
 not_above : (p q : Text) (s : Ordering) → ordering_then (byte_cmp p q) s ≡ Less → is_lt (byte_cmp q p) ≡ false
-not_above p q s e = rw (nat_list_cmp_total.antisymm q p) (go (byte_cmp p q) e)
+not_above p q s e = rw (nat_list_cmp_total.antisymm q p) (not_below_by_order (byte_cmp p q) e)
   where
-    go : (r : Ordering) → ordering_then r s ≡ Less → is_lt (ordering_reverse r) ≡ false
-    go Less e = refl
-    go Equal e = refl
-    go Greater e = absurd (cc)
+    not_below_by_order : (r : Ordering) → ordering_then r s ≡ Less → is_lt (ordering_reverse r) ≡ false
+    not_below_by_order Less e = refl
+    not_below_by_order Equal e = refl
+    not_below_by_order Greater e = absurd (cc)
 
 -- in the order of pairs their first texts rise
 pub firsts_rise : (pairs : Pairs) (name : Text) → IsStrictlySortedBy pair_cmp pairs
@@ -30,6 +30,7 @@ firsts_rise pairs name ordered = searchable_from_sorted nat_list_cmp_total (λ (
     not_above (get_or pairs k d).0 (get_or pairs (k + 1) d).0 (byte_cmp (get_or pairs k d).1 (get_or pairs (k + 1) d).1)
     (Less-from_sorted pair_cmp pairs k (k + 1) d ordered (omega arith) b))
 
+-- pairs whose first text compares as equal are those whose first text is the same
 pub firsts_alike : (pairs : Pairs) (name : Text) → filter (λ p. is_eq (byte_cmp p.0 name)) pairs ≡ filter (λ p. bytes_eq p.0 name) pairs
 firsts_alike pairs name = filter_agree (λ (p : Text × Text). is_eq (byte_cmp p.0 name)) (λ p. bytes_eq p.0 name)
     (λ p. tells_alike p.0 name) pairs
@@ -39,6 +40,7 @@ not_none n = grind arith
 
 -- some element passes where the list of those that do is not empty
 module _ {X : Type 0} (p : X → Bool) where
+  -- some are left where one passes
   pub some_kept : (xs : List X) → not (length (filter p xs) == 0) ≡ list_any p xs
   some_kept [] = refl
   some_kept (x ∷ xs) = step (p x) (filter p xs) (list_any p xs) (some_kept xs)

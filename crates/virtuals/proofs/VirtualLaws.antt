@@ -22,6 +22,7 @@ use Rattle.virtuals.specs.Pairs.{all_pairs, row_pairs}
 
 -- ---- tests of some element
 
+-- some pass where an element does
 pub any_of : {X : Type 0} (p : X → Bool) (xs : List X) (x : X) → Contains xs x → p x ≡ true → list_any p xs ≡ true
 any_of p [] x there passes = absurd (omega (arith, there.1))
 any_of p (y ∷ ys) x there passes = ⊎_elim
@@ -30,14 +31,15 @@ any_of p (y ∷ ys) x there passes = ⊎_elim
     (first_or_later y ys x there)
 
 module _ {X : Type 0} (p : X → Bool) where
+  -- where some pass, an element does
   pub from_any : (xs : List X) → list_any p xs ≡ true → (x : X) × Contains xs x × (p x ≡ true)
   from_any [] e = absurd (false≢true e)
-  from_any (y ∷ ys) e = go (p y) refl e (from_any ys)
+  from_any (y ∷ ys) e = found_by_test (p y) refl e (from_any ys)
     where
-      go : (b : Bool) → p y ≡ b → (b || list_any p ys) ≡ true → (list_any p ys ≡ true → (x : X) × Contains ys x × (p x ≡ true)) → (x : X)
+      found_by_test : (b : Bool) → p y ≡ b → (b || list_any p ys) ≡ true → (list_any p ys ≡ true → (x : X) × Contains ys x × (p x ≡ true)) → (x : X)
           × Contains (y ∷ ys) x × (p x ≡ true)
-      go true is e rest = (y, has_first y ys, is)
-      go false is e rest = let found = rest e in (found.0, has_later y ys found.0 found.1, found.2)
+      found_by_test true is e rest = (y, has_first y ys, is)
+      found_by_test false is e rest = let found = rest e in (found.0, has_later y ys found.0 found.1, found.2)
 
 same_test : (a b : Bool) → (a ≡ true → b ≡ true) → (b ≡ true → a ≡ true) → a ≡ b
 same_test true b to from = sym (to refl)
@@ -46,6 +48,7 @@ same_test false false to from = refl
 
 -- ---- the table
 
+-- a table of providers has a name exactly where some recipe provides it
 pub has_virtual : (recipes : List Recipe) (pairs : Pairs) (name : Text) → AreProviders recipes pairs
     → has_pair pairs name ≡ is_virtual recipes name
 unfolding is_virtual
@@ -60,6 +63,7 @@ has_virtual recipes pairs name table = same_test (has_pair pairs name) (list_any
     any_of (λ (pair : Text × Text). bytes_eq pair.0 name) pairs (name, found.0.name)
     ((table.exact name found.0.name).1 (found.0, found.1, refl, found.2)) ((bytes_decides name name).1 refl))
 
+-- a pair of a recipe's rows names the package, and a row that provides the name
 pub in_rows : (name provider package_name : Text) (rows : List ProvideRow) → Contains (row_pairs package_name rows) (name, provider)
     → (package_name ≡ provider) × (list_any (λ row. bytes_eq row.name name) rows ≡ true)
 in_rows name provider package_name rows there =
@@ -69,6 +73,7 @@ in_rows name provider package_name rows there =
           ((bytes_decides from.0.name name).1 (ap (λ p. p.0) from.2)),
     )
 
+-- a row that provides a name gives its pair
 pub to_rows : (name package_name : Text) (rows : List ProvideRow) → list_any (λ row. bytes_eq row.name name) rows ≡ true
     → Contains (row_pairs package_name rows) (name, package_name)
 to_rows name package_name rows some =
@@ -77,6 +82,7 @@ to_rows name package_name rows some =
     subst (λ n. Contains (row_pairs package_name rows) (n, package_name)) is
     (has_image (λ (row : ProvideRow). let p : Text × Text = (row.name, package_name) in p) rows found.0 found.1)
 
+-- a pair of all recipes is a virtual and one that provides it
 pub in_all : (name provider : Text) (recipes : List Recipe) → Contains (all_pairs recipes) (name, provider)
     → IsProvider recipes name provider
 unfolding provides_name
@@ -86,6 +92,7 @@ in_all name provider (recipe ∷ recipes) there = ⊎_elim
     (λ later. let is = in_all name provider recipes later in (is.0, has_later recipe recipes is.0 is.1, is.2, is.3))
     (Contains-append_cases (row_pairs recipe.name recipe.provides) (all_pairs recipes) (name, provider) there)
 
+-- a virtual and one that provides it are a pair of all recipes
 pub to_all : (name provider : Text) (recipes : List Recipe) → IsProvider recipes name provider
     → Contains (all_pairs recipes) (name, provider)
 unfolding provides_name
@@ -121,6 +128,7 @@ pair_same p q e =
     let second : p.1 ≡ q.1 = same_text p.1 q.1 (sym parts.1) in
     λ i. (first i, second i)
 
+-- all pairs sorted, each once, are the table of providers
 pub table_of : (recipes : List Recipe) (sorted : Pairs) → IsPermutation (all_pairs recipes) sorted → IsSorted pair_cmp sorted
     → AreProviders recipes (dedup same_pair sorted)
 table_of recipes sorted moved ordered = record {
@@ -135,6 +143,7 @@ table_of recipes sorted moved ordered = record {
 
 -- ---- the clash
 
+-- the first recipe whose name the table has is the one whose name some recipe provides
 pub clash_agrees : (recipes : List Recipe) (pairs : Pairs) → AreProviders recipes pairs
     → find (λ recipe. has_pair pairs recipe.name) recipes ≡ clash recipes
 clash_agrees recipes pairs table =
@@ -142,23 +151,24 @@ clash_agrees recipes pairs table =
     λ recipe. has_virtual recipes pairs recipe.name table in
     ap (λ (test : Recipe → Bool). find test recipes) (λ i recipe. same recipe i)
 
+-- what is found first in recipes in order has the least name that passes
 pub first_found : (test : Recipe → Bool) (recipes : List Recipe) (first other : Recipe) → AreInOrder recipes
     → find test recipes ≡ Some first → Contains recipes other → test other ≡ true → is_le (byte_cmp first.name other.name) ≡ true
 first_found test [] first other ordered found there passes = absurd (omega (arith, there.1))
 first_found test (recipe ∷ recipes) first other ordered found there passes =
-    go (test recipe) refl found (first_found test recipes first other (rises_rest byte_cmp recipe.name (map name_of recipes) ordered))
+    ordered_by_test (test recipe) refl found (first_found test recipes first other (rises_rest byte_cmp recipe.name (map name_of recipes) ordered))
   where
-    go : (b : Bool) → test recipe ≡ b → cond b (Some recipe) (find test recipes) ≡ Some first
+    ordered_by_test : (b : Bool) → test recipe ≡ b → cond b (Some recipe) (find test recipes) ≡ Some first
         → (find test recipes ≡ Some first → Contains recipes other → test other ≡ true → is_le (byte_cmp first.name other.name) ≡ true)
         → is_le (byte_cmp first.name other.name) ≡ true
-    go true is e rest =
+    ordered_by_test true is e rest =
         let same : recipe ≡ first = cc in
         subst (λ (r : Recipe). is_le (byte_cmp r.name other.name) ≡ true) same (⊎_elim
         (λ here. ap is_le (ap (λ (r : Recipe). byte_cmp recipe.name r.name) (sym here) ∙ tied_itself nat_list_cmp_total recipe.name))
         (λ later. ap is_le (rises_above byte_cmp recipe.name (map name_of recipes) ordered other.name
         (has_image name_of recipes other later)))
         (first_or_later recipe recipes other there))
-    go false is e rest = ⊎_elim
+    ordered_by_test false is e rest = ⊎_elim
         (λ here. absurd (false≢true (sym is ∙ ap test here ∙ passes)))
         (λ later. rest e later passes)
         (first_or_later recipe recipes other there)

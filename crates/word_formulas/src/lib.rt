@@ -1,8 +1,10 @@
 //! Builders of the formulas of words, parts and rules.
 //!
-//! It promises: each builder answers the formula that the definition of its name in `graph_words` or
-//! `graph_formulas` computes, and errs for want of memory alone. It stands on `literal_table` for
-//! look-ups. It must not know clauses.
+//! What it is: a builder for each word, part and rule of `graph_formulas` that speaks of no path.
+//! What it promises: each builder answers the formula that the definition of its name in
+//! `graph_formulas` computes, and errs for want of memory alone.
+//! What it stands on: `graph_formulas` for the definitions, `literal_table` for look-ups.
+//! What it must not know: clauses.
 #![tactic(auto)]
 
 mod asked;

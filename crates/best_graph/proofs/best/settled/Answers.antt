@@ -16,7 +16,8 @@ returns-in-Optimal-clause-model c =
 pub returns-then-is_writable-clause-answer : goal.returns-then-is_writable-clause-answer
 returns-then-is_writable-clause-answer c =
     let s = c.args._rules.now.clauses in
-    let found : IsFound s [] c.args._budget (Refuted c.in-Refuted.log) = subst (IsFound s [] c.args._budget) c.in-Refuted.is c.requires.found in
+    let found : IsFound s [] c.args._budget (Refuted c.in-Refuted.log) =
+    subst (IsFound s [] c.args._budget) c.in-Refuted.is c.requires.found in
     nothing-answer c.args._problem.now c.args._rules.now c.requires.ruled c.args._budget c.in-Refuted.log
     (c.is_writable.ensures c.if-is_writable.true) c.requires.decodes found
     (c.found_laws.ensures s [] c.args._budget (Refuted c.in-Refuted.log) c.requires.in_order found)

@@ -22,7 +22,8 @@ pub returns-then-always-clause-built : goal.returns-then-always-clause-built
 returns-then-always-clause-built c = covered-always c.args.clauses.now c.args.draft.now (sym c.always.ensures ∙ c.if-always.true)
 
 pub returns-in-None-clause-built : goal.returns-in-None-clause-built
-returns-in-None-clause-built c = covered-clause c.args.clauses.now c.args.draft.now _ None (sym c.always.ensures ∙ c.if-always.false) c.lits.ensures
+returns-in-None-clause-built c = covered-clause c.args.clauses.now c.args.draft.now _ None (sym c.always.ensures ∙ c.if-always.false)
+    c.lits.ensures
     (sym c.in-None.is ∙ c.in_ok-new.ensures)
 
 pub by_cover-requires : goal.by_cover-requires
@@ -35,7 +36,8 @@ pub returns-in-Some-clause-built : goal.returns-in-Some-clause-built
 returns-in-Some-clause-built c =
     let e = covered-clause c.args.clauses.now c.args.draft.now _ (Some c.lits-in-Some.result.now) (sym c.always.ensures ∙ c.if-always.false)
     c.lits.ensures (ap Some c.lits-in-Some.ensures.value ∙ sym c.in-Some.is ∙ c.in_ok-new.ensures) in
-    subst (λ m. IfOk c.by_cover.result (λ value. m ≡ record { list = c.by_cover.new.clauses; answer = value })) (sym e) c.by_cover.ensures.built
+    subst (λ m. IfOk c.by_cover.result (λ value. m ≡ record { list = c.by_cover.new.clauses; answer = value })) (sym e)
+    c.by_cover.ensures.built
 
 pub returns-then-always-clause-extends : goal.returns-then-always-clause-extends
 returns-then-always-clause-extends c = Extends-refl c.args.clauses.now

@@ -5,7 +5,8 @@ use Rattle.clause_formulas.proofs.CallSteps.{with_draft-always, with_draft-some,
 use Rattle.clause_formulas.proofs.claims.add_draft.Goals as goal
 
 pub returns-then-always-clause-built : goal.returns-then-always-clause-built
-returns-then-always-clause-built c = with_draft-always c.args.clauses.now c.args.label c.args.draft.now (sym c.always.ensures ∙ c.if-always.true)
+returns-then-always-clause-built c = with_draft-always c.args.clauses.now c.args.label c.args.draft.now (sym c.always.ensures
+    ∙ c.if-always.true)
 
 pub add-requires : goal.add-requires
 add-requires c =

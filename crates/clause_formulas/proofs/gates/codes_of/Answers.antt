@@ -8,7 +8,8 @@ use Rattle.clause_formulas.proofs.gates.codes_of.Goals as goal
 pub code_of-requires : goal.code_of-requires
 code_of-requires c =
     AllBelow-at _ c.args.lits.now c.loop-lit.lit-index _
-    (AllBelow-le c.args.clauses.now.vars (2 ^ 63) c.args.lits.now (omega (arith, c.vars-below.ensures.value, c.vars-below.ensures.small)) c.requires)
+    (AllBelow-le c.args.clauses.now.vars (2 ^ 63) c.args.lits.now (omega (arith, c.vars-below.ensures.value, c.vars-below.ensures.small))
+    c.requires)
     (omega arith)
 
 pub loop-lit-preserved : goal.loop-lit-preserved

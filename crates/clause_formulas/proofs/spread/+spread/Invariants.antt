@@ -7,7 +7,8 @@ use Rattle.clause_formulas.proofs.spread.+spread.Given as goal
 
 abbrev pub invariant-spread_any-loop-part : goal.invariant-spread_any-loop-part
 invariant-spread_any-loop-part l = record {
-  rest : spread_in (gated l.clauses l.gates) l.draft (any_of (drop l.part-index l.parts)) ≡ spread_in (gated l.fn.clauses l.fn.gates) l.fn.draft (any_of l.parts);
+  rest : spread_in (gated l.clauses l.gates) l.draft (any_of (drop l.part-index l.parts)) ≡ spread_in (gated l.fn.clauses l.fn.gates)
+      l.fn.draft (any_of l.parts);
   below : AllBelow l.clauses.vars l.draft.lits;
   keeps : Keeps (gated l.fn.clauses l.fn.gates) (gated l.clauses l.gates);
 }

@@ -19,7 +19,8 @@ unfolding named_in
 named-clause s d ls o e f q = rw (e, q, f) refl
 
 pub returns-then-always-clause-built : goal.returns-then-always-clause-built
-returns-then-always-clause-built c = named-always (gated c.args.clauses.now c.args.gates.now) c.args.draft.now (sym c.always.ensures ∙ c.if-always.true)
+returns-then-always-clause-built c = named-always (gated c.args.clauses.now c.args.gates.now) c.args.draft.now (sym c.always.ensures
+    ∙ c.if-always.true)
 
 pub returns-then-always-clause-keeps : goal.returns-then-always-clause-keeps
 returns-then-always-clause-keeps c = Keeps-refl _ c.requires.gates_below
@@ -28,7 +29,8 @@ pub returns-in_err-new-clause-keeps : goal.returns-in_err-new-clause-keeps
 returns-in_err-new-clause-keeps c = Keeps-refl _ c.requires.gates_below
 
 pub returns-in-None-clause-built : goal.returns-in-None-clause-built
-returns-in-None-clause-built c = named-clause (gated c.args.clauses.now c.args.gates.now) c.args.draft.now _ None (sym c.always.ensures ∙ c.if-always.false)
+returns-in-None-clause-built c = named-clause (gated c.args.clauses.now c.args.gates.now) c.args.draft.now _ None (sym c.always.ensures
+    ∙ c.if-always.false)
     c.lits.ensures (sym c.in-None.is ∙ c.in_ok-new.ensures)
 
 pub returns-in-None-clause-keeps : goal.returns-in-None-clause-keeps
@@ -44,7 +46,12 @@ by_clause-requires c = record {
 
 pub returns-in-Some-clause-built : goal.returns-in-Some-clause-built
 returns-in-Some-clause-built c =
-    let e = named-clause (gated c.args.clauses.now c.args.gates.now) c.args.draft.now _ (Some c.lits-in-Some.result.now) (sym c.always.ensures ∙ c.if-always.false)
+    let e = named-clause (gated c.args.clauses.now c.args.gates.now) c.args.draft.now _ (Some c.lits-in-Some.result.now)
+    (sym c.always.ensures ∙ c.if-always.false)
     c.lits.ensures (ap Some c.lits-in-Some.ensures.value ∙ sym c.in-Some.is ∙ c.in_ok-new.ensures) in
-    subst (λ m. IfOk c.by_clause.result (λ value. m ≡ record { state = gated c.by_clause.new.clauses c.by_clause.new.gates; answer = value })) (sym e)
+    subst (λ m. IfOk c.by_clause.result (λ value. m ≡ record {
+      state = gated c.by_clause.new.clauses c.by_clause.new.gates;
+      answer =
+          value;
+    })) (sym e)
     c.by_clause.ensures.built

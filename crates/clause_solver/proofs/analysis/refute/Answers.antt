@@ -1,11 +1,11 @@
 use Rattle.std.proofs.Common.{◌∷◌, [], sym, subst}
 use Rattle.clause_store.specs.Lits.{AllBelow}
-use Rattle.clause_solver.specs.Marks.{AreMarked}
+use Rattle.clause_solver.specs.Seen.{AreSeen}
 use Rattle.clause_solver.proofs.Steps.{known-below, reason-known, code-resolved, refuted}
 use Rattle.clause_solver.proofs.analysis.refute.Goals as goal
 
-pub mark_all-requires : goal.mark_all-requires
-mark_all-requires c =
+pub see_all-requires : goal.see_all-requires
+see_all-requires c =
     subst (λ n. AllBelow n c.lits.result.now) (sym c.requires.in_range)
     (subst (AllBelow c.args.watch.now.vars) (sym c.lits.ensures.value)
     (known-below c.args.watch.now.vars c.args.id c.args.watch.now.clauses c.clause.result.now c.requires.right.in_order
@@ -17,14 +17,14 @@ resolve-requires-clause-known c = reason-known c.args.watch.now c.requires.right
 
 pub loop-before-preserved-in-Continue-branch-3 : goal.loop-before-preserved-in-Continue-branch-3
 loop-before-preserved-in-Continue-branch-3 c =
-    code-resolved c.args.watch.now c.requires.right c.mark_all.new.self c.loop-before.marks (c.args.id ∷ []) c.loop-before.chain c.args.end
+    code-resolved c.args.watch.now c.requires.right c.see_all.new.self c.loop-before.seen (c.args.id ∷ []) c.loop-before.chain c.args.end
     c.loop-before.at c.loop-before.invariant
-    c.in-Some.before c.at-p.result c.in-Some.ensures c.at-p.ensures c.in-Some-reason.reason c.resolve.new.marks c.resolve.new.chain
-    c.in-Some-reason.is c.in_ok-resolve.ensures.marks c.in_ok-resolve.ensures.chain c.resolve.ensures.same
+    c.in-Some.before c.at-p.result c.in-Some.ensures c.at-p.ensures c.in-Some-reason.reason c.resolve.new.seen c.resolve.new.chain
+    c.in-Some-reason.is c.in_ok-resolve.ensures.seen c.in_ok-resolve.ensures.chain c.resolve.ensures.same
 
 pub returns-clause-chain : goal.returns-clause-chain
 returns-clause-chain c =
-    refuted c.args.watch.now c.args.marks.now c.mark_all.new.self c.loop-before.marks c.args.id c.args.end c.loop-before.at
-    c.loop-before.chain c.clause.result.now c.clause.ensures c.requires.unmarked
-    (subst (AreMarked c.args.marks.now c.mark_all.new.self) c.lits.ensures.value c.in_ok-mark_all.ensures.marked) c.loop-before.invariant
+    refuted c.args.watch.now c.args.seen.now c.see_all.new.self c.loop-before.seen c.args.id c.args.end c.loop-before.at
+    c.loop-before.chain c.clause.result.now c.clause.ensures c.requires.unseen
+    (subst (AreSeen c.args.seen.now c.see_all.new.self) c.lits.ensures.value c.in_ok-see_all.ensures.is_seen) c.loop-before.invariant
     c.in_default.ensures

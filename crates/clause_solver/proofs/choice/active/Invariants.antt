@@ -1,4 +1,4 @@
 use Rattle.clause_solver.proofs.choice.active.Given as goal
 
 abbrev pub decreases-loop-x : goal.decreases-loop-x
-decreases-loop-x l = l.order.waiting
+decreases-loop-x l = l.heap.waiting

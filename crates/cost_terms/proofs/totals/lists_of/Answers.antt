@@ -11,7 +11,8 @@ loop-list-init c = record {
 }
 
 pub terms_of-requires : goal.terms_of-requires
-terms_of-requires c = rw c.as_slice.ensures (all-weighed-at c.args.clauses.now.vars c.loop-list.clauses.vars c.args.lists.now c.loop-list.list-index
+terms_of-requires c = rw c.as_slice.ensures
+    (all-weighed-at c.args.clauses.now.vars c.loop-list.clauses.vars c.args.lists.now c.loop-list.list-index
     c.list-item.result c.loop-list.invariant.extends.grows.more (omega arith) c.list-item.is c.requires)
 
 pub returns-in_err-terms_of-clause-extends : goal.returns-in_err-terms_of-clause-extends

@@ -26,12 +26,15 @@ pub loop-one-preserved : goal.loop-one-preserved
 loop-one-preserved c =
     record {
       rest = elim c.match-branch-2.branch [
-        | in-Some+in_ok-push w ↦ term-step c.loop-one.clauses c.term_of.new.clauses c.args.weighted.now c.loop-one.one-index c.one-item.result
+        | in-Some+in_ok-push w ↦ term-step c.loop-one.clauses c.term_of.new.clauses c.args.weighted.now c.loop-one.one-index
+            c.one-item.result
             (Some w.in-Some.term) c.loop-one.terms.items c.match-branch-2.terms.items _ (omega arith) c.one-item.is
-            (rw w.in-Some.is at c.in_ok-term.ensures.built) (ap (λ t. t.items) w.terms-is ∙ w.in_ok-push.ensures.items) c.loop-one.invariant.rest
+            (rw w.in-Some.is at c.in_ok-term.ensures.built) (ap (λ t. t.items) w.terms-is ∙ w.in_ok-push.ensures.items)
+            c.loop-one.invariant.rest
         | in_default w ↦ term-step c.loop-one.clauses c.term_of.new.clauses c.args.weighted.now c.loop-one.one-index c.one-item.result
             None c.loop-one.terms.items c.match-branch-2.terms.items _ (omega arith) c.one-item.is
-            (rw w.in_default.is at c.in_ok-term.ensures.built) (ap (λ t. t.items) w.terms-is ∙ sym (append-nil c.loop-one.terms.items)) c.loop-one.invariant.rest
+            (rw w.in_default.is at c.in_ok-term.ensures.built) (ap (λ t. t.items) w.terms-is ∙ sym (append-nil c.loop-one.terms.items))
+            c.loop-one.invariant.rest
       ];
       extends = Extends-trans _ _ _ c.loop-one.invariant.extends c.term_of.ensures.extends;
     }

@@ -6,5 +6,6 @@ use Rattle.cost_vector.proofs.choices.mark.Given as goal
 
 abbrev pub invariant-loop-choice : goal.invariant-loop-choice
 invariant-loop-choice g l =
-    l.weights.items ++ map (λ c. (if list_any (λ e. e.1.deprecated) (with_text c.0 l.index) then 1 else 0, c.1)) (drop l.choice-index l.choices)
+    l.weights.items ++ map (λ c. (if list_any (λ e. e.1.deprecated) (with_text c.0 l.index) then 1 else 0, c.1))
+    (drop l.choice-index l.choices)
     ≡ map (λ c. (if list_any (λ e. e.1.deprecated) (with_text c.0 l.index) then 1 else 0, c.1)) l.choices

@@ -6,4 +6,5 @@ use Rattle.cost_vector.proofs.indexes.ranked_by_version.Goals as goal
 pub returns : goal.returns
 returns c =
     let all = rw (take_all c.loop-one.one-index c.args.ranked.now c.loop-one-test.false) at c.loop-one.invariant in
-    IfOk-weaker c.new.result _ _ (λ index same. indexes (λ r. r.row.version) c.args.ranked.now c.loop-one.entries.items index all same) c.new.ensures
+    IfOk-weaker c.new.result _ _ (λ index same. indexes (λ r. r.row.version) c.args.ranked.now c.loop-one.entries.items index all same)
+    c.new.ensures

@@ -6,4 +6,5 @@ use Rattle.cost_vector.proofs.indexes.rows_by_version.Goals as goal
 pub returns : goal.returns
 returns c =
     let all = rw (take_all c.loop-row.row-index c.args.rows.now c.loop-row-test.false) at c.loop-row.invariant in
-    IfOk-weaker c.new.result _ _ (λ index same. indexes (λ row. row.version) c.args.rows.now c.loop-row.entries.items index all same) c.new.ensures
+    IfOk-weaker c.new.result _ _ (λ index same. indexes (λ row. row.version) c.args.rows.now c.loop-row.entries.items index all same)
+    c.new.ensures

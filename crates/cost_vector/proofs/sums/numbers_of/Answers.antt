@@ -1,4 +1,4 @@
-use Rattle.cost_vector.proofs.Parts.{listed}
+use Rattle.cost_vector.proofs.Halves.{listed}
 use Rattle.cost_vector.proofs.sums.numbers_of.Goals as goal
 
 pub returns : goal.returns

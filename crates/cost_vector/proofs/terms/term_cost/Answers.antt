@@ -1,4 +1,4 @@
-use Rattle.cost_vector.proofs.Parts.{other_term, unused_term, provider_term}
+use Rattle.cost_vector.proofs.Halves.{other_term, unused_term, provider_term}
 use Rattle.cost_vector.proofs.terms.term_cost.Goals as goal
 
 pub returns-in-OtherValues : goal.returns-in-OtherValues

@@ -1,7 +1,7 @@
 use Rattle.std.proofs.Common.{◌∙◌, ap, sym}
 use Rattle.clause_circuits.specs.Trees.{halved}
 use Rattle.criteria_totals.specs.Unary.{unary_on}
-use Rattle.criteria_totals.proofs.CriteriaTotalsMergeLoops.{unary-none, unary-leaf, unary-node}
+use Rattle.criteria_totals.proofs.UnaryLoops.{unary-none, unary-leaf, unary-node}
 use Rattle.criteria_totals.proofs.unary.+unary_tree.Goals as goal
 
 pub returns-in-empty : goal.returns-in-empty

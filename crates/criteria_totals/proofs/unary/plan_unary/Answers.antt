@@ -1,4 +1,4 @@
-use Rattle.criteria_totals.proofs.CriteriaTotalsMergeLoops.{unary-built}
+use Rattle.criteria_totals.proofs.UnaryLoops.{unary-built}
 use Rattle.criteria_totals.proofs.unary.plan_unary.Goals as goal
 
 pub returns : goal.returns

@@ -13,14 +13,16 @@ pub add_demand-requires : goal.add_demand-requires
 add_demand-requires g c = record {
   gates = c.loop-id.invariant.below;
   demand = SaidBelow-le c.args.clauses.now.vars c.loop-id.clauses.vars
-      ((g.F.RuleFormulas.formulas c.args.formulas.now c.args.table.now).demand (path_words c.args.table.now c.args.paths.now) (value_at c.args.values.now) c.in-Some.asked.now)
+      ((g.F.RuleFormulas.formulas c.args.formulas.now c.args.table.now).demand (path_words c.args.table.now c.args.paths.now)
+      (value_at c.args.values.now) c.in-Some.asked.now)
       c.loop-id.invariant.more (c.requires.demands c.in-Some.asked.now);
 }
 
 pub loop-id-preserved : goal.loop-id-preserved
 loop-id-preserved g c = elim c.match-demand.branch [
   | in-Some+in_ok-add_demand-in-Some w ↦ record {
-    rest = demand_more ((g.F.RuleFormulas.formulas c.args.formulas.now c.args.table.now).demand (path_words c.args.table.now c.args.paths.now) (value_at c.args.values.now))
+    rest = demand_more ((g.F.RuleFormulas.formulas c.args.formulas.now c.args.table.now).demand
+        (path_words c.args.table.now c.args.paths.now) (value_at c.args.values.now))
         (demands c.args.problem.now) (gated c.loop-id.clauses c.loop-id.gates) (gated c.match-demand.clauses c.match-demand.gates) _
         c.loop-id.id w.in-Some.asked.now
         (sym c.demand.ensures ∙ ap (λ r. option_copied r) w.in-Some.is)

@@ -40,7 +40,8 @@ returns-clause-built g c = rules_made c.args.problem.now (g.F.RuleFormulas.formu
     (gated c.define_all_in.new.clauses c.define_all_in.new.gates) (gated c.assert_in.new.clauses c.assert_in.new.gates)
     (gated c.add_demands.new.clauses c.add_demands.new.gates)
     c.as_slice.result.now c.in_ok-values.values.items c.as_slice-2.result.now c.as_slice-3.result.now c.in_ok-rules.rules
-    c.new-gates.ensures.value (c.as_slice.ensures.value ∙ c.in_ok-conditions.ensures) c.in_ok-values.ensures.built c.as_slice-2.ensures.value
+    c.new-gates.ensures.value (c.as_slice.ensures.value ∙ c.in_ok-conditions.ensures) c.in_ok-values.ensures.built
+    c.as_slice-2.ensures.value
     c.in_ok-rules.ensures c.in_ok-assert_in.ensures.built c.as_slice-3.ensures.value c.in_ok-add_demands.ensures
 
 pub returns-clause-values : goal.returns-clause-values

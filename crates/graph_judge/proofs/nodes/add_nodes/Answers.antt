@@ -1,6 +1,6 @@
 use Rattle.graph_core.specs.declared.node.Node.{Node}
 use Rattle.graph_judge.specs.Places.{unless, keeps_at}
-use Rattle.graph_judge.proofs.Lists.{flat_step}
+use Rattle.problem.proofs.NumberLaws.{flat_step}
 use Rattle.graph_judge.proofs.nodes.add_nodes.Goals as goal
 
 pub loop-node-preserved : goal.loop-node-preserved

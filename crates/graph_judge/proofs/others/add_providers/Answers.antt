@@ -1,6 +1,6 @@
 use Rattle.graph_core.specs.Graphs.{Text}
 use Rattle.graph_judge.specs.Places.{unless, provider_test}
-use Rattle.graph_judge.proofs.Lists.{flat_step}
+use Rattle.problem.proofs.NumberLaws.{flat_step}
 use Rattle.graph_judge.proofs.others.add_providers.Goals as goal
 
 pub loop-provider-preserved : goal.loop-provider-preserved

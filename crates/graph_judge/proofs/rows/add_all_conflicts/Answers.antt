@@ -3,12 +3,12 @@ use Rattle.graph_core.specs.declared.node.Node.{Node}
 use Rattle.problem.specs.Problems.{conflicts_at}
 use Rattle.graph_rules.specs.Directives.{keeps_conflict}
 use Rattle.graph_judge.specs.Places.{row_places}
-use Rattle.graph_judge.proofs.Lists.{flat_step}
+use Rattle.problem.proofs.NumberLaws.{flat_step}
 use Rattle.graph_judge.proofs.rows.add_all_conflicts.Goals as goal
 
 pub loop-node-preserved : goal.loop-node-preserved
 loop-node-preserved g c =
-    flat_step (λ (n : Node). row_places (g.D.Demanded.asks c.args.demanded.now) (λ (r : ConflictRow). r.number)
+    flat_step (λ (n : Node). row_places (g.D.AskedDemands.asks c.args.asked.now) (λ (r : ConflictRow). r.number)
     (keeps_conflict c.args.problem.now c.args.graph.now) n (conflicts_at c.args.problem.now n.name)) c.args.nodes.now c.loop-node.node-index
     c.node-item.result _ _ _ c.loop-node-test.true c.node-item.is
     (rw (c.conflicts_at-rows.ensures, c.as_str.ensures) at c.in_ok-add_conflicts.ensures) c.loop-node.invariant

@@ -5,7 +5,7 @@ use Rattle.graph_judge.specs.Places.{rows_places}
 use Rattle.graph_judge.proofs.rows.add_all_requirements.Given as goal
 
 abbrev pub invariant-loop-node : goal.invariant-loop-node
-invariant-loop-node g l = l.places.items ++ rows_places (g.D.Demanded.asks l.demanded) (requirements_at l.problem) (λ row. row.number)
+invariant-loop-node g l = l.places.items ++ rows_places (g.D.AskedDemands.asks l.asked) (requirements_at l.problem) (λ row. row.number)
     (keeps_requirement l.problem l.graph) (drop l.node-index l.nodes) ≡ l.fn.places.items
-    ++ rows_places (g.D.Demanded.asks l.demanded) (requirements_at l.problem) (λ row. row.number)
+    ++ rows_places (g.D.AskedDemands.asks l.asked) (requirements_at l.problem) (λ row. row.number)
     (keeps_requirement l.problem l.graph) l.nodes

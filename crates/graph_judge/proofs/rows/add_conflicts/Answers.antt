@@ -1,12 +1,12 @@
 use Rattle.recipe_data.specs.declared.recipe.ConflictRow.{ConflictRow}
 use Rattle.graph_rules.specs.Directives.{keeps_conflict}
 use Rattle.graph_judge.specs.Places.{unless, keeps_row}
-use Rattle.graph_judge.proofs.Lists.{flat_step}
+use Rattle.problem.proofs.NumberLaws.{flat_step}
 use Rattle.graph_judge.proofs.rows.add_conflicts.Goals as goal
 
 pub loop-row-preserved : goal.loop-row-preserved
 loop-row-preserved g c =
-    flat_step (λ (row : ConflictRow). unless (keeps_row (g.D.Demanded.asks c.args.demanded.now) (λ (r : ConflictRow). r.number)
+    flat_step (λ (row : ConflictRow). unless (keeps_row (g.D.AskedDemands.asks c.args.asked.now) (λ (r : ConflictRow). r.number)
     (keeps_conflict c.args.problem.now c.args.graph.now) c.args.node.now row) (c.args.node.now.name, row.number)) c.args.rows.now
     c.loop-row.row-index c.row-item.result _ _ _ c.loop-row-test.true c.row-item.is
     (rw (c.as_str.ensures, c.in_ok-kept.ensures) at c.in_ok-add_unless.ensures) c.loop-row.invariant

@@ -7,5 +7,5 @@ use Rattle.graph_judge.proofs.rows.conflict_places.Goals as goal
 
 pub returns : goal.returns
 returns g c = rw (c.new-places.ensures.items, c.nodes-nodes.ensures.nodes, c.graph.ensures) at c.in_ok-add_all_conflicts.ensures
-    ∙ rows_flat (g.D.Demanded.asks c.args.demanded.now) (conflicts_at c.args.problem.now) (λ (r : ConflictRow). r.number)
+    ∙ rows_flat (g.D.AskedDemands.asks c.args.asked.now) (conflicts_at c.args.problem.now) (λ (r : ConflictRow). r.number)
     (keeps_conflict c.args.problem.now c.args.graph.now) c.args.graph.now.nodes

@@ -7,5 +7,5 @@ use Rattle.graph_judge.proofs.rows.depend_places.Goals as goal
 
 pub returns : goal.returns
 returns g c = rw (c.new-places.ensures.items, c.nodes-nodes.ensures.nodes, c.graph.ensures) at c.in_ok-add_all_depends.ensures
-    ∙ rows_flat (g.D.Demanded.asks c.args.demanded.now) (depends_at c.args.problem.now) (λ (r : DependRow). r.number)
+    ∙ rows_flat (g.D.AskedDemands.asks c.args.asked.now) (depends_at c.args.problem.now) (λ (r : DependRow). r.number)
     (depend_test c.args.constraint c.args.problem.now c.args.graph.now) c.args.graph.now.nodes

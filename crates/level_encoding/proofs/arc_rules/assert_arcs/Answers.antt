@@ -38,7 +38,8 @@ loop-arc-preserved c =
           c.loop-arc.invariant.left;
       allows =
           Allows-then _ _ _ _ _ c.loop-arc.invariant.allows c.assert_arc.ensures.allows
-          (arc-open c.args.input.now c.args.clauses.now.vars c.loop-arc.turn c.loop-arc.arc-index c.arcs-arc-items.result.now _ c.requires.right
+          (arc-open c.args.input.now c.args.clauses.now.vars c.loop-arc.turn c.loop-arc.arc-index c.arcs-arc-items.result.now _
+          c.requires.right
           c.requires.made c.loop-arc-test.true c.loop-arc.invariant.left);
     }
 

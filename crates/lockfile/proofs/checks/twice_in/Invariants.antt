@@ -4,12 +4,12 @@ use Rattle.std.specs.Ordering.{is_eq}
 use Rattle.std.specs.BTreeSet.{contains}
 use Rattle.variant_values.specs.Texts.{byte_cmp}
 use Rattle.graph_core.specs.Graphs.{Text}
-use Rattle.lockfile.specs.Faults.{twice_after}
+use Rattle.lockfile.specs.Faults.{named_after}
 use Rattle.lockfile.proofs.checks.twice_in.Given as goal
 
 abbrev pub invariant-loop-name : goal.invariant-loop-name
 invariant-loop-name l = record {
   before : List Text;
   seen : (q : Text) → contains byte_cmp l.before q ≡ list_any (λ b. is_eq (byte_cmp b q)) before;
-  left : twice_after [] l.fn.names.items ≡ twice_after before l.name-iterator.rest.items;
+  left : named_after [] l.fn.names.items ≡ named_after before l.name-iterator.rest.items;
 }

@@ -3,7 +3,8 @@ use Rattle.std.proofs.lemmas.List.{drop_all}
 use Rattle.graph_core.specs.Graphs.{ends_of, pair_cmp}
 use Rattle.lockfile.specs.Named.{HasEnds}
 use Rattle.lockfile.proofs.Adding.{ends_kept, none_left, one_less}
-use Rattle.lockfile.proofs.EdgeLaws.{all_at, drop_one}
+use Rattle.lock_writer.proofs.KnownLaws.{all_at}
+use Rattle.lockfile.proofs.EdgeLaws.{drop_one}
 use Rattle.lockfile.proofs.graph.add_edges.Goals as goal
 
 pub loop-edge-init : goal.loop-edge-init

@@ -3,7 +3,8 @@ use Rattle.std.proofs.lemmas.List.{drop_all}
 use Rattle.variant_values.specs.Texts.{byte_cmp}
 use Rattle.graph_core.specs.Graphs.{Text, HasNode, virtual_of}
 use Rattle.lockfile.proofs.Adding.{node_kept, none_left, one_less}
-use Rattle.lockfile.proofs.EdgeLaws.{all_at, drop_one}
+use Rattle.lock_writer.proofs.KnownLaws.{all_at}
+use Rattle.lockfile.proofs.EdgeLaws.{drop_one}
 use Rattle.lockfile.proofs.graph.add_providers.Goals as goal
 
 pub loop-provider-init : goal.loop-provider-init

@@ -4,7 +4,7 @@ use Rattle.proof_log.specs.declared.line.Line.TheVariants as line
 use Rattle.proof_log.specs.Lines.{learnt_in}
 use Rattle.proof_log.specs.Certificates.{IsRefutation, IsSpentLog, AreOver}
 use Rattle.clause_solver.specs.Solvers.{SolverValue, Answers}
-use Rattle.optimum_search.proofs.Settling.{searching-model, certified, first-refuted, refuted-over, first-spent, over-first, none-first, moved}
+use Rattle.optimum_search.proofs.FixingBits.{searching-model, certified, first-refuted, refuted-over, first-spent, over-first, none-first, moved}
 use Rattle.optimum_search.proofs.descent.search_by_numbers.Goals as goal
 
 pub returns-in-Refuted-clause-found : goal.returns-in-Refuted-clause-found

@@ -6,4 +6,5 @@ use Rattle.possible_closure.proofs.indexed.records_by_name.Goals as goal
 pub returns : goal.returns
 returns c =
     let all = rw (take_all c.loop-entry.entry-index c.args.records.now c.loop-entry-test.false) at c.loop-entry.invariant in
-    IfOk-weaker c.new.result _ _ (λ index same. indexes (λ entry. entry.name) c.args.records.now c.loop-entry.named.items index all same) c.new.ensures
+    IfOk-weaker c.new.result _ _ (λ index same. indexes (λ entry. entry.name) c.args.records.now c.loop-entry.named.items index all same)
+    c.new.ensures

@@ -1,7 +1,7 @@
 use Rattle.std.proofs.Common.{sym, refl, ap, ◌∙◌, List}
 use Rattle.clause_formulas.specs.declared.defined.Defined.{Defined}
 use Rattle.ranked_costs.specs.Built.{rank_costs_on}
-use Rattle.problem_formulas.specs.OfGraphClauses.ProblemClauses.{ProblemClauses}
+use Rattle.problem_formulas.specs.OfGraphEncoding.ProblemClauses.{ProblemClauses}
 use Rattle.problem_encoding.specs.Built.{order_in}
 use Rattle.problem_encoding.proofs.Same.{encoded-is}
 use Rattle.problem_encoding.proofs.encoded.with_costs.Goals as goal

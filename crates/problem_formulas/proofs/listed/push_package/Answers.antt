@@ -12,4 +12,5 @@ returns c = rw (
   c.depends_at-depends.ensures,
   c.conflicts_at-conflicts.ensures,
   c.requirements_at-requirements.ensures,
-) (package-formulas c.args.problem.now c.args.table.now (path_by c.args.table.now c.args.paths.now) c.args.name.now c.args.formulas.now.items)
+) (package-formulas c.args.problem.now c.args.table.now (path_by c.args.table.now c.args.paths.now) c.args.name.now
+    c.args.formulas.now.items)

@@ -3,9 +3,9 @@ use Rattle.clause_formulas.specs.Statements.{implies}
 use Rattle.graph_core.specs.Graphs.{Text}
 use Rattle.graph_formulas.specs.Facts.{has_origin}
 use Rattle.graph_formulas.specs.Words.{names_for}
-use Rattle.rule_formulas.specs.OfGraphFormulas.Terms.{builds}
-use Rattle.rule_formulas.specs.OfGraphFormulas.Edges.{extra_edges_rule}
-use Rattle.rule_formulas.specs.OfGraphFormulas.Laws.{children_of}
+use Rattle.graph_formulas.specs.Terms.{builds}
+use Rattle.graph_formulas.specs.Edges.{extra_edges_rule}
+use Rattle.literal_table.specs.Tables.{children_of}
 use Rattle.rule_formulas.specs.OfWordFormulas.Builders.{node_said}
 use Rattle.rule_formulas.proofs.OfWordFormulas.Steps.{ok-same, ok-is, implies-same}
 use Rattle.rule_formulas.specs.Terms.{plain_term}
@@ -19,6 +19,7 @@ returns g c =
     let name = c.args.name.now in
     let said = λ (n : Text). plain_term table condition (extra_edges_rule problem (names_for table) (children_of table n) n) in
     let built = λ (n : Text). node_said table n (has_origin builds) in
-    let rule = ok-is c.extra_edges_formula.result c.in_ok-rule.rule (said c.as_str.result.now) c.in_ok-rule.was c.extra_edges_formula.ensures ∙ ap said c.as_str.ensures in
+    let rule = ok-is c.extra_edges_formula.result c.in_ok-rule.rule (said c.as_str.result.now) c.in_ok-rule.was
+    c.extra_edges_formula.ensures ∙ ap said c.as_str.ensures in
     ok-same c.where_built.result (implies (built c.as_str-2.result.now) c.in_ok-rule.rule) (implies (built name) (said name))
     (implies-same _ _ _ _ (ap built c.as_str-2.ensures) rule) c.where_built.ensures

@@ -5,4 +5,5 @@ use Rattle.valid_models.specs.Targets.{spec_names}
 use Rattle.problem_formulas.proofs.targets.push_refused.Given as goal
 
 abbrev pub invariant-loop-row : goal.invariant-loop-row
-invariant-loop-row l = l.names.items ≡ l.initial.names.items ++ flat_map (λ row. spec_names l.world (names_for l.table) row.spec) (take l.row-index l.rows)
+invariant-loop-row l = l.names.items ≡ l.initial.names.items ++ flat_map (λ row. spec_names l.world (names_for l.table) row.spec)
+    (take l.row-index l.rows)

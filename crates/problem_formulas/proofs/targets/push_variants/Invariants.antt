@@ -5,4 +5,5 @@ use Rattle.valid_models.specs.Targets.{condition_names}
 use Rattle.problem_formulas.proofs.targets.push_variants.Given as goal
 
 abbrev pub invariant-loop-row : goal.invariant-loop-row
-invariant-loop-row l = l.names.items ≡ l.initial.names.items ++ flat_map (λ row. condition_names l.world (names_for l.table) row.when) (take l.row-index l.rows)
+invariant-loop-row l = l.names.items ≡ l.initial.names.items ++ flat_map (λ row. condition_names l.world (names_for l.table) row.when)
+    (take l.row-index l.rows)

@@ -5,4 +5,5 @@ use Rattle.ranked_costs.proofs.held.held_for.Given as goal
 
 abbrev pub invariant-loop-block : goal.invariant-loop-block
 invariant-loop-block l =
-    l.held.items ++ held_from l.fn.problem (map name_of (drop l.block-index l.fn.table.blocks)) l.rest ≡ held_for l.fn.problem l.fn.table l.fn.values
+    l.held.items ++ held_from l.fn.problem (map name_of (drop l.block-index l.fn.table.blocks)) l.rest ≡ held_for l.fn.problem
+    l.fn.table l.fn.values

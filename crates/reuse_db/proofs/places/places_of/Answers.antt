@@ -2,12 +2,13 @@ use Rattle.std.proofs.Common.{◌≡◌, sym, ap, ◌∙◌, length, take, arith
 use Rattle.std.proofs.lemmas.List.{take_all, length-take, length-map, get_or_default}
 use Rattle.reuse_db.specs.declared.record.Record.{Record}
 use Rattle.reuse_db.specs.Databases.{hashes_of, IsTwice}
-use Rattle.reuse_db.proofs.PlaceLaws.{lacks_hash, has_hash, places_more, hashes_more, twice, not_twice, none_more}
+use Rattle.reachability.proofs.TextPlaces.{lacks_text, has_text, places_more, none_more}
+use Rattle.reuse_db.proofs.PlaceLaws.{hashes_more, twice, not_twice}
 use Rattle.reuse_db.proofs.places.places_of.Goals as goal
 
 pub returns-in-Some-clause-fault : goal.returns-in-Some-clause-fault
 returns-in-Some-clause-fault c =
-    let there = has_hash _ c.loop-i.places c.loop-i.invariant.places _ _ (sym c.in-Some.ensures) in (
+    let there = has_text _ c.loop-i.places c.loop-i.invariant.places _ _ (sym c.in-Some.ensures) in (
       c.loop-i.i,
       twice _ _ _ c.loop-i-test.true c.index-records-i.is (rw c.as_str-hash.ensures at there),
       c.loop-i.invariant.once,
@@ -19,7 +20,7 @@ pub loop-i-preserved : goal.loop-i-preserved
 loop-i-preserved c =
     let names = hashes_of c.args.records.now in
     let absent = sym c.in-None.ensures in
-    let lacks = lacks_hash (take c.loop-i.i names) c.loop-i.places c.loop-i.invariant.places _ absent in
+    let lacks = lacks_text (take c.loop-i.i names) c.loop-i.places c.loop-i.invariant.places _ absent in
     let i_is : c.loop-i.i ≡ length (take c.loop-i.i names) =
     omega (arith, length-take c.loop-i.i names, length-map c.args.records.now (λ (e : Record). e.hash), c.loop-i-test.true) in
     record {

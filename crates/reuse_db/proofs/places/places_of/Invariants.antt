@@ -1,5 +1,5 @@
 use Rattle.std.proofs.Common.{ℕ, ◌<◌, take}
-use Rattle.reuse_db.specs.Places.{ArePlaces}
+use Rattle.reachability.specs.TextPlaces.{ArePlaces}
 use Rattle.reuse_db.specs.Databases.{hashes_of, IsTwice}
 use Rattle.reuse_db.proofs.places.places_of.Given as goal
 

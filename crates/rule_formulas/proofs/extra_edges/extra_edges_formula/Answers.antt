@@ -7,7 +7,7 @@ use Rattle.graph_formulas.specs.Lists.{each}
 use Rattle.graph_formulas.specs.Words.{names_for}
 use Rattle.graph_formulas.specs.Terms.{term_said}
 use Rattle.graph_formulas.specs.Edges.{extra_edge_rule}
-use Rattle.graph_formulas.specs.Laws.{children_of}
+use Rattle.literal_table.specs.Tables.{children_of}
 use Rattle.word_formulas.specs.Builders.{no_paths}
 use Rattle.word_formulas.proofs.Steps.{ok-same, each-said}
 use Rattle.rule_formulas.specs.Terms.{plain_term}

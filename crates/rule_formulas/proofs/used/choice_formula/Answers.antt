@@ -3,7 +3,7 @@ use Rattle.clause_formulas.specs.Rules.{fact, if_so}
 use Rattle.graph_formulas.specs.Facts.{provides_as}
 use Rattle.graph_formulas.specs.Terms.{known_rule}
 use Rattle.graph_formulas.specs.Edges.{used_rule}
-use Rattle.graph_formulas.specs.Laws.{names_of}
+use Rattle.literal_table.specs.Tables.{names_of}
 use Rattle.word_formulas.specs.Builders.{plain_said}
 use Rattle.word_formulas.proofs.Steps.{ok-same, ok-is, implies-same}
 use Rattle.rule_formulas.specs.Terms.{plain_term}

@@ -1,12 +1,11 @@
 use Rattle.std.proofs.Common.{rules, sym, ap, ◌∙◌, map, filter, List}
 use Rattle.clause_formulas.specs.Statements.{any_of}
 use Rattle.graph_core.specs.Graphs.{Text}
-use Rattle.literal_table.specs.Tables.{name_of}
+use Rattle.literal_table.specs.Tables.{name_of, names_of}
 use Rattle.literal_table.specs.declared.block.Block.{Block}
 use Rattle.graph_formulas.specs.Lists.{some}
 use Rattle.graph_formulas.specs.Terms.{term_said}
 use Rattle.graph_formulas.specs.Edges.{may_use, use_rule}
-use Rattle.graph_formulas.specs.Laws.{names_of}
 use Rattle.word_formulas.specs.Builders.{no_paths}
 use Rattle.word_formulas.proofs.Steps.{ok-same, some-said}
 use Rattle.rule_formulas.specs.Terms.{plain_term}

@@ -7,7 +7,7 @@ use Rattle.virtuals.specs.Virtuals.{is_virtual}
 use Rattle.graph_formulas.specs.Lists.{some}
 use Rattle.graph_formulas.specs.Terms.{term_said}
 use Rattle.graph_formulas.specs.Edges.{may_use, use_rule, used_rule}
-use Rattle.graph_formulas.specs.Laws.{names_of}
+use Rattle.literal_table.specs.Tables.{names_of}
 use Rattle.word_formulas.specs.Builders.{no_paths, given_said}
 use Rattle.word_formulas.proofs.Steps.{ok-same, ok-is, given-said, both-same}
 use Rattle.rule_formulas.specs.Terms.{plain_term}

@@ -3,12 +3,11 @@ use Rattle.clause_formulas.specs.Statements.{all_of}
 use Rattle.clause_formulas.specs.Rules.{fact, if_so}
 use Rattle.clause_store.specs.declared.Lit.{Lit}
 use Rattle.graph_core.specs.Graphs.{Text}
-use Rattle.literal_table.specs.Tables.{packages_of}
+use Rattle.literal_table.specs.Tables.{packages_of, names_of}
 use Rattle.graph_formulas.specs.Facts.{provides_as}
 use Rattle.graph_formulas.specs.Words.{names_for}
 use Rattle.graph_formulas.specs.Terms.{term_said, known_rule}
 use Rattle.graph_formulas.specs.Edges.{used_rule, of_provider}
-use Rattle.graph_formulas.specs.Laws.{names_of}
 use Rattle.word_formulas.specs.Builders.{no_paths}
 use Rattle.word_formulas.proofs.Steps.{ok-same, each-said}
 use Rattle.rule_formulas.specs.Terms.{plain_term}

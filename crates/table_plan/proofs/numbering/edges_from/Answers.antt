@@ -19,4 +19,9 @@ loop-pair-preserved c = record {
 
 pub returns-clause-next : goal.returns-clause-next
 returns-clause-next c =
-    omega (arith, rw (take_all c.loop-pair.pair-index c.args.pairs.now c.loop-pair-test.false) at c.loop-pair.invariant.next, threes c.args.pairs.now)
+    omega (
+      arith,
+      rw (take_all c.loop-pair.pair-index c.args.pairs.now c.loop-pair-test.false) at c.loop-pair.invariant.next,
+      threes
+          c.args.pairs.now,
+    )

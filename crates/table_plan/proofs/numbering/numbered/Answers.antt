@@ -7,7 +7,8 @@ use Rattle.table_plan.proofs.numbering.numbered.Goals as goal
 pub loop-item-preserved : goal.loop-item-preserved
 loop-item-preserved g c = record {
   choices = rw (c.in_ok-push.ensures.ok, c.in_ok-duplicate.ensures, c.in_ok-lit.ensures.lit, c.loop-item.invariant.choices)
-      (run_next (λ m x. (x, lit_of m)) (λ x. 1) c.args.items.now c.loop-item.item-index c.item-item.result c.loop-item-test.true c.item-item.is
+      (run_next (λ m x. (x, lit_of m)) (λ x. 1) c.args.items.now c.loop-item.item-index c.item-item.result c.loop-item-test.true
+      c.item-item.is
       c.args.next.now c.loop-item.next c.loop-item.invariant.next);
   next = omega (
     arith,
@@ -19,4 +20,9 @@ loop-item-preserved g c = record {
 
 pub returns-clause-next : goal.returns-clause-next
 returns-clause-next g c =
-    omega (arith, rw (take_all c.loop-item.item-index c.args.items.now c.loop-item-test.false) at c.loop-item.invariant.next, ones c.args.items.now)
+    omega (
+      arith,
+      rw (take_all c.loop-item.item-index c.args.items.now c.loop-item-test.false) at c.loop-item.invariant.next,
+      ones
+          c.args.items.now,
+    )

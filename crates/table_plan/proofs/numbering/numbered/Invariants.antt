@@ -3,4 +3,7 @@ use Rattle.table_plan.specs.Numbers.{numbered, total}
 use Rattle.table_plan.proofs.numbering.numbered.Given as goal
 
 abbrev pub invariant-loop-item : goal.invariant-loop-item
-invariant-loop-item g l = record { choices : l.choices ≡ numbered l.initial.next (take l.item-index l.items); next : l.next ≡ l.initial.next + total (λ x. 1) (take l.item-index l.items) }
+invariant-loop-item g l = record {
+  choices : l.choices ≡ numbered l.initial.next (take l.item-index l.items);
+  next : l.next ≡ l.initial.next + total (λ x. 1) (take l.item-index l.items);
+}

@@ -12,6 +12,7 @@ loop-asked-preserved c = record {
     arith,
     c.in_ok-provider.ensures.next,
     c.loop-asked.invariant.next,
-    total_more provider_from (λ w. length w.1) c.args.virtuals.now c.loop-asked.asked-index c.asked-item.result c.loop-asked-test.true c.asked-item.is,
+    total_more provider_from (λ w. length w.1) c.args.virtuals.now c.loop-asked.asked-index c.asked-item.result c.loop-asked-test.true
+        c.asked-item.is,
   );
 }

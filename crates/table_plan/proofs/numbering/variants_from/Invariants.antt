@@ -3,4 +3,7 @@ use Rattle.table_plan.specs.Numbers.{variants_from, values_in}
 use Rattle.table_plan.proofs.numbering.variants_from.Given as goal
 
 abbrev pub invariant-loop-variant : goal.invariant-loop-variant
-invariant-loop-variant l = record { made : l.made ≡ variants_from l.initial.next (take l.variant-index l.variants); next : l.next ≡ l.initial.next + values_in (take l.variant-index l.variants) }
+invariant-loop-variant l = record {
+  made : l.made ≡ variants_from l.initial.next (take l.variant-index l.variants);
+  next : l.next ≡ l.initial.next + values_in (take l.variant-index l.variants);
+}

@@ -7,6 +7,8 @@ use Rattle.term_builder.proofs.assembly.number_terms.Given as goal
 
 abbrev pub invariant-loop-name : goal.invariant-loop-name
 invariant-loop-name l =
-    l.terms.items ++ flat_map (λ name. part_terms l.built (criterion_terms l.fn.problem l.fn.table (held_in l.fn.held) l.criterion) (block_of l.fn.table name))
+    l.terms.items ++ flat_map (λ name. part_terms l.built (criterion_terms l.fn.problem l.fn.table (held_in l.fn.held) l.criterion)
+    (block_of l.fn.table name))
     (drop l.name-index l.fn.order)
-    ≡ flat_map (λ name. part_terms l.built (criterion_terms l.fn.problem l.fn.table (held_in l.fn.held) l.criterion) (block_of l.fn.table name)) l.fn.order
+    ≡ flat_map (λ name. part_terms l.built (criterion_terms l.fn.problem l.fn.table (held_in l.fn.held) l.criterion)
+    (block_of l.fn.table name)) l.fn.order

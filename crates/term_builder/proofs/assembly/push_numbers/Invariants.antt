@@ -6,7 +6,9 @@ use Rattle.term_builder.proofs.assembly.push_numbers.Given as goal
 
 abbrev pub invariant-loop-criterion : goal.invariant-loop-criterion
 invariant-loop-criterion l =
-    l.lists.items ++ map (λ criterion. number_terms l.built l.fn.table l.fn.order (criterion_terms l.fn.problem l.fn.table (held_in l.fn.held) criterion))
+    l.lists.items ++ map (λ criterion. number_terms l.built l.fn.table l.fn.order
+    (criterion_terms l.fn.problem l.fn.table (held_in l.fn.held) criterion))
     (drop l.criterion-index l.fn.criteria)
-    ≡ l.fn.lists.items ++ map (λ criterion. number_terms l.built l.fn.table l.fn.order (criterion_terms l.fn.problem l.fn.table (held_in l.fn.held) criterion))
+    ≡ l.fn.lists.items ++ map (λ criterion. number_terms l.built l.fn.table l.fn.order
+    (criterion_terms l.fn.problem l.fn.table (held_in l.fn.held) criterion))
     l.fn.criteria

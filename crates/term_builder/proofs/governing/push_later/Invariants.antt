@@ -1,6 +1,6 @@
 use Rattle.std.proofs.Common.{◌≡◌, ◌++◌, map, drop}
 use Rattle.clause_formulas.specs.Drafts.{said_of}
-use Rattle.term_builder.specs.VariantBuilderRows.{later}
+use Rattle.term_builder.specs.VariantTerms.{later}
 use Rattle.term_builder.proofs.governing.push_later.Given as goal
 
 abbrev pub invariant-loop-row : goal.invariant-loop-row

@@ -1,5 +1,0 @@
-use Rattle.cost_terms.proofs.Whole.{vector-is, held-said}
-use Rattle.cost_terms.proofs.cost_terms_theorems.cost_laws.Goals as goal
-
-pub returns : goal.returns
-returns c = record { vector = vector-is; held = held-said }

@@ -1,5 +1,0 @@
-use Rattle.cost_terms.proofs.DifferLaws.{differ-none, differ-some}
-use Rattle.cost_terms.proofs.theorems.differ_laws.Goals as goal
-
-pub returns : goal.returns
-returns g c = record { none = differ-none; some = differ-some }

@@ -1,5 +1,0 @@
-use Rattle.cost_terms.proofs.SpreadLaws.{spread-sum}
-use Rattle.cost_terms.proofs.theorems.spread_laws.Goals as goal
-
-pub returns : goal.returns
-returns c = record { sum = spread-sum }

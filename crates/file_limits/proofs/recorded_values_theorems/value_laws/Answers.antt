@@ -1,5 +1,0 @@
-use Rattle.file_limits.proofs.ValueLaws.{database_valued}
-use Rattle.file_limits.proofs.recorded_values_theorems.value_laws.Goals as goal
-
-pub returns : goal.returns
-returns c = database_valued

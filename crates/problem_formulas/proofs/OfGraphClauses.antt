@@ -1,2 +1,0 @@
--- What is passed on of `graph_clauses`, so that the crates above need not name it.
-pub use Rattle.graph_encoding.proofs.CallSteps

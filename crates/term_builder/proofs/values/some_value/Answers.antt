@@ -1,5 +1,0 @@
-use Rattle.std.proofs.Common.{rules, true}
-use Rattle.term_builder.proofs.values.some_value.Goals as goal
-
-pub returns : goal.returns
-returns c = c.any_choice.ensures (λ value. true) (λ x b told. search rules)

@@ -1,6 +1,0 @@
-use Rattle.std.proofs.Common.{rules}
-use Rattle.std.specs.Str.{bytes_eq}
-use Rattle.term_builder.proofs.values.text_said.Goals as goal
-
-pub returns : goal.returns
-returns c = c.any_choice.ensures (bytes_eq c.args.text.now) (λ x b told. search rules)

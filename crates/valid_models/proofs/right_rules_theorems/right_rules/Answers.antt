@@ -1,5 +1,0 @@
-use Rattle.valid_models.proofs.Right.{rules-right}
-use Rattle.valid_models.proofs.right_rules_theorems.right_rules.Goals as goal
-
-pub returns : goal.returns
-returns c = rules-right

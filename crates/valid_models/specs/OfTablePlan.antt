@@ -1,4 +1,0 @@
--- What is passed on of `table_plan`, so that the crates above need not name it.
-pub use Rattle.table_plan.specs.Gathering
-pub use Rattle.table_plan.specs.Kept
-pub use Rattle.table_plan.specs.Plans
