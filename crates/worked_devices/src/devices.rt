@@ -170,8 +170,8 @@ fn failing_desk(alloc: Global, calls: &[u64], late: &[u64]) -> Result<MemoryDesk
     Ok(desk)
 }
 
-/// The calls that fail, and those that fail late; whether the reading, the listing and the put fail; the counts of failed
-/// readings and puts; what is left of the file.
+/// The calls that fail, and those that fail late; whether the reading, the listing and the put
+/// fail; the counts of failed readings and puts; what is left of the file.
 type CallRow = (
     &'static [u64],
     &'static [u64],
@@ -427,8 +427,8 @@ impl<'a> io::Write for SlowWriter<'a> {
 
 const FAILED: Result<(), SinkFault> = Err(SinkFault::Failed);
 
-/// The calls of the writer that is interrupted and of the one that takes nothing, what sayings of `abcd`
-/// and of `efgh` answer, and what the writer got.
+/// The calls of the writer that is interrupted and of the one that takes nothing, what sayings of
+/// `abcd` and of `efgh` answer, and what the writer got.
 type SlowRow = (
     u32,
     u32,

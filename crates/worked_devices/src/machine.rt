@@ -126,7 +126,8 @@ fn links_of_the_machine(rt: HostRuntime) -> Result<(), Fail> {
     Ok(())
 }
 
-/// Two paths, and whether a put to them is to one file: `ids/a` and its hard link `ids/b` stand, and `ids/none` does not.
+/// Two paths, and whether a put to them is to one file: `ids/a` and its hard link `ids/b` stand,
+/// and `ids/none` does not.
 const IDS: &[(&str, &str, bool)] = &[
     ("ids/a", "ids/a", true),
     ("ids/a", "./ids/../ids/a", true),
@@ -158,7 +159,8 @@ fn files_of_the_machine_are_told_apart(rt: HostRuntime) -> Result<(), Fail> {
     Ok(())
 }
 
-/// Names that other runs took, or left when they were killed, are passed over and stay; a put that fails leaves nothing.
+/// Names that other runs took, or left when they were killed, are passed over and stay; a put that
+/// fails leaves nothing.
 #[test]
 fn names_beside_a_file_of_the_machine(rt: HostRuntime) -> Result<(), Fail> {
     let alloc = rt.alloc();
