@@ -6,7 +6,9 @@
 #![tactic(auto)]
 
 #[cfg(test)]
-mod devices;
+mod desks;
+#[cfg(test)]
+mod faults;
 #[cfg(test)]
 mod machine;
 #[cfg(test)]
@@ -15,3 +17,7 @@ mod one_byte_desk;
 mod plain;
 #[cfg(test)]
 mod same;
+#[cfg(test)]
+mod sinks;
+#[cfg(test)]
+mod whole_files;

@@ -1,6 +1,7 @@
 // The desk of the machine, in folders below the one that the tests run in.
-use crate::devices::{PIECES, check_list, check_piece, check_whole};
+use crate::desks::{PIECES, check_list, check_piece};
 use crate::same::check_same;
+use crate::whole_files::check_whole;
 use outside_desk::{Desk, DeskFault, ReadFault, RealDesk, file_id};
 use std::alloc::Global;
 use std::fs;
