@@ -1,9 +1,10 @@
-//! `check_log VALUES VARS BITS.. 0 CLAUSES.. | TEXT`: what the checkers answer to a text over these clauses and bits.
+//! `check_log VALUES VARS BITS.. 0 CLAUSES.. | TEXT`: what the checkers answer to a text over these
+//! clauses and bits.
 //!
-//! VALUES are the bits' values, each 0 or 1, after `=`; or `-` for a refutation. TEXT is that of a log, its
-//! words parted by white space and each of its lines ended by a word `/`. It is read in one piece and in
-//! pieces of one byte; its lines, where none is bad, are checked in turn, in blocks of 1, 2 and 1,024, and as
-//! a whole. The answer is one where all are the same.
+//! VALUES are the bits' values, each 0 or 1, after `=`; or `-` for a refutation. TEXT is that of a
+//! log, its words parted by white space and each of its lines ended by a word `/`. It is read in
+//! one piece and in pieces of one byte; its lines, where none is bad, are checked in turn, in
+//! blocks of 1, 2 and 1,024, and as a whole. The answer is one where all are the same.
 
 ghost use Rattle.std.specs.Prelude.{◌<◌};
 
@@ -16,7 +17,8 @@ use proof_log::{Line, Reader};
 use std::alloc::{AllocError, Global};
 use std::thread::Threads;
 
-/// What a log speaks of: a certificate of the values of the bits, or a refutation where there are none.
+/// What a log speaks of: a certificate of the values of the bits, or a refutation where there are
+/// none.
 #[derive(Drop)]
 struct Case {
     clauses: ClauseList,
