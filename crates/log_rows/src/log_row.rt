@@ -17,6 +17,12 @@ use proof_log::{Line, Reader};
 use std::alloc::{AllocError, Global};
 use std::thread::Threads;
 
+/// How many bytes a text is read in at once.
+const PIECE: usize = 65_536;
+
+/// How many lines are checked at once.
+const BLOCK: usize = 1024;
+
 /// What a log speaks of: a certificate of the values of the bits, or a refutation where there are
 /// none.
 #[derive(Drop)]
@@ -59,7 +65,7 @@ pub fn answer<R: Threads + Sync>(
     };
     let text = text_of_words(alloc, text)?;
     let mut answers = Vec::new(alloc);
-    answers.push(in_pieces(rt, alloc, &case, &text, 65_536)?)?;
+    answers.push(in_pieces(rt, alloc, &case, &text, PIECE)?)?;
     answers.push(in_pieces(rt, alloc, &case, &text, 1)?)?;
     let mut reader = Reader::new(alloc);
     let mut lines = Vec::new(alloc);
@@ -99,7 +105,7 @@ fn of_lines<R: Threads + Sync>(
     answers.push(in_turn(alloc, case, lines)?)?;
     answers.push(in_blocks(rt, alloc, case, lines, 1)?)?;
     answers.push(in_blocks(rt, alloc, case, lines, 2)?)?;
-    answers.push(in_blocks(rt, alloc, case, lines, 1024)?)?;
+    answers.push(in_blocks(rt, alloc, case, lines, BLOCK)?)?;
     let step = whole(rt, alloc, case, lines)?;
     answers.push(step_text(alloc, step)?)?;
     Ok(())
