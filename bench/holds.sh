@@ -14,22 +14,22 @@ rt="$(command -v rt || echo /opt/rattle/bin/rt)"
 work="$(mktemp -d)"
 trap 'rm -rf "$work"' EXIT
 
-crates="plain_data spec_hash variant_values version_order spec_grammar reachability keyed_lists target_table graph_core conditions virtuals condition_rules site_settings"
+crates="plain_data spec_hash variant_values version_order spec_grammar reachability keyed_lists target_table graph_core recipe_data virtuals condition_rules site_settings"
 mkdir -p "$work/crates/holds_bench/src"
 cp "$top/HANDLES" "$work/"
 for name in $crates; do
     cp -r "$top/crates/$name" "$work/crates/"
     grep "^$name:" "$top/crates.txt" >>"$work/crates.txt"
 done
-echo "holds_bench: plain_data version_order spec_grammar graph_core conditions virtuals condition_rules site_settings anyhow" >>"$work/crates.txt"
+echo "holds_bench: plain_data version_order spec_grammar graph_core recipe_data virtuals condition_rules site_settings anyhow" >>"$work/crates.txt"
 cat >"$work/crates/holds_bench/src/main.rt" <<'PROGRAM'
 //! Times of conditions in graphs.
 #![tactic(auto)]
 
 use condition_rules::{Paths, World, holds};
-use conditions::Recipe;
 use graph_core::{Edge, Graph, Kinds, Node, Origin};
 use plain_data::{List, Word};
+use recipe_data::Recipe;
 use site_settings::Settings;
 use spec_grammar::{Spec, read_condition};
 use std::alloc::{AllocError, Global};

@@ -1,13 +1,14 @@
-//! Rows of JSON: what settings, records, databases and lock files are read as, compared with tables.
+//! Rows of JSON: what settings, records, databases and lock files are read as, compared with
+//! tables.
 //!
-//! Without words it goes over the tables that lie where it runs, and prints each row that differs and
-//! how many there are. With words the first says what is answered of each file that the others name, a
-//! line each: `settings` what it is read as, `settings_fault` the same, but of settings only that they are
-//! some; `database` what it is read as; `lock` how many nodes it has; `again` whether it is written as it
-//! was read.
+//! Without words it goes over the tables that lie where it runs, and prints each row that differs
+//! and how many there are. With words the first says what is answered of each file that the others
+//! name, a line each: `settings` what it is read as, `settings_fault` the same, but of settings
+//! only that they are some; `database` what it is read as; `lock` how many nodes it has; `again`
+//! whether it is written as it was read.
 //! The answers in the tables come from the rules, never from what the crates answer.
-//! It stands on `settings_reader`, `record_reader`, `lockfile` and `lock_writer`, and on what these read
-//! and write. Nothing stands on it.
+//! It stands on `settings_reader`, `record_reader`, `lockfile` and `lock_writer`, and on what these
+//! read and write. Nothing stands on it.
 #![tactic(auto)]
 
 mod locks;

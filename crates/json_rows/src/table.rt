@@ -1,9 +1,10 @@
 //! A table: its rows, one after the other.
 //!
-//! A row is a line with a letter and a text, and then a line `= ANSWER`. The letters: `S` settings, `C` a record,
-//! `D` a list of records, `B` a whole database, `L` a lock file, `W` alone: the last lock file, written again
-//! with the last list of records; `N` alone: the lock file of no node, written and read again. The word
-//! `standard` alone: the standard settings. A line that begins with `#` is a comment.
+//! A row is a line with a letter and a text, and then a line `= ANSWER`. The letters: `S` settings,
+//! `C` a record, `D` a list of records, `B` a whole database, `L` a lock file, `W` alone: the last
+//! lock file, written again with the last list of records; `N` alone: the lock file of no node,
+//! written and read again. The word `standard` alone: the standard settings. A line that begins
+//! with `#` is a comment.
 
 use crate::locks::{
     Kept, database_answer, file_answer, lock_answer, record_answer, written_answer,

@@ -8,7 +8,7 @@ use Rattle.std.proofs.lemmas.Bool.{false≢true, le-ltb, and_parts, and_from, or
 use Rattle.std.proofs.lemmas.Bool.Decides.{eqb_tells}
 use Rattle.std.proofs.lemmas.Option.{none-some, same_Some, slice_get_past, slice_get_cases}
 use Rattle.std.proofs.lemmas.List.{drop_more, length-set}
-use Rattle.log_checker.specs.Signs.{marked, sign_above, sign_of, SignMap, with_sign, is_clear, are_clear, is_listed, AreTouched, IsAbove}
+use Rattle.log_checker.specs.Signs.{marked, sign_above, sign_of, SignMap, with_sign, with_touched, is_clear, are_clear, is_listed, AreTouched, IsAbove}
 use Rattle.log_checker.proofs.Buckets.{get-set-same, get-set-other}
 
 is_eq-nat_cmp : (a b : ℕ) → is_eq (nat_cmp a b) ≡ eqb a b
@@ -63,11 +63,15 @@ listed-last : (xs : List ℕ) (k x : ℕ) → eqb k x ≡ true → is_listed (xs
 listed-last [] k x h = or_left (eqb k x) false h
 listed-last (y ∷ ys) k x h = or_right (eqb y x) (is_listed (ys ++ k ∷ []) x) (listed-last ys k x h)
 
-pub touched-put : (marks : List (Option Bool)) (xs : List ℕ) (k : ℕ) (w : Option Bool) → AreTouched marks xs
-    → AreTouched (slice_set marks k w) (xs ++ k ∷ [])
-touched-put marks xs k w a x v e = elim (eqb_tells k x) [
+pub touched-put : (marks : List (Option Bool)) (xs : List ℕ) (k : ℕ) (m w : Option Bool) → slice_get marks k ≡ Some m
+    → AreTouched marks xs → AreTouched (slice_set marks k w) (with_touched m xs k)
+touched-put marks xs k None w g a x v e = elim (eqb_tells k x) [
   | inl q ↦ listed-last xs k x q.0
   | inr q ↦ listed-push xs k x (a x v (sym (get-set-other marks k x w q.1) ∙ e))
+]
+touched-put marks xs k (Some u) w g a x v e = elim (eqb_tells k x) [
+  | inl q ↦ subst (λ z. is_listed xs z ≡ true) q.1 (a k u g)
+  | inr q ↦ a x v (sym (get-set-other marks k x w q.1) ∙ e)
 ]
 
 cut-apart : (marks : List (Option Bool)) (k x : ℕ) (v : Bool) → k < length marks → slice_get (slice_set marks k None) x ≡ Some (Some v)

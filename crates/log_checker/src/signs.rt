@@ -1,6 +1,6 @@
 //! The signs of variables.
-ghost use Rattle.std.specs.Prelude.{◌≡◌, ◌↔◌, ℕ, Bool, Some, None, length, slice_get, OnOk, IfOk, IsTrue};
-ghost use Rattle.log_checker.specs.Signs.{sign_of, with_sign, is_clear, are_clear, AreTouched};
+ghost use Rattle.std.specs.Prelude.{◌≡◌, ◌↔◌, ℕ, Bool, Some, None, length, slice_get, OnOk, OnErr, IfOk, IsTrue};
+ghost use Rattle.log_checker.specs.Signs.{sign_of, with_sign, with_touched, is_clear, are_clear, AreTouched};
 
 use std::alloc::{AllocError, Global};
 use std::collections::BTreeMap;
@@ -58,7 +58,7 @@ impl Signs {
     {
         let place = var as usize;
         if place < self.marks.len() {
-            self.touched.push(var)?;
+            touch(&mut self.touched, self.marks[place], var)?;
             self.marks[place] = Some(sign);
         } else {
             self.above.insert(var, sign)?;
@@ -93,6 +93,18 @@ impl Signs {
         clear_all(&mut self.marks, self.touched.as_slice());
         self.touched.clear();
     }
+}
+
+/// Notes that a variable is about to have a sign. One that has a sign already was noted before: so there are no more
+/// notes than signs that were taken and variables that have one.
+fn touch(touched: &mut Vec<u64>, mark: Option<bool>, var: u64) -> Result<(), AllocError>
+    ensures ok { OnOk result (touched.new.items ≡ with_touched mark touched.old.items var) }
+    ensures err { OnErr result (touched.new.items ≡ touched.old.items) }
+{
+    if mark.is_none() {
+        touched.push(var)?;
+    }
+    Ok(())
 }
 
 fn is_clear(marks: &[Option<bool>], var: u64) -> bool

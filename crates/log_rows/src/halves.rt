@@ -1,4 +1,5 @@
-//! `halves`: whether the two halves of a block run beside each other, and which places each tells its gate.
+//! `halves`: whether the two halves of a block run beside each other, and which places each tells
+//! its gate.
 use clause_store::{ClauseList, Lit};
 use log_checker::{Checker, Gate, Step};
 use proof_log::Line;

@@ -25,7 +25,8 @@ pub fn lit_of(word: &str, vars: u64) -> Option<Lit>
     })
 }
 
-/// A list over so many variables, with the clauses of these words, each a demand that is its place from 0.
+/// A list over so many variables, with the clauses of these words, each a demand that is its place
+/// from 0.
 /// A clause with a literal out of range or with both signs of a variable is left out.
 pub fn clauses_of(alloc: Global, vars: u64, words: &[&str]) -> Result<ClauseList, AllocError> {
     let mut clauses = ClauseList::new(alloc);
@@ -107,7 +108,8 @@ pub fn bits_of_word(alloc: Global, word: &str) -> Result<Option<Vec<bool>>, Allo
     }
 }
 
-/// The words after a first one, parted by spaces. A word `/` is a line feed, and `_` a space of its own.
+/// The words after a first one, parted by spaces. A word `/` is a line feed, and `_` a space of its
+/// own.
 pub fn text_of_words(alloc: Global, words: &[&str]) -> Result<Vec<u8>, AllocError> {
     let mut text = Vec::new(alloc);
     let mut is_first = true;

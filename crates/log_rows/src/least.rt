@@ -1,5 +1,6 @@
-//! `search BUDGET VARS BITS.. 0 CLAUSES..`: the least bits; `numbers BUDGET VARS ENDS.. 0 PARTS.. 0 BITS.. 0 CLAUSES..`: the
-//! same where the bits spell numbers that end before these places, each with these parts; `within` and the same words: only
+//! `search BUDGET VARS BITS.. 0 CLAUSES..`: the least bits;
+//! `numbers BUDGET VARS ENDS.. 0 PARTS.. 0 BITS.. 0 CLAUSES..`: the same where the bits spell
+//! numbers that end before these places, each with these parts; `within` and the same words: only
 //! what was found, so that these rows show how much a search has to learn.
 use crate::input::{are_below, clauses_of, lits_of, number_of, places_of};
 use crate::output::{push_line, push_log, push_model, said_no};
@@ -36,8 +37,8 @@ pub fn answer_numbers(
     }
 }
 
-/// Which of the three `search_by_numbers` finds. The log is left out: a row holds whatever is learnt, as long as it is
-/// within the budget.
+/// Which of the three `search_by_numbers` finds. The log is left out: a row holds whatever is
+/// learnt, as long as it is within the budget.
 pub fn answer_within(
     alloc: Global,
     budget: &str,

@@ -1,9 +1,10 @@
-//! `check_log VALUES VARS BITS.. 0 CLAUSES.. | TEXT`: what the checkers answer to a text over these clauses and bits.
+//! `check_log VALUES VARS BITS.. 0 CLAUSES.. | TEXT`: what the checkers answer to a text over these
+//! clauses and bits.
 //!
-//! VALUES are the bits' values, each 0 or 1, after `=`; or `-` for a refutation. TEXT is that of a log, its
-//! words parted by white space and each of its lines ended by a word `/`. It is read in one piece and in
-//! pieces of one byte; its lines, where none is bad, are checked in turn, in blocks of 1, 2 and 1,024, and as
-//! a whole. The answer is one where all are the same.
+//! VALUES are the bits' values, each 0 or 1, after `=`; or `-` for a refutation. TEXT is that of a
+//! log, its words parted by white space and each of its lines ended by a word `/`. It is read in
+//! one piece and in pieces of one byte; its lines, where none is bad, are checked in turn, in
+//! blocks of 1, 2 and 1,024, and as a whole. The answer is one where all are the same.
 
 ghost use Rattle.std.specs.Prelude.{◌<◌};
 
@@ -16,7 +17,14 @@ use proof_log::{Line, Reader};
 use std::alloc::{AllocError, Global};
 use std::thread::Threads;
 
-/// What a log speaks of: a certificate of the values of the bits, or a refutation where there are none.
+/// How many bytes a text is read in at once.
+const PIECE: usize = 65_536;
+
+/// How many lines are checked at once.
+const BLOCK: usize = 1024;
+
+/// What a log speaks of: a certificate of the values of the bits, or a refutation where there are
+/// none.
 #[derive(Drop)]
 struct Case {
     clauses: ClauseList,
@@ -57,7 +65,7 @@ pub fn answer<R: Threads + Sync>(
     };
     let text = text_of_words(alloc, text)?;
     let mut answers = Vec::new(alloc);
-    answers.push(in_pieces(rt, alloc, &case, &text, 65_536)?)?;
+    answers.push(in_pieces(rt, alloc, &case, &text, PIECE)?)?;
     answers.push(in_pieces(rt, alloc, &case, &text, 1)?)?;
     let mut reader = Reader::new(alloc);
     let mut lines = Vec::new(alloc);
@@ -97,7 +105,7 @@ fn of_lines<R: Threads + Sync>(
     answers.push(in_turn(alloc, case, lines)?)?;
     answers.push(in_blocks(rt, alloc, case, lines, 1)?)?;
     answers.push(in_blocks(rt, alloc, case, lines, 2)?)?;
-    answers.push(in_blocks(rt, alloc, case, lines, 1024)?)?;
+    answers.push(in_blocks(rt, alloc, case, lines, BLOCK)?)?;
     let step = whole(rt, alloc, case, lines)?;
     answers.push(step_text(alloc, step)?)?;
     Ok(())

@@ -1,4 +1,5 @@
-//! `log PIECE VARS BITS.. 0 CLAUSES..`: the log of a search, written, and read again in pieces of so many bytes.
+//! `log PIECE VARS BITS.. 0 CLAUSES..`: the log of a search, written, and read again in pieces of
+//! so many bytes.
 ghost use Rattle.std.specs.Prelude.{◌≡◌, ◌<◌, true};
 ghost use Rattle.proof_log.specs.Lines.{AllLines};
 ghost use Rattle.proof_log.specs.Texts.{may_write};
@@ -12,8 +13,8 @@ use std::alloc::{AllocError, Global};
 /// How many clauses the search may learn.
 const BUDGET: u64 = 1000;
 
-/// The lines that a reader gives and that `read_line` reads; then whether the reader stands at the begin of a line, or
-/// the line that it refuses.
+/// The lines that a reader gives and that `read_line` reads; then whether the reader stands at the
+/// begin of a line, or the line that it refuses.
 pub fn answer(
     alloc: Global,
     piece: &str,

@@ -1,9 +1,9 @@
-//! Answers rows of clauses and of logs: for each line, what the calls of the search and of the checkers
-//! answer.
+//! Answers rows of clauses and of logs: for each line, what the calls of the search and of the
+//! checkers answer.
 //!
-//! A line is a command and its words, where a literal is a number from 1 on, or its negative, and 0 ends
-//! a list. Each answer has a line of its own and then the log, if there is one; the answers are told apart
-//! by a line `--`. The commands stand at the functions that answer them.
+//! A line is a command and its words, where a literal is a number from 1 on, or its negative, and 0
+//! ends a list. Each answer has a line of its own and then the log, if there is one; the answers
+//! are told apart by a line `--`. The commands stand at the functions that answer them.
 //! The answers in `stdout` come from the rules, never from what the crates answer.
 #![tactic(auto)]
 

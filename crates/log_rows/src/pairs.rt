@@ -9,7 +9,8 @@ use clause_store::{ClauseList, Lit};
 use clause_watch::Watch;
 use std::alloc::{AllocError, Global};
 
-/// What is true after the decision, how many clauses were looked at since, and who watches the literal and its negation.
+/// What is true after the decision, how many clauses were looked at since, and who watches the
+/// literal and its negation.
 pub fn answer(alloc: Global, count: &str, word: &str) -> Result<Vec<u8>, AllocError> {
     let clauses = pairs(alloc, number_of(count))?;
     let mut watch = Watch::new(alloc, &clauses)?;

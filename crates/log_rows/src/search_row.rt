@@ -1,5 +1,5 @@
-//! `check_search BUDGET VARS BITS.. 0 CLAUSES..`: what the checkers answer to the log that a search writes. Each
-//! clause is a demand, numbered from 0; a refutation is answered with its reasons.
+//! `check_search BUDGET VARS BITS.. 0 CLAUSES..`: what the checkers answer to the log that a search
+//! writes. Each clause is a demand, numbered from 0; a refutation is answered with its reasons.
 
 use crate::answers::{joined, step_text, text_answer};
 use crate::input::{are_below, clauses_of, lits_of, number_of};

@@ -10,8 +10,9 @@ use clause_solver::{Outcome, Solver};
 use clause_store::{ClauseList, Lit};
 use std::alloc::{AllocError, Global};
 
-/// What `solve` answers without assumption; then, after a model, for the first bit assumed to be 0; and after a model
-/// again `fix` of that bit. Each with how many clauses were learnt, and the log at the end.
+/// What `solve` answers without assumption; then, after a model, for the first bit assumed to be 0;
+/// and after a model again `fix` of that bit. Each with how many clauses were learnt, and the log
+/// at the end.
 pub fn answer(
     alloc: Global,
     budget: &str,

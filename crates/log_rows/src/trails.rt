@@ -5,7 +5,8 @@ use clause_store::Lit;
 use clause_watch::Watch;
 use std::alloc::{AllocError, Global};
 
-/// What is true after each decision in turn, up to the first false clause, and what is left after the way back.
+/// What is true after each decision in turn, up to the first false clause, and what is left after
+/// the way back.
 pub fn answer(alloc: Global, vars: &str, words: &[&str]) -> Result<Vec<u8>, AllocError> {
     let (decisions, rest) = lits_of(alloc, number_of(vars), words)?;
     let clauses = clauses_of(alloc, number_of(vars), rest)?;
@@ -28,8 +29,8 @@ fn answer_over(alloc: Global, watch: &mut Watch, decisions: &[Lit]) -> Result<Ve
     Ok(text)
 }
 
-/// Propagates, decides if nothing is false, and propagates again; says the trail with levels and reasons, and whether
-/// no clause is false.
+/// Propagates, decides if nothing is false, and propagates again; says the trail with levels and
+/// reasons, and whether no clause is false.
 pub fn go_on(
     alloc: Global,
     text: &mut Vec<u8>,

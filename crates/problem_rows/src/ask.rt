@@ -1,10 +1,12 @@
 //! Questions.
 //!
-//! Of recipes: `possible VIRTUAL` (the packages that may provide it), `virtual NAME`, `clash` (the least name that is a package and a
-//! virtual). Of a node of the graph: `meets NODE SPEC`, `rest NODE SPEC` (without name and version), `provides NODE SPEC` (the virtual SPEC),
-//! `holds NODE SPEC`, `all NODE SPEC & SPEC` (both), `governing NODE VARIANT` (the number of the definition). `node NAME` is the node that a
-//! name asks for. `problem SPEC SPEC` has the demands where these are requested, or why they are refused; `closure SPEC SPEC` the names that nodes
-//! may then have.
+//! Of recipes: `possible VIRTUAL` (the packages that may provide it), `virtual NAME`, `clash` (the
+//! least name that is a package and a virtual). Of a node of the graph: `meets NODE SPEC`,
+//! `rest NODE SPEC` (without name and version), `provides NODE SPEC` (the virtual SPEC),
+//! `holds NODE SPEC`, `all NODE SPEC & SPEC` (both), `governing NODE VARIANT` (the number of the
+//! definition). `node NAME` is the node that a name asks for. `problem SPEC SPEC` has the demands
+//! where these are requested, or why they are refused; `closure SPEC SPEC` the names that nodes may
+//! then have.
 
 ghost use Rattle.std.specs.Prelude.{◌≡◌, true};
 ghost use Rattle.std.specs.List.{list_all};

@@ -1,7 +1,8 @@
 //! Graphs of rows.
 //!
-//! The items are put one after another, with `;` between them: `NAME VERSION CONDITION` is a node with the variants, the compiler and the
-//! operating system and target that the condition asks for (`gcc@12.2`, `ubuntu22.04` and `x86_64` where it asks for none), `PARENT > CHILD` an edge,
+//! The items are put one after another, with `;` between them: `NAME VERSION CONDITION` is a node
+//! with the variants, the compiler and the operating system and target that the condition asks for
+//! (`gcc@12.2`, `ubuntu22.04` and `x86_64` where it asks for none), `PARENT > CHILD` an edge,
 //! `VIRTUAL = PACKAGE` a provider. An item that cannot be put is left out.
 
 use crate::nodes::{compiler_of, edge_of, plain_node};

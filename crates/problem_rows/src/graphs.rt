@@ -1,10 +1,12 @@
 //! Rows of graphs.
 //!
 //! The items are put one after another: `NAME` or `NAME@VERSION` is a node with one variant and a
-//! compiler, at 1.0 without a version, `PARENT>CHILD` an edge for linking, `VIRTUAL=PACKAGE` a provider.
+//! compiler, at 1.0 without a version, `PARENT>CHILD` an edge for linking, `VIRTUAL=PACKAGE` a
+//! provider.
 //! Those that were not put are answered, and how many nodes there are.
 //! Questions: `nodes`, `edges`, `providers`, `node NAME`, `from NAME`, `provider VIRTUAL`,
-//! `reaches FROM TO`, `leads FROM TO` (asked of all paths at once), `copy NAME` (a node and its copy).
+//! `reaches FROM TO`, `leads FROM TO` (asked of all paths at once), `copy NAME` (a node and its
+//! copy).
 
 use crate::nodes::{compiler_of, edge_of, plain_node};
 use crate::show::{push_bool, push_edge, push_node, push_word};

@@ -1,8 +1,9 @@
-//! Rows of targets, graphs and problems: what calls on them, on recipes and on requested specs answer,
-//! compared with tables.
+//! Rows of targets, graphs and problems: what calls on them, on recipes and on requested specs
+//! answer, compared with tables.
 //!
-//! It goes over `rows.txt` and `graphs.txt`, which lie where it runs, and prints each row that differs and
-//! how many there are. `table` says how a row is written, `ask` and `over` which questions there are.
+//! It goes over `rows.txt` and `graphs.txt`, which lie where it runs, and prints each row that
+//! differs and how many there are. `table` says how a row is written, `ask` and `over` which
+//! questions there are.
 //! The answers in the tables come from the rules, never from what the crates answer.
 //! It stands on `target_table`, `graph_core`, `virtuals`, `condition_rules`, `problem` and
 //! `possible_closure`, and reads recipes, specs and graphs for them. Nothing stands on it.

@@ -1,8 +1,8 @@
 //! Rows over a table of targets or a graph of their own.
 //!
-//! What stands behind `over` is `targets` or `graph`, what it is made of, and questions, each behind a
-//! `|`. The items and the questions stand at `targets` and `graphs`; a question that no call takes is
-//! answered by `no`.
+//! What stands behind `over` is `targets` or `graph`, what it is made of, and questions, each
+//! behind a `|`. The items and the questions stand at `targets` and `graphs`; a question that no
+//! call takes is answered by `no`.
 
 use crate::{graphs, targets};
 use std::alloc::{AllocError, Global};

@@ -105,7 +105,8 @@ fn are_named(roots: &[Spec]) -> bool
     roots.iter().all(|spec| spec.top.name.is_some())
 }
 
-/// The demands, or the names of the closure, where specs are requested of these recipes at a site, or why they are refused.
+/// The demands, or the names of the closure, where specs are requested of these recipes at a site,
+/// or why they are refused.
 pub(crate) fn problem_text(
     alloc: Global,
     recipes: List<Recipe>,

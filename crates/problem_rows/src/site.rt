@@ -1,7 +1,8 @@
 //! What a site has, line by line.
 //!
-//! `package NAME` is what the settings say of a package without externals, `external NAME` of one with an external; `record NAME CHILD:KIND..` is
-//! an installed package, whose children are records above it, KIND being `build`, `link` or `run`.
+//! `package NAME` is what the settings say of a package without externals, `external NAME` of one
+//! with an external; `record NAME CHILD:KIND..` is an installed package, whose children are records
+//! above it, KIND being `build`, `link` or `run`.
 
 use graph_core::Kinds;
 use plain_data::{List, Word};

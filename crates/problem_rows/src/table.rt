@@ -1,8 +1,8 @@
 //! A table: its rows, one after the other.
 //!
-//! `recipe NAME: STATEMENT; STATEMENT` adds a recipe, `site LINE` a line of the site, `graph ITEM..` makes
-//! the graph, and `new` forgets all. A row is a line `ask QUESTION`, or `over` with what it is over and its
-//! questions, and then a line `= ANSWER`. Other lines are comments.
+//! `recipe NAME: STATEMENT; STATEMENT` adds a recipe, `site LINE` a line of the site,
+//! `graph ITEM..` makes the graph, and `new` forgets all. A row is a line `ask QUESTION`, or `over`
+//! with what it is over and its questions, and then a line `= ANSWER`. Other lines are comments.
 
 use crate::ask::answer;
 use crate::over;

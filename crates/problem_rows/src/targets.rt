@@ -1,8 +1,8 @@
 //! Rows of targets.
 //!
-//! Each item is `NAME` or `NAME:PARENT,PARENT`, an entry of the table, which is answered by how many
-//! entries it has, or by its fault. Questions: `least TARGET LOW`, `range TARGET LOW HIGH` with `-` for
-//! an end that is left out, `place TARGET`.
+//! Each item is `NAME` or `NAME:PARENT,PARENT`, an entry of the table, which is answered by how
+//! many entries it has, or by its fault. Questions: `least TARGET LOW`, `range TARGET LOW HIGH`
+//! with `-` for an end that is left out, `place TARGET`.
 
 use crate::show::{push_bool, push_word};
 use plain_data::{List, Word};

@@ -26,7 +26,8 @@ fn escaped(b: u8) -> u8 {
     }
 }
 
-/// The bytes that a text of a table stands for: `\n`, `\t`, `\r`, `\f`, `\\` and `\xHH` are escapes.
+/// The bytes that a text of a table stands for: `\n`, `\t`, `\r`, `\f`, `\\` and `\xHH` are
+/// escapes.
 pub(crate) fn unescaped(alloc: Global, text: &[u8]) -> Result<Vec<u8>, AllocError> {
     let mut bytes = Vec::new(alloc);
     let mut rest = text;

@@ -37,8 +37,8 @@ fn files_of(alloc: Global, text: &str) -> Result<Vec<RecipeFile>, AllocError> {
     Ok(files)
 }
 
-/// The recipes of the files of a text, as `p0: version 1 #0 ; p1: none`, or the place of a file and its fault; so many
-/// threads read them.
+/// The recipes of the files of a text, as `p0: version 1 #0 ; p1: none`, or the place of a file and
+/// its fault; so many threads read them.
 pub(crate) fn files_text<R: AllocGlobal + Threads + Sync>(
     rt: &R,
     threads: u64,

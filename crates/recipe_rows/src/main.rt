@@ -1,8 +1,9 @@
 //! Rows of recipes: what the stages of reading make of texts, compared with tables.
 //!
-//! Without words it goes over the tables that lie where it runs, and prints each row that differs and how
-//! many there are. With `tokens FILE..`, `items FILE..`, `values FILE..` or `recipe FILE..` it prints what a
-//! stage makes of the files instead, a line each, and with `count FILE..` how many tokens and items each has.
+//! Without words it goes over the tables that lie where it runs, and prints each row that differs
+//! and how many there are. With `tokens FILE..`, `items FILE..`, `values FILE..` or `recipe FILE..`
+//! it prints what a stage makes of the files instead, a line each, and with `count FILE..` how many
+//! tokens and items each has.
 //! The answers in the tables come from the rules, never from what the crates answer.
 //! It stands on the stages that it shows. Nothing stands on it.
 #![tactic(auto)]

@@ -1,7 +1,8 @@
 //! A table: its rows, one after the other.
 //!
-//! A row is two lines, `text «..»` with escapes or `file NAME`, and then `want ANSWER`, or `want_file NAME`
-//! for an answer that lies in a file. Other lines are comments. White space in an answer does not count.
+//! A row is two lines, `text «..»` with escapes or `file NAME`, and then `want ANSWER`, or
+//! `want_file NAME` for an answer that lies in a file. Other lines are comments. White space in an
+//! answer does not count.
 
 use crate::escape::unescaped;
 use crate::stage::{Stage, answer};

@@ -120,8 +120,9 @@ fn push_arguments(
     Ok(())
 }
 
-/// The arguments that stand in the brackets that a text is, as `"a"@1 when@6= [ True@12 ]@11 Unsupported@20`. Of
-/// a value in brackets it shows the first byte and that of its first token that is no bracket around it.
+/// The arguments that stand in the brackets that a text is, as
+/// `"a"@1 when@6= [ True@12 ]@11 Unsupported@20`. Of a value in brackets it shows the first byte
+/// and that of its first token that is no bracket around it.
 pub(crate) fn values_text(
     alloc: Global,
     bytes: &[u8],

@@ -65,8 +65,8 @@ pub fn broken_directives()
 
 /// The rules of providers and of the graph as a whole, one by one.
 ///
-/// No graph breaks `Provider` alone: where a built node uses the virtual, its directive asks for a provision too, and
-/// else `UnusedProvider` is broken besides.
+/// No graph breaks `Provider` alone: where a built node uses the virtual, its directive asks for a
+/// provision too, and else `UnusedProvider` is broken besides.
 pub fn broken_wholes()
     ensures provider { broken_rules realistic provider_that_does_not ≡ Rule.Provider
         ∷ Rule.UnusedProvider ∷ [] }

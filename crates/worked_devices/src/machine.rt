@@ -1,6 +1,7 @@
 // The desk of the machine, in folders below the one that the tests run in.
-use crate::devices::{PIECES, check_list, check_piece, check_whole};
+use crate::desks::{PIECES, check_list, check_piece};
 use crate::same::check_same;
+use crate::whole_files::check_whole;
 use outside_desk::{Desk, DeskFault, ReadFault, RealDesk, file_id};
 use std::alloc::Global;
 use std::fs;
@@ -126,7 +127,8 @@ fn links_of_the_machine(rt: HostRuntime) -> Result<(), Fail> {
     Ok(())
 }
 
-/// Two paths, and whether a put to them is to one file: `ids/a` and its hard link `ids/b` stand, and `ids/none` does not.
+/// Two paths, and whether a put to them is to one file: `ids/a` and its hard link `ids/b` stand,
+/// and `ids/none` does not.
 const IDS: &[(&str, &str, bool)] = &[
     ("ids/a", "ids/a", true),
     ("ids/a", "./ids/../ids/a", true),
@@ -158,7 +160,8 @@ fn files_of_the_machine_are_told_apart(rt: HostRuntime) -> Result<(), Fail> {
     Ok(())
 }
 
-/// Names that other runs took, or left when they were killed, are passed over and stay; a put that fails leaves nothing.
+/// Names that other runs took, or left when they were killed, are passed over and stay; a put that
+/// fails leaves nothing.
 #[test]
 fn names_beside_a_file_of_the_machine(rt: HostRuntime) -> Result<(), Fail> {
     let alloc = rt.alloc();

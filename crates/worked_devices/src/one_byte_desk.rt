@@ -5,8 +5,8 @@ ghost use Rattle.std.proofs.Common.{lit<};
 use outside_desk::{Desk, DeskFault, SteadyDesk};
 use std::alloc::{AllocError, Global};
 
-/// Files in memory, of which it tells nothing. Each reading gives one byte at most, and each put is kept
-/// in a list of its own too.
+/// Files in memory, of which it tells nothing. Each reading gives one byte at most, and each put is
+/// kept in a list of its own too.
 #[derive(Drop)]
 pub struct OneByteDesk {
     files: SteadyDesk,

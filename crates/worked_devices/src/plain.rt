@@ -126,7 +126,8 @@ fn lists_keep_their_values(rt: HostRuntime) -> Result<(), Fail> {
     Ok(())
 }
 
-/// Of values that are told apart, each has a copy that is the same, and none is the same as another.
+/// Of values that are told apart, each has a copy that is the same, and none is the same as
+/// another.
 fn check_exact<T: Duplicate + Same>(
     rt: &impl Abort,
     alloc: Global,

@@ -5,8 +5,8 @@ use crate::stop::Stop;
 use std::alloc::Global;
 use std::str;
 
-/// A field: the bytes up to a blank, or between quotation marks, where `\n`, `\t`, `\r`, `\"`, `\\` and `\xHH`
-/// stand for one byte.
+/// A field: the bytes up to a blank, or between quotation marks, where `\n`, `\t`, `\r`, `\"`, `\\`
+/// and `\xHH` stand for one byte.
 pub(crate) type Field = Vec<u8>;
 
 fn digit(b: u8) -> Result<u8, Stop>

@@ -125,7 +125,8 @@ fn is_as_defined(alloc: Global, text: &[u8]) -> Result<bool, AllocError> {
     Ok(front == longest && is_same_fault && is_same_end)
 }
 
-/// How many texts of that many signs there are, or the first of which the readers say something else.
+/// How many texts of that many signs there are, or the first of which the readers say something
+/// else.
 fn count_of(alloc: Global, length: usize, count: usize) -> Result<String, AllocError> {
     for number in 0..count {
         let mut text = Vec::new(alloc);

@@ -1,9 +1,10 @@
 //! Rows of library calls: what each call has to answer, and the program that compares.
 //!
-//! A row is `CALL ARGUMENT.. -> ANSWER`, as `version.compare 1.0-rc1 1.0 -> Less`; README.md has the calls. The
-//! answers come from the rules, from published vectors and from other programs, never from what the calls answer.
-//! It ends with 0 where there were rows in each of the files that its words name, and none differed, and
-//! else with 1. It stands on the crates that it calls. Nothing stands on it.
+//! A row is `CALL ARGUMENT.. -> ANSWER`, as `version.compare 1.0-rc1 1.0 -> Less`; README.md has
+//! the calls. The answers come from the rules, from published vectors and from other programs,
+//! never from what the calls answer.
+//! It ends with 0 where there were rows in each of the files that its words name, and none
+//! differed, and else with 1. It stands on the crates that it calls. Nothing stands on it.
 #![tactic(auto)]
 
 mod fields;

@@ -18,7 +18,8 @@ fn set_of(alloc: Global, texts: &[Field]) -> Result<ValueSet, Stop> {
     Ok(ValueSet::from_words(words_of(alloc, texts)?))
 }
 
-/// Whether a set is the one that its texts make at once, and a copy is the same until a text is put into it.
+/// Whether a set is the one that its texts make at once, and a copy is the same until a text is put
+/// into it.
 fn is_kept(alloc: Global, set: &ValueSet, texts: &[Field]) -> Result<bool, Stop> {
     let mut copy = set.duplicate(alloc)?;
     let is_copy = copy.same(set);

@@ -58,10 +58,11 @@ fn check_other_files(rt: &impl Abort, desk: &MemoryDesk) {
     }
 }
 
-/// Uses up as many allocations, runs `zlib`, and wants Done with everything right, or NoMemory with every
-/// file but the lock file as it was, and that as it was or whole.
+/// Uses up as many allocations, runs `zlib`, and wants Done with everything right, or NoMemory with
+/// every file but the lock file as it was, and that as it was or whole.
 ///
-/// `bench/fail_alloc.sh` runs it with each allocation failing in turn, and reads the line that it prints.
+/// `bench/fail_alloc.sh` runs it with each allocation failing in turn, and reads the line that it
+/// prints.
 pub fn check_zlib_or_no_memory<R: AllocGlobal + Print + Abort + Threads + Sync>(
     rt: &R,
     used: u32,

@@ -1,5 +1,5 @@
-//! Whole runs that only code can show: over steady devices, with each allocation failing in turn, and with more recipes than stored
-//! files would serve.
+//! Whole runs that only code can show: over steady devices, with each allocation failing in turn,
+//! and with more recipes than stored files would serve.
 //!
 //! All other whole runs are scenarios, in the data of `replay_scenarios`.
 //! It stands on the top call and the devices. Nothing stands on it.

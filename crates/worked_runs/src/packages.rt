@@ -9,7 +9,8 @@ use std::thread::Threads;
 
 const JUDGE_WORDS: &[&str] = &["judge", "r", "-", "-", "l", "root"];
 
-/// A package that needs so many others under a condition that never holds, and fifty that nothing has.
+/// A package that needs so many others under a condition that never holds, and fifty that nothing
+/// has.
 fn root_of(alloc: Global, others: usize) -> Result<String, AllocError> {
     let mut text = String::from_str(alloc, "class Root(Package):\n    version(\"1\")\n")?;
     for number in 0..others {
