@@ -11,7 +11,7 @@ import sys
 from pathlib import Path
 from typing import Optional
 
-from . import packed, read_packages, report, site_values, sticky, targets, wishes, yaml_texts
+from . import edges, packed, read_packages, report, site_values, sticky, targets, wishes, yaml_texts
 from .import_table import TABLE, ImportTable
 from .read_packages import Found
 from .recipe_files import Repository
@@ -42,6 +42,7 @@ def joined(read: dict[str, Found], repository: Repository, given: argparse.Names
     drop_clashes(recipes)
     notes = Notes(wishes.FILE)
     site = wishes.apply(recipes, packages_of(given.packages), notes, repository.dialect)
+    edges.settle(recipes, notes)
     if given.sticky is not None:
         sticky.settle(recipes, given.sticky)
     if given.strict:

@@ -12,7 +12,7 @@ from .own_name import name_in
 from .rows import Conditions, Origin, Recipe, Row, quoted, unquoted
 from .settings_externals import external_part
 from .settings_notes import Notes
-from .spec_text import Dialect, Spec
+from .spec_text import Dialect, Part, Spec
 from .wish_texts import Wish
 from .yaml_texts import Map, line_of
 
@@ -74,7 +74,7 @@ def write(wish: Wish, recipe: Recipe, is_of_all: bool, notes: Notes) -> None:
         recipe.rows.append(Row(directive, texts + words, Conditions(own=wish.when or None), origin=origin))
         return
     spec = specs[0]
-    is_plain = not (spec.below or spec.top.versions or spec.top.compiler or spec.top.platform or spec.top.os or spec.top.targets)
+    is_plain = not spec.below and replace(spec.top, name=None, variants={}) == Part()
     if not is_plain or wish.when:
         why = "a preference of more than values of variants: versions are preferred by `version`, all else in the spec"
         notes.leave_out_line(wish.line, where, why)
