@@ -61,13 +61,19 @@ class Repository:
     def condition(self, package: str, language: str, known: frozenset[str]) -> frozenset[str]:
         """Under what else a package builds with a language, where these conditions are known; `Cannot` where it is not one set."""
         known |= self.always.get(package, frozenset())
-        asked = {each - known for each in self.built_with.get((package, language), [])}
+        words = {word for text in known if "^" not in text for word in text.split()}
+        asked = {without(each, known, words) for each in self.built_with.get((package, language), [])}
         if frozenset() in asked:
             return frozenset()
         if len(asked) != 1:
             ways = f"depends on `{language}` in {len(asked)} ways" if asked else f"does not depend on `{language}`"
             raise Cannot(COMPILED, f"`{package}` {ways}")
         return asked.pop()
+
+
+def without(conditions: frozenset[str], known: frozenset[str], words: set[str]) -> frozenset[str]:
+    """Conditions without those that are known to hold, as a whole or by all their words."""
+    return frozenset(text for text in conditions - known if "^" in text or not words.issuperset(text.split()))
 
 
 def always_true(recipe: Recipe) -> Iterator[str]:
