@@ -5,6 +5,7 @@ there is left out, with WORDS in its reason; behind the class it is about base c
 """
 import json
 import re
+import subprocess
 import tempfile
 from collections import Counter
 from dataclasses import dataclass, field
@@ -112,6 +113,16 @@ def faults(tests: Path, run: Main, compared: Callable[..., Iterator[tuple[str, s
         written = "\n".join(written_text(case, found.get(case.package)) for case in group)
         yield from compared(f"spack_style/{path.stem}", written, tests / "written" / f"{path.stem}.py")
     yield from compared("spack_style table", table(files, found), tests / "written" / "table.txt")
+
+
+def refused(tests: Path, run: Main, program: str) -> Iterator[tuple[str, str]]:
+    """Whether the program refuses what was written."""
+    with tempfile.TemporaryDirectory() as room:
+        imported(Path(room), [cases(path) for path in sorted(tests.glob("*.txt"))], run)
+        words = [program, "explain", f"{room}/out", "-", "-", "zlib"]
+        done = subprocess.run(words, capture_output=True, text=True, check=False)
+        if done.returncode not in (0, 1):
+            yield "spack_style", f"the program says {done.stderr.strip()!r}"
 
 
 def table(files: list[list[Case]], found: dict[str, Any]) -> str:

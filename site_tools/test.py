@@ -256,6 +256,7 @@ def check_program() -> Check:
         lock = (Path(room) / "site_hdf5.lock").read_text("utf-8")
         yield from compared("examples/site/hdf5.lock", lock, SITE / "hdf5.lock")
     yield from check_read(program)
+    yield from spack_style.refused(TESTS / "spack_style", run, program)
     yield from answer_checks.check_all()
     yield from log_checks.check_accepted()
 

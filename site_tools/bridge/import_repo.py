@@ -124,12 +124,12 @@ def imported(repository: Repository, given: argparse.Namespace, stand_ins: list[
         given.json.write_text(json.dumps([packed.shown(each) for each in found.recipes], indent=1), "utf-8")
     print(report.summary(found))
     print(f"report: {report_file}")
-    table.end(report.summary(found), 0 if found.recipes else 1)
+    table.end(report.summary(found), report.status(found))
     return table.status
 
 
 def main(words: Optional[list[str]] = None) -> int:
-    """Imports a repository: 0 where recipes were written, 1 where none could be, 2 for wrong words."""
+    """Imports a repository: 0 where all was said, 1 where something was listed, 2 where no recipe was written."""
     given = arguments(words)
     gc.set_threshold(100_000, 50, 50)  # many rows are kept, and few go round
     if not (given.repo / "packages").is_dir():
