@@ -75,6 +75,9 @@ def write(wish: Wish, recipe: Recipe, is_of_all: bool, notes: Notes) -> None:
         return
     spec = specs[0]
     is_plain = not spec.below and replace(spec.top, name=None, variants={}) == Part()
+    if wish.section == "prefer" and not is_of_all and wish_texts.plain_versions(wish, recipe.name):
+        notes.leave_out_line(wish.line, where, "`import_settings --repo` writes it as an order of versions, which is weaker than Spack's preference")
+        return
     if not is_plain or wish.when:
         why = "a preference of more than values of variants: versions are preferred by `version`, all else in the spec"
         notes.leave_out_line(wish.line, where, why)
