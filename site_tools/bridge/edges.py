@@ -49,6 +49,28 @@ class Repository:
                 elif row.directive == "depends_on" and row.names:
                     self.by_name.setdefault(row.names[0], recipe.name)
 
+    def shown(self) -> dict[str, dict]:
+        """What decides for specs, as OUT/site.json keeps it: providers of one virtual alone, and languages that are always there."""
+        asked = {name: [each for each in sorted(virtuals) if each in self.by_name] for name, virtuals in self.provided.items()}
+        alone = {name: asked[name][0] for name in sorted(asked) if len(asked[name]) == 1 and name not in self.by_name}
+        always: dict[str, list[str]] = {}
+        for (name, language), conditions in sorted(self.built_with.items()):
+            if frozenset() in {without(each, self.always.get(name, frozenset()), set()) for each in conditions}:
+                always.setdefault(name, []).append(language)
+        return {"provider_of": alone, "languages": always}
+
+    @staticmethod
+    def of_shown(known: dict[str, dict]) -> "Repository":
+        """What was kept so."""
+        found = Repository(names=frozenset(known["provider_of"]))
+        for name, virtual in known["provider_of"].items():
+            found.provided[name].add(virtual)
+            found.by_name.setdefault(virtual, name)
+        for name, languages in known["languages"].items():
+            for language in languages:
+                found.built_with[name, language].append(frozenset())
+        return found
+
     def check_provider(self, virtuals: list[str], package: str) -> None:
         """`Cannot` where a package may be in a graph otherwise than as the provider of one virtual."""
         asked = {virtual for virtual in self.provided.get(package, ()) if virtual in self.by_name}
@@ -144,12 +166,11 @@ def settled(row: Row, own: str, repository: Repository) -> list[Row]:
     return [replace(row, arguments=tuple(arguments), conditions=Conditions(blocks, last if last and last not in blocks else None))]
 
 
-def settle(recipes: list[Recipe], notes: Notes) -> None:
+def settle(recipes: list[Recipe], notes: Notes) -> Repository:
     """Puts all that is said of edges into the profile's words, and lists what cannot be."""
     repository, lost = Repository(), defaultdict(list)
     waiting = [recipe for recipe in recipes if any(map(has_edges, recipe.rows))]
-    if waiting:
-        repository.take(recipes)
+    repository.take(recipes)
     for recipe in waiting:
         rows: list[Row] = []
         for row in recipe.rows:
@@ -167,6 +188,7 @@ def settle(recipes: list[Recipe], notes: Notes) -> None:
     for (line, text, kind), names in lost.items():
         shown = ", ".join(names[:8]) + (f" and {len(names) - 8} more" if len(names) > 8 else "")
         notes.leave_out_line(line, f"packages.{names[0] if len(names) == 1 else 'all'}.{text}", f"{kind}: not written for {shown}")
+    return repository
 
 
 def never_asked(row: Row, recipe: Recipe, repository: Repository) -> bool:

@@ -42,7 +42,7 @@ def joined(read: dict[str, Found], repository: Repository, given: argparse.Names
     drop_clashes(recipes)
     notes = Notes(wishes.FILE)
     site = wishes.apply(recipes, packages_of(given.packages), notes, repository.dialect)
-    edges.settle(recipes, notes)
+    site.edges = edges.settle(recipes, notes).shown()
     if given.sticky is not None:
         sticky.settle(recipes, given.sticky)
     if given.strict:
@@ -64,9 +64,9 @@ def packages_of(path: Optional[Path]) -> yaml_texts.Map:
 
 
 def write_site(found: report.Import, given: argparse.Namespace) -> None:
-    """Writes OUT/site.json, from which import_settings knows the recipes."""
+    """Writes OUT/site.json, from which import_settings and import_lock know the recipes."""
     digest = hashlib.sha256(given.packages.read_bytes()).hexdigest() if given.packages else None
-    known = {"packages": digest, "providers": found.site.providers, "declared": found.site.declared}
+    known = {"packages": digest, "providers": found.site.providers, "declared": found.site.declared, "edges": found.site.edges}
     (given.out / "site.json").write_text(json.dumps(known, indent=1) + "\n", "utf-8")
 
 

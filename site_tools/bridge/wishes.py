@@ -21,10 +21,11 @@ FILE = "packages.yaml"
 
 @dataclass
 class Site:
-    """What import_settings has to know of the recipes: who provides what, and the versions of packages with externals."""
+    """What other importers have to know of the recipes: who provides what, and the versions of packages with externals."""
 
     providers: dict[str, list[str]] = field(default_factory=dict)
     declared: dict[str, list[str]] = field(default_factory=dict)  # a package's own versions, where an external's was added
+    edges: dict[str, dict] = field(default_factory=dict)  # what decides for specs that say something of edges
 
 
 def providers_of(recipes: list[Recipe]) -> dict[str, list[str]]:
@@ -76,7 +77,8 @@ def write(wish: Wish, recipe: Recipe, is_of_all: bool, notes: Notes) -> None:
     spec = specs[0]
     is_plain = not spec.below and replace(spec.top, name=None, variants={}) == Part()
     if wish.section == "prefer" and not is_of_all and wish_texts.plain_versions(wish, recipe.name):
-        notes.leave_out_line(wish.line, where, "`import_settings --repo` writes it as an order of versions, which is weaker than Spack's preference")
+        why = "`import_settings --repo` writes it as an order of versions, which is weaker than Spack's preference"
+        notes.leave_out_line(wish.line, where, why)
         return
     if not is_plain or wish.when:
         why = "a preference of more than values of variants: versions are preferred by `version`, all else in the spec"
