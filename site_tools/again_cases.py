@@ -21,7 +21,7 @@ def faults(recipes: Path, run: Callable[..., str]) -> Iterator[tuple[str, str]]:
         repo, out, fresh = room / "repo", room / "out", room / "fresh"
         shutil.copytree(recipes, repo)
         first = run(import_repo.main, repo, out)
-        if run(import_repo.main, repo, out) != f"nothing changed: {first.splitlines()[0]}\n":
+        if run(import_repo.main, repo, out) != f"nothing changed: {first.splitlines()[0]}\nstatus 1\n":
             yield "again", "the same import does something"
         before = {path: path.stat().st_mtime_ns for path in out.glob("packages/*/package.py")}
         kelp = repo / "packages" / "kelp" / "package.py"

@@ -16,7 +16,8 @@ def outcomes(folder: Path, run: Callable[..., str]) -> Iterator[tuple[str, str, 
     for case in sorted(folder.iterdir()):
         with tempfile.TemporaryDirectory() as room:
             out = Path(room) / "lock"
-            words = [str(TOP / word) if word.startswith("examples/") else word for word in (case / "words").read_text("utf-8").split()]
+            words = (case / "words").read_text("utf-8").replace("@", str(case)).split()
+            words = [str(TOP / word) if word.startswith("examples/") else word for word in words]
             report = run(spack_lock.main, case / "spack.lock", out, *words).replace(f"{case}/", "")
             yield f"locks/{case.name}", report, case / "wanted.txt"
             if out.exists():

@@ -32,6 +32,7 @@ from bridge.literals import Evaluator, NotLiteral  # noqa: E402
 import again_cases  # noqa: E402
 import idioms  # noqa: E402
 import lock_cases  # noqa: E402
+import spack_style  # noqa: E402
 import style  # noqa: E402
 import view_cases  # noqa: E402
 
@@ -66,11 +67,11 @@ def compared(name: str, found: str, wanted: Path) -> Check:
 
 def compared_folders(name: str, found: Path, wanted: Path) -> Check:
     """Compares all files below a folder with those below another one."""
+    for path in [path for path in found.rglob("*") if path.name in ("import.json", "import_rows.jsonl", "origins.json")]:
+        path.unlink()  # looked at elsewhere
     if WRITE:
         shutil.rmtree(wanted, ignore_errors=True)
         shutil.copytree(found, wanted)
-    for path in [path for path in found.rglob("*") if path.name in ("import.json", "import_rows.jsonl", "origins.json")]:
-        path.unlink()  # looked at elsewhere
     paths = {path.relative_to(root) for root in (found, wanted) for path in root.rglob("*") if path.is_file()}
     for path in sorted(paths):
         if not (found / path).exists():
@@ -133,6 +134,11 @@ def check_idioms() -> Check:
     """Small recipes of one idiom each."""
     for path in sorted((TESTS / "idioms").glob("*.txt")):
         yield from idioms.check(path, run)
+
+
+def check_spack_style() -> Check:
+    """Packages of Spack's, written anew, with what is expected of each."""
+    yield from spack_style.faults(TESTS / "spack_style", run, compared)
 
 
 def check_again() -> Check:
@@ -250,6 +256,7 @@ def check_program() -> Check:
         lock = (Path(room) / "site_hdf5.lock").read_text("utf-8")
         yield from compared("examples/site/hdf5.lock", lock, SITE / "hdf5.lock")
     yield from check_read(program)
+    yield from spack_style.refused(TESTS / "spack_style", run, program)
     yield from answer_checks.check_all()
     yield from log_checks.check_accepted()
 
@@ -272,7 +279,8 @@ def main() -> int:
     """Runs all checks: 0 where nothing differs."""
     begun, wrong = time.monotonic(), 0
     # The program's lock file is one that the views show, so it comes first.
-    checks = (check_style, check_texts, check_literals, check_idioms, check_recipes, check_again, check_site, check_cases, check_locks)
+    checks = (check_style, check_texts, check_literals, check_idioms, check_recipes, check_spack_style, check_again, check_site)
+    checks = (*checks, check_cases, check_locks)
     asked, checks = chosen(), (*checks, check_program, check_views, log_checks.check_logs, check_completion, check_manual)
     for check in [each for each in checks if not asked or each.__name__[6:] in asked]:
         faults = list(check())

@@ -19,7 +19,7 @@ from .recipe_functions import Broken, Continued, Returned, add_to, changes, entr
 from .rows import Cannot, LeftOut, Origin, Row, VariantRow
 from .source_texts import SourceText
 from .spec_text import Dialect, NotInProfile
-from .values import Function, Names, NotLiteral, Unknown, source
+from .values import Function, Names, NotLiteral, Unknown, source, why_computed
 
 MOST_ROWS = 50_000
 DEEPEST = 20  # calls of the recipe's functions within each other
@@ -101,7 +101,7 @@ class ClassReader:
                 raise
             if makes_directives(statement.value, names) and not around.never:
                 self.list_left_out(statement, "call", "a call that is not followed", str(fault))
-            forget(statement, names, "has a value that is computed")
+            forget(statement, names, why_computed(str(fault)))
 
     def assign_annotated(self, statement: ast.AnnAssign, names: Names, around: Around) -> None:
         """`a: T = b`."""

@@ -8,7 +8,7 @@ from typing import Any
 
 from . import directives
 from .known_calls import CHANGES
-from .values import Function, Names, Unknown, dotted
+from .values import MACHINE, Function, Names, Unknown, dotted
 
 
 def called_name(node: ast.expr) -> str:
@@ -26,16 +26,25 @@ def has_changeable(value: Any) -> bool:
     return isinstance(value, (list, dict))
 
 
-def may_change(node: ast.AST) -> bool:
+def may_change(node: ast.AST, names: Names) -> bool:
     """Whether a part of a statement may change a list in place: a call that is no directive, `a[b] = c`, `a += b`."""
     if isinstance(node, ast.Call):
+        if is_harmless(node, names):
+            return False
         return called_name(node) not in directives.DIRECTIVES.keys() | directives.PASSED_OVER | {"when", "default_args"}
     return isinstance(node, ast.AugAssign) or isinstance(node, (ast.Subscript, ast.Attribute)) and not isinstance(node.ctx, ast.Load)
 
 
+def is_harmless(node: ast.Call, names: Names) -> bool:
+    """Whether a call asks the machine, or is that of a method of a text that stands there: neither changes a list."""
+    function = node.func
+    is_text = isinstance(function, ast.Attribute) and isinstance(function.value, ast.Constant) and isinstance(function.value.value, str)
+    return is_text or f"{dotted(function)}()" in MACHINE and dotted(function).partition(".")[0] not in names
+
+
 def forget(statement: ast.AST, names: Names, why: str) -> None:
     """Makes the names that a statement gives or could change unknown."""
-    if any(map(may_change, ast.walk(statement))):
+    if any(may_change(each, names) for each in ast.walk(statement)):
         forget_changeable(names)
     for node in ast.walk(statement):
         if isinstance(node, (ast.Subscript, ast.Attribute)) and not isinstance(node.ctx, ast.Load):

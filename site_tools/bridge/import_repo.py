@@ -11,7 +11,7 @@ import sys
 from pathlib import Path
 from typing import Optional
 
-from . import packed, read_packages, report, site_values, sticky, targets, wishes, yaml_texts
+from . import edges, packed, read_packages, report, site_values, sticky, targets, wishes, yaml_texts
 from .import_table import TABLE, ImportTable
 from .read_packages import Found
 from .recipe_files import Repository
@@ -42,6 +42,7 @@ def joined(read: dict[str, Found], repository: Repository, given: argparse.Names
     drop_clashes(recipes)
     notes = Notes(wishes.FILE)
     site = wishes.apply(recipes, packages_of(given.packages), notes, repository.dialect)
+    site.edges = edges.settle(recipes, notes).shown()
     if given.sticky is not None:
         sticky.settle(recipes, given.sticky)
     if given.strict:
@@ -63,9 +64,9 @@ def packages_of(path: Optional[Path]) -> yaml_texts.Map:
 
 
 def write_site(found: report.Import, given: argparse.Namespace) -> None:
-    """Writes OUT/site.json, from which import_settings knows the recipes."""
+    """Writes OUT/site.json, from which import_settings and import_lock know the recipes."""
     digest = hashlib.sha256(given.packages.read_bytes()).hexdigest() if given.packages else None
-    known = {"packages": digest, "providers": found.site.providers, "declared": found.site.declared}
+    known = {"packages": digest, "providers": found.site.providers, "declared": found.site.declared, "edges": found.site.edges}
     (given.out / "site.json").write_text(json.dumps(known, indent=1) + "\n", "utf-8")
 
 
@@ -123,12 +124,12 @@ def imported(repository: Repository, given: argparse.Namespace, stand_ins: list[
         given.json.write_text(json.dumps([packed.shown(each) for each in found.recipes], indent=1), "utf-8")
     print(report.summary(found))
     print(f"report: {report_file}")
-    table.end(report.summary(found), 0 if found.recipes else 1)
+    table.end(report.summary(found), report.status(found))
     return table.status
 
 
 def main(words: Optional[list[str]] = None) -> int:
-    """Imports a repository: 0 where recipes were written, 1 where none could be, 2 for wrong words."""
+    """Imports a repository: 0 where all was said, 1 where something was listed, 2 where no recipe was written."""
     given = arguments(words)
     gc.set_threshold(100_000, 50, 50)  # many rows are kept, and few go round
     if not (given.repo / "packages").is_dir():

@@ -241,7 +241,7 @@ def report_text(found: Import) -> str:
 
 
 def main(words: Optional[list[str]] = None) -> int:
-    """Imports an index: 0 where a database was written, 2 where the file is none."""
+    """Imports an index: 0 where all was said, 1 where something was listed, 2 where the file is none."""
     parser = argparse.ArgumentParser(prog="import_installed", description=__doc__)
     parser.add_argument("index", type=Path, metavar="INDEX_JSON", help="Spack's opt/spack/.spack-db/index.json")
     parser.add_argument("database", type=Path, metavar="DATABASE", help="the file that is written")
@@ -264,4 +264,4 @@ def main(words: Optional[list[str]] = None) -> int:
     given.database.write_text(database_text(found), "utf-8")
     given.table.write_text(table_text(found), "utf-8")
     print(report_text(found), end="")
-    return 0
+    return 1 if found.refused or found.parts else 0

@@ -98,7 +98,7 @@ class Repository:
         text = (root / "repo.yaml").read_text("utf-8", "replace") if (root / "repo.yaml").is_file() else ""
         found = re.search(r"^\s*namespace:\s*['\"]?([\w.-]+)", text, re.M)
         is_v2 = re.search(r"^\s*api:\s*['\"]?v2", text, re.M) is not None
-        self.dialect = Dialect((found.group(1) if found else "builtin").rpartition(".")[2], is_v2)
+        self.dialect = Dialect((found.group(1) if found else "builtin").rpartition(".")[2], is_v2, has_edges=True)
         self.folders = {self.package_of(each.parent.name): each for each in sorted(root.glob("packages/*/package.py"))}
         self.packages = frozenset(self.folders)
         self.base_files = [path for folder in build_systems for path in sorted(folder.glob("*.py"))]

@@ -69,6 +69,11 @@ def summary(found: Import) -> str:
     return f"{total} packages: {len(found.whole())} whole, {len(found.partly())} with parts left out, {len(found.refused)} left out"
 
 
+def status(found: Import) -> int:
+    """0 where all was said, 1 where something was listed, 2 where no recipe was written."""
+    return 2 if not found.recipes else 1 if found.refused or found.partly() or found.notes.rows else 0
+
+
 def shortened(text: str) -> str:
     """A directive's text, cut where it is long."""
     return text if len(text) <= LONGEST else text[: LONGEST - 3] + "..."

@@ -67,7 +67,7 @@ def allowed(package: str, found: list[tuple[Part, str]], packages: dict, notes: 
     silent = Notes(notes.file)  # what cannot be read is listed where the recipes are made
     for section, when_true in (("require", False), ("conflict", True)):
         is_of_all, value = wish_texts.section_of(packages, package, section)
-        for wish in wish_texts.read(section, package, value, silent):
+        for wish in wish_texts.read(section, package, value, silent, Dialect(has_edges=True)):
             kept = []
             for part, prefix in found:
                 answer = meets_any(part, wish)
@@ -97,7 +97,7 @@ def meets(part: Part, wanted: Part) -> Optional[bool]:
         answers.append(versions.contains(wanted.versions, versions.single(part.versions) or ""))
     for name, values in wanted.variants.items():
         answers.append(set(values) <= set(part.variants[name]) if name in part.variants else None)
-    if wanted.compiler:
+    if wanted.compiler or wanted.languages:
         answers.append(meets_compiler(part, wanted))
     for mine, other in ((part.os, wanted.os), (part.platform, wanted.platform)):
         answers += [None if mine is None else mine == other] if other else []

@@ -6,7 +6,7 @@ Takes providers, versions, buildable and externals. What else it says of package
 from dataclasses import dataclass, field
 from typing import Any, Optional
 
-from . import settings_externals, signs, versions
+from . import settings_externals, signs, versions, wish_texts
 from .settings_notes import Notes
 from .spec_text import Part
 from .wish_texts import SECTIONS
@@ -53,6 +53,19 @@ def versions_of(package: str, value: Any, notes: Notes) -> list[str]:
     return found
 
 
+def preferred_of(package: str, value: Any, notes: Notes) -> list[str]:
+    """The versions that `prefer` asks for and nothing more: they come before those of `version`."""
+    found: list[str] = []
+    silent = Notes(notes.file)  # what cannot be read is listed where the recipes are made
+    for wish in wish_texts.read("prefer", package, value, silent):
+        text = wish_texts.plain_versions(wish, package)
+        if text is not None:
+            where = f"packages.{package}.{wish.shown()}"
+            notes.taken.append((notes.file, wish.line, where, "it is an order of versions, which is weaker than Spack's preference"))
+            found += [text] if text not in found else []
+    return found
+
+
 def externals_of(package: str, value: Any, site: Site, notes: Notes) -> list[tuple[Part, str]]:
     """The externals of a package."""
     listed = value if isinstance(value, list) else [value]
@@ -77,6 +90,8 @@ def package_of(package: str, packages: dict, site: Site, notes: Notes) -> dict:
         elif key not in SILENT and not (key in SECTIONS and site.in_recipes):
             why = "it is no truth value" if key == "buildable" else ADVICE.get(str(key), "the settings have no such key")
             notes.leave_out(value, f"packages.{package}.{key}", why)
+    if site.in_recipes:
+        found["versions"] = preferred_of(package, packages[package].get("prefer") or [], notes) + found.get("versions", [])
     if site.declared.get(package):
         found["versions"] = found.get("versions", []) + [",".join(f"={each}" for each in site.declared[package])]
     return {key: found[key] for key in ("versions", "buildable", "externals") if key in found and found[key] != []}

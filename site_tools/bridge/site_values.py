@@ -39,7 +39,7 @@ def of_texts(texts: list[str], owner: str) -> Iterator[tuple[str, Part]]:
     """The parts of specs, each with its package: its own name, or the one that it stands under."""
     for text in texts:
         try:
-            spec = spec_text.read_condition(text.partition("#")[0].strip(), Dialect())
+            spec = spec_text.read_condition(text.partition("#")[0].strip(), Dialect(has_edges=True))
         except NotInProfile:
             continue
         for part in [spec.top, *spec.below]:

@@ -10,7 +10,7 @@ from dataclasses import dataclass, field
 from pathlib import Path
 from typing import Any, Optional
 
-from . import external_entries, installed, json_files, records, spec_text
+from . import edges, external_entries, installed, json_files, records, spec_text
 from .rows import Cannot
 from .spec_text import Dialect, NotInProfile
 
@@ -25,6 +25,7 @@ class LockImport:
     providers: dict[str, str] = field(default_factory=dict)
     roots: list[dict[str, str]] = field(default_factory=list)
     notes: list[str] = field(default_factory=list)
+    recipes: Optional[edges.Repository] = None  # what decides for edges, where the imported recipes are named
 
     def text(self) -> str:
         """The lock file."""
@@ -69,15 +70,16 @@ def reached(specs: dict[str, dict], roots: list[str]) -> list[str]:
 def root_text(root: dict, spec: dict, found: LockImport) -> str:
     """The canonical text of a root; its name alone where the profile has no such spec."""
     try:
-        return spec_text.Reader(str(root["spec"]), Dialect()).read(needs_name=True).text()
-    except NotInProfile as fault:
+        text = spec_text.Reader(str(root["spec"]), Dialect(has_edges=found.recipes is not None)).read(needs_name=True).text()
+        return edges.said(text, None, frozenset(), found.recipes)[0] if found.recipes else text
+    except (NotInProfile, Cannot) as fault:
         found.notes.append(f"root `{root['spec']}`: {fault.kind}: taken as `{spec['name']}`")
         return spec["name"]
 
 
-def convert(value: Any, platform: str, known: dict[str, str], entries: external_entries.Entries) -> LockImport:
+def convert(value: Any, platform: str, known: dict[str, str], entries: external_entries.Entries, repo: Optional[Path]) -> LockImport:
     """The lock file of a spack.lock; `Cannot` where there is none."""
-    found = LockImport()
+    found = LockImport(recipes=recipes_of(repo))
     specs = plain_specs(value["concrete_specs"])
     asked = [root["hash"] for root in value["roots"]]
     names = reached(specs, asked)
@@ -93,6 +95,13 @@ def convert(value: Any, platform: str, known: dict[str, str], entries: external_
                 found.providers[virtual] = child["name"]
     found.roots = [{"hash": whole.new_hash[root["hash"]], "spec": root_text(root, specs[root["hash"]], found)} for root in value["roots"]]
     return found
+
+
+def recipes_of(repo: Optional[Path]) -> Optional[edges.Repository]:
+    """What import_repo kept of the recipes; None where it is not there."""
+    path = repo / "site.json" if repo else None
+    known = json_files.read(path).get("edges") if path and path.is_file() else None
+    return edges.Repository.of_shown(known) if known else None
 
 
 def one_of_each(specs: dict[str, dict], names: list[str]) -> None:
@@ -138,7 +147,8 @@ def main(words: Optional[list[str]] = None) -> int:
     try:
         settings = json_files.read(given.settings) if given.settings else {}
         entries = external_entries.Entries(settings, given.repo)
-        found = convert(json_files.read(given.spack_lock), settings.get("platform", "linux"), table_of(given.hashes), entries)
+        platform = settings.get("platform", "linux")
+        found = convert(json_files.read(given.spack_lock), platform, table_of(given.hashes), entries, given.repo)
     except Cannot as fault:
         print(f"import_lock: {given.spack_lock}: {fault}", file=sys.stderr)
         return 2

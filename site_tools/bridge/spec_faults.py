@@ -61,6 +61,24 @@ def flags(text: str, offset: int) -> str:
     return f"there are no flags of compilers: leave `{shown(word_at(text, offset))}` out"
 
 
+def edge(text: str, offset: int) -> str:
+    """`^[..]`: attributes of an edge."""
+    name = re.compile(rf"\^\s*\[[^\]]*\]\s*({signs.NAME})").match(text, offset)
+    written = f"`^{name[1]}`, which asks that {name[1]} is there, whatever for" if name else "`^name`"
+    return f"an edge has no attributes: write {written}"
+
+
+def assigned(text: str, offset: int) -> Optional[str]:
+    """`^mpi=openmpi` and `%c,cxx=gcc` of newer Spack, where the place is in one."""
+    start = max(text.rfind(sign, 0, offset) for sign in "^%")
+    found = re.compile(rf"([\^%])\s*{signs.NAME}(?:,{signs.NAME})*=({signs.NAME})").match(text, start) if start >= 0 else None
+    if found is None or found.end() <= offset:
+        return None
+    if found[1] == "%":
+        return f"a package has one compiler for all languages: write `%{found[2]}`"
+    return f"an edge has no virtuals: write `^{found[2]}`, which asks that {found[2]} is there, whatever for"
+
+
 FORMS = {
     "Namespace": namespace,
     "Propagation": propagation,
@@ -70,7 +88,7 @@ FORMS = {
     "AnyValue": lambda text, at: f"leave `{shown(word_at(text, at))}` out: any value is allowed where none is asked for",
     "Quoted": lambda text, at: f"values have no quotation marks: `{shown(word_at(text, at).replace(chr(34), '').replace(chr(39), ''))}`",
     "Reference": lambda text, at: "no package is named by its hash: name it, with its version; what is installed is in DATABASE",
-    "EdgeAttributes": lambda text, at: "an edge has no attributes: write `^name`",
+    "EdgeAttributes": edge,
     "ProvidesForm": lambda text, at: "what is provided has versions alone: the rest goes into `when=`",
 }
 
@@ -84,6 +102,9 @@ def expected(text: str, offset: int) -> str:
     version = re.compile(VERSION_LIKE + r"(?=\s|$)").match(text, start)
     if version and "." in version.group() and start > 0:
         return f"a version stands behind `@`: `{name_before(text, start)}@{version.group()}` in place of `{version.group()}`"
+    newer = assigned(text, offset) if sign in "=," else None
+    if newer:
+        return newer
     if re.search(r"%\s*$", before):
         return f"a compiler's name is needed behind `%`, and `{shown(sign)}` stands there"
     if re.search(r"@\s*$", before):

@@ -9,7 +9,7 @@ import re
 from dataclasses import dataclass, field
 from typing import Optional
 
-from . import signs, versions
+from . import edge_texts, signs, versions
 
 # What `%` may name. Another package there is a direct dependency (Spack 1.0), which the profile has not.
 COMPILERS = frozenset(
@@ -49,13 +49,14 @@ class Part:
     platform: Optional[str] = None
     os: Optional[str] = None
     targets: Optional[tuple[str, ...]] = None
+    languages: tuple[str, ...] = ()  # for which the compiler is asked
+    edge: tuple[str, ...] = ()  # the virtuals that it is asked for
 
     def text(self) -> str:
         """The canonical text of this part."""
         words = [(self.name or "") + (f"@{self.versions}" if self.versions else "")]
         words += [variant_text(name, self.variants[name]) for name in sorted(self.variants)]
-        if self.compiler:
-            words.append("%" + self.compiler[0] + (f"@{self.compiler[1]}" if self.compiler[1] else ""))
+        words += edge_texts.compiler_words(self.languages, self.compiler) if self.compiler or self.languages else []
         words += [f"{name}={text}" for name, text in (("platform", self.platform), ("os", self.os)) if text]
         if self.targets:
             words.append("target=" + ",".join(self.targets))
@@ -71,15 +72,20 @@ class Spec:
 
     def text(self) -> str:
         """The canonical text."""
-        return " ".join(word for word in [self.top.text()] + ["^" + part.text() for part in self.below] if word)
+        below = ["^" + edge_texts.in_front(part.edge) + part.text() for part in self.below]
+        return " ".join(word for word in [self.top.text(), *below] if word)
 
 
 @dataclass(frozen=True)
 class Dialect:
-    """Which of Spack's readings holds: the repository's own namespace, and whether it is one of Spack 1.0 (api v2)."""
+    """Which of Spack's readings holds: the repository's own namespace, and whether it is one of Spack 1.0 (api v2).
+
+    What is said of edges is read for those that settle it.
+    """
 
     namespace: str = "builtin"
     is_v2: bool = False
+    has_edges: bool = False
 
 
 def variant_text(name: str, values: tuple[str, ...]) -> str:
@@ -144,17 +150,23 @@ class Reader:
         """Takes `^` and the name behind it."""
         if self.take(r"\^\s*") is None:
             return False
-        if self.text.startswith("[", self.place):
-            raise self.fail("attributes of an edge (`^[..]`)")
-        self.parts.append(Part(self.package_name()))
+        edge = self.take_virtuals()
+        self.parts.append(Part(self.package_name(), edge=edge))
         return True
+
+    def take_virtuals(self) -> tuple[str, ...]:
+        """Takes the virtuals that an edge is asked for."""
+        virtuals = edge_texts.virtuals_of(self.take)
+        if virtuals is None or virtuals and not self.dialect.has_edges:
+            raise self.fail("attributes of an edge (`^[..]`)")
+        return virtuals
 
     def take_constraint(self, blank: bool) -> None:
         """Takes one constraint of the nearest package."""
         part, sign = self.parts[-1], self.text[self.place]
         if pattern_of(r"\+\+|~~|%%").match(self.text, self.place) or blank and self.text.startswith("--", self.place):
             raise self.fail("propagation (`++`, `~~`, `--`, `==`)")
-        if part.compiler and self.dialect.is_v2:
+        if sign != "%" and (part.languages or part.compiler and self.dialect.is_v2):
             raise self.fail("something behind a compiler, which Spack 1.0 asks of the compiler")
         if sign == "@":
             self.take_versions(part)
@@ -206,15 +218,20 @@ class Reader:
     def take_compiler(self, part: Part) -> None:
         """Takes `%name@versions`."""
         self.take(r"%\s*")
+        languages = self.take_virtuals()
         name = self.take(signs.NAME)
+        if name in edge_texts.LANGUAGES and self.dialect.has_edges and not languages and not part.compiler:
+            part.languages = tuple(sorted({*part.languages, name}))
+            return
         name = COMPILER_OF_PACKAGE.get(name or "", name)
-        if name not in COMPILERS:
+        if name not in COMPILERS or not set(languages) <= set(edge_texts.LANGUAGES):
             raise self.fail("`%` before what is no compiler")
-        if part.compiler:
-            raise self.fail("two compilers")
         if pattern_of(r"\s+@").match(self.text, self.place):
             raise self.fail("white space between a compiler and `@`, which Spack's releases read differently")
-        part.compiler = (name, self.version_list() if self.text.startswith("@", self.place) else None)
+        compiler = (name, self.version_list() if self.text.startswith("@", self.place) else None)
+        if (part.compiler or part.languages) and not (languages and part.languages and part.compiler == compiler):
+            raise self.fail("two compilers")
+        part.compiler, part.languages = compiler, tuple(sorted({*part.languages, *languages}))
 
     def take_pair(self, part: Part) -> None:
         """Takes `name=values`."""

@@ -43,6 +43,12 @@ class Function:
 MACHINE = frozenset({"sys.platform", "platform.machine()", "platform.system()"})
 
 
+def why_computed(fault: str) -> str:
+    """Why a name has no value, by the fault of its expression: what the caller can say is named through all that is made of it."""
+    by_target = "`platform.machine()`, which --target says"
+    return f"is made of {by_target}" if fault.endswith(by_target) else "has a value that is computed"
+
+
 def dotted(node: ast.expr) -> str:
     """`a.b.c` as it is written; empty where it is no row of names."""
     names: list[str] = []

@@ -77,6 +77,13 @@ def read(section: str, name: str, value: Any, notes: Notes, dialect: Dialect = D
     return found
 
 
+def plain_versions(wish: Wish, package: str) -> Optional[str]:
+    """The versions that an entry asks of a package, where it asks nothing else."""
+    part = wish.specs[0].top
+    is_plain = part == spec_text.Part(part.name, part.versions) and part.name in (None, package) and not wish.specs[0].below
+    return part.versions if is_plain and len(wish.specs) == 1 and wish.when is None else None
+
+
 def joined(words: list[Text]) -> Text:
     """Several texts as one, with blanks between."""
     text = Text(" ".join(words))

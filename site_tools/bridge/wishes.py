@@ -12,7 +12,7 @@ from .own_name import name_in
 from .rows import Conditions, Origin, Recipe, Row, quoted, unquoted
 from .settings_externals import external_part
 from .settings_notes import Notes
-from .spec_text import Dialect, Spec
+from .spec_text import Dialect, Part, Spec
 from .wish_texts import Wish
 from .yaml_texts import Map, line_of
 
@@ -21,10 +21,11 @@ FILE = "packages.yaml"
 
 @dataclass
 class Site:
-    """What import_settings has to know of the recipes: who provides what, and the versions of packages with externals."""
+    """What other importers have to know of the recipes: who provides what, and the versions of packages with externals."""
 
     providers: dict[str, list[str]] = field(default_factory=dict)
     declared: dict[str, list[str]] = field(default_factory=dict)  # a package's own versions, where an external's was added
+    edges: dict[str, dict] = field(default_factory=dict)  # what decides for specs that say something of edges
 
 
 def providers_of(recipes: list[Recipe]) -> dict[str, list[str]]:
@@ -74,7 +75,11 @@ def write(wish: Wish, recipe: Recipe, is_of_all: bool, notes: Notes) -> None:
         recipe.rows.append(Row(directive, texts + words, Conditions(own=wish.when or None), origin=origin))
         return
     spec = specs[0]
-    is_plain = not (spec.below or spec.top.versions or spec.top.compiler or spec.top.platform or spec.top.os or spec.top.targets)
+    is_plain = not spec.below and replace(spec.top, name=None, variants={}) == Part()
+    if wish.section == "prefer" and not is_of_all and wish_texts.plain_versions(wish, recipe.name):
+        why = "`import_settings --repo` writes it as an order of versions, which is weaker than Spack's preference"
+        notes.leave_out_line(wish.line, where, why)
+        return
     if not is_plain or wish.when:
         why = "a preference of more than values of variants: versions are preferred by `version`, all else in the spec"
         notes.leave_out_line(wish.line, where, why)

@@ -2,4 +2,5 @@
 class Sorrel(Package):
     variant("build_system", default="generic", values=("generic",))
     version("2.0")
+    conflicts("^nettle-x")
     depends_on("cedar@4:")
