@@ -7,6 +7,6 @@ pub mod Counted
 pub mod Files
 pub mod Named
 pub mod Once
-pub mod Paths
+pub mod Failing
 pub mod Staged
 pub mod Values

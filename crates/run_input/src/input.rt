@@ -129,7 +129,7 @@ fn read_asked(
 }
 
 /// The database, and then what is behind it.
-#[tactic(auto, using(crate::proofs::Paths::of_database))]
+#[tactic(auto, using(crate::proofs::Failing::of_database))]
 fn read_behind<D: Desk>(
     alloc: Global,
     desk: &mut D,
@@ -151,7 +151,7 @@ fn read_behind<D: Desk>(
 }
 
 /// The repository, and then what is behind it.
-#[tactic(auto, using(crate::proofs::Paths::of_repository))]
+#[tactic(auto, using(crate::proofs::Failing::of_repository))]
 fn read_over<R: Threads + Sync, D: Desk>(
     rt: &R,
     alloc: Global,
@@ -178,7 +178,7 @@ fn read_over<R: Threads + Sync, D: Desk>(
 ///
 /// The first refusal that is due, in the order of work: the settings, the listing and the reading of all recipe files,
 /// their parsing, the clash of names, the database, the specs, the roots, the closure. `Fault` where the desk failed.
-#[tactic(auto, using(crate::proofs::Paths::of_settings))]
+#[tactic(auto, using(crate::proofs::Failing::of_settings))]
 pub fn read_input<R: Threads + Sync, D: Desk>(
     rt: &R,
     alloc: Global,

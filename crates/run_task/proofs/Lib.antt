@@ -8,7 +8,7 @@ mod Sayings
 pub mod Accepted
 pub mod Once
 pub mod Paths
-pub mod Roots
+pub mod RootTexts
 pub mod Stops
 mod Weaker
 pub use Rattle.run_input.proofs.StageLaws

@@ -2,7 +2,7 @@ use Rattle.std.proofs.Common.{ap}
 use Rattle.run_input.specs.Sites.{SettingsAt}
 use Rattle.run_words.specs.Words.{Command}
 use Rattle.run_input.specs.Inputs.{OverSettings}
-use Rattle.run_input.proofs.Paths.{later}
+use Rattle.run_input.proofs.Failing.{later}
 use Rattle.run_input.proofs.Staged.{staged}
 use Rattle.run_input.proofs.input.read_input.Goals as goal
 

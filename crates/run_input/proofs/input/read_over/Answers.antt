@@ -1,7 +1,7 @@
 use Rattle.std.proofs.Common.{ap}
 use Rattle.run_words.specs.Words.{Command}
 use Rattle.run_input.specs.Inputs.{Behind, InRepository}
-use Rattle.run_input.proofs.Paths.{later}
+use Rattle.run_input.proofs.Failing.{later}
 use Rattle.run_input.proofs.Staged.{staged}
 use Rattle.run_input.proofs.input.read_over.Goals as goal
 

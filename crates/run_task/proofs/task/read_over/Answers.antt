@@ -3,7 +3,7 @@ use Rattle.spec_grammar.specs.declared.part.Spec.{Spec}
 use Rattle.run_input.specs.Roots.{RootsOf}
 use Rattle.run_task.proofs.Paths.{later}
 use Rattle.run_task.proofs.Stops.{any_ok}
-use Rattle.run_task.proofs.Roots.{texts_of}
+use Rattle.run_task.proofs.RootTexts.{texts_of}
 use Rattle.run_task.proofs.task.read_over.Goals as goal
 
 pub task_by-requires-clause-texts : goal.task_by-requires-clause-texts
