@@ -12,9 +12,9 @@ pieces-preserved g c =
     let moved : Moves c.pieces.from (More c.in-Ok-More.place) =
     subst (λ (n : Next). Moves c.pieces.from n) c.in-Ok-More.field-0-is e.moves in
     record {
-      same = e.same ∙ i.same;
-      steady = e.steady tt ∙ i.steady;
-      put_faults = e.put_faults ∙ i.put_faults;
+      same = e.only_reads.same ∙ i.same;
+      steady = e.only_reads.steady tt ∙ i.steady;
+      put_faults = e.only_reads.put_faults ∙ i.put_faults;
       within = moved.1;
       room = let a = i.room in let b = c.take_next.auto.piece in omega (arith, a, b);
       carried = carries_more c.args.path.now c.pieces.from c.args.checker.now c.pieces.checker c.take_next.new.checker _ c.in-Ok-More.place
