@@ -75,7 +75,7 @@ fn attempt_by<R: Threads + Sync, D: Desk, O: Sink, P: Progress>(
 
 /// Reads the task that the words name, and writes its answer. The log of what was searched is kept, in the place of what was there,
 /// and `progress` is told how far the run is.
-#[tactic(auto, using(crate::proofs::Stages::none_attempted, crate::proofs::Stages::memory_ended))]
+#[tactic(auto, using(crate::proofs::Stages::none_attempted, crate::proofs::Stages::memory_ended, crate::proofs::Stages::held_still, crate::proofs::Stages::none_kept, crate::proofs::Stages::memory_kept))]
 pub fn attempt<R: Threads + Sync, D: Desk, O: Sink, P: Progress>(
     rt: &R,
     alloc: Global,
