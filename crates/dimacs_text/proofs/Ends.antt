@@ -70,33 +70,11 @@ pub was_named : (files : Option Files) (words : List (List ℕ)) (command : Comm
 was_named None words command before after result named attempts = tt
 was_named (Some files) words command before after result named attempts = named_here files words command before after result named attempts
 
--- the words are none, or memory ran out over them
-pub was_none : (files : Option Files) (words : List (List ℕ)) (before after : Option (List ℕ)) (stop : Stop) → GivesCommand words (Err stop)
-    → after ≡ before → IfSome files (λ m. Attempts m words before after (Err stop))
-was_none None words before after stop gives same = tt
-was_none (Some files) words before after Usage none same = (none, same)
-was_none (Some files) words before after (Read (Refused refusal)) never same = absurd never
-was_none (Some files) words before after (Read (Fault path)) never same = absurd never
-was_none (Some files) words before after (Read NoMemory) spent same = tt
-was_none (Some files) words before after (Write stop) never same = absurd never
-
--- and no device failed
-pub not_read : (words : List (List ℕ)) (stop : Stop) → GivesCommand words (Err stop) → FailsToRead (Err stop) → ⊥
-not_read words Usage none fails = fails
-not_read words (Read (Refused refusal)) never fails = fails
-not_read words (Read (Fault path)) never fails = never
-not_read words (Read NoMemory) spent fails = fails
-not_read words (Write stop) never fails = never
-
-pub not_put : (words : List (List ℕ)) (stop : Stop) → GivesCommand words (Err stop) → FailsToPut (Err stop) → ⊥
-not_put words Usage none fails = fails
-not_put words (Read stop) gives fails = fails
-not_put words (Write stop) never fails = never
-
-pub not_said : (words : List (List ℕ)) (stop : Stop) → GivesCommand words (Err stop) → FailsToSay (Err stop) → ⊥
-not_said words Usage none fails = fails
-not_said words (Read stop) gives fails = fails
-not_said words (Write stop) never fails = never
+-- the words are none
+pub was_none : (files : Option Files) (words : List (List ℕ)) (before after : Option (List ℕ)) → GivesCommand words (Err Usage)
+    → after ≡ before → IfSome files (λ m. Attempts m words before after (Err Usage))
+was_none None words before after none same = tt
+was_none (Some files) words before after none same = (none, same)
 
 -- ---- answers
 

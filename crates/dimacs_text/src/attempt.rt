@@ -118,7 +118,7 @@ fn attempt_by<R: Threads + Sync, D: Desk, O: Sink>(
 }
 
 /// The same by the words of the command.
-#[tactic(auto, using(crate::proofs::Ends::was_named))]
+#[tactic(auto, using(crate::proofs::Ends::was_named, crate::proofs::Ends::was_none))]
 fn attempt_over<R: Threads + Sync, D: Desk, O: Sink>(
     rt: &R,
     alloc: Global,
@@ -136,7 +136,8 @@ fn attempt_over<R: Threads + Sync, D: Desk, O: Sink>(
 {
     match read_command(alloc, words) {
         Ok(command) => attempt_by(rt, alloc, &command, desk, out),
-        Err(stop) => Err(stop),
+        Err(Stop::Usage) => Err(Stop::Usage),
+        Err(_) => Err(Stop::Read(ReadStop::NoMemory)),
     }
 }
 
