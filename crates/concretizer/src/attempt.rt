@@ -11,7 +11,7 @@ ghost use Rattle.concretizer.specs.Headline.{HasShown, Keeps, Reports};
 
 use outside_desk::{Desk, Sink, SinkFault};
 use run_output::{
-    Command, Log, Outcome, Progress, ReadStop, Stage, Status, Stop, Work, read_command, read_task,
+    Command, Log, Outcome, Progress, Stage, Status, Stop, Work, read_command, read_task,
     write_answer,
 };
 use std::alloc::Global;
@@ -75,7 +75,6 @@ fn attempt_by<R: Threads + Sync, D: Desk, O: Sink, P: Progress>(
 
 /// Reads the task that the words name, and writes its answer. The log of what was searched is kept, in the place of what was there,
 /// and `progress` is told how far the run is.
-#[tactic(auto, using(crate::proofs::Stages::none_attempted, crate::proofs::Stages::memory_ended))]
 pub fn attempt<R: Threads + Sync, D: Desk, O: Sink, P: Progress>(
     rt: &R,
     alloc: Global,
@@ -111,8 +110,7 @@ pub fn attempt<R: Threads + Sync, D: Desk, O: Sink, P: Progress>(
     *kept = Log::new(alloc);
     match read_command(alloc, words) {
         Ok(command) => attempt_by(rt, alloc, words, &command, desk, out, kept, progress),
-        Err(Stop::Usage) => Err(Stop::Usage),
-        Err(_) => Err(Stop::Read(ReadStop::NoMemory)),
+        Err(stop) => Err(stop),
     }
 }
 
