@@ -228,6 +228,17 @@ pub compares : (before : Option Files) (path : List ℕ) (input : Input) (number
 compares None path input numbers valid = tt
 compares (Some files) path input numbers valid = (refl, valid)
 
+-- what is seen of a comparison
+pub compared_seen : (command : Command) (input : Input) (result : Result Task ReadStop) (before : Option Files) (lock : List ℕ)
+    → command.work ≡ works.Fresh → lock ≡ command.lock
+    → IfOk result (λ task. IfSome before (λ files. ComparesLock files lock input.problem task))
+    → IfOk result (λ task. IfSome before (λ files. SeenBy command.work task files command input.problem))
+compared_seen command input (Ok task) None lock work same seen = tt
+compared_seen command input (Ok task) (Some files) lock work same seen =
+    subst (λ (w : Work). SeenBy w task files command input.problem) (sym work)
+    (subst (λ (p : List ℕ). ComparesLock files p input.problem task) same seen)
+compared_seen command input (Err stop) before lock work same seen = tt
+
 -- ---- which work looks for installed packages
 
 is_find : (work : Work) → is_search work ≡ true → work ≡ works.Find

@@ -116,6 +116,8 @@ pub fn read_valid_graph<D: Desk>(
     ensures only_reads { OnlyReads D.files D.faults D.put_faults desk.old desk.new result }
 {
     let lock = read_lock_at(alloc, desk, path)?;
-    judge_lock(alloc, problem, &lock)?;
-    Ok(lock.graph)
+    match judge_lock(alloc, problem, &lock) {
+        Ok(_) => Ok(lock.graph),
+        Err(stop) => Err(stop),
+    }
 }
