@@ -3,7 +3,7 @@ use Rattle.std.specs.Prelude.{◌≡◌, ◌≢◌, ℕ, List, Bool, true, false
 use Rattle.outside_desk.specs.Files.{Files}
 use Rattle.site_settings.specs.Standard.{standard}
 use Rattle.site_settings.specs.declared.settings.Settings.{Settings}
-use Rattle.settings_reader.specs.Files.{IsOfFile, IsFileFault}
+use Rattle.settings_reader.specs.Files.{IsOfFile, IsSettingsFileFault}
 use Rattle.settings_reader.specs.declared.fault.SettingsFault.{SettingsFault}
 use Rattle.settings_reader.specs.declared.fault.SettingsFault.TheVariants.{OutOfMemory}
 use Rattle.run_answers.specs.Stages.{Is, Then}
@@ -22,7 +22,7 @@ settings_bytes files path = bytes_at files path kinds.Settings
 -- the settings that a file says, or its fault
 abbrev pub SettingsIn : List ℕ → Result Settings Refusal → Type 0
 SettingsIn bytes (Ok settings) = IsOfFile bytes settings
-SettingsIn bytes (Err refusal) = (f : SettingsFault) × IsFileFault bytes f × (f ≢ OutOfMemory) × (refusal ≡ refusals.BadSettings f)
+SettingsIn bytes (Err refusal) = (f : SettingsFault) × IsSettingsFileFault bytes f × (f ≢ OutOfMemory) × (refusal ≡ refusals.BadSettings f)
 
 -- `-` is the standard, and no file
 abbrev pub SettingsBy : Bool → Files → List ℕ → Result Settings Refusal → Type 0
