@@ -1,5 +1,5 @@
 -- What is said of a graph: a line for each node, and the line of its cost vector; of installed packages; and of the order of a build.
-use Rattle.std.specs.Prelude.{ℕ, ◌+◌, List, [], ◌∷◌, ◌++◌, length, slice_get, Option, Some, None, option_map, unwrap_or, codes, decimal}
+use Rattle.std.specs.Prelude.{ℕ, ◌+◌, List, [], ◌∷◌, ◌++◌, length, slice_get, Option, Some, None, codes, decimal}
 use Rattle.std.specs.List.{flat_map}
 use Rattle.spec_grammar.specs.Canonical.{variants_text}
 use Rattle.graph_core.specs.declared.node.Compiler.{Compiler}
@@ -43,16 +43,17 @@ record_line entry =
     entry.hash
     ++ 32 ∷ (label_text node ++ (variants_text node.variants ++ (compiler_text node.compiler ++ (place_text node ++ codes " installed\n"))))
 
--- the installed package at a place, where there is one
-abbrev pub record_line_at : List Record → ℕ → List ℕ
-record_line_at records place = unwrap_or (option_map record_line (slice_get records place)) []
+-- one that may be there
+abbrev pub line_if_there : Option Record → List ℕ
+line_if_there None = []
+line_if_there (Some entry) = record_line entry
 
 unfoldable pub found_line : ℕ → List ℕ
 found_line count = codes "found " ++ (decimal count ++ 10 ∷ [])
 
 -- a line for each of these installed packages, and how many they are
 abbrev pub found_text : List Record → List ℕ → List ℕ
-found_text records places = flat_map (record_line_at records) places ++ found_line (length places)
+found_text records places = flat_map (λ place. line_if_there (slice_get records place)) places ++ found_line (length places)
 
 -- ---- the order of a build
 

@@ -43,7 +43,7 @@ fn stale_text(alloc: Global, numbers: &[u64]) -> Result<Vec<u8>, AllocError>
 fn is_smaller(a: &[u64], b: &[u64]) -> bool
     ensures { result ≡ smaller a.now b.now }
 {
-    a < b
+    a.cmp(b).is_lt()
 }
 
 /// Of costs beside those of an optimal graph.

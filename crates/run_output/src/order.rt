@@ -15,13 +15,20 @@ use install_plan::{Plan, waves};
 use plain_data::{List, Word};
 use std::alloc::{AllocError, Global};
 
+/// A name after a space.
+fn write_name(name: &Word, out: &mut Vec<u8>) -> Result<(), AllocError>
+    ensures { OnOk result (out.new.items ≡ out.old.items ++ 32 ∷ name.now) }
+{
+    out.extend_from_slice(b" ")?;
+    out.extend_from_slice(name.as_str().as_bytes())
+}
+
 /// Names, each after a space.
 fn write_names(names: &[Word], out: &mut Vec<u8>) -> Result<(), AllocError>
     ensures { OnOk result (out.new.items ≡ out.old.items ++ names_text names.now) }
 {
     for name in names {
-        out.extend_from_slice(b" ")?;
-        out.extend_from_slice(name.as_str().as_bytes())?;
+        write_name(name, out)?;
     }
     Ok(())
 }

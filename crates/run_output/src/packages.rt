@@ -4,7 +4,7 @@ ghost use Rattle.std.specs.Prelude.{◌≡◌, ◌++◌, slice_get, IfOk, OnOk};
 ghost use Rattle.std.specs.Option.{option_copied};
 ghost use Rattle.run_task.specs.declared.task.Task.TheVariants as tasks;
 ghost use Rattle.run_output.specs.Evidence.{evidence};
-ghost use Rattle.run_output.specs.Report.{found_line, found_text, record_line_at};
+ghost use Rattle.run_output.specs.Report.{found_line, found_text, line_if_there};
 ghost use Rattle.run_output.specs.Told.{Tells};
 
 use crate::answer::Outcome;
@@ -22,16 +22,15 @@ fn record_at(database: &Database, place: u64) -> Option<&Record>
     database.records().get(place as usize)
 }
 
-/// The line of the installed package at a place, where there is one.
-fn write_at(
+/// The line of an installed package, where there is one.
+fn write_if_there(
     alloc: Global,
-    database: &Database,
-    place: u64,
+    entry: Option<&Record>,
     out: &mut Vec<u8>,
 ) -> Result<(), AllocError>
-    ensures { OnOk result (out.new.items ≡ out.old.items ++ record_line_at database.now place) }
+    ensures { OnOk result (out.new.items ≡ out.old.items ++ line_if_there (option_copied entry.entry)) }
 {
-    match record_at(database, place) {
+    match entry {
         Some(entry) => write_record(alloc, entry, out),
         None => Ok(()),
     }
@@ -51,7 +50,7 @@ fn found_text(alloc: Global, database: &Database, places: &[u64]) -> Result<Vec<
 {
     let mut text = Vec::new(alloc);
     for place in places {
-        write_at(alloc, database, *place, &mut text)?;
+        write_if_there(alloc, record_at(database, *place), &mut text)?;
     }
     write_count(alloc, places.len(), &mut text)?;
     Ok(text)
