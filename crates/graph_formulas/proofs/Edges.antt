@@ -6,9 +6,9 @@ use Rattle.std.specs.Option.{option_and_then}
 use Rattle.std.specs.Str.{bytes_eq}
 use Rattle.std.proofs.lemmas.Bool.{cases_Bool, and_parts}
 use Rattle.virtuals.specs.Virtuals.{is_virtual}
-use Rattle.clause_formulas.specs.Rules.{Rule, keeps_rule}
+use Rattle.clause_formulas.specs.Rules.{Proposition, keeps_rule}
 use Rattle.graph_core.specs.Graphs.{Text}
-use Rattle.condition_rules.specs.Words.{among, implies, if_written, is_some_and}
+use Rattle.condition_rules.specs.Words.{is_one_text, implies, if_written, is_some_and}
 use Rattle.graph_core.specs.Graphs.{Content, node_of, provider_of, edge_of}
 use Rattle.problem.specs.Nodes.{covers, is_built}
 use Rattle.graph_core.specs.declared.node.Node.{Node}
@@ -21,12 +21,12 @@ use Rattle.problem.specs.Problems.{Problem, world_of, depends_at}
 use Rattle.graph_rules.specs.Built.{asks, asking, asked_kinds}
 use Rattle.graph_rules.specs.Whole.{uses}
 use Rattle.graph_formulas.specs.Facts.{is_in, has_origin}
-use Rattle.graph_formulas.specs.Lists.{given, some}
+use Rattle.graph_formulas.specs.Lists.{settled_test, some}
 use Rattle.literal_table.proofs.Spelling.{named-so}
 use Rattle.graph_formulas.proofs.Rules.{given-kept, each-kept, some-kept, named-kept}
 use Rattle.graph_formulas.proofs.Kept.{by_node, there, asked-kept}
-use Rattle.graph_formulas.specs.Terms.{Term, is_true, met_rule, builds}
-use Rattle.graph_formulas.specs.Edges.{no_kinds, of_provider, asks_rule, may_ask, names_virtual, may_use, kind_rule, extra_edge_rule, use_rule}
+use Rattle.graph_formulas.specs.Terms.{Term, is_true, met_rule, builds_node}
+use Rattle.graph_formulas.specs.Edges.{empty_kinds, of_provider, asks_rule, may_ask, names_virtual, may_use, kind_rule, extra_edge_rule, use_rule}
 use Rattle.graph_formulas.proofs.Directives.{LeadsToNodes, not-or, then-and}
 
 any-filter : {T : Type 0} (test f : T → Bool) (xs : List T) → list_any test (filter f xs) ≡ list_any (λ x. test x && f x) xs
@@ -77,23 +77,23 @@ and-swap false false = refl
 
 -- who is asked may be asked
 module _ (problem : Problem) (packages : Text → List Text) (graph : Content)
-    (listed : (virtual p : Text) → provider_of graph virtual ≡ Some p → among (packages virtual) p ≡ true) (child : Text) where
+    (listed : (virtual p : Text) → provider_of graph virtual ≡ Some p → is_one_text (packages virtual) p ≡ true) (child : Text) where
   node-named : (a : Text) → is_some_and (node_of graph a) (λ asked. bytes_eq asked.name child) ≡ true → bytes_eq a child ≡ true
   node-named a = by_node graph a (λ o. is_some_and o (λ asked. bytes_eq asked.name child) ≡ true → bytes_eq a child ≡ true)
       (λ asked there h. ap (λ m. bytes_eq m child) (sym (named-so graph a asked there)) ∙ h) (λ absent h. cc)
 
   one-asked : (a : Text) (b : Bool) → is_some_and (option_and_then (node_of graph) (if b then provider_of graph a else Some a)) (λ asked. bytes_eq asked.name child) ≡ true
-      → (if b then among (packages a) child else bytes_eq a child) ≡ true
+      → (if b then is_one_text (packages a) child else bytes_eq a child) ≡ true
   one-asked a false e = node-named a e
   one-asked a true e = provided (provider_of graph a) (listed a) e
     where
-      provided : (o : Option Text) → ((p : Text) → o ≡ Some p → among (packages a) p ≡ true)
-          → is_some_and (option_and_then (node_of graph) o) (λ asked. bytes_eq asked.name child) ≡ true → among (packages a) child ≡ true
+      provided : (o : Option Text) → ((p : Text) → o ≡ Some p → is_one_text (packages a) p ≡ true)
+          → is_some_and (option_and_then (node_of graph) o) (λ asked. bytes_eq asked.name child) ≡ true → is_one_text (packages a) child ≡ true
       provided None has h = cc
-      provided (Some p) has h = subst (λ n. among (packages a) n ≡ true) (bytes_eq-same p child (node-named p h)) (has p refl)
+      provided (Some p) has h = subst (λ n. is_one_text (packages a) n ≡ true) (bytes_eq-same p child (node-named p h)) (has p refl)
 
   some-asked : (o : Option Text) → is_some_and (option_and_then (asked_node (world_of problem) graph) o) (λ asked. bytes_eq asked.name child) ≡ true
-      → is_some_and o (λ asked. if is_virtual problem.recipes asked then among (packages asked) child else bytes_eq asked child) ≡ true
+      → is_some_and o (λ asked. if is_virtual problem.recipes asked then is_one_text (packages asked) child else bytes_eq asked child) ≡ true
   unfolding asked_node
   some-asked None e = e
   some-asked (Some a) e = one-asked a (is_virtual problem.recipes a) e
@@ -110,9 +110,9 @@ user-asks problem graph p name = by_node graph name (λ o. is_some_and o (uses p
     (λ absent h. cc)
 
 module _ (problem : Problem) (packages : Text → List Text) (graph : Content)
-    (listed : (virtual p : Text) → provider_of graph virtual ≡ Some p → among (packages virtual) p ≡ true)
+    (listed : (virtual p : Text) → provider_of graph virtual ≡ Some p → is_one_text (packages virtual) p ≡ true)
     (name : Text) (node : Node) (here : node_of graph name ≡ Some node) where
-  child-kept : (child : Text) (c : Node) → node_of graph child ≡ Some c → (n : Text) → keeps_rule (is_in graph) (given (bytes_eq n child)) ≡ is_some_and (node_of graph n) (λ asked. bytes_eq asked.name child)
+  child-kept : (child : Text) (c : Node) → node_of graph child ≡ Some c → (n : Text) → keeps_rule (is_in graph) (settled_test (bytes_eq n child)) ≡ is_some_and (node_of graph n) (λ asked. bytes_eq asked.name child)
   child-kept child c child_here n = rw (given-kept (is_in graph) (bytes_eq n child)) (
       by_node graph n (λ o. bytes_eq n child ≡ is_some_and o (λ asked. bytes_eq asked.name child))
       (λ asked there. ap (λ m. bytes_eq m child) (sym (named-so graph n asked there)))
@@ -124,7 +124,7 @@ module _ (problem : Problem) (packages : Text → List Text) (graph : Content)
   asks-kept : (child : Text) (c : Node) → node_of graph child ≡ Some c → (row : DependRow) → keeps_rule (is_true (world_of problem) graph) (asks_rule problem packages name child row) ≡ asks problem graph node child row
   asks-kept child c child_here row =
       ap (λ b. all_hold (world_of problem) row.when graph name && b) (
-      named-kept (is_in graph) _ _ (λ asked. asked-kept (world_of problem) graph packages listed asked (λ n. given (bytes_eq n child)) _ (child-kept child c child_here)) row.part.name
+      named-kept (is_in graph) _ _ (λ asked. asked-kept (world_of problem) graph packages listed asked (λ n. settled_test (bytes_eq n child)) _ (child-kept child c child_here)) row.part.name
       ∙ sym (then-and (asked_node (world_of problem) graph) (λ asked. bytes_eq asked.name child) row.part.name))
       ∙ ap (λ n. all_hold (world_of problem) row.when graph n && is_some_and (option_and_then (asked_node (world_of problem) graph) row.part.name) (λ asked. bytes_eq asked.name child)) (sym (named-so graph name node here))
 
@@ -164,9 +164,9 @@ module _ (problem : Problem) (packages : Text → List Text) (graph : Content)
   -- an edge of the node has no kind that none asks for
   pub extra_edge-kept : LeadsToNodes graph → (child : Text) → keeps_rule (is_true (world_of problem) graph) (extra_edge_rule problem packages name child) ≡ if_written (edge_of graph name child) (λ e. covers (asked_kinds (asking problem graph node child)) e.kinds)
   extra_edge-kept leads child = rw (
-    kind-kept leads (record no_kinds { build = true }) (λ k. k.build) child (λ k. ands k.build),
-    kind-kept leads (record no_kinds { link = true }) (λ k. k.link) child (λ k. and-true k.link),
-    kind-kept leads (record no_kinds { run = true }) (λ k. k.run) child (λ k. refl),
+    kind-kept leads (record empty_kinds { build = true }) (λ k. k.build) child (λ k. ands k.build),
+    kind-kept leads (record empty_kinds { link = true }) (λ k. k.link) child (λ k. and-true k.link),
+    kind-kept leads (record empty_kinds { run = true }) (λ k. k.run) child (λ k. refl),
   ) (extra_edge-kept-cases (edge_of graph name child))
     where
       and-true : (a : Bool) → (a && true) ≡ a
@@ -186,7 +186,7 @@ module _ (problem : Problem) (packages : Text → List Text) (graph : Content)
   -- the node uses the provider
   pub use-kept : (p : Text × Text) → keeps_rule (is_true (world_of problem) graph) (use_rule problem p name) ≡ uses problem graph p node
   use-kept p = rw (
-    there (world_of problem) graph name node here (has_origin builds),
+    there (world_of problem) graph name node here (has_origin builds_node),
     sym (some-there (edge_of graph name p.1)),
     asking-kept,
   )
@@ -206,10 +206,10 @@ module _ (problem : Problem) (packages : Text → List Text) (graph : Content)
       some-there (Some e) = refl
 
 -- of a list of names, the one that is this
-all-picked : (f : Text → Bool) (p : Text) (names : List Text) → list_all (λ n. not (bytes_eq p n) || f n) names ≡ (not (among names p) || f p)
+all-picked : (f : Text → Bool) (p : Text) (names : List Text) → list_all (λ n. not (bytes_eq p n) || f n) names ≡ (not (is_one_text names p) || f p)
 all-picked f p [] = refl
 all-picked f p (n ∷ names) = elim (cases_Bool (bytes_eq p n)) [
-  | inl same ↦ rw (same, all-picked f p names, ← bytes_eq-same p n same) (absorb (f p) (among names p))
+  | inl same ↦ rw (same, all-picked f p names, ← bytes_eq-same p n same) (absorb (f p) (is_one_text names p))
   | inr other ↦ rw (other, all-picked f p names) refl
 ]
   where
@@ -223,14 +223,14 @@ pub all-true : {T : Type 0} (xs : List T) → list_all (λ x. true) xs ≡ true
 all-true [] = refl
 all-true (x ∷ xs) = all-true xs
 
-pub of-provider-kept : (problem : Problem) (packages : Text → List Text) (graph : Content) → ((virtual p : Text) → provider_of graph virtual ≡ Some p → among (packages virtual) p ≡ true)
-    → (rule : Text × Text → Rule Term) (test : Text × Text → Bool) → ((p : Text × Text) → keeps_rule (is_true (world_of problem) graph) (rule p) ≡ test p)
+pub of-provider-kept : (problem : Problem) (packages : Text → List Text) (graph : Content) → ((virtual p : Text) → provider_of graph virtual ≡ Some p → is_one_text (packages virtual) p ≡ true)
+    → (rule : Text × Text → Proposition Term) (test : Text × Text → Bool) → ((p : Text × Text) → keeps_rule (is_true (world_of problem) graph) (rule p) ≡ test p)
     → (virtual : Text) → keeps_rule (is_true (world_of problem) graph) (of_provider packages rule virtual) ≡ if_written (provider_of graph virtual) (λ p. test (virtual, p))
 of-provider-kept problem packages graph listed rule test same virtual =
     each-kept (is_true (world_of problem) graph) _ (λ p. not (is_some_and (provider_of graph virtual) (λ q. bytes_eq q p)) || test (virtual, p)) (λ p. ap (λ b. not (is_some_and (provider_of graph virtual) (λ q. bytes_eq q p)) || b) (same (virtual, p))) (packages virtual)
     ∙ of-provider-kept-cases (provider_of graph virtual) (listed virtual)
   where
-    of-provider-kept-cases : (o : Option Text) → ((p : Text) → o ≡ Some p → among (packages virtual) p ≡ true)
+    of-provider-kept-cases : (o : Option Text) → ((p : Text) → o ≡ Some p → is_one_text (packages virtual) p ≡ true)
         → list_all (λ p. not (is_some_and o (λ q. bytes_eq q p)) || test (virtual, p)) (packages virtual) ≡ if_written o (λ p. test (virtual, p))
     of-provider-kept-cases None has = all-true (packages virtual)
     of-provider-kept-cases (Some q) has = all-picked (λ p. test (virtual, p)) q (packages virtual) ∙ rw (has q refl) refl

@@ -26,13 +26,13 @@ use Rattle.run_input.specs.Inputs.{
   posed_by,
   query_of,
   stock_of,
-  Asked,
+  OverSpecs,
   Behind,
   InputBy,
   InRepository,
-  Over,
+  OverSources,
   OverSettings,
-  Reads,
+  ReadsInput,
   Seeks,
   Sought,
   StockAt,
@@ -62,14 +62,14 @@ one_roots laws text =
     one_then (Is (short text)) (λ done. Then (SpecsOf text) (λ specs. Is (roots_of specs))) (one_is (short text))
     (λ done. one_then (SpecsOf text) (λ specs. Is (roots_of specs)) (one_specs laws text) (λ specs. one_is (roots_of specs)))
 
-one_over : (sources : List Source) → IsOne (Over sources)
+one_over : (sources : List Source) → IsOne (OverSources sources)
 one_over sources =
     one_then (Is (recipes_of sources)) (λ recipes. Then (Is (apart_of recipes)) (λ done. Is (Ok recipes))) (one_is (recipes_of sources))
     (λ recipes. one_then (Is (apart_of recipes)) (λ done. Is (Ok recipes)) (one_is (apart_of recipes)) (λ done. one_is (Ok recipes)))
 
 one_in_repository : (files : Files) (repo : List ℕ) → IsOne (InRepository files repo)
 one_in_repository files repo =
-    one_then (Is (pile_of files repo)) (λ pile. Over pile.files) (one_is (pile_of files repo)) (λ pile. one_over pile.files)
+    one_then (Is (pile_of files repo)) (λ pile. OverSources pile.files) (one_is (pile_of files repo)) (λ pile. one_over pile.files)
 
 one_input : (recipes : List Recipe) (settings : Settings) (records : List Record) (roots : List Spec)
     → IsOne (InputBy recipes settings records roots)
@@ -78,7 +78,7 @@ one_input recipes settings records roots =
     (one_is (posed_by recipes settings records roots))
     (λ problem. one_is (closed_of problem))
 
-one_asked : ReadsOnce → (spec : List ℕ) (stock : Stock) → IsOne (Asked spec stock)
+one_asked : ReadsOnce → (spec : List ℕ) (stock : Stock) → IsOne (OverSpecs spec stock)
 one_asked laws spec stock =
     one_then (RootsOf spec) (λ roots. InputBy stock.recipes stock.settings stock.records roots) (one_roots laws spec)
     (λ roots. one_input stock.recipes stock.settings stock.records roots)
@@ -108,9 +108,9 @@ module _ (one_settings : (files : Files) (path : List ℕ) → IsOne (SettingsAt
       (one_database files command.database) (λ records. one_is (Ok (stock_of settings recipes records)))))
 
   -- a command names one input at most, or is due one refusal
-  pub one_read : ReadsOnce → (files : Files) (command : Command) → IsOne (Reads files command)
+  pub one_read : ReadsOnce → (files : Files) (command : Command) → IsOne (ReadsInput files command)
   one_read laws files command =
-      one_then (StockAt files command) (Asked command.spec) (one_stock files command) (λ stock. one_asked laws command.spec stock)
+      one_then (StockAt files command) (OverSpecs command.spec) (one_stock files command) (λ stock. one_asked laws command.spec stock)
 
   -- and looks for one thing at most
   pub one_seek : ReadsOnce → (files : Files) (command : Command) → IsOne (Seeks files command)

@@ -36,12 +36,12 @@ unfoldable pub apart_of : List Recipe → Result (Unit {0}) Refusal
 apart_of recipes = refuse_some (λ recipe. refusals.NameClash recipe.name) (clash recipes)
 
 -- the parsing of all files, and then the clash of names
-abbrev pub Over : List Source → Result (List Recipe) Refusal → Type 0
-Over sources = Then (Is (recipes_of sources)) (λ recipes. Then (Is (apart_of recipes)) (λ done. Is (Ok recipes)))
+abbrev pub OverSources : List Source → Result (List Recipe) Refusal → Type 0
+OverSources sources = Then (Is (recipes_of sources)) (λ recipes. Then (Is (apart_of recipes)) (λ done. Is (Ok recipes)))
 
 -- the reading of all files of the repository, and then their parsing
 abbrev pub InRepository : Files → List ℕ → Result (List Recipe) Refusal → Type 0
-InRepository files repo = Then (Is (pile_of files repo)) (λ pile. Over pile.files)
+InRepository files repo = Then (Is (pile_of files repo)) (λ pile. OverSources pile.files)
 
 -- a problem of which no root is refused; no definition gives want of memory
 abbrev pub unless_refused : Problem → Option ProblemFault → Result Problem Refusal
@@ -95,12 +95,12 @@ abbrev pub StockAt : Files → Command → Result Stock Refusal → Type 0
 StockAt files command = Then (SettingsAt files command.settings) (OverSettings files command)
 
 -- the specs, and then the problem
-abbrev pub Asked : List ℕ → Stock → Result Input Refusal → Type 0
-Asked spec stock = Then (RootsOf spec) (λ roots. InputBy stock.recipes stock.settings stock.records roots)
+abbrev pub OverSpecs : List ℕ → Stock → Result Input Refusal → Type 0
+OverSpecs spec stock = Then (RootsOf spec) (λ roots. InputBy stock.recipes stock.settings stock.records roots)
 
 -- what a command names over the files: the names are found last
-abbrev pub Reads : Files → Command → Result Input Refusal → Type 0
-Reads files command = Then (StockAt files command) (Asked command.spec)
+abbrev pub ReadsInput : Files → Command → Result Input Refusal → Type 0
+ReadsInput files command = Then (StockAt files command) (OverSpecs command.spec)
 
 -- ---- what is looked for among installed packages
 

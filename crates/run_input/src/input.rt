@@ -12,7 +12,7 @@ ghost use Rattle.run_answers.specs.Stages.{Is};
 ghost use Rattle.run_answers.specs.Reads.{OnlyReads};
 ghost use Rattle.run_answers.specs.Stops.{Gives, EndsInReadFault};
 ghost use Rattle.run_input.specs.Roots.{RootsOf, are_named};
-ghost use Rattle.run_input.specs.Inputs.{posed_by, closed_of, InputBy, Asked, IsPosed, Reads, FailsAtInput};
+ghost use Rattle.run_input.specs.Inputs.{posed_by, closed_of, InputBy, OverSpecs, IsPosed, ReadsInput, FailsAtInput};
 
 use crate::roots::read_roots;
 use crate::stock::read_stock;
@@ -107,7 +107,7 @@ fn put_together(alloc: Global, stock: Stock, roots: ReadRoots) -> Result<Input, 
 
 /// The specs, and then the problem.
 fn read_asked(alloc: Global, stock: Stock, spec: &str) -> Result<Input, ReadStop>
-    ensures read { Gives result (Asked spec.now stock) }
+    ensures read { Gives result (OverSpecs spec.now stock) }
     ensures roots { IfOk result (λ input. RootsOf spec.now (Ok input.problem.roots)) }
     ensures posed { IfOk result IsPosed }
     ensures no_fault { EndsInReadFault result → ⊥ }
@@ -131,7 +131,7 @@ pub fn read_input<R: Threads + Sync, D: Desk>(
     desk: &mut D,
     command: &Command<'_>,
 ) -> Result<Input, ReadStop>
-    ensures read { IfSome (D.files desk.old) (λ files. Gives result (Reads files command.now)) }
+    ensures read { IfSome (D.files desk.old) (λ files. Gives result (ReadsInput files command.now)) }
     ensures roots { IfOk result (λ input. RootsOf command.now.spec (Ok input.problem.roots)) }
     ensures posed { IfOk result IsPosed }
     ensures path { FailsAtInput (D.files desk.old) command.now result }

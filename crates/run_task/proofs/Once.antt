@@ -8,7 +8,7 @@ use Rattle.run_input.specs.Refusal.{Refusal}
 use Rattle.run_input.specs.Words.{Command}
 use Rattle.run_input.specs.Work.{Work}
 use Rattle.run_input.specs.Work.TheVariants as works
-use Rattle.run_input.specs.Inputs.{Reads, Seeks}
+use Rattle.run_input.specs.Inputs.{ReadsInput, Seeks}
 use Rattle.run_input.specs.declared.input.Input.{Input}
 use Rattle.run_task.specs.Verdicts.{GraphAt, Judges}
 use Rattle.run_task.specs.Certificates.{certified_at, log_verdict}
@@ -50,13 +50,13 @@ one_by one_verdict one_graph (works.Trial packages seed) files command input = o
 some_same : {A : Type 0} (x y : A) → (let T : Type 0 = Option A in let a : T = Some x in let b : T = Some y in a ≡ b) → x ≡ y
 some_same x y e = cc
 
-module _ (one_read : (files : Files) (command : Command) → IsOne (Reads files command))
+module _ (one_read : (files : Files) (command : Command) → IsOne (ReadsInput files command))
     (one_query : (files : Files) (command : Command) → IsOne (Seeks files command)) (one_verdict : OneVerdict) (one_graph : OneGraph) where
   one_over : (search : Bool) (files : Files) (command : Command) → IsOne (OverUnless log_verdict search files command)
   one_over true files command =
       one_then (Seeks files command) (λ query. Is (Ok (tasks.Find query))) (one_query files command) (λ query. one_is (Ok (tasks.Find query)))
   one_over false files command =
-      one_then (Reads files command) (TaskBy log_verdict command.work files command) (one_read files command)
+      one_then (ReadsInput files command) (TaskBy log_verdict command.work files command) (one_read files command)
       (one_by one_verdict one_graph command.work files command)
 
   one_named : (files : Files) (command : Command) → IsOne (Named log_verdict files command)

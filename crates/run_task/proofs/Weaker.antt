@@ -6,7 +6,7 @@ use Rattle.run_input.specs.Refusal.{Refusal}
 use Rattle.run_input.specs.Words.{Command}
 use Rattle.run_input.specs.Work.{Work}
 use Rattle.run_input.specs.Work.TheVariants as works
-use Rattle.run_input.specs.Inputs.{Reads}
+use Rattle.run_input.specs.Inputs.{ReadsInput}
 use Rattle.run_input.specs.declared.input.Input.{Input}
 use Rattle.run_task.specs.Problems.{Problem}
 use Rattle.run_task.specs.Verdicts.{Judges}
@@ -55,7 +55,7 @@ module _ (some more : CertificateVerdicts) (allows : Allows some more) where
       → OverUnless more search files command r
   over true files command r is = is
   over false files command r is =
-      then_more (Reads files command) (Reads files command) (TaskBy some command.work files command) (TaskBy more command.work files command)
+      then_more (ReadsInput files command) (ReadsInput files command) (TaskBy some command.work files command) (TaskBy more command.work files command)
       (λ s read. read) (by_work command.work files command) r is
 
   poses : (files : Files) (words : List (List ℕ)) (r : Result Task Refusal) → Poses some files words r → Poses more files words r

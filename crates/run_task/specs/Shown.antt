@@ -8,7 +8,7 @@ use Rattle.graph_rules.specs.Optimal.{IsOptimal, HasNoGraph}
 use Rattle.run_input.specs.Words.{Command}
 use Rattle.run_input.specs.Work.{Work}
 use Rattle.run_input.specs.Work.TheVariants as works
-use Rattle.run_input.specs.Inputs.{Reads}
+use Rattle.run_input.specs.Inputs.{ReadsInput}
 use Rattle.run_input.specs.declared.input.Input.{Input}
 use Rattle.run_task.specs.Problems.{Problem}
 use Rattle.run_task.specs.Verdicts.{IsValidLock}
@@ -61,7 +61,7 @@ module _ (By : Files → Command → Problem → Type 0) where
   -- the input that a command reads over these files, of which this is shown
   pub record IsShownOver (files : Files) (command : Command) : Type 0 where
     pub input : Input
-    pub read : Reads files command (Ok input)
+    pub read : ReadsInput files command (Ok input)
     pub shown : By files command input.problem
 
   -- a command that looks for installed packages reads no input

@@ -13,7 +13,7 @@ use Rattle.run_input.specs.ReadStop.TheVariants as reads
 use Rattle.run_input.specs.Words.{Command, command_of}
 use Rattle.run_input.specs.Work.{Work}
 use Rattle.run_input.specs.Work.TheVariants as works
-use Rattle.run_input.specs.Inputs.{Reads, Seeks, IsInputPath, IsPosed}
+use Rattle.run_input.specs.Inputs.{ReadsInput, Seeks, IsInputPath, IsPosed}
 use Rattle.run_input.specs.Roots.{RootsOf, ConditionOf}
 use Rattle.run_input.specs.declared.input.Input.{Input}
 use Rattle.run_task.specs.Problems.{Problem}
@@ -85,7 +85,7 @@ module _ (verdicts : CertificateVerdicts) where
   -- what is read over these files is one for all commands that pose a problem, and then comes the command's own work
   abbrev pub OverUnless : Bool → Files → Command → Result Task Refusal → Type 0
   OverUnless true files command = Then (Seeks files command) (λ query. Is (Ok (tasks.Find query)))
-  OverUnless false files command = Then (Reads files command) (TaskBy command.work files command)
+  OverUnless false files command = Then (ReadsInput files command) (TaskBy command.work files command)
 
   abbrev pub Over : Files → Command → Result Task Refusal → Type 0
   Over files command = OverUnless (is_search command.work) files command
