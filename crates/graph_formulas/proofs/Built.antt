@@ -8,8 +8,8 @@ use Rattle.clause_formulas.specs.Rules.{Rule, keeps_rule}
 use Rattle.graph_core.specs.Graphs.{Text, Content, node_of}
 use Rattle.graph_core.specs.Paths.{reaches_in}
 use Rattle.graph_core.specs.declared.node.Node.{Node}
-use Rattle.condition_rules.specs.Words.{among, is_some_and}
-use Rattle.problem.specs.Problems.{Problem, world_of, recipe_at, versions_at, entry_of, is_buildable_in, same_compiler}
+use Rattle.condition_rules.specs.Words.{is_one_text, is_some_and}
+use Rattle.problem.specs.Problems.{Problem, world_of, recipe_at, versions_at, package_entry_of, is_buildable_in, same_compiler}
 use Rattle.site_settings.specs.declared.settings.CompilerEntry.{CompilerEntry}
 use Rattle.graph_rules.specs.Built.{keeps_buildable, keeps_version, keeps_compiler, keeps_machine, supports}
 use Rattle.graph_rules.specs.Whole.{keeps_provider, keeps_no_cycle, keeps_reachable}
@@ -24,7 +24,8 @@ pub either-way : (a b : Text) → bytes_eq a b ≡ bytes_eq b a
 either-way a b = nat_list_eq_equiv.symm a b
 
 -- a test of one and a test of some
-swapped : {T U : Type 0} (test : T → U → Bool) (o : Option T) (xs : List U) → list_any (λ x. is_some_and o (λ y. test y x)) xs ≡ is_some_and o (λ y. list_any (test y) xs)
+swapped : {T U : Type 0} (test : T → U → Bool) (o : Option T) (xs : List U)
+    → list_any (λ x. is_some_and o (λ y. test y x)) xs ≡ is_some_and o (λ y. list_any (test y) xs)
 swapped test None [] = refl
 swapped test None (x ∷ xs) = swapped test None xs
 swapped test (Some y) xs = refl
@@ -40,7 +41,8 @@ module _ (problem : Problem) (graph : Content) where
     -- the rule of a buildable name
     pub buildable-kept : in_graph (buildable_rule problem name) ≡ keeps_buildable problem node
     unfolding keeps_buildable
-    buildable-kept = given-kept (is_in graph) _ ∙ ap (λ n. is_some (recipe_at problem n) && is_buildable_in (entry_of problem n)) (sym (named-so graph name node here))
+    buildable-kept = given-kept (is_in graph) _
+        ∙ ap (λ n. is_some (recipe_at problem n) && is_buildable_in (package_entry_of problem n)) (sym (named-so graph name node here))
 
     -- of its version
     pub version-kept : in_graph (version_rule problem name) ≡ keeps_version problem node
@@ -53,7 +55,7 @@ module _ (problem : Problem) (graph : Content) where
     pub machine-kept : in_graph (machine_rule problem name) ≡ keeps_machine problem node
     unfolding keeps_machine
     machine-kept = rw (
-      has (has_os (among problem.settings.os)),
+      has (has_os (is_one_text problem.settings.os)),
       has (has_target (λ target. list_any (λ entry. bytes_eq entry.name target) problem.settings.targets)),
     ) refl
 
@@ -61,18 +63,22 @@ module _ (problem : Problem) (graph : Content) where
     pub compiler-kept : in_graph (compiler_rule problem name) ≡ keeps_compiler problem node
     unfolding keeps_compiler
     compiler-kept =
-        some-kept (is_in graph) (entry_rule problem name) (λ entry. is_some_and node.compiler (λ c. same_compiler entry.compiler c && supports entry node)) entry-kept problem.settings.compilers
+        some-kept (is_in graph) (entry_rule problem name)
+        (λ entry. is_some_and node.compiler (λ c. same_compiler entry.compiler c && supports entry node)) entry-kept
+        problem.settings.compilers
         ∙ swapped (λ c entry. same_compiler entry.compiler c && supports entry node) node.compiler problem.settings.compilers
       where
         and-some : {T : Type 0} (o : Option T) (test : T → Bool) (b : Bool) → (is_some_and o test && b) ≡ is_some_and o (λ x. test x && b)
         and-some None test b = refl
         and-some (Some x) test b = refl
 
-        entry-kept : (entry : CompilerEntry) → in_graph (entry_rule problem name entry) ≡ is_some_and node.compiler (λ c. same_compiler entry.compiler c && supports entry node)
+        entry-kept : (entry : CompilerEntry) → in_graph (entry_rule problem name entry) ≡ is_some_and node.compiler
+            (λ c. same_compiler entry.compiler c && supports entry node)
         entry-kept entry = rw (
           has (has_compiler (λ c. is_some_and c (same_compiler entry.compiler))),
-          written-kept (is_in graph) _ (λ names. among names node.os) (λ names. has (has_os (among names))) entry.os,
-          written-kept (is_in graph) _ (λ names. among names node.target) (λ names. has (has_target (among names))) entry.targets,
+          written-kept (is_in graph) _ (λ names. is_one_text names node.os) (λ names. has (has_os (is_one_text names))) entry.os,
+          written-kept (is_in graph) _ (λ names. is_one_text names node.target) (λ names. has (has_target (is_one_text names)))
+              entry.targets,
         ) (and-some node.compiler (same_compiler entry.compiler) (supports entry node))
 
     -- no path leads back to the node
@@ -85,8 +91,11 @@ module _ (problem : Problem) (graph : Content) where
     unfolding keeps_reachable
     reachable-kept =
         some-kept (is_in graph) _ (λ spec. is_some_and spec.top.name (λ root. bytes_eq root name || reaches_in graph root name))
-        (λ spec. named-kept (is_in graph) _ (λ root. bytes_eq root name || reaches_in graph root name) (λ root. rw (given-kept (is_in graph) (bytes_eq root name), or-false (reaches_in graph root name)) refl) spec.top.name) problem.roots
-        ∙ ap (λ n. list_any (λ spec. is_some_and spec.top.name (λ root. bytes_eq root n || reaches_in graph root n)) problem.roots) (sym (named-so graph name node here))
+        (λ spec. named-kept (is_in graph) _ (λ root. bytes_eq root name || reaches_in graph root name)
+        (λ root. rw (given-kept (is_in graph) (bytes_eq root name), or-false (reaches_in graph root name)) refl) spec.top.name)
+        problem.roots
+        ∙ ap (λ n. list_any (λ spec. is_some_and spec.top.name (λ root. bytes_eq root n || reaches_in graph root n)) problem.roots)
+        (sym (named-so graph name node here))
 
   -- a provider may provide the virtual
   pub provider-kept : (p : Text × Text) → in_graph (provider_rule problem p) ≡ keeps_provider problem graph p

@@ -11,7 +11,7 @@ use Rattle.clause_formulas.specs.Statements.{Statement}
 use Rattle.clause_formulas.specs.Rules.{Rule, keeps_rule}
 use Rattle.clause_formulas.proofs.RuleLaws.{rule-said}
 use Rattle.graph_core.specs.Graphs.{Text, Content, node_of, provider_of}
-use Rattle.condition_rules.specs.Words.{among, is_some_and}
+use Rattle.condition_rules.specs.Words.{is_one_text, is_some_and}
 use Rattle.condition_rules.specs.Worlds.{World}
 use Rattle.condition_rules.specs.Meets.{meets, provides}
 use Rattle.condition_rules.specs.Holds.{holds, all_hold}
@@ -26,11 +26,12 @@ use Rattle.graph_formulas.proofs.WordsSaid.{word-said}
 use Rattle.graph_formulas.proofs.Kept.{meets-kept, provides-kept, holds-kept, condition-kept}
 
 -- what is chosen is one of the choices
-chosen-among : (v : ℕ → Bool) (choices : Choices Text) (x : Text) → among (chosen v choices) x ≡ true → among (offered choices) x ≡ true
+chosen-among : (v : ℕ → Bool) (choices : Choices Text) (x : Text) → is_one_text (chosen v choices) x ≡ true
+    → is_one_text (offered choices) x ≡ true
 chosen-among v [] x h = h
 chosen-among v (c ∷ cs) x h = elim (cases_Bool (lit_true v c.1)) [
-  | inl t ↦ chosen-among-cases (bytes_eq x c.0) (among (chosen v cs) x) (among (offered cs) x) (chosen-among v cs x) (rw t at h)
-  | inr f ↦ or_right (bytes_eq x c.0) (among (offered cs) x) (chosen-among v cs x (rw f at h))
+  | inl t ↦ chosen-among-cases (bytes_eq x c.0) (is_one_text (chosen v cs) x) (is_one_text (offered cs) x) (chosen-among v cs x) (rw t at h)
+  | inr f ↦ or_right (bytes_eq x c.0) (is_one_text (offered cs) x) (chosen-among v cs x (rw f at h))
 ]
   where
     chosen-among-cases : (a b c : Bool) → (b ≡ true → c ≡ true) → (a || b) ≡ true → (a || c) ≡ true
@@ -38,11 +39,13 @@ chosen-among v (c ∷ cs) x h = elim (cases_Bool (lit_true v c.1)) [
     chosen-among-cases false b c f h = f h
 
 -- a provider is among the packages of its virtual
-pub provider-listed : (v : ℕ → Bool) (table : Table) (graph : Content) → Spells v table graph → (virtual p : Text) → provider_of graph virtual ≡ Some p → among (names_for table virtual) p ≡ true
+pub provider-listed : (v : ℕ → Bool) (table : Table) (graph : Content) → Spells v table graph → (virtual p : Text)
+    → provider_of graph virtual ≡ Some p → is_one_text (names_for table virtual) p ≡ true
 provider-listed v table graph s virtual p is =
     chosen-among v (packages_of table virtual) p (rw (s.providers virtual, is, (bytes_decides p p).1 refl) refl)
 
-module _ (world : World) (v : ℕ → Bool) (path : Text → Text → Statement) (table : Table) (graph : Content) (s : SpellsPaths v path table graph) where
+module _ (world : World) (v : ℕ → Bool) (path : Text → Text → Statement) (table : Table) (graph : Content)
+    (s : SpellsPaths v path table graph) where
   abbrev kept : Rule Word → Bool
   kept rule = keeps_rule (is_in graph) rule
 
@@ -50,19 +53,25 @@ module _ (world : World) (v : ℕ → Bool) (path : Text → Text → Statement)
   said rule = rule-said v (word_said path table) (is_in graph) (word-said v path table graph s) rule
 
   -- the formula of a part
-  pub meets-said : (name : Text) (part : Part) → says v path table (meets_rule world name part) ≡ is_some_and (node_of graph name) (meets world part)
+  pub meets-said : (name : Text) (part : Part)
+      → says v path table (meets_rule world name part) ≡ is_some_and (node_of graph name) (meets world part)
   meets-said name part = said (meets_rule world name part) ∙ meets-kept world graph name part
 
   -- of a provider
   pub provides-said : (name virtual : Text) (wanted : Option (List Item))
-      → says v path table (provides_rule world name virtual wanted) ≡ is_some_and (node_of graph name) (λ node. provides world node virtual wanted)
+      → says v path table (provides_rule world name virtual wanted) ≡ is_some_and (node_of graph name)
+      (λ node. provides world node virtual wanted)
   provides-said name virtual wanted = said (provides_rule world name virtual wanted) ∙ provides-kept world graph name virtual wanted
 
   -- of a spec
-  pub holds-said : (name : Text) (spec : Spec) → says v path table (holds_rule world (names_for table) name spec) ≡ holds world spec graph name
-  holds-said name spec = said (holds_rule world (names_for table) name spec) ∙ holds-kept world graph (names_for table) (provider-listed v table graph s.facts) name spec
+  pub holds-said : (name : Text) (spec : Spec)
+      → says v path table (holds_rule world (names_for table) name spec) ≡ holds world spec graph name
+  holds-said name spec = said (holds_rule world (names_for table) name spec)
+      ∙ holds-kept world graph (names_for table) (provider-listed v table graph s.facts) name spec
 
   -- of a condition
-  pub condition-said : (name : Text) (condition : Condition) → says v path table (condition_rule world (names_for table) name condition) ≡ all_hold world condition graph name
+  pub condition-said : (name : Text) (condition : Condition)
+      → says v path table (condition_rule world (names_for table) name condition) ≡ all_hold world condition graph name
   condition-said name condition =
-      said (condition_rule world (names_for table) name condition) ∙ condition-kept world graph (names_for table) (provider-listed v table graph s.facts) name condition
+      said (condition_rule world (names_for table) name condition)
+      ∙ condition-kept world graph (names_for table) (provider-listed v table graph s.facts) name condition

@@ -4,7 +4,7 @@ use Rattle.std.specs.List.{list_any}
 use Rattle.std.specs.Str.{bytes_eq}
 use Rattle.clause_formulas.specs.Rules.{Rule, fact, if_so}
 use Rattle.graph_core.specs.Graphs.{Text}
-use Rattle.condition_rules.specs.Words.{among, is_some_and}
+use Rattle.condition_rules.specs.Words.{is_one_text, is_some_and}
 use Rattle.graph_core.specs.declared.node.Kinds.{Kinds}
 use Rattle.virtuals.specs.Virtuals.{is_virtual}
 use Rattle.recipe_data.specs.declared.recipe.DependRow.{DependRow}
@@ -26,7 +26,8 @@ module _ (problem : Problem) (packages : Text → List Text) where
 
   -- the row may ask for this child, by its name or by a virtual
   abbrev pub may_ask : Text → DependRow → Bool
-  may_ask child row = is_some_and row.part.name (λ asked. if is_virtual problem.recipes asked then among (packages asked) child else bytes_eq asked child)
+  may_ask child row = is_some_and row.part.name
+      (λ asked. if is_virtual problem.recipes asked then is_one_text (packages asked) child else bytes_eq asked child)
 
   -- where the edge has the kind, some row asks for it
   abbrev pub kind_rule : Kinds → (Kinds → Bool) → Text → Text → Rule Term

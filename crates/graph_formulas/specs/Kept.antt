@@ -10,7 +10,7 @@ use Rattle.graph_core.specs.declared.node.Kinds.{Kinds}
 use Rattle.graph_core.specs.declared.node.Origin.{Origin}
 use Rattle.graph_core.specs.declared.node.Origin.TheVariants.{Built, External, Installed}
 use Rattle.condition_rules.specs.Words.{is_some_and}
-use Rattle.problem.specs.Problems.{Problem, entry_of, externals_in, record_at, same_compiler}
+use Rattle.problem.specs.Problems.{Problem, package_entry_of, externals_in, record_at, same_compiler}
 use Rattle.problem.specs.Records.{kept_dependencies}
 use Rattle.reuse_db.specs.declared.record.Record.{Record}
 use Rattle.graph_rules.specs.Kept.{external_node, installed_node}
@@ -87,7 +87,8 @@ module _ (problem : Problem) (children : List Text) where
   abbrev pub origin_rule : Text → Origin → Rule Word
   origin_rule name Built = fact (node_has name (has_prefix is_none))
   origin_rule name (External place) =
-      named (slice_get (externals_in (entry_of problem name)) place) (λ entry. same_rule name (external_node problem name place entry))
+      named (slice_get (externals_in (package_entry_of problem name)) place)
+      (λ entry. same_rule name (external_node problem name place entry))
       and each (λ child. isnt (fact (has_edge name child no_kinds))) children
   origin_rule name (Installed hash) =
       named (record_at problem hash) (λ entry.

@@ -11,7 +11,7 @@ use Rattle.clause_store.specs.declared.Lit.{Lit}
 use Rattle.clause_formulas.specs.Statements.{Statement, atom}
 use Rattle.graph_core.specs.Graphs.{Text}
 use Rattle.recipe_data.specs.declared.recipe.VariantRow.{VariantRow}
-use Rattle.condition_rules.specs.Words.{among}
+use Rattle.condition_rules.specs.Words.{is_one_text}
 use Rattle.problem.specs.Problems.{Problem, variants_at}
 use Rattle.problem.specs.Closure.{possible_providers}
 use Rattle.graph_rules.specs.Weights.{version_weight, is_deprecated, os_weight, target_weight, compiler_weight, provider_weight}
@@ -164,7 +164,7 @@ module _ (problem : Problem) (limits : IsWithin problem) (names : List Text) (ri
 
   packages-rise : (virtual : Text) → IsInByteOrder (possible_packages problem names virtual)
   unfolding possible_packages
-  packages-rise virtual = IsStrictlySortedBy-filter byte_cmp (among (possible_providers problem virtual)) names rising
+  packages-rise virtual = IsStrictlySortedBy-filter byte_cmp (is_one_text (possible_providers problem virtual)) names rising
 
   abbrev Provided : Text → Text × List Text
   Provided virtual = (virtual, possible_packages problem names virtual)

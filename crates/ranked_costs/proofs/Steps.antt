@@ -7,7 +7,7 @@ use Rattle.clause_store.specs.Clauses.{Clauses}
 use Rattle.clause_formulas.specs.Statements.{eval}
 use Rattle.clause_formulas.specs.declared.defined.Defined.{Defined}
 use Rattle.graph_core.specs.Graphs.{Text, Content}
-use Rattle.condition_rules.specs.Words.{among}
+use Rattle.condition_rules.specs.Words.{is_one_text}
 use Rattle.problem.specs.Nodes.{IsWellFormed}
 use Rattle.problem.specs.Problems.{Problem}
 use Rattle.graph_rules.proofs.Lists.{list_all-from}
@@ -33,10 +33,10 @@ use Rattle.ranked_costs.proofs.HeldLaws.{as-many, told, held-says}
 use Rattle.ranked_costs.proofs.VectorSums.{holding, sums-are}
 
 -- a name that is found is among the names
-found-among : (t : Table) (name : Text) (b : Block) → block_of t name ≡ Some b → among (map name_of t.blocks) name ≡ true
+found-among : (t : Table) (name : Text) (b : Block) → block_of t name ≡ Some b → is_one_text (map name_of t.blocks) name ≡ true
 found-among t name b found =
-    found-passes (among (map name_of t.blocks)) t.blocks name b
-    (list_all-from (among (map name_of t.blocks)) (map name_of t.blocks) (λ x there. among-In (map name_of t.blocks) x there)) found
+    found-passes (is_one_text (map name_of t.blocks)) t.blocks name b
+    (list_all-from (is_one_text (map name_of t.blocks)) (map name_of t.blocks) (λ x there. among-In (map name_of t.blocks) x there)) found
 
 module _ (problem : Problem) (names : List Text) (place : Places) (order : List Text) where
   abbrev t : Table

@@ -16,8 +16,8 @@ use Rattle.graph_core.specs.Given.{pairs_of}
 use Rattle.graph_core.proofs.PairLaws.{tells_alike}
 use Rattle.recipe_data.specs.declared.recipe.DependRow.{DependRow}
 use Rattle.recipe_data.specs.declared.recipe.Recipe.{Recipe}
-use Rattle.virtuals.specs.Virtuals.{name_of, is_virtual}
-use Rattle.condition_rules.specs.Words.{among}
+use Rattle.virtuals.specs.Virtuals.{recipe_name, is_virtual}
+use Rattle.condition_rules.specs.Words.{is_one_text}
 use Rattle.condition_rules.specs.Worlds.{recipe_of, rows}
 use Rattle.problem.specs.Problems.{Problem, recipe_at, depends_at}
 use Rattle.problem.specs.Closure.{next_names}
@@ -84,10 +84,11 @@ module _ (problem : Problem) (limits : IsWithin problem) (names : List Text) (ri
       → sum_by (λ name. length (rows field (recipe_at problem name))) names ≤ 2 ^ 28
   unfolding recipe_of
   rows-shared field le =
-      let each = sum-le-in (λ name. length (rows field (find_key byte_cmp name_of problem.recipes name)))
-      (λ name. adds_or_none (λ recipe. length (field recipe)) (find_key byte_cmp name_of problem.recipes name)) names
-      (λ name there. omega (arith, rows-found field length refl (find_key byte_cmp name_of problem.recipes name))) in
-      let once = found (eq_by_cmp byte_cmp) cmp-same (λ (recipe : Recipe). length (field recipe)) name_of names rising problem.recipes in
+      let each = sum-le-in (λ name. length (rows field (find_key byte_cmp recipe_name problem.recipes name)))
+      (λ name. adds_or_none (λ recipe. length (field recipe)) (find_key byte_cmp recipe_name problem.recipes name)) names
+      (λ name there. omega (arith, rows-found field length refl (find_key byte_cmp recipe_name problem.recipes name))) in
+      let once = found (eq_by_cmp byte_cmp) cmp-same (λ (recipe : Recipe). length (field recipe)) recipe_name names rising
+      problem.recipes in
       let all = sum-le-in (λ (recipe : Recipe). length (field recipe)) size_of_recipe problem.recipes (λ recipe there. le recipe) in
       omega (arith, limits.recipes, each, once, all)
 
@@ -153,7 +154,7 @@ module _ (problem : Problem) (names : List Text) (n : ℕ) where
   pub own-edges : length names ≤ most_names → length Own.edges ≤ 2 ^ 20
   unfolding table_from plan_of possible_edges
   own-edges few =
-      let test = λ (pair : Text × Text). among (next_names problem pair.0) pair.1 in
+      let test = λ (pair : Text × Text). is_one_text (next_names problem pair.0) pair.1 in
       omega (
         arith,
         pairs-few names few,

@@ -7,7 +7,7 @@ use Rattle.clause_store.specs.declared.Lit.{Lit}
 use Rattle.clause_formulas.specs.Statements.{Statement, atom, no, both, any_of, all_of}
 use Rattle.graph_core.specs.Graphs.{Text}
 use Rattle.recipe_data.specs.declared.recipe.VariantRow.{VariantRow}
-use Rattle.condition_rules.specs.Words.{among}
+use Rattle.condition_rules.specs.Words.{is_one_text}
 use Rattle.literal_table.specs.Choices.{Choices, passing, any_choice}
 use Rattle.literal_table.specs.Tables.{Table, block_of}
 use Rattle.literal_table.specs.declared.block.Block.{Block}
@@ -31,7 +31,7 @@ ones-top said xs = sum-map (λ (t : Weighted). t.weight) (λ x. once_term (said 
 -- values that are no defaults
 pub other-top : (r : Row) (values : Choices Text) → top_said (other_terms r values) ≤ length values
 other-top r values =
-    let test = λ (c : Text × Lit). not (among r.0.default c.0) in
+    let test = λ (c : Text × Lit). not (is_one_text r.0.default c.0) in
     omega (
       arith,
       ones-top (λ (c : Text × Lit). both (atom c.1) r.1) (filter test values),

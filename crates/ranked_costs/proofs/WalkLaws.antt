@@ -8,17 +8,17 @@ use Rattle.std.specs.Cmp.Lexicographic.{bytes_decides}
 use Rattle.std.proofs.lemmas.Bool.{cases_Bool}
 use Rattle.std.proofs.lemmas.List.Sorted.{IsPermutation-refl, IsPermutation-sym, IsPermutation-trans, IsPermutation-cons, IsPermutation-middle, IsPermutation-append_right}
 use Rattle.graph_core.specs.Graphs.{Text}
-use Rattle.condition_rules.specs.Words.{among}
+use Rattle.condition_rules.specs.Words.{is_one_text}
 use Rattle.literal_table.specs.Tables.{Table, children_of}
 use Rattle.ranked_costs.specs.Walks.{Walk, without, entered, leaving, visit, all_names, start, post_order}
 
 -- what is taken out stood there
-taken : (name : Text) (names : List Text) → among names name ≡ true → IsPermutation names (name ∷ without name names)
+taken : (name : Text) (names : List Text) → is_one_text names name ≡ true → IsPermutation names (name ∷ without name names)
 taken name [] there = absurd (cc)
 taken name (n ∷ ns) there = elim (cases_Bool (bytes_eq name n)) [
   | inl same ↦ (let is : name ≡ n = (bytes_decides name n).0 same in rw same (rw is (IsPermutation-refl (n ∷ ns))))
   | inr other ↦
-      let later : among ns name ≡ true = rw other at there in
+      let later : is_one_text ns name ≡ true = rw other at there in
       rw other (IsPermutation-trans (n ∷ ns) (n ∷ name ∷ without name ns) (name ∷ n ∷ without name ns)
       (IsPermutation-cons n ns (name ∷ without name ns) (taken name ns later)) (IsPermutation-middle (n ∷ []) name (without name ns)))
 ]
@@ -36,7 +36,7 @@ fold-keeps f each w (n ∷ ns) =
     IsPermutation-trans (w.left ++ w.rest) (one.left ++ one.rest) (all.left ++ all.rest) (each w n) (fold-keeps f each one ns)
 
 -- in at the front, and out behind what was left
-entered-left : (name : Text) (w u : Walk) → among w.rest name ≡ true → Keeps (entered name w) u → Keeps w (leaving name u)
+entered-left : (name : Text) (w u : Walk) → is_one_text w.rest name ≡ true → Keeps (entered name w) u → Keeps w (leaving name u)
 entered-left name w u there inside =
     let out : List Text = without name w.rest in
     let first : IsPermutation (w.left ++ w.rest) (w.left ++ name ∷ out) =
@@ -53,7 +53,7 @@ entered-left name w u there inside =
 
 visit-keeps : (fuel : ℕ) (table : Table) (w : Walk) (name : Text) → Keeps w (visit fuel table w name)
 visit-keeps zero table w name = IsPermutation-refl (w.left ++ w.rest)
-visit-keeps (suc fuel) table w name = elim (cases_Bool (among w.rest name)) [
+visit-keeps (suc fuel) table w name = elim (cases_Bool (is_one_text w.rest name)) [
   | inl there ↦ rw there (entered-left name w (fold (visit fuel table) (entered name w) (children_of table name)) there
       (fold-keeps (visit fuel table) (visit-keeps fuel table) (entered name w) (children_of table name)))
   | inr gone ↦ rw gone (IsPermutation-refl (w.left ++ w.rest))

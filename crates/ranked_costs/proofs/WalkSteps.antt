@@ -6,7 +6,7 @@ use Rattle.std.specs.Str.{bytes_eq}
 use Rattle.std.specs.Cmp.Lexicographic.{bytes_decides}
 use Rattle.std.proofs.lemmas.Bool.{cases_Bool}
 use Rattle.graph_core.specs.Graphs.{Text}
-use Rattle.condition_rules.specs.Words.{among}
+use Rattle.condition_rules.specs.Words.{is_one_text}
 use Rattle.literal_table.specs.Tables.{Table, name_of}
 use Rattle.literal_table.specs.declared.block.Block.{Block}
 use Rattle.literal_table.specs.declared.block.EdgeLits.{EdgeLits}
@@ -18,7 +18,7 @@ next : (name n : Text) (ns : List Text) → bytes_eq name n ≡ false
 next name n ns other = rw other (omega arith)
 
 -- what stands nowhere has no place
-absent : (name : Text) (names : List Text) → length names ≤ position_or_len (bytes_eq name) names → among names name ≡ false
+absent : (name : Text) (names : List Text) → length names ≤ position_or_len (bytes_eq name) names → is_one_text names name ≡ false
 absent name [] h = refl
 absent name (n ∷ ns) h = elim (cases_Bool (bytes_eq name n)) [
   | inl same ↦ (let less : suc (length ns) ≤ 0 = rw same at h in absurd (omega (arith, less)))
@@ -33,7 +33,7 @@ later-place name n ns other h =
     let less : suc (position_or_len (bytes_eq name) ns) < suc (length ns) = subst (λ p. p < suc (length ns)) (next name n ns other) h in
     omega (arith, less)
 
-present : (name : Text) (names : List Text) → position_or_len (bytes_eq name) names < length names → among names name ≡ true
+present : (name : Text) (names : List Text) → position_or_len (bytes_eq name) names < length names → is_one_text names name ≡ true
 present name [] h = absurd (omega (arith, h))
 present name (n ∷ ns) h = elim (cases_Bool (bytes_eq name n)) [
   | inl same ↦ rw same refl
@@ -65,11 +65,11 @@ all-edges more table parent w (e ∷ es) = elim (cases_Bool (bytes_eq e.parent p
   | inr other ↦ rw other (all-edges more table parent w es)
 ]
 
-visit-none : (fuel : ℕ) (table : Table) (w : Walk) (name : Text) → among w.rest name ≡ false → w ≡ visit fuel table w name
+visit-none : (fuel : ℕ) (table : Table) (w : Walk) (name : Text) → is_one_text w.rest name ≡ false → w ≡ visit fuel table w name
 visit-none zero table w name gone = refl
 visit-none (suc fuel) table w name gone = rw gone refl
 
-visit-some : (fuel : ℕ) (table : Table) (w : Walk) (name : Text) → (fuel ≡ 0 → ⊥) → among w.rest name ≡ true
+visit-some : (fuel : ℕ) (table : Table) (w : Walk) (name : Text) → (fuel ≡ 0 → ⊥) → is_one_text w.rest name ≡ true
     → leaving name (visit_all (fuel - 1) table name (entered name w) table.edges) ≡ visit fuel table w name
 visit-some zero table w name some there = absurd (some refl)
 visit-some (suc fuel) table w name some there =

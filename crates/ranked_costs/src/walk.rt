@@ -2,7 +2,7 @@
 ghost use Rattle.std.specs.Prelude.{◌≡◌, ◌++◌, ◌-◌, ◌+◌, map, not, IfOk, OnOk, if◌then◌else◌};
 ghost use Rattle.std.specs.List.{fold, position_or_len};
 ghost use Rattle.std.specs.Str.{bytes_eq};
-ghost use Rattle.condition_rules.specs.Words.{among};
+ghost use Rattle.condition_rules.specs.Words.{is_one_text};
 ghost use Rattle.literal_table.specs.Tables.{name_of};
 ghost use Rattle.ranked_costs.specs.Walks.{without, visit, all_names, start, post_order};
 ghost use Rattle.ranked_costs.specs.Steps.{walk_at, visit_all};

@@ -6,7 +6,7 @@ use Rattle.clause_formulas.specs.Rules.{Rule}
 use Rattle.spec_grammar.specs.declared.part.Spec.{Spec}
 use Rattle.graph_core.specs.Graphs.{Text}
 use Rattle.graph_core.specs.declared.node.Kinds.{Kinds}
-use Rattle.condition_rules.specs.Words.{among}
+use Rattle.condition_rules.specs.Words.{is_one_text}
 use Rattle.condition_rules.specs.Worlds.{World}
 use Rattle.virtuals.specs.Virtuals.{is_virtual}
 use Rattle.recipe_data.specs.declared.recipe.Condition.{Condition}
@@ -45,7 +45,7 @@ has_of kind.Run = λ kinds. kinds.run
 
 -- the name is that of the child, or a virtual that it may provide
 abbrev pub is_asked : World → (Text → List Text) → Text → Text → Bool
-is_asked world packages child asked = if is_virtual world.recipes asked then among (packages asked) child else bytes_eq asked child
+is_asked world packages child asked = if is_virtual world.recipes asked then is_one_text (packages asked) child else bytes_eq asked child
 
 -- ---- specs
 

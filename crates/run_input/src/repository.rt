@@ -31,7 +31,7 @@ fn read_over<R: Threads + Sync>(
     ensures read { Gives result (Over (map source_of files.now)) }
     ensures right { IfOk result (λ recipes. list_all is_right_recipe recipes ≡ true) }
     ensures few_rows { IfOk result (λ recipes. are_few_rows recipes ≡ true) }
-    ensures names { IfOk result (λ recipes. map virtuals.name_of recipes ≡ map (λ source. source.0)
+    ensures names { IfOk result (λ recipes. map virtuals.recipe_name recipes ≡ map (λ source. source.0)
         (map source_of files.now)) }
     ensures no_fault { EndsInReadFault result → ⊥ }
 {

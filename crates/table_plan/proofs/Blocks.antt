@@ -10,7 +10,7 @@ use Rattle.keyed_lists.specs.Keyed.{IsInOrder}
 use Rattle.keyed_lists.proofs.RiseLaws.{all_from}
 use Rattle.graph_core.specs.Graphs.{Text}
 use Rattle.graph_core.specs.declared.node.Node.{Node}
-use Rattle.condition_rules.specs.Words.{among, is_some_and}
+use Rattle.condition_rules.specs.Words.{is_one_text, is_some_and}
 use Rattle.problem.specs.Problems.{same_compiler}
 use Rattle.literal_table.specs.Choices.{Choices, chosen}
 use Rattle.literal_table.specs.Tables.{AreVariantsInOrder, variant_of, value_of}
@@ -38,8 +38,8 @@ pub length-value_bits : (vs variants : List (Text × List Text)) → length (val
 length-value_bits [] variants = refl
 length-value_bits (v ∷ vs) variants = omega (
   arith,
-  length-append (map (among (values_at variants v.0)) v.1) (value_bits vs variants),
-  length-map v.1 (among (values_at variants v.0)),
+  length-append (map (is_one_text (values_at variants v.0)) v.1) (value_bits vs variants),
+  length-map v.1 (is_one_text (values_at variants v.0)),
   length-value_bits vs variants,
 )
 

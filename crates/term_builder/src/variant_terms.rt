@@ -1,7 +1,7 @@
 //! The terms of the values of variants.
 ghost use Rattle.std.specs.Prelude.{◌≡◌, ◌++◌, ◌∷◌, [], map, not, true, IfOk, OnOk};
 ghost use Rattle.std.specs.Str.{bytes_eq};
-ghost use Rattle.condition_rules.specs.Words.{among};
+ghost use Rattle.condition_rules.specs.Words.{is_one_text};
 ghost use Rattle.clause_formulas.specs.Statements.{atom, both, all_of, no};
 ghost use Rattle.clause_formulas.specs.Drafts.{said_of};
 ghost use Rattle.literal_table.specs.Choices.{any_choice as any_choice_on};
@@ -29,7 +29,7 @@ pub enum Counted {
 }
 
 fn among(texts: &[Word], text: &str) -> bool
-    ensures { result ≡ among texts.now text.now }
+    ensures { result ≡ is_one_text texts.now text.now }
 {
     texts.iter().any(|other| text == other.as_str())
 }

@@ -9,9 +9,9 @@ use Rattle.graph_core.specs.declared.node.Node.{Node}
 use Rattle.graph_core.specs.declared.node.Kinds.{Kinds}
 use Rattle.graph_core.specs.declared.node.Origin.{Origin}
 use Rattle.graph_core.specs.declared.node.Origin.TheVariants.{Built, External, Installed}
-use Rattle.condition_rules.specs.Words.{among}
+use Rattle.condition_rules.specs.Words.{is_one_text}
 use Rattle.site_settings.specs.declared.settings.CompilerEntry.{CompilerEntry}
-use Rattle.problem.specs.Problems.{Problem, world_of, entry_of, externals_in, record_at, recipe_at, is_buildable_in}
+use Rattle.problem.specs.Problems.{Problem, world_of, package_entry_of, externals_in, record_at, recipe_at, is_buildable_in}
 use Rattle.problem.specs.Records.{kept_dependencies}
 use Rattle.reuse_db.specs.declared.record.Record.{Record}
 use Rattle.graph_rules.specs.Kept.{external_node, installed_node}
@@ -32,7 +32,7 @@ module _ (v : ℕ → Bool) (t : Table) (path other : PathFormulas) (told : Text
 
   -- the words of the rule of buildable names; so with the other rules
   pub buildable-alike : (name : Text) → AllWords W (buildable_rule problem name)
-  buildable-alike name = given-all W (is_some (recipe_at problem name) && is_buildable_in (entry_of problem name))
+  buildable-alike name = given-all W (is_some (recipe_at problem name) && is_buildable_in (package_entry_of problem name))
 
   pub version-alike : (name : Text) → AllWords W (version_rule problem name)
   version-alike name = refl
@@ -42,8 +42,8 @@ module _ (v : ℕ → Bool) (t : Table) (path other : PathFormulas) (told : Text
       (λ entry. (
         refl,
         (
-          written-all W (λ names. fact (node_has name (has_os (among names)))) (λ names. refl) entry.os,
-          written-all W (λ names. fact (node_has name (has_target (among names)))) (λ names. refl) entry.targets,
+          written-all W (λ names. fact (node_has name (has_os (is_one_text names)))) (λ names. refl) entry.os,
+          written-all W (λ names. fact (node_has name (has_target (is_one_text names)))) (λ names. refl) entry.targets,
         ),
       ))
       problem.settings.compilers
@@ -62,24 +62,34 @@ module _ (v : ℕ → Bool) (t : Table) (path other : PathFormulas) (told : Text
 
   module _ (children : List Text) where
     child-alike : (name : Text) (d : Text × Kinds) → AllWords W (child_rule problem children name d)
-    child-alike name d = named-all W (λ (child : Record). fact (node_has child.name (has_origin (installs d.0))) and kinds_rule name child.name d.1)
+    child-alike name d =
+        named-all W (λ (child : Record). fact (node_has child.name (has_origin (installs d.0))) and kinds_rule name child.name d.1)
         (λ child. (refl, kinds-alike name child.name d.1)) (record_at problem d.0)
 
     origin-alike : (name : Text) (origin : Origin) → AllWords W (origin_rule problem children name origin)
     origin-alike name Built = refl
     origin-alike name (External place) = (
-      named-all W (λ entry. same_rule name (external_node problem name place entry)) (λ entry. same-alike name (external_node problem name place entry)) (slice_get (externals_in (entry_of problem name)) place),
+      named-all W (λ entry. same_rule name (external_node problem name place entry))
+          (λ entry. same-alike name (external_node problem name place entry))
+          (slice_get (externals_in (package_entry_of problem name)) place),
       each-all W (λ child. isnt (fact (has_edge name child no_kinds))) (λ child. refl) children,
     )
     origin-alike name (Installed hash) = named-all W
-        (λ entry. same_rule name (installed_node entry) and each (child_rule problem children name) (kept_dependencies entry) and each (recorded_rule problem children name entry) children)
+        (λ entry. same_rule name (installed_node entry) and each (child_rule problem children name) (kept_dependencies entry) and each
+        (recorded_rule problem children name entry) children)
         (λ entry. (
-          (same-alike name (installed_node entry), each-all W (child_rule problem children name) (child-alike name) (kept_dependencies entry)),
-          each-all W (recorded_rule problem children name entry) (λ child. (refl, given-all W (is_child_name problem entry child))) children,
+          (
+            same-alike name (installed_node entry),
+            each-all W (child_rule problem children name) (child-alike name)
+                (kept_dependencies entry),
+          ),
+          each-all W (recorded_rule problem children name entry) (λ child. (refl, given-all W (is_child_name problem entry child)))
+              children,
         ))
         (record_at problem hash)
 
     -- the words of the rule of kept nodes
     pub kept-alike : (origins : List Origin) (name : Text) → AllWords W (kept_rule problem children origins name)
-    kept-alike origins name = each-all W (λ origin. if_so (fact (node_has name (has_origin (same_origin origin)))) (origin_rule problem children name origin))
+    kept-alike origins name =
+        each-all W (λ origin. if_so (fact (node_has name (has_origin (same_origin origin)))) (origin_rule problem children name origin))
         (λ origin. (refl, origin-alike name origin)) origins

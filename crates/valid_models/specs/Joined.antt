@@ -11,7 +11,7 @@ use Rattle.problem.specs.declared.demand.Demand.{Demand}
 use Rattle.literal_table.specs.Tables.{Table, IsTable, block_of, names_of, children_of}
 use Rattle.literal_table.specs.Choices.{offered}
 use Rattle.literal_table.specs.declared.block.Block.{Block}
-use Rattle.condition_rules.specs.Words.{among}
+use Rattle.condition_rules.specs.Words.{is_one_text}
 use Rattle.graph_formulas.specs.Facts.{Word, word_said}
 use Rattle.graph_formulas.specs.Parts.{condition_rule}
 use Rattle.graph_formulas.specs.Words.{names_for, rule_said}
@@ -85,7 +85,7 @@ holds_at problem listed k g = condition_holds problem (slice_get listed k) g
 -- the table has each variant that a recipe defines, where it offers to build the name
 abbrev pub HasBuiltVariants : Problem → Table → Type 0
 HasBuiltVariants problem t = (name : Text) (b : Block) → block_of t name ≡ Some b → list_any builds (offered b.origins) ≡ true
-    → list_all (among (variants_of t name)) (map (λ row. row.name) (variants_at problem name)) ≡ true
+    → list_all (is_one_text (variants_of t name)) (map (λ row. row.name) (variants_at problem name)) ≡ true
 
 -- the formula of each word is over the variables of the table and of paths
 abbrev pub WordsBelow : ℕ → Table → Type 0
