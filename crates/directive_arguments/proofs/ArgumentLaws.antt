@@ -159,8 +159,7 @@ positional_named : (bytes : List ℕ) (d : Directive) (s : Segment) (p : Positio
 unfolding positional
 positional_named bytes d s p h = named_by_presence (has_value d p)
   where
-    named_by_presence : (b : Bool)
-        → IfOk (cond b (further (takes d).positional bytes d s p) (then_do (read bytes s) (λ r. with_value d r p))) AreNamed
+    named_by_presence : (b : Bool) → IfOk (cond b (further (takes d).positional bytes d s p) (then_do (read bytes s) (λ r. with_value d r p))) AreNamed
     named_by_presence true = further_named (takes d).positional bytes d s p h
     named_by_presence false = value_named bytes d s p h
 
@@ -179,8 +178,7 @@ unfolding argument
 argument_named bytes d s g h = named_by_keyword (keyword_of s)
   where
     named_by_keyword : (o : Option Token) → IfOk (argument_by o bytes d s g) GivesNamed
-    named_by_keyword None = ok_then AreNamed GivesNamed (positional bytes d s g.positional) _
-        (positional_named bytes d s g.positional h) (λ p is. is)
+    named_by_keyword None = ok_then AreNamed GivesNamed (positional bytes d s g.positional) _ (positional_named bytes d s g.positional h) (λ p is. is)
     named_by_keyword (Some t) = keyword_named (role d (word bytes t)) bytes d t.start (word bytes t) (without_keyword s) g h
 
 -- what the arguments name has a NAME

@@ -161,8 +161,5 @@ valued mode text specs spec s has =
     let w = whole mode text specs spec s has in
     let of_part : (p : Part) → IsKept mode p → All (λ v. 0 < length v.1) p.variants =
     λ p h. All-from_recursion (λ v. 0 < length v.1) p.variants h.valued in
-    All-from_recursion _ (spec.top ∷ spec.below) (
-      of_part spec.top w.0.0,
-      recursion_weaker (IsBelow mode) (λ p. All (λ v. 0 < length v.1) p.variants) (λ p h. of_part p h.0)
-          spec.below w.1,
-    )
+    All-from_recursion _ (spec.top ∷ spec.below)
+    (of_part spec.top w.0.0, recursion_weaker (IsBelow mode) (λ p. All (λ v. 0 < length v.1) p.variants) (λ p h. of_part p h.0) spec.below w.1)

@@ -171,8 +171,7 @@ module _ (entries : List TargetEntry) where
           (λ i. (i < length entries) × ((d : TargetEntry) → lacks_parent (get_or entries i d) ≡ true)
           × ((k : ℕ) (d : TargetEntry) → k < i → lacks_parent (get_or entries k d) ≡ false))
 
-      fault_means-cases : (r : Option ℕ) → TwiceTold (names_of entries) r → (u : Option ℕ) → UnknownTold u → (b : Bool)
-          → is_cyclic entries ≡ b
+      fault_means-cases : (r : Option ℕ) → TwiceTold (names_of entries) r → (u : Option ℕ) → UnknownTold u → (b : Bool) → is_cyclic entries ≡ b
           → MatchOption (first_target_fault r u b) (AreTargets entries) (IsTargetFault entries)
       fault_means-cases (Some i) told u unknown b e = (to_entries entries i told.0, λ k lt twice. told.1 k lt (to_names entries k twice))
       fault_means-cases None told (Some i) unknown b e = (
