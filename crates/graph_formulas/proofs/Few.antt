@@ -89,8 +89,7 @@ module _ {W T : Type 0} (p : W → Bool) (rule : T → Rule W) (test : T → Boo
       step false b c e = refl
 
   halves-kept : (xs ys : List T) → keeps_rule p (halves_rule rule xs ys) ≡ (no_one test xs || no_one test ys)
-  halves-kept xs ys = rw (some-kept p rule test same xs, some-kept p rule test same ys)
-      (ap (λ b. no_one test xs || b) (or-false (no_one test ys)))
+  halves-kept xs ys = rw (some-kept p rule test same xs, some-kept p rule test same ys) (ap (λ b. no_one test xs || b) (or-false (no_one test ys)))
 
   first-kept : (x : T) (xs : List T) → all_kept (first_rules rule x xs) ≡ (not (test x) || no_one test xs)
   first-kept x [] = sym (or-true (not (test x)))
@@ -115,8 +114,7 @@ module _ {W T : Type 0} (p : W → Bool) (rule : T → Rule W) (test : T → Boo
       let front = few-kept times (take (half_of xs) xs) in
       let back = few-kept times (drop (half_of xs) xs) in
       elim (nat_lt 8 (length xs)) as (λ b. all_kept (if b then halves_rule rule (take (half_of xs) xs) (drop (half_of xs) xs)
-      ∷ (few_rules times rule (take (half_of xs) xs) ++ few_rules times rule (drop (half_of xs) xs)) else apart_rules rule xs)
-      ≡ few test xs) [
+      ∷ (few_rules times rule (take (half_of xs) xs) ++ few_rules times rule (drop (half_of xs) xs)) else apart_rules rule xs) ≡ few test xs) [
         | true ↦ ap (λ b. keeps_rule p (halves_rule rule (take (half_of xs) xs) (drop (half_of xs) xs)) && b)
             (list_all-append (keeps_rule p) (few_rules times rule (take (half_of xs) xs)) (few_rules times rule (drop (half_of xs) xs)))
             ∙ rw (halves-kept (take (half_of xs) xs) (drop (half_of xs) xs), front, back) refl

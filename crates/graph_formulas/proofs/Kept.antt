@@ -58,8 +58,7 @@ off-right true b off = off
 off-right false b off = refl
 
 -- of five things that are asked one is off, where what asks for it is on
-first-off : (v c o t A B P C D : Bool) → (((v || c) || o) || t) ≡ true → (v ≡ true → A ≡ false) → (c ≡ true → B ≡ false)
-    → (o ≡ true → C ≡ false) → (t ≡ true → D ≡ false)
+first-off : (v c o t A B P C D : Bool) → (((v || c) || o) || t) ≡ true → (v ≡ true → A ≡ false) → (c ≡ true → B ≡ false) → (o ≡ true → C ≡ false) → (t ≡ true → D ≡ false)
     → ((((A && B) && P) && C) && D) ≡ false
 first-off v c o true A B P C D asks va co os ta = off-right (((A && B) && P) && C) D (ta refl)
 first-off v c true false A B P C D asks va co os ta = off-left _ D (off-right ((A && B) && P) C (os refl))
@@ -74,8 +73,7 @@ asked-off false r G V R asks off rest = off-right _ R (rest asks)
 -- ---- a part at the node of a name
 
 -- the name has a node, or none
-pub by_node : (graph : Content) (name : Text) (P : Option Node → Type 0) → ((node : Node) → node_of graph name ≡ Some node → P (Some node))
-    → (node_of graph name ≡ None → P None) → P (node_of graph name)
+pub by_node : (graph : Content) (name : Text) (P : Option Node → Type 0) → ((node : Node) → node_of graph name ≡ Some node → P (Some node)) → (node_of graph name ≡ None → P None) → P (node_of graph name)
 by_node graph name P some none = by_node-cases (node_of graph name) refl
   where
     by_node-cases : (o : Option Node) → node_of graph name ≡ o → P o
@@ -99,8 +97,7 @@ module _ (world : World) (graph : Content) where
         each-kept (is_in graph) _ (is_one_text (values_at node.variants wanted.0)) (λ x. there (has_value wanted.0 (bytes_eq x))) wanted.1,
       ) (values-there-cases (find (λ w. bytes_eq w.0 wanted.0) node.variants) wanted.1)
         where
-          values-there-cases : (o : Option (Text × List Text)) (xs : List Text)
-              → ((is_filled xs || is_some o) && includes (values_or_none o) xs) ≡ is_some_and o (λ v. includes v.1 xs)
+          values-there-cases : (o : Option (Text × List Text)) (xs : List Text) → ((is_filled xs || is_some o) && includes (values_or_none o) xs) ≡ is_some_and o (λ v. includes v.1 xs)
           values-there-cases None [] = refl
           values-there-cases None (x ∷ xs) = refl
           values-there-cases (Some v) [] = refl
@@ -110,12 +107,10 @@ module _ (world : World) (graph : Content) where
       unfolding rest_rule meets_rest
       rest-there part = rw (
         each-kept (is_in graph) (values_rule name) (has_values node.variants) values-there part.variants,
-        written-kept (is_in graph) _ (λ wanted. is_some_and node.compiler (is_compiler wanted))
-            (λ w. there (has_compiler (λ c. is_some_and c (is_compiler w)))) part.compiler,
+        written-kept (is_in graph) _ (λ wanted. is_some_and node.compiler (is_compiler wanted)) (λ w. there (has_compiler (λ c. is_some_and c (is_compiler w)))) part.compiler,
         given-kept (is_in graph) (meets_platform world part),
         written-kept (is_in graph) _ (bytes_eq node.os) (λ w. there (has_os (λ o. bytes_eq o w))) part.os,
-        written-kept (is_in graph) _ (list_any (is_target world node.target))
-            (λ w. there (has_target (λ target. list_any (is_target world target) w))) part.targets,
+        written-kept (is_in graph) _ (list_any (is_target world node.target)) (λ w. there (has_target (λ target. list_any (is_target world target) w))) part.targets,
       ) refl
 
       meets-there : (part : Part) → keeps (meets_rule world name part) ≡ meets world part node
@@ -128,14 +123,11 @@ module _ (world : World) (graph : Content) where
         named-so graph name node here,
       ) refl
 
-      provides-there : (virtual : Text) (wanted : Option (List Item))
-          → keeps (provides_rule world name virtual wanted) ≡ provides world node virtual wanted
+      provides-there : (virtual : Text) (wanted : Option (List Item)) → keeps (provides_rule world name virtual wanted) ≡ provides world node virtual wanted
       unfolding provides_rule provides
       provides-there virtual wanted =
-          some-kept (is_in graph) (row_rule world name virtual wanted) (row_provides world node virtual wanted) row-there
-          (rows (λ recipe. recipe.provides) (recipe_of world name))
-          ∙ ap (λ n. list_any (row_provides world node virtual wanted) (rows (λ recipe. recipe.provides) (recipe_of world n)))
-          (sym (named-so graph name node here))
+          some-kept (is_in graph) (row_rule world name virtual wanted) (row_provides world node virtual wanted) row-there (rows (λ recipe. recipe.provides) (recipe_of world name))
+          ∙ ap (λ n. list_any (row_provides world node virtual wanted) (rows (λ recipe. recipe.provides) (recipe_of world n))) (sym (named-so graph name node here))
         where
           tops-there : (specs : List Spec) → keeps (tops_rule world name specs) ≡ list_all (λ spec. meets world spec.top node) specs
           tops-there specs = rw (
@@ -144,11 +136,9 @@ module _ (world : World) (graph : Content) where
           ) refl
 
           row-there : (row : ProvideRow) → keeps (row_rule world name virtual wanted row) ≡ row_provides world node virtual wanted row
-          row-there row = row-there-cases (bytes_eq row.name virtual) (lists_overlap row.versions wanted)
-              (tops_rule world name row.when.specs) _ (tops-there row.when.specs)
+          row-there row = row-there-cases (bytes_eq row.name virtual) (lists_overlap row.versions wanted) (tops_rule world name row.when.specs) _ (tops-there row.when.specs)
             where
-              row-there-cases : (a c : Bool) (rule : Rule Word) (b : Bool) → keeps rule ≡ b
-                  → keeps (if a && c then rule else nowhere) ≡ (a && b && c)
+              row-there-cases : (a c : Bool) (rule : Rule Word) (b : Bool) → keeps rule ≡ b → keeps (if a && c then rule else nowhere) ≡ (a && b && c)
               row-there-cases true true rule b same = same ∙ sym (and-true b)
               row-there-cases true false rule b same = sym (off-right b false refl)
               row-there-cases false c rule b same = refl
@@ -167,9 +157,7 @@ module _ (world : World) (graph : Content) where
       values-absent : (wanted : Text × List Text) → keeps (values_rule name wanted) ≡ false
       values-absent wanted = values-absent-cases wanted.1
         where
-          values-absent-cases : (xs : List Text) → keeps
-              (unless (is_filled xs) (fact (node_has name (has_variant wanted.0))) and each
-              (λ value. fact (node_has name (has_value wanted.0 (bytes_eq value)))) xs) ≡ false
+          values-absent-cases : (xs : List Text) → keeps (unless (is_filled xs) (fact (node_has name (has_variant wanted.0))) and each (λ value. fact (node_has name (has_value wanted.0 (bytes_eq value)))) xs) ≡ false
           values-absent-cases [] = rw (none-there (has_variant wanted.0)) refl
           values-absent-cases (x ∷ xs) = rw (none-there (has_value wanted.0 (bytes_eq x))) refl
 
@@ -177,8 +165,7 @@ module _ (world : World) (graph : Content) where
       each-absent [] asks = cc
       each-absent (x ∷ xs) asks = rw (values-absent x) refl
 
-      written-absent : {T : Type 0} (f : T → Fact) (o : Option T) → is_some o ≡ true
-          → keeps (written o (λ x. fact (node_has name (f x)))) ≡ false
+      written-absent : {T : Type 0} (f : T → Fact) (o : Option T) → is_some o ≡ true → keeps (written o (λ x. fact (node_has name (f x)))) ≡ false
       written-absent f None asks = cc
       written-absent f (Some x) asks = none-there (f x)
 
@@ -223,32 +210,23 @@ module _ (world : World) (graph : Content) where
 
     -- what a part asks of a node
     pub meets-kept : (part : Part) → keeps (meets_rule world name part) ≡ is_some_and (node_of graph name) (meets world part)
-    meets-kept part = by_node graph name (λ o. keeps (meets_rule world name part) ≡ is_some_and o (meets world part))
-        (λ node here. meets-there node here part) (λ absent. meets-absent absent part)
+    meets-kept part = by_node graph name (λ o. keeps (meets_rule world name part) ≡ is_some_and o (meets world part)) (λ node here. meets-there node here part) (λ absent. meets-absent absent part)
 
     -- what a virtual asks of its provider
-    pub provides-kept : (virtual : Text) (wanted : Option (List Item))
-        → keeps (provides_rule world name virtual wanted) ≡ is_some_and (node_of graph name) (λ node. provides world node virtual wanted)
+    pub provides-kept : (virtual : Text) (wanted : Option (List Item)) → keeps (provides_rule world name virtual wanted) ≡ is_some_and (node_of graph name) (λ node. provides world node virtual wanted)
     provides-kept virtual wanted =
-        by_node graph name (λ o. keeps (provides_rule world name virtual wanted)
-        ≡ is_some_and o (λ node. provides world node virtual wanted)) (λ node here. provides-there node here virtual wanted)
-        (λ absent. provides-absent absent virtual wanted)
+        by_node graph name (λ o. keeps (provides_rule world name virtual wanted) ≡ is_some_and o (λ node. provides world node virtual wanted)) (λ node here. provides-there node here virtual wanted) (λ absent. provides-absent absent virtual wanted)
 
     -- what a part asks of the node that it names
-    pub suits-kept : (part : Part) (asked : Text)
-        → keeps (suits_rule world part asked name) ≡ is_some_and (node_of graph name) (suits world part asked)
-    suits-kept part asked = by_node graph name (λ o. keeps (suits_rule world part asked name) ≡ is_some_and o (suits world part asked))
-        (λ node here. suits-there node here part asked) (λ absent. suits-absent absent part asked)
+    pub suits-kept : (part : Part) (asked : Text) → keeps (suits_rule world part asked name) ≡ is_some_and (node_of graph name) (suits world part asked)
+    suits-kept part asked = by_node graph name (λ o. keeps (suits_rule world part asked name) ≡ is_some_and o (suits world part asked)) (λ node here. suits-there node here part asked) (λ absent. suits-absent absent part asked)
 
     -- at the end of a path
     below-kept : (from : Text) (part : Part) (asked : Text)
-        → keeps (suits_rule world part asked name and fact (has_path from name)) ≡ is_some_and (node_of graph name)
-        (λ node. suits world part asked node && reaches_in graph from node.name)
+        → keeps (suits_rule world part asked name and fact (has_path from name)) ≡ is_some_and (node_of graph name) (λ node. suits world part asked node && reaches_in graph from node.name)
     below-kept from part asked =
-        by_node graph name (λ o. keeps (suits_rule world part asked name and fact (has_path from name))
-        ≡ is_some_and o (λ node. suits world part asked node && reaches_in graph from node.name))
-        (λ node here. ap (λ b. b && reaches_in graph from name) (suits-there node here part asked)
-        ∙ ap (λ n. suits world part asked node && reaches_in graph from n) (sym (named-so graph name node here)))
+        by_node graph name (λ o. keeps (suits_rule world part asked name and fact (has_path from name)) ≡ is_some_and o (λ node. suits world part asked node && reaches_in graph from node.name))
+        (λ node here. ap (λ b. b && reaches_in graph from name) (suits-there node here part asked) ∙ ap (λ n. suits world part asked node && reaches_in graph from n) (sym (named-so graph name node here)))
         (λ absent. ap (λ b. b && reaches_in graph from name) (suits-absent absent part asked))
 
   -- ---- specs and conditions, where the lists have each provider
@@ -256,41 +234,30 @@ module _ (world : World) (graph : Content) where
   module _ (packages : Text → List Text) (listed : (virtual p : Text) → provider_of graph virtual ≡ Some p
       → is_one_text (packages virtual) p ≡ true) where
     -- a rule at the node that a name asks for
-    pub asked-kept : (asked : Text) (rule : Text → Rule Word) (test : Node → Bool)
-        → ((name : Text) → keeps (rule name) ≡ is_some_and (node_of graph name) test)
+    pub asked-kept : (asked : Text) (rule : Text → Rule Word) (test : Node → Bool) → ((name : Text) → keeps (rule name) ≡ is_some_and (node_of graph name) test)
         → keeps (asked_rule world packages asked rule) ≡ is_some_and (asked_node world graph asked) test
     unfolding asked_node
     asked-kept asked rule test same = elim (cases_Bool (is_virtual world.recipes asked)) [
       | inl virtual ↦ rw virtual (
-          some-kept (is_in graph) _ (λ name. is_some_and (provider_of graph asked) (λ p. bytes_eq p name)
-          && is_some_and (node_of graph name) test) (λ name. ap (λ b. is_in graph (provides_as asked name) && b) (same name))
-          (packages asked)
+          some-kept (is_in graph) _ (λ name. is_some_and (provider_of graph asked) (λ p. bytes_eq p name) && is_some_and (node_of graph name) test) (λ name. ap (λ b. is_in graph (provides_as asked name) && b) (same name)) (packages asked)
           ∙ asked-kept-cases (provider_of graph asked) (listed asked))
       | inr plain ↦ rw plain (same asked)
     ]
       where
         asked-kept-cases : (o : Option Text) → ((p : Text) → o ≡ Some p → is_one_text (packages asked) p ≡ true)
-            → list_any (λ name. is_some_and o (λ p. bytes_eq p name) && is_some_and (node_of graph name) test) (packages asked)
-            ≡ is_some_and (option_and_then (node_of graph) o) test
+            → list_any (λ name. is_some_and o (λ p. bytes_eq p name) && is_some_and (node_of graph name) test) (packages asked) ≡ is_some_and (option_and_then (node_of graph) o) test
         asked-kept-cases None has = none-picked (λ name. is_some_and (node_of graph name) test) (packages asked)
-        asked-kept-cases (Some p) has = picked (λ name. is_some_and (node_of graph name) test) p (packages asked)
-            ∙ ap (λ b. b && is_some_and (node_of graph p) test) (has p refl)
+        asked-kept-cases (Some p) has = picked (λ name. is_some_and (node_of graph name) test) p (packages asked) ∙ ap (λ b. b && is_some_and (node_of graph p) test) (has p refl)
 
     -- a spec holds
     pub holds-kept : (name : Text) (spec : Spec) → keeps (holds_rule world packages name spec) ≡ holds world spec graph name
     unfolding holds_rule holds
-    holds-kept name spec =
-        rw (
-          meets-kept name spec.top,
-          each-kept (is_in graph) (below_rule world packages name) (holds_below world graph name) each-below
-              spec.below,
-        ) refl
+    holds-kept name spec = rw (meets-kept name spec.top, each-kept (is_in graph) (below_rule world packages name) (holds_below world graph name) each-below spec.below) refl
       where
         each-below : (part : Part) → keeps (below_rule world packages name part) ≡ holds_below world graph name part
         each-below part = named-kept (is_in graph) _ _ (λ asked. asked-kept asked _ _ (λ n. below-kept n name part asked)) part.name
 
     -- a condition holds
-    pub condition-kept : (name : Text) (condition : Condition)
-        → keeps (condition_rule world packages name condition) ≡ all_hold world condition graph name
+    pub condition-kept : (name : Text) (condition : Condition) → keeps (condition_rule world packages name condition) ≡ all_hold world condition graph name
     unfolding condition_rule all_hold
     condition-kept name condition = each-kept (is_in graph) _ (λ spec. holds world spec graph name) (holds-kept name) condition.specs

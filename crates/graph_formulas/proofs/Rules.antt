@@ -60,11 +60,9 @@ module _ {W : Type 0} (p : W → Bool) where
     pub last-kept : (passes : T → Rule W) (f : T → Bool) → ((x : T) → keeps_rule p (passes x) ≡ f x) → (xs : List T)
         → keeps_rule p (last_one passes rule xs) ≡ is_some_and (find_last f xs) test
     last-kept passes f each [] = refl
-    last-kept passes f each (x ∷ xs) = rw (last-kept passes f each xs, some-kept passes f each xs, any-last f xs, each x, same x)
-        (go (find_last f xs) (f x))
+    last-kept passes f each (x ∷ xs) = rw (last-kept passes f each xs, some-kept passes f each xs, any-last f xs, each x, same x) (go (find_last f xs) (f x))
       where
-        go : (o : Option T) (b : Bool) → (((not (is_some o) && b) && test x) || is_some_and o test)
-            ≡ is_some_and (option_or o (if b then Some x else None)) test
+        go : (o : Option T) (b : Bool) → (((not (is_some o) && b) && test x) || is_some_and o test) ≡ is_some_and (option_or o (if b then Some x else None)) test
         go None true = or-false (test x)
         go None false = refl
         go (Some y) b = refl

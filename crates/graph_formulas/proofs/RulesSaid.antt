@@ -69,8 +69,7 @@ spelled-kind : (v : ℕ → Bool) (c : Option EdgeLits) (e : Edge) → SpellsEdg
 spelled-kind v None e s = absurd (let none : Some e ≡ None = s in cc)
 spelled-kind v (Some b) e s = spelled-kind-cases (has_kind (chosen_kinds v b)) refl s
   where
-    spelled-kind-cases : (a : Bool) → has_kind (chosen_kinds v b) ≡ a → Some e.kinds ≡ (if a then Some (chosen_kinds v b) else None)
-        → has_kind e.kinds ≡ true
+    spelled-kind-cases : (a : Bool) → has_kind (chosen_kinds v b) ≡ a → Some e.kinds ≡ (if a then Some (chosen_kinds v b) else None) → has_kind e.kinds ≡ true
     spelled-kind-cases true is same = let k : e.kinds ≡ chosen_kinds v b = some-injective same in ap has_kind k ∙ is
     spelled-kind-cases false is same = absurd (let none : Some e.kinds ≡ None = same in cc)
 
@@ -94,8 +93,7 @@ chosen-offered v (c ∷ cs) x there = elim (cases_Bool (lit_true v c.1)) [
   | inr f ↦ let here : In x (chosen v cs) = rw f at there in inr (chosen-offered v cs x here)
 ]
 
-module _ (problem : Problem) (v : ℕ → Bool) (path : Text → Text → Statement) (condition : Text → Condition → Statement) (table : Table)
-    (graph : Content) (s : SpellsProblem problem v path condition table graph) where
+module _ (problem : Problem) (v : ℕ → Bool) (path : Text → Text → Statement) (condition : Text → Condition → Statement) (table : Table) (graph : Content) (s : SpellsProblem problem v path condition table graph) where
   listed : (virtual p : Text) → provider_of graph virtual ≡ Some p → is_one_text (names_for table virtual) p ≡ true
   listed = provider-listed v table graph s.whole.facts
 
@@ -106,8 +104,7 @@ module _ (problem : Problem) (v : ℕ → Bool) (path : Text → Text → Statem
       leads-cases None is = is
       leads-cases (Some e) is =
           let found = find_sound pair_total pair_exact ends_of graph.edges (parent, child) e is in
-          let there = subst (HasNode graph) (ap (λ p. p.1) found.1)
-          (All-contains (λ (d : Edge). HasNode graph d.child) graph.edges e s.is_graph.children found.0) in
+          let there = subst (HasNode graph) (ap (λ p. p.1) found.1) (All-contains (λ (d : Edge). HasNode graph d.child) graph.edges e s.is_graph.children found.0) in
           absurd (let both : true ≡ false = sym ((has_decides graph child).1 there) ∙ ap is_some absent in cc)
 
   term-said : (t : Term) → eval v (term_said path condition table t) ≡ is_true (world_of problem) graph t
@@ -118,116 +115,81 @@ module _ (problem : Problem) (v : ℕ → Bool) (path : Text → Text → Statem
   said rule = rule-said v (term_said path condition table) (is_true (world_of problem) graph) term-said rule
 
   -- a rule that holds where its test does, asked where the node is built
-  where-built : (name : Text) (rule : Rule Term) (test : Node → Bool)
-      → ((node : Node) → node_of graph name ≡ Some node → keeps_rule (is_true (world_of problem) graph) rule ≡ test node)
+  where-built : (name : Text) (rule : Rule Term) (test : Node → Bool) → ((node : Node) → node_of graph name ≡ Some node → keeps_rule (is_true (world_of problem) graph) rule ≡ test node)
       → rule_says v path condition table (where_built name rule) ≡ if_built graph name test
   where-built name rule test same = said (where_built name rule) ∙ built-kept problem (names_for table) graph listed name rule test same
 
   -- a law said at the node's own name
-  at-name : (name : Text) (rule : Text → Rule Term) (test : Node → Bool)
-      → ((node : Node) → keeps_rule (is_true (world_of problem) graph) (rule node.name) ≡ test node)
+  at-name : (name : Text) (rule : Text → Rule Term) (test : Node → Bool) → ((node : Node) → keeps_rule (is_true (world_of problem) graph) (rule node.name) ≡ test node)
       → rule_says v path condition table (where_built name (rule name)) ≡ if_built graph name test
   at-name name rule test same =
-      where-built name (rule name) test (λ node here. ap (λ n. keeps_rule (is_true (world_of problem) graph) (rule n))
-      (sym (named-so graph name node here)) ∙ same node)
+      where-built name (rule name) test (λ node here. ap (λ n. keeps_rule (is_true (world_of problem) graph) (rule n)) (sym (named-so graph name node here)) ∙ same node)
 
   -- the formula of a root's rule says whether the graph keeps it; so do those of the other rules
-  pub root-said : (spec : Spec) → rule_says v path condition table (known_rule (root_rule problem (names_for table) spec))
-      ≡ keeps_root problem graph spec
+  pub root-said : (spec : Spec) → rule_says v path condition table (known_rule (root_rule problem (names_for table) spec)) ≡ keeps_root problem graph spec
   root-said spec = said (known_rule (root_rule problem (names_for table) spec)) ∙ root-kept problem (names_for table) graph listed spec
 
-  pub edge-said : (name : Text) (row : DependRow)
-      → rule_says v path condition table (where_built name (edge_rule problem (names_for table) name row)) ≡ if_built graph name
-      (λ node. keeps_edge problem graph node row)
-  edge-said name row = at-name name (λ n. edge_rule problem (names_for table) n row) _
-      (λ node. edge-kept problem (names_for table) graph listed leads node row)
+  pub edge-said : (name : Text) (row : DependRow) → rule_says v path condition table (where_built name (edge_rule problem (names_for table) name row)) ≡ if_built graph name (λ node. keeps_edge problem graph node row)
+  edge-said name row = at-name name (λ n. edge_rule problem (names_for table) n row) _ (λ node. edge-kept problem (names_for table) graph listed leads node row)
 
-  pub constraint-said : (name : Text) (row : DependRow)
-      → rule_says v path condition table (where_built name (constraint_rule problem (names_for table) name row)) ≡ if_built graph name
-      (λ node. keeps_constraint problem graph node row)
-  constraint-said name row = at-name name (λ n. constraint_rule problem (names_for table) n row) _
-      (λ node. constraint-kept problem (names_for table) graph listed node row)
+  pub constraint-said : (name : Text) (row : DependRow) → rule_says v path condition table (where_built name (constraint_rule problem (names_for table) name row)) ≡ if_built graph name (λ node. keeps_constraint problem graph node row)
+  constraint-said name row = at-name name (λ n. constraint_rule problem (names_for table) n row) _ (λ node. constraint-kept problem (names_for table) graph listed node row)
 
-  pub conflict-said : (name : Text) (row : ConflictRow)
-      → rule_says v path condition table (where_built name (conflict_rule problem (names_for table) name row)) ≡ if_built graph name
-      (λ node. keeps_conflict problem graph node row)
-  conflict-said name row = at-name name (λ n. conflict_rule problem (names_for table) n row) _
-      (λ node. conflict-kept problem (names_for table) graph listed node row)
+  pub conflict-said : (name : Text) (row : ConflictRow) → rule_says v path condition table (where_built name (conflict_rule problem (names_for table) name row)) ≡ if_built graph name (λ node. keeps_conflict problem graph node row)
+  conflict-said name row = at-name name (λ n. conflict_rule problem (names_for table) n row) _ (λ node. conflict-kept problem (names_for table) graph listed node row)
 
-  pub requirement-said : (name : Text) (row : RequireRow)
-      → rule_says v path condition table (where_built name (requirement_rule problem (names_for table) name row)) ≡ if_built graph name
-      (λ node. keeps_requirement problem graph node row)
-  requirement-said name row = at-name name (λ n. requirement_rule problem (names_for table) n row) _
-      (λ node. requirement-kept problem (names_for table) graph listed node row)
+  pub requirement-said : (name : Text) (row : RequireRow) → rule_says v path condition table (where_built name (requirement_rule problem (names_for table) name row)) ≡ if_built graph name (λ node. keeps_requirement problem graph node row)
+  requirement-said name row = at-name name (λ n. requirement_rule problem (names_for table) n row) _ (λ node. requirement-kept problem (names_for table) graph listed node row)
 
-  pub buildable-said : (name : Text) → rule_says v path condition table (where_built name (known_rule (buildable_rule problem name)))
-      ≡ if_built graph name (keeps_buildable problem)
+  pub buildable-said : (name : Text) → rule_says v path condition table (where_built name (known_rule (buildable_rule problem name))) ≡ if_built graph name (keeps_buildable problem)
   buildable-said name = where-built name (known_rule (buildable_rule problem name)) _ (buildable-kept problem graph name)
 
-  pub version-said : (name : Text) → rule_says v path condition table (where_built name (known_rule (version_rule problem name)))
-      ≡ if_built graph name (keeps_version problem)
+  pub version-said : (name : Text) → rule_says v path condition table (where_built name (known_rule (version_rule problem name))) ≡ if_built graph name (keeps_version problem)
   version-said name = where-built name (known_rule (version_rule problem name)) _ (version-kept problem graph name)
 
-  pub compiler-said : (name : Text) → rule_says v path condition table (where_built name (known_rule (compiler_rule problem name)))
-      ≡ if_built graph name (keeps_compiler problem)
+  pub compiler-said : (name : Text) → rule_says v path condition table (where_built name (known_rule (compiler_rule problem name))) ≡ if_built graph name (keeps_compiler problem)
   compiler-said name = where-built name (known_rule (compiler_rule problem name)) _ (compiler-kept problem graph name)
 
-  pub machine-said : (name : Text) → rule_says v path condition table (where_built name (known_rule (machine_rule problem name)))
-      ≡ if_built graph name (keeps_machine problem)
+  pub machine-said : (name : Text) → rule_says v path condition table (where_built name (known_rule (machine_rule problem name))) ≡ if_built graph name (keeps_machine problem)
   machine-said name = where-built name (known_rule (machine_rule problem name)) _ (machine-kept problem graph name)
 
-  pub variant-said : (name variant : Text) → rule_says v path condition table (where_built name (variant_rule problem name variant))
-      ≡ if_built graph name (λ node. keeps_one_variant problem graph node variant)
-  variant-said name variant = where-built name (variant_rule problem name variant) (λ node. keeps_one_variant problem graph node variant)
-      (λ node here. variant-kept problem graph name node here variant)
+  pub variant-said : (name variant : Text) → rule_says v path condition table (where_built name (variant_rule problem name variant)) ≡ if_built graph name (λ node. keeps_one_variant problem graph node variant)
+  variant-said name variant = where-built name (variant_rule problem name variant) (λ node. keeps_one_variant problem graph node variant) (λ node here. variant-kept problem graph name node here variant)
 
   -- where the node is there
-  where-there : (name : Text) (rule : Rule Term) (test : Node → Bool)
-      → ((node : Node) → node_of graph name ≡ Some node → keeps_rule (is_true (world_of problem) graph) rule ≡ test node)
+  where-there : (name : Text) (rule : Rule Term) (test : Node → Bool) → ((node : Node) → node_of graph name ≡ Some node → keeps_rule (is_true (world_of problem) graph) rule ≡ test node)
       → rule_says v path condition table (where_there name rule) ≡ if_written (node_of graph name) test
   where-there name rule test same =
       said (where_there name rule)
-      ∙ by_node graph name (λ o. (not (is_some_and o (λ node. true)) || keeps_rule (is_true (world_of problem) graph) rule)
-      ≡ if_written o test) (λ node here. same node here) (λ absent. refl)
+      ∙ by_node graph name (λ o. (not (is_some_and o (λ node. true)) || keeps_rule (is_true (world_of problem) graph) rule) ≡ if_written o test) (λ node here. same node here) (λ absent. refl)
 
-  pub no_cycle-said : (name : Text) → rule_says v path condition table (where_there name (known_rule (no_cycle_rule problem name)))
-      ≡ if_written (node_of graph name) (keeps_no_cycle graph)
+  pub no_cycle-said : (name : Text) → rule_says v path condition table (where_there name (known_rule (no_cycle_rule problem name))) ≡ if_written (node_of graph name) (keeps_no_cycle graph)
   no_cycle-said name = where-there name (known_rule (no_cycle_rule problem name)) _ (no_cycle-kept problem graph name)
 
-  pub reachable-said : (name : Text) → rule_says v path condition table (where_there name (known_rule (reachable_rule problem name)))
-      ≡ if_written (node_of graph name) (keeps_reachable problem graph)
+  pub reachable-said : (name : Text) → rule_says v path condition table (where_there name (known_rule (reachable_rule problem name))) ≡ if_written (node_of graph name) (keeps_reachable problem graph)
   reachable-said name = where-there name (known_rule (reachable_rule problem name)) _ (reachable-kept problem graph name)
 
-  pub provider-said : (p : Text × Text) → rule_says v path condition table (known_rule (provider_rule problem p))
-      ≡ keeps_provider problem graph p
+  pub provider-said : (p : Text × Text) → rule_says v path condition table (known_rule (provider_rule problem p)) ≡ keeps_provider problem graph p
   provider-said p = said (known_rule (provider_rule problem p)) ∙ provider-kept problem graph p
 
-  pub use-said : (p : Text × Text) (name : Text)
-      → rule_says v path condition table (use_rule problem p name) ≡ is_some_and (node_of graph name) (uses problem graph p)
+  pub use-said : (p : Text × Text) (name : Text) → rule_says v path condition table (use_rule problem p name) ≡ is_some_and (node_of graph name) (uses problem graph p)
   use-said p name =
       said (use_rule problem p name)
-      ∙ by_node graph name (λ o. keeps_rule (is_true (world_of problem) graph) (use_rule problem p name)
-      ≡ is_some_and o (uses problem graph p))
+      ∙ by_node graph name (λ o. keeps_rule (is_true (world_of problem) graph) (use_rule problem p name) ≡ is_some_and o (uses problem graph p))
       (λ node here. use-kept problem (names_for table) graph listed name node here p)
       (λ absent. let none : is_some_and (node_of graph name) is_built ≡ false = rw absent refl in rw none refl)
 
-  asked-edge : (name child : Text) (node : Node) (o : Option Edge) → edge_of graph name child ≡ o
-      → if_written o (λ e. covers (asked_kinds (asking problem graph node child)) e.kinds) ≡ if_written o (is_asked problem graph node)
+  asked-edge : (name child : Text) (node : Node) (o : Option Edge) → edge_of graph name child ≡ o → if_written o (λ e. covers (asked_kinds (asking problem graph node child)) e.kinds) ≡ if_written o (is_asked problem graph node)
   asked-edge name child node None here = refl
   asked-edge name child node (Some e) here =
-      let kind = spelled-kind v (edge_lits_of table name child) e
-      (subst (SpellsEdge v (edge_lits_of table name child)) here (s.whole.facts.edges name child)) in
+      let kind = spelled-kind v (edge_lits_of table name child) e (subst (SpellsEdge v (edge_lits_of table name child)) here (s.whole.facts.edges name child)) in
       let c : e.child ≡ child = edge-child graph name child e here in
       rw kind (ap (λ n. covers (asked_kinds (asking problem graph node n)) e.kinds) (sym c))
 
-  pub extra_edge-said : (name child : Text) → rule_says v path condition table
-      (where_built name (extra_edge_rule problem (names_for table) name child)) ≡ if_built graph name
-      (λ node. if_written (edge_of graph name child) (is_asked problem graph node))
+  pub extra_edge-said : (name child : Text) → rule_says v path condition table (where_built name (extra_edge_rule problem (names_for table) name child)) ≡ if_built graph name (λ node. if_written (edge_of graph name child) (is_asked problem graph node))
   extra_edge-said name child =
-      where-built name (extra_edge_rule problem (names_for table) name child)
-      (λ node. if_written (edge_of graph name child) (is_asked problem graph node))
-      (λ node here. extra_edge-kept problem (names_for table) graph listed name node here leads child
-      ∙ asked-edge name child node (edge_of graph name child) refl)
+      where-built name (extra_edge_rule problem (names_for table) name child) (λ node. if_written (edge_of graph name child) (is_asked problem graph node))
+      (λ node here. extra_edge-kept problem (names_for table) graph listed name node here leads child ∙ asked-edge name child node (edge_of graph name child) refl)
 
   -- ---- demands
 
@@ -239,125 +201,94 @@ module _ (problem : Problem) (v : ℕ → Bool) (path : Text → Text → Statem
       unnamed-cases None spelled h = spelled
       unnamed-cases (Some b) spelled h = cc
 
-  pub demand-said : (d : Demand) → rule_says v path condition table (demand_rule problem (names_for table) (has_name table) d)
-      ≡ keeps_demand problem graph d
+  pub demand-said : (d : Demand) → rule_says v path condition table (demand_rule problem (names_for table) (has_name table) d) ≡ keeps_demand problem graph d
   demand-said d =
-      said (demand_rule problem (names_for table) (has_name table) d)
-      ∙ demand-kept problem (names_for table) graph listed leads (has_name table) unnamed d
+      said (demand_rule problem (names_for table) (has_name table) d) ∙ demand-kept problem (names_for table) graph listed leads (has_name table) unnamed d
 
   -- ---- rules of all nodes, by names
 
   nodes-said : (test : Node → Bool) → list_all test graph.nodes ≡ list_all (λ name. if_written (node_of graph name) test) (names_of table)
   nodes-said = each-node-said v table graph s.whole.facts s.is_table s.is_graph
 
-  providers-said : (test : Text × Text → Bool)
-      → list_all test graph.providers ≡ list_all (λ w. if_written (provider_of graph w) (λ p. test (w, p))) (virtuals_of table)
+  providers-said : (test : Text × Text → Bool) → list_all test graph.providers ≡ list_all (λ w. if_written (provider_of graph w) (λ p. test (w, p))) (virtuals_of table)
   providers-said = each-provider-said v table graph s.whole.facts s.is_table s.is_graph
 
-  edges-said : (parent : Text) (test : Edge → Bool)
-      → list_all test (edges_from graph parent) ≡ list_all (λ child. if_written (edge_of graph parent child) test)
-      (children_of table parent)
+  edges-said : (parent : Text) (test : Edge → Bool) → list_all test (edges_from graph parent) ≡ list_all (λ child. if_written (edge_of graph parent child) test) (children_of table parent)
   edges-said = each-edge-said v table graph s.whole.facts s.is_table s.is_graph
 
   -- formulas at all names say the rule of all nodes to build
-  each-built : (rule : Text → Rule Term) (test : Node → Bool)
-      → ((name : Text) → rule_says v path condition table (where_built name (rule name)) ≡ if_built graph name test)
+  each-built : (rule : Text → Rule Term) (test : Node → Bool) → ((name : Text) → rule_says v path condition table (where_built name (rule name)) ≡ if_built graph name test)
       → list_all (λ name. rule_says v path condition table (where_built name (rule name))) (names_of table) ≡ each_built test graph
-  each-built rule test same = all-same _ (λ name. if_built graph name test) same (names_of table)
-      ∙ sym (nodes-said (λ node. implies (is_built node) (test node)))
+  each-built rule test same = all-same _ (λ name. if_built graph name test) same (names_of table) ∙ sym (nodes-said (λ node. implies (is_built node) (test node)))
 
-  each-there : (rule : Text → Rule Term) (test : Node → Bool)
-      → ((name : Text) → rule_says v path condition table (where_there name (rule name)) ≡ if_written (node_of graph name) test)
+  each-there : (rule : Text → Rule Term) (test : Node → Bool) → ((name : Text) → rule_says v path condition table (where_there name (rule name)) ≡ if_written (node_of graph name) test)
       → list_all (λ name. rule_says v path condition table (where_there name (rule name))) (names_of table) ≡ list_all test graph.nodes
   each-there rule test same = all-same _ (λ name. if_written (node_of graph name) test) same (names_of table) ∙ sym (nodes-said test)
 
   -- the formulas of a rule at all names say whether the graph keeps the rule
-  pub all-buildable : list_all (λ name. rule_says v path condition table (where_built name (known_rule (buildable_rule problem name))))
-      (names_of table) ≡ keeps rules.Buildable problem graph
+  pub all-buildable : list_all (λ name. rule_says v path condition table (where_built name (known_rule (buildable_rule problem name)))) (names_of table) ≡ keeps rules.Buildable problem graph
   unfolding keeps
   all-buildable = each-built (λ name. known_rule (buildable_rule problem name)) (keeps_buildable problem) buildable-said
 
-  pub all-version : list_all (λ name. rule_says v path condition table (where_built name (known_rule (version_rule problem name))))
-      (names_of table) ≡ keeps rules.Version problem graph
+  pub all-version : list_all (λ name. rule_says v path condition table (where_built name (known_rule (version_rule problem name)))) (names_of table) ≡ keeps rules.Version problem graph
   unfolding keeps
   all-version = each-built (λ name. known_rule (version_rule problem name)) (keeps_version problem) version-said
 
-  pub all-compiler : list_all (λ name. rule_says v path condition table (where_built name (known_rule (compiler_rule problem name))))
-      (names_of table) ≡ keeps rules.Compiler problem graph
+  pub all-compiler : list_all (λ name. rule_says v path condition table (where_built name (known_rule (compiler_rule problem name)))) (names_of table) ≡ keeps rules.Compiler problem graph
   unfolding keeps
   all-compiler = each-built (λ name. known_rule (compiler_rule problem name)) (keeps_compiler problem) compiler-said
 
-  pub all-machine : list_all (λ name. rule_says v path condition table (where_built name (known_rule (machine_rule problem name))))
-      (names_of table) ≡ keeps rules.Machine problem graph
+  pub all-machine : list_all (λ name. rule_says v path condition table (where_built name (known_rule (machine_rule problem name)))) (names_of table) ≡ keeps rules.Machine problem graph
   unfolding keeps
   all-machine = each-built (λ name. known_rule (machine_rule problem name)) (keeps_machine problem) machine-said
 
-  pub all-no_cycle : list_all (λ name. rule_says v path condition table (where_there name (known_rule (no_cycle_rule problem name))))
-      (names_of table) ≡ keeps rules.Cycle problem graph
+  pub all-no_cycle : list_all (λ name. rule_says v path condition table (where_there name (known_rule (no_cycle_rule problem name)))) (names_of table) ≡ keeps rules.Cycle problem graph
   unfolding keeps
   all-no_cycle = each-there (λ name. known_rule (no_cycle_rule problem name)) (keeps_no_cycle graph) no_cycle-said
 
-  pub all-reachable : list_all (λ name. rule_says v path condition table (where_there name (known_rule (reachable_rule problem name))))
-      (names_of table) ≡ keeps rules.Unreachable problem graph
+  pub all-reachable : list_all (λ name. rule_says v path condition table (where_there name (known_rule (reachable_rule problem name)))) (names_of table) ≡ keeps rules.Unreachable problem graph
   unfolding keeps
   all-reachable = each-there (λ name. known_rule (reachable_rule problem name)) (keeps_reachable problem graph) reachable-said
 
-  pub all-extra_edge : list_all (λ name. rule_says v path condition table
-      (where_built name (extra_edges_rule problem (names_for table) (children_of table name) name))) (names_of table)
-      ≡ keeps rules.ExtraEdge problem graph
+  pub all-extra_edge : list_all (λ name. rule_says v path condition table (where_built name (extra_edges_rule problem (names_for table) (children_of table name) name))) (names_of table) ≡ keeps rules.ExtraEdge problem graph
   unfolding keeps keeps_extra_edge
-  all-extra_edge = each-built (λ name. extra_edges_rule problem (names_for table) (children_of table name) name)
-      (keeps_extra_edge problem graph)
-      (λ name. where-built name (extra_edges_rule problem (names_for table) (children_of table name) name)
-      (keeps_extra_edge problem graph) (λ node here.
-      each-kept (is_true (world_of problem) graph) (extra_edge_rule problem (names_for table) name)
-      (λ child. if_written (edge_of graph name child) (is_asked problem graph node))
-      (λ child. extra_edge-kept problem (names_for table) graph listed name node here leads child
-      ∙ asked-edge name child node (edge_of graph name child) refl) (children_of table name)
+  all-extra_edge = each-built (λ name. extra_edges_rule problem (names_for table) (children_of table name) name) (keeps_extra_edge problem graph)
+      (λ name. where-built name (extra_edges_rule problem (names_for table) (children_of table name) name) (keeps_extra_edge problem graph) (λ node here.
+      each-kept (is_true (world_of problem) graph) (extra_edge_rule problem (names_for table) name) (λ child. if_written (edge_of graph name child) (is_asked problem graph node))
+      (λ child. extra_edge-kept problem (names_for table) graph listed name node here leads child ∙ asked-edge name child node (edge_of graph name child) refl) (children_of table name)
       ∙ sym (edges-said name (is_asked problem graph node))
       ∙ ap (λ n. list_all (is_asked problem graph node) (edges_from graph n)) (sym (named-so graph name node here))))
 
   -- formulas of all virtuals say the rule of all providers
-  each-by-virtual : (rule : Text × Text → Rule Term) (test : Text × Text → Bool)
-      → ((p : Text × Text) → keeps_rule (is_true (world_of problem) graph) (rule p) ≡ test p)
-      → list_all (λ w. rule_says v path condition table (of_provider (names_for table) rule w)) (virtuals_of table)
-      ≡ list_all test graph.providers
+  each-by-virtual : (rule : Text × Text → Rule Term) (test : Text × Text → Bool) → ((p : Text × Text) → keeps_rule (is_true (world_of problem) graph) (rule p) ≡ test p)
+      → list_all (λ w. rule_says v path condition table (of_provider (names_for table) rule w)) (virtuals_of table) ≡ list_all test graph.providers
   each-by-virtual rule test same =
-      all-same _ (λ w. if_written (provider_of graph w) (λ p. test (w, p))) (λ w. said (of_provider (names_for table) rule w)
-      ∙ of-provider-kept problem (names_for table) graph listed rule test same w) (virtuals_of table)
+      all-same _ (λ w. if_written (provider_of graph w) (λ p. test (w, p))) (λ w. said (of_provider (names_for table) rule w) ∙ of-provider-kept problem (names_for table) graph listed rule test same w) (virtuals_of table)
       ∙ sym (providers-said test)
 
-  pub all-provider : list_all (λ w. rule_says v path condition table
-      (of_provider (names_for table) (λ p. known_rule (provider_rule problem p)) w)) (virtuals_of table)
-      ≡ keeps rules.Provider problem graph
+  pub all-provider : list_all (λ w. rule_says v path condition table (of_provider (names_for table) (λ p. known_rule (provider_rule problem p)) w)) (virtuals_of table) ≡ keeps rules.Provider problem graph
   unfolding keeps
   all-provider = each-by-virtual (λ p. known_rule (provider_rule problem p)) (keeps_provider problem graph) (provider-kept problem graph)
 
-  pub all-used : list_all (λ w. rule_says v path condition table (of_provider (names_for table) (used_rule problem (names_of table)) w))
-      (virtuals_of table) ≡ keeps rules.UnusedProvider problem graph
+  pub all-used : list_all (λ w. rule_says v path condition table (of_provider (names_for table) (used_rule problem (names_of table)) w)) (virtuals_of table) ≡ keeps rules.UnusedProvider problem graph
   unfolding keeps keeps_used
   all-used = each-by-virtual (used_rule problem (names_of table)) (keeps_used problem graph) (λ p.
       rw (
         given-kept (is_true (world_of problem) graph) (is_virtual problem.recipes p.0),
-        some-kept (is_true (world_of problem) graph) (use_rule problem p) (λ name. is_some_and (node_of graph name) (uses problem graph p))
-            (λ name. sym (said (use_rule problem p name)) ∙ use-said p name) (filter (may_use problem p.0) (names_of table)),
-        any-narrowed (λ name. is_some_and (node_of graph name) (uses problem graph p)) (may_use problem p.0) (user-asks problem graph p)
-            (names_of table),
+        some-kept (is_true (world_of problem) graph) (use_rule problem p) (λ name. is_some_and (node_of graph name) (uses problem graph p)) (λ name. sym (said (use_rule problem p name)) ∙ use-said p name) (filter (may_use problem p.0) (names_of table)),
+        any-narrowed (λ name. is_some_and (node_of graph name) (uses problem graph p)) (may_use problem p.0) (user-asks problem graph p) (names_of table),
         any-node graph (uses problem graph p) (names_of table) (nodes-said (λ node. not (uses problem graph p node))),
       ) refl)
 
   pub all-variant : HasVariants problem table
-      → list_all (λ name. rule_says v path condition table (where_built name (variants_rule problem (variants_of table name) name)))
-      (names_of table) ≡ keeps rules.Variant problem graph
+      → list_all (λ name. rule_says v path condition table (where_built name (variants_rule problem (variants_of table name) name))) (names_of table) ≡ keeps rules.Variant problem graph
   unfolding keeps
   all-variant has = each-built (λ name. variants_rule problem (variants_of table name) name) (keeps_variant problem graph)
       (λ name. where-built name (variants_rule problem (variants_of table name) name) (keeps_variant problem graph) (λ node here.
-      each-kept (is_true (world_of problem) graph) (variant_rule problem name) (keeps_one_variant problem graph node)
-      (λ x. variant-kept problem graph name node here x) (variants_of table name)
+      each-kept (is_true (world_of problem) graph) (variant_rule problem name) (keeps_one_variant problem graph node) (λ x. variant-kept problem graph name node here x) (variants_of table name)
       ∙ sym (at-block name node here (block_of table name) refl (s.whole.facts.nodes name))))
     where
-      at-block : (name : Text) (node : Node) → node_of graph name ≡ Some node → (c : Option Block) → block_of table name ≡ c
-          → SpellsAt v c (node_of graph name)
+      at-block : (name : Text) (node : Node) → node_of graph name ≡ Some node → (c : Option Block) → block_of table name ≡ c → SpellsAt v c (node_of graph name)
           → keeps_variant problem graph node ≡ list_all (keeps_one_variant problem graph node) (variants_of table name)
       at-block name node here None is spells = absurd (let wrong : Some node ≡ None = sym here ∙ spells in cc)
       at-block name node here (Some b) is spells =
@@ -367,20 +298,14 @@ module _ (problem : Problem) (v : ℕ → Bool) (path : Text → Text → Statem
           (subst (λ n. list_all (is_one_text (variants_of table name)) (map (λ row. row.name) (variants_at problem n)) ≡ true)
           (sym (named-so graph name node here)) (has name b is))
 
-  pub all-kept : list_all (λ name. rule_says v path condition table
-      (where_there name (known_rule (kept_rule problem (children_of table name) (origins_of table name) name)))) (names_of table)
-      ≡ keeps rules.Kept problem graph
+  pub all-kept : list_all (λ name. rule_says v path condition table (where_there name (known_rule (kept_rule problem (children_of table name) (origins_of table name) name)))) (names_of table) ≡ keeps rules.Kept problem graph
   unfolding keeps
-  all-kept = each-there (λ name. known_rule (kept_rule problem (children_of table name) (origins_of table name) name))
-      (keeps_kept problem graph)
-      (λ name. where-there name (known_rule (kept_rule problem (children_of table name) (origins_of table name) name))
-      (keeps_kept problem graph) (λ node here.
-      kept-kept problem graph name node here (children_of table name) (edges-said name)
-      (λ child e at. ap (λ p. p.1) (found-ends ends_of graph.edges name child e at).1)
+  all-kept = each-there (λ name. known_rule (kept_rule problem (children_of table name) (origins_of table name) name)) (keeps_kept problem graph)
+      (λ name. where-there name (known_rule (kept_rule problem (children_of table name) (origins_of table name) name)) (keeps_kept problem graph) (λ node here.
+      kept-kept problem graph name node here (children_of table name) (edges-said name) (λ child e at. ap (λ p. p.1) (found-ends ends_of graph.edges name child e at).1)
       (origins_of table name) (at-block name node here (block_of table name) refl (s.whole.facts.nodes name))))
     where
-      at-block : (name : Text) (node : Node) → node_of graph name ≡ Some node → (c : Option Block) → block_of table name ≡ c
-          → SpellsAt v c (node_of graph name)
+      at-block : (name : Text) (node : Node) → node_of graph name ≡ Some node → (c : Option Block) → block_of table name ≡ c → SpellsAt v c (node_of graph name)
           → In node.origin (origins_of table name)
       at-block name node here None is spells = absurd (let wrong : Some node ≡ None = sym here ∙ spells in cc)
       at-block name node here (Some b) is spells =

@@ -17,8 +17,7 @@ module _ (problem : Problem) where
 
   -- a declared version
   abbrev pub version_rule : Text → Rule Word
-  version_rule name =
-      fact (node_has name (has_version (λ version. list_any (λ row. bytes_eq row.version version) (versions_at problem name))))
+  version_rule name = fact (node_has name (has_version (λ version. list_any (λ row. bytes_eq row.version version) (versions_at problem name))))
 
   -- the entry's compiler, on an OS and for a target that it supports
   abbrev pub entry_rule : Text → CompilerEntry → Rule Word
@@ -43,5 +42,4 @@ module _ (problem : Problem) where
   no_cycle_rule name = isnt (fact (has_path name name))
 
   abbrev pub reachable_rule : Text → Rule Word
-  reachable_rule name = some (λ spec. named spec.top.name (λ root. any_rule (given (bytes_eq root name) ∷ fact (has_path root name) ∷ [])))
-      problem.roots
+  reachable_rule name = some (λ spec. named spec.top.name (λ root. any_rule (given (bytes_eq root name) ∷ fact (has_path root name) ∷ []))) problem.roots

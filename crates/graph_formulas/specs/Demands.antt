@@ -13,8 +13,7 @@ module _ (problem : Problem) (packages : Text → List Text) where
   -- the directives with this number
   abbrev pub directive_rule : ℕ → Text → Rule Term
   directive_rule number name =
-      each (λ row. edge_rule problem packages name row and constraint_rule problem packages name row)
-      (filter (λ row. row.number == number) (depends_at problem name))
+      each (λ row. edge_rule problem packages name row and constraint_rule problem packages name row) (filter (λ row. row.number == number) (depends_at problem name))
       and each (conflict_rule problem packages name) (filter (λ row. row.number == number) (conflicts_at problem name))
       and each (requirement_rule problem packages name) (filter (λ row. row.number == number) (requirements_at problem name))
 

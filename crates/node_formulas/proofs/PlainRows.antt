@@ -51,35 +51,25 @@ module _ (path : Text → Text → Statement) (t : Table) where
 
     module _ (children : List Text) where
       child-alike : (name : Text) (d : Text × Kinds) → Alike f g (child_rule problem children name d)
-      child-alike name d =
-          named-alike f g (λ (child : Record). fact (node_has child.name (has_origin (installs d.0))) and kinds_rule name child.name d.1)
+      child-alike name d = named-alike f g (λ (child : Record). fact (node_has child.name (has_origin (installs d.0))) and kinds_rule name child.name d.1)
           (λ child. (refl, kinds-alike name child.name d.1)) (record_at problem d.0)
 
       origin-alike : (name : Text) (origin : Origin) → Alike f g (origin_rule problem children name origin)
       origin-alike name Built = refl
       origin-alike name (External place) = (
-        named-alike f g (λ entry. same_rule name (external_node problem name place entry))
-            (λ entry. same-alike name (external_node problem name place entry))
+        named-alike f g (λ entry. same_rule name (external_node problem name place entry)) (λ entry. same-alike name (external_node problem name place entry))
             (slice_get (externals_in (package_entry_of problem name)) place),
         each-alike f g (λ child. isnt (fact (has_edge name child no_kinds))) (λ child. refl) children,
       )
       origin-alike name (Installed hash) = named-alike f g
-          (λ entry. same_rule name (installed_node entry) and each (child_rule problem children name) (kept_dependencies entry) and each
-          (recorded_rule problem children name entry) children)
+          (λ entry. same_rule name (installed_node entry) and each (child_rule problem children name) (kept_dependencies entry) and each (recorded_rule problem children name entry) children)
           (λ entry. (
-            (
-              same-alike name (installed_node entry),
-              each-alike f g (child_rule problem children name) (child-alike name)
-                  (kept_dependencies entry),
-            ),
-            each-alike f g (recorded_rule problem children name entry)
-                (λ child. (refl, given-alike f g (is_child_name problem entry child))) children,
+            (same-alike name (installed_node entry), each-alike f g (child_rule problem children name) (child-alike name) (kept_dependencies entry)),
+            each-alike f g (recorded_rule problem children name entry) (λ child. (refl, given-alike f g (is_child_name problem entry child))) children,
           ))
           (record_at problem hash)
 
-      pub kept-plain : (origins : List Origin) (name : Text)
-          → rule_said path t (kept_rule problem children origins name) ≡ plain_said t (kept_rule problem children origins name)
+      pub kept-plain : (origins : List Origin) (name : Text) → rule_said path t (kept_rule problem children origins name) ≡ plain_said t (kept_rule problem children origins name)
       kept-plain origins name = same-words f g (kept_rule problem children origins name)
-          (each-alike f g (λ origin. if_so (fact (node_has name (has_origin (same_origin origin))))
-          (origin_rule problem children name origin))
+          (each-alike f g (λ origin. if_so (fact (node_has name (has_origin (same_origin origin)))) (origin_rule problem children name origin))
           (λ origin. (refl, origin-alike name origin)) origins)

@@ -29,23 +29,19 @@ module _ (t : Table) (condition : Text → Condition → Statement) (name varian
   abbrev defines : VariantRow → Bool
   defines row = bytes_eq row.name variant
 
-  pub met-said : (rows : List VariantRow) → met_said condition name variant rows
-      ≡ in_words g (some (λ row. met_rule name row.when) (filter (λ row. bytes_eq row.name variant) rows))
+  pub met-said : (rows : List VariantRow) → met_said condition name variant rows ≡ in_words g (some (λ row. met_rule name row.when) (filter (λ row. bytes_eq row.name variant) rows))
   met-said rows = sym (some-said g (λ row. met_rule name row.when) (filter (λ row. bytes_eq row.name variant) rows))
 
   abbrev governing : List VariantRow → Rule Term
   governing rows = last_one (λ row. met_rule name row.when) (λ row. known_rule (allows_rule name variant row)) rows
 
-  pub last-said : (rows : List VariantRow) → any_of (last_parts t condition name variant rows)
-      ≡ in_words g (governing (filter (λ row. bytes_eq row.name variant) rows))
+  pub last-said : (rows : List VariantRow) → any_of (last_parts t condition name variant rows) ≡ in_words g (governing (filter (λ row. bytes_eq row.name variant) rows))
   last-said [] = refl
   last-said (row ∷ rows) = go (bytes_eq row.name variant) (last-said rows)
     where
-      go : (b : Bool) → any_of (last_parts t condition name variant rows)
-          ≡ in_words g (governing (filter (λ row. bytes_eq row.name variant) rows))
+      go : (b : Bool) → any_of (last_parts t condition name variant rows) ≡ in_words g (governing (filter (λ row. bytes_eq row.name variant) rows))
           → any_of ((if b then governs_said t condition name variant row rows ∷ [] else []) ++ last_parts t condition name variant rows)
-          ≡ in_words g (governing (if b then row ∷ filter (λ row. bytes_eq row.name variant) rows else filter
-          (λ row. bytes_eq row.name variant) rows))
+          ≡ in_words g (governing (if b then row ∷ filter (λ row. bytes_eq row.name variant) rows else filter (λ row. bytes_eq row.name variant) rows))
       go true rest = rw (met-said rows, rest) refl
       go false rest = rest
 
@@ -60,14 +56,12 @@ module _ (path : Text → Text → Statement) (condition : Text → Condition �
   abbrev h : Term → Statement
   h = term_said no_paths condition t
 
-  count-agree : (name variant : Text) (kind : VariantKind)
-      → rule_said path t (count_rule name variant kind) ≡ plain_said t (count_rule name variant kind)
+  count-agree : (name variant : Text) (kind : VariantKind) → rule_said path t (count_rule name variant kind) ≡ plain_said t (count_rule name variant kind)
   count-agree name variant kinds.Bool = refl
   count-agree name variant kinds.Single = refl
   count-agree name variant kinds.Multi = refl
 
-  allows-agree : (name variant : Text) (row : VariantRow)
-      → rule_said path t (allows_rule name variant row) ≡ plain_said t (allows_rule name variant row)
+  allows-agree : (name variant : Text) (row : VariantRow) → rule_said path t (allows_rule name variant row) ≡ plain_said t (allows_rule name variant row)
   allows-agree name variant row =
       ap (λ s. both (opposite (word_said no_paths t (node_has name (has_value variant (λ value. not (is_one_text row.values value)))))) s)
       (count-agree name variant row.kind)
@@ -81,10 +75,8 @@ module _ (path : Text → Text → Statement) (condition : Text → Condition �
 
   variant-agree : (name variant : Text) → in_words f (variant_rule problem name variant) ≡ in_words h (variant_rule problem name variant)
   variant-agree name variant = both-same _ _ _ _
-      (ap (λ s. implies s (in_words h (variant_there_rule name variant)))
-      (some-agree f h (λ row. met_rule name row.when) (λ row. refl) (definitions problem name variant)))
+      (ap (λ s. implies s (in_words h (variant_there_rule name variant))) (some-agree f h (λ row. met_rule name row.when) (λ row. refl) (definitions problem name variant)))
       (ap (λ s. implies (in_words h (variant_there_rule name variant)) s) (last-agree name variant (definitions problem name variant)))
 
-  pub variants-agree : (variants : List Text) (name : Text)
-      → in_words f (variants_rule problem variants name) ≡ in_words h (variants_rule problem variants name)
+  pub variants-agree : (variants : List Text) (name : Text) → in_words f (variants_rule problem variants name) ≡ in_words h (variants_rule problem variants name)
   variants-agree variants name = each-agree f h (variant_rule problem name) (variant-agree name) variants

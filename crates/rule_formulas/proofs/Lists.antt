@@ -27,8 +27,7 @@ use Rattle.graph_formulas.specs.Directives.{choice_rule}
 use Rattle.word_formulas.proofs.Steps.{both-same}
 use Rattle.rule_formulas.specs.Terms.{is_asked, choice_said}
 
-any-offered : (child : Text) (cs : Choices Text)
-    → list_any (λ (c : Text × Lit). bytes_eq child c.0) cs ≡ list_any (bytes_eq child) (offered cs)
+any-offered : (child : Text) (cs : Choices Text) → list_any (λ (c : Text × Lit). bytes_eq child c.0) cs ≡ list_any (bytes_eq child) (offered cs)
 any-offered child [] = refl
 any-offered child (c ∷ cs) = rw (any-offered child cs) refl
 
@@ -63,8 +62,7 @@ filter-mapped f g p (x ∷ xs) = filter-mapped-cases (p (g x)) (filter-mapped f 
 module _ (path : Text → Text → Statement) (condition : Text → Condition → Statement) (table : Table) where
   module _ {T : Type 0} (rule : T → Rule Word) where
     -- a rule over facts is one over terms: some of a list
-    pub some-known : (xs : List T) → rule_said path table (some rule xs) ≡ term_formula path condition table
-        (some (λ x. known_rule (rule x)) xs)
+    pub some-known : (xs : List T) → rule_said path table (some rule xs) ≡ term_formula path condition table (some (λ x. known_rule (rule x)) xs)
     some-known [] = refl
     some-known (x ∷ xs) = ap (λ f. or (rule_said path table (rule x)) f) (some-known xs)
 
@@ -77,8 +75,7 @@ module _ (path : Text → Text → Statement) (condition : Text → Condition �
     abbrev known : T → Rule Term
     known x = known_rule (rule x)
 
-    both-append : (rs qs : List (Rule Word)) (ts us : List (Rule Term)) → words rs ≡ terms ts → words qs ≡ terms us
-        → words (rs ++ qs) ≡ terms (ts ++ us)
+    both-append : (rs qs : List (Rule Word)) (ts us : List (Rule Term)) → words rs ≡ terms ts → words qs ≡ terms us → words (rs ++ qs) ≡ terms (ts ++ us)
     both-append rs qs ts us first second = map-append (rule_said path table) rs qs
         ∙ ap (λ fs. fs ++ words qs) first ∙ ap (λ fs. terms ts ++ fs) second ∙ sym (map-append (term_formula path condition table) ts us)
 
@@ -88,11 +85,9 @@ module _ (path : Text → Text → Statement) (condition : Text → Condition �
 
     apart-known : (xs : List T) → words (apart_rules rule xs) ≡ terms (apart_rules known xs)
     apart-known [] = refl
-    apart-known (x ∷ xs) = both-append (first_rules rule x xs) (apart_rules rule xs) (first_rules known x xs) (apart_rules known xs)
-        (first-known x xs) (apart-known xs)
+    apart-known (x ∷ xs) = both-append (first_rules rule x xs) (apart_rules rule xs) (first_rules known x xs) (apart_rules known xs) (first-known x xs) (apart-known xs)
 
-    halves-known : (xs ys : List T) → rule_said path table (halves_rule rule xs ys) ≡ term_formula path condition table
-        (halves_rule known xs ys)
+    halves-known : (xs ys : List T) → rule_said path table (halves_rule rule xs ys) ≡ term_formula path condition table (halves_rule known xs ys)
     halves-known xs ys = rw (some-known xs, some-known ys) refl
 
     few-known : (times : ℕ) (xs : List T) → words (few_rules times rule xs) ≡ terms (few_rules times known xs)
@@ -101,14 +96,11 @@ module _ (path : Text → Text → Statement) (condition : Text → Condition �
     few-known (suc times) xs =
         let front = take (half_of xs) xs in
         let back = drop (half_of xs) xs in
-        elim (nat_lt 8 (length xs)) as (λ b. words
-        (if b then halves_rule rule front back ∷ (few_rules times rule front ++ few_rules times rule back) else apart_rules rule xs)
-        ≡ terms (if b then halves_rule known front back ∷ (few_rules times known front ++ few_rules times known back) else
-        apart_rules known xs)) [
+        elim (nat_lt 8 (length xs)) as (λ b. words (if b then halves_rule rule front back ∷ (few_rules times rule front ++ few_rules times rule back) else apart_rules rule xs)
+        ≡ terms (if b then halves_rule known front back ∷ (few_rules times known front ++ few_rules times known back) else apart_rules known xs)) [
           | true ↦ ap (λ f. f ∷ words (few_rules times rule front ++ few_rules times rule back)) (halves-known front back)
               ∙ ap (λ fs. term_formula path condition table (halves_rule known front back) ∷ fs)
-              (both-append (few_rules times rule front) (few_rules times rule back) (few_rules times known front)
-              (few_rules times known back) (few-known times front) (few-known times back))
+              (both-append (few_rules times rule front) (few_rules times rule back) (few_rules times known front) (few_rules times known back) (few-known times front) (few-known times back))
           | false ↦ apart-known xs
         ]
 
@@ -121,26 +113,21 @@ module _ (path : Text → Text → Statement) (condition : Text → Condition �
 
   -- and for a requirement's specs
   pub choice-known : (problem : Problem) (name : Text) (row : RequireRow)
-      → choice_said path table (world_of problem) name row ≡ term_formula path condition table
-      (choice_rule problem (names_for table) name row)
+      → choice_said path table (world_of problem) name row ≡ term_formula path condition table (choice_rule problem (names_for table) name row)
   choice-known problem name row = choice-known-cases row.one_of
     where
-      choice-known-cases : (b : Bool)
-          → (if b then rule_said path table (just_one (holds_rule (world_of problem) (names_for table) name) row.specs)
+      choice-known-cases : (b : Bool) → (if b then rule_said path table (just_one (holds_rule (world_of problem) (names_for table) name) row.specs)
           else rule_said path table (some (holds_rule (world_of problem) (names_for table) name) row.specs))
-          ≡ in_words (term_said path condition table)
-          (if b then just_one (λ spec. known_rule (holds_rule (world_of problem) (names_for table) name spec)) row.specs
+          ≡ in_words (term_said path condition table) (if b then just_one (λ spec. known_rule (holds_rule (world_of problem) (names_for table) name spec)) row.specs
           else some (λ spec. known_rule (holds_rule (world_of problem) (names_for table) name spec)) row.specs)
       choice-known-cases true = one-known (holds_rule (world_of problem) (names_for table) name) row.specs
       choice-known-cases false = some-known (holds_rule (world_of problem) (names_for table) name) row.specs
 
 module _ (path : Text → Text → Statement) (table : Table) (world : World) (name : Text) (row : RequireRow) where
   -- a requirement of one
-  pub chosen-one : row.one_of ≡ true → rule_said path table (just_one (holds_rule world (names_for table) name) row.specs)
-      ≡ choice_said path table world name row
+  pub chosen-one : row.one_of ≡ true → rule_said path table (just_one (holds_rule world (names_for table) name) row.specs) ≡ choice_said path table world name row
   chosen-one is = rw is refl
 
   -- a requirement of some
-  pub chosen-some : row.one_of ≡ false → rule_said path table (some (holds_rule world (names_for table) name) row.specs)
-      ≡ choice_said path table world name row
+  pub chosen-some : row.one_of ≡ false → rule_said path table (some (holds_rule world (names_for table) name) row.specs) ≡ choice_said path table world name row
   chosen-some is = rw is refl

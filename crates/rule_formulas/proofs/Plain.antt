@@ -25,28 +25,21 @@ module _ (path : Text → Text → Statement) (condition : Text → Condition �
   abbrev g : Term → Statement
   g = term_said no_paths condition table
 
-  asks-agree : (name child : Text) (row : DependRow)
-      → in_words f (asks_rule problem (names_for table) name child row) ≡ in_words g (asks_rule problem (names_for table) name child row)
+  asks-agree : (name child : Text) (row : DependRow) → in_words f (asks_rule problem (names_for table) name child row) ≡ in_words g (asks_rule problem (names_for table) name child row)
   asks-agree name child row = ap (λ s. both (condition name row.when) s) (asks_child-agree path table problem child row)
 
-  kind-agree : (kinds : Kinds) (has : Kinds → Bool) (name child : Text)
-      → in_words f (kind_rule problem (names_for table) kinds has name child)
-      ≡ in_words g (kind_rule problem (names_for table) kinds has name child)
+  kind-agree : (kinds : Kinds) (has : Kinds → Bool) (name child : Text) → in_words f (kind_rule problem (names_for table) kinds has name child) ≡ in_words g (kind_rule problem (names_for table) kinds has name child)
   kind-agree kinds has name child = ap (λ s. implies (f (known (fact (has_edge name child kinds)))) s)
-      (some-agree f g (asks_rule problem (names_for table) name child) (asks-agree name child)
-      (filter (λ row. has row.kinds && may_ask problem (names_for table) child row) (depends_at problem name)))
+      (some-agree f g (asks_rule problem (names_for table) name child) (asks-agree name child) (filter (λ row. has row.kinds && may_ask problem (names_for table) child row) (depends_at problem name)))
 
-  extra-agree : (name child : Text) → in_words f (extra_edge_rule problem (names_for table) name child)
-      ≡ in_words g (extra_edge_rule problem (names_for table) name child)
+  extra-agree : (name child : Text) → in_words f (extra_edge_rule problem (names_for table) name child) ≡ in_words g (extra_edge_rule problem (names_for table) name child)
   extra-agree name child = both-same _ _ _ _ (both-same _ _ _ _
       (kind-agree (record no_kinds { build = true }) (λ kinds. kinds.build) name child)
       (kind-agree (record no_kinds { link = true }) (λ kinds. kinds.link) name child))
       (kind-agree (record no_kinds { run = true }) (λ kinds. kinds.run) name child)
 
   -- the rule of edges, for all formulas of paths
-  pub extras-agree : (children : List Text) (name : Text)
-      → in_words f (extra_edges_rule problem (names_for table) children name)
-      ≡ in_words g (extra_edges_rule problem (names_for table) children name)
+  pub extras-agree : (children : List Text) (name : Text) → in_words f (extra_edges_rule problem (names_for table) children name) ≡ in_words g (extra_edges_rule problem (names_for table) children name)
   extras-agree children name = each-agree f g (extra_edge_rule problem (names_for table) name) (extra-agree name) children
 
   use-agree : (p : Text × Text) (name : Text) → in_words f (use_rule problem p name) ≡ in_words g (use_rule problem p name)
@@ -59,8 +52,6 @@ module _ (path : Text → Text → Statement) (condition : Text → Condition �
 
   -- that of used providers
   pub provider-agree : (names : List Text) (virtual : Text)
-      → in_words f (of_provider (names_for table) (used_rule problem names) virtual)
-      ≡ in_words g (of_provider (names_for table) (used_rule problem names) virtual)
-  provider-agree names virtual =
-      each-agree f g (λ p. if_so (known_rule (fact (provides_as virtual p))) (used_rule problem names (virtual, p)))
+      → in_words f (of_provider (names_for table) (used_rule problem names) virtual) ≡ in_words g (of_provider (names_for table) (used_rule problem names) virtual)
+  provider-agree names virtual = each-agree f g (λ p. if_so (known_rule (fact (provides_as virtual p))) (used_rule problem names (virtual, p)))
       (λ p. ap (λ s. implies (f (known (fact (provides_as virtual p)))) s) (used-agree names (virtual, p))) (names_for table virtual)

@@ -18,18 +18,15 @@ module _ {T : Type 0} (p : T → Bool) (formula : T → Statement) where
   one_further xs i x lt is = let e : i + 1 ≡ suc i = omega arith in rw e (drop-cons xs i x lt ∙ ap (λ y. y ∷ drop (suc i) xs) (sym is))
 
   -- an element that passes adds its formula
-  pub passed : (before after : List Statement) (xs : List T) (i : ℕ) (x : T) (b : Bool) (part : Statement) (whole : List Statement)
-      → i < length xs → x ≡ get_or xs i x
-      → b ≡ p x → b ≡ true → part ≡ formula x → after ≡ before ++ part ∷ [] → before ++ parts (drop i xs) ≡ whole
-      → after ++ parts (drop (i + 1) xs) ≡ whole
+  pub passed : (before after : List Statement) (xs : List T) (i : ℕ) (x : T) (b : Bool) (part : Statement) (whole : List Statement) → i < length xs → x ≡ get_or xs i x
+      → b ≡ p x → b ≡ true → part ≡ formula x → after ≡ before ++ part ∷ [] → before ++ parts (drop i xs) ≡ whole → after ++ parts (drop (i + 1) xs) ≡ whole
   passed before after xs i x b part whole lt is told passes made pushed done =
       ap (λ l. l ++ parts (drop (i + 1) xs)) pushed ∙ append_assoc before (part ∷ []) (parts (drop (i + 1) xs))
       ∙ ap (λ f. before ++ f ∷ parts (drop (i + 1) xs)) made
       ∙ ap (λ l. before ++ l) (sym (at_head x (drop (i + 1) xs) (sym told ∙ passes)) ∙ ap parts (sym (one_further xs i x lt is))) ∙ done
 
   -- one that does not adds nothing
-  pub skipped : (before after : List Statement) (xs : List T) (i : ℕ) (x : T) (b : Bool) (whole : List Statement) → i < length xs
-      → x ≡ get_or xs i x
+  pub skipped : (before after : List Statement) (xs : List T) (i : ℕ) (x : T) (b : Bool) (whole : List Statement) → i < length xs → x ≡ get_or xs i x
       → b ≡ p x → b ≡ false → after ≡ before → before ++ parts (drop i xs) ≡ whole → after ++ parts (drop (i + 1) xs) ≡ whole
   skipped before after xs i x b whole lt is told fails same done =
       ap (λ l. l ++ parts (drop (i + 1) xs)) same

@@ -16,8 +16,7 @@ met_said condition name variant rows = any_of (map (λ row. condition name row.w
 module _ (t : Table) (condition : Text → Condition → Statement) (name variant : Text) where
   -- the condition is met, and none of the variant's later definitions; and the definition allows the values
   abbrev pub governs_said : VariantRow → List VariantRow → Statement
-  governs_said row rest = both (both (opposite (met_said condition name variant rest)) (condition name row.when))
-      (plain_said t (allows_rule name variant row))
+  governs_said row rest = both (both (opposite (met_said condition name variant rest)) (condition name row.when)) (plain_said t (allows_rule name variant row))
 
   -- if it defines the variant
   abbrev pub governed : VariantRow → List VariantRow → List Statement

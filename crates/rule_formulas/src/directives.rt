@@ -75,8 +75,7 @@ fn choice_formula(
     row: &RequireRow,
 ) -> Result<Formula, AllocError>
     ensures { IfOk result (λ formula. formula
-        ≡ choice_said (path_by table.now paths.now) table.now (world_of problem.now)
-        name.now row.now) }
+        ≡ choice_said (path_by table.now paths.now) table.now (world_of problem.now) name.now row.now) }
 {
     let world = problem.world();
     if row.one_of {

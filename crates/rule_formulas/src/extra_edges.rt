@@ -98,8 +98,7 @@ fn may_ask_as(
     row: &DependRow,
 ) -> bool
     ensures { result
-        ≡ (has_of kind row.now.kinds && may_ask problem.now (names_for table.now)
-        child.now row.now) }
+        ≡ (has_of kind row.now.kinds && may_ask problem.now (names_for table.now) child.now row.now) }
 {
     has(kind, &row.kinds) && may_ask(problem, table, child, row)
 }
@@ -133,8 +132,7 @@ fn asking_formula<C: MetConditions>(
 ) -> Result<Formula, AllocError>
     ensures { IfOk result (λ formula. formula ≡ plain_term table.now (C.condition_of conditions.now)
         (some (asks_rule problem.now (names_for table.now) name.now child.now)
-        (filter (λ row. has_of kind row.kinds
-        && may_ask problem.now (names_for table.now) child.now row)
+        (filter (λ row. has_of kind row.kinds && may_ask problem.now (names_for table.now) child.now row)
         (depends_at problem.now name.now)))) }
 {
     some_where(
@@ -156,8 +154,7 @@ fn kind_formula<C: MetConditions>(
     child: &str,
 ) -> Result<Formula, AllocError>
     ensures { IfOk result (λ formula. formula ≡ plain_term table.now (C.condition_of conditions.now)
-        (kind_rule problem.now (names_for table.now) (kinds_of kind) (has_of kind)
-        name.now child.now)) }
+        (kind_rule problem.now (names_for table.now) (kinds_of kind) (has_of kind) name.now child.now)) }
 {
     let kinds = kinds_of(kind);
     let edge = has_edge(alloc, table, name, child, &kinds)?;
@@ -223,8 +220,7 @@ pub fn extra_edges_formula<C: MetConditions>(
     name: &str,
 ) -> Result<Formula, AllocError>
     ensures { IfOk result (λ formula. formula ≡ plain_term table.now (C.condition_of conditions.now)
-        (extra_edges_rule problem.now (names_for table.now)
-        (children_of table.now name.now) name.now)) }
+        (extra_edges_rule problem.now (names_for table.now) (children_of table.now name.now) name.now)) }
 {
     each_where(
         alloc,

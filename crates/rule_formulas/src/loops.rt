@@ -17,8 +17,7 @@ fn parts_where<T, P: Fn(&T) -> bool, F: Fn(&T) -> Result<Formula, AllocError>>(
     requires test { P.IsAlwaysCallable test }
     requires part { F.IsAlwaysCallable part }
     ensures { (p : T → Bool) (formula : T → Statement) → IsTest P.Fn p test
-        → Builds F.Fn formula part → IfOk result
-        (λ parts. parts.items ≡ map formula (filter p items.now)) }
+        → Builds F.Fn formula part → IfOk result (λ parts. parts.items ≡ map formula (filter p items.now)) }
 {
     let mut parts = Vec::new(alloc);
     for item in items {

@@ -15,15 +15,12 @@ ghost use Rattle.rule_formulas.specs.Terms.{plain_term};
 pub fn term_laws()
     ensures extra { (path : Text → Text → Statement) (condition : Text → Condition → Statement)
         (table : Table) (problem : Problem) (children : List Text) (name : Text)
-        → term_formula path condition table
-        (extra_edges_rule problem (names_for table) children name)
+        → term_formula path condition table (extra_edges_rule problem (names_for table) children name)
         ≡ plain_term table condition (extra_edges_rule problem (names_for table) children name) }
     ensures used { (path : Text → Text → Statement) (condition : Text → Condition → Statement)
         (table : Table) (problem : Problem) (names : List Text) (virtual : Text)
-        → term_formula path condition table
-        (of_provider (names_for table) (used_rule problem names) virtual)
-        ≡ plain_term table condition (of_provider (names_for table)
-        (used_rule problem names) virtual) }
+        → term_formula path condition table (of_provider (names_for table) (used_rule problem names) virtual)
+        ≡ plain_term table condition (of_provider (names_for table) (used_rule problem names) virtual) }
     ensures variants { (path : Text → Text → Statement) (condition : Text → Condition → Statement)
         (table : Table) (problem : Problem) (variants : List Text) (name : Text)
         → term_formula path condition table (variants_rule problem variants name)

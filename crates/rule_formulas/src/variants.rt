@@ -54,8 +54,7 @@ fn governs_formula<C: MetConditions>(
     rest: &[VariantRow],
 ) -> Result<Formula, AllocError>
     ensures { IfOk result (λ formula. formula
-        ≡ governs_said table.now (C.condition_of conditions.now) name.now variant.now
-        row.now rest.now) }
+        ≡ governs_said table.now (C.condition_of conditions.now) name.now variant.now row.now rest.now) }
 {
     let later = met_formula(alloc, conditions, name, variant, rest)?;
     let met = conditions.met(alloc, name, &row.when)?;
@@ -75,8 +74,7 @@ fn push_governed<C: MetConditions>(
     rest: &[VariantRow],
 ) -> Result<(), AllocError>
     ensures { OnOk result (parts.new.items ≡ parts.old.items
-        ++ governed table.now (C.condition_of conditions.now) name.now variant.now
-        row.now rest.now) }
+        ++ governed table.now (C.condition_of conditions.now) name.now variant.now row.now rest.now) }
 {
     if defines(row, variant) {
         let formula = governs_formula(alloc, table, conditions, name, variant, row, rest)?;

@@ -62,8 +62,7 @@ module _ (v : ℕ → Bool) (t : Table) (path other : PathFormulas) (told : Text
 
   module _ (children : List Text) where
     child-alike : (name : Text) (d : Text × Kinds) → AllWords W (child_rule problem children name d)
-    child-alike name d =
-        named-all W (λ (child : Record). fact (node_has child.name (has_origin (installs d.0))) and kinds_rule name child.name d.1)
+    child-alike name d = named-all W (λ (child : Record). fact (node_has child.name (has_origin (installs d.0))) and kinds_rule name child.name d.1)
         (λ child. (refl, kinds-alike name child.name d.1)) (record_at problem d.0)
 
     origin-alike : (name : Text) (origin : Origin) → AllWords W (origin_rule problem children name origin)
@@ -75,21 +74,14 @@ module _ (v : ℕ → Bool) (t : Table) (path other : PathFormulas) (told : Text
       each-all W (λ child. isnt (fact (has_edge name child no_kinds))) (λ child. refl) children,
     )
     origin-alike name (Installed hash) = named-all W
-        (λ entry. same_rule name (installed_node entry) and each (child_rule problem children name) (kept_dependencies entry) and each
-        (recorded_rule problem children name entry) children)
+        (λ entry. same_rule name (installed_node entry) and each (child_rule problem children name) (kept_dependencies entry) and each (recorded_rule problem children name entry) children)
         (λ entry. (
-          (
-            same-alike name (installed_node entry),
-            each-all W (child_rule problem children name) (child-alike name)
-                (kept_dependencies entry),
-          ),
-          each-all W (recorded_rule problem children name entry) (λ child. (refl, given-all W (is_child_name problem entry child)))
-              children,
+          (same-alike name (installed_node entry), each-all W (child_rule problem children name) (child-alike name) (kept_dependencies entry)),
+          each-all W (recorded_rule problem children name entry) (λ child. (refl, given-all W (is_child_name problem entry child))) children,
         ))
         (record_at problem hash)
 
     -- the words of the rule of kept nodes
     pub kept-alike : (origins : List Origin) (name : Text) → AllWords W (kept_rule problem children origins name)
-    kept-alike origins name =
-        each-all W (λ origin. if_so (fact (node_has name (has_origin (same_origin origin)))) (origin_rule problem children name origin))
+    kept-alike origins name = each-all W (λ origin. if_so (fact (node_has name (has_origin (same_origin origin)))) (origin_rule problem children name origin))
         (λ origin. (refl, origin-alike name origin)) origins

@@ -71,8 +71,7 @@ all-said v f xs = eval-all_of v (map f xs) ∙ all-said-cases xs
     all-said-cases (x ∷ xs) = rw (all-said-cases xs) refl
 
 -- what two tests say of a list
-all-alike : {X : Type 0} (p q test : X → Bool) → ((x : X) → test x ≡ true → p x ≡ q x) → (xs : List X) → list_all test xs ≡ true
-    → list_all p xs ≡ list_all q xs
+all-alike : {X : Type 0} (p q test : X → Bool) → ((x : X) → test x ≡ true → p x ≡ q x) → (xs : List X) → list_all test xs ≡ true → list_all p xs ≡ list_all q xs
 all-alike p q test same [] e = refl
 all-alike p q test same (x ∷ xs) e = let h = and_parts (test x) (list_all test xs) e in rw (same x h.0, all-alike p q test same xs h.1) refl
 
@@ -89,9 +88,7 @@ listed-below m f h (x ∷ xs) = (h x, listed-below m f h xs)
 module _ (problem : Problem) (t : Table) (told : Text → Bool) (all : list_all told (asked_targets problem t) ≡ true) where
   parts : (list_all told (flat_map (targets_at problem t) (names_of t)) ≡ true)
       × (list_all told (flat_map (spec_names (world_of problem) (names_for t)) problem.roots) ≡ true)
-  parts = and_parts _ _
-      (sym (list_all-append told (flat_map (targets_at problem t) (names_of t))
-      (flat_map (spec_names (world_of problem) (names_for t)) problem.roots)) ∙ all)
+  parts = and_parts _ _ (sym (list_all-append told (flat_map (targets_at problem t) (names_of t)) (flat_map (spec_names (world_of problem) (names_for t)) problem.roots)) ∙ all)
 
   abbrev is_told_name : Text → Bool
   is_told_name name = list_all told (targets_at problem t name)
@@ -115,19 +112,16 @@ module _ (problem : Problem) (t : Table) (told : Text → Bool) (all : list_all 
   told-at name e =
       list_all-map is_told_pair (pair_with name) (conditions_at problem name)
       ∙ sym (all-flat told (condition_names (world_of problem) (names_for t)) (conditions_at problem name))
-      ∙ (and_parts _ _
-      (sym (list_all-append told (flat_map (condition_names (world_of problem) (names_for t)) (conditions_at problem name)) _) ∙ e)).0
+      ∙ (and_parts _ _ (sym (list_all-append told (flat_map (condition_names (world_of problem) (names_for t)) (conditions_at problem name)) _) ∙ e)).0
 
   told-conditions : list_all is_told_pair (conditions_of problem t) ≡ true
   told-conditions =
       all-flat is_told_pair (λ name. map (pair_with name) (conditions_at problem name)) (names_of t)
-      ∙ all-from is_told_name (λ name. list_all is_told_pair (map (pair_with name) (conditions_at problem name))) told-at
-      (names_of t) told-names
+      ∙ all-from is_told_name (λ name. list_all is_told_pair (map (pair_with name) (conditions_at problem name))) told-at (names_of t) told-names
 
   -- ---- one graph
 
-  module _ (table : IsTable t) (v : ℕ → Bool) (g : Content) (path : PathFormulas) (spells : Spells v t g) (formed : IsWellFormed g)
-      (paths : PathsTold told path v g) where
+  module _ (table : IsTable t) (v : ℕ → Bool) (g : Content) (path : PathFormulas) (spells : Spells v t g) (formed : IsWellFormed g) (paths : PathsTold told path v g) where
     -- as the formulas of paths, and constants where they tell nothing
     abbrev exact : PathFormulas
     exact from to = if told to then path from to else constant (reaches_in g from to)
@@ -138,21 +132,18 @@ module _ (problem : Problem) (t : Table) (told : Text → Bool) (all : list_all 
     exact-says : (from to : Text) → eval v (exact from to) ≡ reaches_in g from to
     exact-says from to = exact-says-cases (told to) refl
       where
-        exact-says-cases : (b : Bool) → told to ≡ b
-            → eval v (if b then path from to else constant (reaches_in g from to)) ≡ reaches_in g from to
+        exact-says-cases : (b : Bool) → told to ≡ b → eval v (if b then path from to else constant (reaches_in g from to)) ≡ reaches_in g from to
         exact-says-cases true is = paths from to is
         exact-says-cases false is = constant-is v (reaches_in g from to)
 
     whole : SpellsPaths v exact t g
     whole = record { facts = spells; paths = exact-says }
 
-    when-alike : (name : Text) (when : Condition) → is_told_when when ≡ true
-        → eval v (condition_said problem t path name when) ≡ eval v (condition_said problem t exact name when)
+    when-alike : (name : Text) (when : Condition) → is_told_when when ≡ true → eval v (condition_said problem t path name when) ≡ eval v (condition_said problem t exact name when)
     when-alike name when e = said-alike v (word_said path t) (word_said exact t) (condition_rule (world_of problem) (names_for t) name when)
         (condition-alike v t path exact told same (world_of problem) (names_for t) name when e)
 
-    when-says : (name : Text) (when : Condition)
-        → eval v (condition_said problem t exact name when) ≡ all_hold (world_of problem) when g name
+    when-says : (name : Text) (when : Condition) → eval v (condition_said problem t exact name when) ≡ all_hold (world_of problem) when g name
     when-says name when = condition-said (world_of problem) v exact t g whole name when
 
     conditions-say : (cs : List (Text × Condition)) → list_all is_told_pair cs ≡ true → (k : ℕ)
@@ -162,8 +153,7 @@ module _ (problem : Problem) (t : Table) (told : Text → Bool) (all : list_all 
     conditions-say (c ∷ cs) e (suc k) = conditions-say cs (and_parts (is_told_when c.1) _ e).1 k
 
     -- ---- over values of conditions
-    module _ (place : Places) (placed : IsPlaced (conditions_of problem t) place) (met_by : ℕ → Statement)
-        (conds : ConditionsTold (holds_at problem (conditions_of problem t)) met_by v g) where
+    module _ (place : Places) (placed : IsPlaced (conditions_of problem t) place) (met_by : ℕ → Statement) (conds : ConditionsTold (holds_at problem (conditions_of problem t)) met_by v g) where
       abbrev cond_path : Text → Condition → Statement
       cond_path = condition_by problem t place path met_by
 
@@ -173,16 +163,14 @@ module _ (problem : Problem) (t : Table) (told : Text → Bool) (all : list_all 
       same-met : (name : Text) (when : Condition) → is_told_when when ≡ true → eval v (cond_path name when) ≡ eval v (cond_exact name when)
       same-met name when e = same-met-cases (place name when)
         where
-          same-met-cases : (o : Option ℕ) → eval v (placed_or met_by (condition_said problem t path name when) o)
-              ≡ eval v (placed_or met_by (condition_said problem t exact name when) o)
+          same-met-cases : (o : Option ℕ) → eval v (placed_or met_by (condition_said problem t path name when) o) ≡ eval v (placed_or met_by (condition_said problem t exact name when) o)
           same-met-cases None = when-alike name when e
           same-met-cases (Some k) = refl
 
       met-says : (name : Text) (when : Condition) → eval v (cond_exact name when) ≡ all_hold (world_of problem) when g name
       met-says name when = met-says-cases (place name when) refl
         where
-          met-says-cases : (o : Option ℕ) → place name when ≡ o
-              → eval v (placed_or met_by (condition_said problem t exact name when) o) ≡ all_hold (world_of problem) when g name
+          met-says-cases : (o : Option ℕ) → place name when ≡ o → eval v (placed_or met_by (condition_said problem t exact name when) o) ≡ all_hold (world_of problem) when g name
           met-says-cases None at = when-says name when
           met-says-cases (Some k) at = conds k ∙ ap (λ c. condition_holds problem c g) (placed name when k at)
 
@@ -205,119 +193,85 @@ module _ (problem : Problem) (t : Table) (told : Text → Bool) (all : list_all 
       plainly rule h = terms.known-alike problem v t path exact told same cond_path cond_exact same-met rule h
 
       -- one rule at all names that pass a test
-      row-says : (rule : Text → Rule Term) (test : Text → Bool) → ((name : Text) → test name ≡ true → AllWords T (rule name))
-          → (names : List Text)
-          → list_all test names ≡ true → eval v (row_said problem t path cond_path (rule, names))
-          ≡ list_all (λ name. says_exact (rule name)) names
+      row-says : (rule : Text → Rule Term) (test : Text → Bool) → ((name : Text) → test name ≡ true → AllWords T (rule name)) → (names : List Text)
+          → list_all test names ≡ true → eval v (row_said problem t path cond_path (rule, names)) ≡ list_all (λ name. says_exact (rule name)) names
       row-says rule test h names e =
           all-said v (λ name. term_formula path cond_path t (rule name)) names
-          ∙ all-alike (λ name. says_path (rule name)) (λ name. says_exact (rule name)) test
-          (λ name is. alike (rule name) (h name is)) names e
+          ∙ all-alike (λ name. says_path (rule name)) (λ name. says_exact (rule name)) test (λ name is. alike (rule name) (h name is)) names e
 
       -- at all names
       row-free : (rule : Text → Rule Term) → ((name : Text) → AllWords T (rule name)) → (names : List Text)
           → eval v (row_said problem t path cond_path (rule, names)) ≡ list_all (λ name. says_exact (rule name)) names
       row-free rule h names = row-says rule (λ name. true) (λ name is. h name) names (all-true names)
 
-      rules-say : HasBuiltVariants problem t → eval v (all_of (map (row_said problem t path cond_path) (rule_rows problem t)))
-          ≡ keeps_all other_rules problem g
+      rules-say : HasBuiltVariants problem t → eval v (all_of (map (row_said problem t path cond_path) (rule_rows problem t))) ≡ keeps_all other_rules problem g
       rules-say has =
           all-said v (row_said problem t path cond_path) (rule_rows problem t)
           ∙ rw (
-            row-free (λ name. where_built name (known_rule (buildable_rule problem name)))
-                (λ name. (refl, plainly (buildable_rule problem name) (plain.buildable-alike v t path exact told same problem name)))
-                (names_of t)
+            row-free (λ name. where_built name (known_rule (buildable_rule problem name))) (λ name. (refl, plainly (buildable_rule problem name) (plain.buildable-alike v t path exact told same problem name))) (names_of t)
                 ∙ all-buildable problem v exact cond_exact t g spelled,
-            row-free (λ name. where_built name (known_rule (version_rule problem name)))
-                (λ name. (refl, plainly (version_rule problem name) (plain.version-alike v t path exact told same problem name)))
-                (names_of t)
+            row-free (λ name. where_built name (known_rule (version_rule problem name))) (λ name. (refl, plainly (version_rule problem name) (plain.version-alike v t path exact told same problem name))) (names_of t)
                 ∙ all-version problem v exact cond_exact t g spelled,
             row-says (λ name. where_built name (variants_rule problem (variants_of t name) name)) is_told_name
-                (λ name e. (
-                  refl,
-                  terms.variants-alike problem v t path exact told same cond_path cond_exact same-met name e
-                      (variants_of t name),
-                )) (names_of t) told-names
+                (λ name e. (refl, terms.variants-alike problem v t path exact told same cond_path cond_exact same-met name e (variants_of t name))) (names_of t) told-names
                 ∙ all-built-variant problem v exact cond_exact t g spelled has,
-            row-free (λ name. where_built name (known_rule (compiler_rule problem name)))
-                (λ name. (refl, plainly (compiler_rule problem name) (plain.compiler-alike v t path exact told same problem name)))
-                (names_of t)
+            row-free (λ name. where_built name (known_rule (compiler_rule problem name))) (λ name. (refl, plainly (compiler_rule problem name) (plain.compiler-alike v t path exact told same problem name))) (names_of t)
                 ∙ all-compiler problem v exact cond_exact t g spelled,
-            row-free (λ name. where_built name (known_rule (machine_rule problem name)))
-                (λ name. (refl, plainly (machine_rule problem name) (plain.machine-alike v t path exact told same problem name)))
-                (names_of t)
+            row-free (λ name. where_built name (known_rule (machine_rule problem name))) (λ name. (refl, plainly (machine_rule problem name) (plain.machine-alike v t path exact told same problem name))) (names_of t)
                 ∙ all-machine problem v exact cond_exact t g spelled,
             row-says (λ name. where_built name (extra_edges_rule problem (names_for t) (children_of t name) name)) is_told_name
-                (λ name e. (
-                  refl,
-                  terms.extra-edges-alike problem v t path exact told same cond_path cond_exact same-met name e
-                      (children_of t name),
-                )) (names_of t) told-names
+                (λ name e. (refl, terms.extra-edges-alike problem v t path exact told same cond_path cond_exact same-met name e (children_of t name))) (names_of t) told-names
                 ∙ all-extra_edge problem v exact cond_exact t g spelled,
             row-free (λ name. where_there name (known_rule (kept_rule problem (children_of t name) (origins_of t name) name)))
-                (λ name. (
-                  refl,
-                  plainly (kept_rule problem (children_of t name) (origins_of t name) name)
-                      (plain.kept-alike v t path exact told same problem (children_of t name) (origins_of t name) name),
-                )) (names_of t)
+                (λ name. (refl, plainly (kept_rule problem (children_of t name) (origins_of t name) name) (plain.kept-alike v t path exact told same problem (children_of t name) (origins_of t name) name))) (names_of t)
                 ∙ all-kept problem v exact cond_exact t g spelled,
             row-free (λ name. of_provider (names_for t) (λ p. known_rule (provider_rule problem p)) name)
-                (terms.of-provider-alike problem v t path exact told same cond_path cond_exact same-met
-                (λ p. known_rule (provider_rule problem p))
+                (terms.of-provider-alike problem v t path exact told same cond_path cond_exact same-met (λ p. known_rule (provider_rule problem p))
                 (λ p. plainly (provider_rule problem p) (plain.provider-alike v t path exact told same problem p))) (virtuals_of t)
                 ∙ all-provider problem v exact cond_exact t g spelled,
             row-free (λ name. of_provider (names_for t) (used_rule problem (names_of t)) name)
                 (terms.of-provider-alike problem v t path exact told same cond_path cond_exact same-met (used_rule problem (names_of t))
-                (λ p. terms.used-alike problem v t path exact told same cond_path cond_exact same-met (names_of t) p told-names))
-                (virtuals_of t)
+                (λ p. terms.used-alike problem v t path exact told same cond_path cond_exact same-met (names_of t) p told-names)) (virtuals_of t)
                 ∙ all-used problem v exact cond_exact t g spelled,
           ) refl
 
       -- ---- demands
-      root-alike : (spec : Spec) → list_all told (spec_names (world_of problem) (names_for t) spec) ≡ true
-          → T (known (root_rule problem (names_for t) spec))
+      root-alike : (spec : Spec) → list_all told (spec_names (world_of problem) (names_for t) spec) ≡ true → T (known (root_rule problem (names_for t) spec))
       root-alike spec e = plainly (root_rule problem (names_for t) spec)
           (named-all (Alike v t path exact told same) (λ name. holds_rule (world_of problem) (names_for t) name spec)
           (λ name. holds-alike v t path exact told same (world_of problem) (names_for t) name spec e) spec.top.name)
 
-      roots-alike : (specs : List Spec) → list_all (λ spec. list_all told (spec_names (world_of problem) (names_for t) spec)) specs ≡ true
-          → (k : ℕ)
+      roots-alike : (specs : List Spec) → list_all (λ spec. list_all told (spec_names (world_of problem) (names_for t) spec)) specs ≡ true → (k : ℕ)
           → AllWords T (written (slice_get specs k) (λ spec. known_rule (root_rule problem (names_for t) spec)))
       roots-alike [] e k = tt
       roots-alike (spec ∷ specs) e zero = root-alike spec (and_parts _ _ e).0
       roots-alike (spec ∷ specs) e (suc k) = roots-alike specs (and_parts _ _ e).1 k
 
-      directive-alike : (name : Text) (rule : Rule Term) → (is_told_name name ≡ true → AllWords T rule)
-          → says_path (where_built name rule) ≡ says_exact (where_built name rule)
+      directive-alike : (name : Text) (rule : Rule Term) → (is_told_name name ≡ true → AllWords T rule) → says_path (where_built name rule) ≡ says_exact (where_built name rule)
       directive-alike name rule h = directive-alike-cases (block_of t name) refl
         where
-          directive-alike-cases : (o : Option Block) → block_of t name ≡ o
-              → says_path (where_built name rule) ≡ says_exact (where_built name rule)
+          directive-alike-cases : (o : Option Block) → block_of t name ≡ o → says_path (where_built name rule) ≡ says_exact (where_built name rule)
           directive-alike-cases None at =
               subst (λ o. eval v (implies (said_in (λ b. fact_said b (has_origin builds)) o) (term_formula path cond_path t rule))
               ≡ eval v (implies (said_in (λ b. fact_said b (has_origin builds)) o) (term_formula exact cond_exact t rule))) (sym at) refl
-          directive-alike-cases (Some b) at = alike (where_built name rule)
-              (refl, h (found-passes is_told_name t.blocks name b told-names at))
+          directive-alike-cases (Some b) at = alike (where_built name rule) (refl, h (found-passes is_told_name t.blocks name b told-names at))
 
       -- of a name that the table does not have both say nothing
-      named-alike : (name : Text) (number : ℕ) (b : Bool)
-          → says_path (if b then where_built name (directive_rule problem (names_for t) number name) else given true)
+      named-alike : (name : Text) (number : ℕ) (b : Bool) → says_path (if b then where_built name (directive_rule problem (names_for t) number name) else given true)
           ≡ says_exact (if b then where_built name (directive_rule problem (names_for t) number name) else given true)
       named-alike name number true = directive-alike name (directive_rule problem (names_for t) number name)
           (λ e. terms.directive-alike problem v t path exact told same cond_path cond_exact same-met name e number)
       named-alike name number false = refl
 
       demand-says : (d : Demand) → says_path (demand_rule problem (names_for t) (has_name t) d) ≡ keeps_demand problem g d
-      demand-says (demand.Root place) = alike (demand_rule problem (names_for t) (has_name t) (demand.Root place))
-          (roots-alike problem.roots told-roots place)
+      demand-says (demand.Root place) = alike (demand_rule problem (names_for t) (has_name t) (demand.Root place)) (roots-alike problem.roots told-roots place)
           ∙ demand-said problem v exact cond_exact t g spelled (demand.Root place)
       demand-says (demand.Directive name number) = named-alike name number (has_name t name)
           ∙ demand-said problem v exact cond_exact t g spelled (demand.Directive name number)
 
 -- ---- ranges
 
-module _ (problem : Problem) (t : Table) (n : ℕ) (words : WordsBelow n t) (m : ℕ) (path : PathFormulas) (le : n ≤ m)
-    (paths : PathsBelow m path) where
+module _ (problem : Problem) (t : Table) (n : ℕ) (words : WordsBelow n t) (m : ℕ) (path : PathFormulas) (le : n ≤ m) (paths : PathsBelow m path) where
   when-below : (name : Text) (when : Condition) → SaidBelow m (condition_said problem t path name when)
   when-below name when = rule-below m (word_said path t) (words m path le paths) (condition_rule (world_of problem) (names_for t) name when)
 
@@ -333,11 +287,9 @@ module _ (problem : Problem) (t : Table) (n : ℕ) (words : WordsBelow n t) (m :
     formula-below : (rule : Rule Term) → SaidBelow m (term_formula path (condition_by problem t place path met_by) t rule)
     formula-below rule = rule-below m (term_said path (condition_by problem t place path met_by) t) term-below rule
 
-    row-below : (row : (Text → Rule Term) × List Text)
-        → SaidBelow m (row_said problem t path (condition_by problem t place path met_by) row)
+    row-below : (row : (Text → Rule Term) × List Text) → SaidBelow m (row_said problem t path (condition_by problem t place path met_by) row)
     row-below row = all_of-below m (map (λ name. term_formula path (condition_by problem t place path met_by) t (row.0 name)) row.1)
-        (listed-below m (λ name. term_formula path (condition_by problem t place path met_by) t (row.0 name))
-        (λ name. formula-below (row.0 name)) row.1)
+        (listed-below m (λ name. term_formula path (condition_by problem t place path met_by) t (row.0 name)) (λ name. formula-below (row.0 name)) row.1)
 
 -- the formulas of a problem are right
 pub rules-right : (problem : Problem) (t : Table) (n : ℕ) (structure : List Statement) (place : Places) → IsTable t → IsTableBelow n t
@@ -347,19 +299,14 @@ pub rules-right : (problem : Problem) (t : Table) (n : ℕ) (structure : List St
 rules-right problem t n structure place table below has placed = record {
   conditions_say = λ v g path spells formed paths k.
       conditions-say problem t told all table v g path spells formed paths (conditions_of problem t) (told-conditions problem t told all) k;
-  rules_say = λ v g path met spells formed paths conds. rules-say problem t told all table v g path spells formed paths place placed
-      met conds has;
-  demand_says = λ v g path met d spells formed paths conds. demand-says problem t told all table v g path spells formed paths place
-      placed met conds d;
+  rules_say = λ v g path met spells formed paths conds. rules-say problem t told all table v g path spells formed paths place placed met conds has;
+  demand_says = λ v g path met d spells formed paths conds. demand-says problem t told all table v g path spells formed paths place placed met conds d;
   conditions_below = λ m path le paths.
-      listed-below m (λ (c : Text × Condition). condition_said problem t path c.0 c.1)
-      (λ c. when-below problem t n words m path le paths c.0 c.1) (conditions_of problem t);
+      listed-below m (λ (c : Text × Condition). condition_said problem t path c.0 c.1) (λ c. when-below problem t n words m path le paths c.0 c.1) (conditions_of problem t);
   rules_below = λ m path met le paths mets.
       all_of-below m (map (row_said problem t path (condition_by problem t place path met)) (rule_rows problem t))
-      (listed-below m (row_said problem t path (condition_by problem t place path met))
-      (row-below problem t n words m path le paths place met mets) (rule_rows problem t));
-  demand_below = λ m path met d le paths mets. formula-below problem t n words m path le paths place met mets
-      (demand_rule problem (names_for t) (has_name t) d);
+      (listed-below m (row_said problem t path (condition_by problem t place path met)) (row-below problem t n words m path le paths place met mets) (rule_rows problem t));
+  demand_below = λ m path met d le paths mets. formula-below problem t n words m path le paths place met mets (demand_rule problem (names_for t) (has_name t) d);
 }
   where
     words : WordsBelow n t

@@ -99,8 +99,7 @@ module _ {W : Type 0} (P : W → Type 0) where
       few-if zero xs e = apart-if xs e
       few-if (suc times) xs e =
           let parts : (list_all test (take (half_of xs) xs) && list_all test (drop (half_of xs) xs)) ≡ true =
-          sym (list_all-append test (take (half_of xs) xs) (drop (half_of xs) xs))
-          ∙ ap (list_all test) (take-append-drop (half_of xs) xs) ∙ e in
+          sym (list_all-append test (take (half_of xs) xs) (drop (half_of xs) xs)) ∙ ap (list_all test) (take-append-drop (half_of xs) xs) ∙ e in
           let q = and_parts (list_all test (take (half_of xs) xs)) (list_all test (drop (half_of xs) xs)) parts in
           elim (nat_lt 8 (length xs)) as (λ b. EachWords P (if b then halves_rule rule (take (half_of xs) xs) (drop (half_of xs) xs)
           ∷ (few_rules times rule (take (half_of xs) xs) ++ few_rules times rule (drop (half_of xs) xs)) else apart_rules rule xs)) [

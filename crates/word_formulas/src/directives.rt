@@ -114,8 +114,7 @@ pub fn edge_formula(
     met: Formula,
 ) -> Result<Formula, AllocError>
     ensures { IfOk result (λ formula. formula
-        ≡ implies met (plain_said table.now
-        (edge_to problem.now (names_for table.now) name.now row.now))) }
+        ≡ implies met (plain_said table.now (edge_to problem.now (names_for table.now) name.now row.now))) }
 {
     let edge = edge_to_formula(alloc, table, problem, name, row)?;
     Formula::implies(alloc, met, edge)
@@ -130,8 +129,7 @@ pub fn constraint_formula(
     met: Formula,
 ) -> Result<Formula, AllocError>
     ensures { IfOk result (λ formula. formula
-        ≡ implies met (plain_said table.now
-        (suits_asked problem.now (names_for table.now) row.now))) }
+        ≡ implies met (plain_said table.now (suits_asked problem.now (names_for table.now) row.now))) }
 {
     let suits = suits_asked_formula(alloc, table, problem, row)?;
     Formula::implies(alloc, met, suits)

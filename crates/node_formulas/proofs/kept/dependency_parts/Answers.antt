@@ -11,7 +11,6 @@ use Rattle.node_formulas.proofs.kept.dependency_parts.Goals as goal
 pub returns : goal.returns
 returns c =
     let said = λ (d : Text × Kinds). plain_said c.args.table.now (dependency_rule c.args.problem.now c.args.name.now d) in
-    ended (λ (d : Text × Kinds). only_if (d.1.link || d.1.run) (said d)) c.args.dependencies.now c.args.dependencies.now
-    c.loop-dependency.dependency-index c.loop-dependency.parts.items _
+    ended (λ (d : Text × Kinds). only_if (d.1.link || d.1.run) (said d)) c.args.dependencies.now c.args.dependencies.now c.loop-dependency.dependency-index c.loop-dependency.parts.items _
     refl (drop_all c.loop-dependency.dependency-index c.args.dependencies.now c.loop-dependency-test.false) c.loop-dependency.invariant
     (pushed-if (λ (d : Text × Kinds). d.1.link || d.1.run) said c.args.dependencies.now)

@@ -11,8 +11,6 @@ returns c =
     let table = c.args.table.now in
     let child = c.args.child.now in
     let hash = c.args.dependency.now.0 in
-    let installed = ok-is c.origin_passes.result c.in_ok-installed.installed (node_said table child (has_origin (installs hash)))
-    c.in_ok-installed.was
+    let installed = ok-is c.origin_passes.result c.in_ok-installed.installed (node_said table child (has_origin (installs hash))) c.in_ok-installed.was
     (c.origin_passes.ensures (installs hash) (λ x b says. search rules)) in
-    ok-same c.both.result _ (plain_said table (joined_rule c.args.name.now child c.args.dependency.now))
-    (both-same _ _ _ _ installed c.in_ok-kinds.ensures) c.both.ensures
+    ok-same c.both.result _ (plain_said table (joined_rule c.args.name.now child c.args.dependency.now)) (both-same _ _ _ _ installed c.in_ok-kinds.ensures) c.both.ensures

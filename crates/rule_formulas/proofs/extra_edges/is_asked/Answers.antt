@@ -13,15 +13,12 @@ returns-then-is_virtual c =
     let world = c.args.world.now in
     let child = c.args.child.now in
     c.may_provide.ensures
-    ∙ ap (λ l. list_any (λ (choice : Text × Lit). bytes_eq child choice.0) l) (c.packages.ensures
-    ∙ ap (packages_of c.args.table.now) c.as_str-then-is_virtual.ensures)
-    ∙ asked-virtual c.args.table.now world child c.args.asked.now (sym (ap (is_virtual world.recipes) c.as_str.ensures)
-    ∙ sym c.is_virtual.ensures ∙ c.if-is_virtual.true)
+    ∙ ap (λ l. list_any (λ (choice : Text × Lit). bytes_eq child choice.0) l) (c.packages.ensures ∙ ap (packages_of c.args.table.now) c.as_str-then-is_virtual.ensures)
+    ∙ asked-virtual c.args.table.now world child c.args.asked.now (sym (ap (is_virtual world.recipes) c.as_str.ensures) ∙ sym c.is_virtual.ensures ∙ c.if-is_virtual.true)
 
 pub returns-else-is_virtual : goal.returns-else-is_virtual
 returns-else-is_virtual c =
     let world = c.args.world.now in
     let child = c.args.child.now in
     c.eq.ensures ∙ ap (λ (a : Text). bytes_eq a child) c.as_str-else-is_virtual.ensures
-    ∙ asked-package c.args.table.now world child c.args.asked.now (sym (ap (is_virtual world.recipes) c.as_str.ensures)
-    ∙ sym c.is_virtual.ensures ∙ c.if-is_virtual.false)
+    ∙ asked-package c.args.table.now world child c.args.asked.now (sym (ap (is_virtual world.recipes) c.as_str.ensures) ∙ sym c.is_virtual.ensures ∙ c.if-is_virtual.false)

@@ -24,8 +24,7 @@ returns g c =
     let there = λ (kinds : Kinds). plain_said table (fact (has_edge name child kinds)) in
     let asking = plain_term table condition (some (asks_rule problem (names_for table) name child)
     (filter (λ (row : DependRow). has_of kind row.kinds && may_ask problem (names_for table) child row) (depends_at problem name))) in
-    let edge = ok-is c.has_edge.result c.in_ok-edge.edge (there c.kinds_of-kinds.result) c.in_ok-edge.was c.has_edge.ensures
-    ∙ ap there c.kinds_of-kinds.ensures in
+    let edge = ok-is c.has_edge.result c.in_ok-edge.edge (there c.kinds_of-kinds.result) c.in_ok-edge.was c.has_edge.ensures ∙ ap there c.kinds_of-kinds.ensures in
     let asked = ok-is c.asking_formula.result c.in_ok-asked.asked asking c.in_ok-asked.was c.asking_formula.ensures in
     ok-same c.implies.result (implies c.in_ok-edge.edge c.in_ok-asked.asked)
     (plain_term table condition (kind_rule problem (names_for table) (kinds_of kind) (has_of kind) name child))

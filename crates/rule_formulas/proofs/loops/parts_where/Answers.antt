@@ -11,8 +11,7 @@ loop-item-preserved g c = λ p formula is builds.
     let before = c.loop-item.parts.items in
     let x = c.item-item.result in
     elim c.if-test.branch [
-      | then-test+in_ok-part+in_ok-push w ↦ passed p formula before c.if-test.parts.items c.args.items.now c.loop-item.item-index x
-          c.test.result w.in_ok-part.field-0
+      | then-test+in_ok-part+in_ok-push w ↦ passed p formula before c.if-test.parts.items c.args.items.now c.loop-item.item-index x c.test.result w.in_ok-part.field-0
           (parts p formula c.args.items.now) c.loop-item-test.true c.item-item.is told w.if-test.true
           (subst (λ r. IfOk r (λ s. s ≡ formula x)) w.in_ok-part.was (builds _ _ (says_at g.F.Fn w.part.ensures refl)))
           (ap (λ s. s.items) w.parts-is ∙ w.in_ok-push.ensures.items) (c.loop-item.invariant p formula is builds)

@@ -23,8 +23,7 @@ returns g c =
     let said = λ (name : Text). plain_term table condition (use_rule problem (virtual_name, provider) name) in
     let p = λ (b : Block). may_use problem virtual_name b.name in
     let formula = λ (b : Block). plain_term table condition (use_rule problem (virtual_name, provider) b.name) in
-    ok-same c.some_where.result (any_of (map formula (filter p c.blocks-2.result.now)))
-    (plain_term table condition (some rule (filter (may_use problem virtual_name) (names_of table))))
+    ok-same c.some_where.result (any_of (map formula (filter p c.blocks-2.result.now))) (plain_term table condition (some rule (filter (may_use problem virtual_name) (names_of table))))
     (ap (λ (l : List Block). any_of (map formula (filter p l))) c.blocks-2.ensures.blocks
     ∙ ap any_of (filter-mapped said name_of (may_use problem virtual_name) table.blocks)
     ∙ sym (some-said (term_said no_paths condition table) rule (filter (may_use problem virtual_name) (names_of table))))

@@ -29,6 +29,5 @@ returns g c =
     let last = ok-is c.last_formula.result c.in_ok-last.last (last_by c.variants_at-rows.result.now) c.in_ok-last.was c.last_formula.ensures
     ∙ ap last_by c.variants_at-rows.ensures ∙ last-said table condition name variant (variants_at problem name) in
     let where_there = c.in_ok-where_there.ensures ∙ implies-same _ _ _ _ again last in
-    ok-same c.both.result (both c.in_ok-where_met.where_met c.in_ok-where_there.where_there)
-    (plain_term table condition (variant_rule problem name variant))
+    ok-same c.both.result (both c.in_ok-where_met.where_met c.in_ok-where_there.where_there) (plain_term table condition (variant_rule problem name variant))
     (both-same _ _ _ _ where_met where_there) c.both.ensures
