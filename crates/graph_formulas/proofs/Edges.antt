@@ -6,7 +6,7 @@ use Rattle.std.specs.Option.{option_and_then}
 use Rattle.std.specs.Str.{bytes_eq}
 use Rattle.std.proofs.lemmas.Bool.{cases_Bool, and_parts}
 use Rattle.virtuals.specs.Virtuals.{is_virtual}
-use Rattle.clause_formulas.specs.Rules.{Rule, keeps_rule}
+use Rattle.clause_formulas.specs.Rules.{Rule, fact, keeps_rule}
 use Rattle.graph_core.specs.Graphs.{Text}
 use Rattle.condition_rules.specs.Words.{among, implies, if_written, is_some_and}
 use Rattle.graph_core.specs.Graphs.{Content, node_of, provider_of, edge_of}
@@ -20,13 +20,13 @@ use Rattle.recipe_data.specs.declared.recipe.DependRow.{DependRow}
 use Rattle.problem.specs.Problems.{Problem, world_of, depends_at}
 use Rattle.graph_rules.specs.Built.{asks, asking, asked_kinds}
 use Rattle.graph_rules.specs.Whole.{uses}
-use Rattle.graph_formulas.specs.Facts.{is_in, has_origin}
+use Rattle.graph_formulas.specs.Facts.{is_in, has_origin, provides_as}
 use Rattle.graph_formulas.specs.Lists.{given, some}
 use Rattle.literal_table.proofs.Spelling.{named-so}
 use Rattle.graph_formulas.proofs.Rules.{given-kept, each-kept, some-kept, named-kept}
-use Rattle.graph_formulas.proofs.Kept.{by_node, there, asked-kept}
+use Rattle.graph_formulas.proofs.Kept.{by_node, there}
 use Rattle.graph_formulas.specs.Terms.{Term, is_true, met_rule, builds}
-use Rattle.graph_formulas.specs.Edges.{no_kinds, of_provider, asks_rule, may_ask, names_virtual, may_use, kind_rule, extra_edge_rule, use_rule}
+use Rattle.graph_formulas.specs.Edges.{asked_child, no_kinds, of_provider, asks_rule, may_ask, names_virtual, may_use, kind_rule, extra_edge_rule, use_rule}
 use Rattle.graph_formulas.proofs.Directives.{LeadsToNodes, not-or, then-and}
 
 any-filter : {T : Type 0} (test f : T → Bool) (xs : List T) → list_any test (filter f xs) ≡ list_any (λ x. test x && f x) xs
@@ -112,19 +112,34 @@ user-asks problem graph p name = by_node graph name (λ o. is_some_and o (uses p
 module _ (problem : Problem) (packages : Text → List Text) (graph : Content)
     (listed : (virtual p : Text) → provider_of graph virtual ≡ Some p → among (packages virtual) p ≡ true)
     (name : Text) (node : Node) (here : node_of graph name ≡ Some node) where
-  child-kept : (child : Text) (c : Node) → node_of graph child ≡ Some c → (n : Text) → keeps_rule (is_in graph) (given (bytes_eq n child)) ≡ is_some_and (node_of graph n) (λ asked. bytes_eq asked.name child)
-  child-kept child c child_here n = rw (given-kept (is_in graph) (bytes_eq n child)) (
+  child-named : (child : Text) (c : Node) → node_of graph child ≡ Some c → (n : Text) → bytes_eq n child ≡ is_some_and (node_of graph n) (λ asked. bytes_eq asked.name child)
+  child-named child c child_here n =
       by_node graph n (λ o. bytes_eq n child ≡ is_some_and o (λ asked. bytes_eq asked.name child))
       (λ asked there. ap (λ m. bytes_eq m child) (sym (named-so graph n asked there)))
       (λ absent. elim (cases_Bool (bytes_eq n child)) [
         | inl same ↦ absurd (let both : Some c ≡ None = sym child_here ∙ ap (node_of graph) (sym (bytes_eq-same n child same)) ∙ absent in cc)
         | inr other ↦ other
-      ]))
+      ])
+
+  child-kept : (child : Text) (c : Node) → node_of graph child ≡ Some c → (a : Text)
+      → keeps_rule (is_in graph) (asked_child (world_of problem) child a) ≡ is_some_and (asked_node (world_of problem) graph a) (λ asked. bytes_eq asked.name child)
+  unfolding asked_node
+  child-kept child c child_here a = either-way (is_virtual problem.recipes a)
+    where
+      provided : (o : Option Text) → is_some_and o (λ p. bytes_eq p child) ≡ is_some_and (option_and_then (node_of graph) o) (λ asked. bytes_eq asked.name child)
+      provided None = refl
+      provided (Some p) = child-named child c child_here p
+
+      either-way : (b : Bool) → keeps_rule (is_in graph) (if b then fact (provides_as a child) else given (bytes_eq a child))
+          ≡ is_some_and (option_and_then (node_of graph) (if b then provider_of graph a else Some a)) (λ asked. bytes_eq asked.name child)
+      either-way true = provided (provider_of graph a)
+      either-way false = given-kept (is_in graph) (bytes_eq a child) ∙ child-named child c child_here a
 
   asks-kept : (child : Text) (c : Node) → node_of graph child ≡ Some c → (row : DependRow) → keeps_rule (is_true (world_of problem) graph) (asks_rule problem packages name child row) ≡ asks problem graph node child row
   asks-kept child c child_here row =
       ap (λ b. all_hold (world_of problem) row.when graph name && b) (
-      named-kept (is_in graph) _ _ (λ asked. asked-kept (world_of problem) graph packages listed asked (λ n. given (bytes_eq n child)) _ (child-kept child c child_here)) row.part.name
+      named-kept (is_in graph) (asked_child (world_of problem) child) (λ a. is_some_and (asked_node (world_of problem) graph a) (λ asked. bytes_eq asked.name child))
+      (child-kept child c child_here) row.part.name
       ∙ sym (then-and (asked_node (world_of problem) graph) (λ asked. bytes_eq asked.name child) row.part.name))
       ∙ ap (λ n. all_hold (world_of problem) row.when graph n && is_some_and (option_and_then (asked_node (world_of problem) graph) row.part.name) (λ asked. bytes_eq asked.name child)) (sym (named-so graph name node here))
 

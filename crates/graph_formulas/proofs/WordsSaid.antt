@@ -8,7 +8,8 @@ use Rattle.std.specs.Str.{bytes_eq}
 use Rattle.clause_store.specs.declared.Lit.{Lit}
 use Rattle.clause_store.specs.Lits.{lit_true}
 use Rattle.clause_formulas.specs.Statements.{Statement, eval, atom, all_of, all_eval}
-use Rattle.clause_formulas.proofs.Words.{eval-all_of, all_eval-append, eval-one_of}
+use Rattle.clause_formulas.proofs.Words.{eval-all_of, all_eval-append}
+use Rattle.clause_formulas.proofs.FewLaws.{one-said}
 use Rattle.graph_core.specs.Graphs.{Text, Content, node_of, edge_of, provider_of}
 use Rattle.graph_core.specs.declared.node.Node.{Node}
 use Rattle.graph_core.specs.declared.node.Edge.{Edge}
@@ -107,7 +108,7 @@ module _ (v : ℕ → Bool) (b : Block) (o : Option Node) (s : SpellsNode v b o)
   fact-said (has_variant variant) = variant-said variant
   fact-said (has_value variant test) = values-said v b o s variant test ∙ at-node o variant (list_any test) refl
   fact-said (has_single variant) =
-      eval-one_of v (lits_of (values_of b variant)) ∙ one-true v (values_of b variant) ∙ ap is_single (values-spelled v b o variant s) ∙ at-node o variant is_single refl
+      one-said v (lits_of (values_of b variant)) ∙ one-true v (values_of b variant) ∙ ap is_single (values-spelled v b o variant s) ∙ at-node o variant is_single refl
   fact-said (has_variants variants) = variants-said variants
 
 -- where the name has a block, or none

@@ -8,8 +8,9 @@ use Rattle.std.specs.Ordering.{eq_by_cmp}
 use Rattle.clause_store.specs.declared.Lit.{Lit}
 use Rattle.clause_store.specs.Lits.{var_of, negation, AllBelow}
 use Rattle.clause_store.proofs.Range.{AllBelow-le}
-use Rattle.clause_formulas.specs.Statements.{Statement, atom, never, any_of, all_of, one_of, SaidBelow}
-use Rattle.clause_formulas.proofs.Words.{any_of-below, all_of-below, one_of-below}
+use Rattle.clause_formulas.specs.Statements.{Statement, atom, never, any_of, all_of, SaidBelow}
+use Rattle.clause_formulas.proofs.FewLaws.{one_among-below}
+use Rattle.clause_formulas.proofs.Words.{any_of-below, all_of-below}
 use Rattle.clause_formulas.proofs.DraftLaws.{SaidBelow-le}
 use Rattle.variant_values.specs.Texts.{byte_cmp}
 use Rattle.variant_values.proofs.Texts.{ties_are_equal}
@@ -92,7 +93,7 @@ fact-below m b h (facts.has_target test) = choice-below m test b.targets h.targe
 fact-below m b h (facts.has_prefix test) = choice-below m test b.prefixes h.prefixes
 fact-below m b h (facts.has_variant variant) = choice-below m (λ value. true) (values_of b variant) (found-below m b.variants variant h.values)
 fact-below m b h (facts.has_value variant test) = choice-below m test (values_of b variant) (found-below m b.variants variant h.values)
-fact-below m b h (facts.has_single variant) = one_of-below m (lits_of (values_of b variant)) (found-below m b.variants variant h.values)
+fact-below m b h (facts.has_single variant) = one_among-below m (lits_of (values_of b variant)) (found-below m b.variants variant h.values)
 fact-below m b h (facts.has_variants variants) = all_of-below m (atom b.present ∷ variant_parts b.variants variants) (h.present, variants-below m b.variants variants h.values)
 
 kind-below : (m : ℕ) (b : Bool) (l : Lit) → var_of l < m → SaidBelow m (any_of (kind_parts b l))

@@ -29,7 +29,7 @@ use Rattle.graph_formulas.specs.Words.{names_for, rule_said}
 use Rattle.graph_formulas.specs.Parts.{holds_rule, asked_rule, suits_rule, provides_rule}
 use Rattle.graph_formulas.specs.Terms.{Term, known, met, term_said, known_rule, met_rule, built_rule}
 use Rattle.graph_formulas.specs.Directives.{root_rule, edge_to, edge_rule, suits_asked, constraint_rule, conflict_rule, choice_rule, requirement_rule}
-use Rattle.graph_formulas.specs.Edges.{no_kinds, asks_rule, may_ask, names_virtual, may_use, kind_rule, extra_edge_rule, extra_edges_rule, use_rule, used_rule, of_provider}
+use Rattle.graph_formulas.specs.Edges.{no_kinds, asked_child, asks_rule, may_ask, names_virtual, may_use, kind_rule, extra_edge_rule, extra_edges_rule, use_rule, used_rule, of_provider}
 use Rattle.graph_formulas.specs.Variants.{count_rule, definitions, variant_rule, variants_rule, allows_rule}
 use Rattle.graph_formulas.specs.Demands.{directive_rule}
 use Rattle.graph_encoding.specs.Formulas.{PathFormulas}
@@ -191,13 +191,16 @@ module _ (problem : Problem) (v : ℕ → Bool) (t : Table) (path other : PathFo
       some-if TermAlike (asks_rule problem packages name child) (λ row. is_told_condition row.when)
           (λ row h. (
             same_met name row.when h,
-            known-alike (named row.part.name (λ asked. asked_rule (world_of problem) packages asked (λ n. given (bytes_eq n child))))
-                (named-all W (λ asked. asked_rule (world_of problem) packages asked (λ n. given (bytes_eq n child)))
-                (λ asked. asked-alike v t path other told same (world_of problem) packages asked (λ n. given (bytes_eq n child)) (λ n. given-all W (bytes_eq n child))) row.part.name),
+            known-alike (named row.part.name (asked_child (world_of problem) child))
+                (named-all W (asked_child (world_of problem) child) (λ asked. asked-all asked (is_virtual problem.recipes asked)) row.part.name),
           ))
           (filter (λ row. has row.kinds && may_ask problem packages child row) (depends_at problem name))
           (all-filtered (λ row. is_told_condition row.when) (λ row. has row.kinds && may_ask problem packages child row) (depends_at problem name) rows.depends),
     )
+      where
+        asked-all : (asked : Text) (b : Bool) → AllWords W (if b then fact (provides_as asked child) else given (bytes_eq asked child))
+        asked-all asked true = refl
+        asked-all asked false = given-all W (bytes_eq asked child)
 
     pub extra-edges-alike : (children : List Text) → AllWords TermAlike (extra_edges_rule problem packages children name)
     extra-edges-alike children = each-all TermAlike (extra_edge_rule problem packages name)
