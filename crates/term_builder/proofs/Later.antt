@@ -39,12 +39,12 @@ blocks-cut (suc times) size fs some ge =
     let less : suc times - 1 ≡ times = omega arith in
     rw (long, less) refl
 
--- the block is pushed, and the blocks of what is left behind it
-pub blocks-joined : (old pushed new fs front back : List Statement) (times size : ℕ) (block : Statement) → (times ≡ 0 → ⊥) → (length fs < size → ⊥)
+-- the block is pushed, and the blocks of what is left stand behind it
+pub blocks-joined : (old pushed fs front back : List Statement) (times size : ℕ) (block : Statement) → (times ≡ 0 → ⊥) → (length fs < size → ⊥)
     → front ≡ take (length fs - size) fs → back ≡ drop (length fs - size) fs → block ≡ block_of back → pushed ≡ old ++ block ∷ []
-    → new ≡ pushed ++ blocks_of (times - 1) (size / 2) front → new ≡ old ++ blocks_of times size fs
-blocks-joined old pushed new fs front back times size block some ge f b k p n =
-    n ∙ ap (λ gs. gs ++ blocks_of (times - 1) (size / 2) front) p
+    → pushed ++ blocks_of (times - 1) (size / 2) front ≡ old ++ blocks_of times size fs
+blocks-joined old pushed fs front back times size block some ge f b k p =
+    ap (λ gs. gs ++ blocks_of (times - 1) (size / 2) front) p
     ∙ append_assoc old (block ∷ []) (blocks_of (times - 1) (size / 2) front)
     ∙ ap (λ gs. old ++ block ∷ blocks_of (times - 1) (size / 2) gs) f
     ∙ ap (λ g. old ++ g ∷ blocks_of (times - 1) (size / 2) (take (length fs - size) fs)) (k ∙ ap block_of b)
