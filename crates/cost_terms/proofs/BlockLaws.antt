@@ -37,7 +37,8 @@ module _ (v : ℕ → Bool) where
       elim (nat_lt (length fs) size) as (λ b. eval v (any_of (if b then blocks_of times (size / 2) fs
       else block_of (drop n fs) ∷ blocks_of times (size / 2) (take n fs))) ≡ eval v (any_of fs)) [
         | true ↦ blocks-said times (size / 2) fs
-        | false ↦ rw (block-said (drop n fs), blocks-said times (size / 2) (take n fs)) (or-swap (eval v (any_of (drop n fs))) (eval v (any_of (take n fs))))
+        | false ↦ rw (block-said (drop n fs), blocks-said times (size / 2) (take n fs))
+            (or-swap (eval v (any_of (drop n fs))) (eval v (any_of (take n fs))))
             ∙ sym (any-append (take n fs) (drop n fs)) ∙ ap (λ gs. eval v (any_of gs)) (take-append-drop n fs)
       ]
 
@@ -46,7 +47,8 @@ module _ (v : ℕ → Bool) where
   none-said fs = ap not (blocks-said 25 134217728 fs)
 
 module _ (n : ℕ) where
-  parts-below : (i : ℕ) (fs : List Statement) → SaidBelow n (any_of fs) → SaidBelow n (any_of (take i fs)) × SaidBelow n (any_of (drop i fs))
+  parts-below : (i : ℕ) (fs : List Statement) → SaidBelow n (any_of fs) → SaidBelow n (any_of (take i fs))
+      × SaidBelow n (any_of (drop i fs))
   parts-below zero fs h = (tt, h)
   parts-below (suc i) [] h = (tt, tt)
   parts-below (suc i) (f ∷ fs) h = let rest = parts-below i fs h.1 in ((h.0, rest.0), rest.1)

@@ -113,7 +113,8 @@ list-step s t lists i ws r ts us whole h e f g k =
 pub lists-alone : (s t : Clauses) (gs hs : List Gate) (lists : List (List Weighted)) (terms : List (List (ℕ × Lit))) → gs ≡ []
     → lists_in (gated s gs) lists ≡ record { state = gated t hs; answer = terms } → lists_on s lists ≡ record { list = t; answer = terms }
 lists-alone s t gs hs lists terms e q =
-    ap (λ (m : Shared (List (List (ℕ × Lit)))). let made : Grown (List (List (ℕ × Lit))) = record { list = m.state.list; answer = m.answer } in made)
+    ap (λ (m : Shared (List (List (ℕ × Lit)))). let made : Grown (List (List (ℕ × Lit))) =
+    record { list = m.state.list; answer = m.answer } in made)
     (ap (λ ks. lists_in (gated s ks) lists) (sym e) ∙ q)
 
 -- the bits that were built are those of the definition

@@ -77,16 +77,19 @@ module _ {W : Type 0} (p : W → Bool) where
       in-turn-kept [] = refl
       in-turn-kept (x ∷ xs) = rw (in-turn-kept xs, some-kept passes f each xs, any-last f xs, each x, same x) (step (find_last f xs) (f x))
         where
-          step : (o : Option T) (b : Bool) → (((not (is_some o) && b) && test x) || is_some_and o test) ≡ is_some_and (option_or o (if b then Some x else None)) test
+          step : (o : Option T) (b : Bool) → (((not (is_some o) && b) && test x) || is_some_and o test)
+              ≡ is_some_and (option_or o (if b then Some x else None)) test
           step None true = or-false (test x)
           step None false = refl
           step (Some y) b = refl
 
-      of-halves-kept : (ys : List T) (front back : Rule W) (o : Option T) → keeps_rule p front ≡ is_some_and o test → keeps_rule p back ≡ is_some_and (find_last f ys) test
+      of-halves-kept : (ys : List T) (front back : Rule W) (o : Option T) → keeps_rule p front ≡ is_some_and o test
+          → keeps_rule p back ≡ is_some_and (find_last f ys) test
           → keeps_rule p (last_of_halves passes ys front back) ≡ is_some_and (option_or (find_last f ys) o) test
       of-halves-kept ys front back o first second = rw (some-kept passes f each ys, any-last f ys, first, second) (step (find_last f ys))
         where
-          step : (q : Option T) → ((not (is_some q) && is_some_and o test) || (is_some_and q test || false)) ≡ is_some_and (option_or q o) test
+          step : (q : Option T) → ((not (is_some q) && is_some_and o test) || (is_some_and q test || false))
+              ≡ is_some_and (option_or q o) test
           step None = or-false (is_some_and o test)
           step (Some y) = or-false (test y)
 
@@ -96,9 +99,11 @@ module _ {W : Type 0} (p : W → Bool) where
       halved-kept (suc times) xs =
           let front = take (half_of xs) xs in
           let back = drop (half_of xs) xs in
-          elim (nat_lt 8 (length xs)) as (λ b. keeps_rule p (if b then last_of_halves passes back (last_halved times passes rule front) (last_halved times passes rule back)
+          elim (nat_lt 8 (length xs)) as (λ b. keeps_rule p
+          (if b then last_of_halves passes back (last_halved times passes rule front) (last_halved times passes rule back)
           else last_in_turn passes rule xs) ≡ is_some_and (find_last f xs) test) [
-            | true ↦ of-halves-kept back (last_halved times passes rule front) (last_halved times passes rule back) (find_last f front) (halved-kept times front) (halved-kept times back)
+            | true ↦ of-halves-kept back (last_halved times passes rule front) (last_halved times passes rule back) (find_last f front)
+                (halved-kept times front) (halved-kept times back)
                 ∙ ap (λ o. is_some_and o test) (sym (last-append f front back) ∙ ap (find_last f) (take-append-drop (half_of xs) xs))
             | false ↦ in-turn-kept xs
           ]

@@ -28,7 +28,8 @@ module _ (problem : Problem) (packages : Text → List Text) where
 
   -- the row may ask for this child, by its name or by a virtual
   abbrev pub may_ask : Text → DependRow → Bool
-  may_ask child row = is_some_and row.part.name (λ asked. if is_virtual problem.recipes asked then among (packages asked) child else bytes_eq asked child)
+  may_ask child row = is_some_and row.part.name
+      (λ asked. if is_virtual problem.recipes asked then among (packages asked) child else bytes_eq asked child)
 
   -- where the edge has the kind, some row asks for it
   abbrev pub kind_rule : Kinds → (Kinds → Bool) → Text → Text → Rule Term

@@ -37,7 +37,8 @@ fn provider_at(
     choice: &(Word, Lit),
 ) -> Result<Formula, AllocError>
     ensures { IfOk result (λ formula. formula
-        ≡ provided_said table.now virtual_name.now choice.now.0 (plain_said table.now (provider_rule problem.now (virtual_name.now, choice.now.0)))) }
+        ≡ provided_said table.now virtual_name.now choice.now.0
+        (plain_said table.now (provider_rule problem.now (virtual_name.now, choice.now.0)))) }
 {
     let name = choice.0.as_str();
     let chosen = provides_as(alloc, table, virtual_name, name)?;

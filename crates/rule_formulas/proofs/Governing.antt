@@ -42,23 +42,30 @@ module _ (t : Table) (condition : Text → Condition → Statement) (name varian
   pub met-is : (rows : Definitions) (ds : List VariantRow) → map own rows ≡ ds → met_said condition name rows ≡ in_words g (some met ds)
   met-is rows ds same = met-said rows ∙ ap (in_words g) (some-mapped met met own rows) ∙ ap (λ ds. in_words g (some met ds)) same
 
-  in-turn-said : (rows : Definitions) → any_of (last_parts t condition name variant rows) ≡ in_words g (last_in_turn (met_by name) (allowed_by name variant) rows)
+  in-turn-said : (rows : Definitions) → any_of (last_parts t condition name variant rows)
+      ≡ in_words g (last_in_turn (met_by name) (allowed_by name variant) rows)
   in-turn-said [] = refl
   in-turn-said (row ∷ rows) = rw (met-said rows, in-turn-said rows) refl
 
-  pub turn-none : (times : ℕ) (rows : Definitions) → times ≡ 0 → any_of (last_parts t condition name variant rows) ≡ last_said t condition name variant times rows
+  pub turn-none : (times : ℕ) (rows : Definitions) → times ≡ 0
+      → any_of (last_parts t condition name variant rows) ≡ last_said t condition name variant times rows
   turn-none times rows e = in-turn-said rows ∙ ap (in_words g) (sym (halved-none (met_by name) (allowed_by name variant) times rows e))
 
-  pub turn-short : (times : ℕ) (rows : Definitions) → length rows ≤ 8 → any_of (last_parts t condition name variant rows) ≡ last_said t condition name variant times rows
+  pub turn-short : (times : ℕ) (rows : Definitions) → length rows ≤ 8
+      → any_of (last_parts t condition name variant rows) ≡ last_said t condition name variant times rows
   turn-short times rows le = in-turn-said rows ∙ ap (in_words g) (sym (halved-short (met_by name) (allowed_by name variant) times rows le))
 
   pub halves-said : (times : ℕ) (rows : Definitions) (front back : Statement) → (times ≡ 0 → ⊥) → 8 < length rows
-      → front ≡ last_said t condition name variant (times - 1) (take (half_of rows) rows) → back ≡ last_said t condition name variant (times - 1) (drop (half_of rows) rows)
-      → any_of (both (opposite (met_said condition name (drop (half_of rows) rows))) front ∷ back ∷ []) ≡ last_said t condition name variant times rows
+      → front ≡ last_said t condition name variant (times - 1) (take (half_of rows) rows)
+      → back ≡ last_said t condition name variant (times - 1) (drop (half_of rows) rows)
+      → any_of (both (opposite (met_said condition name (drop (half_of rows) rows))) front ∷ back ∷ []) ≡ last_said t condition name
+      variant times rows
   halves-said times rows front back some long first second =
-      rw (first, second, met-said (drop (half_of rows) rows)) refl ∙ ap (in_words g) (sym (halved-long (met_by name) (allowed_by name variant) times rows some long))
+      rw (first, second, met-said (drop (half_of rows) rows)) refl
+      ∙ ap (in_words g) (sym (halved-long (met_by name) (allowed_by name variant) times rows some long))
 
-  pub last-is : (rows : Definitions) (ds : List VariantRow) → map own rows ≡ ds → last_said t condition name variant (length rows / 8) rows ≡ in_words g (last_one met allowed ds)
+  pub last-is : (rows : Definitions) (ds : List VariantRow) → map own rows ≡ ds
+      → last_said t condition name variant (length rows / 8) rows ≡ in_words g (last_one met allowed ds)
   last-is rows ds same =
       ap (in_words g) (halved-mapped met allowed own (length rows / 8) rows)
       ∙ ap (λ n. in_words g (last_halved (n / 8) met allowed (map own rows))) (sym (length-map rows own))
@@ -72,23 +79,30 @@ module _ (path : Text → Text → Statement) (condition : Text → Condition �
   abbrev h : Term → Statement
   h = term_said no_paths condition t
 
-  count-agree : (name variant : Text) (kind : VariantKind) → rule_said path t (count_rule name variant kind) ≡ plain_said t (count_rule name variant kind)
+  count-agree : (name variant : Text) (kind : VariantKind)
+      → rule_said path t (count_rule name variant kind) ≡ plain_said t (count_rule name variant kind)
   count-agree name variant kinds.Bool = refl
   count-agree name variant kinds.Single = refl
   count-agree name variant kinds.Multi = refl
 
-  allows-agree : (name variant : Text) (row : VariantRow) → rule_said path t (allows_rule name variant row) ≡ plain_said t (allows_rule name variant row)
-  allows-agree name variant row = ap (λ s. both (opposite (word_said no_paths t (node_has name (has_value variant (λ value. not (among row.values value)))))) s) (count-agree name variant row.kind)
+  allows-agree : (name variant : Text) (row : VariantRow)
+      → rule_said path t (allows_rule name variant row) ≡ plain_said t (allows_rule name variant row)
+  allows-agree name variant row =
+      ap (λ s. both (opposite (word_said no_paths t (node_has name (has_value variant (λ value. not (among row.values value)))))) s)
+      (count-agree name variant row.kind)
 
   last-agree : (name variant : Text) (rows : List VariantRow)
       → in_words f (last_one (λ row. met_rule name row.when) (λ row. known_rule (allows_rule name variant row)) rows)
       ≡ in_words h (last_one (λ row. met_rule name row.when) (λ row. known_rule (allows_rule name variant row)) rows)
-  last-agree name variant rows = halved-agree f h (λ row. met_rule name row.when) (λ row. known_rule (allows_rule name variant row)) (λ row. refl) (allows-agree name variant) (length rows / 8) rows
+  last-agree name variant rows = halved-agree f h (λ row. met_rule name row.when) (λ row. known_rule (allows_rule name variant row))
+      (λ row. refl) (allows-agree name variant) (length rows / 8) rows
 
   variant-agree : (name variant : Text) → in_words f (variant_rule problem name variant) ≡ in_words h (variant_rule problem name variant)
   variant-agree name variant = both-same _ _ _ _
-      (ap (λ s. implies s (in_words h (variant_there_rule name variant))) (some-agree f h (λ row. met_rule name row.when) (λ row. refl) (definitions problem name variant)))
+      (ap (λ s. implies s (in_words h (variant_there_rule name variant)))
+      (some-agree f h (λ row. met_rule name row.when) (λ row. refl) (definitions problem name variant)))
       (ap (λ s. implies (in_words h (variant_there_rule name variant)) s) (last-agree name variant (definitions problem name variant)))
 
-  pub variants-agree : (variants : List Text) (name : Text) → in_words f (variants_rule problem variants name) ≡ in_words h (variants_rule problem variants name)
+  pub variants-agree : (variants : List Text) (name : Text)
+      → in_words f (variants_rule problem variants name) ≡ in_words h (variants_rule problem variants name)
   variants-agree variants name = each-agree f h (variant_rule problem name) (variant-agree name) variants

@@ -23,7 +23,8 @@ module _ {W T : Type 0} (passes rule : T → Rule W) where
   halved-short (suc times) xs le = let short : nat_lt 8 (length xs) ≡ false = grind (arith, nat_tests) in rw short refl
 
   pub halved-long : (times : ℕ) (xs : List T) → (times ≡ 0 → ⊥) → 8 < length xs → last_halved times passes rule xs
-      ≡ last_of_halves passes (drop (half_of xs) xs) (last_halved (times - 1) passes rule (take (half_of xs) xs)) (last_halved (times - 1) passes rule (drop (half_of xs) xs))
+      ≡ last_of_halves passes (drop (half_of xs) xs) (last_halved (times - 1) passes rule (take (half_of xs) xs))
+      (last_halved (times - 1) passes rule (drop (half_of xs) xs))
   unfolding last_halved
   halved-long zero xs some lt = absurd (some refl)
   halved-long (suc times) xs some lt =
@@ -42,7 +43,8 @@ module _ {W T U : Type 0} (passes rule : T → Rule W) (h : U → T) where
   in-turn-mapped [] = refl
   in-turn-mapped (x ∷ xs) = rw (some-mapped xs, in-turn-mapped xs) refl
 
-  pub halved-mapped : (times : ℕ) (xs : List U) → last_halved times (λ x. passes (h x)) (λ x. rule (h x)) xs ≡ last_halved times passes rule (map h xs)
+  pub halved-mapped : (times : ℕ) (xs : List U)
+      → last_halved times (λ x. passes (h x)) (λ x. rule (h x)) xs ≡ last_halved times passes rule (map h xs)
   unfolding last_halved
   halved-mapped zero xs = in-turn-mapped xs
   halved-mapped (suc times) xs = rw (
@@ -57,7 +59,8 @@ module _ {W T U : Type 0} (passes rule : T → Rule W) (h : U → T) where
 
 -- ---- where the words agree
 
-turn-same : (a b m n c d e f : Statement) → a ≡ b → m ≡ n → c ≡ d → e ≡ f → or (both (both (opposite a) m) c) e ≡ or (both (both (opposite b) n) d) f
+turn-same : (a b m n c d e f : Statement) → a ≡ b → m ≡ n → c ≡ d → e ≡ f
+    → or (both (both (opposite a) m) c) e ≡ or (both (both (opposite b) n) d) f
 turn-same a b m n c d e f p q r s = rw (p, q, r, s) refl
 
 module _ {W T : Type 0} (f g : W → Statement) (passes rule : T → Rule W) (met : (x : T) → in_words f (passes x) ≡ in_words g (passes x))
@@ -66,14 +69,18 @@ module _ {W T : Type 0} (f g : W → Statement) (passes rule : T → Rule W) (me
   in-turn-agree [] = refl
   in-turn-agree (x ∷ xs) = turn-same _ _ _ _ _ _ _ _ (some-agree f g passes met xs) (met x) (kept x) (in-turn-agree xs)
 
-  pub halved-agree : (times : ℕ) (xs : List T) → in_words f (last_halved times passes rule xs) ≡ in_words g (last_halved times passes rule xs)
+  pub halved-agree : (times : ℕ) (xs : List T)
+      → in_words f (last_halved times passes rule xs) ≡ in_words g (last_halved times passes rule xs)
   unfolding last_halved
   halved-agree zero xs = in-turn-agree xs
   halved-agree (suc times) xs =
       let front = take (half_of xs) xs in
       let back = drop (half_of xs) xs in
-      elim (nat_lt 8 (length xs)) as (λ b. in_words f (if b then last_of_halves passes back (last_halved times passes rule front) (last_halved times passes rule back) else last_in_turn passes rule xs)
-      ≡ in_words g (if b then last_of_halves passes back (last_halved times passes rule front) (last_halved times passes rule back) else last_in_turn passes rule xs)) [
+      elim (nat_lt 8 (length xs)) as (λ b. in_words f
+      (if b then last_of_halves passes back (last_halved times passes rule front) (last_halved times passes rule back) else last_in_turn
+      passes rule xs)
+      ≡ in_words g (if b then last_of_halves passes back (last_halved times passes rule front) (last_halved times passes rule back) else
+      last_in_turn passes rule xs)) [
         | true ↦ rw (some-agree f g passes met back, halved-agree times front, halved-agree times back) refl
         | false ↦ in-turn-agree xs
       ]

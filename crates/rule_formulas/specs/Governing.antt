@@ -24,7 +24,8 @@ met_said condition name rows = any_of (map (λ row. condition name row.now.when)
 module _ (t : Table) (condition : Text → Condition → Statement) (name variant : Text) where
   -- the condition is met, and none of the later definitions; and the definition allows the values
   abbrev pub governs_said : VariantRow → Definitions → Statement
-  governs_said row rest = both (both (opposite (met_said condition name rest)) (condition name row.when)) (plain_said t (allows_rule name variant row))
+  governs_said row rest = both (both (opposite (met_said condition name rest)) (condition name row.when))
+      (plain_said t (allows_rule name variant row))
 
   -- of each of these definitions
   abbrev pub last_parts : Definitions → List Statement

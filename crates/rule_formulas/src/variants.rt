@@ -67,7 +67,8 @@ fn governs_formula<C: MetConditions>(
     rest: &[&VariantRow],
 ) -> Result<Formula, AllocError>
     ensures { IfOk result (λ formula. formula
-        ≡ governs_said table.now (C.condition_of conditions.now) name.now variant.now row.now rest.now) }
+        ≡ governs_said table.now (C.condition_of conditions.now) name.now variant.now
+        row.now rest.now) }
 {
     let later = met_formula(alloc, conditions, name, rest)?;
     let met = conditions.met(alloc, name, &row.when)?;

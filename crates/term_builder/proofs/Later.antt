@@ -21,7 +21,8 @@ pub blocks-none : (times size : ℕ) (fs : List Statement) → times ≡ 0 → b
 unfolding blocks_of
 blocks-none times size fs e = rw e refl
 
-pub blocks-short : (times size : ℕ) (fs : List Statement) → (times ≡ 0 → ⊥) → length fs < size → blocks_of times size fs ≡ blocks_of (times - 1) (size / 2) fs
+pub blocks-short : (times size : ℕ) (fs : List Statement) → (times ≡ 0 → ⊥) → length fs < size
+    → blocks_of times size fs ≡ blocks_of (times - 1) (size / 2) fs
 unfolding blocks_of
 blocks-short zero size fs some lt = absurd (some refl)
 blocks-short (suc times) size fs some lt =
@@ -40,7 +41,8 @@ blocks-cut (suc times) size fs some ge =
     rw (long, less) refl
 
 -- the block is pushed, and the blocks of what is left stand behind it
-pub blocks-joined : (old pushed fs front back : List Statement) (times size : ℕ) (block : Statement) → (times ≡ 0 → ⊥) → (length fs < size → ⊥)
+pub blocks-joined : (old pushed fs front back : List Statement) (times size : ℕ) (block : Statement) → (times ≡ 0 → ⊥)
+    → (length fs < size → ⊥)
     → front ≡ take (length fs - size) fs → back ≡ drop (length fs - size) fs → block ≡ block_of back → pushed ≡ old ++ block ∷ []
     → pushed ++ blocks_of (times - 1) (size / 2) front ≡ old ++ blocks_of times size fs
 blocks-joined old pushed fs front back times size block some ge f b k p =

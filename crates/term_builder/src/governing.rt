@@ -80,7 +80,8 @@ fn push_blocks(
     times: usize,
     size: usize,
 ) -> Result<(), AllocError>
-    ensures { OnOk result (blocks.new.items ≡ blocks.old.items ++ blocks_of times size parts.items) }
+    ensures { OnOk result (blocks.new.items ≡ blocks.old.items
+        ++ blocks_of times size parts.items) }
 {
     if times == 0 {
         return push_all(blocks, parts);

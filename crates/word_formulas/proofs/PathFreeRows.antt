@@ -34,21 +34,27 @@ module _ (path : Text → Text → Statement) (table : Table) where
   named-agree rule same None = refl
   named-agree rule same (Some x) = same x
 
-  asked-agree : (world : World) (packages : Text → List Text) (asked : Text) (rule : NodeRule) → ((n : Text) → in_words f (rule n) ≡ in_words g (rule n))
+  asked-agree : (world : World) (packages : Text → List Text) (asked : Text) (rule : NodeRule)
+      → ((n : Text) → in_words f (rule n) ≡ in_words g (rule n))
       → in_words f (asked_rule world packages asked rule) ≡ in_words g (asked_rule world packages asked rule)
   asked-agree world packages asked rule same = if-virtual (is_virtual world.recipes asked)
     where
-      if-virtual : (b : Bool) → in_words f (if b then some (λ name. both_of (fact (provides_as asked name)) (rule name)) (packages asked) else rule asked)
+      if-virtual : (b : Bool) → in_words f (if b then some (λ name. both_of (fact (provides_as asked name)) (rule name)) (packages asked)
+          else rule asked)
           ≡ in_words g (if b then some (λ name. both_of (fact (provides_as asked name)) (rule name)) (packages asked) else rule asked)
       if-virtual true = some-agree f g (λ name. both_of (fact (provides_as asked name)) (rule name))
-          (λ name. both-same (f (provides_as asked name)) (in_words f (rule name)) (g (provides_as asked name)) (in_words g (rule name)) refl (same name)) (packages asked)
+          (λ name. both-same (f (provides_as asked name)) (in_words f (rule name)) (g (provides_as asked name)) (in_words g (rule name))
+          refl (same name)) (packages asked)
       if-virtual false = same asked
 
-  pub suits-agree : (world : World) (part : Part) (asked name : Text) → in_words f (suits_rule world part asked name) ≡ in_words g (suits_rule world part asked name)
+  pub suits-agree : (world : World) (part : Part) (asked name : Text)
+      → in_words f (suits_rule world part asked name) ≡ in_words g (suits_rule world part asked name)
   suits-agree world part asked name = if-virtual (is_virtual world.recipes asked)
     where
-      if-virtual : (b : Bool) → in_words f (if b then both_of (provides_rule world name asked part.versions) (rest_rule world name part) else meets_rule world name part)
-          ≡ in_words g (if b then both_of (provides_rule world name asked part.versions) (rest_rule world name part) else meets_rule world name part)
+      if-virtual : (b : Bool) → in_words f (if b then both_of (provides_rule world name asked part.versions) (rest_rule world name part)
+          else meets_rule world name part)
+          ≡ in_words g (if b then both_of (provides_rule world name asked part.versions) (rest_rule world name part) else meets_rule
+          world name part)
       if-virtual true = both-same _ _ _ _ (provides-agree path table world name asked part.versions) (rest-agree path table world name part)
       if-virtual false = meets-agree path table world name part
 
@@ -62,7 +68,8 @@ module _ (path : Text → Text → Statement) (table : Table) where
       → rule_said path table (suits_asked problem packages row) ≡ plain_said table (suits_asked problem packages row)
   suits_asked-agree problem packages row =
       named-agree (λ asked. asked_rule (world_of problem) packages asked (suits_rule (world_of problem) row.part asked))
-      (λ asked. asked-agree (world_of problem) packages asked (suits_rule (world_of problem) row.part asked) (suits-agree (world_of problem) row.part asked)) row.part.name
+      (λ asked. asked-agree (world_of problem) packages asked (suits_rule (world_of problem) row.part asked)
+      (suits-agree (world_of problem) row.part asked)) row.part.name
 
   pub asks_child-agree : (problem : Problem) (child : Text) (row : DependRow)
       → rule_said path table (asks_child problem child row) ≡ plain_said table (asks_child problem child row)

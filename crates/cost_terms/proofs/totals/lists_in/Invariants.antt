@@ -6,6 +6,7 @@ use Rattle.cost_terms.proofs.totals.lists_in.Given as goal
 
 abbrev pub invariant-loop-list : goal.invariant-loop-list
 invariant-loop-list l = record {
-  rest : after l.terms.items (lists_in (gated l.clauses l.gates) (drop l.list-index l.lists)) ≡ lists_in (gated l.fn.clauses l.fn.gates) l.fn.lists;
+  rest : after l.terms.items (lists_in (gated l.clauses l.gates) (drop l.list-index l.lists))
+      ≡ lists_in (gated l.fn.clauses l.fn.gates) l.fn.lists;
   keeps : Keeps (gated l.fn.clauses l.fn.gates) (gated l.clauses l.gates);
 }

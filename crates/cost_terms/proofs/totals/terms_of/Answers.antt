@@ -14,7 +14,8 @@ loop-one-init c = record {
 }
 
 pub term_of-requires-clause-formula_below : goal.term_of-requires-clause-formula_below
-term_of-requires-clause-formula_below c = weighed-at c.args.clauses.now.vars c.loop-one.clauses.vars c.args.weighted.now c.loop-one.one-index
+term_of-requires-clause-formula_below c = weighed-at c.args.clauses.now.vars c.loop-one.clauses.vars c.args.weighted.now
+    c.loop-one.one-index
     c.one-item.result c.loop-one.invariant.keeps.extends.grows.more (omega arith) c.one-item.is c.requires.weighted_below
 
 pub term_of-requires-clause-gates_below : goal.term_of-requires-clause-gates_below

@@ -30,8 +30,10 @@ returns g c =
     let there = ok-is c.has_variant.result c.in_ok-there.there there_said c.in_ok-there.was c.has_variant.ensures in
     let where_met = c.in_ok-where_met.ensures ∙ implies-same _ _ _ _ met there in
     let again = ok-is c.has_variant-2.result c.in_ok-again.again there_said c.in_ok-again.was c.has_variant-2.ensures in
-    let last = ok-is c.last_formula.result c.in_ok-last.last (last_said table condition name variant (length rows / 8) rows) c.in_ok-last.was c.last_formula.ensures
+    let last = ok-is c.last_formula.result c.in_ok-last.last (last_said table condition name variant (length rows / 8) rows)
+    c.in_ok-last.was c.last_formula.ensures
     ∙ last-is table condition name variant rows ds same in
     let where_there = c.in_ok-where_there.ensures ∙ implies-same _ _ _ _ again last in
-    ok-same c.both.result (both c.in_ok-where_met.where_met c.in_ok-where_there.where_there) (plain_term table condition (variant_rule problem name variant))
+    ok-same c.both.result (both c.in_ok-where_met.where_met c.in_ok-where_there.where_there)
+    (plain_term table condition (variant_rule problem name variant))
     (both-same _ _ _ _ where_met where_there) c.both.ensures

@@ -21,9 +21,11 @@ returns t c =
     let fs = c.args.parts.items in
     let long : length fs < c.args.size → ⊥ = λ h. grind (arith, common_steps) in
     let at : c.len-2.result - c.args.size ≡ length fs - c.args.size = grind (arith, common_steps) in
-    let front : c.split_off.new.self.items ≡ take (length fs - c.args.size) fs = c.in_ok-back.ensures.items ∙ ap (λ (n : ℕ). take n fs) at in
+    let front : c.split_off.new.self.items ≡ take (length fs - c.args.size) fs = c.in_ok-back.ensures.items
+    ∙ ap (λ (n : ℕ). take n fs) at in
     let back : c.in_ok-back.back.items ≡ drop (length fs - c.args.size) fs = c.in_ok-back.ensures.tail ∙ ap (λ (n : ℕ). drop n fs) at in
     let pushed : c.push.new.self.items ≡ c.args.blocks.now.items ++ c.in_ok-block.field-0 ∷ [] = c.in_ok-push.ensures.items in
     subst (λ (fs : List Statement). OnOk c.push_blocks-2.result (c.push_blocks-2.new.blocks.items ≡ fs))
-    (blocks-joined c.args.blocks.now.items c.push.new.self.items fs c.split_off.new.self.items c.in_ok-back.back.items c.args.times c.args.size
+    (blocks-joined c.args.blocks.now.items c.push.new.self.items fs c.split_off.new.self.items c.in_ok-back.back.items
+    c.args.times c.args.size
     c.in_ok-block.field-0 c.if-times-eq0.false long front back c.in_ok-block.ensures pushed) c.push_blocks-2.ensures
