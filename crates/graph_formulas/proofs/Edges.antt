@@ -6,7 +6,7 @@ use Rattle.std.specs.Option.{option_and_then}
 use Rattle.std.specs.Str.{bytes_eq}
 use Rattle.std.proofs.lemmas.Bool.{cases_Bool, and_parts}
 use Rattle.virtuals.specs.Virtuals.{is_virtual}
-use Rattle.clause_formulas.specs.Rules.{Rule, keeps_rule}
+use Rattle.clause_formulas.specs.Rules.{Proposition, keeps_rule}
 use Rattle.graph_core.specs.Graphs.{Text}
 use Rattle.condition_rules.specs.Words.{is_one_text, implies, if_written, is_some_and}
 use Rattle.graph_core.specs.Graphs.{Content, node_of, provider_of, edge_of}
@@ -21,12 +21,12 @@ use Rattle.problem.specs.Problems.{Problem, world_of, depends_at}
 use Rattle.graph_rules.specs.Built.{asks, asking, asked_kinds}
 use Rattle.graph_rules.specs.Whole.{uses}
 use Rattle.graph_formulas.specs.Facts.{is_in, has_origin}
-use Rattle.graph_formulas.specs.Lists.{given, some}
+use Rattle.graph_formulas.specs.Lists.{settled_test, some}
 use Rattle.literal_table.proofs.Spelling.{named-so}
 use Rattle.graph_formulas.proofs.Rules.{given-kept, each-kept, some-kept, named-kept}
 use Rattle.graph_formulas.proofs.Kept.{by_node, there, asked-kept}
-use Rattle.graph_formulas.specs.Terms.{Term, is_true, met_rule, builds}
-use Rattle.graph_formulas.specs.Edges.{no_kinds, of_provider, asks_rule, may_ask, names_virtual, may_use, kind_rule, extra_edge_rule, use_rule}
+use Rattle.graph_formulas.specs.Terms.{Term, is_true, met_rule, builds_node}
+use Rattle.graph_formulas.specs.Edges.{empty_kinds, of_provider, asks_rule, may_ask, names_virtual, may_use, kind_rule, extra_edge_rule, use_rule}
 use Rattle.graph_formulas.proofs.Directives.{LeadsToNodes, not-or, then-and}
 
 any-filter : {T : Type 0} (test f : T → Bool) (xs : List T) → list_any test (filter f xs) ≡ list_any (λ x. test x && f x) xs
@@ -114,7 +114,8 @@ user-asks problem graph p name = by_node graph name (λ o. is_some_and o (uses p
 module _ (problem : Problem) (packages : Text → List Text) (graph : Content)
     (listed : (virtual p : Text) → provider_of graph virtual ≡ Some p → is_one_text (packages virtual) p ≡ true)
     (name : Text) (node : Node) (here : node_of graph name ≡ Some node) where
-  child-kept : (child : Text) (c : Node) → node_of graph child ≡ Some c → (n : Text) → keeps_rule (is_in graph) (given (bytes_eq n child)) ≡ is_some_and (node_of graph n) (λ asked. bytes_eq asked.name child)
+  child-kept : (child : Text) (c : Node) → node_of graph child ≡ Some c → (n : Text)
+      → keeps_rule (is_in graph) (settled_test (bytes_eq n child)) ≡ is_some_and (node_of graph n) (λ asked. bytes_eq asked.name child)
   child-kept child c child_here n = rw (given-kept (is_in graph) (bytes_eq n child)) (
       by_node graph n (λ o. bytes_eq n child ≡ is_some_and o (λ asked. bytes_eq asked.name child))
       (λ asked there. ap (λ m. bytes_eq m child) (sym (named-so graph n asked there)))
@@ -126,7 +127,8 @@ module _ (problem : Problem) (packages : Text → List Text) (graph : Content)
   asks-kept : (child : Text) (c : Node) → node_of graph child ≡ Some c → (row : DependRow) → keeps_rule (is_true (world_of problem) graph) (asks_rule problem packages name child row) ≡ asks problem graph node child row
   asks-kept child c child_here row =
       ap (λ b. all_hold (world_of problem) row.when graph name && b) (
-      named-kept (is_in graph) _ _ (λ asked. asked-kept (world_of problem) graph packages listed asked (λ n. given (bytes_eq n child)) _ (child-kept child c child_here)) row.part.name
+      named-kept (is_in graph) _ _ (λ asked. asked-kept (world_of problem) graph packages listed asked
+      (λ n. settled_test (bytes_eq n child)) _ (child-kept child c child_here)) row.part.name
       ∙ sym (then-and (asked_node (world_of problem) graph) (λ asked. bytes_eq asked.name child) row.part.name))
       ∙ ap (λ n. all_hold (world_of problem) row.when graph n && is_some_and (option_and_then (asked_node (world_of problem) graph) row.part.name) (λ asked. bytes_eq asked.name child)) (sym (named-so graph name node here))
 
@@ -166,9 +168,9 @@ module _ (problem : Problem) (packages : Text → List Text) (graph : Content)
   -- an edge of the node has no kind that none asks for
   pub extra_edge-kept : LeadsToNodes graph → (child : Text) → keeps_rule (is_true (world_of problem) graph) (extra_edge_rule problem packages name child) ≡ if_written (edge_of graph name child) (λ e. covers (asked_kinds (asking problem graph node child)) e.kinds)
   extra_edge-kept leads child = rw (
-    kind-kept leads (record no_kinds { build = true }) (λ k. k.build) child (λ k. ands k.build),
-    kind-kept leads (record no_kinds { link = true }) (λ k. k.link) child (λ k. and-true k.link),
-    kind-kept leads (record no_kinds { run = true }) (λ k. k.run) child (λ k. refl),
+    kind-kept leads (record empty_kinds { build = true }) (λ k. k.build) child (λ k. ands k.build),
+    kind-kept leads (record empty_kinds { link = true }) (λ k. k.link) child (λ k. and-true k.link),
+    kind-kept leads (record empty_kinds { run = true }) (λ k. k.run) child (λ k. refl),
   ) (extra_edge-kept-cases (edge_of graph name child))
     where
       and-true : (a : Bool) → (a && true) ≡ a
@@ -228,7 +230,8 @@ all-true (x ∷ xs) = all-true xs
 
 pub of-provider-kept : (problem : Problem) (packages : Text → List Text) (graph : Content)
     → ((virtual p : Text) → provider_of graph virtual ≡ Some p → is_one_text (packages virtual) p ≡ true)
-    → (rule : Text × Text → Rule Term) (test : Text × Text → Bool) → ((p : Text × Text) → keeps_rule (is_true (world_of problem) graph) (rule p) ≡ test p)
+    → (rule : Text × Text → Proposition Term) (test : Text × Text → Bool)
+    → ((p : Text × Text) → keeps_rule (is_true (world_of problem) graph) (rule p) ≡ test p)
     → (virtual : Text) → keeps_rule (is_true (world_of problem) graph) (of_provider packages rule virtual) ≡ if_written (provider_of graph virtual) (λ p. test (virtual, p))
 of-provider-kept problem packages graph listed rule test same virtual =
     each-kept (is_true (world_of problem) graph) _ (λ p. not (is_some_and (provider_of graph virtual) (λ q. bytes_eq q p)) || test (virtual, p)) (λ p. ap (λ b. not (is_some_and (provider_of graph virtual) (λ q. bytes_eq q p)) || b) (same (virtual, p))) (packages virtual)

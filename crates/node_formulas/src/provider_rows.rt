@@ -1,7 +1,7 @@
 // The row of the rule of providers.
 ghost use Rattle.std.specs.Prelude.{◌≡◌, IfOk, map};
 ghost use Rattle.clause_formulas.specs.Rules.{fact};
-ghost use Rattle.clause_formulas.specs.Statements.{all_of};
+ghost use Rattle.clause_formulas.specs.Statements.{all_statements};
 ghost use Rattle.graph_formulas.specs.Facts.{provides_as};
 ghost use Rattle.graph_formulas.specs.Built.{provider_rule};
 ghost use Rattle.node_formulas.specs.Rows.{provided_said, providers_said, provided_row};
@@ -69,7 +69,7 @@ fn providers_in(
     virtual_name: &str,
     packages: &[(Word, Lit)],
 ) -> Result<Formula, AllocError>
-    ensures { IfOk result (λ formula. formula ≡ all_of (map
+    ensures { IfOk result (λ formula. formula ≡ all_statements (map
         (λ c. provided_said table.now virtual_name.now c.0
         (plain_said table.now (provider_rule problem.now (virtual_name.now, c.0)))) packages.now)) }
 {

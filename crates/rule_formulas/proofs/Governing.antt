@@ -4,8 +4,8 @@ use Rattle.std.specs.Prelude.{if◌then◌else◌}
 use Rattle.std.specs.Str.{bytes_eq}
 use Rattle.variant_values.specs.declared.kind.VariantKind.{VariantKind}
 use Rattle.variant_values.specs.declared.kind.VariantKind.TheVariants as kinds
-use Rattle.clause_formulas.specs.Statements.{Statement, or, any_of, both, implies, opposite}
-use Rattle.clause_formulas.specs.Rules.{Rule, in_words}
+use Rattle.clause_formulas.specs.Statements.{Statement, or, any_statement, both_statements, implication_of, opposite}
+use Rattle.clause_formulas.specs.Rules.{Proposition, in_words}
 use Rattle.graph_core.specs.Graphs.{Text}
 use Rattle.recipe_data.specs.declared.recipe.Condition.{Condition}
 use Rattle.recipe_data.specs.declared.recipe.VariantRow.{VariantRow}
@@ -32,20 +32,24 @@ module _ (t : Table) (condition : Text → Condition → Statement) (name varian
   pub met-said : (rows : List VariantRow) → met_said condition name variant rows ≡ in_words g (some (λ row. met_rule name row.when) (filter (λ row. bytes_eq row.name variant) rows))
   met-said rows = sym (some-said g (λ row. met_rule name row.when) (filter (λ row. bytes_eq row.name variant) rows))
 
-  abbrev governing : List VariantRow → Rule Term
+  abbrev governing : List VariantRow → Proposition Term
   governing rows = last_one (λ row. met_rule name row.when) (λ row. known_rule (allows_rule name variant row)) rows
 
-  pub last-said : (rows : List VariantRow) → any_of (last_parts t condition name variant rows) ≡ in_words g (governing (filter (λ row. bytes_eq row.name variant) rows))
+  pub last-said : (rows : List VariantRow) → any_statement (last_parts t condition name variant rows)
+      ≡ in_words g (governing (filter (λ row. bytes_eq row.name variant) rows))
   last-said [] = refl
   last-said (row ∷ rows) = go (bytes_eq row.name variant) (last-said rows)
     where
-      go : (b : Bool) → any_of (last_parts t condition name variant rows) ≡ in_words g (governing (filter (λ row. bytes_eq row.name variant) rows))
-          → any_of ((if b then governs_said t condition name variant row rows ∷ [] else []) ++ last_parts t condition name variant rows)
+      go : (b : Bool) → any_statement (last_parts t condition name variant rows)
+          ≡ in_words g (governing (filter (λ row. bytes_eq row.name variant) rows))
+          → any_statement ((if b then governs_said t condition name variant row rows ∷ [] else [])
+          ++ last_parts t condition name variant rows)
           ≡ in_words g (governing (if b then row ∷ filter (λ row. bytes_eq row.name variant) rows else filter (λ row. bytes_eq row.name variant) rows))
       go true rest = rw (met-said rows, rest) refl
       go false rest = rest
 
-last-case : (a b c d e f m : Statement) → a ≡ b → c ≡ d → e ≡ f → or (both (both (opposite a) m) c) e ≡ or (both (both (opposite b) m) d) f
+last-case : (a b c d e f m : Statement) → a ≡ b → c ≡ d → e ≡ f
+    → or (both_statements (both_statements (opposite a) m) c) e ≡ or (both_statements (both_statements (opposite b) m) d) f
 last-case a b c d e f m p q r = rw (p, q, r) refl
 
 -- the rule of variants speaks of no path, but by conditions
@@ -63,7 +67,8 @@ module _ (path : Text → Text → Statement) (condition : Text → Condition �
 
   allows-agree : (name variant : Text) (row : VariantRow) → rule_said path t (allows_rule name variant row) ≡ plain_said t (allows_rule name variant row)
   allows-agree name variant row =
-      ap (λ s. both (opposite (word_said no_paths t (node_has name (has_value variant (λ value. not (is_one_text row.values value)))))) s)
+      ap (λ s. both_statements
+      (opposite (word_said no_paths t (node_has name (has_value variant (λ value. not (is_one_text row.values value)))))) s)
       (count-agree name variant row.kind)
 
   last-agree : (name variant : Text) (rows : List VariantRow)
@@ -75,8 +80,10 @@ module _ (path : Text → Text → Statement) (condition : Text → Condition �
 
   variant-agree : (name variant : Text) → in_words f (variant_rule problem name variant) ≡ in_words h (variant_rule problem name variant)
   variant-agree name variant = both-same _ _ _ _
-      (ap (λ s. implies s (in_words h (variant_there_rule name variant))) (some-agree f h (λ row. met_rule name row.when) (λ row. refl) (definitions problem name variant)))
-      (ap (λ s. implies (in_words h (variant_there_rule name variant)) s) (last-agree name variant (definitions problem name variant)))
+      (ap (λ s. implication_of s (in_words h (variant_there_rule name variant)))
+      (some-agree f h (λ row. met_rule name row.when) (λ row. refl) (definitions problem name variant)))
+      (ap (λ s. implication_of (in_words h (variant_there_rule name variant)) s)
+      (last-agree name variant (definitions problem name variant)))
 
   pub variants-agree : (variants : List Text) (name : Text) → in_words f (variants_rule problem variants name) ≡ in_words h (variants_rule problem variants name)
   variants-agree variants name = each-agree f h (variant_rule problem name) (variant-agree name) variants

@@ -1,7 +1,7 @@
 //! Formulas of the variants of a node to build.
 ghost use Rattle.std.specs.Prelude.{◌≡◌, ◌++◌, map, IfOk, OnOk};
 ghost use Rattle.std.specs.Str.{bytes_eq};
-ghost use Rattle.clause_formulas.specs.Statements.{any_of};
+ghost use Rattle.clause_formulas.specs.Statements.{any_statement};
 ghost use Rattle.graph_formulas.specs.Variants.{variant_rule, variants_rule};
 ghost use Rattle.graph_formulas.specs.Laws.{variants_of};
 ghost use Rattle.rule_formulas.specs.Terms.{plain_term};
@@ -120,7 +120,7 @@ fn last_formula<C: MetConditions>(
     variant: &str,
     rows: &[VariantRow],
 ) -> Result<Formula, AllocError>
-    ensures { IfOk result (λ formula. formula ≡ any_of
+    ensures { IfOk result (λ formula. formula ≡ any_statement
         (last_parts table.now (C.condition_of conditions.now) name.now variant.now rows.now)) }
 {
     let mut parts = Vec::new(alloc);

@@ -1,6 +1,6 @@
 //! Which definition of a variant governs.
 ghost use Rattle.std.specs.Prelude.{◌≡◌, ◌++◌, map, IfOk, OnOk};
-ghost use Rattle.clause_formulas.specs.Drafts.{said_of};
+ghost use Rattle.clause_formulas.specs.Drafts.{statement_of};
 ghost use Rattle.term_builder.specs.VariantTerms.{said_if, later, governs};
 
 use clause_formulas::{Defined, Formula};
@@ -15,7 +15,7 @@ fn push_said(
     condition: Defined,
 ) -> Result<(), AllocError>
     ensures { OnOk result (parts.new.items ≡ parts.old.items
-        ++ said_if counts (said_of condition)) }
+        ++ said_if counts (statement_of condition)) }
 {
     if !counts {
         return Ok(());
@@ -33,7 +33,7 @@ fn push_later(
     conditions: &[Defined],
 ) -> Result<(), AllocError>
     ensures { OnOk result (parts.new.items ≡ parts.old.items
-        ++ later variant.now rows.now (map said_of conditions.now)) }
+        ++ later variant.now rows.now (map statement_of conditions.now)) }
 {
     let mut left = conditions;
     for row in rows {
@@ -55,7 +55,7 @@ pub(crate) fn governs(
     conditions: &[Defined],
 ) -> Result<Formula, AllocError>
     ensures { IfOk result (λ formula. formula
-        ≡ governs variant.now (said_of condition) rows.now (map said_of conditions.now)) }
+        ≡ governs variant.now (statement_of condition) rows.now (map statement_of conditions.now)) }
 {
     let mut parts = Vec::new(alloc);
     push_later(alloc, &mut parts, variant, rows, conditions)?;

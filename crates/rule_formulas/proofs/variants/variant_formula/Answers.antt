@@ -1,5 +1,5 @@
 use Rattle.std.proofs.Common.{ap, ◌∙◌, List}
-use Rattle.clause_formulas.specs.Statements.{any_of, both}
+use Rattle.clause_formulas.specs.Statements.{any_statement, both_statements}
 use Rattle.word_formulas.specs.Builders.{node_said}
 use Rattle.word_formulas.proofs.Steps.{ok-same, ok-is, both-same, implies-same}
 use Rattle.rule_formulas.specs.Terms.{plain_term}
@@ -20,7 +20,7 @@ returns g c =
     let variant = c.args.variant.now in
     let there_said = node_said table name (has_variant variant) in
     let met_by = λ (rows : List VariantRow). met_said condition name variant rows in
-    let last_by = λ (rows : List VariantRow). any_of (last_parts table condition name variant rows) in
+    let last_by = λ (rows : List VariantRow). any_statement (last_parts table condition name variant rows) in
     let met = ok-is c.met_formula.result c.in_ok-met.met (met_by c.variants_at-rows.result.now) c.in_ok-met.was c.met_formula.ensures
     ∙ ap met_by c.variants_at-rows.ensures ∙ met-said table condition name variant (variants_at problem name) in
     let there = ok-is c.has_variant.result c.in_ok-there.there there_said c.in_ok-there.was c.has_variant.ensures in
@@ -29,5 +29,6 @@ returns g c =
     let last = ok-is c.last_formula.result c.in_ok-last.last (last_by c.variants_at-rows.result.now) c.in_ok-last.was c.last_formula.ensures
     ∙ ap last_by c.variants_at-rows.ensures ∙ last-said table condition name variant (variants_at problem name) in
     let where_there = c.in_ok-where_there.ensures ∙ implies-same _ _ _ _ again last in
-    ok-same c.both.result (both c.in_ok-where_met.where_met c.in_ok-where_there.where_there) (plain_term table condition (variant_rule problem name variant))
+    ok-same c.both.result (both_statements c.in_ok-where_met.where_met c.in_ok-where_there.where_there)
+    (plain_term table condition (variant_rule problem name variant))
     (both-same _ _ _ _ where_met where_there) c.both.ensures
