@@ -4,7 +4,7 @@ use Rattle.std.specs.Prelude.{is_some}
 use Rattle.std.specs.List.{list_any}
 use Rattle.std.specs.Str.{bytes_eq}
 use Rattle.std.specs.Cmp.Lexicographic.{nat_list_eq_equiv}
-use Rattle.clause_formulas.specs.Rules.{Rule, keeps_rule}
+use Rattle.clause_formulas.specs.Rules.{Proposition, keeps_rule}
 use Rattle.graph_core.specs.Graphs.{Text, Content, node_of}
 use Rattle.graph_core.specs.Paths.{reaches_in}
 use Rattle.graph_core.specs.declared.node.Node.{Node}
@@ -14,7 +14,7 @@ use Rattle.site_settings.specs.declared.settings.CompilerEntry.{CompilerEntry}
 use Rattle.graph_rules.specs.Built.{keeps_buildable, keeps_version, keeps_compiler, keeps_machine, supports}
 use Rattle.graph_rules.specs.Whole.{keeps_provider, keeps_no_cycle, keeps_reachable}
 use Rattle.literal_table.proofs.Spelling.{named-so}
-use Rattle.graph_formulas.specs.Facts.{Word, Fact, has_version, has_compiler, has_os, has_target, node_has, is_in, is_so}
+use Rattle.graph_formulas.specs.Facts.{GraphWord, Fact, has_version, has_compiler, has_os, has_target, node_has, is_in, is_so}
 use Rattle.graph_formulas.proofs.Rules.{or-false, given-kept, written-kept, named-kept, some-kept}
 use Rattle.graph_formulas.proofs.Kept.{there, provides-kept}
 use Rattle.graph_formulas.specs.Built.{buildable_rule, version_rule, entry_rule, compiler_rule, machine_rule, provider_rule, no_cycle_rule, reachable_rule}
@@ -30,7 +30,7 @@ swapped test None (x ∷ xs) = swapped test None xs
 swapped test (Some y) xs = refl
 
 module _ (problem : Problem) (graph : Content) where
-  abbrev pub in_graph : Rule Word → Bool
+  abbrev pub in_graph : Proposition GraphWord → Bool
   in_graph rule = keeps_rule (is_in graph) rule
 
   module _ (name : Text) (node : Node) (here : node_of graph name ≡ Some node) where

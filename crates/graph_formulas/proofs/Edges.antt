@@ -209,9 +209,9 @@ module _ (problem : Problem) (packages : Text → List Text) (graph : Content)
       → keeps_rule (is_true (world_of problem) graph) (extra_edge_rule problem packages name child) ≡ if_written (edge_of graph name child)
       (λ e. covers (asked_kinds (asking problem graph node child)) e.kinds)
   extra_edge-kept leads child = rw (
-    kind-kept leads (record no_kinds { build = true }) (λ k. k.build) child (λ k. ands k.build),
-    kind-kept leads (record no_kinds { link = true }) (λ k. k.link) child (λ k. and-true k.link),
-    kind-kept leads (record no_kinds { run = true }) (λ k. k.run) child (λ k. refl),
+    kind-kept leads (record empty_kinds { build = true }) (λ k. k.build) child (λ k. ands k.build),
+    kind-kept leads (record empty_kinds { link = true }) (λ k. k.link) child (λ k. and-true k.link),
+    kind-kept leads (record empty_kinds { run = true }) (λ k. k.run) child (λ k. refl),
   ) (extra_edge-kept-cases (edge_of graph name child))
     where
       and-true : (a : Bool) → (a && true) ≡ a

@@ -5,7 +5,7 @@ use Rattle.std.proofs.lemmas.List.{take-append-drop}
 use Rattle.std.specs.Prelude.{if◌then◌else◌}
 use Rattle.std.specs.List.{list_any, list_all}
 use Rattle.std.specs.Option.{is_some, option_or}
-use Rattle.clause_formulas.specs.Rules.{Rule, keeps_rule, isnt, any_rule}
+use Rattle.clause_formulas.specs.Rules.{Proposition, keeps_rule, isnt, any_rule}
 use Rattle.condition_rules.specs.Words.{if_written, is_some_and, find_last}
 use Rattle.graph_formulas.specs.Lists.{given, unless, written, named, each, some, half_of, last_in_turn, last_of_halves, last_halved, last_one}
 
@@ -41,34 +41,34 @@ or-false true = refl
 or-false false = refl
 
 module _ {W : Type 0} (p : W → Bool) where
-  pub given-kept : (b : Bool) → keeps_rule p (given b) ≡ b
+  pub given-kept : (b : Bool) → keeps_rule p (settled_test b) ≡ b
   given-kept true = refl
   given-kept false = refl
 
   -- where something else says what a rule asks
-  pub unless-so : (b : Bool) (rule : Rule W) → keeps_rule p rule ≡ true → keeps_rule p (unless b rule) ≡ true
+  pub unless-so : (b : Bool) (rule : Proposition W) → keeps_rule p rule ≡ true → keeps_rule p (asked_unless b rule) ≡ true
   unless-so true rule h = refl
   unless-so false rule h = h
 
-  pub unless-kept : (b : Bool) (rule : Rule W) → keeps_rule p (unless b rule) ≡ (b || keeps_rule p rule)
+  pub unless-kept : (b : Bool) (rule : Proposition W) → keeps_rule p (asked_unless b rule) ≡ (b || keeps_rule p rule)
   unless-kept true rule = refl
   unless-kept false rule = refl
 
-  pub some-kept : {T : Type 0} (rule : T → Rule W) (test : T → Bool) → ((x : T) → keeps_rule p (rule x) ≡ test x) → (xs : List T)
+  pub some-kept : {T : Type 0} (rule : T → Proposition W) (test : T → Bool) → ((x : T) → keeps_rule p (rule x) ≡ test x) → (xs : List T)
       → keeps_rule p (some rule xs) ≡ list_any test xs
   some-kept rule test same [] = refl
   some-kept rule test same (x ∷ xs) = rw (same x, some-kept rule test same xs) refl
 
-  module _ {T : Type 0} (rule : T → Rule W) (test : T → Bool) (same : (x : T) → keeps_rule p (rule x) ≡ test x) where
-    pub written-kept : (o : Option T) → keeps_rule p (written o rule) ≡ if_written o test
+  module _ {T : Type 0} (rule : T → Proposition W) (test : T → Bool) (same : (x : T) → keeps_rule p (rule x) ≡ test x) where
+    pub written-kept : (o : Option T) → keeps_rule p (where_written o rule) ≡ if_written o test
     written-kept None = refl
     written-kept (Some x) = same x
 
-    pub named-kept : (o : Option T) → keeps_rule p (named o rule) ≡ is_some_and o test
+    pub named-kept : (o : Option T) → keeps_rule p (one_keeps o rule) ≡ is_some_and o test
     named-kept None = refl
     named-kept (Some x) = same x
 
-    pub each-kept : (xs : List T) → keeps_rule p (each rule xs) ≡ list_all test xs
+    pub each-kept : (xs : List T) → keeps_rule p (each_keeps rule xs) ≡ list_all test xs
     each-kept [] = refl
     each-kept (x ∷ xs) = rw (same x, not-nor (test x) (keeps_rule p (any_rule (map isnt (map rule xs)))), each-kept xs) refl
 

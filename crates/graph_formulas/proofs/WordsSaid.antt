@@ -16,14 +16,14 @@ use Rattle.graph_core.specs.declared.node.Edge.{Edge}
 use Rattle.graph_core.specs.declared.node.Kinds.{Kinds}
 use Rattle.condition_rules.specs.Words.{is_some_and, implies}
 use Rattle.problem.specs.Nodes.{has_kind, covers}
-use Rattle.literal_table.specs.Choices.{Choices, chosen, any_choice, lits_of, is_single}
-use Rattle.literal_table.specs.Tables.{Table, block_of, edge_lits_of, packages_of, values_of}
+use Rattle.literal_table.specs.Choices.{Choices, chosen, any_choice, choice_lits, is_single}
+use Rattle.literal_table.specs.Tables.{Table, block_of, edge_lits_of, packages_of, variant_choices}
 use Rattle.literal_table.specs.Spells.{SpellsOne, SpellsNode, SpellsAt, SpellsEdge, values_at, variants_of, chosen_variants, chosen_kinds, with_values}
 use Rattle.literal_table.specs.declared.block.Block.{Block}
 use Rattle.literal_table.specs.declared.block.EdgeLits.{EdgeLits}
 use Rattle.literal_table.proofs.Choices.{any-chosen, one-true}
 use Rattle.literal_table.proofs.Spelling.{values-spelled}
-use Rattle.graph_formulas.specs.Facts.{Fact, Word, Variants, same_variants, variant_there, is_there, has_origin, has_version, has_compiler, has_os, has_target, has_prefix, has_variant, has_value, has_single, has_variants, node_has, provides_as, has_edge, has_path, is_so, is_in, variant_parts, fact_said, said_in, kind_parts, edge_said, word_said}
+use Rattle.graph_formulas.specs.Facts.{Fact, GraphWord, Variants, same_variants, variant_there, is_there, has_origin, has_version, has_compiler, has_os, has_target, has_prefix, has_variant, has_value, has_single, has_variants, node_has, provides_as, has_edge, has_path, is_so, is_in, variant_parts, fact_said, said_in, kind_parts, edge_said, word_said}
 use Rattle.graph_formulas.specs.Words.{SpellsPaths}
 use Rattle.graph_formulas.proofs.ChosenVariants.{variants-chosen}
 
@@ -201,7 +201,7 @@ edge-at v kinds (Some b) o s =
 -- ---- words
 
 pub word-said : (v : ℕ → Bool) (path : Text → Text → Statement) (table : Table) (graph : Content) → SpellsPaths v path table graph
-    → (w : Word) → eval v (word_said path table w) ≡ is_in graph w
+    → (w : GraphWord) → eval v (word_said path table w) ≡ is_in graph w
 word-said v path table graph s (node_has name fact) = at-said v (block_of table name) (node_of graph name) (s.facts.nodes name) fact
 word-said v path table graph s (provides_as virtual name) =
     one-chosen v (λ p. bytes_eq p name) (packages_of table virtual) (provider_of graph virtual) (s.facts.providers virtual)

@@ -15,20 +15,20 @@ use Rattle.problem.specs.Records.{kept_dependencies}
 use Rattle.graph_rules.specs.Kept.{external_node, installed_node}
 use Rattle.reuse_db.specs.declared.record.Record.{Record}
 use Rattle.literal_table.specs.Tables.{Table}
-use Rattle.graph_formulas.specs.Facts.{Word, word_said, has_origin, has_os, has_target, has_edge, node_has}
-use Rattle.graph_formulas.specs.Lists.{◌and◌, each}
+use Rattle.graph_formulas.specs.Facts.{GraphWord, word_said, has_origin, has_os, has_target, has_edge, node_has}
+use Rattle.graph_formulas.specs.Lists.{◌and◌, each_keeps}
 use Rattle.graph_formulas.specs.Words.{rule_said}
 use Rattle.graph_formulas.specs.Built.{entry_rule, compiler_rule}
-use Rattle.graph_formulas.specs.Edges.{no_kinds}
+use Rattle.graph_formulas.specs.Edges.{empty_kinds}
 use Rattle.graph_formulas.specs.Kept.{same_origin, installs, same_rule, kinds_rule, is_child_name, child_rule, recorded_rule, origin_rule, kept_rule}
 use Rattle.word_formulas.specs.Builders.{no_paths, plain_said}
 use Rattle.node_formulas.proofs.Alike.{Alike, same-words, given-alike, written-alike, named-alike, each-alike, some-alike}
 
 module _ (path : Text → Text → Statement) (t : Table) where
-  abbrev f : Word → Statement
+  abbrev f : GraphWord → Statement
   f = word_said path t
 
-  abbrev g : Word → Statement
+  abbrev g : GraphWord → Statement
   g = word_said no_paths t
 
   module _ (problem : Problem) where
@@ -59,10 +59,11 @@ module _ (path : Text → Text → Statement) (t : Table) where
       origin-alike name (External place) = (
         named-alike f g (λ entry. same_rule name (external_node problem name place entry)) (λ entry. same-alike name (external_node problem name place entry))
             (slice_get (externals_in (package_entry_of problem name)) place),
-        each-alike f g (λ child. isnt (fact (has_edge name child no_kinds))) (λ child. refl) children,
+        each-alike f g (λ child. isnt (fact (has_edge name child empty_kinds))) (λ child. refl) children,
       )
       origin-alike name (Installed hash) = named-alike f g
-          (λ entry. same_rule name (installed_node entry) and each (child_rule problem children name) (kept_dependencies entry) and each (recorded_rule problem children name entry) children)
+          (λ entry. same_rule name (installed_node entry) and each_keeps (child_rule problem children name) (kept_dependencies entry) and
+          each_keeps (recorded_rule problem children name entry) children)
           (λ entry. (
             (same-alike name (installed_node entry), each-alike f g (child_rule problem children name) (child-alike name) (kept_dependencies entry)),
             each-alike f g (recorded_rule problem children name entry) (λ child. (refl, given-alike f g (is_child_name problem entry child))) children,

@@ -53,7 +53,7 @@ fn providers_in(
     virtual_name: &str,
     packages: &[(Word, Lit)],
 ) -> Result<Formula, AllocError>
-    ensures { IfOk result (λ formula. formula ≡ all_of (map
+    ensures { IfOk result (λ formula. formula ≡ all_statements (map
         (λ c. provided_said table.now virtual_name.now c.0
         (plain_said table.now (provider_rule problem.now (virtual_name.now, c.0)))) packages.now)) }
 {

@@ -4,7 +4,7 @@ use Rattle.std.specs.List.{filter, flat_map, sum_by}
 use Rattle.std.specs.Str.{bytes_eq}
 use Rattle.std.proofs.lemmas.List.Sums.{sum_by-cons, length-filter, count_by-le-length}
 use Rattle.clause_store.specs.declared.Lit.{Lit}
-use Rattle.clause_formulas.specs.Statements.{Statement, atom, no, both, any_of, all_of}
+use Rattle.clause_formulas.specs.Statements.{Statement, atom, no, both_statements, any_statement, all_statements}
 use Rattle.graph_core.specs.Graphs.{Text}
 use Rattle.recipe_data.specs.declared.recipe.VariantRow.{VariantRow}
 use Rattle.condition_rules.specs.Words.{is_one_text}
@@ -12,7 +12,7 @@ use Rattle.literal_table.specs.Choices.{Choices, passing, any_choice}
 use Rattle.literal_table.specs.Tables.{Table, block_of}
 use Rattle.literal_table.specs.declared.block.Block.{Block}
 use Rattle.literal_table.specs.declared.block.EdgeLits.{EdgeLits}
-use Rattle.table_plan.specs.Numbers.{lit_of, numbered}
+use Rattle.table_plan.specs.Numbers.{positive_lit, numbered}
 use Rattle.cost_terms.specs.declared.weighted.Weighted.{Weighted}
 use Rattle.cost_terms.specs.Weighed.{top_said}
 use Rattle.cost_terms.specs.Differ.{differ_said, differ_terms, can_differ}
@@ -35,7 +35,7 @@ other-top r values =
     let test = λ (c : Text × Lit). not (is_one_text r.0.default c.0) in
     omega (
       arith,
-      ones-top (λ (c : Text × Lit). both (atom c.1) r.1) (filter test values),
+      ones-top (λ (c : Text × Lit). both_statements (atom c.1) r.1) (filter test values),
       length-filter test values,
       count_by-le-length test values,
     )
@@ -45,7 +45,7 @@ pub unused-top : (r : Row) (values : Choices Text) → top_said (unused_terms r 
 unused-top r values =
     omega (
       arith,
-      ones-top (λ (text : Text). all_of (any_choice (λ value. true) values ∷ r.1 ∷ no (any_choice (bytes_eq text) values) ∷ []))
+      ones-top (λ (text : Text). all_statements (any_choice (λ value. true) values ∷ r.1 ∷ no (any_choice (bytes_eq text) values) ∷ []))
           r.0.default,
     )
 
@@ -116,7 +116,7 @@ passing-numbered test m [] = refl
 passing-numbered test m (x ∷ xs) = passing-numbered-cases (passing-numbered test (m + 1) xs) (test x)
   where
     passing-numbered-cases : length (passing test (numbered (m + 1) xs)) ≡ length (filter test xs) → (b : Bool)
-        → length (cond b ((x, lit_of m) ∷ passing test (numbered (m + 1) xs)) (passing test (numbered (m + 1) xs)))
+        → length (cond b ((x, positive_lit m) ∷ passing test (numbered (m + 1) xs)) (passing test (numbered (m + 1) xs)))
         ≡ length (cond b (x ∷ filter test xs) (filter test xs))
     passing-numbered-cases rest true = omega arith
     passing-numbered-cases rest false = rest

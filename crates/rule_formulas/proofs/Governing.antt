@@ -88,7 +88,8 @@ module _ (path : Text → Text → Statement) (condition : Text → Condition �
   allows-agree : (name variant : Text) (row : VariantRow)
       → rule_said path t (allows_rule name variant row) ≡ plain_said t (allows_rule name variant row)
   allows-agree name variant row =
-      ap (λ s. both (opposite (word_said no_paths t (node_has name (has_value variant (λ value. not (is_one_text row.values value)))))) s)
+      ap (λ s. both_statements
+      (opposite (word_said no_paths t (node_has name (has_value variant (λ value. not (is_one_text row.values value)))))) s)
       (count-agree name variant row.kind)
 
   last-agree : (name variant : Text) (rows : List VariantRow)

@@ -114,7 +114,7 @@ fn last_in_turn<C: MetConditions>(
     variant: &str,
     rows: &[&VariantRow],
 ) -> Result<Formula, AllocError>
-    ensures { IfOk result (λ formula. formula ≡ any_of
+    ensures { IfOk result (λ formula. formula ≡ any_statement
         (last_parts table.now (C.condition_of conditions.now) name.now variant.now rows.now)) }
 {
     let mut parts = Vec::new(alloc);

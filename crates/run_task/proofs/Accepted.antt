@@ -15,7 +15,7 @@ use Rattle.proof_log.specs.Texts.{IsLine, may_write}
 use Rattle.proof_log.specs.Readings.{log_text, AreWritable}
 use Rattle.log_checker.specs.declared.step.Step.TheVariants.{Accepted}
 use Rattle.log_checker.specs.Kinds.{IsLogOf}
-use Rattle.log_checker.specs.Steps.{State, Going, start, begun, run, finish_on}
+use Rattle.log_checker.specs.Steps.{CheckerState, Going, starting_state, begun, run_lines, finish_on}
 use Rattle.certified.specs.Texts.{answer_of}
 use Rattle.certified.specs.declared.text.TextAnswer.TheVariants.{Checked}
 use Rattle.problem.specs.Problems.{Problem}
@@ -35,11 +35,12 @@ use Rattle.run_task.specs.Again.{AreKept, HoldsLog, BestIsAccepted, NothingIsAcc
 abbrev pub AcceptsLines : Type 0
 AcceptsLines = (vars : ℕ) (input : List (List Lit)) (bits : List Lit) (values : Option (List Bool)) (lines : List Line) → AllClauses input
     → AllLines (λ l. OfLearnt IsClause l) lines
-    → (finish_on (run (Going (start vars input bits values)) lines) ≡ Accepted) ↔ IsLogOf vars input bits values lines
+    → (finish_on (run_lines (Going (starting_state vars input bits values)) lines) ≡ Accepted) ↔ IsLogOf vars input bits values lines
 
 -- what answers say of their logs
 abbrev pub AnswersWritten : Type 0
-AnswersWritten = (s : State) (lines : List Line) → AreWritable lines → answer_of s (log_text lines) ≡ Checked (finish_on (run (Going s) lines))
+AnswersWritten = (s : CheckerState) (lines : List Line) → AreWritable lines
+    → answer_of s (log_text lines) ≡ Checked (finish_on (run_lines (Going s) lines))
 
 learnt_of : (line : Line) → IsLine line → OfLearnt IsClause line
 learnt_of (Header vars clauses bits) is = tt
@@ -79,7 +80,7 @@ module _ (accepts : AcceptsLines) (written : AnswersWritten) (s : Clauses) (bits
       → certified_at files path problem numbers ≡ Ok tt
   unfolding certified_at
   accepted_by problem files path holds numbers begin =
-      ap (λ (o : Option State). or_refuse (refusals.BadCertificate 1 faults.WrongBit) o >>= λ s. said_at files path s) begin
+      ap (λ (o : Option CheckerState). or_refuse (refusals.BadCertificate 1 faults.WrongBit) o >>= λ s. said_at files path s) begin
       ∙ said_file files path holds
 
 pub best_accepted : AcceptsLines → AnswersWritten → BestIsCertified → BestIsAccepted

@@ -3,7 +3,7 @@ use Rattle.std.proofs.Common.{◌≡◌, refl, ℕ, Bool, true, false, List, Opt
 use Rattle.std.specs.Prelude.{◌||◌, nat_le, length, take}
 use Rattle.std.specs.FinMap.{get}
 use Rattle.outside_desk.specs.Files.{Files}
-use Rattle.log_checker.specs.Steps.{State}
+use Rattle.log_checker.specs.Steps.{CheckerState}
 use Rattle.log_checker.specs.declared.step.Step.TheVariants.{Accepted, Refused}
 use Rattle.certified.specs.Texts.{answer_of, is_settled_by}
 use Rattle.certified.specs.declared.text.TextAnswer.{TextAnswer}
@@ -25,21 +25,21 @@ of_choice : (path : List ℕ) (b : Bool) (answer : TextAnswer)
 of_choice path true answer = of_answer path answer
 of_choice path false answer = tt
 
-of_text : (path : List ℕ) (s : State) (text : List ℕ) → MayBeSaid path (said_of s text)
+of_text : (path : List ℕ) (s : CheckerState) (text : List ℕ) → MayBeSaid path (said_of s text)
 unfolding said_of
 of_text path s text =
     of_choice path (nat_le (length text) most || is_settled_by s (take most text)) (answer_of s (take most text))
 
-of_file : (path : List ℕ) (s : State) (file : Option (List ℕ))
+of_file : (path : List ℕ) (s : CheckerState) (file : Option (List ℕ))
     → MayBeSaid path (or_refuse (refusals.MissingInput path) file >>= λ text. said_of s text)
 of_file path s None = refl
 of_file path s (Some text) = of_text path s text
 
-at_path : (files : Files) (path : List ℕ) (s : State) → MayBeSaid path (said_at files path s)
+at_path : (files : Files) (path : List ℕ) (s : CheckerState) → MayBeSaid path (said_at files path s)
 unfolding said_at
 at_path files path s = of_file path s (get files path)
 
-of_begun : (files : Files) (path : List ℕ) (begun : Option State)
+of_begun : (files : Files) (path : List ℕ) (begun : Option CheckerState)
     → MayBeSaid path (or_refuse (refusals.BadCertificate 1 faults.WrongBit) begun >>= λ s. said_at files path s)
 of_begun files path None = tt
 of_begun files path (Some s) = at_path files path s

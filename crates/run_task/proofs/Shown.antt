@@ -8,7 +8,7 @@ use Rattle.clause_store.specs.Clauses.{Clauses, clauses_of}
 use Rattle.proof_log.specs.declared.line.Line.{Line}
 use Rattle.proof_log.specs.Known.{AllClauses}
 use Rattle.proof_log.specs.Readings.{reading, AtLineStart}
-use Rattle.log_checker.specs.Steps.{State, begun}
+use Rattle.log_checker.specs.Steps.{CheckerState, begun}
 use Rattle.log_checker.specs.Kinds.{IsLogOf}
 use Rattle.log_checker.specs.declared.step.Step.TheVariants as steps
 use Rattle.log_checker.specs.declared.step.Step.TheVariants.{Accepted}
@@ -47,11 +47,12 @@ accepted_by : (b : Bool) (answer : TextAnswer) → cond b (verdict_of answer) (E
 accepted_by true answer e = accepted answer e
 accepted_by false answer e = absurd (cc)
 
-said_accepted : (s : State) (text : List ℕ) → said_of s text ≡ Ok tt → answer_of s (take most text) ≡ Checked Accepted
+said_accepted : (s : CheckerState) (text : List ℕ) → said_of s text ≡ Ok tt → answer_of s (take most text) ≡ Checked Accepted
 unfolding said_of
 said_accepted s text e = accepted_by (nat_le (length text) most || is_settled_by s (take most text)) (answer_of s (take most text)) e
 
-found_accepted : (s : State) (missing : Refusal) (file : Option (List ℕ)) → (or_refuse missing file >>= λ text. said_of s text) ≡ Ok tt
+found_accepted : (s : CheckerState) (missing : Refusal) (file : Option (List ℕ))
+    → (or_refuse missing file >>= λ text. said_of s text) ≡ Ok tt
     → (text : List ℕ) × (answer_of s text ≡ Checked Accepted)
 found_accepted s missing None e = absurd (cc)
 found_accepted s missing (Some text) e = (take most text, said_accepted s text e)
@@ -82,13 +83,14 @@ shown_some problem e numbers values law encoded spelled ordered (lines, log) = �
 -- ---- the answer of a check, by what it began with
 
 module _ (path : List ℕ) (problem : Problem) (numbers : Option (List ℕ)) (before : Option Files) where
-  begun_as : (files : Files) (o : Option State) → begun_for problem numbers ≡ o
+  begun_as : (files : Files) (o : Option CheckerState) → begun_for problem numbers ≡ o
       → (or_refuse (refusals.BadCertificate 1 faults.WrongBit) o >>= λ s. said_at files path s) ≡ certified_at files path problem numbers
   unfolding certified_at
-  begun_as files o is = ap (λ (o : Option State). or_refuse (refusals.BadCertificate 1 faults.WrongBit) o >>= λ s. said_at files path s) (sym is)
+  begun_as files o is =
+      ap (λ (o : Option CheckerState). or_refuse (refusals.BadCertificate 1 faults.WrongBit) o >>= λ s. said_at files path s) (sym is)
 
   -- what is said of the log is what is said of the certificate
-  pub certificate_read : (s : State) (result : Result (Unit {0}) ReadStop) → begun_for problem numbers ≡ Some s
+  pub certificate_read : (s : CheckerState) (result : Result (Unit {0}) ReadStop) → begun_for problem numbers ≡ Some s
       → IfSome before (λ files. Gives result (Is (said_at files path s)))
       → IfSome before (λ files. Gives result (Is (certified_at files path problem numbers)))
   certificate_read s result is read = read_over before read

@@ -4,7 +4,7 @@ use Rattle.std.specs.Option.{option_map}
 use Rattle.std.specs.FinMap.{get}
 use Rattle.outside_desk.specs.Files.{Files}
 use Rattle.criteria_totals.specs.Spellings.{bits_for}
-use Rattle.log_checker.specs.Steps.{State, begun}
+use Rattle.log_checker.specs.Steps.{CheckerState, begun}
 use Rattle.log_checker.specs.declared.step.Step.TheVariants.{Accepted, Refused}
 use Rattle.log_checker.specs.declared.step.Why.{Why}
 use Rattle.log_checker.specs.declared.step.Why.TheVariants as whys
@@ -48,20 +48,20 @@ abbrev pub most : ℕ
 most = 2 ^ 63 - 1
 
 -- what is said of a text: its first 2^63 - 1 bytes count, and there may be more only where these decide already
-unfoldable pub said_of : State → List ℕ → Result (Unit {0}) Refusal
+unfoldable pub said_of : CheckerState → List ℕ → Result (Unit {0}) Refusal
 said_of s text =
     if nat_le (length text) most || is_settled_by s (take most text) then verdict_of (answer_of s (take most text))
     else Err refusals.CertificateTooLarge
 
 -- what is said of the file at the path
-unfoldable pub said_at : Files → List ℕ → State → Result (Unit {0}) Refusal
+unfoldable pub said_at : Files → List ℕ → CheckerState → Result (Unit {0}) Refusal
 said_at files path s = do
   text ← or_refuse (refusals.MissingInput path) (get files path)
   said_of s text
 
 -- a checker of logs that are to show that these costs of a graph are the least, over the encoding of the problem; of costs that no
 -- bits spell, which no valid graph has, there is none. Without costs it is one of refutations of the rules
-abbrev pub begun_for : Problem → Option (List ℕ) → Option State
+abbrev pub begun_for : Problem → Option (List ℕ) → Option CheckerState
 begun_for problem None = Some (begun (rule_clauses problem) [] None)
 begun_for problem (Some numbers) =
     let e = encoding_of problem in option_map (λ values. begun e.clauses e.bits.lits (Some values)) (bits_for e.bits.tops numbers)

@@ -26,7 +26,7 @@ use Rattle.literal_table.specs.Spells.{SpellsOne, with_values, chosen_variants, 
 use Rattle.table_plan.specs.Gathering.{EachOnce}
 use Rattle.table_plan.specs.Offers.{OffersVariant, AreVariants}
 use Rattle.table_plan.proofs.GatherLaws.{only_one}
-use Rattle.table_plan.specs.Numbers.{lit_of, numbered, attribute, variants_from}
+use Rattle.table_plan.specs.Numbers.{positive_lit, numbered, attribute, variants_from}
 use Rattle.table_plan.specs.Spellings.{bits_of, value_bits}
 use Rattle.table_plan.proofs.ReadLaws.{Reads, reads_parts}
 
@@ -46,7 +46,7 @@ module _ (v : ℕ → Bool) where
   numbered_reads test n [] r = refl
   numbered_reads test n (x ∷ xs) r =
       let rest = numbered_reads test (n + 1) xs r.1 in
-      rw r.0 (elim (test x) as (λ b. map (λ c. c.0) (cond b ((x, lit_of n) ∷ filter (λ c. lit_true v c.1) (numbered (n + 1) xs))
+      rw r.0 (elim (test x) as (λ b. map (λ c. c.0) (cond b ((x, positive_lit n) ∷ filter (λ c. lit_true v c.1) (numbered (n + 1) xs))
       (filter (λ c. lit_true v c.1) (numbered (n + 1) xs))) ≡ cond b (x ∷ filter test xs) (filter test xs)) [
         | true ↦ ap (λ ys. x ∷ ys) rest
         | false ↦ rest

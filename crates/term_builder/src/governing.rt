@@ -22,7 +22,7 @@ fn push_said(
     condition: Defined,
 ) -> Result<(), AllocError>
     ensures { OnOk result (parts.new.items ≡ parts.old.items
-        ++ said_if counts (said_of condition)) }
+        ++ said_if counts (statement_of condition)) }
 {
     if !counts {
         return Ok(());
@@ -40,7 +40,7 @@ fn push_later(
     conditions: &[Defined],
 ) -> Result<(), AllocError>
     ensures { OnOk result (parts.new.items ≡ parts.old.items
-        ++ later variant.now rows.now (map said_of conditions.now)) }
+        ++ later variant.now rows.now (map statement_of conditions.now)) }
 {
     let mut left = conditions;
     for row in rows {
@@ -114,7 +114,7 @@ pub(crate) fn governs(
     conditions: &[Defined],
 ) -> Result<Formula, AllocError>
     ensures { IfOk result (λ formula. formula
-        ≡ governs variant.now (said_of condition) rows.now (map said_of conditions.now)) }
+        ≡ governs variant.now (statement_of condition) rows.now (map statement_of conditions.now)) }
 {
     let mut parts = Vec::new(alloc);
     push_later(alloc, &mut parts, variant, rows, conditions)?;

@@ -20,8 +20,8 @@ use Rattle.graph_core.specs.Graphs.{Text, pair_cmp}
 use Rattle.graph_core.specs.declared.node.Kinds.{Kinds}
 use Rattle.problem.specs.Nodes.{has_kind}
 use Rattle.graph_core.proofs.PairLaws.{pair_total, pair_exact}
-use Rattle.literal_table.specs.Choices.{Choices, any_choice, lits_of, passing}
-use Rattle.literal_table.specs.Tables.{Table, name_of, ends_of, virtual_of, variant_of, block_of, edge_lits_of, packages_of, packages_in, values_of, values_in}
+use Rattle.literal_table.specs.Choices.{Choices, any_choice, choice_lits, passing}
+use Rattle.literal_table.specs.Tables.{Table, block_name, ends_of_edge, provider_virtual, variant_of, block_of, edge_lits_of, packages_of, provider_packages, variant_choices, variant_choices_in}
 use Rattle.literal_table.specs.declared.block.Block.{Block}
 use Rattle.literal_table.specs.declared.block.EdgeLits.{EdgeLits}
 use Rattle.literal_table.specs.declared.block.ProviderLits.{ProviderLits}
@@ -29,7 +29,7 @@ use Rattle.graph_decoding.specs.Structure.{value_lits, kind_lits}
 use Rattle.graph_decoding.proofs.LocalLaws.{below-parts}
 use Rattle.literal_table.specs.Ranges.{AreBelow, IsBlockBelow, IsTableBelow}
 use Rattle.graph_formulas.specs.Facts as facts
-use Rattle.graph_formulas.specs.Facts.{Word, Fact, Variants, just_parts, some_parts, variant_parts, fact_said, said_in, kind_parts, edge_said, word_said, node_has, provides_as, has_edge, has_path}
+use Rattle.graph_formulas.specs.Facts.{GraphWord, Fact, Variants, just_parts, some_parts, variant_parts, fact_said, said_in, kind_parts, edge_said, word_said, node_has, provides_as, has_edge, has_path}
 use Rattle.graph_encoding.specs.Formulas.{PathFormulas, PathsBelow}
 use Rattle.valid_models.specs.Joined.{WordsBelow}
 
@@ -44,18 +44,18 @@ choice-below m test (c ∷ cs) h = choice-below-cases (test c.0) h.0 (choice-bel
     choice-below-cases true own rest = (own, rest)
     choice-below-cases false own rest = rest
 
-just-below : (m : ℕ) (cs : Choices Text) (xs : List Text) → AreBelow m cs → SaidBelow m (any_of (just_parts cs xs))
+just-below : (m : ℕ) (cs : Choices Text) (xs : List Text) → AreBelow m cs → SaidBelow m (any_statement (just_parts cs xs))
 just-below m [] [] h = tt
 just-below m [] (x ∷ xs) h = (tt, tt)
 just-below m (c ∷ cs) [] h = (h.0, just-below m cs [] h.1)
 just-below m (c ∷ cs) (x ∷ xs) h = just-below-cases (bytes_eq c.0 x) (just-below m cs xs h.1) (just-below m cs (x ∷ xs) h.1)
   where
-    just-below-cases : (b : Bool) → SaidBelow m (any_of (just_parts cs xs)) → SaidBelow m (any_of (just_parts cs (x ∷ xs)))
-        → SaidBelow m (any_of (if b then atom c.1 ∷ just_parts cs xs else atom (negation c.1) ∷ just_parts cs (x ∷ xs)))
+    just-below-cases : (b : Bool) → SaidBelow m (any_statement (just_parts cs xs)) → SaidBelow m (any_statement (just_parts cs (x ∷ xs)))
+        → SaidBelow m (any_statement (if b then atom c.1 ∷ just_parts cs xs else atom (negation c.1) ∷ just_parts cs (x ∷ xs)))
     just-below-cases true a b = (h.0, a)
     just-below-cases false a b = (h.0, b)
 
-some-below : (m : ℕ) (xs : List Text) → SaidBelow m (any_of (some_parts xs))
+some-below : (m : ℕ) (xs : List Text) → SaidBelow m (any_statement (some_parts xs))
 some-below m [] = (tt, tt)
 some-below m (x ∷ xs) = tt
 
@@ -63,9 +63,9 @@ variants-below : (m : ℕ) (us : List (Text × Choices Text)) (ws : Variants) �
     → SaidBelow m (any_of (variant_parts us ws))
 variants-below m [] [] h = tt
 variants-below m [] (w ∷ ws) h = (tt, tt)
-variants-below m (u ∷ us) [] h = let p = below-parts m (lits_of u.1) (value_lits us) h in
+variants-below m (u ∷ us) [] h = let p = below-parts m (choice_lits u.1) (value_lits us) h in
     any_of-below m (just_parts u.1 []) (variant_parts us []) (just-below m u.1 [] p.0) (variants-below m us [] p.1)
-variants-below m (u ∷ us) (w ∷ ws) h = let p = below-parts m (lits_of u.1) (value_lits us) h in
+variants-below m (u ∷ us) (w ∷ ws) h = let p = below-parts m (choice_lits u.1) (value_lits us) h in
     variants-below-cases p.0 (bytes_eq u.0 w.0) (variants-below m us ws p.1) (variants-below m us (w ∷ ws) p.1)
   where
     variants-below-cases : AreBelow m u.1 → (b : Bool) → SaidBelow m (any_of (variant_parts us ws))
@@ -82,8 +82,8 @@ found-below m [] variant h = tt
 found-below m (u ∷ us) variant h = let p = below-parts m (lits_of u.1) (value_lits us) h in
     found-below-cases p.0 (eq_by_cmp byte_cmp u.0 variant) (found-below m us variant p.1)
   where
-    found-below-cases : AreBelow m u.1 → (b : Bool) → AreBelow m (values_in (find_key byte_cmp variant_of us variant))
-        → AreBelow m (values_in (if b then Some u else find_key byte_cmp variant_of us variant))
+    found-below-cases : AreBelow m u.1 → (b : Bool) → AreBelow m (variant_choices_in (find_key byte_cmp variant_of us variant))
+        → AreBelow m (variant_choices_in (if b then Some u else find_key byte_cmp variant_of us variant))
     found-below-cases own true rest = own
     found-below-cases own false rest = rest
 
@@ -104,7 +104,7 @@ fact-below m b h (facts.has_single variant) = one_among-below m (lits_of (values
 fact-below m b h (facts.has_variants variants) =
     all_of-below m (atom b.present ∷ variant_parts b.variants variants) (h.present, variants-below m b.variants variants h.values)
 
-kind-below : (m : ℕ) (b : Bool) (l : Lit) → var_of l < m → SaidBelow m (any_of (kind_parts b l))
+kind-below : (m : ℕ) (b : Bool) (l : Lit) → var_of l < m → SaidBelow m (any_statement (kind_parts b l))
 kind-below m true l h = (h, tt)
 kind-below m false l h = tt
 
@@ -126,7 +126,8 @@ module _ (n : ℕ) (t : Table) (below : IsTableBelow n t) where
   block-below : (name : Text) (f : Fact) (o : Option Block) → block_of t name ≡ o → SaidBelow n (said_in (λ b. fact_said b f) o)
   block-below name f None at = tt
   block-below name f (Some b) at = fact-below n b
-      (All-contains (IsBlockBelow n) t.blocks b below.blocks (find_sound nat_list_cmp_total ties_are_equal name_of t.blocks name b at).0) f
+      (All-contains (IsBlockBelow n) t.blocks b below.blocks (find_sound nat_list_cmp_total ties_are_equal block_name t.blocks name b at).0)
+      f
 
   ends-below : (parent child : Text) (kinds : Kinds) (o : Option EdgeLits) → edge_lits_of t parent child ≡ o
       → SaidBelow n (said_in (edge_said kinds) o)

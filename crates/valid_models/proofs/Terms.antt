@@ -7,7 +7,7 @@ use Rattle.std.proofs.lemmas.List.Folds.{list_all-append, list_all-map}
 use Rattle.std.proofs.lemmas.Bool.{and_parts, and_from}
 use Rattle.spec_grammar.specs.declared.part.Spec.{Spec}
 use Rattle.clause_formulas.specs.Statements.{Statement, eval}
-use Rattle.clause_formulas.specs.Rules.{Rule, fact, if_so}
+use Rattle.clause_formulas.specs.Rules.{Proposition, fact, if_so}
 use Rattle.graph_core.specs.Graphs.{Text}
 use Rattle.variant_values.specs.declared.kind.VariantKind.{VariantKind}
 use Rattle.variant_values.specs.declared.kind.VariantKind.TheVariants as kinds
@@ -23,8 +23,8 @@ use Rattle.problem.specs.Problems.{Problem, world_of, variants_at, depends_at, c
 use Rattle.problem.specs.declared.demand.Demand.{Demand}
 use Rattle.problem.specs.declared.demand.Demand.TheVariants as demand
 use Rattle.literal_table.specs.Tables.{Table}
-use Rattle.graph_formulas.specs.Facts.{Word, word_said, has_edge, provides_as}
-use Rattle.graph_formulas.specs.Lists.{◌and◌, given, written, named, each, some, last_one, just_one}
+use Rattle.graph_formulas.specs.Facts.{GraphWord, word_said, has_edge, provides_as}
+use Rattle.graph_formulas.specs.Lists.{◌and◌, settled_test, where_written, one_keeps, each_keeps, some, last_one, just_one}
 use Rattle.graph_formulas.specs.Words.{names_for, rule_said}
 use Rattle.graph_formulas.specs.Parts.{holds_rule, asked_rule, suits_rule, provides_rule}
 use Rattle.graph_formulas.specs.Terms.{Term, known, met, term_said, known_rule, met_rule, built_rule}
@@ -61,7 +61,7 @@ module _ (problem : Problem) (v : ℕ → Bool) (t : Table) (path other : PathFo
     (condition another : Text → Condition → Statement)
     (same_met : (name : Text) (when : Condition) → list_all told (condition_names (world_of problem) (names_for t) when) ≡ true
     → eval v (condition name when) ≡ eval v (another name when)) where
-  abbrev W : Word → Type 0
+  abbrev W : GraphWord → Type 0
   W = Alike v t path other told same
 
   abbrev packages : Text → List Text
@@ -76,7 +76,7 @@ module _ (problem : Problem) (v : ℕ → Bool) (t : Table) (path other : PathFo
   abbrev pub is_told_spec : Spec → Bool
   is_told_spec spec = list_all told (spec_names (world_of problem) (names_for t) spec)
 
-  pub known-alike : (rule : Rule Word) → AllWords W rule → TermAlike (known rule)
+  pub known-alike : (rule : Proposition GraphWord) → AllWords W rule → TermAlike (known rule)
   known-alike rule h = said-alike v (word_said path t) (word_said other t) rule h
 
   spec-alike : (name : Text) (spec : Spec) → is_told_spec spec ≡ true → TermAlike (known (holds_rule (world_of problem) packages name spec))
@@ -260,7 +260,7 @@ module _ (problem : Problem) (v : ℕ → Bool) (t : Table) (path other : PathFo
         (all-filtered (λ name. list_all told (targets_at problem t name)) (may_use problem p.0) names e),
   )
 
-  pub of-provider-alike : (rule : Text × Text → Rule Term) → ((p : Text × Text) → AllWords TermAlike (rule p)) → (virtual : Text)
+  pub of-provider-alike : (rule : Text × Text → Proposition Term) → ((p : Text × Text) → AllWords TermAlike (rule p)) → (virtual : Text)
       → AllWords TermAlike (of_provider packages rule virtual)
   of-provider-alike rule h virtual = each-all TermAlike (λ p. if_so (known_rule (fact (provides_as virtual p))) (rule (virtual, p)))
       (λ p. (refl, h (virtual, p))) (packages virtual)

@@ -2,11 +2,11 @@
 use Rattle.std.proofs.Common.{◌≡◌, refl, sym, ap, subst, ◌∙◌, true, false, [], ◌∷◌, map, IfOk, Result, Ok}
 use Rattle.std.specs.Str.{bytes_eq}
 use Rattle.spec_grammar.specs.declared.part.Part.{Part}
-use Rattle.clause_formulas.specs.Statements.{Statement, any_of, both}
+use Rattle.clause_formulas.specs.Statements.{Statement, any_statement, both_statements}
 use Rattle.clause_formulas.specs.Rules.{fact, both_of}
 use Rattle.condition_rules.specs.Worlds.{World}
 use Rattle.graph_core.specs.Graphs.{Text}
-use Rattle.literal_table.specs.Choices.{Choices, offered}
+use Rattle.literal_table.specs.Choices.{Choices, choice_values}
 use Rattle.literal_table.specs.Tables.{Table, packages_of}
 use Rattle.virtuals.specs.Virtuals.{is_virtual}
 use Rattle.graph_formulas.specs.Facts.{word_said, provides_as}
@@ -21,7 +21,7 @@ use Rattle.word_formulas.proofs.Steps.{some-said, given-said}
 pub ok-at : {T E : Type 0} (r : Result T E) (x : T) (P : T → Type 0) → r ≡ Ok x → IfOk r P → P x
 ok-at r x P is h = subst (λ r. IfOk r P) is h
 
-pub over-offered : {T : Type 0} (f : T → Statement) (cs : Choices T) → map (λ c. f c.0) cs ≡ map f (offered cs)
+pub over-offered : {T : Type 0} (f : T → Statement) (cs : Choices T) → map (λ c. f c.0) cs ≡ map f (choice_values cs)
 over-offered f [] = refl
 over-offered f (c ∷ cs) = ap (λ l. f c.0 ∷ l) (over-offered f cs)
 

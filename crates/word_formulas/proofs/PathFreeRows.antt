@@ -4,15 +4,15 @@ use Rattle.std.specs.Prelude.{if◌then◌else◌}
 use Rattle.std.specs.Str.{bytes_eq}
 use Rattle.spec_grammar.specs.declared.part.Part.{Part}
 use Rattle.clause_formulas.specs.Statements.{Statement}
-use Rattle.clause_formulas.specs.Rules.{Rule, in_words, fact, both_of}
+use Rattle.clause_formulas.specs.Rules.{Proposition, in_words, fact, both_of}
 use Rattle.recipe_data.specs.declared.recipe.DependRow.{DependRow}
 use Rattle.condition_rules.specs.Worlds.{World}
 use Rattle.graph_core.specs.Graphs.{Text}
 use Rattle.literal_table.specs.Tables.{Table}
 use Rattle.problem.specs.Problems.{Problem, world_of}
 use Rattle.virtuals.specs.Virtuals.{is_virtual}
-use Rattle.graph_formulas.specs.Facts.{Word, word_said, provides_as, has_edge}
-use Rattle.graph_formulas.specs.Lists.{given, named, some}
+use Rattle.graph_formulas.specs.Facts.{GraphWord, word_said, provides_as, has_edge}
+use Rattle.graph_formulas.specs.Lists.{settled_test, one_keeps, some}
 use Rattle.graph_formulas.specs.Parts.{there_rule, asked_rule, suits_rule, provides_rule, rest_rule, meets_rule}
 use Rattle.graph_formulas.specs.Words.{rule_said}
 use Rattle.graph_formulas.specs.Directives.{edge_to, suits_asked}
@@ -23,14 +23,14 @@ use Rattle.word_formulas.proofs.PathFree.{some-agree, given-agree, rest-agree, m
 use Rattle.word_formulas.proofs.Steps.{both-same}
 
 module _ (path : Text → Text → Statement) (table : Table) where
-  abbrev f : Word → Statement
+  abbrev f : GraphWord → Statement
   f = word_said path table
 
-  abbrev g : Word → Statement
+  abbrev g : GraphWord → Statement
   g = word_said no_paths table
 
-  named-agree : {T : Type 0} (rule : T → Rule Word) → ((x : T) → in_words f (rule x) ≡ in_words g (rule x)) → (o : Option T)
-      → in_words f (named o rule) ≡ in_words g (named o rule)
+  named-agree : {T : Type 0} (rule : T → Proposition GraphWord) → ((x : T) → in_words f (rule x) ≡ in_words g (rule x)) → (o : Option T)
+      → in_words f (one_keeps o rule) ≡ in_words g (one_keeps o rule)
   named-agree rule same None = refl
   named-agree rule same (Some x) = same x
 

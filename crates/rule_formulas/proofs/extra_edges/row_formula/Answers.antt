@@ -1,5 +1,5 @@
 use Rattle.std.proofs.Common.{refl}
-use Rattle.clause_formulas.specs.Statements.{both}
+use Rattle.clause_formulas.specs.Statements.{both_statements}
 use Rattle.graph_formulas.specs.Words.{names_for}
 use Rattle.graph_formulas.specs.Edges.{asks_rule}
 use Rattle.word_formulas.specs.Asked.{asks_child}

@@ -1,5 +1,5 @@
 use Rattle.std.proofs.Common.{ap, ◌∙◌}
-use Rattle.clause_formulas.specs.Statements.{both, opposite}
+use Rattle.clause_formulas.specs.Statements.{both_statements, opposite}
 use Rattle.word_formulas.specs.Builders.{plain_said}
 use Rattle.word_formulas.proofs.Steps.{ok-same, ok-is, both-same}
 use Rattle.graph_formulas.specs.Variants.{allows_rule}

@@ -1,6 +1,6 @@
 use Rattle.std.proofs.Common.{◌∙◌, map}
 use Rattle.std.proofs.lemmas.Result.{IfOk-weaker}
-use Rattle.clause_formulas.specs.Drafts.{said_of}
+use Rattle.clause_formulas.specs.Drafts.{statement_of}
 use Rattle.term_builder.proofs.Later.{governs-is}
 use Rattle.term_builder.proofs.governing.governs.Goals as goal
 
