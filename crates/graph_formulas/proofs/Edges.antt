@@ -6,7 +6,7 @@ use Rattle.std.specs.Option.{option_and_then}
 use Rattle.std.specs.Str.{bytes_eq}
 use Rattle.std.proofs.lemmas.Bool.{cases_Bool, and_parts}
 use Rattle.virtuals.specs.Virtuals.{is_virtual}
-use Rattle.clause_formulas.specs.Rules.{Rule, fact, keeps_rule}
+use Rattle.clause_formulas.specs.Rules.{Proposition, fact, keeps_rule}
 use Rattle.graph_core.specs.Graphs.{Text}
 use Rattle.condition_rules.specs.Words.{is_one_text, implies, if_written, is_some_and}
 use Rattle.graph_core.specs.Graphs.{Content, node_of, provider_of, edge_of}
@@ -21,12 +21,12 @@ use Rattle.problem.specs.Problems.{Problem, world_of, depends_at}
 use Rattle.graph_rules.specs.Built.{asks, asking, asked_kinds}
 use Rattle.graph_rules.specs.Whole.{uses}
 use Rattle.graph_formulas.specs.Facts.{is_in, has_origin, provides_as}
-use Rattle.graph_formulas.specs.Lists.{given, some}
+use Rattle.graph_formulas.specs.Lists.{settled_test, some}
 use Rattle.literal_table.proofs.Spelling.{named-so}
 use Rattle.graph_formulas.proofs.Rules.{given-kept, each-kept, some-kept, named-kept}
 use Rattle.graph_formulas.proofs.Kept.{by_node, there}
-use Rattle.graph_formulas.specs.Terms.{Term, is_true, met_rule, builds}
-use Rattle.graph_formulas.specs.Edges.{asked_child, no_kinds, of_provider, asks_rule, may_ask, names_virtual, may_use, kind_rule, extra_edge_rule, use_rule}
+use Rattle.graph_formulas.specs.Terms.{Term, is_true, met_rule, builds_node}
+use Rattle.graph_formulas.specs.Edges.{asked_child, empty_kinds, of_provider, asks_rule, may_ask, names_virtual, may_use, kind_rule, extra_edge_rule, use_rule}
 use Rattle.graph_formulas.proofs.Directives.{LeadsToNodes, not-or, then-and}
 
 any-filter : {T : Type 0} (test f : T → Bool) (xs : List T) → list_any test (filter f xs) ≡ list_any (λ x. test x && f x) xs
@@ -139,7 +139,7 @@ module _ (problem : Problem) (packages : Text → List Text) (graph : Content)
       provided None = refl
       provided (Some p) = child-named child c child_here p
 
-      either-way : (b : Bool) → keeps_rule (is_in graph) (if b then fact (provides_as a child) else given (bytes_eq a child))
+      either-way : (b : Bool) → keeps_rule (is_in graph) (if b then fact (provides_as a child) else settled_test (bytes_eq a child))
           ≡ is_some_and (option_and_then (node_of graph) (if b then provider_of graph a else Some a)) (λ asked. bytes_eq asked.name child)
       either-way true = provided (provider_of graph a)
       either-way false = given-kept (is_in graph) (bytes_eq a child) ∙ child-named child c child_here a
@@ -279,7 +279,7 @@ all-true (x ∷ xs) = all-true xs
 
 pub of-provider-kept : (problem : Problem) (packages : Text → List Text) (graph : Content)
     → ((virtual p : Text) → provider_of graph virtual ≡ Some p → is_one_text (packages virtual) p ≡ true)
-    → (rule : Text × Text → Rule Term) (test : Text × Text → Bool)
+    → (rule : Text × Text → Proposition Term) (test : Text × Text → Bool)
     → ((p : Text × Text) → keeps_rule (is_true (world_of problem) graph) (rule p) ≡ test p)
     → (virtual : Text) → keeps_rule (is_true (world_of problem) graph) (of_provider packages rule virtual)
     ≡ if_written (provider_of graph virtual) (λ p. test (virtual, p))

@@ -7,7 +7,7 @@ use Rattle.std.specs.Option.{option_map, option_to_list, is_some}
 use Rattle.std.specs.Str.{bytes_eq}
 use Rattle.clause_store.specs.declared.Lit.{Lit}
 use Rattle.clause_store.specs.Lits.{lit_true}
-use Rattle.clause_formulas.specs.Statements.{Statement, eval, atom, all_of, all_eval}
+use Rattle.clause_formulas.specs.Statements.{Statement, eval, atom, all_statements, all_eval}
 use Rattle.clause_formulas.proofs.Words.{eval-all_of, all_eval-append}
 use Rattle.clause_formulas.proofs.FewLaws.{one-said}
 use Rattle.graph_core.specs.Graphs.{Text, Content, node_of, edge_of, provider_of}
@@ -94,7 +94,7 @@ module _ (v : ℕ → Bool) (b : Block) (o : Option Node) (s : SpellsNode v b o)
       variant-said-cases None = refl
       variant-said-cases (Some node) = refl
 
-  variants-said : (variants : Variants) → eval v (all_of (atom b.present ∷ variant_parts b.variants variants))
+  variants-said : (variants : Variants) → eval v (all_statements (atom b.present ∷ variant_parts b.variants variants))
       ≡ is_some_and o (λ node. same_variants node.variants variants)
   variants-said variants =
       eval-all_of v (atom b.present ∷ variant_parts b.variants variants)

@@ -10,21 +10,21 @@ use Rattle.graph_core.specs.declared.node.Kinds.{Kinds}
 use Rattle.virtuals.specs.Virtuals.{is_virtual}
 use Rattle.recipe_data.specs.declared.recipe.DependRow.{DependRow}
 use Rattle.problem.specs.Problems.{Problem, world_of, depends_at}
-use Rattle.graph_formulas.specs.Facts.{Word, provides_as, has_edge}
-use Rattle.graph_formulas.specs.Lists.{◌and◌, given, named, each, some}
+use Rattle.graph_formulas.specs.Facts.{GraphWord, provides_as, has_edge}
+use Rattle.graph_formulas.specs.Lists.{◌and◌, settled_test, one_keeps, each_keeps, some}
 use Rattle.graph_formulas.specs.Terms.{Term, known_rule, met_rule, built_rule}
 
 abbrev pub empty_kinds : Kinds
 empty_kinds = record { build = false; link = false; run = false }
 
 -- a name asks for this child, where that is there: it is the child's own, or that of a virtual which the child provides
-abbrev pub asked_child : World → Text → Text → Rule Word
-asked_child world child asked = if is_virtual world.recipes asked then fact (provides_as asked child) else given (bytes_eq asked child)
+abbrev pub asked_child : World → Text → Text → Rule GraphWord
+asked_child world child asked = if is_virtual world.recipes asked then fact (provides_as asked child) else settled_test (bytes_eq asked child)
 
 module _ (problem : Problem) (packages : Text → List Text) where
   -- the row holds at the node and asks for this child, where that is there
   abbrev pub asks_rule : Text → Text → DependRow → Rule Term
-  asks_rule name child row = met_rule name row.when and known_rule (named row.part.name (asked_child (world_of problem) child))
+  asks_rule name child row = met_rule name row.when and known_rule (one_keeps row.part.name (asked_child (world_of problem) child))
 
   -- the row may ask for this child, by its name or by a virtual
   abbrev pub may_ask : Text → DependRow → Bool

@@ -85,8 +85,8 @@ unfoldable pub last_halved : {W T : Type 0} → ℕ → (T → Rule W) → (T �
 last_halved zero passes rule xs = last_in_turn passes rule xs
 last_halved (suc times) passes rule xs =
     if nat_lt 8 (length xs)
-    then last_of_halves passes (drop (half_of xs) xs) (last_halved times passes rule (take (half_of xs) xs))
-    (last_halved times passes rule (drop (half_of xs) xs))
+    then last_of_halves passes (drop (half_length xs) xs) (last_halved times passes rule (take (half_length xs) xs))
+    (last_halved times passes rule (drop (half_length xs) xs))
     else last_in_turn passes rule xs
 
 -- there is a last one that passes, and it keeps the rule

@@ -1,6 +1,6 @@
 // The row of the rule of providers.
 ghost use Rattle.std.specs.Prelude.{◌≡◌, IfOk, map};
-ghost use Rattle.clause_formulas.specs.Statements.{all_of};
+ghost use Rattle.clause_formulas.specs.Statements.{all_statements};
 ghost use Rattle.graph_formulas.specs.Built.{provider_rule};
 ghost use Rattle.node_formulas.specs.Rows.{provided_said, providers_said, provided_row};
 ghost use Rattle.word_formulas.specs.Builders.{plain_said};

@@ -4,8 +4,8 @@ use Rattle.std.specs.Borrow.{Bor}
 use Rattle.std.proofs.lemmas.List.{length-map}
 use Rattle.variant_values.specs.declared.kind.VariantKind.{VariantKind}
 use Rattle.variant_values.specs.declared.kind.VariantKind.TheVariants as kinds
-use Rattle.clause_formulas.specs.Statements.{Statement, any_of, both, implies, opposite}
-use Rattle.clause_formulas.specs.Rules.{Rule, in_words}
+use Rattle.clause_formulas.specs.Statements.{Statement, any_statement, both_statements, implication_of, opposite}
+use Rattle.clause_formulas.specs.Rules.{Proposition, in_words}
 use Rattle.graph_core.specs.Graphs.{Text}
 use Rattle.recipe_data.specs.declared.recipe.Condition.{Condition}
 use Rattle.recipe_data.specs.declared.recipe.VariantRow.{VariantRow}
@@ -13,7 +13,7 @@ use Rattle.literal_table.specs.Tables.{Table}
 use Rattle.problem.specs.Problems.{Problem}
 use Rattle.condition_rules.specs.Words.{is_one_text}
 use Rattle.graph_formulas.specs.Facts.{has_value, node_has, word_said}
-use Rattle.graph_formulas.specs.Lists.{some, half_of, last_in_turn, last_halved, last_one}
+use Rattle.graph_formulas.specs.Lists.{some, half_length, last_in_turn, last_halved, last_one}
 use Rattle.graph_formulas.specs.Words.{rule_said}
 use Rattle.graph_formulas.specs.Terms.{Term, term_said, known_rule, met_rule}
 use Rattle.graph_formulas.specs.Variants.{count_rule, allows_rule, definitions, variant_there_rule, variant_rule, variants_rule}
@@ -27,10 +27,10 @@ module _ (t : Table) (condition : Text → Condition → Statement) (name varian
   abbrev g : Term → Statement
   g = term_said no_paths condition t
 
-  abbrev met : VariantRow → Rule Term
+  abbrev met : VariantRow → Proposition Term
   met row = met_rule name row.when
 
-  abbrev allowed : VariantRow → Rule Term
+  abbrev allowed : VariantRow → Proposition Term
   allowed row = known_rule (allows_rule name variant row)
 
   abbrev own : Bor VariantRow → VariantRow
@@ -42,26 +42,26 @@ module _ (t : Table) (condition : Text → Condition → Statement) (name varian
   pub met-is : (rows : Definitions) (ds : List VariantRow) → map own rows ≡ ds → met_said condition name rows ≡ in_words g (some met ds)
   met-is rows ds same = met-said rows ∙ ap (in_words g) (some-mapped met met own rows) ∙ ap (λ ds. in_words g (some met ds)) same
 
-  in-turn-said : (rows : Definitions) → any_of (last_parts t condition name variant rows)
+  in-turn-said : (rows : Definitions) → any_statement (last_parts t condition name variant rows)
       ≡ in_words g (last_in_turn (met_by name) (allowed_by name variant) rows)
   in-turn-said [] = refl
   in-turn-said (row ∷ rows) = rw (met-said rows, in-turn-said rows) refl
 
   pub turn-none : (times : ℕ) (rows : Definitions) → times ≡ 0
-      → any_of (last_parts t condition name variant rows) ≡ last_said t condition name variant times rows
+      → any_statement (last_parts t condition name variant rows) ≡ last_said t condition name variant times rows
   turn-none times rows e = in-turn-said rows ∙ ap (in_words g) (sym (halved-none (met_by name) (allowed_by name variant) times rows e))
 
   pub turn-short : (times : ℕ) (rows : Definitions) → length rows ≤ 8
-      → any_of (last_parts t condition name variant rows) ≡ last_said t condition name variant times rows
+      → any_statement (last_parts t condition name variant rows) ≡ last_said t condition name variant times rows
   turn-short times rows le = in-turn-said rows ∙ ap (in_words g) (sym (halved-short (met_by name) (allowed_by name variant) times rows le))
 
   pub halves-said : (times : ℕ) (rows : Definitions) (front back : Statement) → (times ≡ 0 → ⊥) → 8 < length rows
-      → front ≡ last_said t condition name variant (times - 1) (take (half_of rows) rows)
-      → back ≡ last_said t condition name variant (times - 1) (drop (half_of rows) rows)
-      → any_of (both (opposite (met_said condition name (drop (half_of rows) rows))) front ∷ back ∷ []) ≡ last_said t condition name
+      → front ≡ last_said t condition name variant (times - 1) (take (half_length rows) rows)
+      → back ≡ last_said t condition name variant (times - 1) (drop (half_length rows) rows)
+      → any_statement (both_statements (opposite (met_said condition name (drop (half_length rows) rows))) front ∷ back ∷ []) ≡ last_said t condition name
       variant times rows
   halves-said times rows front back some long first second =
-      rw (first, second, met-said (drop (half_of rows) rows)) refl
+      rw (first, second, met-said (drop (half_length rows) rows)) refl
       ∙ ap (in_words g) (sym (halved-long (met_by name) (allowed_by name variant) times rows some long))
 
   pub last-is : (rows : Definitions) (ds : List VariantRow) → map own rows ≡ ds
@@ -100,9 +100,9 @@ module _ (path : Text → Text → Statement) (condition : Text → Condition �
 
   variant-agree : (name variant : Text) → in_words f (variant_rule problem name variant) ≡ in_words h (variant_rule problem name variant)
   variant-agree name variant = both-same _ _ _ _
-      (ap (λ s. implies s (in_words h (variant_there_rule name variant)))
+      (ap (λ s. implication_of s (in_words h (variant_there_rule name variant)))
       (some-agree f h (λ row. met_rule name row.when) (λ row. refl) (definitions problem name variant)))
-      (ap (λ s. implies (in_words h (variant_there_rule name variant)) s) (last-agree name variant (definitions problem name variant)))
+      (ap (λ s. implication_of (in_words h (variant_there_rule name variant)) s) (last-agree name variant (definitions problem name variant)))
 
   pub variants-agree : (variants : List Text) (name : Text)
       → in_words f (variants_rule problem variants name) ≡ in_words h (variants_rule problem variants name)

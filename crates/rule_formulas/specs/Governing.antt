@@ -1,8 +1,8 @@
 -- Which definition of a variant governs, as formulas.
 use Rattle.std.specs.Prelude.{ℕ, List, [], ◌∷◌, map}
 use Rattle.std.specs.Borrow.{Bor}
-use Rattle.clause_formulas.specs.Statements.{Statement, any_of, both, opposite}
-use Rattle.clause_formulas.specs.Rules.{Rule}
+use Rattle.clause_formulas.specs.Statements.{Statement, any_statement, both_statements, opposite}
+use Rattle.clause_formulas.specs.Rules.{Proposition}
 use Rattle.graph_core.specs.Graphs.{Text}
 use Rattle.recipe_data.specs.declared.recipe.Condition.{Condition}
 use Rattle.recipe_data.specs.declared.recipe.VariantRow.{VariantRow}
@@ -19,12 +19,12 @@ Definitions = List (Bor VariantRow)
 
 -- the condition of some definition is met
 abbrev pub met_said : (Text → Condition → Statement) → Text → Definitions → Statement
-met_said condition name rows = any_of (map (λ row. condition name row.now.when) rows)
+met_said condition name rows = any_statement (map (λ row. condition name row.now.when) rows)
 
 module _ (t : Table) (condition : Text → Condition → Statement) (name variant : Text) where
   -- the condition is met, and none of the later definitions; and the definition allows the values
   abbrev pub governs_said : VariantRow → Definitions → Statement
-  governs_said row rest = both (both (opposite (met_said condition name rest)) (condition name row.when))
+  governs_said row rest = both_statements (both_statements (opposite (met_said condition name rest)) (condition name row.when))
       (plain_said t (allows_rule name variant row))
 
   -- of each of these definitions
@@ -32,10 +32,10 @@ module _ (t : Table) (condition : Text → Condition → Statement) (name varian
   last_parts [] = []
   last_parts (row ∷ rows) = governs_said row.now rows ∷ last_parts rows
 
-abbrev pub met_by : Text → Bor VariantRow → Rule Term
+abbrev pub met_by : Text → Bor VariantRow → Proposition Term
 met_by name row = met_rule name row.now.when
 
-abbrev pub allowed_by : Text → Text → Bor VariantRow → Rule Term
+abbrev pub allowed_by : Text → Text → Bor VariantRow → Proposition Term
 allowed_by name variant row = known_rule (allows_rule name variant row.now)
 
 -- some definition governs, and allows the values: the list is halved, so many times at most

@@ -1,7 +1,7 @@
 //! Formulas of the variants of a node to build.
 ghost use Rattle.std.specs.Prelude.{◌≡◌, ◌++◌, ◌∷◌, [], map, filter, IfOk, OnOk};
 ghost use Rattle.std.specs.Str.{bytes_eq};
-ghost use Rattle.clause_formulas.specs.Statements.{any_of, both, opposite};
+ghost use Rattle.clause_formulas.specs.Statements.{any_statement, both_statements, opposite};
 ghost use Rattle.graph_formulas.specs.Variants.{variant_rule, variants_rule};
 ghost use Rattle.graph_formulas.specs.Laws.{variants_of};
 ghost use Rattle.rule_formulas.specs.Terms.{plain_term};
@@ -131,7 +131,7 @@ fn join_halves<C: MetConditions>(
     front: Formula,
     back: Formula,
 ) -> Result<Formula, AllocError>
-    ensures { IfOk result (λ formula. formula ≡ any_of (both (opposite
+    ensures { IfOk result (λ formula. formula ≡ any_statement (both_statements (opposite
         (met_said (C.condition_of conditions.now) name.now rows.now)) front ∷ back ∷ [])) }
 {
     let later = met_formula(alloc, conditions, name, rows)?;

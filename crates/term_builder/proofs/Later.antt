@@ -2,7 +2,7 @@
 use Prim.Native.Nat.{zero, suc}
 use Rattle.std.proofs.Common.{◌≡◌, refl, sym, ap, ◌∙◌, ℕ, ◌-◌, ◌/◌, ◌<◌, List, [], ◌∷◌, ◌++◌, take, drop, length, nat_lt, arith, append_assoc, true, false}
 use Rattle.std.proofs.lemmas.Bool.Decides.{nat_tests}
-use Rattle.clause_formulas.specs.Statements.{Statement, both}
+use Rattle.clause_formulas.specs.Statements.{Statement, both_statements}
 use Rattle.graph_core.specs.Graphs.{Text}
 use Rattle.recipe_data.specs.declared.recipe.VariantRow.{VariantRow}
 use Rattle.cost_terms.specs.Blocks.{block_of, blocks_of, none_among}
@@ -10,11 +10,11 @@ use Rattle.term_builder.specs.VariantTerms.{later, governs}
 
 -- a condition that holds, and none of the later definitions' that was gathered, is the formula that governs
 pub governs-is : (variant : Text) (f said none : Statement) (rows : List VariantRow) (fs start parts : List Statement) → said ≡ f
-    → start ≡ [] → parts ≡ start ++ later variant rows fs → none ≡ none_among parts → both said none ≡ governs variant f rows fs
+    → start ≡ [] → parts ≡ start ++ later variant rows fs → none ≡ none_among parts → both_statements said none ≡ governs variant f rows fs
 governs-is variant f said none rows fs start parts s z p n =
     let is : parts ≡ later variant rows fs = p ∙ ap (λ ts. ts ++ later variant rows fs) z in
     let last : none ≡ none_among (later variant rows fs) = n ∙ ap none_among is in
-    λ i. both (s i) (last i)
+    λ i. both_statements (s i) (last i)
 
 -- no block is cut off
 pub blocks-none : (times size : ℕ) (fs : List Statement) → times ≡ 0 → blocks_of times size fs ≡ fs

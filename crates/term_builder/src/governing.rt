@@ -1,6 +1,6 @@
 //! Which definition of a variant governs.
 ghost use Rattle.std.specs.Prelude.{◌≡◌, ◌++◌, map, IfOk, OnOk};
-ghost use Rattle.clause_formulas.specs.Drafts.{said_of};
+ghost use Rattle.clause_formulas.specs.Drafts.{statement_of};
 ghost use Rattle.cost_terms.specs.Blocks.{block_of, blocks_of, none_among};
 ghost use Rattle.term_builder.specs.VariantTerms.{said_if, later, governs};
 

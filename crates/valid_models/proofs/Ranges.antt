@@ -8,7 +8,7 @@ use Rattle.std.specs.Ordering.{eq_by_cmp}
 use Rattle.clause_store.specs.declared.Lit.{Lit}
 use Rattle.clause_store.specs.Lits.{var_of, negation, AllBelow}
 use Rattle.clause_store.proofs.Range.{AllBelow-le}
-use Rattle.clause_formulas.specs.Statements.{Statement, atom, never, any_of, all_of, SaidBelow}
+use Rattle.clause_formulas.specs.Statements.{Statement, atom, never, any_statement, all_statements, SaidBelow}
 use Rattle.clause_formulas.proofs.FewLaws.{one_among-below}
 use Rattle.clause_formulas.proofs.Words.{any_of-below, all_of-below}
 use Rattle.clause_formulas.proofs.DraftLaws.{SaidBelow-le}
@@ -40,7 +40,7 @@ choice-below m test [] h = tt
 choice-below m test (c ∷ cs) h = choice-below-cases (test c.0) h.0 (choice-below m test cs h.1)
   where
     choice-below-cases : (b : Bool) → var_of c.1 < m → SaidBelow m (any_choice test cs)
-        → SaidBelow m (any_of (map (λ d. atom d.1) (if b then c ∷ passing test cs else passing test cs)))
+        → SaidBelow m (any_statement (map (λ d. atom d.1) (if b then c ∷ passing test cs else passing test cs)))
     choice-below-cases true own rest = (own, rest)
     choice-below-cases false own rest = rest
 
@@ -60,7 +60,7 @@ some-below m [] = (tt, tt)
 some-below m (x ∷ xs) = tt
 
 variants-below : (m : ℕ) (us : List (Text × Choices Text)) (ws : Variants) → AllBelow m (value_lits us)
-    → SaidBelow m (any_of (variant_parts us ws))
+    → SaidBelow m (any_statement (variant_parts us ws))
 variants-below m [] [] h = tt
 variants-below m [] (w ∷ ws) h = (tt, tt)
 variants-below m (u ∷ us) [] h = let p = below-parts m (choice_lits u.1) (value_lits us) h in
@@ -68,9 +68,9 @@ variants-below m (u ∷ us) [] h = let p = below-parts m (choice_lits u.1) (valu
 variants-below m (u ∷ us) (w ∷ ws) h = let p = below-parts m (choice_lits u.1) (value_lits us) h in
     variants-below-cases p.0 (bytes_eq u.0 w.0) (variants-below m us ws p.1) (variants-below m us (w ∷ ws) p.1)
   where
-    variants-below-cases : AreBelow m u.1 → (b : Bool) → SaidBelow m (any_of (variant_parts us ws))
-        → SaidBelow m (any_of (variant_parts us (w ∷ ws)))
-        → SaidBelow m (any_of (if b then some_parts w.1 ++ (just_parts u.1 w.1 ++ variant_parts us ws) else just_parts u.1 []
+    variants-below-cases : AreBelow m u.1 → (b : Bool) → SaidBelow m (any_statement (variant_parts us ws))
+        → SaidBelow m (any_statement (variant_parts us (w ∷ ws)))
+        → SaidBelow m (any_statement (if b then some_parts w.1 ++ (just_parts u.1 w.1 ++ variant_parts us ws) else just_parts u.1 []
         ++ variant_parts us (w ∷ ws)))
     variants-below-cases own true a b = any_of-below m (some_parts w.1) (just_parts u.1 w.1 ++ variant_parts us ws) (some-below m w.1)
         (any_of-below m (just_parts u.1 w.1) (variant_parts us ws) (just-below m u.1 w.1 own) a)
@@ -112,8 +112,8 @@ edge-below : (m : ℕ) (kinds : Kinds) (e : EdgeLits) → AllBelow m (kind_lits 
 edge-below m kinds e h = edge-below-cases (has_kind kinds)
   where
     edge-below-cases : (b : Bool) → SaidBelow m
-        (if b then all_of (kind_parts kinds.build e.build ++ (kind_parts kinds.link e.link ++ kind_parts kinds.run e.run))
-        else any_of (atom e.build ∷ atom e.link ∷ atom e.run ∷ []))
+        (if b then all_statements (kind_parts kinds.build e.build ++ (kind_parts kinds.link e.link ++ kind_parts kinds.run e.run))
+        else any_statement (atom e.build ∷ atom e.link ∷ atom e.run ∷ []))
     edge-below-cases true =
         all_of-below m (kind_parts kinds.build e.build ++ (kind_parts kinds.link e.link ++ kind_parts kinds.run e.run))
         (any_of-below m (kind_parts kinds.build e.build) (kind_parts kinds.link e.link ++ kind_parts kinds.run e.run)

@@ -29,7 +29,7 @@ use Rattle.graph_formulas.specs.Words.{names_for, rule_said}
 use Rattle.graph_formulas.specs.Parts.{holds_rule, asked_rule, suits_rule, provides_rule}
 use Rattle.graph_formulas.specs.Terms.{Term, known, met, term_said, known_rule, met_rule, built_rule}
 use Rattle.graph_formulas.specs.Directives.{root_rule, edge_to, edge_rule, suits_asked, constraint_rule, conflict_rule, choice_rule, requirement_rule}
-use Rattle.graph_formulas.specs.Edges.{no_kinds, asked_child, asks_rule, may_ask, names_virtual, may_use, kind_rule, extra_edge_rule, extra_edges_rule, use_rule, used_rule, of_provider}
+use Rattle.graph_formulas.specs.Edges.{empty_kinds, asked_child, asks_rule, may_ask, names_virtual, may_use, kind_rule, extra_edge_rule, extra_edges_rule, use_rule, used_rule, of_provider}
 use Rattle.graph_formulas.specs.Variants.{count_rule, definitions, variant_rule, variants_rule, allows_rule}
 use Rattle.graph_formulas.specs.Demands.{directive_rule}
 use Rattle.graph_encoding.specs.Formulas.{PathFormulas}
@@ -236,11 +236,11 @@ module _ (problem : Problem) (v : ℕ → Bool) (t : Table) (path other : PathFo
     extra-edges-alike children = each-all TermAlike (extra_edge_rule problem packages name)
         (λ child. (
           (
-            kind-alike child (record no_kinds { build = true }) (λ kinds. kinds.build),
-            kind-alike child (record no_kinds { link = true })
+            kind-alike child (record empty_kinds { build = true }) (λ kinds. kinds.build),
+            kind-alike child (record empty_kinds { link = true })
                 (λ kinds. kinds.link),
           ),
-          kind-alike child (record no_kinds { run = true }) (λ kinds. kinds.run),
+          kind-alike child (record empty_kinds { run = true }) (λ kinds. kinds.run),
         )) children
 
     pub use-alike : (p : Text × Text) → AllWords TermAlike (use_rule problem p name)

@@ -1,5 +1,5 @@
 use Rattle.std.proofs.Common.{◌≡◌, [], ◌∷◌, ◌∙◌, ◌/◌, ◌-◌, ap, length, take, drop}
-use Rattle.clause_formulas.specs.Statements.{any_of, both, opposite}
+use Rattle.clause_formulas.specs.Statements.{any_statement, both_statements, opposite}
 use Rattle.word_formulas.proofs.Steps.{ok-same}
 use Rattle.rule_formulas.specs.Governing.{Definitions, met_said, last_parts, last_said}
 use Rattle.rule_formulas.proofs.Governing.{turn-none, turn-short, halves-said}
@@ -12,7 +12,7 @@ returns-then-times-eq0 g t c =
     let name = c.args.name.now in
     let variant = c.args.variant.now in
     let rows = c.args.rows.now in
-    ok-same c.last_in_turn.result (any_of (last_parts table condition name variant rows))
+    ok-same c.last_in_turn.result (any_statement (last_parts table condition name variant rows))
     (last_said table condition name variant c.args.times rows)
     (turn-none table condition name variant c.args.times rows c.if-times-eq0.true) c.last_in_turn.ensures
 
@@ -23,7 +23,7 @@ returns-then-rows-le-SHORT g t c =
     let name = c.args.name.now in
     let variant = c.args.variant.now in
     let rows = c.args.rows.now in
-    ok-same c.last_in_turn-then-rows-le-SHORT.result (any_of (last_parts table condition name variant rows))
+    ok-same c.last_in_turn-then-rows-le-SHORT.result (any_statement (last_parts table condition name variant rows))
     (last_said table condition name variant c.args.times rows)
     (turn-short table condition name variant c.args.times rows c.if-rows-le-SHORT.true) c.last_in_turn-then-rows-le-SHORT.ensures
 
@@ -39,9 +39,9 @@ returns g t c =
     let second : c.split_at.result.1.now ≡ drop (length rows / 2) rows = c.split_at.ensures.back in
     let front = c.in_ok-front.front in
     let back = c.in_ok-back.back in
-    ok-same c.join_halves.result (any_of (both (opposite (met_said condition name c.split_at.result.1.now)) front ∷ back ∷ []))
+    ok-same c.join_halves.result (any_statement (both_statements (opposite (met_said condition name c.split_at.result.1.now)) front ∷ back ∷ []))
     (last_said table condition name variant c.args.times rows)
-    (ap (λ (part : Definitions). any_of (both (opposite (met_said condition name part)) front ∷ back ∷ [])) second
+    (ap (λ (part : Definitions). any_statement (both_statements (opposite (met_said condition name part)) front ∷ back ∷ [])) second
     ∙ halves-said table condition name variant c.args.times rows front back c.if-times-eq0.false c.if-rows-le-SHORT.false
     (c.in_ok-front.ensures ∙ ap said first) (c.in_ok-back.ensures ∙ ap said second))
     c.join_halves.ensures

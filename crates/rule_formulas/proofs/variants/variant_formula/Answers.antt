@@ -1,7 +1,7 @@
 use Rattle.std.proofs.Common.{◌≡◌, ap, ◌∙◌, ◌/◌, map, filter, length}
 use Rattle.std.specs.Borrow.{Bor}
 use Rattle.std.specs.Str.{bytes_eq}
-use Rattle.clause_formulas.specs.Statements.{both}
+use Rattle.clause_formulas.specs.Statements.{both_statements}
 use Rattle.word_formulas.specs.Builders.{node_said}
 use Rattle.word_formulas.proofs.Steps.{ok-same, ok-is, both-same, implies-same}
 use Rattle.rule_formulas.specs.Terms.{plain_term}
@@ -34,6 +34,6 @@ returns g c =
     c.in_ok-last.was c.last_formula.ensures
     ∙ last-is table condition name variant rows ds same in
     let where_there = c.in_ok-where_there.ensures ∙ implies-same _ _ _ _ again last in
-    ok-same c.both.result (both c.in_ok-where_met.where_met c.in_ok-where_there.where_there)
+    ok-same c.both.result (both_statements c.in_ok-where_met.where_met c.in_ok-where_there.where_there)
     (plain_term table condition (variant_rule problem name variant))
     (both-same _ _ _ _ where_met where_there) c.both.ensures
