@@ -17,7 +17,7 @@ use Rattle.cost_terms.specs.declared.weighted.Weighted.{Weighted}
 use Rattle.cost_terms.specs.Weighed.{top_said}
 use Rattle.cost_terms.specs.Differ.{differ_said, differ_terms, can_differ}
 use Rattle.cost_terms.specs.Blocks.{none_among}
-use Rattle.cost_terms.specs.Governing.{Row, with_formulas, formulas_of, governing_rows, once as once_term, other_terms, unused_terms}
+use Rattle.cost_terms.specs.Governing.{Row, with_formulas, formulas_of, governing_rows, weighed_once as once_term, other_terms, unused_terms}
 use Rattle.literal_table.specs.Edges.{edge_there}
 use Rattle.cost_terms.specs.Terms.{child_terms, edge_terms, edges_terms}
 use Rattle.cost_terms.proofs.Lists.{sum-map, sum-flat}
