@@ -15,7 +15,7 @@ use Rattle.run_output.specs.Stop.TheVariants.{Write}
 use Rattle.run_output.specs.Task.{Task}
 use Rattle.run_output.specs.Task.TheVariants as tasks
 use Rattle.run_output.specs.Tasks.{Named, IsOf}
-use Rattle.run_output.specs.Words.{Command, command_of, is_dash, lock_path, cert_path}
+use Rattle.run_output.specs.Words.{Command, command_of, is_dash_path, lock_path, cert_path}
 use Rattle.run_output.specs.Work.{Work}
 use Rattle.run_output.specs.Work.TheVariants as works
 use Rattle.run_output.specs.WriteStop.{WriteStop}
@@ -95,7 +95,7 @@ is_concretize (works.Trial packages seed) input of = absurd of
 put_path : (words : List (List ℕ)) (lock cert : List ℕ) (input : Input) (answer : Answer) (at : List ℕ) (before after : Option Files)
     → lock ≡ lock_path words → cert ≡ cert_path words → IsHalfPut lock cert input.problem answer at before after → IsPutPath words at
 put_path words lock cert input answer at before after is_lock is_cert (inl (same, (dash, held))) =
-    inr (same ∙ is_cert, subst (λ (c : List ℕ). is_dash c ≡ false) is_cert dash)
+    inr (same ∙ is_cert, subst (λ (c : List ℕ). is_dash_path c ≡ false) is_cert dash)
 put_path words lock cert input answer at before after is_lock is_cert (inr (same, held)) = inl (same ∙ is_lock)
 
 follows_here : (told : Option Files) (words : List (List ℕ)) (lock cert : List ℕ) (task : Task) (stop : WriteStop) (before after : Option Files)

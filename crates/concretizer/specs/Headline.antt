@@ -12,7 +12,7 @@ use Rattle.run_output.specs.Shown.{IsShown}
 use Rattle.run_output.specs.Words.{Command, command_of, lock_path, cert_path}
 use Rattle.run_output.specs.Task.{Task}
 use Rattle.run_output.specs.Tasks.{Poses}
-use Rattle.run_output.specs.Refusals.{status_of, line_of}
+use Rattle.run_output.specs.Refusals.{status_of, line_of_refusal}
 use Rattle.run_output.specs.Stop.{Stop}
 use Rattle.run_output.specs.Stops.{read_fault_line, write_fault_line, output_fault_line, no_memory_line, stop_line, usage_line}
 use Rattle.run_output.specs.Answers.{IsFinished, HasNone, HasSpent, IsHalfDone, IsUntold, KeepsWhole}
@@ -76,7 +76,7 @@ pub record IsRefused (sense : Sense) (files : Files) (words : List (List ℕ)) (
   pub status : answer ≡ status_of refusal
   pub unchanged : after ≡ Some files
   pub output : IsSilent out
-  pub errors : Says err (line_of refusal)
+  pub errors : Says err (line_of_refusal refusal)
 
 -- ReadFault: the desk failed to read the settings, the folder of packages, a recipe that it names, the database, or what the command
 -- looks at besides: the lock file (`judge`, `check`), the certificate (`check`, `refute`); and that was said

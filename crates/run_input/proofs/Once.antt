@@ -19,7 +19,7 @@ use Rattle.run_input.specs.Sources.{Source, pile_of}
 use Rattle.run_words.specs.Words.{Command}
 use Rattle.run_input.specs.Recipes.{recipes_of}
 use Rattle.run_input.specs.Roots.{SpecsOf, RootsOf, short, roots_of}
-use Rattle.run_input.specs.Inputs.{apart_of, Over, InRepository, posed_by, closed_of, InputBy, Asked, Behind, OverSettings, Reads}
+use Rattle.run_input.specs.Inputs.{apart_of, OverSources, InRepository, posed_by, closed_of, InputBy, OverSpecs, Behind, OverSettings, ReadsInput}
 
 -- what holds of reading specs
 pub record ReadsOnce : Type 0 where
@@ -40,14 +40,14 @@ one_roots laws text =
     one_then (Is (short text)) (λ done. Then (SpecsOf text) (λ specs. Is (roots_of specs))) (one_is (short text))
     (λ done. one_then (SpecsOf text) (λ specs. Is (roots_of specs)) (one_specs laws text) (λ specs. one_is (roots_of specs)))
 
-one_over : (sources : List Source) → IsOne (Over sources)
+one_over : (sources : List Source) → IsOne (OverSources sources)
 one_over sources =
     one_then (Is (recipes_of sources)) (λ recipes. Then (Is (apart_of recipes)) (λ done. Is (Ok recipes))) (one_is (recipes_of sources))
     (λ recipes. one_then (Is (apart_of recipes)) (λ done. Is (Ok recipes)) (one_is (apart_of recipes)) (λ done. one_is (Ok recipes)))
 
 one_in_repository : (files : Files) (repo : List ℕ) → IsOne (InRepository files repo)
 one_in_repository files repo =
-    one_then (Is (pile_of files repo)) (λ pile. Over pile.files) (one_is (pile_of files repo)) (λ pile. one_over pile.files)
+    one_then (Is (pile_of files repo)) (λ pile. OverSources pile.files) (one_is (pile_of files repo)) (λ pile. one_over pile.files)
 
 one_input : (recipes : List Recipe) (settings : Settings) (records : List Record) (roots : List Spec)
     → IsOne (InputBy recipes settings records roots)
@@ -57,7 +57,7 @@ one_input recipes settings records roots =
     (λ problem. one_is (closed_of problem))
 
 one_asked : ReadsOnce → (recipes : List Recipe) (settings : Settings) (spec : List ℕ) (records : List Record)
-    → IsOne (Asked recipes settings spec records)
+    → IsOne (OverSpecs recipes settings spec records)
 one_asked laws recipes settings spec records =
     one_then (RootsOf spec) (λ roots. InputBy recipes settings records roots) (one_roots laws spec)
     (λ roots. one_input recipes settings records roots)
@@ -65,9 +65,9 @@ one_asked laws recipes settings spec records =
 -- a command names one input at most, or is due one refusal
 pub one_read : ((files : Files) (path : List ℕ) → IsOne (SettingsAt files path))
     → ((files : Files) (path : List ℕ) → IsOne (DatabaseAt files path)) → ReadsOnce → (files : Files) (command : Command)
-    → IsOne (Reads files command)
+    → IsOne (ReadsInput files command)
 one_read one_settings one_database laws files command =
     one_then (SettingsAt files command.settings) (OverSettings files command) (one_settings files command.settings)
     (λ settings. one_then (InRepository files command.repo) (Behind files command settings) (one_in_repository files command.repo)
-    (λ recipes. one_then (DatabaseAt files command.database) (Asked recipes settings command.spec)
+    (λ recipes. one_then (DatabaseAt files command.database) (OverSpecs recipes settings command.spec)
     (one_database files command.database) (λ records. one_asked laws recipes settings command.spec records)))

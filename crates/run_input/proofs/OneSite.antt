@@ -9,7 +9,7 @@ use Rattle.settings_reader.specs.declared.fault.SettingsFault.TheVariants.{OutOf
 use Rattle.run_answers.specs.Stages.{Is}
 use Rattle.run_answers.specs.declared.refusal.Refusal.TheVariants.{BadSettings}
 use Rattle.run_answers.proofs.StageLaws.{IsOne, one_is, one_then}
-use Rattle.run_words.specs.Words.{is_dash}
+use Rattle.run_words.specs.Words.{is_dash_path}
 use Rattle.run_input.specs.Sites.{settings_bytes, SettingsIn, SettingsBy, SettingsAt}
 
 -- what holds of reading settings
@@ -33,4 +33,4 @@ one_by laws false files path = one_then (Is (settings_bytes files path)) Setting
 
 -- by what reading settings gives
 pub one_site : ReadsOnce → (files : Files) (path : List ℕ) → IsOne (SettingsAt files path)
-one_site laws files path = one_by laws (is_dash path) files path
+one_site laws files path = one_by laws (is_dash_path path) files path

@@ -34,12 +34,12 @@ unfoldable pub apart_of : List Recipe → Result (Unit {0}) Refusal
 apart_of recipes = refuse_some (λ recipe. refusals.NameClash recipe.name) (clash recipes)
 
 -- the parsing of all files, and then the clash of names
-abbrev pub Over : List Source → Result (List Recipe) Refusal → Type 0
-Over sources = Then (Is (recipes_of sources)) (λ recipes. Then (Is (apart_of recipes)) (λ done. Is (Ok recipes)))
+abbrev pub OverSources : List Source → Result (List Recipe) Refusal → Type 0
+OverSources sources = Then (Is (recipes_of sources)) (λ recipes. Then (Is (apart_of recipes)) (λ done. Is (Ok recipes)))
 
 -- the reading of all files of the repository, and then their parsing
 abbrev pub InRepository : Files → List ℕ → Result (List Recipe) Refusal → Type 0
-InRepository files repo = Then (Is (pile_of files repo)) (λ pile. Over pile.files)
+InRepository files repo = Then (Is (pile_of files repo)) (λ pile. OverSources pile.files)
 
 -- a problem of which no root is refused; no definition gives want of memory
 abbrev pub unless_refused : Problem → Option ProblemFault → Result Problem Refusal
@@ -76,20 +76,20 @@ abbrev pub InputBy : List Recipe → Settings → List Record → List Spec → 
 InputBy recipes settings records roots = Then (Is (posed_by recipes settings records roots)) (λ problem. Is (closed_of problem))
 
 -- the specs, and then the problem
-abbrev pub Asked : List Recipe → Settings → List ℕ → List Record → Result Input Refusal → Type 0
-Asked recipes settings spec records = Then (RootsOf spec) (λ roots. InputBy recipes settings records roots)
+abbrev pub OverSpecs : List Recipe → Settings → List ℕ → List Record → Result Input Refusal → Type 0
+OverSpecs recipes settings spec records = Then (RootsOf spec) (λ roots. InputBy recipes settings records roots)
 
 -- the database, and then what is behind it
 abbrev pub Behind : Files → Command → Settings → List Recipe → Result Input Refusal → Type 0
-Behind files command settings recipes = Then (DatabaseAt files command.database) (Asked recipes settings command.spec)
+Behind files command settings recipes = Then (DatabaseAt files command.database) (OverSpecs recipes settings command.spec)
 
 -- the repository, and then what is behind it
 abbrev pub OverSettings : Files → Command → Settings → Result Input Refusal → Type 0
 OverSettings files command settings = Then (InRepository files command.repo) (Behind files command settings)
 
 -- what a command names over the files: the settings are read first, and the names are found last
-abbrev pub Reads : Files → Command → Result Input Refusal → Type 0
-Reads files command = Then (SettingsAt files command.settings) (OverSettings files command)
+abbrev pub ReadsInput : Files → Command → Result Input Refusal → Type 0
+ReadsInput files command = Then (SettingsAt files command.settings) (OverSettings files command)
 
 -- ---- faults of devices
 

@@ -12,7 +12,7 @@ ghost use Rattle.run_answers.specs.Stages.{Is};
 ghost use Rattle.run_answers.specs.Reads.{OnlyReads};
 ghost use Rattle.run_answers.specs.Stops.{Gives, EndsInReadFault};
 ghost use Rattle.run_input.specs.Roots.{RootsOf, are_named};
-ghost use Rattle.run_input.specs.Inputs.{posed_by, closed_of, InputBy, Asked, Behind, IsPosed, OverSettings, Reads, FailsAtInput};
+ghost use Rattle.run_input.specs.Inputs.{posed_by, closed_of, InputBy, OverSpecs, Behind, IsPosed, OverSettings, ReadsInput, FailsAtInput};
 
 use crate::repository::read_repository;
 use crate::roots::read_roots;
@@ -117,7 +117,7 @@ fn read_asked(
     records: ReadRecords,
     spec: &str,
 ) -> Result<Input, ReadStop>
-    ensures read { Gives result (Asked recipes settings spec.now records) }
+    ensures read { Gives result (OverSpecs recipes settings spec.now records) }
     ensures roots { IfOk result (λ input. RootsOf spec.now (Ok input.problem.roots)) }
     ensures posed { IfOk result IsPosed }
     ensures no_fault { EndsInReadFault result → ⊥ }
@@ -185,7 +185,8 @@ pub fn read_input<R: Threads + Sync, D: Desk>(
     desk: &mut D,
     command: &Command<'_>,
 ) -> Result<Input, ReadStop>
-    ensures read { IfSome (D.files desk.old) (λ files. Gives result (Reads files command.now)) }
+    ensures read { IfSome (D.files desk.old)
+        (λ files. Gives result (ReadsInput files command.now)) }
     ensures roots { IfOk result (λ input. RootsOf command.now.spec (Ok input.problem.roots)) }
     ensures posed { IfOk result IsPosed }
     ensures path { FailsAtInput (D.files desk.old) command.now result }

@@ -5,7 +5,7 @@ ghost use Rattle.outside_desk.specs.Files.{Files};
 ghost use Rattle.run_answers.specs.declared.refusal.Refusal.{Refusal};
 ghost use Rattle.run_words.specs.Words.{Command};
 ghost use Rattle.run_input.specs.declared.input.Input.{Input};
-ghost use Rattle.run_input.specs.Inputs.{Reads};
+ghost use Rattle.run_input.specs.Inputs.{ReadsInput};
 
 use crate::{installed_laws, site_laws};
 use spec_grammar::reading_laws;
@@ -13,8 +13,8 @@ use spec_grammar::reading_laws;
 /// A command names one input at most over files, or is due one refusal at most.
 pub fn input_laws()
     ensures one { (files : Files) (command : Command) (a b : Result Input Refusal)
-        → Reads files command a
-        → Reads files command b → a ≡ b }
+        → ReadsInput files command a
+        → ReadsInput files command b → a ≡ b }
 {
     reading_laws();
     site_laws();

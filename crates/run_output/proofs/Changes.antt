@@ -13,7 +13,7 @@ use Rattle.run_task.specs.Answers.{log_of}
 use Rattle.run_task.specs.Answer.{Answer}
 use Rattle.run_task.specs.Answer.TheVariants as answers
 use Rattle.run_output.specs.Locks.{lock_of}
-use Rattle.run_task.specs.Words.{is_dash}
+use Rattle.run_task.specs.Words.{is_dash_path}
 use Rattle.run_task.specs.Problems.{Problem}
 use Rattle.run_task.specs.declared.task.Task.{Task}
 use Rattle.run_task.specs.declared.task.Task.TheVariants as tasks
@@ -70,8 +70,8 @@ module _ (lock cert : List ℕ) where
   keeps_whole problem answer before after (inl (dash, held)) =
       keeps_part before after cert (log_text (log_of answer)) (λ path other. other.no_cert dash) held
   keeps_whole problem answer before after (inr held) =
-      keeps_lock problem answer before (with_cert_by (is_dash cert) cert (log_of answer) before) after
-      (keeps_cert (log_of answer) before (is_dash cert) (λ dash path other. other.no_cert dash)) held
+      keeps_lock problem answer before (with_cert_by (is_dash_path cert) cert (log_of answer) before) after
+      (keeps_cert (log_of answer) before (is_dash_path cert) (λ dash path other. other.no_cert dash)) held
 
   -- what any end of writing keeps
   pub keeps : (task : Task) (before after : Option Files) → (after ≡ before) ⊎ KeepsWhole evidence lock cert task before after

@@ -27,10 +27,10 @@ undecided_line budget = codes "undecided " ++ (decimal budget ++ 10 ∷ [])
 abbrev pub graph_text : Problem → Content → List ℕ
 graph_text problem graph = report_text graph.nodes (vector problem graph)
 
-abbrev pub text_of : Problem → Answer → List ℕ
-text_of problem (answers.Best graph log) = graph_text problem graph
-text_of problem (answers.Nothing log) = unsatisfiable_line
-text_of problem (answers.Undecided log) = undecided_line problem.settings.conflict_budget
+abbrev pub text_of_answer : Problem → Answer → List ℕ
+text_of_answer problem (answers.Best graph log) = graph_text problem graph
+text_of_answer problem (answers.Nothing log) = unsatisfiable_line
+text_of_answer problem (answers.Undecided log) = undecided_line problem.settings.conflict_budget
 
 abbrev pub outcome_of : Answer → Outcome
 outcome_of (answers.Best graph log) = outcomes.Solved

@@ -27,7 +27,7 @@ use Rattle.run_answers.specs.declared.line_fault.LineFault.TheVariants as faults
 use Rattle.best_graph.specs.Answers.{IsAnswer}
 use Rattle.best_graph.specs.OfProblemEncoding.Built.{encoding_of, rule_clauses}
 use Rattle.best_graph.specs.Verdicts.{BestIsCertified, NothingIsRefuted}
-use Rattle.run_task.specs.Certificates.{begun_for, said_at, said_of, certified_at, verdict_of, most}
+use Rattle.run_task.specs.Certificates.{begun_for, said_at, said_of_text, certified_at, verdict_on_text, most}
 use Rattle.run_task.proofs.Reading.{said_short}
 use Rattle.run_task.specs.Again.{AreKept, HoldsLog, BestIsAccepted, NothingIsAccepted}
 
@@ -62,16 +62,16 @@ writable (l ∷ ls) are may = ((are.0, may.0), writable ls are.1 may.1)
 module _ (accepts : AcceptsLines) (written : AnswersWritten) (s : Clauses) (bits : List Lit) (log : List Line)
     (kept : AreKept s log) (may : AllLines (λ l. may_write l ≡ true) log) (values : Option (List Bool))
     (is : IsLogOf s.vars (clauses_of s.entries) bits values log) where
-  said_text : length (log_text log) ≤ most → said_of (begun s bits values) (log_text log) ≡ Ok tt
+  said_text : length (log_text log) ≤ most → said_of_text (begun s bits values) (log_text log) ≡ Ok tt
   said_text short =
       said_short (begun s bits values) (log_text log) short
-      ∙ ap verdict_of (written (begun s bits values) log (writable log kept.lines may)
+      ∙ ap verdict_on_text (written (begun s bits values) log (writable log kept.lines may)
       ∙ ap Checked ((accepts s.vars (clauses_of s.entries) bits values log kept.ordered (all_learnt log kept.lines)).1 is))
 
   said_file : (files : Files) (path : List ℕ) → HoldsLog files path log → said_at files path (begun s bits values) ≡ Ok tt
   unfolding said_at
   said_file files path holds =
-      ap (λ (o : Option (List ℕ)). or_refuse (refusals.MissingInput path) o >>= λ text. said_of (begun s bits values) text) holds.there
+      ap (λ (o : Option (List ℕ)). or_refuse (refusals.MissingInput path) o >>= λ text. said_of_text (begun s bits values) text) holds.there
       ∙ said_text holds.short
 
   -- the file is a right certificate of the costs that begin such a checker

@@ -12,7 +12,7 @@ use Rattle.run_answers.specs.Stages.{Is, ◌>>=◌, or_refuse}
 use Rattle.run_answers.specs.Stops.{Gives}
 use Rattle.run_answers.specs.declared.refusal.Refusal.{Refusal}
 use Rattle.run_answers.specs.declared.refusal.Refusal.TheVariants.{MissingInput, CertificateTooLarge}
-use Rattle.run_task.specs.Certificates.{most, said_of, said_at, verdict_of}
+use Rattle.run_task.specs.Certificates.{most, said_of_text, said_at, verdict_on_text}
 use Rattle.run_task.specs.Pieces.{GivesPiece, IsReady, TakesNext, TakesAll, end_of}
 use Rattle.run_task.specs.declared.pieces.Next.{Next}
 use Rattle.run_task.specs.declared.pieces.Next.TheVariants.{More, End, Long}
@@ -169,19 +169,20 @@ ready_at_begin s file c after = record { within = omega arith; after = after; un
 
 said_by : (file : Option (List ℕ)) (s : CheckerState) (path : List ℕ) (old new : Stage) → IsAfter s [] old
     → TakesNext s file 0 path old new (Ok End)
-    → (or_refuse (MissingInput path) file >>= λ text. said_of s text) ≡ verdict_of (answer_at new.progress new.failed new.place.rest)
+    → (or_refuse (MissingInput path) file >>= λ text. said_of_text s text)
+    ≡ verdict_on_text (answer_at new.progress new.failed new.place.rest)
 said_by None s path old new after takes = absurd takes
 said_by (Some file) s path old new after takes = takes (ready_at_begin s file old after)
 
 long_by : (file : Option (List ℕ)) (s : CheckerState) (path : List ℕ) (old new : Stage) → IsAfter s [] old
     → TakesNext s file 0 path old new (Ok Long)
-    → (or_refuse (MissingInput path) file >>= λ text. said_of s text) ≡ Err CertificateTooLarge
+    → (or_refuse (MissingInput path) file >>= λ text. said_of_text s text) ≡ Err CertificateTooLarge
 long_by None s path old new after takes = absurd takes
 long_by (Some file) s path old new after takes = takes (ready_at_begin s file old after)
 
 stop_by : (file : Option (List ℕ)) (s : CheckerState) (path : List ℕ) (old new : Stage) (stop : ReadStop)
     → TakesNext s file 0 path old new (Err stop)
-    → Gives {T = Unit {0}} (Err stop) (Is (or_refuse (MissingInput path) file >>= λ text. said_of s text))
+    → Gives {T = Unit {0}} (Err stop) (Is (or_refuse (MissingInput path) file >>= λ text. said_of_text s text))
 stop_by file s path old new (Refused refusal) (none, is) = rw none (ap Err is)
 stop_by file s path old new (Fault at) takes = tt
 stop_by file s path old new NoMemory takes = tt
@@ -189,7 +190,7 @@ stop_by file s path old new NoMemory takes = tt
 module _ (path : List ℕ) (s : CheckerState) (old new : Stage) (after : IsAfter s [] old) where
   said_here : (files : Files) (result : Result (Unit {0}) ReadStop)
       → TakesNext s (get files path) 0 path old new (Ok End)
-      → Gives result (Is (verdict_of (answer_at new.progress new.failed new.place.rest))) → Gives result (Is (said_at files path s))
+      → Gives result (Is (verdict_on_text (answer_at new.progress new.failed new.place.rest))) → Gives result (Is (said_at files path s))
   unfolding said_at
   said_here files result takes read =
       subst (λ (r : Result (Unit {0}) Refusal). Gives result (Is r)) (sym (said_by (get files path) s path old new after takes)) read
@@ -207,7 +208,7 @@ module _ (path : List ℕ) (s : CheckerState) (old new : Stage) (after : IsAfter
   -- what was read decides
   pub text_said : (before : Option Files) (result : Result (Unit {0}) ReadStop)
       → IfSome before (λ files. (s : CheckerState) → TakesNext s (get files path) 0 path old new (Ok End))
-      → Gives result (Is (verdict_of (answer_at new.progress new.failed new.place.rest)))
+      → Gives result (Is (verdict_on_text (answer_at new.progress new.failed new.place.rest)))
       → IfSome before (λ files. Gives result (Is (said_at files path s)))
   text_said None result takes read = tt
   text_said (Some files) result takes read = said_here files result (takes s) read

@@ -8,7 +8,7 @@ use Rattle.run_input.specs.Refusal.{Refusal}
 use Rattle.run_input.specs.Words.{Command}
 use Rattle.run_input.specs.Work.{Work}
 use Rattle.run_input.specs.Work.TheVariants as works
-use Rattle.run_input.specs.Inputs.{Reads}
+use Rattle.run_input.specs.Inputs.{ReadsInput}
 use Rattle.run_input.specs.declared.input.Input.{Input}
 use Rattle.run_task.specs.Verdicts.{Judges}
 use Rattle.run_task.specs.Certificates.{certified_at, log_verdict}
@@ -39,15 +39,16 @@ one_by one_verdict (works.Trial packages seed) files command input = one_is (Ok 
 some_same : {A : Type 0} (x y : A) → (let T : Type 0 = Option A in let a : T = Some x in let b : T = Some y in a ≡ b) → x ≡ y
 some_same x y e = cc
 
-one_named : ((files : Files) (command : Command) → IsOne (Reads files command)) → OneVerdict → (files : Files) (command : Command)
+one_named : ((files : Files) (command : Command) → IsOne (ReadsInput files command)) → OneVerdict → (files : Files) (command : Command)
     → IsOne (Named log_verdict files command)
 one_named one_read one_verdict files command =
     let over = files_for command.work files in
-    one_then (Reads over command) (TaskBy log_verdict command.work over command) (one_read over command)
+    one_then (ReadsInput over command) (TaskBy log_verdict command.work over command) (one_read over command)
     (one_by one_verdict command.work over command)
 
 -- the words are one command
-pub one_posed : ((files : Files) (command : Command) → IsOne (Reads files command)) → OneVerdict → (files : Files) (words : List (List ℕ))
+pub one_posed : ((files : Files) (command : Command) → IsOne (ReadsInput files command)) → OneVerdict
+    → (files : Files) (words : List (List ℕ))
     (a b : Result Task Refusal) → Poses log_verdict files words a → Poses log_verdict files words b → a ≡ b
 one_posed one_read one_verdict files words a b (command, is, named) (other, as_well, named_too) =
     one_named one_read one_verdict files command a b named

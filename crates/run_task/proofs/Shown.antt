@@ -29,7 +29,7 @@ use Rattle.best_graph.specs.OfProblemEncoding.Built.{encoding_of, rule_clauses}
 use Rattle.best_graph.specs.OfProblemEncoding.Encodings.{IsEncoded, RulesDecode}
 use Rattle.best_graph.specs.OfProblemEncoding.Encoded.{Encoded}
 use Rattle.best_graph.specs.Verdicts.{CertifiedIsOptimal, RefutedHasNoGraph}
-use Rattle.run_task.specs.Certificates.{said_of, said_at, certified_at, begun_for, verdict_of, most, ShowsOf}
+use Rattle.run_task.specs.Certificates.{said_of_text, said_at, certified_at, begun_for, verdict_on_text, most, ShowsOf}
 
 -- what an accepted text says
 abbrev pub TellsLog : Type 0
@@ -37,22 +37,22 @@ TellsLog = (s : Clauses) (bits : List Lit) (values : Option (List Bool)) (text :
     → (answer_of (begun s bits values) text ≡ Checked Accepted)
     ↔ ((reading text).failed ≡ false × AtLineStart text × IsLogOf s.vars (clauses_of s.entries) bits values (reading text).lines)
 
-accepted : (answer : TextAnswer) → verdict_of answer ≡ Ok tt → answer ≡ Checked Accepted
+accepted : (answer : TextAnswer) → verdict_on_text answer ≡ Ok tt → answer ≡ Checked Accepted
 accepted (Checked Accepted) e = refl
 accepted (Checked (steps.Refused line why)) e = absurd (cc)
 accepted (BadLine line) e = absurd (cc)
 
-accepted_by : (b : Bool) (answer : TextAnswer) → cond b (verdict_of answer) (Err refusals.CertificateTooLarge) ≡ Ok tt
+accepted_by : (b : Bool) (answer : TextAnswer) → cond b (verdict_on_text answer) (Err refusals.CertificateTooLarge) ≡ Ok tt
     → answer ≡ Checked Accepted
 accepted_by true answer e = accepted answer e
 accepted_by false answer e = absurd (cc)
 
-said_accepted : (s : CheckerState) (text : List ℕ) → said_of s text ≡ Ok tt → answer_of s (take most text) ≡ Checked Accepted
-unfolding said_of
+said_accepted : (s : CheckerState) (text : List ℕ) → said_of_text s text ≡ Ok tt → answer_of s (take most text) ≡ Checked Accepted
+unfolding said_of_text
 said_accepted s text e = accepted_by (nat_le (length text) most || is_settled_by s (take most text)) (answer_of s (take most text)) e
 
 found_accepted : (s : CheckerState) (missing : Refusal) (file : Option (List ℕ))
-    → (or_refuse missing file >>= λ text. said_of s text) ≡ Ok tt
+    → (or_refuse missing file >>= λ text. said_of_text s text) ≡ Ok tt
     → (text : List ℕ) × (answer_of s text ≡ Checked Accepted)
 found_accepted s missing None e = absurd (cc)
 found_accepted s missing (Some text) e = (take most text, said_accepted s text e)

@@ -6,7 +6,7 @@ use Rattle.run_input.specs.Refusal.{Refusal}
 use Rattle.run_input.specs.Words.{Command}
 use Rattle.run_input.specs.Work.{Work}
 use Rattle.run_input.specs.Work.TheVariants as works
-use Rattle.run_input.specs.Inputs.{Reads}
+use Rattle.run_input.specs.Inputs.{ReadsInput}
 use Rattle.run_input.specs.declared.input.Input.{Input}
 use Rattle.run_task.specs.Problems.{Problem}
 use Rattle.run_task.specs.Verdicts.{Judges}
@@ -53,7 +53,7 @@ module _ (some more : CertificateVerdicts) (allows : Allows some more) where
       let over = files_for command.work files in (
         command,
         is,
-        then_more (Reads over command) (Reads over command) (TaskBy some command.work over command)
+        then_more (ReadsInput over command) (ReadsInput over command) (TaskBy some command.work over command)
             (TaskBy more command.work over command) (λ s read. read) (by_work command.work over command) r named,
       )
 

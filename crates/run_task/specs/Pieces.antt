@@ -6,7 +6,7 @@ use Rattle.outside_desk.specs.Files.{IsPiece}
 use Rattle.run_answers.specs.declared.refusal.Refusal.TheVariants as refusals
 use Rattle.run_answers.specs.declared.stop.ReadStop.{ReadStop}
 use Rattle.run_answers.specs.declared.stop.ReadStop.TheVariants as reads
-use Rattle.run_task.specs.Certificates.{said_of, verdict_of, most}
+use Rattle.run_task.specs.Certificates.{said_of_text, verdict_on_text, most}
 use Rattle.run_task.specs.declared.pieces.Next.{Next}
 use Rattle.run_task.specs.declared.pieces.Next.TheVariants.{More, End, Long}
 
@@ -26,8 +26,8 @@ GivesPiece file from out path (Err reads.NoMemory) = Unit {0}
 -- what one piece more leaves: more is to be read; or what was read decides; or there is too much
 abbrev pub IsNext : CheckerState → List ℕ → Stage → Next → Type 0
 IsNext s file new (More n) = IsReady s file n new
-IsNext s file new End = said_of s file ≡ verdict_of (answer_at new.progress new.failed new.place.rest)
-IsNext s file new Long = said_of s file ≡ Err refusals.CertificateTooLarge
+IsNext s file new End = said_of_text s file ≡ verdict_on_text (answer_at new.progress new.failed new.place.rest)
+IsNext s file new Long = said_of_text s file ≡ Err refusals.CertificateTooLarge
 
 abbrev pub TakesNext : CheckerState → Option (List ℕ) → ℕ → List ℕ → Stage → Stage → Result Next ReadStop → Type 0
 TakesNext s file from path old new (Ok next) = IsSomeAnd file (λ bytes. IsReady s bytes from old → IsNext s bytes new next)

@@ -5,7 +5,7 @@ use Rattle.graph_rules.specs.Optimal.{IsOptimal, HasNoGraph}
 use Rattle.run_input.specs.Words.{Command}
 use Rattle.run_input.specs.Work.{Work}
 use Rattle.run_input.specs.Work.TheVariants as works
-use Rattle.run_input.specs.Inputs.{Reads}
+use Rattle.run_input.specs.Inputs.{ReadsInput}
 use Rattle.run_input.specs.declared.input.Input.{Input}
 use Rattle.run_task.specs.Problems.{Problem}
 use Rattle.run_task.specs.Verdicts.{IsValidLock}
@@ -26,7 +26,7 @@ ShownBy other files command problem = Unit {0}
 -- the input that a command reads over these files, of which its yes shows this
 pub record IsShownOver (files : Files) (command : Command) : Type 0 where
   pub input : Input
-  pub read : Reads files command (Ok input)
+  pub read : ReadsInput files command (Ok input)
   pub shown : ShownBy command.work files command input.problem
 
 -- the same over the files for which the command asks

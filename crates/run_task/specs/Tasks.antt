@@ -10,7 +10,7 @@ use Rattle.run_input.specs.ReadStop.TheVariants as reads
 use Rattle.run_input.specs.Words.{Command, command_of}
 use Rattle.run_input.specs.Work.{Work}
 use Rattle.run_input.specs.Work.TheVariants as works
-use Rattle.run_input.specs.Inputs.{Reads, IsInputPath, IsPosed}
+use Rattle.run_input.specs.Inputs.{ReadsInput, IsInputPath, IsPosed}
 use Rattle.run_input.specs.declared.input.Input.{Input}
 use Rattle.run_task.specs.Problems.{Problem}
 use Rattle.run_task.specs.Verdicts.{Judges}
@@ -61,7 +61,7 @@ module _ (verdicts : CertificateVerdicts) where
 
   -- what is read over these files is one for all commands, and then comes the command's own work
   abbrev pub Over : Files → Command → Result Task Refusal → Type 0
-  Over files command = Then (Reads files command) (TaskBy command.work files command)
+  Over files command = Then (ReadsInput files command) (TaskBy command.work files command)
 
   -- the task of a command over the files
   abbrev pub Named : Files → Command → Result Task Refusal → Type 0

@@ -2,7 +2,7 @@
 
 ghost use Rattle.std.specs.Prelude.{◌≡◌, IfOk};
 ghost use Rattle.std.specs.String.{string_bytes};
-ghost use Rattle.run_words.specs.Words.{words_of, joined_words, command_over, is_word, is_wrong, unless_wrong, is_blank, is_same, is_dash};
+ghost use Rattle.run_words.specs.Words.{words_of, joined_words, command_over, is_word, is_wrong, unless_wrong, is_blank, is_same_path, is_dash_path};
 ghost use Rattle.run_words.specs.Words as words;
 
 use crate::verbs::{FileWord, Verb};
@@ -71,17 +71,17 @@ fn is_blank(text: &[u8]) -> bool
     text.iter().all(|b| is_white(*b))
 }
 
-#[tactic(auto, unfolding(crate::specs::Words::is_same))]
+#[tactic(auto, unfolding(crate::specs::Words::is_same_path))]
 pub(crate) fn is_same(a: &str, b: &str) -> bool
-    ensures { result ≡ is_same a.now b.now }
+    ensures { result ≡ is_same_path a.now b.now }
 {
     a == b
 }
 
 /// Whether a path is written `-`, which stands for none.
-#[tactic(auto, unfolding(crate::specs::Words::is_dash))]
+#[tactic(auto, unfolding(crate::specs::Words::is_dash_path))]
 pub fn is_dash(path: &str) -> bool
-    ensures { result ≡ is_dash path.now }
+    ensures { result ≡ is_dash_path path.now }
 {
     path == "-"
 }
