@@ -27,7 +27,8 @@ settled-stays s text more h = by (run_lines (Going s) (reading text).lines) refl
     by (Stopped n w) e q =
         let g = grows text more in
         let stopped : run_lines (Going s) (reading (text ++ more)).lines ≡ Stopped n w =
-        ap (run_lines (Going s)) g.1 ∙ run-append (Going s) (reading text).lines g.0 ∙ ap (λ p. run_lines p g.0) e ∙ stopped-stays n w g.0 in (
+        ap (run_lines (Going s)) g.1 ∙ run-append (Going s) (reading text).lines g.0 ∙ ap (λ p. run_lines p g.0) e
+        ∙ stopped-stays n w g.0 in (
           ap (λ p. answer_at p (reading (text ++ more)).failed (reading (text ++ more)).rest) stopped
               ∙ sym (ap (λ p. answer_at p (reading text).failed (reading text).rest) e),
           ap (λ p. is_settled_at p (reading (text ++ more)).failed) stopped,

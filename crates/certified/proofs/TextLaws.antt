@@ -131,7 +131,8 @@ pub text-bad : (s : Clauses) (bits : List Lit) (values : Option (List Bool)) (te
     → (n ≡ length (reading text).lines + 1) × IsSoFar s.vars (clauses_of s.entries) bits values (reading text).lines
 text-bad s bits values text n a q = by (run_lines (Going (begun s bits values)) (reading text).lines) refl q
   where
-    number : (t : CheckerState) (b : Bool) → (if b then BadLine (t.lines + 1) else Checked (finish_on (Going t))) ≡ BadLine n → t.lines + 1 ≡ n
+    number : (t : CheckerState) (b : Bool) → (if b then BadLine (t.lines + 1) else Checked (finish_on (Going t))) ≡ BadLine n
+        → t.lines + 1 ≡ n
     number t true q = bad-inner (t.lines + 1) n q
     number t false q = absurd (bad-apart n (finish_on (Going t)) (sym q))
 
@@ -150,4 +151,5 @@ text-bad s bits values text n a q = by (run_lines (Going (begun s bits values)) 
 pub text-written : (s : CheckerState) (lines : List Line) → AreWritable lines
     → answer_of s (log_text lines) ≡ Checked (finish_on (run_lines (Going s) lines))
 text-written s lines w =
-    ap (λ r. answer_at (run_lines (Going s) r.lines) r.failed r.rest) (log-reads lines w) ∙ whole (run_lines (Going s) lines) false [] refl refl
+    ap (λ r. answer_at (run_lines (Going s) r.lines) r.failed r.rest) (log-reads lines w)
+    ∙ whole (run_lines (Going s) lines) false [] refl refl

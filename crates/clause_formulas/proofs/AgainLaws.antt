@@ -95,7 +95,8 @@ named_parts-again s t ls false h = by_clause-again s t (clause_of ls) h
 named-later : (s : Gated) (d : ClauseDraft) → Later s (named_in s d).state
 named-later s d = named_parts-later s d.lits d.always
 
-named-again : (s t : Gated) (d : ClauseDraft) → Later (named_in s d).state t → named_in t d ≡ record { state = t; answer = (named_in s d).answer }
+named-again : (s t : Gated) (d : ClauseDraft) → Later (named_in s d).state t
+    → named_in t d ≡ record { state = t; answer = (named_in s d).answer }
 named-again s t d h = named_parts-again s t d.lits d.always h
 
 -- a draft with the literals of another
@@ -157,7 +158,8 @@ spread-again (or f g) s t d e h =
       more = joined a.more b.more;
       first = b.first ∙ ap (λ k. joined k b.more) a.first ∙ joined-assoc d a.more b.more;
       second = ap (λ (k : Shared ClauseDraft). spread_in k.state k.answer g) a.second ∙ b.second
-          ∙ ap (λ (k : ClauseDraft). let made : Shared ClauseDraft = record { state = t; answer = k } in made) (joined-assoc e a.more b.more);
+          ∙ ap (λ (k : ClauseDraft). let made : Shared ClauseDraft = record { state = t; answer = k } in
+          made) (joined-assoc e a.more b.more);
     }
 spread-again (no f) s t d e h =
     let m = spread_in s empty f in

@@ -30,7 +30,8 @@ unfolding with_draft kept_clauses
 with_draft-clause s label d ls o e f q = rw (e, q, f) refl
 
 -- a draft that is a clause is added
-pub with_draft-some : (s : Clauses) (label : Label) (d : ClauseDraft) (ls c : List Lit) → d.always ≡ false → ls ≡ d.lits → Some c ≡ clause_of ls
+pub with_draft-some : (s : Clauses) (label : Label) (d : ClauseDraft) (ls c : List Lit) → d.always ≡ false → ls ≡ d.lits
+    → Some c ≡ clause_of ls
     → record s { entries = s.entries ++ labelled label c ∷ [] } ≡ with_draft s label d
 with_draft-some s label d ls c e f q = with_draft-clause s label d ls (Some c) e f q
 
@@ -104,7 +105,8 @@ pub assert-any : (s t : Gated) (u : Clauses) (label : Label) (d e : ClauseDraft)
     → ask_in s d (any_statement fs) ≡ record { state = t; answer = e } → u ≡ with_draft t.list label e
     → assert_in label s true (any_statement fs) ≡ gated u t.gates
 assert-any s t u label d e [] q r p =
-    ap (λ (m : Shared ClauseDraft). drafted m.state label m.answer) (ap (λ k. ask_in s k never) (sym q) ∙ r) ∙ ap (λ l. gated l t.gates) (sym p)
+    ap (λ (m : Shared ClauseDraft). drafted m.state label m.answer) (ap (λ k. ask_in s k never) (sym q) ∙ r)
+    ∙ ap (λ l. gated l t.gates) (sym p)
 assert-any s t u label d e (f ∷ fs) q r p =
     ap (λ (m : Shared ClauseDraft). drafted m.state label m.answer) (ap (λ k. ask_in s k (or f (any_statement fs))) (sym q) ∙ r)
     ∙ ap (λ l. gated l t.gates) (sym p)

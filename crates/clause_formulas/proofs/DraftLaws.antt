@@ -47,7 +47,8 @@ AllBelow-last n [] l b h = (h, tt)
 AllBelow-last n (k ∷ ls) l b h = (b.0, AllBelow-last n ls l b.1 h)
 
 -- one more part of a draft
-pub with_defined-true : (v : ℕ → Bool) (d : ClauseDraft) (x : Defined) → draft_true v (draft_with d x) ≡ (draft_true v d || defined_true v x)
+pub with_defined-true : (v : ℕ → Bool) (d : ClauseDraft) (x : Defined)
+    → draft_true v (draft_with d x) ≡ (draft_true v d || defined_true v x)
 with_defined-true v d (Known b) = or-inner d.always (clause_true v d.lits) b
 with_defined-true v d (By l) = ap (λ b. d.always || b) (clause_true-last v d.lits l)
     ∙ sym (or-assoc d.always (clause_true v d.lits) (lit_true v l))

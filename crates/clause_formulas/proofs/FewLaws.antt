@@ -100,7 +100,8 @@ module _ (v : ℕ → Bool) where
 
   -- and that exactly one is
   pub one-said : (ls : List Lit) → eval v (one_among ls) ≡ one_true (truths v ls)
-  one-said ls = eval-all_of v (any_statement (map atom ls) ∷ few_among ls) ∙ rw (any-said ls, few-said (length ls / 8) ls) (one-few (truths v ls))
+  one-said ls = eval-all_of v (any_statement (map atom ls) ∷ few_among ls)
+      ∙ rw (any-said ls, few-said (length ls / 8) ls) (one-few (truths v ls))
 
 -- ---- the variables
 
@@ -129,7 +130,8 @@ module _ (n : ℕ) where
       let parts = parts-below (half_count ls) ls h in
       let front = few-below times (take (half_count ls) ls) parts.0 in
       let back = few-below times (drop (half_count ls) ls) parts.1 in
-      elim (nat_lt 8 (length ls)) as (λ b. SaidBelow n (any_statement (if b then halves_apart (take (half_count ls) ls) (drop (half_count ls) ls)
+      elim (nat_lt 8 (length ls)) as (λ b. SaidBelow n
+      (any_statement (if b then halves_apart (take (half_count ls) ls) (drop (half_count ls) ls)
       ∷ (few_of times (take (half_count ls) ls) ++ few_of times (drop (half_count ls) ls)) else apart ls))) [
         | true ↦ (
           (atoms-below (take (half_count ls) ls) parts.0, (atoms-below (drop (half_count ls) ls) parts.1, tt)),

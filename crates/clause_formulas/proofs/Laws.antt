@@ -101,7 +101,8 @@ define_all_is s (f ∷ fs) i b =
     let x = define_in_is s f i b.0 in
     let n = define_all_in t fs in
     let u = n.state in
-    let y = define_all_is t fs x.keeps.below (SaidBelow-le s.list.vars t.list.vars (any_statement fs) x.defines.says.grows.more b.1) in record {
+    let y = define_all_is t fs x.keeps.below (SaidBelow-le s.list.vars t.list.vars (any_statement fs) x.defines.says.grows.more b.1) in
+    record {
       defines = Defines-trans s.list t.list u.list x.defines y.defines;
       keeps = Keeps-trans s t u x.keeps y.keeps;
       means = (

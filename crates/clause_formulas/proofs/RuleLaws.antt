@@ -24,12 +24,14 @@ rule-below n f h (either_of r q) = (rule-below n f h r, rule-below n f h q)
 rule-below n f h (if_so r q) = implies-below n (in_words f r) (in_words f q) (rule-below n f h r) (rule-below n f h q)
 
 -- the formulas of lists of rules
-pub any_rule-said : {W : Type 0} (f : W → Statement) (rs : List (Proposition W)) → in_words f (any_rule rs) ≡ any_statement (map (in_words f) rs)
+pub any_rule-said : {W : Type 0} (f : W → Statement) (rs : List (Proposition W))
+    → in_words f (any_rule rs) ≡ any_statement (map (in_words f) rs)
 any_rule-said f [] = refl
 any_rule-said f (r ∷ rs) = ap (or (in_words f r)) (any_rule-said f rs)
 
 -- all rules are said where each is
-pub all_rules-said : {W : Type 0} (f : W → Statement) (rs : List (Proposition W)) → in_words f (every_rule rs) ≡ all_statements (map (in_words f) rs)
+pub all_rules-said : {W : Type 0} (f : W → Statement) (rs : List (Proposition W))
+    → in_words f (every_rule rs) ≡ all_statements (map (in_words f) rs)
 all_rules-said f [] = refl
 all_rules-said f (r ∷ rs) = ap (λ g. no (or (opposite (in_words f r)) g)) (opposites rs)
   where

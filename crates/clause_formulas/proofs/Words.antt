@@ -105,7 +105,8 @@ one-apart v (l ∷ ls) = ap (λ b. not (none_true (truths v (l ∷ ls))) && b) (
     by-bools false n a o e f = f
 
 pub eval-one_of : (v : ℕ → Bool) (ls : List Lit) → eval v (one_of ls) ≡ one_true (truths v ls)
-eval-one_of v ls = eval-all_of v (any_statement (map atom ls) ∷ apart ls) ∙ ap (λ b. b && all_eval v (apart ls)) (eval-atoms v ls) ∙ one-apart v ls
+eval-one_of v ls = eval-all_of v (any_statement (map atom ls) ∷ apart ls) ∙ ap (λ b. b && all_eval v (apart ls)) (eval-atoms v ls)
+    ∙ one-apart v ls
 
 -- the variables of the words
 pub opposite-below : (n : ℕ) (f : Statement) → SaidBelow n f → SaidBelow n (opposite f)
@@ -114,7 +115,8 @@ opposite-below n never b = tt
 opposite-below n (or f g) b = b
 opposite-below n (no f) b = b
 
-pub any_of-below : (n : ℕ) (fs gs : List Statement) → SaidBelow n (any_statement fs) → SaidBelow n (any_statement gs) → SaidBelow n (any_statement (fs ++ gs))
+pub any_of-below : (n : ℕ) (fs gs : List Statement) → SaidBelow n (any_statement fs) → SaidBelow n (any_statement gs)
+    → SaidBelow n (any_statement (fs ++ gs))
 any_of-below n [] gs a b = b
 any_of-below n (f ∷ fs) gs a b = (a.0, any_of-below n fs gs a.1 b)
 

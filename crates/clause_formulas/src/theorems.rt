@@ -14,8 +14,10 @@ ghost use Rattle.clause_formulas.specs.Rows.{a, b, c, start, made, shared, entri
 /// The words of formulas say what their names say.
 pub fn word_laws()
     ensures negated { (v : ℕ → Bool) (f : Statement) → eval v (opposite f) ≡ not (eval v f) }
-    ensures all { (v : ℕ → Bool) (fs : List Statement) → eval v (all_statements fs) ≡ all_eval v fs }
-    ensures both { (v : ℕ → Bool) (f g : Statement) → eval v (both_statements f g) ≡ (eval v f && eval v g) }
+    ensures all { (v : ℕ → Bool) (fs : List Statement)
+        → eval v (all_statements fs) ≡ all_eval v fs }
+    ensures both { (v : ℕ → Bool) (f g : Statement)
+        → eval v (both_statements f g) ≡ (eval v f && eval v g) }
     ensures implies { (v : ℕ → Bool) (f g : Statement)
         → eval v (implication_of f g) ≡ (not (eval v f) || eval v g) }
     ensures one { (v : ℕ → Bool) (ls : List Lit) → eval v (one_of ls) ≡ one_true (truths v ls) }
@@ -28,8 +30,10 @@ pub fn word_laws()
 /// variables but those of the words.
 pub fn rule_laws<W>()
     ensures said { (v : ℕ → Bool) (f : W → Statement) (p : W → Bool)
-        → ((w : W) → eval v (f w) ≡ p w) → (r : Proposition W) → eval v (in_words f r) ≡ keeps_rule p r }
-    ensures in_range { (n : ℕ) (f : W → Statement) → ((w : W) → SaidBelow n (f w)) → (r : Proposition W)
+        → ((w : W) → eval v (f w) ≡ p w) → (r : Proposition W)
+        → eval v (in_words f r) ≡ keeps_rule p r }
+    ensures in_range { (n : ℕ) (f : W → Statement) → ((w : W) → SaidBelow n (f w))
+        → (r : Proposition W)
         → SaidBelow n (in_words f r) }
 {}
 
@@ -49,9 +53,11 @@ pub fn worked_values()
     ensures two { define_on start (any_statement (atom a ∷ atom b ∷ []))
         ≡ made ((negation a ∷ lit_of 3 ∷ []) ∷ (negation b ∷ lit_of 3 ∷ [])
         ∷ (a ∷ b ∷ negation (lit_of 3) ∷ []) ∷ []) 4 (By (lit_of 3)) }
-    ensures one { define_on start (any_statement (atom a ∷ never ∷ atom a ∷ all_statements (atom a ∷ []) ∷ []))
+    ensures one { define_on start (any_statement
+        (atom a ∷ never ∷ atom a ∷ all_statements (atom a ∷ []) ∷ []))
         ≡ made [] 3 (By a) }
-    ensures always { define_on start (any_statement (all_statements [] ∷ atom a ∷ [])) ≡ made [] 3 (Known true) }
+    ensures always { define_on start (any_statement (all_statements [] ∷ atom a ∷ []))
+        ≡ made [] 3 (Known true) }
     ensures both_signs { define_on start (all_statements (atom a ∷ atom (negation a) ∷ []))
         ≡ made [] 3 (Known false) }
 {}
@@ -74,7 +80,8 @@ pub fn worked_claims()
 #[tactic(auto, unfolding(crate::specs::Built::define_in, crate::specs::Built::demand_in, crate::specs::Built::with_draft, crate::specs::Built::named_in, crate::specs::Built::or_in, crate::specs::Built::or_on, clause_circuits::specs::Gates::kept_clauses))]
 pub fn worked_gates()
     ensures once { define_all_in (bare start) (any_statement (atom a ∷ atom b ∷ [])
-        ∷ any_statement (atom b ∷ atom a ∷ []) ∷ all_statements (atom (negation a) ∷ atom (negation b) ∷ []) ∷ [])
+        ∷ any_statement (atom b ∷ atom a ∷ [])
+        ∷ all_statements (atom (negation a) ∷ atom (negation b) ∷ []) ∷ [])
         ≡ shared ((negation a ∷ lit_of 3 ∷ []) ∷ (negation b ∷ lit_of 3 ∷ [])
         ∷ (a ∷ b ∷ negation (lit_of 3) ∷ []) ∷ []) 4 ((a ∷ b ∷ [], lit_of 3) ∷ [])
         (By (lit_of 3) ∷ By (lit_of 3) ∷ By (negation (lit_of 3)) ∷ []) }

@@ -16,6 +16,7 @@ same_test false false to from = refl
 -- a test that tells whether all wanted values are there is `includes`
 pub includes-test : (values wanted : List Text) (b : Bool) → (b ≡ true) ↔ All (Contains values) wanted → b ≡ includes values wanted
 includes-test values wanted b means = same_test b (includes values wanted)
-    (λ h. list_all-from_AllPass (is_one_text values) wanted (λ k d lt. list_any-from_Contains nat_list_eq_equiv _ values (means.0 h k d lt)))
+    (λ h. list_all-from_AllPass (is_one_text values) wanted
+    (λ k d lt. list_any-from_Contains nat_list_eq_equiv _ values (means.0 h k d lt)))
     (λ h. means.1 (λ k d lt. Contains-from_any (λ a b. (bytes_decides a b).0) _ values
     (AllPass-from_list_all (is_one_text values) wanted h k d lt)))

@@ -80,7 +80,8 @@ module _ (v : ℕ → Bool) where
       let digit : eval v (any_choice is_odd choices) ≡ is_odd n = any-chosen v is_odd choices ∙ ap (list_any is_odd) is
       ∙ or-false (is_odd n) in
       let less : n / 2 < 2 ^ more = omega (arith, pow-suc 2 more) in
-      let rest = digits-one more (2 * unit) (n / 2) (weighed_choices half_of choices) (chosen-weighed half_of choices ∙ ap (map half_of) is) less in
+      let rest = digits-one more (2 * unit) (n / 2) (weighed_choices half_of choices) (chosen-weighed half_of choices
+      ∙ ap (map half_of) is) less in
       said-cons t (digit_terms more (2 * unit) (weighed_choices half_of choices)) ∙ rw (digit, rest) (digit-sum unit n)
     where
       or-false : (b : Bool) → list_any (λ (c : Bool). c) (b ∷ []) ≡ b

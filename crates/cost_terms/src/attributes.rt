@@ -19,7 +19,8 @@ fn os_weights(
     problem: &Problem,
     choices: &[(Word, Lit)],
 ) -> Result<Vec<(u64, Lit)>, AllocError>
-    ensures { IfOk result (λ weights. weights.items ≡ weighed_choices (os_weight problem.now) choices.now) }
+    ensures { IfOk result (λ weights. weights.items ≡ weighed_choices (os_weight problem.now)
+        choices.now) }
 {
     let mut weights = Vec::new(alloc);
     for choice in choices {

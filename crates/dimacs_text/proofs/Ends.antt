@@ -38,7 +38,8 @@ said_here files command input before after (Err (Write stop)) read said no_read 
 
 -- the problem was read, and its encoding said or not
 pub was_said : (files : Option Files) (command : Command) (input : Input) (before after : Option (List ℕ)) (result : Result (Unit {0}) Stop)
-    → IfSome files (λ m. Gives {T = Input} (Ok input) (ReadsInput m command)) → OnOk result (after ≡ and_said before (text_of input.problem))
+    → IfSome files (λ m. Gives {T = Input} (Ok input) (ReadsInput m command))
+    → OnOk result (after ≡ and_said before (text_of input.problem))
     → (StopsBefore result → ⊥) → IfSome files (λ m. AttemptsBy m command before after result)
 was_said None command input before after result read said no_read = tt
 was_said (Some files) command input before after result read said no_read =
@@ -90,7 +91,8 @@ some_not_none x same = absurd cc
 -- a command asks for one text at most, or is due one refusal
 one_asked : ReadsOnce → (files : Files) (command : Command) → IsOne (Asks files command)
 one_asked one files command =
-    one_then (ReadsInput files command) (λ input. Is (Ok (text_of input.problem))) (one files command) (λ input. one_is (Ok (text_of input.problem)))
+    one_then (ReadsInput files command) (λ input. Is (Ok (text_of input.problem))) (one files command)
+    (λ input. one_is (Ok (text_of input.problem)))
 
 -- words pose one thing at most
 one_posed : ReadsOnce → (files : Files) (words : List (List ℕ)) (a b : Posed) → PosesBy files words a → PosesBy files words b → a ≡ b

@@ -65,7 +65,8 @@ rules-part problem g all =
     (p.0, (q.0, (and_parts (keeps rules.Unreachable problem g) true q.1).0))
 
 -- demands over the variables
-demands-below : (n : ℕ) (f : Demand → Statement) → ((d : Demand) → SaidBelow n (f d)) → (ds : List Demand) → SaidBelow n (any_statement (map f ds))
+demands-below : (n : ℕ) (f : Demand → Statement) → ((d : Demand) → SaidBelow n (f d)) → (ds : List Demand)
+    → SaidBelow n (any_statement (map f ds))
 demands-below n f each [] = tt
 demands-below n f each (d ∷ ds) = (each d, demands-below n f each ds)
 

@@ -40,7 +40,8 @@ module _ (problem : Problem) (graph : Content) where
     -- the rule of a buildable name
     pub buildable-kept : in_graph (buildable_rule problem name) ≡ keeps_buildable problem node
     unfolding keeps_buildable
-    buildable-kept = given-kept (is_in graph) _ ∙ ap (λ n. is_some (recipe_at problem n) && is_buildable_in (package_entry_of problem n)) (sym (named-so graph name node here))
+    buildable-kept = given-kept (is_in graph) _
+        ∙ ap (λ n. is_some (recipe_at problem n) && is_buildable_in (package_entry_of problem n)) (sym (named-so graph name node here))
 
     -- of its version
     pub version-kept : in_graph (version_rule problem name) ≡ keeps_version problem node
@@ -72,7 +73,8 @@ module _ (problem : Problem) (graph : Content) where
         entry-kept entry = rw (
           has (has_compiler (λ c. is_some_and c (same_compiler entry.compiler))),
           written-kept (is_in graph) _ (λ names. is_one_text names node.os) (λ names. has (has_os (is_one_text names))) entry.os,
-          written-kept (is_in graph) _ (λ names. is_one_text names node.target) (λ names. has (has_target (is_one_text names))) entry.targets,
+          written-kept (is_in graph) _ (λ names. is_one_text names node.target) (λ names. has (has_target (is_one_text names)))
+              entry.targets,
         ) (and-some node.compiler (same_compiler entry.compiler) (supports entry node))
 
     -- no path leads back to the node

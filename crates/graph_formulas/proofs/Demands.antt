@@ -34,8 +34,10 @@ module _ (problem : Problem) (packages : Text → List Text) (graph : Content)
   holds_here rule = keeps_rule (is_true (world_of problem) graph) rule
 
   -- the rows with a number
-  numbered : {R : Type 0} (number : ℕ) (number_of : R → ℕ) (rule : R → Proposition Term) (test : R → Bool) → ((row : R) → holds_here (rule row) ≡ test row) → (rows : List R)
-      → holds_here (each_keeps rule (filter (λ row. number_of row == number) rows)) ≡ list_all (λ row. implies (number_of row == number) (test row)) rows
+  numbered : {R : Type 0} (number : ℕ) (number_of : R → ℕ) (rule : R → Proposition Term) (test : R → Bool)
+      → ((row : R) → holds_here (rule row) ≡ test row) → (rows : List R)
+      → holds_here (each_keeps rule (filter (λ row. number_of row == number) rows))
+      ≡ list_all (λ row. implies (number_of row == number) (test row)) rows
   numbered number number_of rule test same rows =
       each-kept (is_true (world_of problem) graph) rule test same (filter (λ row. number_of row == number) rows)
       ∙ all-filter test (λ row. number_of row == number) rows

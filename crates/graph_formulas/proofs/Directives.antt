@@ -105,7 +105,8 @@ module _ (problem : Problem) (packages : Text → List Text) (graph : Content)
       ]
 
   -- a rule of a node to build
-  pub built-kept : (name : Text) (rule : Proposition Term) (test : Node → Bool) → ((node : Node) → node_of graph name ≡ Some node → holds_true rule ≡ test node)
+  pub built-kept : (name : Text) (rule : Proposition Term) (test : Node → Bool)
+      → ((node : Node) → node_of graph name ≡ Some node → holds_true rule ≡ test node)
       → holds_true (where_built name rule) ≡ if_written (node_of graph name) (λ node. implies (is_built node) (test node))
   built-kept name rule test same =
       by_node graph name (λ o. (not (is_some_and o is_built) || holds_true rule) ≡ if_written o (λ node. implies (is_built node) (test node)))

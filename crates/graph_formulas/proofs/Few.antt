@@ -114,9 +114,11 @@ module _ {W T : Type 0} (p : W → Bool) (rule : T → Proposition W) (test : T 
       let front = few-kept times (take (half_length xs) xs) in
       let back = few-kept times (drop (half_length xs) xs) in
       elim (nat_lt 8 (length xs)) as (λ b. all_kept (if b then halves_rule rule (take (half_length xs) xs) (drop (half_length xs) xs)
-      ∷ (few_rules times rule (take (half_length xs) xs) ++ few_rules times rule (drop (half_length xs) xs)) else apart_rules rule xs) ≡ few test xs) [
+      ∷ (few_rules times rule (take (half_length xs) xs) ++ few_rules times rule (drop (half_length xs) xs)) else apart_rules rule xs)
+      ≡ few test xs) [
         | true ↦ ap (λ b. keeps_rule p (halves_rule rule (take (half_length xs) xs) (drop (half_length xs) xs)) && b)
-            (list_all-append (keeps_rule p) (few_rules times rule (take (half_length xs) xs)) (few_rules times rule (drop (half_length xs) xs)))
+            (list_all-append (keeps_rule p) (few_rules times rule (take (half_length xs) xs))
+            (few_rules times rule (drop (half_length xs) xs)))
             ∙ rw (halves-kept (take (half_length xs) xs) (drop (half_length xs) xs), front, back) refl
             ∙ sym (few-append test (take (half_length xs) xs) (drop (half_length xs) xs))
             ∙ ap (few test) (take-append-drop (half_length xs) xs)

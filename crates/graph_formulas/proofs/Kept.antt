@@ -138,7 +138,8 @@ module _ (world : World) (graph : Content) where
           row-there : (row : ProvideRow) → keeps (row_rule world name virtual wanted row) ≡ row_provides world node virtual wanted row
           row-there row = row-there-cases (bytes_eq row.name virtual) (lists_overlap row.versions wanted) (tops_rule world name row.when.specs) _ (tops-there row.when.specs)
             where
-              row-there-cases : (a c : Bool) (rule : Proposition GraphWord) (b : Bool) → keeps rule ≡ b → keeps (if a && c then rule else nowhere) ≡ (a && b && c)
+              row-there-cases : (a c : Bool) (rule : Proposition GraphWord) (b : Bool) → keeps rule ≡ b
+                  → keeps (if a && c then rule else nowhere) ≡ (a && b && c)
               row-there-cases true true rule b same = same ∙ sym (and-true b)
               row-there-cases true false rule b same = sym (off-right b false refl)
               row-there-cases false c rule b same = refl
@@ -157,7 +158,9 @@ module _ (world : World) (graph : Content) where
       values-absent : (wanted : Text × List Text) → keeps (values_rule name wanted) ≡ false
       values-absent wanted = values-absent-cases wanted.1
         where
-          values-absent-cases : (xs : List Text) → keeps (asked_unless (is_filled xs) (fact (node_has name (has_variant wanted.0))) and each_keeps (λ value. fact (node_has name (has_value wanted.0 (bytes_eq value)))) xs) ≡ false
+          values-absent-cases : (xs : List Text) → keeps
+              (asked_unless (is_filled xs) (fact (node_has name (has_variant wanted.0))) and each_keeps
+              (λ value. fact (node_has name (has_value wanted.0 (bytes_eq value)))) xs) ≡ false
           values-absent-cases [] = rw (none-there (has_variant wanted.0)) refl
           values-absent-cases (x ∷ xs) = rw (none-there (has_value wanted.0 (bytes_eq x))) refl
 
@@ -165,7 +168,8 @@ module _ (world : World) (graph : Content) where
       each-absent [] asks = cc
       each-absent (x ∷ xs) asks = rw (values-absent x) refl
 
-      written-absent : {T : Type 0} (f : T → Fact) (o : Option T) → is_some o ≡ true → keeps (where_written o (λ x. fact (node_has name (f x)))) ≡ false
+      written-absent : {T : Type 0} (f : T → Fact) (o : Option T) → is_some o ≡ true
+          → keeps (where_written o (λ x. fact (node_has name (f x)))) ≡ false
       written-absent f None asks = cc
       written-absent f (Some x) asks = none-there (f x)
 
@@ -231,9 +235,11 @@ module _ (world : World) (graph : Content) where
 
   -- ---- specs and conditions, where the lists have each provider
 
-  module _ (packages : Text → List Text) (listed : (virtual p : Text) → provider_of graph virtual ≡ Some p → is_one_text (packages virtual) p ≡ true) where
+  module _ (packages : Text → List Text) (listed : (virtual p : Text) → provider_of graph virtual ≡ Some p
+      → is_one_text (packages virtual) p ≡ true) where
     -- a rule at the node that a name asks for
-    pub asked-kept : (asked : Text) (rule : Text → Proposition GraphWord) (test : Node → Bool) → ((name : Text) → keeps (rule name) ≡ is_some_and (node_of graph name) test)
+    pub asked-kept : (asked : Text) (rule : Text → Proposition GraphWord) (test : Node → Bool)
+        → ((name : Text) → keeps (rule name) ≡ is_some_and (node_of graph name) test)
         → keeps (asked_rule world packages asked rule) ≡ is_some_and (asked_node world graph asked) test
     unfolding asked_node
     asked-kept asked rule test same = elim (cases_Bool (is_virtual world.recipes asked)) [

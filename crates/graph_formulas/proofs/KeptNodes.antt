@@ -128,7 +128,8 @@ module _ (problem : Problem) (graph : Content) (name : Text) (node : Node) (here
   kinds-kept child kinds = rw (given-kept (is_in graph) kinds.link, given-kept (is_in graph) kinds.run) (kinds-kept-cases (edge_of graph name child))
     where
       kinds-kept-cases : (o : Option Edge) → (((on o (record kinds { build = false }) && not (on o (record empty_kinds { build = true })))
-          && (not (on o (record empty_kinds { link = true })) || kinds.link)) && (not (on o (record empty_kinds { run = true })) || kinds.run))
+          && (not (on o (record empty_kinds { link = true })) || kinds.link))
+          && (not (on o (record empty_kinds { run = true })) || kinds.run))
           ≡ is_some_and o (has_kinds kinds)
       kinds-kept-cases None = refl
       kinds-kept-cases (Some e) = kind-tests (covers e.kinds (record kinds { build = false })) e.kinds.build e.kinds.link e.kinds.run kinds.link kinds.run
@@ -138,20 +139,25 @@ module _ (problem : Problem) (graph : Content) (name : Text) (node : Node) (here
       (λ child. is_some_and (node_of graph child.name) (is_installed d.0) && is_some_and (edge_of graph name child.name) (has_kinds d.1))
       (λ child. ap (λ b. is_some_and (node_of graph child.name) (is_installed d.0) && b) (kinds-kept child.name d.1)) (record_at problem d.0)
 
-  recorded-kept : (entry : Record) → in_graph (each_keeps (recorded_rule problem children name entry) children) ≡ list_all (is_child problem entry) (edges_from graph name)
+  recorded-kept : (entry : Record) → in_graph (each_keeps (recorded_rule problem children name entry) children)
+      ≡ list_all (is_child problem entry) (edges_from graph name)
   recorded-kept entry =
       each-kept (is_in graph) (recorded_rule problem children name entry) (λ child. if_written (edge_of graph name child) (is_child problem entry))
       (λ child. recorded-kept-cases child (edge_of graph name child) (child-named child)) children
       ∙ sym (edges (is_child problem entry))
     where
       recorded-kept-cases : (child : Text) (o : Option Edge) → ((e : Edge) → o ≡ Some e → e.child ≡ child)
-          → (not (is_some_and o (λ e. covers e.kinds empty_kinds)) || in_graph (settled_test (is_child_name problem entry child))) ≡ if_written o (is_child problem entry)
-      recorded-kept-cases child None named = refl
-      recorded-kept-cases child (Some e) named = given-kept (is_in graph) (is_child_name problem entry child) ∙ ap (is_child_name problem entry) (sym (named e refl))
+          → (not (is_some_and o (λ e. covers e.kinds empty_kinds)) || in_graph (settled_test (is_child_name problem entry child)))
+          ≡ if_written o (is_child problem entry)
+      recorded-kept-cases child None one_keeps = refl
+      recorded-kept-cases child (Some e) one_keeps = given-kept (is_in graph) (is_child_name problem entry child)
+          ∙ ap (is_child_name problem entry) (sym (one_keeps e refl))
 
-  no-edge-kept : in_graph (each_keeps (λ child. isnt (fact (has_edge name child empty_kinds))) children) ≡ list_all (λ e. false) (edges_from graph name)
+  no-edge-kept : in_graph (each_keeps (λ child. isnt (fact (has_edge name child empty_kinds))) children) ≡ list_all (λ e. false)
+      (edges_from graph name)
   no-edge-kept =
-      each-kept (is_in graph) (λ child. isnt (fact (has_edge name child empty_kinds))) (λ child. if_written (edge_of graph name child) (λ e. false))
+      each-kept (is_in graph) (λ child. isnt (fact (has_edge name child empty_kinds)))
+      (λ child. if_written (edge_of graph name child) (λ e. false))
       (λ child. none (edge_of graph name child)) children
       ∙ sym (edges (λ e. false))
     where
@@ -165,11 +171,13 @@ module _ (problem : Problem) (graph : Content) (name : Text) (node : Node) (here
     named-kept (is_in graph) (λ entry. same_rule name (external_node problem name place entry)) (λ entry. same_attributes node (external_node problem name place entry))
         (λ entry. same-kept (external_node problem name place entry)) (slice_get (externals_in (package_entry_of problem name)) place),
     no-edge-kept,
-  ) (ap (λ n. is_some_and (slice_get (externals_in (package_entry_of problem n)) place) (λ entry. same_attributes node (external_node problem n place entry))
+  ) (ap (λ n. is_some_and (slice_get (externals_in (package_entry_of problem n)) place)
+      (λ entry. same_attributes node (external_node problem n place entry))
       && list_all (λ e. false) (edges_from graph n)) (sym (named-so graph name node here)))
   origin-kept (Installed hash) =
       named-kept (is_in graph)
-      (λ entry. same_rule name (installed_node entry) and each_keeps (child_rule problem children name) (kept_dependencies entry) and each_keeps (recorded_rule problem children name entry) children)
+      (λ entry. same_rule name (installed_node entry) and each_keeps (child_rule problem children name) (kept_dependencies entry) and
+      each_keeps (recorded_rule problem children name entry) children)
       (λ entry. same_attributes node (installed_node entry) && list_all (keeps_child problem graph name) (kept_dependencies entry) && list_all (is_child problem entry) (edges_from graph name))
       (λ entry. rw (
         same-kept (installed_node entry),

@@ -26,10 +26,12 @@ use Rattle.graph_formulas.proofs.WordsSaid.{word-said}
 use Rattle.graph_formulas.proofs.Kept.{meets-kept, provides-kept, holds-kept, condition-kept}
 
 -- what is chosen is one of the choices
-chosen-among : (v : ℕ → Bool) (choices : Choices Text) (x : Text) → is_one_text (chosen v choices) x ≡ true → is_one_text (choice_values choices) x ≡ true
+chosen-among : (v : ℕ → Bool) (choices : Choices Text) (x : Text) → is_one_text (chosen v choices) x ≡ true
+    → is_one_text (choice_values choices) x ≡ true
 chosen-among v [] x h = h
 chosen-among v (c ∷ cs) x h = elim (cases_Bool (lit_true v c.1)) [
-  | inl t ↦ chosen-among-cases (bytes_eq x c.0) (is_one_text (chosen v cs) x) (is_one_text (choice_values cs) x) (chosen-among v cs x) (rw t at h)
+  | inl t ↦ chosen-among-cases (bytes_eq x c.0) (is_one_text (chosen v cs) x) (is_one_text (choice_values cs) x)
+      (chosen-among v cs x) (rw t at h)
   | inr f ↦ or_right (bytes_eq x c.0) (is_one_text (choice_values cs) x) (chosen-among v cs x (rw f at h))
 ]
   where
@@ -38,7 +40,8 @@ chosen-among v (c ∷ cs) x h = elim (cases_Bool (lit_true v c.1)) [
     chosen-among-cases false b c f h = f h
 
 -- a provider is among the packages of its virtual
-pub provider-listed : (v : ℕ → Bool) (table : Table) (graph : Content) → Spells v table graph → (virtual p : Text) → provider_of graph virtual ≡ Some p → is_one_text (names_for table virtual) p ≡ true
+pub provider-listed : (v : ℕ → Bool) (table : Table) (graph : Content) → Spells v table graph → (virtual p : Text)
+    → provider_of graph virtual ≡ Some p → is_one_text (names_for table virtual) p ≡ true
 provider-listed v table graph s virtual p is =
     chosen-among v (packages_of table virtual) p (rw (s.providers virtual, is, (bytes_decides p p).1 refl) refl)
 

@@ -23,7 +23,8 @@ module _ (problem : Problem) where
   abbrev pub entry_rule : Text → CompilerEntry → Proposition GraphWord
   entry_rule name entry =
       fact (node_has name (has_compiler (λ c. is_some_and c (same_compiler entry.compiler))))
-      and (where_written entry.os (λ names. fact (node_has name (has_os (is_one_text names)))) and where_written entry.targets (λ names. fact (node_has name (has_target (is_one_text names)))))
+      and (where_written entry.os (λ names. fact (node_has name (has_os (is_one_text names)))) and where_written entry.targets
+      (λ names. fact (node_has name (has_target (is_one_text names)))))
 
   abbrev pub compiler_rule : Text → Proposition GraphWord
   compiler_rule name = some (entry_rule name) problem.settings.compilers
@@ -41,4 +42,6 @@ module _ (problem : Problem) where
   no_cycle_rule name = isnt (fact (has_path name name))
 
   abbrev pub reachable_rule : Text → Proposition GraphWord
-  reachable_rule name = some (λ spec. one_keeps spec.top.name (λ root. any_rule (settled_test (bytes_eq root name) ∷ fact (has_path root name) ∷ []))) problem.roots
+  reachable_rule name =
+      some (λ spec. one_keeps spec.top.name (λ root. any_rule (settled_test (bytes_eq root name) ∷ fact (has_path root name) ∷ [])))
+      problem.roots

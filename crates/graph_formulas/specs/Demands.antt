@@ -13,11 +13,14 @@ module _ (problem : Problem) (packages : Text → List Text) where
   -- the directives with this number
   abbrev pub directive_rule : ℕ → Text → Proposition Term
   directive_rule number name =
-      each_keeps (λ row. edge_rule problem packages name row and constraint_rule problem packages name row) (filter (λ row. row.number == number) (depends_at problem name))
+      each_keeps (λ row. edge_rule problem packages name row and constraint_rule problem packages name row)
+      (filter (λ row. row.number == number) (depends_at problem name))
       and each_keeps (conflict_rule problem packages name) (filter (λ row. row.number == number) (conflicts_at problem name))
       and each_keeps (requirement_rule problem packages name) (filter (λ row. row.number == number) (requirements_at problem name))
 
   -- a directive of a name that no node can have holds by itself, and nothing of it is said
   abbrev pub demand_rule : (Text → Bool) → Demand → Proposition Term
-  demand_rule may_be (demand.Root place) = where_written (slice_get problem.roots place) (λ spec. known_rule (root_rule problem packages spec))
-  demand_rule may_be (demand.Directive name number) = if may_be name then where_built name (directive_rule number name) else settled_test true
+  demand_rule may_be (demand.Root place) = where_written (slice_get problem.roots place)
+      (λ spec. known_rule (root_rule problem packages spec))
+  demand_rule may_be (demand.Directive name number) =
+      if may_be name then where_built name (directive_rule number name) else settled_test true

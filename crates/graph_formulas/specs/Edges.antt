@@ -5,28 +5,31 @@ use Rattle.std.specs.Str.{bytes_eq}
 use Rattle.clause_formulas.specs.Rules.{Proposition, fact, if_so}
 use Rattle.graph_core.specs.Graphs.{Text}
 use Rattle.condition_rules.specs.Words.{is_one_text, is_some_and}
+use Rattle.condition_rules.specs.Worlds.{World}
 use Rattle.graph_core.specs.declared.node.Kinds.{Kinds}
 use Rattle.virtuals.specs.Virtuals.{is_virtual}
 use Rattle.recipe_data.specs.declared.recipe.DependRow.{DependRow}
 use Rattle.problem.specs.Problems.{Problem, world_of, depends_at}
-use Rattle.graph_formulas.specs.Facts.{provides_as, has_edge}
+use Rattle.graph_formulas.specs.Facts.{GraphWord, provides_as, has_edge}
 use Rattle.graph_formulas.specs.Lists.{◌and◌, settled_test, one_keeps, each_keeps, some}
-use Rattle.graph_formulas.specs.Parts.{asked_rule}
 use Rattle.graph_formulas.specs.Terms.{Term, known_rule, met_rule, built_rule}
 
 abbrev pub empty_kinds : Kinds
 empty_kinds = record { build = false; link = false; run = false }
 
+-- a name asks for this child, where that is there: it is the child's own, or that of a virtual which the child provides
+abbrev pub asked_child : World → Text → Text → Proposition GraphWord
+asked_child world child asked = if is_virtual world.recipes asked then fact (provides_as asked child) else settled_test (bytes_eq asked child)
+
 module _ (problem : Problem) (packages : Text → List Text) where
   -- the row holds at the node and asks for this child, where that is there
   abbrev pub asks_rule : Text → Text → DependRow → Proposition Term
-  asks_rule name child row =
-      met_rule name row.when
-      and known_rule (one_keeps row.part.name (λ asked. asked_rule (world_of problem) packages asked (λ n. settled_test (bytes_eq n child))))
+  asks_rule name child row = met_rule name row.when and known_rule (one_keeps row.part.name (asked_child (world_of problem) child))
 
   -- the row may ask for this child, by its name or by a virtual
   abbrev pub may_ask : Text → DependRow → Bool
-  may_ask child row = is_some_and row.part.name (λ asked. if is_virtual problem.recipes asked then is_one_text (packages asked) child else bytes_eq asked child)
+  may_ask child row = is_some_and row.part.name
+      (λ asked. if is_virtual problem.recipes asked then is_one_text (packages asked) child else bytes_eq asked child)
 
   -- where the edge has the kind, some row asks for it
   abbrev pub kind_rule : Kinds → (Kinds → Bool) → Text → Text → Proposition Term
@@ -64,4 +67,5 @@ module _ (problem : Problem) where
 
 -- the provider of a virtual keeps a rule
 abbrev pub of_provider : (Text → List Text) → (Text × Text → Proposition Term) → Text → Proposition Term
-of_provider packages rule virtual = each_keeps (λ p. if_so (known_rule (fact (provides_as virtual p))) (rule (virtual, p))) (packages virtual)
+of_provider packages rule virtual = each_keeps (λ p. if_so (known_rule (fact (provides_as virtual p))) (rule (virtual, p)))
+    (packages virtual)

@@ -87,7 +87,8 @@ module _ (problem : Problem) (children : List Text) where
   abbrev pub origin_rule : Text → Origin → Proposition GraphWord
   origin_rule name Built = fact (node_has name (has_prefix is_none))
   origin_rule name (External place) =
-      one_keeps (slice_get (externals_in (package_entry_of problem name)) place) (λ entry. same_rule name (external_node problem name place entry))
+      one_keeps (slice_get (externals_in (package_entry_of problem name)) place)
+      (λ entry. same_rule name (external_node problem name place entry))
       and each_keeps (λ child. isnt (fact (has_edge name child empty_kinds))) children
   origin_rule name (Installed hash) =
       one_keeps (record_at problem hash) (λ entry.
@@ -97,4 +98,5 @@ module _ (problem : Problem) (children : List Text) where
 
   -- where the node has an origin, it is as that origin asks
   abbrev pub kept_rule : List Origin → Text → Proposition GraphWord
-  kept_rule origins name = each_keeps (λ origin. if_so (fact (node_has name (has_origin (same_origin origin)))) (origin_rule name origin)) origins
+  kept_rule origins name = each_keeps (λ origin. if_so (fact (node_has name (has_origin (same_origin origin)))) (origin_rule name origin))
+      origins

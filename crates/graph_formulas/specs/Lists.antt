@@ -37,11 +37,6 @@ each_keeps rule xs = every_rule (map rule xs)
 abbrev pub some : {W T : Type 0} → (T → Proposition W) → List T → Proposition W
 some rule xs = any_rule (map rule xs)
 
--- there is a last one that passes, and it keeps the rule
-abbrev pub last_one : {W T : Type 0} → (T → Proposition W) → (T → Proposition W) → List T → Proposition W
-last_one passes rule [] = nowhere
-last_one passes rule (x ∷ xs) = either_of (isnt (some passes xs) and passes x and rule x) (last_one passes rule xs)
-
 -- none keeps the rule
 abbrev pub none : {W T : Type 0} → (T → Proposition W) → List T → Proposition W
 none rule xs = isnt (some rule xs)
@@ -75,3 +70,25 @@ few_rules (suc times) rule xs =
 -- exactly one keeps the rule: so deep as one thing's rule, however long the list is
 abbrev pub just_one : {W T : Type 0} → (T → Proposition W) → List T → Proposition W
 just_one rule xs = some rule xs and every_rule (few_rules (length xs / 8) rule xs)
+
+-- there is a last one that passes, and it keeps the rule: one thing after the other
+abbrev pub last_in_turn : {W T : Type 0} → (T → Proposition W) → (T → Proposition W) → List T → Proposition W
+last_in_turn passes rule [] = nowhere
+last_in_turn passes rule (x ∷ xs) = either_of (isnt (some passes xs) and passes x and rule x) (last_in_turn passes rule xs)
+
+-- it stands in the front, and none of the back passes; or in the back
+abbrev pub last_of_halves : {W T : Type 0} → (T → Proposition W) → List T → Proposition W → Proposition W → Proposition W
+last_of_halves passes ys front back = any_rule ((none passes ys and front) ∷ back ∷ [])
+
+-- a list of more than eight is halved, so many times at most
+unfoldable pub last_halved : {W T : Type 0} → ℕ → (T → Proposition W) → (T → Proposition W) → List T → Proposition W
+last_halved zero passes rule xs = last_in_turn passes rule xs
+last_halved (suc times) passes rule xs =
+    if nat_lt 8 (length xs)
+    then last_of_halves passes (drop (half_length xs) xs) (last_halved times passes rule (take (half_length xs) xs))
+    (last_halved times passes rule (drop (half_length xs) xs))
+    else last_in_turn passes rule xs
+
+-- there is a last one that passes, and it keeps the rule
+abbrev pub last_one : {W T : Type 0} → (T → Proposition W) → (T → Proposition W) → List T → Proposition W
+last_one passes rule xs = last_halved (length xs / 8) passes rule xs

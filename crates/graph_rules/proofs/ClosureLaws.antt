@@ -236,7 +236,8 @@ module _ (problem : Problem) (graph : Content) (g : IsGraph graph) (k : keeps_al
         subst (λ (o : Option Text). if_written o (has_known problem names) ≡ true) root.1
         (list_all-each (λ spec. if_written spec.top.name (has_known problem names)) problem.roots needed.0
         (and_parts _ _ c).0 needed.1) in
-        elim (or_cases (bytes_eq root.0 node.name) (reaches_in graph root.0 node.name) root.2) as (λ _. is_one_text names node.name ≡ true) [
+        elim (or_cases (bytes_eq root.0 node.name) (reaches_in graph root.0 node.name) root.2) as
+        (λ _. is_one_text names node.name ≡ true) [
           | inl same ↦ let e = bytes_eq-same root.0 node.name same in
               subst (λ n. is_one_text names n ≡ true) e (from_known root.0 (ap (is_known problem) e ∙ known-node node there) held)
           | inr led ↦

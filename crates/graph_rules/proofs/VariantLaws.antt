@@ -34,7 +34,8 @@ or_swap false false c = refl
 same_key : (a b : List ℕ) → byte_cmp a b ≡ Equal → a ≡ b
 same_key a b e = same_text a b (sym (texts_ties a b ∙ rw e refl))
 
-among-with_text : (texts : List Text) (word text : Text) → is_one_text (with_text texts word) text ≡ (bytes_eq text word || is_one_text texts text)
+among-with_text : (texts : List Text) (word text : Text)
+    → is_one_text (with_text texts word) text ≡ (bytes_eq text word || is_one_text texts text)
 among-with_text [] word text = refl
 among-with_text (t ∷ ts) word text =
     let rest = among-with_text ts word text in
@@ -46,7 +47,8 @@ among-with_text (t ∷ ts) word text =
       | Greater ↦ λ e. rw rest (or_swap (bytes_eq text t) (bytes_eq text word) (is_one_text ts text))
     ] refl
 
-among-with_texts : (texts words : List Text) (text : Text) → is_one_text (with_texts texts words) text ≡ (is_one_text words text || is_one_text texts text)
+among-with_texts : (texts words : List Text) (text : Text)
+    → is_one_text (with_texts texts words) text ≡ (is_one_text words text || is_one_text texts text)
 unfolding with_texts
 among-with_texts texts [] text = refl
 among-with_texts texts (word ∷ words) text =

@@ -51,7 +51,8 @@ keeps_variant problem graph node = has_governed problem graph node && list_all (
 -- ---- Compiler and Machine
 
 abbrev pub supports : CompilerEntry → Node → Bool
-supports entry node = if_written entry.os (λ names. is_one_text names node.os) && if_written entry.targets (λ names. is_one_text names node.target)
+supports entry node = if_written entry.os (λ names. is_one_text names node.os)
+    && if_written entry.targets (λ names. is_one_text names node.target)
 
 -- Compiler: it has a compiler of the settings, which supports its OS and its target
 unfoldable pub keeps_compiler : Problem → Node → Bool

@@ -38,12 +38,14 @@ unfolding level
 same-length s p q j = length-row (level_start s p) (level_width s p) ∙ same-width s p q j
     ∙ sym (length-row (level_start s q) (level_width s q))
 
-pub turn-length : (s : LevelData) (x : ℕ) (a : Arc) → is_inside s a ≡ true → length (digit_row x (turns s a)) ≡ length (level s a.parent) - 1
+pub turn-length : (s : LevelData) (x : ℕ) (a : Arc) → is_inside s a ≡ true
+    → length (digit_row x (turns s a)) ≡ length (level s a.parent) - 1
 unfolding level turns
 turn-length s x a i = length-row x (turns s a) ∙ rw (i, length-row (level_start s a.parent) (level_width s a.parent)) refl
 
 -- the rules of an arc stand among those of all, with some turns
-pub arcs-at : (s : LevelData) (v : ℕ → Bool) (a : Arc) (x : ℕ) (arcs : List Arc) → list_all (eval v) (arcs_rules s x arcs) ≡ true → In a arcs
+pub arcs-at : (s : LevelData) (v : ℕ → Bool) (a : Arc) (x : ℕ) (arcs : List Arc)
+    → list_all (eval v) (arcs_rules s x arcs) ≡ true → In a arcs
     → (y : ℕ) × (list_all (eval v) (arc_rules s y a) ≡ true)
 unfolding arcs_rules
 arcs-at s v a x [] m i = absurd i

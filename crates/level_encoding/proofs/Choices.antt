@@ -30,7 +30,8 @@ chosen-from s v a i h = has_image arc_ends (filter (λ b. lit_true v b.lit) s.ar
     (in_filter (λ b. lit_true v b.lit) s.arcs a (In-has a s.arcs i) h)
 
 -- a chosen arc has a true literal
-pub chosen-to : (s : LevelData) (v : ℕ → Bool) (p q : ℕ) → HasArc (chosen s v) p q → (a : Arc) × In a s.arcs × (a.parent ≡ p) × (a.child ≡ q)
+pub chosen-to : (s : LevelData) (v : ℕ → Bool) (p q : ℕ) → HasArc (chosen s v) p q → (a : Arc) × In a s.arcs × (a.parent ≡ p)
+    × (a.child ≡ q)
     × (lit_true v a.lit ≡ true)
 unfolding chosen
 chosen-to s v p q h =

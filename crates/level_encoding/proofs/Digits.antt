@@ -75,7 +75,8 @@ passing_at-is test g (suc n) k h t =
 -- the width is the least number of digits that are enough
 pub width-is : (m w : ℕ) → ((k : ℕ) → k < w → 2 ^ k < m) → m ≤ 2 ^ w → w ≡ width m
 unfolding width
-width-is m w few enough = sym (position_or_len_is (λ k. leb m (2 ^ k)) (numbers_below m) w 0 (omega (arith, short w few, length-range_with_len 0 m))
+width-is m w few enough =
+    sym (position_or_len_is (λ k. leb m (2 ^ k)) (numbers_below m) w 0 (omega (arith, short w few, length-range_with_len 0 m))
     (λ k h. rw (at k (omega (arith, h, short w few))) (lt-leb m (2 ^ k) (few k h)))
     (λ h. let l = length-range_with_len 0 m in rw (at w (omega (arith, h, l))) (le-leb m (2 ^ w) enough)))
   where

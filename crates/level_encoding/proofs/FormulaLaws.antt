@@ -119,12 +119,17 @@ number-digits_of (suc w) x h =
 
 -- clauses of two and three formulas whose first one is met
 two-at : (v : ℕ → Bool) (r g : Statement) → eval v (any_statement (opposite r ∷ g ∷ [])) ≡ true → eval v r ≡ true → eval v g ≡ true
-two-at v r g h t = elim (or_cases (eval v g) false (first-or-at v r (any_statement (g ∷ [])) h t)) [ inl x ↦ x | inr x ↦ absurd (false≢true x) ]
+two-at v r g h t = elim (or_cases (eval v g) false (first-or-at v r (any_statement (g ∷ [])) h t)) [
+  | inl x ↦ x
+  | inr x ↦
+      absurd (false≢true x)
+]
 
 two-from : (v : ℕ → Bool) (r g : Statement) → (eval v r ≡ true → eval v g ≡ true) → eval v (any_statement (opposite r ∷ g ∷ [])) ≡ true
 two-from v r g h = first-or v r (any_statement (g ∷ [])) (λ t. or_left (eval v g) false (h t))
 
-three-at : (v : ℕ → Bool) (r f g : Statement) → eval v (any_statement (opposite r ∷ f ∷ g ∷ [])) ≡ true → eval v r ≡ true → (eval v f ≡ true)
+three-at : (v : ℕ → Bool) (r f g : Statement) → eval v (any_statement (opposite r ∷ f ∷ g ∷ [])) ≡ true → eval v r ≡ true
+    → (eval v f ≡ true)
     ⊎ (eval v g ≡ true)
 three-at v r f g h t = elim (or_cases (eval v f) (eval v g || false) (first-or-at v r (any_statement (f ∷ g ∷ [])) h t)) [
   | inl x ↦ inl x

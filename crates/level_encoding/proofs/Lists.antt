@@ -66,7 +66,8 @@ any_of-is v h t [] = refl
 any_of-is v h t (x ∷ xs) = by-bool (t x) (any_of-is v h t xs)
   where
     by-bool : (b : Bool) → eval v (any_statement (map h (filter t xs))) ≡ list_any (λ x. t x && eval v (h x)) xs
-        → eval v (any_statement (map h (cond b (x ∷ filter t xs) (filter t xs)))) ≡ ((b && eval v (h x)) || list_any (λ x. t x && eval v (h x)) xs)
+        → eval v (any_statement (map h (cond b (x ∷ filter t xs) (filter t xs))))
+        ≡ ((b && eval v (h x)) || list_any (λ x. t x && eval v (h x)) xs)
     by-bool true e = ap (λ r. eval v (h x) || r) e
     by-bool false e = e
 

@@ -34,7 +34,8 @@ abbrev pub keeping : LevelData → Rule
 keeping s = λ asked v. Meets v (constraints s)
 
 -- the choice rests on the old variables alone
-pub same-kept : (s : LevelData) (n : ℕ) → IsRight s → end s ≤ n → (asked v w : ℕ → Bool) → Agree n v w → keeping s asked v → keeping s asked w
+pub same-kept : (s : LevelData) (n : ℕ) → IsRight s → end s ≤ n → (asked v w : ℕ → Bool) → Agree n v w → keeping s asked v
+    → keeping s asked w
 same-kept s n right h asked v w a m =
     sym (all-agree n v w a (constraints s) (AllSaidBelow-le (end s) n (constraints s) h (constraints-below s right))) ∙ m
 

@@ -20,7 +20,8 @@ rising-none r p q t (suc digits) h = absurd (omega (arith, h))
 
 -- numbers of one digit
 pub rising-one : (r : Lit) (p q t digits : ℕ) → digits ≡ 1
-    → rising (atom r) (digit_row p digits) (digit_row q digits) (digit_row t (digits - 1)) ≡ last_rules (atom r) (atom (lit_of p)) (atom (lit_of q))
+    → rising (atom r) (digit_row p digits) (digit_row q digits) (digit_row t (digits - 1)) ≡ last_rules (atom r) (atom (lit_of p))
+    (atom (lit_of q))
 unfolding rising
 rising-one r p q t digits h = rw h refl
 
@@ -58,6 +59,7 @@ inside-turns s a h = rw h refl
 -- the rules of an arc, by where the levels stand
 pub level_rules-are : (s : LevelData) (a : Arc) → IsRight s → is_inside s a ≡ true → (p q w t : ℕ) → p ≡ level_start s a.parent
     → q ≡ level_start s a.child → w ≡ level_width s a.parent
-    → rising (atom a.lit) (digit_row p w) (digit_row q w) (digit_row t (w - 1)) ≡ rising (atom a.lit) (level s a.parent) (level s a.child) (digit_row t (turns s a))
+    → rising (atom a.lit) (digit_row p w) (digit_row q w) (digit_row t (w - 1)) ≡ rising (atom a.lit) (level s a.parent) (level s a.child)
+    (digit_row t (turns s a))
 unfolding level
 level_rules-are s a right i p q w t e f g = rw (e, f, g, inside-turns s a i, inside-width s a right i) refl

@@ -47,7 +47,8 @@ path_rules-none s q = refl
 pub path_rules-more : (s : LevelData) (q n : ℕ) → path_rules_to s q (n + 1) ≡ path_rules_to s q n ++ cond (leads s q n) (way_rules s q n) []
 unfolding path_rules_to
 path_rules-more s q n =
-    rw add-one (ap (λ xs. flat_map (way_rules s q) (filter (leads s q) xs)) (range-more 0 n ∙ ap (λ k. numbers_below n ++ k ∷ []) (zero-add n))
+    rw add-one (ap (λ xs. flat_map (way_rules s q) (filter (leads s q) xs)) (range-more 0 n
+    ∙ ap (λ k. numbers_below n ++ k ∷ []) (zero-add n))
     ∙ ap (flat_map (way_rules s q)) (filter-append (leads s q) (numbers_below n) (n ∷ []))
     ∙ flat_map-append (way_rules s q) (filter (leads s q) (numbers_below n)) (filter (leads s q) (n ∷ []))
     ∙ ap (λ xs. path_rules_to s q n ++ xs) (last (leads s q n)))
@@ -69,7 +70,8 @@ pub ruleset arcs_from_one = (leaving-child)
 -- the rules of the numbers below n
 below-more : (g : ℕ → List Statement) (n : ℕ) → flat_map g (numbers_below (n + 1)) ≡ flat_map g (numbers_below n) ++ g n
 below-more g n =
-    rw add-one (ap (flat_map g) (range-more 0 n ∙ ap (λ k. numbers_below n ++ k ∷ []) (zero-add n)) ∙ flat_map-append g (numbers_below n) (n ∷ [])
+    rw add-one (ap (flat_map g) (range-more 0 n ∙ ap (λ k. numbers_below n ++ k ∷ []) (zero-add n))
+    ∙ flat_map-append g (numbers_below n) (n ∷ [])
     ∙ ap (λ xs. flat_map g (numbers_below n) ++ xs) (append-nil (g n)))
 
 unfoldable pub node_rules_to : LevelData → ℕ → List Statement

@@ -69,7 +69,8 @@ module _ (s : LevelData) (v : ℕ → Bool) (right : IsRight s) (starts_chosen :
   back i h = by-bool (is_root_number s i) refl (all-flat-at (eval v) (node_rules s) i (numbers_below (numbers s)) parts.1
       (In-below (numbers s) i (node-within s v i h)))
     where
-      by-bool : (b : Bool) → is_root_number s i ≡ b → list_all (eval v) (node_rules s i) ≡ true → (b ≡ true) ⊎ ((p : ℕ) × HasArc (chosen s v) p i)
+      by-bool : (b : Bool) → is_root_number s i ≡ b → list_all (eval v) (node_rules s i) ≡ true → (b ≡ true)
+          ⊎ ((p : ℕ) × HasArc (chosen s v) p i)
       by-bool true e t = inl refl
       by-bool false e t =
           let ends = any_statement (map (λ a. atom a.lit) (filter (λ a. eqb a.child i) s.arcs)) in

@@ -91,7 +91,8 @@ begins_path s q a = if a.child == q then atom a.lit else conjunction (atom a.lit
 -- a path leads from p to q exactly where some arc begins one
 unfoldable pub way_rules : LevelData → ℕ → ℕ → List Statement
 way_rules s q p =
-    any_statement (opposite (path s p q) ∷ map (begins_path s q) (arcs_leaving s p)) ∷ map (λ a. implication_clause (begins_path s q a) (path s p q)) (arcs_leaving s p)
+    any_statement (opposite (path s p q) ∷ map (begins_path s q) (arcs_leaving s p))
+    ∷ map (λ a. implication_clause (begins_path s q a) (path s p q)) (arcs_leaving s p)
 
 unfoldable pub path_rules : LevelData → ℕ → List Statement
 path_rules s q = flat_map (way_rules s q) (filter (leads s q) (numbers_below (numbers s)))
@@ -102,7 +103,8 @@ turn_start s = path_start s (numbers s)
 
 unfoldable pub constraints : LevelData → List Statement
 constraints s =
-    arcs_rules s (turn_start s) s.arcs ++ flat_map (node_rules s) (numbers_below (numbers s)) ++ flat_map (path_rules s) (numbers_below (numbers s))
+    arcs_rules s (turn_start s) s.arcs ++ flat_map (node_rules s) (numbers_below (numbers s))
+    ++ flat_map (path_rules s) (numbers_below (numbers s))
 
 -- the new variables are those from the first one to before this one
 unfoldable pub end : LevelData → ℕ

@@ -111,7 +111,8 @@ pub(crate) fn add_rising(
     requires child { q + digits < 2 ^ 64 }
     requires turns { turn + digits ≤ 2 ^ 64 }
     ensures { OnOk result (rules.new.items ≡ rules.old.items
-        ++ rising (atom first) (digit_row p digits) (digit_row q digits) (digit_row turn (digits - 1))) }
+        ++ rising (atom first) (digit_row p digits) (digit_row q digits)
+        (digit_row turn (digits - 1))) }
 {
     match digits {
         0 => {

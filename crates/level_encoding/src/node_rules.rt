@@ -35,7 +35,8 @@ fn node(input: &LevelInput, i: usize) -> Formula
 
 /// The first formula is false, or some arc is chosen.
 fn unless_chosen(first: Formula, arcs: &[Arc], alloc: Global) -> Result<Formula, AllocError>
-    ensures { IfOk result (λ f. f ≡ any_statement (opposite first ∷ map (λ a. atom a.lit) arcs.now)) }
+    ensures { IfOk result (λ f. f ≡ any_statement
+        (opposite first ∷ map (λ a. atom a.lit) arcs.now)) }
 {
     let mut cases = Vec::new(alloc);
     cases.push(first.negated())?;
@@ -97,7 +98,8 @@ pub(crate) fn assert_nodes(
     requires plan { IsPlan input.now plan.now }
     requires made { end input.now ≤ clauses.old.vars }
     ensures built { OnOk result (clauses.new
-        ≡ assert_all clauses.old (flat_map (node_rules input.now) (numbers_below (numbers input.now)))) }
+        ≡ assert_all clauses.old (flat_map (node_rules input.now)
+        (numbers_below (numbers input.now)))) }
     ensures more { OnOk result (clauses.old.vars ≤ clauses.new.vars) }
     ensures allows { Allows clauses.old clauses.new
         (λ asked v. Meets v (constraints input.now)) }

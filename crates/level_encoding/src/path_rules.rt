@@ -98,7 +98,8 @@ fn path_begins(
     requires target { q < numbers input.now }
     requires number { p < numbers input.now }
     ensures { IfOk result (λ f. f ≡ any_statement
-        (opposite (path input.now p q) ∷ map (begins_path input.now q) (arcs_leaving input.now p))) }
+        (opposite (path input.now p q)
+        ∷ map (begins_path input.now q) (arcs_leaving input.now p))) }
 {
     let mut cases = Vec::new(alloc);
     cases.push(path(alloc, input, plan, p, q).negated())?;
@@ -208,7 +209,8 @@ pub(crate) fn assert_paths(
     requires plan { IsPlan input.now plan.now }
     requires made { end input.now ≤ clauses.old.vars }
     ensures built { OnOk result (clauses.new
-        ≡ assert_all clauses.old (flat_map (path_rules input.now) (numbers_below (numbers input.now)))) }
+        ≡ assert_all clauses.old (flat_map (path_rules input.now)
+        (numbers_below (numbers input.now)))) }
     ensures more { OnOk result (clauses.old.vars ≤ clauses.new.vars) }
     ensures allows { Allows clauses.old clauses.new
         (λ asked v. Meets v (constraints input.now)) }

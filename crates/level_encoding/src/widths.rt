@@ -26,7 +26,8 @@ pub(crate) fn is_joined(input: &LevelInput, reached: &PathTable, p: usize, q: us
 fn members(input: &LevelInput, reached: &PathTable, q: usize) -> usize
     requires reached { IsReached input.now reached.now }
     requires number { q < numbers input.now }
-    ensures counted { result ≡ members same (possible input.now) (numbers_below (numbers input.now)) q }
+    ensures counted { result ≡ members same (possible input.now)
+        (numbers_below (numbers input.now)) q }
     ensures few { result ≤ numbers input.now }
 {
     let mut count = 0;

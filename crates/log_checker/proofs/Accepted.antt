@@ -42,10 +42,12 @@ pub stopped-stays : (n : ℕ) (w : Why) (ls : List Line) → run_lines (Stopped 
 stopped-stays n w [] = refl
 stopped-stays n w (l ∷ ls) = stopped-stays n w ls
 
-pub run-accept : (s : CheckerState) (l : Line) (ls : List Line) → fault s l ≡ None → run_lines (Going s) (l ∷ ls) ≡ run_lines (Going (accept s l)) ls
+pub run-accept : (s : CheckerState) (l : Line) (ls : List Line) → fault s l ≡ None
+    → run_lines (Going s) (l ∷ ls) ≡ run_lines (Going (accept s l)) ls
 run-accept s l ls e = ap (λ o. run_lines (after_fault s l o) ls) e
 
-pub run-refuse : (s : CheckerState) (l : Line) (ls : List Line) (w : Why) → fault s l ≡ Some w → run_lines (Going s) (l ∷ ls) ≡ Stopped (s.lines + 1) w
+pub run-refuse : (s : CheckerState) (l : Line) (ls : List Line) (w : Why) → fault s l ≡ Some w
+    → run_lines (Going s) (l ∷ ls) ≡ Stopped (s.lines + 1) w
 run-refuse s l ls w e = ap (λ o. run_lines (after_fault s l o) ls) e ∙ stopped-stays (s.lines + 1) w ls
 
 AllClauses-push : (cs : List (List Lit)) (o : Option (List Lit)) → AllClauses cs → ((c : List Lit) → o ≡ Some c → IsClause c)
@@ -132,14 +134,16 @@ over s l b e = rw (b, e) refl
 stuck : (s : CheckerState) (l : Line) (ls : List Line) (w : Why) → fault s l ≡ Some w → goes_on (run_lines (Going s) (l ∷ ls)) ≡ true → ⊥
 stuck s l ls w e f = false≢true (sym (ap goes_on (run-refuse s l ls w e)) ∙ f)
 
-over-empty : (s : CheckerState) (ls : List Line) → eqb s.lines 0 ≡ false → s.ended ≡ true → goes_on (run_lines (Going s) ls) ≡ true → ls ≡ []
+over-empty : (s : CheckerState) (ls : List Line) → eqb s.lines 0 ≡ false → s.ended ≡ true
+    → goes_on (run_lines (Going s) ls) ≡ true → ls ≡ []
 over-empty s [] b e f = refl
 over-empty s (l ∷ ls) b e f = absurd (stuck s l ls OutOfOrder (over s l b e) f)
 
 nothing-left : (s : CheckerState) (ls : List Line) → ls ≡ [] → Rest s ls
 nothing-left s ls q = subst (Rest s) (sym q) (record { each = tt; last = tt; distinct = tt; suit = tt })
 
-pub fine-rest : (s : CheckerState) (ls : List Line) → s.ended ≡ false → IsUnderWay s → AllTyped ls → goes_on (run_lines (Going s) ls) ≡ true → Rest s ls
+pub fine-rest : (s : CheckerState) (ls : List Line) → s.ended ≡ false → IsUnderWay s → AllTyped ls
+    → goes_on (run_lines (Going s) ls) ≡ true → Rest s ls
 fine-rest s [] o g t f = record { each = tt; last = tt; distinct = tt; suit = tt }
 fine-rest s (l ∷ ls) o g t f = go (fault s l) refl (λ e h. fine-rest (accept s l) ls e (later s l g t.0) t.1 h)
   where
@@ -161,7 +165,8 @@ fine-rest s (l ∷ ls) o g t f = go (fault s l) refl (λ e h. fine-rest (accept 
         by true x = join (fault-keeps s l g.known g.rivals t.0 g.begun o e) last (after-is s l ls (nothing-left (accept s l) ls (last x)))
         by false x = join (fault-keeps s l g.known g.rivals t.0 g.begun o e) last (after-is s l ls (ih x after))
 
-pub rest-fine : (s : CheckerState) (ls : List Line) → s.ended ≡ false → IsUnderWay s → AllTyped ls → Rest s ls → goes_on (run_lines (Going s) ls) ≡ true
+pub rest-fine : (s : CheckerState) (ls : List Line) → s.ended ≡ false → IsUnderWay s → AllTyped ls → Rest s ls
+    → goes_on (run_lines (Going s) ls) ≡ true
 rest-fine s [] o g t h = refl
 rest-fine s (l ∷ ls) o g t h = ap goes_on (run-accept s l ls (keeps-fault s l g.known g.begun o (h.each.0, h.distinct.0, h.suit.0)))
     ∙ by (ends l) refl (λ e. rest-fine (accept s l) ls e (later s l g t.0) t.1
@@ -194,7 +199,8 @@ opens vars input bits values = and_from (eqb vars vars) (eqb (length input) (len
 
 -- nothing was refused exactly where the lines so far are a sound log of the kind, or none at all
 pub accepted-so_far : (vars : ℕ) (input : List (List Lit)) (bits : List Lit) (values : Option (List Bool)) (ls : List Line)
-    → AllClauses input → AllTyped ls → (goes_on (run_lines (Going (starting_state vars input bits values)) ls) ≡ true) ↔ IsSoFar vars input bits values ls
+    → AllClauses input → AllTyped ls → (goes_on (run_lines (Going (starting_state vars input bits values)) ls) ≡ true)
+    ↔ IsSoFar vars input bits values ls
 accepted-so_far vars input bits values [] a t = ((λ e. tt), (λ h. refl))
 accepted-so_far vars input bits values (l ∷ ls) a t = (to, from)
   where
@@ -253,7 +259,8 @@ ended-is s [] f o = ((λ e. absurd (false≢true (sym o ∙ e))), (λ h. absurd 
 ended-is s (l ∷ ls) f o = go (fault s l) refl (λ h e. ended-is (accept s l) ls h e)
   where
     go : (w : Option Why) → fault s l ≡ w
-        → (goes_on (run_lines (Going (accept s l)) ls) ≡ true → ends l ≡ false → (has_ended (run_lines (Going (accept s l)) ls) ≡ true) ↔ HasEnd ls)
+        → (goes_on (run_lines (Going (accept s l)) ls) ≡ true → ends l ≡ false
+        → (has_ended (run_lines (Going (accept s l)) ls) ≡ true) ↔ HasEnd ls)
         → (has_ended (run_lines (Going s) (l ∷ ls)) ≡ true) ↔ HasEnd (l ∷ ls)
     go (Some w) e ih = absurd (stuck s l ls w e f)
     go None e ih = by (ends l) refl

@@ -35,12 +35,15 @@ ids-why n End w e = absurd (none-some w e)
 place-early : (s : CheckerState) (l : Line) (w : Why) → place_fault s l ≡ Some w → is_late w ≡ false
 place-early s l w e = by (eqb s.lines 0) e
   where
-    behind : (o : Option Why) → unless (not s.ended && may_stand_later s l) OutOfOrder ≡ o → or_else o (ids_fault (length s.known) l) ≡ Some w
+    behind : (o : Option Why) → unless (not s.ended && may_stand_later s l) OutOfOrder ≡ o
+        → or_else o (ids_fault (length s.known) l) ≡ Some w
         → is_late w ≡ false
     behind None q f = subst (λ v. is_late v ≡ false) (ids-why (length s.known) l w f) refl
-    behind (Some v) q f = subst (λ v. is_late v ≡ false) (unless-why (not s.ended && may_stand_later s l) OutOfOrder v q ∙ same_Some v w f) refl
+    behind (Some v) q f = subst (λ v. is_late v ≡ false) (unless-why (not s.ended && may_stand_later s l) OutOfOrder v q
+        ∙ same_Some v w f) refl
 
-    by : (b : Bool) → (if b then unless (is_first_line s l) WrongCounts else or_else (unless (not s.ended && may_stand_later s l) OutOfOrder)
+    by : (b : Bool)
+        → (if b then unless (is_first_line s l) WrongCounts else or_else (unless (not s.ended && may_stand_later s l) OutOfOrder)
         (ids_fault (length s.known) l)) ≡ Some w → is_late w ≡ false
     by true f = subst (λ v. is_late v ≡ false) (unless-why (is_first_line s l) WrongCounts w f) refl
     by false f = behind (unless (not s.ended && may_stand_later s l) OutOfOrder) refl f
@@ -66,13 +69,15 @@ begun-ids s End e = absurd (false≢true e)
 pub place-ids : (s : CheckerState) (l : Line) → place_fault s l ≡ None → ids_fault (length s.known) l ≡ None
 place-ids s l e = by (eqb s.lines 0) e
   where
-    by : (b : Bool) → (if b then unless (is_first_line s l) WrongCounts else or_else (unless (not s.ended && may_stand_later s l) OutOfOrder)
+    by : (b : Bool)
+        → (if b then unless (is_first_line s l) WrongCounts else or_else (unless (not s.ended && may_stand_later s l) OutOfOrder)
         (ids_fault (length s.known) l)) ≡ None → ids_fault (length s.known) l ≡ None
     by true f = begun-ids s l (unless-true (is_first_line s l) WrongCounts f)
     by false f = (or_else-parts (unless (not s.ended && may_stand_later s l) OutOfOrder) (ids_fault (length s.known) l) f).1
 
 -- the faults of a line, apart
-faults : (s : CheckerState) (l : Line) → (p d o : Option Why) → place_fault s l ≡ p → derivation_fault s.bits s.known l ≡ d → own_line_fault s l ≡ o
+faults : (s : CheckerState) (l : Line) → (p d o : Option Why) → place_fault s l ≡ p → derivation_fault s.bits s.known l ≡ d
+    → own_line_fault s l ≡ o
     → fault s l ≡ or_else p (or_else d o)
 faults s l p d o e f g = ap (λ x. or_else x (or_else (derivation_fault s.bits s.known l) (own_line_fault s l))) e
     ∙ ap (λ x. or_else p (or_else x (own_line_fault s l))) f ∙ ap (λ x. or_else p (or_else d x)) g
@@ -89,7 +94,8 @@ pub record IsTaken (s : CheckerState) (ls : List Line) (t : CheckerState) (w : O
   pub lines : t.lines ≡ s.lines + count
   pub within : count + one_more w ≤ length ls
   pub grows : Grows s t
-  pub same : run_lines (Going s) ls ≡ progress_of t (verdict t.lines w (first_bad t.bits t.known (s.lines + 1) (take (count + one_more w) ls)))
+  pub same : run_lines (Going s) ls ≡ progress_of t
+      (verdict t.lines w (first_bad t.bits t.known (s.lines + 1) (take (count + one_more w) ls)))
 
 grows-self : (s : CheckerState) → Grows s s
 grows-self s = ([], ap (λ ks. record s { known = ks }) (sym (append-nil s.known)))

@@ -113,7 +113,8 @@ room s l e h = by (eqb s.lines 0) refl (or_else-parts (place_fault s l) (own_lin
 
     more : (b : Bool) → s.ended ≡ b → unless (not s.ended && may_stand_later s l) OutOfOrder ≡ None
         → s.lines + 1 ≤ length (with_added s.known (noted s.bits l)) + slack (ends l)
-    more true q f = absurd (false≢true (sym (ap (λ b. not b && may_stand_later s l) q) ∙ unless-true (not s.ended && may_stand_later s l) OutOfOrder f))
+    more true q f =
+        absurd (false≢true (sym (ap (λ b. not b && may_stand_later s l) q) ∙ unless-true (not s.ended && may_stand_later s l) OutOfOrder f))
     more false q f = room-open s l (subst (λ b. s.lines ≤ length s.known + slack b) q h)
         (sym (ap (λ b. not b && may_stand_later s l) q) ∙ unless-true (not s.ended && may_stand_later s l) OutOfOrder f)
 
@@ -121,7 +122,8 @@ room s l e h = by (eqb s.lines 0) refl (or_else-parts (place_fault s l) (own_lin
         → (if b then unless (is_first_line s l) WrongCounts else or_else (unless (not s.ended && may_stand_later s l) OutOfOrder)
         (ids_fault (length s.known) l)) ≡ None → s.lines + 1 ≤ length (with_added s.known (noted s.bits l)) + slack (ends l)
     by true q f = none q
-    by false q f = more s.ended refl (or_else-parts (unless (not s.ended && may_stand_later s l) OutOfOrder) (ids_fault (length s.known) l) f).0
+    by false q f =
+        more s.ended refl (or_else-parts (unless (not s.ended && may_stand_later s l) OutOfOrder) (ids_fault (length s.known) l) f).0
 
 -- the copied clauses are in order
 each-push : (cs : List (List Lit)) (c : List Lit) → AllClauses cs → IsClause c → AllClauses (cs ++ c ∷ [])

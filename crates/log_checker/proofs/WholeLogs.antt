@@ -192,4 +192,5 @@ accepted-is vars input bits values ls a t = (to, from)
     from g =
         let p = log-so_far vars input bits values ls g in
         let f = h.1 p.0 in
-        (finish-is (run_lines (Going (starting_state vars input bits values)) ls)).1 (f, (ended-is (starting_state vars input bits values) ls f refl).1 p.1)
+        (finish-is (run_lines (Going (starting_state vars input bits values)) ls)).1
+        (f, (ended-is (starting_state vars input bits values) ls f refl).1 p.1)

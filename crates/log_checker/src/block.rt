@@ -198,7 +198,8 @@ pub fn check_block<R: Threads + Sync, G: Gate>(
     position: &mut Position,
     lines: &[Line],
 ) -> Result<Option<(u64, Why)>, AllocError>
-    ensures ok { IfOk result (λ bad. progress_of position.new bad ≡ run_lines (Going position.old) lines.now) }
+    ensures ok { IfOk result (λ bad. progress_of position.new bad
+        ≡ run_lines (Going position.old) lines.now) }
     ensures grown { Grows position.old position.new }
 {
     let before = position.lines();

@@ -62,7 +62,8 @@ module _ (path : Text → Text → Statement) (t : Table) where
         each-alike f g (λ child. isnt (fact (has_edge name child empty_kinds))) (λ child. refl) children,
       )
       origin-alike name (Installed hash) = named-alike f g
-          (λ entry. same_rule name (installed_node entry) and each_keeps (child_rule problem children name) (kept_dependencies entry) and each_keeps (recorded_rule problem children name entry) children)
+          (λ entry. same_rule name (installed_node entry) and each_keeps (child_rule problem children name) (kept_dependencies entry) and
+          each_keeps (recorded_rule problem children name entry) children)
           (λ entry. (
             (same-alike name (installed_node entry), each-alike f g (child_rule problem children name) (child-alike name) (kept_dependencies entry)),
             each-alike f g (recorded_rule problem children name entry) (λ child. (refl, given-alike f g (is_child_name problem entry child))) children,

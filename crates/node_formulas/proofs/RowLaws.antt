@@ -22,21 +22,32 @@ use Rattle.node_formulas.proofs.PlainRows.{compiler-plain, kept-plain}
 use Rattle.node_formulas.proofs.Steps.{map-same}
 
 module _ (path : Text → Text → Statement) (condition : Text → Condition → Statement) (t : Table) (problem : Problem) where
-  pub buildable-row : all_statements (map (λ name. term_formula path condition t (where_built name (known_rule (buildable_rule problem name)))) (table_names t))
+  pub buildable-row : all_statements
+      (map (λ name. term_formula path condition t (where_built name (known_rule (buildable_rule problem name)))) (table_names t))
       ≡ built_row t (λ name. plain_said t (buildable_rule problem name))
-  buildable-row = ap all_statements (map-same (λ (name : Text). term_formula path condition t (where_built name (known_rule (buildable_rule problem name))))
+  buildable-row =
+      ap all_statements
+      (map-same (λ (name : Text). term_formula path condition t (where_built name (known_rule (buildable_rule problem name))))
       (λ (name : Text). built_said t name (plain_said t (buildable_rule problem name)))
-      (λ name. ap (built_said t name) (given-agree (word_said path t) (word_said no_paths t) (is_some (recipe_at problem name) && is_buildable_in (package_entry_of problem name)))) (table_names t))
+      (λ name. ap (built_said t name) (given-agree (word_said path t) (word_said no_paths t) (is_some (recipe_at problem name)
+      && is_buildable_in (package_entry_of problem name)))) (table_names t))
 
-  pub compiler-row : all_statements (map (λ name. term_formula path condition t (where_built name (known_rule (compiler_rule problem name)))) (table_names t))
+  pub compiler-row : all_statements
+      (map (λ name. term_formula path condition t (where_built name (known_rule (compiler_rule problem name)))) (table_names t))
       ≡ built_row t (λ name. plain_said t (compiler_rule problem name))
-  compiler-row = ap all_statements (map-same (λ (name : Text). term_formula path condition t (where_built name (known_rule (compiler_rule problem name))))
+  compiler-row =
+      ap all_statements
+      (map-same (λ (name : Text). term_formula path condition t (where_built name (known_rule (compiler_rule problem name))))
       (λ (name : Text). built_said t name (plain_said t (compiler_rule problem name)))
       (λ name. ap (built_said t name) (compiler-plain path t problem name)) (table_names t))
 
-  pub kept-row : all_statements (map (λ name. term_formula path condition t (where_there name (known_rule (kept_rule problem (children_of t name) (origins_of t name) name)))) (table_names t))
+  pub kept-row : all_statements
+      (map (λ name. term_formula path condition t
+      (where_there name (known_rule (kept_rule problem (children_of t name) (origins_of t name) name)))) (table_names t))
       ≡ there_row t (λ name. plain_said t (kept_rule problem (children_of t name) (origins_of t name) name))
-  kept-row = ap all_statements (map-same (λ (name : Text). term_formula path condition t (where_there name (known_rule (kept_rule problem (children_of t name) (origins_of t name) name))))
+  kept-row = ap all_statements
+      (map-same (λ (name : Text). term_formula path condition t
+      (where_there name (known_rule (kept_rule problem (children_of t name) (origins_of t name) name))))
       (λ (name : Text). there_said t name (plain_said t (kept_rule problem (children_of t name) (origins_of t name) name)))
       (λ name. ap (there_said t name) (kept-plain path t problem (children_of t name) (origins_of t name) name)) (table_names t))
 
@@ -44,11 +55,18 @@ module _ (path : Text → Text → Statement) (condition : Text → Condition �
       ≡ providers_said t (λ p. plain_said t (provider_rule problem p)) virtual
   providers-are virtual =
       each-said (term_said path condition t) (λ (p : Text). if_so (known_rule (fact (provides_as virtual p))) (known_rule (provider_rule problem (virtual, p)))) (names_for t virtual)
-      ∙ ap all_statements (map-same (λ (p : Text). term_formula path condition t (if_so (known_rule (fact (provides_as virtual p))) (known_rule (provider_rule problem (virtual, p)))))
+      ∙ ap all_statements
+      (map-same (λ (p : Text). term_formula path condition t
+      (if_so (known_rule (fact (provides_as virtual p))) (known_rule (provider_rule problem (virtual, p)))))
       (λ (p : Text). provided_said t virtual p (plain_said t (provider_rule problem (virtual, p))))
       (λ p. ap (provided_said t virtual p) (provides-agree path t (world_of problem) p virtual None)) (names_for t virtual))
 
-  pub provider-row : all_statements (map (λ virtual. term_formula path condition t (of_provider (names_for t) (λ p. known_rule (provider_rule problem p)) virtual)) (virtuals_of t))
+  pub provider-row : all_statements
+      (map (λ virtual. term_formula path condition t (of_provider (names_for t) (λ p. known_rule (provider_rule problem p)) virtual))
+      (virtuals_of t))
       ≡ provided_row t (λ p. plain_said t (provider_rule problem p))
-  provider-row = ap all_statements (map-same (λ (virtual : Text). term_formula path condition t (of_provider (names_for t) (λ p. known_rule (provider_rule problem p)) virtual))
+  provider-row =
+      ap all_statements
+      (map-same (λ (virtual : Text). term_formula path condition t
+      (of_provider (names_for t) (λ p. known_rule (provider_rule problem p)) virtual))
       (providers_said t (λ p. plain_said t (provider_rule problem p))) providers-are (virtuals_of t))

@@ -17,6 +17,7 @@ use site_settings::ExternalEntry;
 use std::alloc::{AllocError, Global};
 use word_formulas::given;
 
+/// The external of the name at a place of the settings.
 fn external_at<'a>(problem: &'a Problem, name: &str, place: u64) -> Option<&'a ExternalEntry>
     ensures { option_copied result
         ≡ slice_get (externals_in (package_entry_of problem.now name.now)) place }

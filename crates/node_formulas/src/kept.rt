@@ -45,6 +45,7 @@ fn installed_child(
     Formula::both(alloc, installed, kinds)
 }
 
+/// The record of the hash is there as a child, and there is such a record.
 fn child_formula(
     alloc: Global,
     problem: &Problem,
@@ -61,6 +62,7 @@ fn child_formula(
     }
 }
 
+/// What a dependency asks, where it is kept.
 fn push_dependency(
     alloc: Global,
     parts: &mut Vec<Formula>,
@@ -80,6 +82,7 @@ fn push_dependency(
     Ok(())
 }
 
+/// What each dependency asks that is kept.
 fn dependency_parts(
     alloc: Global,
     problem: &Problem,
@@ -146,6 +149,7 @@ fn recorded_edges(
     })
 }
 
+/// The node is that of the record, with its dependencies and no other edge.
 fn record_formula(
     alloc: Global,
     problem: &Problem,
@@ -208,6 +212,7 @@ fn no_edges(
     each(alloc, children, |child| no_edge(alloc, table, name, child))
 }
 
+/// The node is that of the external, and no edge leaves it.
 fn external_formula(
     alloc: Global,
     problem: &Problem,

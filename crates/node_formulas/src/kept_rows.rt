@@ -63,6 +63,7 @@ fn origins_formula(
     })
 }
 
+/// The same of a name that the table has.
 fn kept_in(
     alloc: Global,
     problem: &Problem,

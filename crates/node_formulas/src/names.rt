@@ -10,6 +10,7 @@ use literal_table::{Block, LiteralTable, ProviderLits};
 use plain_data::Word;
 use std::alloc::{AllocError, Global};
 
+/// The formulas of all names.
 fn name_parts<F: Fn(&Word) -> Result<Formula, AllocError>>(
     alloc: Global,
     blocks: &[Block],
@@ -41,6 +42,7 @@ pub fn each_name<F: Fn(&Word) -> Result<Formula, AllocError>>(
     Formula::all(alloc, parts)
 }
 
+/// The formulas of all virtuals.
 fn virtual_parts<F: Fn(&Word) -> Result<Formula, AllocError>>(
     alloc: Global,
     providers: &[ProviderLits],

@@ -41,7 +41,8 @@ no-more : ◌≡◌ {A = List Statement} [] []
 no-more = refl
 
 module _ (path : Text → Text → Statement) (condition : Text → Condition → Statement) (t : Table) (problem : Problem) where
-  variants-same : all_statements (map (λ name. term_formula path condition t (where_built name (variants_rule problem (variants_of t name) name)))
+  variants-same : all_statements
+      (map (λ name. term_formula path condition t (where_built name (variants_rule problem (variants_of t name) name)))
       (table_names t)) ≡ variant_row problem t condition
   variants-same =
       ap all_statements (map-agree _ _ (λ name. ap (λ s. implication_of (node_said t name (has_origin builds_node)) s)
@@ -54,7 +55,8 @@ module _ (path : Text → Text → Statement) (condition : Text → Condition �
       (map-agree _ _ (λ name. ap (λ s. implication_of (node_said t name (has_origin builds_node)) s)
       (extras-agree path condition t problem (children_of t name) name)) (table_names t))
 
-  used-same : all_statements (map (λ name. term_formula path condition t (of_provider (names_for t) (used_rule problem (table_names t)) name))
+  used-same : all_statements
+      (map (λ name. term_formula path condition t (of_provider (names_for t) (used_rule problem (table_names t)) name))
       (virtuals_of t)) ≡ used_row problem t condition
   used-same = ap all_statements (map-agree _ _ (provider-agree path condition t problem (table_names t)) (virtuals_of t))
 

@@ -19,7 +19,8 @@ use Rattle.rule_formulas.specs.Terms.{plain_term}
 module _ (problem : Problem) (t : Table) (condition : Text → Condition → Statement) where
   abbrev pub variant_row : Statement
   variant_row =
-      all_statements (map (λ name. plain_term t condition (where_built name (variants_rule problem (variants_of t name) name))) (table_names t))
+      all_statements (map (λ name. plain_term t condition (where_built name (variants_rule problem (variants_of t name) name)))
+      (table_names t))
 
   abbrev pub extra_row : Statement
   extra_row = all_statements
@@ -27,7 +28,8 @@ module _ (problem : Problem) (t : Table) (condition : Text → Condition → Sta
       (table_names t))
 
   abbrev pub used_row : Statement
-  used_row = all_statements (map (λ name. plain_term t condition (of_provider (names_for t) (used_rule problem (table_names t)) name)) (virtuals_of t))
+  used_row = all_statements (map (λ name. plain_term t condition (of_provider (names_for t) (used_rule problem (table_names t)) name))
+      (virtuals_of t))
 
   abbrev pub first_rows : List Statement
   first_rows = built_row t (λ name. plain_said t (buildable_rule problem name))

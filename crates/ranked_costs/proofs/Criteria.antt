@@ -257,7 +257,10 @@ module _ (problem : Problem) (limits : IsWithin problem) (names : List Text) (ri
                               off-root (unused_defaults_terms problem held) unused,
                               (
                                 compilers,
-                                (edges targets_differ (λ there a b. differ-top is_any_text bytes_eq there a.targets b.targets), (targets, tt)),
+                                (
+                                  edges targets_differ (λ there a b. differ-top is_any_text bytes_eq there a.targets b.targets),
+                                  (targets, tt),
+                                ),
                               ),
                             ),
                           ),

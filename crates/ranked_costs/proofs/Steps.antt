@@ -36,7 +36,8 @@ use Rattle.ranked_costs.proofs.VectorSums.{holding, sums-are}
 found-among : (t : Table) (name : Text) (b : Block) → block_of t name ≡ Some b → is_one_text (map block_name t.blocks) name ≡ true
 found-among t name b found =
     found-passes (is_one_text (map block_name t.blocks)) t.blocks name b
-    (list_all-from (is_one_text (map block_name t.blocks)) (map block_name t.blocks) (λ x there. among-In (map block_name t.blocks) x there)) found
+    (list_all-from (is_one_text (map block_name t.blocks)) (map block_name t.blocks)
+    (λ x there. among-In (map block_name t.blocks) x there)) found
 
 module _ (problem : Problem) (names : List Text) (place : Places) (order : List Text) where
   abbrev t : Table

@@ -35,7 +35,8 @@ use Rattle.ranked_costs.proofs.Values.{texts-few}
 
 module _ {X Y : Type 0} (make : ℕ → X → Y) (wide : X → ℕ) where
   -- an element of a run is made of one of the list
-  pub run-from : (n : ℕ) (xs : List X) (y : Y) → Contains (numbered_run make wide n xs) y → (m : ℕ) × (x : X) × Contains xs x × (make m x ≡ y)
+  pub run-from : (n : ℕ) (xs : List X) (y : Y) → Contains (numbered_run make wide n xs) y → (m : ℕ) × (x : X) × Contains xs x
+      × (make m x ≡ y)
   run-from n [] y there = absurd (omega (arith, there.1))
   run-from n (x ∷ xs) y there = ⊎_elim
       (λ same. (n, x, has_first x xs, same))
@@ -87,7 +88,8 @@ module _ (problem : Problem) (limits : IsWithin problem) (names : List Text) (ri
       let each = sum-le-in (λ name. length (rows field (find_key byte_cmp recipe_name problem.recipes name)))
       (λ name. adds_or_none (λ recipe. length (field recipe)) (find_key byte_cmp recipe_name problem.recipes name)) names
       (λ name there. omega (arith, rows-found field length refl (find_key byte_cmp recipe_name problem.recipes name))) in
-      let once = found (eq_by_cmp byte_cmp) cmp-same (λ (recipe : Recipe). length (field recipe)) recipe_name names rising problem.recipes in
+      let once = found (eq_by_cmp byte_cmp) cmp-same (λ (recipe : Recipe). length (field recipe)) recipe_name names rising
+      problem.recipes in
       let all = sum-le-in (λ (recipe : Recipe). length (field recipe)) size_of_recipe problem.recipes (λ recipe there. le recipe) in
       omega (arith, limits.recipes, each, once, all)
 

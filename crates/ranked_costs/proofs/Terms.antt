@@ -16,6 +16,7 @@ use Rattle.table_plan.specs.Numbers.{positive_lit, numbered}
 use Rattle.cost_terms.specs.declared.weighted.Weighted.{Weighted}
 use Rattle.cost_terms.specs.Weighed.{top_said}
 use Rattle.cost_terms.specs.Differ.{differ_said, differ_terms, can_differ}
+use Rattle.cost_terms.specs.Blocks.{none_among}
 use Rattle.cost_terms.specs.Governing.{Row, with_formulas, formulas_of, governing_rows, weighed_once as once_term, other_terms, unused_terms}
 use Rattle.literal_table.specs.Edges.{edge_there}
 use Rattle.cost_terms.specs.Terms.{child_terms, edge_terms, edges_terms}
@@ -53,7 +54,7 @@ module _ (terms : Row → Choices Text → List Weighted) (f : VariantRow → �
       → sum_by (λ r. top_said (terms r values)) (governing_rows rs) ≤ sum_by (λ (r : Row). f r.0) rs
   governing-sum values le [] = omega arith
   governing-sum values le (r ∷ rs) =
-      let governs : Row = (r.0, both_statements r.1 (no (any_statement (formulas_of rs)))) in
+      let governs : Row = (r.0, both_statements r.1 (none_among (formulas_of rs))) in
       let here = le governs in
       let rest = governing-sum values le rs in
       omega (

@@ -119,7 +119,8 @@ module _ (problem : Problem) where
   in-completed name v q entry of None is there =
       default-there name q (in-defaults name v q (find_last (λ row. bytes_eq row.name v) (variants_at problem name)) refl there)
   in-completed name v q entry of (Some u) is there =
-      written-there name q (in_flat_map (λ (e : ExternalEntry). values_of e.variants) (externals_in (package_entry_of problem name)) entry q of
+      written-there name q (in_flat_map (λ (e : ExternalEntry). values_of e.variants)
+      (externals_in (package_entry_of problem name)) entry q of
       (in_flat_map (λ (w : Text × List Text). w.1) entry.variants u q
       (found-there (λ (w : Text × List Text). bytes_eq w.0 v) entry.variants u is).0 there))
 
@@ -226,7 +227,8 @@ module _ (problem : Problem) (limits : IsWithin problem) where
 
   written-few : (name : Text) → length (Written problem name) ≤ 2 ^ 24
   written-few name =
-      let each = sum-le-in (λ (e : ExternalEntry). length (values_of e.variants)) external_members (externals_in (package_entry_of problem name))
+      let each = sum-le-in (λ (e : ExternalEntry). length (values_of e.variants)) external_members
+      (externals_in (package_entry_of problem name))
       (λ e there. omega (arith, length-values e.variants)) in
       omega (
         arith,

@@ -20,7 +20,8 @@ taken name (n ∷ ns) there = elim (cases_Bool (bytes_eq name n)) [
   | inr other ↦
       let later : is_one_text ns name ≡ true = rw other at there in
       rw other (IsPermutation-trans (n ∷ ns) (n ∷ name ∷ without_name name ns) (name ∷ n ∷ without_name name ns)
-      (IsPermutation-cons n ns (name ∷ without_name name ns) (taken name ns later)) (IsPermutation-middle (n ∷ []) name (without_name name ns)))
+      (IsPermutation-cons n ns (name ∷ without_name name ns) (taken name ns later))
+      (IsPermutation-middle (n ∷ []) name (without_name name ns)))
 ]
 
 -- the names that were left and those that were not entered are the same in another order

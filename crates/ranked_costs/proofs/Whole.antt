@@ -46,7 +46,8 @@ module _ (problem : Problem) (limits : IsWithin problem) (names : List Text) (ri
 
   -- a sum over the order is one over the names
   in-order : (f : Text → ℕ) → sum_by f order ≡ sum_by f names
-  in-order f = sum_by-IsPermutation f (map block_name (Own problem names n).blocks) order ordered ∙ ap (sum_by f) (own-names problem names n)
+  in-order f = sum_by-IsPermutation f (map block_name (Own problem names n).blocks) order ordered
+      ∙ ap (sum_by f) (own-names problem names n)
 
   part-bounded : (built : Bool) (terms : Block → List Weighted) → Bounded problem limits names rising few n held terms → (name : Text)
       → top_said (part_terms built terms (block_of (Own problem names n) name)) ≤ Rows name * 2 ^ 29 + 2 ^ 52

@@ -20,7 +20,8 @@ module _ (path : Text → Text → Statement) (table : Table) (world : World) (a
 
   -- where a virtual is asked for
   pub path-virtual : is_virtual world.recipes asked ≡ true
-      → any_statement (map (λ (c : Text × Lit). provided c.0) (packages_of table asked)) ≡ rule_said path table (asked_rule world (names_for table) asked keeps)
+      → any_statement (map (λ (c : Text × Lit). provided c.0) (packages_of table asked)) ≡ rule_said path table
+      (asked_rule world (names_for table) asked keeps)
   path-virtual is = rw is (ap any_statement (over-offered provided (packages_of table asked))
       ∙ sym (some-said (word_said path table) (λ name. both_of (fact (provides_as asked name)) (keeps name)) (names_for table asked)))
 

@@ -62,7 +62,8 @@ module _ {T : Type 0} (path : Text → Text → Statement) (table : Table) (rule
   -- the halves and what joins them
   pub few-joined : (old one two three : List Statement) (times : ℕ) (xs : List T) (h : Statement) → (times ≡ 0 → ⊥) → 8 < length xs
       → one ≡ old ++ h ∷ [] → h ≡ rule_said path table (halves_rule rule (take (half_length xs) xs) (drop (half_length xs) xs))
-      → two ≡ one ++ words (few_rules (times - 1) rule (take (half_length xs) xs)) → three ≡ two ++ words (few_rules (times - 1) rule (drop (half_length xs) xs))
+      → two ≡ one ++ words (few_rules (times - 1) rule (take (half_length xs) xs))
+      → three ≡ two ++ words (few_rules (times - 1) rule (drop (half_length xs) xs))
       → three ≡ old ++ words (few_rules times rule xs)
   few-joined old one two three times xs h some lt pushed halves front back =
       let a = few_rules (times - 1) rule (take (half_length xs) xs) in
@@ -70,5 +71,6 @@ module _ {T : Type 0} (path : Text → Text → Statement) (table : Table) (rule
       back ∙ ap (λ fs. fs ++ words b) (front ∙ ap (λ fs. fs ++ words a) pushed)
       ∙ append_assoc (old ++ h ∷ []) (words a) (words b) ∙ append_assoc old (h ∷ []) (words a ++ words b)
       ∙ ap (λ k. old ++ k ∷ (words a ++ words b)) halves
-      ∙ ap (λ fs. old ++ rule_said path table (halves_rule rule (take (half_length xs) xs) (drop (half_length xs) xs)) ∷ fs) (sym (map-append (rule_said path table) a b))
+      ∙ ap (λ fs. old ++ rule_said path table (halves_rule rule (take (half_length xs) xs) (drop (half_length xs) xs)) ∷ fs)
+      (sym (map-append (rule_said path table) a b))
       ∙ ap (λ rs. old ++ words rs) (sym (few-long times xs some lt))

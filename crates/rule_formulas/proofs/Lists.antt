@@ -27,7 +27,8 @@ use Rattle.graph_formulas.specs.Directives.{choice_rule}
 use Rattle.word_formulas.proofs.Steps.{both-same}
 use Rattle.rule_formulas.specs.Terms.{is_asked, choice_said}
 
-any-offered : (child : Text) (cs : Choices Text) → list_any (λ (c : Text × Lit). bytes_eq child c.0) cs ≡ list_any (bytes_eq child) (choice_values cs)
+any-offered : (child : Text) (cs : Choices Text)
+    → list_any (λ (c : Text × Lit). bytes_eq child c.0) cs ≡ list_any (bytes_eq child) (choice_values cs)
 any-offered child [] = refl
 any-offered child (c ∷ cs) = rw (any-offered child cs) refl
 
@@ -75,7 +76,8 @@ module _ (path : Text → Text → Statement) (condition : Text → Condition �
     abbrev known : T → Proposition Term
     known x = known_rule (rule x)
 
-    both-append : (rs qs : List (Proposition GraphWord)) (ts us : List (Proposition Term)) → words rs ≡ terms ts → words qs ≡ terms us → words (rs ++ qs) ≡ terms (ts ++ us)
+    both-append : (rs qs : List (Proposition GraphWord)) (ts us : List (Proposition Term)) → words rs ≡ terms ts → words qs ≡ terms us
+        → words (rs ++ qs) ≡ terms (ts ++ us)
     both-append rs qs ts us first second = map-append (rule_said path table) rs qs
         ∙ ap (λ fs. fs ++ words qs) first ∙ ap (λ fs. terms ts ++ fs) second ∙ sym (map-append (term_formula path condition table) ts us)
 

@@ -32,7 +32,8 @@ fn builds(origin: &Origin) -> bool
 
 /// The node of the name is to be built.
 fn built_formula(alloc: Global, table: &LiteralTable, name: &str) -> Result<Formula, AllocError>
-    ensures { IfOk result (λ formula. formula ≡ node_said table.now name.now (has_origin builds_node)) }
+    ensures { IfOk result (λ formula. formula ≡ node_said table.now name.now
+        (has_origin builds_node)) }
 {
     origin_passes(alloc, table, name, |origin| builds(origin))
 }

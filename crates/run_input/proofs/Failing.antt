@@ -10,24 +10,21 @@ use Rattle.run_input.specs.Paths.{FailsInside}
 use Rattle.run_input.specs.Inputs.{FailsAtInput}
 
 -- over the settings
-pub of_settings : (A B : Type 0) (told : Option Files) (command : Command) (stop : ReadStop)
-    → settings.FailsThere {A = A} command.settings (Err stop)
+pub of_settings : (A B : Type 0) (told : Option Files) (command : Command) (stop : ReadStop) → settings.FailsThere {A = A} command.settings (Err stop)
     → FailsAtInput {A = B} told command (Err stop)
 of_settings A B told command (Refused refusal) there = tt
 of_settings A B told command (Fault path) there = inl there
 of_settings A B told command NoMemory there = tt
 
 -- over the repository
-pub of_repository : (A B : Type 0) (told : Option Files) (command : Command) (stop : ReadStop)
-    → FailsInside {A = A} told command.repo (Err stop)
+pub of_repository : (A B : Type 0) (told : Option Files) (command : Command) (stop : ReadStop) → FailsInside {A = A} told command.repo (Err stop)
     → FailsAtInput {A = B} told command (Err stop)
 of_repository A B told command (Refused refusal) inside = tt
 of_repository A B told command (Fault path) inside = inr (inl inside)
 of_repository A B told command NoMemory inside = tt
 
 -- over the database
-pub of_database : (A B : Type 0) (told : Option Files) (command : Command) (stop : ReadStop)
-    → database.FailsThere {A = A} command.database (Err stop)
+pub of_database : (A B : Type 0) (told : Option Files) (command : Command) (stop : ReadStop) → database.FailsThere {A = A} command.database (Err stop)
     → FailsAtInput {A = B} told command (Err stop)
 of_database A B told command (Refused refusal) there = tt
 of_database A B told command (Fault path) there = inr (inr there)

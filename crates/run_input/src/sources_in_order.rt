@@ -7,6 +7,7 @@ ghost use Rattle.run_input.specs.Sources.{SourcePile, names_of, pile_of};
 
 /// The files are in byte order of the packages' names, each name once.
 pub fn source_laws()
-    ensures in_order { (files : Files) (repo : List ℕ) (pile : SourcePile) → pile_of files repo ≡ Ok pile
+    ensures in_order { (files : Files) (repo : List ℕ) (pile : SourcePile)
+        → pile_of files repo ≡ Ok pile
         → IsInByteOrder (names_of pile) }
 {}

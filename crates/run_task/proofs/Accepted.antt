@@ -39,7 +39,8 @@ AcceptsLines = (vars : ℕ) (input : List (List Lit)) (bits : List Lit) (values 
 
 -- what answers say of their logs
 abbrev pub AnswersWritten : Type 0
-AnswersWritten = (s : CheckerState) (lines : List Line) → AreWritable lines → answer_of s (log_text lines) ≡ Checked (finish_on (run_lines (Going s) lines))
+AnswersWritten = (s : CheckerState) (lines : List Line) → AreWritable lines
+    → answer_of s (log_text lines) ≡ Checked (finish_on (run_lines (Going s) lines))
 
 learnt_of : (line : Line) → IsLine line → OfLearnt IsClause line
 learnt_of (Header vars clauses bits) is = tt

@@ -27,7 +27,8 @@ behind file from out count piece none room = not_before (cases_lt from (length f
     not_before (inr h) = h
 
 module _ (path out : List ℕ) (from count : ℕ) (old : Stage) where
-  end_here : (file : Option (List ℕ)) → count ≡ 0 → 0 < length out → IsSomeAnd file (λ bytes. IsPiece bytes from out count) → (s : CheckerState)
+  end_here : (file : Option (List ℕ)) → count ≡ 0 → 0 < length out → IsSomeAnd file (λ bytes. IsPiece bytes from out count)
+      → (s : CheckerState)
       → TakesNext s file from path old old (Ok End)
   end_here None none room piece s = absurd piece
   end_here (Some file) none room piece s = λ ready. at_end s file from old ready (behind file from out count piece none room)
@@ -44,7 +45,8 @@ module _ (path out : List ℕ) (from count : ℕ) (old : Stage) where
     fed_piece : IsFed old new (take taken out)
     fed_piece = subst (IsFed old new) is_text fed
 
-    settled_here : is_settled new ≡ true → (file : Option (List ℕ)) → IsSomeAnd file (λ bytes. IsPiece bytes from out count) → (s : CheckerState)
+    settled_here : is_settled new ≡ true → (file : Option (List ℕ)) → IsSomeAnd file (λ bytes. IsPiece bytes from out count)
+        → (s : CheckerState)
         → TakesNext s file from path old new (Ok End)
     settled_here settled None piece s = absurd piece
     settled_here settled (Some file) piece s = λ ready. piece_settled s file out from count taken old new ready piece is_taken fed_piece settled
@@ -116,7 +118,8 @@ module _ (path : List ℕ) (from : ℕ) (old between new : Stage) where
   carries_more None place carried next = tt
   carries_more (Some files) place carried next = λ s file is ready. (rw is at (next s)) (carried s file is ready)
 
-  all_here : (file : Option (List ℕ)) (s : CheckerState) (next : Next) → ((bytes : List ℕ) → file ≡ Some bytes → Carries s bytes from old between)
+  all_here : (file : Option (List ℕ)) (s : CheckerState) (next : Next)
+      → ((bytes : List ℕ) → file ≡ Some bytes → Carries s bytes from old between)
       → TakesNext s file from path between new (Ok next) → TakesNext s file 0 path old new (Ok next)
   all_here None s next carried takes = absurd takes
   all_here (Some bytes) s next carried takes = λ ready. takes (carried bytes refl ready)
@@ -147,7 +150,8 @@ pub at_next : (before now : Option Files) (path : List ℕ) (from : ℕ) (old ne
     → IfSome before (λ files. (s : CheckerState) → TakesNext s (get files path) from path old new (Ok next))
 at_next before now path from old new given next same is taken =
     subst (λ (n : Next). IfSome before (λ files. (s : CheckerState) → TakesNext s (get files path) from path old new (Ok n))) is
-    (subst (λ (fs : Option Files). IfSome fs (λ files. (s : CheckerState) → TakesNext s (get files path) from path old new (Ok given))) same taken)
+    (subst (λ (fs : Option Files). IfSome fs (λ files. (s : CheckerState) → TakesNext s (get files path) from path old new (Ok given))) same
+    taken)
 
 -- and of a stop
 pub at_stop : (before now : Option Files) (path : List ℕ) (from : ℕ) (old new : Stage) (given stop : ReadStop) → now ≡ before → given ≡ stop
@@ -155,24 +159,29 @@ pub at_stop : (before now : Option Files) (path : List ℕ) (from : ℕ) (old ne
     → IfSome before (λ files. (s : CheckerState) → TakesNext s (get files path) from path old new (Err stop))
 at_stop before now path from old new given stop same is taken =
     subst (λ (n : ReadStop). IfSome before (λ files. (s : CheckerState) → TakesNext s (get files path) from path old new (Err n))) is
-    (subst (λ (fs : Option Files). IfSome fs (λ files. (s : CheckerState) → TakesNext s (get files path) from path old new (Err given))) same taken)
+    (subst (λ (fs : Option Files). IfSome fs (λ files. (s : CheckerState) → TakesNext s (get files path) from path old new (Err given)))
+    same taken)
 
 -- ---- what all pieces say of the file
 
 ready_at_begin : (s : CheckerState) (file : List ℕ) (c : Stage) → IsAfter s [] c → IsReady s file 0 c
 ready_at_begin s file c after = record { within = omega arith; after = after; unsettled = refl }
 
-said_by : (file : Option (List ℕ)) (s : CheckerState) (path : List ℕ) (old new : Stage) → IsAfter s [] old → TakesNext s file 0 path old new (Ok End)
-    → (or_refuse (MissingInput path) file >>= λ text. said_of_text s text) ≡ verdict_on_text (answer_at new.progress new.failed new.place.rest)
+said_by : (file : Option (List ℕ)) (s : CheckerState) (path : List ℕ) (old new : Stage) → IsAfter s [] old
+    → TakesNext s file 0 path old new (Ok End)
+    → (or_refuse (MissingInput path) file >>= λ text. said_of_text s text)
+    ≡ verdict_on_text (answer_at new.progress new.failed new.place.rest)
 said_by None s path old new after takes = absurd takes
 said_by (Some file) s path old new after takes = takes (ready_at_begin s file old after)
 
-long_by : (file : Option (List ℕ)) (s : CheckerState) (path : List ℕ) (old new : Stage) → IsAfter s [] old → TakesNext s file 0 path old new (Ok Long)
+long_by : (file : Option (List ℕ)) (s : CheckerState) (path : List ℕ) (old new : Stage) → IsAfter s [] old
+    → TakesNext s file 0 path old new (Ok Long)
     → (or_refuse (MissingInput path) file >>= λ text. said_of_text s text) ≡ Err CertificateTooLarge
 long_by None s path old new after takes = absurd takes
 long_by (Some file) s path old new after takes = takes (ready_at_begin s file old after)
 
-stop_by : (file : Option (List ℕ)) (s : CheckerState) (path : List ℕ) (old new : Stage) (stop : ReadStop) → TakesNext s file 0 path old new (Err stop)
+stop_by : (file : Option (List ℕ)) (s : CheckerState) (path : List ℕ) (old new : Stage) (stop : ReadStop)
+    → TakesNext s file 0 path old new (Err stop)
     → Gives {T = Unit {0}} (Err stop) (Is (or_refuse (MissingInput path) file >>= λ text. said_of_text s text))
 stop_by file s path old new (Refused refusal) (none, is) = rw none (ap Err is)
 stop_by file s path old new (Fault at) takes = tt
@@ -205,7 +214,8 @@ module _ (path : List ℕ) (s : CheckerState) (old new : Stage) (after : IsAfter
   text_said (Some files) result takes read = said_here files result (takes s) read
 
   -- there is too much
-  pub text_long : (before : Option Files) → IfSome before (λ files. (s : CheckerState) → TakesNext s (get files path) 0 path old new (Ok Long))
+  pub text_long : (before : Option Files) → IfSome before (λ files. (s : CheckerState)
+      → TakesNext s (get files path) 0 path old new (Ok Long))
       → IfSome before (λ files. Gives {T = Unit {0}} (Err (Refused CertificateTooLarge)) (Is (said_at files path s)))
   text_long None takes = tt
   text_long (Some files) takes = long_here-2 files (takes s)

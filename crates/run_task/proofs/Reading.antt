@@ -55,7 +55,8 @@ front n file h =
     ap (λ (m : ℕ). take m file) e ∙ take-add n (most - n) file
 
 -- what was taken decides
-pub at_settled : (s : CheckerState) (file : List ℕ) (n : ℕ) (c : Stage) → n ≤ most → IsAfter s (take n file) c → is_settled_by s (take n file) ≡ true
+pub at_settled : (s : CheckerState) (file : List ℕ) (n : ℕ) (c : Stage) → n ≤ most → IsAfter s (take n file) c
+    → is_settled_by s (take n file) ≡ true
     → said_of_text s file ≡ verdict_on_text (answer_at c.progress c.failed c.place.rest)
 at_settled s file n c within after settled =
     let stays = settled-stays s (take n file) (take (most - n) (drop n file)) settled in

@@ -51,7 +51,8 @@ said_accepted : (s : CheckerState) (text : List ℕ) → said_of_text s text ≡
 unfolding said_of_text
 said_accepted s text e = accepted_by (nat_le (length text) most || is_settled_by s (take most text)) (answer_of s (take most text)) e
 
-found_accepted : (s : CheckerState) (missing : Refusal) (file : Option (List ℕ)) → (or_refuse missing file >>= λ text. said_of_text s text) ≡ Ok tt
+found_accepted : (s : CheckerState) (missing : Refusal) (file : Option (List ℕ))
+    → (or_refuse missing file >>= λ text. said_of_text s text) ≡ Ok tt
     → (text : List ℕ) × (answer_of s text ≡ Checked Accepted)
 found_accepted s missing None e = absurd (cc)
 found_accepted s missing (Some text) e = (take most text, said_accepted s text e)
@@ -85,7 +86,8 @@ module _ (path : List ℕ) (problem : Problem) (numbers : Option (List ℕ)) (be
   begun_as : (files : Files) (o : Option CheckerState) → begun_for problem numbers ≡ o
       → (or_refuse (refusals.BadCertificate 1 faults.WrongBit) o >>= λ s. said_at files path s) ≡ certified_at files path problem numbers
   unfolding certified_at
-  begun_as files o is = ap (λ (o : Option CheckerState). or_refuse (refusals.BadCertificate 1 faults.WrongBit) o >>= λ s. said_at files path s) (sym is)
+  begun_as files o is =
+      ap (λ (o : Option CheckerState). or_refuse (refusals.BadCertificate 1 faults.WrongBit) o >>= λ s. said_at files path s) (sym is)
 
   -- what is said of the log is what is said of the certificate
   pub certificate_read : (s : CheckerState) (result : Result (Unit {0}) ReadStop) → begun_for problem numbers ≡ Some s

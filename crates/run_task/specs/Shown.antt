@@ -79,7 +79,7 @@ IsShown files command = IsShownFor (ShownBy command.work) files command
 
 -- what its no shows
 abbrev pub IsOutdone : Files → Command → Type 0
-IsOutdone files command = IsShownFor (OutdoneBy command.work) files command
+IsOutdone files command = IsShownOver (OutdoneBy command.work) (files_for command.work files) command
 
 -- what reading shows of a task
 abbrev pub IsSeenOver : Files → Command → Task → Type 0

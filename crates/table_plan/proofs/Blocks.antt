@@ -169,7 +169,8 @@ module _ (v : ℕ → Bool) (n : ℕ) (p : Possible) (o : Option Node) (is : IsP
         compiler = attribute_reads v (option_eq same_compiler) (options_exact same_compiler compilers_exact)
             (λ node. node.compiler) (positive_lit n) _
             p.compilers o is.compilers r.0 (λ node s. (offers node s).compiler) rd.0;
-        os = attribute_reads v bytes_eq bytes_decides (λ node. node.os) (positive_lit n) _ p.os o is.os r.0 (λ node s. (offers node s).os) re.0;
+        os = attribute_reads v bytes_eq bytes_decides (λ node. node.os) (positive_lit n) _ p.os o is.os r.0
+            (λ node s. (offers node s).os) re.0;
         target = attribute_reads v bytes_eq bytes_decides (λ node. node.target) (positive_lit n) _ p.targets o is.targets r.0
             (λ node s. (offers node s).target) rf.0;
         prefix = attribute_reads v (option_eq bytes_eq) (options_exact bytes_eq bytes_decides) (λ node. node.prefix) (positive_lit n)

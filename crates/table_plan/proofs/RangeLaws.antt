@@ -32,7 +32,8 @@ attribute_below m p n (x ∷ y ∷ more) lt le = numbered_below m n (x ∷ y ∷
 variants_below : (m n : ℕ) (vs : List (Text × List Text)) → n + value_count vs ≤ m
     → AllBelow m (flat_map (λ w. choice_lits w.1) (variants_from n vs))
 variants_below m n [] le = tt
-variants_below m n (v ∷ vs) le = append_below m (choice_lits (numbered n v.1)) (flat_map (λ w. choice_lits w.1) (variants_from (n + length v.1) vs))
+variants_below m n (v ∷ vs) le = append_below m (choice_lits (numbered n v.1))
+    (flat_map (λ w. choice_lits w.1) (variants_from (n + length v.1) vs))
     (numbered_below m n v.1 (omega (arith, le))) (variants_below m (n + length v.1) vs (omega (arith, le)))
 
 block_below : (m n : ℕ) (p : Possible) → n + block_width p ≤ m → IsBlockBelow m (block_from n p)
@@ -58,7 +59,8 @@ blocks_below m n (p ∷ ps) le b there = ⊎_elim
 abbrev EdgeBelow : ℕ → EdgeLits → Type 0
 EdgeBelow m e = AllBelow m (e.build ∷ e.link ∷ e.run ∷ [])
 
-edges_below : (m n : ℕ) (pairs : List (Text × Text)) → n + total_width (λ pair. 3) pairs ≤ m → (e : EdgeLits) → Contains (edge_lits_from n pairs) e
+edges_below : (m n : ℕ) (pairs : List (Text × Text)) → n + total_width (λ pair. 3) pairs ≤ m → (e : EdgeLits)
+    → Contains (edge_lits_from n pairs) e
     → EdgeBelow m e
 edges_below m n [] le e there = absurd (omega (arith, there.1))
 edges_below m n (pair ∷ pairs) le e there = ⊎_elim

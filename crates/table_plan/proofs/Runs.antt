@@ -8,7 +8,8 @@ module _ {X Y : Type 0} (make : ℕ → X → Y) (width : X → ℕ) where
   total-append [] x = omega arith
   total-append (y ∷ ys) x = omega (arith, total-append ys x)
 
-  run-append : (n : ℕ) (xs : List X) (x : X) → numbered_run make width n (xs ++ x ∷ []) ≡ numbered_run make width n xs ++ make (n + total_width width xs) x ∷ []
+  run-append : (n : ℕ) (xs : List X) (x : X) → numbered_run make width n (xs ++ x ∷ []) ≡ numbered_run make width n xs
+      ++ make (n + total_width width xs) x ∷ []
   run-append n [] x = let at : n ≡ n + 0 = omega arith in ap (λ m. make m x ∷ []) at
   run-append n (y ∷ ys) x =
       let at : n + width y + total_width width ys ≡ n + (width y + total_width width ys) = omega arith in
@@ -23,7 +24,8 @@ module _ {X Y : Type 0} (make : ℕ → X → Y) (width : X → ℕ) where
     total_more = ap (total_width width) front ∙ total-append (take i xs) x
 
     -- a run of one element more
-    pub run_more : (n : ℕ) → numbered_run make width n (take i xs) ++ make (n + total_width width (take i xs)) x ∷ [] ≡ numbered_run make width n (take (i + 1) xs)
+    pub run_more : (n : ℕ) → numbered_run make width n (take i xs) ++ make (n + total_width width (take i xs)) x
+        ∷ [] ≡ numbered_run make width n (take (i + 1) xs)
     run_more n = sym (ap (numbered_run make width n) front ∙ run-append n (take i xs) x)
 
 -- the same where the next number is told

@@ -169,7 +169,8 @@ module _ (v : ℕ → Bool) (graph : Content) where
   providers_read : (n : ℕ) (ws : List (Text × List Text)) → IsInOrder byte_cmp (λ w. w.0) ws → All (λ w. IsInByteOrder w.1) ws
       → Reads v n (providers_bits graph ws) → (name : Text)
       → ((p : Text) → provider_of graph name ≡ Some p → (packages : List Text) × Contains ws (name, packages) × Contains packages p)
-      → chosen v (provider_packages (find_key byte_cmp provider_virtual (providers_from n ws) name)) ≡ option_to_list (provider_of graph name)
+      → chosen v (provider_packages (find_key byte_cmp provider_virtual (providers_from n ws) name))
+      ≡ option_to_list (provider_of graph name)
   providers_read n [] rising is r name f =
       sym (ap option_to_list (nothing_there (provider_of graph name) (λ p e. let at = f p e in omega (arith, at.1.1))))
   providers_read n (w ∷ ws) rising is r name f =

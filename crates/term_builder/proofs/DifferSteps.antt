@@ -32,7 +32,11 @@ module _ {T : Type 0} (filled : T → Bool) (same : T → T → Bool) (there : S
       → new ≡ old ++ record { weight = 1; formula = all_statements (there ∷ left ∷ right ∷ no (any_statement parts) ∷ []) } ∷ []
       → new ≡ old ++ differ_terms filled same there xs ys
   can-step can old new left right parts told right-so l r p n =
-      rw (sym told ∙ right-so) (n ∙ λ i. old ++ record { weight = 1; formula = all_statements (there ∷ l i ∷ r i ∷ no (any_statement (p i)) ∷ []) } ∷ [])
+      rw (sym told ∙ right-so) (n ∙ λ i. old ++ record {
+        weight = 1;
+        formula =
+            all_statements (there ∷ l i ∷ r i ∷ no (any_statement (p i)) ∷ []);
+      } ∷ [])
 
 -- a formula where some may be nothing
 pub some-step : {T : Type 0} (filled : T → Bool) (same : T → T → Bool) (xs : Choices T) (all : Bool)

@@ -145,7 +145,8 @@ fn same_compiler_parts(
     ys: &[(Option<Compiler>, Lit)],
 ) -> Result<Vec<Formula>, AllocError>
     ensures { IfOk result (λ parts. parts.items
-        ≡ map (λ x. both_statements (atom x.1) (any_choice_on (same_compilers x.0) ys.now)) xs.now) }
+        ≡ map (λ x. both_statements (atom x.1) (any_choice_on (same_compilers x.0) ys.now))
+        xs.now) }
 {
     let mut parts = Vec::new(alloc);
     for x in xs {

@@ -49,7 +49,8 @@ fn push_other(
 ) -> Result<(), AllocError>
     ensures { OnOk result (terms.new.items ≡ terms.old.items
         ++ only_if counts (weighed_once (both_statements (atom value)
-        (governs variant.now (statement_of condition) rows.now (map statement_of conditions.now))))) }
+        (governs variant.now (statement_of condition) rows.now
+        (map statement_of conditions.now))))) }
 {
     if !counts {
         return Ok(());
@@ -71,8 +72,11 @@ fn push_others(
     conditions: &[Defined],
     values: &[(Word, Lit)],
 ) -> Result<(), AllocError>
-    ensures { OnOk result (terms.new.items ≡ terms.old.items ++ other_terms
-        (row.now, governs variant.now (statement_of condition) rows.now (map statement_of conditions.now))
+    ensures { OnOk result (terms.new.items ≡ terms.old.items ++ other_terms (
+      row.now,
+      governs variant.now (statement_of condition) rows.now
+          (map statement_of conditions.now),
+    )
         values.now) }
 {
     for choice in values {
@@ -105,7 +109,8 @@ fn unused_said(
     governing: Formula,
     values: &[(Word, Lit)],
 ) -> Result<Formula, AllocError>
-    ensures { IfOk result (λ formula. formula ≡ all_statements (any_choice_on (λ value. true) values.now
+    ensures { IfOk result (λ formula. formula
+        ≡ all_statements (any_choice_on (λ value. true) values.now
         ∷ governing ∷ no (any_choice_on (bytes_eq text.now) values.now) ∷ [])) }
 {
     let mut parts = Vec::new(alloc);
@@ -126,8 +131,11 @@ fn push_unused(
     conditions: &[Defined],
     values: &[(Word, Lit)],
 ) -> Result<(), AllocError>
-    ensures { OnOk result (terms.new.items ≡ terms.old.items ++ unused_terms
-        (row.now, governs variant.now (statement_of condition) rows.now (map statement_of conditions.now))
+    ensures { OnOk result (terms.new.items ≡ terms.old.items ++ unused_terms (
+      row.now,
+      governs variant.now (statement_of condition) rows.now
+          (map statement_of conditions.now),
+    )
         values.now) }
 {
     for text in row.default.values() {
@@ -153,8 +161,11 @@ fn push_counted(
     values: &[(Word, Lit)],
 ) -> Result<(), AllocError>
     ensures { OnOk result (terms.new.items ≡ terms.old.items
-        ++ terms_if (bytes_eq row.now.name variant.now) which
-        (row.now, governs variant.now (statement_of condition) rows.now (map statement_of conditions.now))
+        ++ terms_if (bytes_eq row.now.name variant.now) which (
+          row.now,
+          governs variant.now (statement_of condition) rows.now
+              (map statement_of conditions.now),
+        )
         values.now) }
 {
     if row.name.as_str() != variant {
@@ -181,7 +192,8 @@ fn push_variant(
     values: &[(Word, Lit)],
 ) -> Result<(), AllocError>
     ensures { OnOk result (terms.new.items ≡ terms.old.items
-        ++ variant_terms (counted_terms which) (with_formulas rows.now (map statement_of conditions.now))
+        ++ variant_terms (counted_terms which)
+        (with_formulas rows.now (map statement_of conditions.now))
         (variant.now, values.now)) }
 {
     let mut left = conditions;

@@ -96,10 +96,12 @@ recipes_start packages own n state files = rw (all_left n, at_start own) refl
 
 -- a recipe more
 pub more_recipes : (packages own i n state : ℕ) (files : Files) → i < n
-    → recipes_left packages own (i + 1) n (recipe packages (own + i) state).state (insert files (trial_recipe_path (own + i)) (recipe packages (own + i) state).text)
+    → recipes_left packages own (i + 1) n (recipe packages (own + i) state).state
+    (insert files (trial_recipe_path (own + i)) (recipe packages (own + i) state).text)
     ≡ recipes_left packages own i n state files
 more_recipes packages own i n state files lt =
-    ap (λ s. with_recipes packages s (n - (i + 1)) (recipe packages (own + i) state).state (insert files (trial_recipe_path (own + i)) (recipe packages (own + i) state).text)) (one_on own i)
+    ap (λ s. with_recipes packages s (n - (i + 1)) (recipe packages (own + i) state).state
+    (insert files (trial_recipe_path (own + i)) (recipe packages (own + i) state).text)) (one_on own i)
     ∙ ap (λ m. with_recipes packages (own + i) m state files) (sym (one_left i n lt))
 
 -- at the end none is left

@@ -59,7 +59,8 @@ pair-keys f (x ∷ xs) = ap (λ ys. x ∷ ys) (pair-keys f xs)
 
 -- ---- kept nodes are not built
 
-external-kept : (problem : Problem) (name : Text) (k : ℕ) (es : List ExternalEntry) (rest : List Node) → list_any builds_node (map (λ node. node.origin) rest) ≡ false
+external-kept : (problem : Problem) (name : Text) (k : ℕ) (es : List ExternalEntry) (rest : List Node)
+    → list_any builds_node (map (λ node. node.origin) rest) ≡ false
     → list_any builds_node (map (λ node. node.origin) (external_nodes problem name k es ++ rest)) ≡ false
 unfolding external_node
 external-kept problem name k [] rest h = h
@@ -82,14 +83,18 @@ module _ (problem : Problem) (name : Text) where
   only-buildable true h = refl
   only-buildable false h =
       let at = from_any builds_node (gathered is_same_origin [] (origins false)) h in
-      let there = ⊎_elim (λ none. absurd (omega (arith, none.1))) (λ kept. kept) (from_gathered is_same_origin origins_exact [] (origins false) at.0 at.1) in
-      absurd (false≢true (sym (none-built problem name) ∙ any_of builds_node (map (λ node. node.origin) (kept_nodes problem name)) at.0 there at.2))
+      let there = ⊎_elim (λ none. absurd (omega (arith, none.1))) (λ kept. kept)
+      (from_gathered is_same_origin origins_exact [] (origins false) at.0 at.1) in
+      absurd (false≢true (sym (none-built problem name)
+      ∙ any_of builds_node (map (λ node. node.origin) (kept_nodes problem name)) at.0 there at.2))
 
-  offers-buildable : list_any builds_node (offered is_same_origin problem name (Built ∷ []) (λ node. node.origin)) ≡ true → can_build problem name ≡ true
+  offers-buildable : list_any builds_node (offered is_same_origin problem name (Built ∷ []) (λ node. node.origin)) ≡ true
+      → can_build problem name ≡ true
   unfolding offered
   offers-buildable h = only-buildable (can_build problem name) h
 
-  named : can_build problem name ≡ true → list_all (is_one_text (variant_names problem name)) (map (λ row. row.name) (variants_at problem name)) ≡ true
+  named : can_build problem name ≡ true → list_all (is_one_text (variant_names problem name))
+      (map (λ row. row.name) (variants_at problem name)) ≡ true
   unfolding variant_names
   named is = list_all-from (is_one_text (variant_names problem name)) (map (λ row. row.name) (variants_at problem name))
       (λ x there. among-In (variant_names problem name) x (contains-In (variant_names problem name) x
@@ -97,24 +102,30 @@ module _ (problem : Problem) (name : Text) where
       (In-contains (map (λ row. row.name) (variants_at problem name)) x there)))))))
 
   block-has : (k : ℕ) → list_any builds_node (choices.choice_values (block_from k (possible_at problem name)).origins) ≡ true
-      → list_all (is_one_text (map variant_of (block_from k (possible_at problem name)).variants)) (map (λ row. row.name) (variants_at problem name)) ≡ true
+      → list_all (is_one_text (map variant_of (block_from k (possible_at problem name)).variants))
+      (map (λ row. row.name) (variants_at problem name)) ≡ true
   unfolding block_from possible_at
   block-has k h =
-      let can = offers-buildable (ap (list_any builds_node) (sym (attribute-offers (positive_lit k) (k + 1) (offered is_same_origin problem name (Built ∷ []) (λ node. node.origin)))) ∙ h) in
+      let can = offers-buildable (ap (list_any builds_node)
+      (sym (attribute-offers (positive_lit k) (k + 1) (offered is_same_origin problem name (Built ∷ []) (λ node. node.origin)))) ∙ h) in
       ap (λ vs. list_all (is_one_text vs) (map (λ row. row.name) (variants_at problem name)))
       (variant-keys _ (map (λ variant. (variant, variant_values problem name variant)) (variant_names problem name)) ∙ pair-keys (variant_values problem name) (variant_names problem name))
       ∙ named can
 
 -- ---- what is found
 
-found-block : (problem : Problem) (names : List Text) (n : ℕ) (name : Text) (b : Block) → find_key byte_cmp block_name (blocks_from n (map (possible_at problem) names)) name ≡ Some b
+found-block : (problem : Problem) (names : List Text) (n : ℕ) (name : Text) (b : Block)
+    → find_key byte_cmp block_name (blocks_from n (map (possible_at problem) names)) name ≡ Some b
     → (k : ℕ) × (m : Text) × (block_from k (possible_at problem m) ≡ b)
 found-block problem [] n name b e = absurd (none-some b e)
 found-block problem (m ∷ ms) n name b e =
-    found-block-cases (eq_by_cmp byte_cmp (block_name (block_from n (possible_at problem m))) name) e (found-block problem ms (n + block_width (possible_at problem m)) name b)
+    found-block-cases (eq_by_cmp byte_cmp (block_name (block_from n (possible_at problem m))) name) e
+    (found-block problem ms (n + block_width (possible_at problem m)) name b)
   where
-    found-block-cases : (d : Bool) → cond d (Some (block_from n (possible_at problem m))) (find_key byte_cmp block_name (blocks_from (n + block_width (possible_at problem m)) (map (possible_at problem) ms)) name) ≡ Some b
-        → (find_key byte_cmp block_name (blocks_from (n + block_width (possible_at problem m)) (map (possible_at problem) ms)) name ≡ Some b → (k : ℕ) × (m : Text) × (block_from k (possible_at problem m) ≡ b))
+    found-block-cases : (d : Bool) → cond d (Some (block_from n (possible_at problem m)))
+        (find_key byte_cmp block_name (blocks_from (n + block_width (possible_at problem m)) (map (possible_at problem) ms)) name) ≡ Some b
+        → (find_key byte_cmp block_name (blocks_from (n + block_width (possible_at problem m)) (map (possible_at problem) ms)) name ≡ Some b
+        → (k : ℕ) × (m : Text) × (block_from k (possible_at problem m) ≡ b))
         → (k : ℕ) × (m : Text) × (block_from k (possible_at problem m) ≡ b)
     found-block-cases true is rest = let same : block_from n (possible_at problem m) ≡ b = cc in (n, m, same)
     found-block-cases false is rest = rest is
@@ -128,8 +139,10 @@ pub has-built-variants : (problem : Problem) (names : List Text) → HasBuiltVar
 unfolding table_from plan_of
 has-built-variants problem names name b at offers =
     let f = found-block problem names 0 name b at in
-    let same : f.1 ≡ name = sym (block-name problem f.0 f.1) ∙ ap block_name f.2 ∙ found-named block_name (blocks_from 0 (map (possible_at problem) names)) name b at in
+    let same : f.1 ≡ name = sym (block-name problem f.0 f.1) ∙ ap block_name f.2
+    ∙ found-named block_name (blocks_from 0 (map (possible_at problem) names)) name b at in
     let block : block_from f.0 (possible_at problem name) ≡ b = subst (λ m. block_from f.0 (possible_at problem m) ≡ b) same f.2 in
     let has = block-has problem name f.0 (ap (λ c. list_any builds_node (choices.choice_values c.origins)) block ∙ offers) in
     let there : variants_of (table_for problem names) name ≡ map variant_of b.variants = ap variants_in at in
-    ap (λ vs. list_all (is_one_text vs) (map (λ row. row.name) (variants_at problem name))) (there ∙ ap (λ c. map variant_of c.variants) (sym block)) ∙ has
+    ap (λ vs. list_all (is_one_text vs) (map (λ row. row.name) (variants_at problem name))) (there
+    ∙ ap (λ c. map variant_of c.variants) (sym block)) ∙ has

@@ -37,7 +37,8 @@ use Rattle.graph_formulas.proofs.RulesSaid.{all-among}
 use Rattle.valid_models.specs.Joined.{HasBuiltVariants}
 
 -- what is chosen is offered
-any-offered : {T : Type 0} (v : ℕ → Bool) (p : T → Bool) (cs : Choices T) → list_any p (chosen v cs) ≡ true → list_any p (choice_values cs) ≡ true
+any-offered : {T : Type 0} (v : ℕ → Bool) (p : T → Bool) (cs : Choices T) → list_any p (chosen v cs) ≡ true
+    → list_any p (choice_values cs) ≡ true
 any-offered v p [] h = h
 any-offered v p (c ∷ cs) h = elim (cases_Bool (lit_true v c.1)) [
   | inl t ↦ any-offered-cases (p c.0) (list_any p (chosen v cs)) (list_any p (choice_values cs)) (any-offered v p cs) (rw t at h)
@@ -58,8 +59,10 @@ module _ (problem : Problem) (v : ℕ → Bool) (path : Text → Text → Statem
   holds_here rule = keeps_rule (is_true (world_of problem) graph) rule
 
   -- a built node's block offers to build it
-  offers : (b : Block) (node : Node) → SpellsNode v b (Some node) → is_built node ≡ true → list_any builds_node (choice_values b.origins) ≡ true
-  offers b node spells built = any-offered v builds_node b.origins (subst (λ xs. list_any builds_node xs ≡ true) (sym spells.origin) (or_left (builds_node node.origin) false built))
+  offers : (b : Block) (node : Node) → SpellsNode v b (Some node) → is_built node ≡ true
+      → list_any builds_node (choice_values b.origins) ≡ true
+  offers b node spells built = any-offered v builds_node b.origins
+      (subst (λ xs. list_any builds_node xs ≡ true) (sym spells.origin) (or_left (builds_node node.origin) false built))
 
   at-block : (name : Text) (node : Node) → node_of graph name ≡ Some node → is_built node ≡ true → (c : Option Block) → block_of table name ≡ c
       → SpellsAt v c (node_of graph name) → keeps_variant problem graph node ≡ list_all (keeps_one_variant problem graph node) (variants_of table name)
@@ -67,8 +70,10 @@ module _ (problem : Problem) (v : ℕ → Bool) (path : Text → Text → Statem
   at-block name node here built (Some b) is spells =
       let spelled : SpellsNode v b (Some node) = subst (SpellsNode v b) here spells in
       spelled-variants problem graph v b node (variants_of table name) spelled
-      (subst (λ o. list_all (is_one_text (variants_in o)) (map (λ u. u.0) b.variants) ≡ true) (sym is) (all-among (map (λ u. u.0) b.variants)))
-      (subst (λ n. list_all (is_one_text (variants_of table name)) (map (λ row. row.name) (variants_at problem n)) ≡ true) (sym (named-so graph name node here))
+      (subst (λ o. list_all (is_one_text (variants_in o)) (map (λ u. u.0) b.variants) ≡ true) (sym is)
+      (all-among (map (λ u. u.0) b.variants)))
+      (subst (λ n. list_all (is_one_text (variants_of table name)) (map (λ row. row.name) (variants_at problem n)) ≡ true)
+      (sym (named-so graph name node here))
       (has name b is (offers b node spelled built)))
 
   at-node : (name : Text) (node : Node) → node_of graph name ≡ Some node → is_built node ≡ true
@@ -92,9 +97,11 @@ module _ (problem : Problem) (v : ℕ → Bool) (path : Text → Text → Statem
       at-name-cases node false h = refl
 
   -- the formulas of variants say whether the graph keeps the rule
-  pub all-built-variant : list_all (λ name. rule_says v path condition table (where_built name (variants_rule problem (variants_of table name) name))) (table_names table)
+  pub all-built-variant : list_all (λ name. rule_says v path condition table
+      (where_built name (variants_rule problem (variants_of table name) name))) (table_names table)
       ≡ keeps rules.Variant problem graph
   unfolding keeps
   all-built-variant =
-      all-same _ (λ name. if_written (node_of graph name) (λ node. implies (is_built node) (keeps_variant problem graph node))) at-name (table_names table)
+      all-same _ (λ name. if_written (node_of graph name) (λ node. implies (is_built node) (keeps_variant problem graph node))) at-name
+      (table_names table)
       ∙ sym (each-node-said v table graph s.whole.facts s.is_table s.is_graph (λ node. implies (is_built node) (keeps_variant problem graph node)))

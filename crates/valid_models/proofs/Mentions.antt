@@ -84,7 +84,8 @@ module _ (v : ℕ → Bool) (t : Table) (path other : PathFormulas) (told : Text
 
     module _ (packages : Text → List Text) where
       -- of the node that a name asks for
-      pub asked-alike : (asked : Text) (rule : Text → Proposition GraphWord) → ((name : Text) → AllWords Alike (rule name)) → AllWords Alike (asked_rule world packages asked rule)
+      pub asked-alike : (asked : Text) (rule : Text → Proposition GraphWord) → ((name : Text) → AllWords Alike (rule name))
+          → AllWords Alike (asked_rule world packages asked rule)
       asked-alike asked rule h = asked-alike-cases (is_virtual world.recipes asked)
         where
           asked-alike-cases : (b : Bool) → AllWords Alike (if b then some (λ name. fact (provides_as asked name) and rule name) (packages asked) else rule asked)
@@ -113,7 +114,9 @@ module _ (v : ℕ → Bool) (t : Table) (path other : PathFormulas) (told : Text
       below-alike from part e = below-alike-cases part.name e
         where
           below-alike-cases : (o : Option Text) → list_all told (asked_names world packages o) ≡ true
-              → AllWords Alike (one_keeps o (λ asked. asked_rule world packages asked (λ name. suits_rule world part asked name and fact (has_path from name))))
+              → AllWords Alike
+              (one_keeps o (λ asked. asked_rule world packages asked
+              (λ name. suits_rule world part asked name and fact (has_path from name))))
           below-alike-cases None h = tt
           below-alike-cases (Some asked) h = below-rule from part asked (is_virtual world.recipes asked) h
 

@@ -68,11 +68,14 @@ module _ (v : ℕ → Bool) (t : Table) (path other : PathFormulas) (told : Text
     origin-alike : (name : Text) (origin : Origin) → AllWords W (origin_rule problem children name origin)
     origin-alike name Built = refl
     origin-alike name (External place) = (
-      named-all W (λ entry. same_rule name (external_node problem name place entry)) (λ entry. same-alike name (external_node problem name place entry)) (slice_get (externals_in (package_entry_of problem name)) place),
+      named-all W (λ entry. same_rule name (external_node problem name place entry))
+          (λ entry. same-alike name (external_node problem name place entry))
+          (slice_get (externals_in (package_entry_of problem name)) place),
       each-all W (λ child. isnt (fact (has_edge name child empty_kinds))) (λ child. refl) children,
     )
     origin-alike name (Installed hash) = named-all W
-        (λ entry. same_rule name (installed_node entry) and each_keeps (child_rule problem children name) (kept_dependencies entry) and each_keeps (recorded_rule problem children name entry) children)
+        (λ entry. same_rule name (installed_node entry) and each_keeps (child_rule problem children name) (kept_dependencies entry) and
+        each_keeps (recorded_rule problem children name entry) children)
         (λ entry. (
           (same-alike name (installed_node entry), each-all W (child_rule problem children name) (child-alike name) (kept_dependencies entry)),
           each-all W (recorded_rule problem children name entry) (λ child. (refl, given-all W (is_child_name problem entry child))) children,

@@ -63,7 +63,8 @@ constant-is v true = refl
 constant-is v false = refl
 
 -- a formula of a list says each
-all-said : {X : Type 0} (v : ℕ → Bool) (f : X → Statement) (xs : List X) → eval v (all_statements (map f xs)) ≡ list_all (λ x. eval v (f x)) xs
+all-said : {X : Type 0} (v : ℕ → Bool) (f : X → Statement) (xs : List X)
+    → eval v (all_statements (map f xs)) ≡ list_all (λ x. eval v (f x)) xs
 all-said v f xs = eval-all_of v (map f xs) ∙ all-said-cases xs
   where
     all-said-cases : (xs : List _) → all_eval v (map f xs) ≡ list_all (λ x. eval v (f x)) xs
@@ -79,7 +80,8 @@ all-from : {X : Type 0} (p q : X → Bool) → ((x : X) → p x ≡ true → q x
 all-from p q h [] e = refl
 all-from p q h (x ∷ xs) e = let a = and_parts (p x) (list_all p xs) e in and_from (q x) _ (h x a.0) (all-from p q h xs a.1)
 
-listed-below : {X : Type 0} (m : ℕ) (f : X → Statement) → ((x : X) → SaidBelow m (f x)) → (xs : List X) → SaidBelow m (any_statement (map f xs))
+listed-below : {X : Type 0} (m : ℕ) (f : X → Statement) → ((x : X) → SaidBelow m (f x)) → (xs : List X)
+    → SaidBelow m (any_statement (map f xs))
 listed-below m f h [] = tt
 listed-below m f h (x ∷ xs) = (h x, listed-below m f h xs)
 
@@ -88,7 +90,9 @@ listed-below m f h (x ∷ xs) = (h x, listed-below m f h xs)
 module _ (problem : Problem) (t : Table) (told : Text → Bool) (all : list_all told (asked_targets problem t) ≡ true) where
   parts : (list_all told (flat_map (targets_at problem t) (table_names t)) ≡ true)
       × (list_all told (flat_map (spec_names (world_of problem) (names_for t)) problem.roots) ≡ true)
-  parts = and_parts _ _ (sym (list_all-append told (flat_map (targets_at problem t) (table_names t)) (flat_map (spec_names (world_of problem) (names_for t)) problem.roots)) ∙ all)
+  parts = and_parts _ _
+      (sym (list_all-append told (flat_map (targets_at problem t) (table_names t))
+      (flat_map (spec_names (world_of problem) (names_for t)) problem.roots)) ∙ all)
 
   abbrev is_told_name : Text → Bool
   is_told_name name = list_all told (targets_at problem t name)
@@ -117,7 +121,8 @@ module _ (problem : Problem) (t : Table) (told : Text → Bool) (all : list_all 
   told-conditions : list_all is_told_pair (conditions_of problem t) ≡ true
   told-conditions =
       all-flat is_told_pair (λ name. map (pair_with name) (conditions_at problem name)) (table_names t)
-      ∙ all-from is_told_name (λ name. list_all is_told_pair (map (pair_with name) (conditions_at problem name))) told-at (table_names t) told-names
+      ∙ all-from is_told_name (λ name. list_all is_told_pair (map (pair_with name) (conditions_at problem name))) told-at
+      (table_names t) told-names
 
   -- ---- one graph
 
@@ -193,7 +198,8 @@ module _ (problem : Problem) (t : Table) (told : Text → Bool) (all : list_all 
       plainly rule h = terms.known-alike problem v t path exact told same cond_path cond_exact same-met rule h
 
       -- one rule at all names that pass a test
-      row-says : (rule : Text → Proposition Term) (test : Text → Bool) → ((name : Text) → test name ≡ true → AllWords T (rule name)) → (names : List Text)
+      row-says : (rule : Text → Proposition Term) (test : Text → Bool) → ((name : Text) → test name ≡ true → AllWords T (rule name))
+          → (names : List Text)
           → list_all test names ≡ true → eval v (row_said problem t path cond_path (rule, names)) ≡ list_all (λ name. says_exact (rule name)) names
       row-says rule test h names e =
           all-said v (λ name. term_formula path cond_path t (rule name)) names
@@ -204,26 +210,47 @@ module _ (problem : Problem) (t : Table) (told : Text → Bool) (all : list_all 
           → eval v (row_said problem t path cond_path (rule, names)) ≡ list_all (λ name. says_exact (rule name)) names
       row-free rule h names = row-says rule (λ name. true) (λ name is. h name) names (all-true names)
 
-      rules-say : HasBuiltVariants problem t → eval v (all_statements (map (row_said problem t path cond_path) (rule_rows problem t))) ≡ keeps_all other_rules problem g
+      rules-say : HasBuiltVariants problem t → eval v (all_statements (map (row_said problem t path cond_path) (rule_rows problem t)))
+          ≡ keeps_all other_rules problem g
       rules-say has =
           all-said v (row_said problem t path cond_path) (rule_rows problem t)
           ∙ rw (
-            row-free (λ name. where_built name (known_rule (buildable_rule problem name))) (λ name. (refl, plainly (buildable_rule problem name) (plain.buildable-alike v t path exact told same problem name))) (table_names t)
+            row-free (λ name. where_built name (known_rule (buildable_rule problem name)))
+                (λ name. (refl, plainly (buildable_rule problem name) (plain.buildable-alike v t path exact told same problem name)))
+                (table_names t)
                 ∙ all-buildable problem v exact cond_exact t g spelled,
-            row-free (λ name. where_built name (known_rule (version_rule problem name))) (λ name. (refl, plainly (version_rule problem name) (plain.version-alike v t path exact told same problem name))) (table_names t)
+            row-free (λ name. where_built name (known_rule (version_rule problem name)))
+                (λ name. (refl, plainly (version_rule problem name) (plain.version-alike v t path exact told same problem name)))
+                (table_names t)
                 ∙ all-version problem v exact cond_exact t g spelled,
             row-says (λ name. where_built name (variants_rule problem (variants_of t name) name)) is_told_name
-                (λ name e. (refl, terms.variants-alike problem v t path exact told same cond_path cond_exact same-met name e (variants_of t name))) (table_names t) told-names
+                (λ name e. (
+                  refl,
+                  terms.variants-alike problem v t path exact told same cond_path cond_exact same-met name e
+                      (variants_of t name),
+                )) (table_names t) told-names
                 ∙ all-built-variant problem v exact cond_exact t g spelled has,
-            row-free (λ name. where_built name (known_rule (compiler_rule problem name))) (λ name. (refl, plainly (compiler_rule problem name) (plain.compiler-alike v t path exact told same problem name))) (table_names t)
+            row-free (λ name. where_built name (known_rule (compiler_rule problem name)))
+                (λ name. (refl, plainly (compiler_rule problem name) (plain.compiler-alike v t path exact told same problem name)))
+                (table_names t)
                 ∙ all-compiler problem v exact cond_exact t g spelled,
-            row-free (λ name. where_built name (known_rule (machine_rule problem name))) (λ name. (refl, plainly (machine_rule problem name) (plain.machine-alike v t path exact told same problem name))) (table_names t)
+            row-free (λ name. where_built name (known_rule (machine_rule problem name)))
+                (λ name. (refl, plainly (machine_rule problem name) (plain.machine-alike v t path exact told same problem name)))
+                (table_names t)
                 ∙ all-machine problem v exact cond_exact t g spelled,
             row-says (λ name. where_built name (extra_edges_rule problem (names_for t) (children_of t name) name)) is_told_name
-                (λ name e. (refl, terms.extra-edges-alike problem v t path exact told same cond_path cond_exact same-met name e (children_of t name))) (table_names t) told-names
+                (λ name e. (
+                  refl,
+                  terms.extra-edges-alike problem v t path exact told same cond_path cond_exact same-met name e
+                      (children_of t name),
+                )) (table_names t) told-names
                 ∙ all-extra_edge problem v exact cond_exact t g spelled,
             row-free (λ name. where_there name (known_rule (kept_rule problem (children_of t name) (origins_of t name) name)))
-                (λ name. (refl, plainly (kept_rule problem (children_of t name) (origins_of t name) name) (plain.kept-alike v t path exact told same problem (children_of t name) (origins_of t name) name))) (table_names t)
+                (λ name. (
+                  refl,
+                  plainly (kept_rule problem (children_of t name) (origins_of t name) name)
+                      (plain.kept-alike v t path exact told same problem (children_of t name) (origins_of t name) name),
+                )) (table_names t)
                 ∙ all-kept problem v exact cond_exact t g spelled,
             row-free (λ name. of_provider (names_for t) (λ p. known_rule (provider_rule problem p)) name)
                 (terms.of-provider-alike problem v t path exact told same cond_path cond_exact same-met (λ p. known_rule (provider_rule problem p))
@@ -231,7 +258,8 @@ module _ (problem : Problem) (t : Table) (told : Text → Bool) (all : list_all 
                 ∙ all-provider problem v exact cond_exact t g spelled,
             row-free (λ name. of_provider (names_for t) (used_rule problem (table_names t)) name)
                 (terms.of-provider-alike problem v t path exact told same cond_path cond_exact same-met (used_rule problem (table_names t))
-                (λ p. terms.used-alike problem v t path exact told same cond_path cond_exact same-met (table_names t) p told-names)) (virtuals_of t)
+                (λ p. terms.used-alike problem v t path exact told same cond_path cond_exact same-met (table_names t) p told-names))
+                (virtuals_of t)
                 ∙ all-used problem v exact cond_exact t g spelled,
           ) refl
 
@@ -247,17 +275,21 @@ module _ (problem : Problem) (t : Table) (told : Text → Bool) (all : list_all 
       roots-alike (spec ∷ specs) e zero = root-alike spec (and_parts _ _ e).0
       roots-alike (spec ∷ specs) e (suc k) = roots-alike specs (and_parts _ _ e).1 k
 
-      directive-alike : (name : Text) (rule : Proposition Term) → (is_told_name name ≡ true → AllWords T rule) → says_path (where_built name rule) ≡ says_exact (where_built name rule)
+      directive-alike : (name : Text) (rule : Proposition Term) → (is_told_name name ≡ true → AllWords T rule)
+          → says_path (where_built name rule) ≡ says_exact (where_built name rule)
       directive-alike name rule h = directive-alike-cases (block_of t name) refl
         where
           directive-alike-cases : (o : Option Block) → block_of t name ≡ o → says_path (where_built name rule) ≡ says_exact (where_built name rule)
           directive-alike-cases None at =
-              subst (λ o. eval v (implication_of (said_in (λ b. fact_said b (has_origin builds_node)) o) (term_formula path cond_path t rule))
-              ≡ eval v (implication_of (said_in (λ b. fact_said b (has_origin builds_node)) o) (term_formula exact cond_exact t rule))) (sym at) refl
+              subst (λ o. eval v (implication_of (said_in (λ b. fact_said b (has_origin builds_node)) o)
+              (term_formula path cond_path t rule))
+              ≡ eval v (implication_of (said_in (λ b. fact_said b (has_origin builds_node)) o) (term_formula exact cond_exact t rule)))
+              (sym at) refl
           directive-alike-cases (Some b) at = alike (where_built name rule) (refl, h (found-passes is_told_name t.blocks name b told-names at))
 
       -- of a name that the table does not have both say nothing
-      named-alike : (name : Text) (number : ℕ) (b : Bool) → says_path (if b then where_built name (directive_rule problem (names_for t) number name) else settled_test true)
+      named-alike : (name : Text) (number : ℕ) (b : Bool)
+          → says_path (if b then where_built name (directive_rule problem (names_for t) number name) else settled_test true)
           ≡ says_exact (if b then where_built name (directive_rule problem (names_for t) number name) else settled_test true)
       named-alike name number true = directive-alike name (directive_rule problem (names_for t) number name)
           (λ e. terms.directive-alike problem v t path exact told same cond_path cond_exact same-met name e number)
@@ -287,7 +319,8 @@ module _ (problem : Problem) (t : Table) (n : ℕ) (words : WordsBelow n t) (m :
     formula-below : (rule : Proposition Term) → SaidBelow m (term_formula path (condition_by problem t place path met_by) t rule)
     formula-below rule = rule-below m (term_said path (condition_by problem t place path met_by) t) term-below rule
 
-    row-below : (row : (Text → Proposition Term) × List Text) → SaidBelow m (row_said problem t path (condition_by problem t place path met_by) row)
+    row-below : (row : (Text → Proposition Term) × List Text)
+        → SaidBelow m (row_said problem t path (condition_by problem t place path met_by) row)
     row-below row = all_of-below m (map (λ name. term_formula path (condition_by problem t place path met_by) t (row.0 name)) row.1)
         (listed-below m (λ name. term_formula path (condition_by problem t place path met_by) t (row.0 name)) (λ name. formula-below (row.0 name)) row.1)
 

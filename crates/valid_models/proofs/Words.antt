@@ -9,7 +9,7 @@ use Rattle.std.proofs.lemmas.List.Folds.{list_all-append}
 use Rattle.clause_formulas.specs.Statements.{Statement, eval}
 use Rattle.clause_formulas.specs.Rules.{Proposition, fact, nowhere, isnt, both_of, either_of, if_so, keeps_rule, in_words, any_rule, every_rule}
 use Rattle.clause_formulas.proofs.RuleLaws.{rule-said}
-use Rattle.graph_formulas.specs.Lists.{settled_test, asked_unless, where_written, one_keeps, each_keeps, some, last_one, first_rules, apart_rules, half_length, halves_rule, few_rules, just_one}
+use Rattle.graph_formulas.specs.Lists.{settled_test, asked_unless, where_written, one_keeps, each_keeps, some, first_rules, apart_rules, half_length, halves_rule, few_rules, just_one, last_in_turn, last_of_halves, last_halved, last_one}
 
 abbrev pub AllWords : {W : Type 0} → (W → Type 0) → Proposition W → Type 0
 AllWords P (fact w) = P w
@@ -99,7 +99,8 @@ module _ {W : Type 0} (P : W → Type 0) where
       few-if zero xs e = apart-if xs e
       few-if (suc times) xs e =
           let parts : (list_all test (take (half_length xs) xs) && list_all test (drop (half_length xs) xs)) ≡ true =
-          sym (list_all-append test (take (half_length xs) xs) (drop (half_length xs) xs)) ∙ ap (list_all test) (take-append-drop (half_length xs) xs) ∙ e in
+          sym (list_all-append test (take (half_length xs) xs) (drop (half_length xs) xs))
+          ∙ ap (list_all test) (take-append-drop (half_length xs) xs) ∙ e in
           let q = and_parts (list_all test (take (half_length xs) xs)) (list_all test (drop (half_length xs) xs)) parts in
           elim (nat_lt 8 (length xs)) as (λ b. EachWords P (if b then halves_rule rule (take (half_length xs) xs) (drop (half_length xs) xs)
           ∷ (few_rules times rule (take (half_length xs) xs) ++ few_rules times rule (drop (half_length xs) xs)) else apart_rules rule xs)) [
@@ -114,8 +115,28 @@ module _ {W : Type 0} (P : W → Type 0) where
       pub just-if : (xs : List T) → list_all test xs ≡ true → AllWords P (just_one rule xs)
       just-if xs e = (some-if xs e, all-words P (few_rules (length xs / 8) rule xs) (few-if (length xs / 8) xs e))
 
-  pub last-if : {T : Type 0} (passes rule : T → Proposition W) (test : T → Bool) → ((x : T) → test x ≡ true → AllWords P (passes x))
-      → ((x : T) → AllWords P (rule x)) → (xs : List T) → list_all test xs ≡ true → AllWords P (last_one passes rule xs)
-  last-if passes rule test h g [] e = tt
-  last-if passes rule test h g (x ∷ xs) e = let p = and_parts (test x) (list_all test xs) e in
-      (((some-if passes test h xs p.1, h x p.0), g x), last-if passes rule test h g xs p.1)
+  module _ {T : Type 0} (passes rule : T → Proposition W) (test : T → Bool) (h : (x : T) → test x ≡ true → AllWords P (passes x)) (g : (x : T)
+      → AllWords P (rule x)) where
+    in-turn-if : (xs : List T) → list_all test xs ≡ true → AllWords P (last_in_turn passes rule xs)
+    in-turn-if [] e = tt
+    in-turn-if (x ∷ xs) e = let p = and_parts (test x) (list_all test xs) e in
+        (((some-if passes test h xs p.1, h x p.0), g x), in-turn-if xs p.1)
+
+    halved-if : (times : ℕ) (xs : List T) → list_all test xs ≡ true → AllWords P (last_halved times passes rule xs)
+    unfolding last_halved
+    halved-if zero xs e = in-turn-if xs e
+    halved-if (suc times) xs e =
+        let front = take (half_length xs) xs in
+        let back = drop (half_length xs) xs in
+        let parts : (list_all test front && list_all test back) ≡ true =
+        sym (list_all-append test front back) ∙ ap (list_all test) (take-append-drop (half_length xs) xs) ∙ e in
+        let q = and_parts (list_all test front) (list_all test back) parts in
+        elim (nat_lt 8 (length xs)) as (λ b. AllWords P
+        (if b then last_of_halves passes back (last_halved times passes rule front) (last_halved times passes rule back)
+        else last_in_turn passes rule xs)) [
+          | true ↦ ((some-if passes test h back q.1, halved-if times front q.0), (halved-if times back q.1, tt))
+          | false ↦ in-turn-if xs e
+        ]
+
+    pub last-if : (xs : List T) → list_all test xs ≡ true → AllWords P (last_one passes rule xs)
+    last-if xs e = halved-if (length xs / 8) xs e

@@ -156,7 +156,8 @@ pub first_found : (test : Recipe → Bool) (recipes : List Recipe) (first other 
     → find test recipes ≡ Some first → Contains recipes other → test other ≡ true → is_le (byte_cmp first.name other.name) ≡ true
 first_found test [] first other ordered found there passes = absurd (omega (arith, there.1))
 first_found test (recipe ∷ recipes) first other ordered found there passes =
-    ordered_by_test (test recipe) refl found (first_found test recipes first other (rises_rest byte_cmp recipe.name (map recipe_name recipes) ordered))
+    ordered_by_test (test recipe) refl found (first_found test recipes first other
+    (rises_rest byte_cmp recipe.name (map recipe_name recipes) ordered))
   where
     ordered_by_test : (b : Bool) → test recipe ≡ b → cond b (Some recipe) (find test recipes) ≡ Some first
         → (find test recipes ≡ Some first → Contains recipes other → test other ≡ true → is_le (byte_cmp first.name other.name) ≡ true)

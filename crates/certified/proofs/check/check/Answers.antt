@@ -11,5 +11,6 @@ returns-clause-exact g c =
     let lines = c.args.lines.now in
     let a = accepted-is s.vars (clauses_of s.entries) c.args.bits.now
     (option_map (λ (v : Bor (List Bool)). v.now) c.args.values) lines c.in_ok-checker.ensures.in_order c.are_typed.ensures in
-    let e = c.finish.ensures ∙ ap finish_on (c.in_ok-feed.ensures ∙ ap (λ (p : Progress). run_lines p lines) c.in_ok-checker.ensures.start) in
+    let e = c.finish.ensures ∙ ap finish_on (c.in_ok-feed.ensures
+    ∙ ap (λ (p : Progress). run_lines p lines) c.in_ok-checker.ensures.start) in
     ((λ q. a.0 (sym e ∙ q)), (λ l. e ∙ a.1 l))

@@ -7,7 +7,8 @@ use Rattle.clause_formulas.proofs.asked.+ask.Given as goal
 
 abbrev pub invariant-ask_any-loop-part : goal.invariant-ask_any-loop-part
 invariant-ask_any-loop-part l = record {
-  rest : ask_in (gated l.clauses l.gates) l.draft (any_statement (drop l.part-index l.parts)) ≡ ask_in (gated l.fn.clauses l.fn.gates) l.fn.draft
+  rest : ask_in (gated l.clauses l.gates) l.draft (any_statement (drop l.part-index l.parts))
+      ≡ ask_in (gated l.fn.clauses l.fn.gates) l.fn.draft
       (any_statement l.parts);
   below : AllBelow l.clauses.vars l.draft.lits;
   keeps : Keeps (gated l.fn.clauses l.fn.gates) (gated l.clauses l.gates);

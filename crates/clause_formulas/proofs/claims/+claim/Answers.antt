@@ -12,7 +12,8 @@ use Rattle.clause_formulas.proofs.AllowLaws.{claims, AllowsIn-refl, AllowsIn-the
 use Rattle.clause_formulas.proofs.claims.+claim.Goals as goal
 
 pub claim_any-add_draft-requires : goal.claim_any-add_draft-requires
-claim_any-add_draft-requires t c = ask-below (gated c.args.clauses.now c.args.gates.now) _ c.new-draft.result _ (any_statement c.args.parts.now)
+claim_any-add_draft-requires t c = ask-below (gated c.args.clauses.now c.args.gates.now) _ c.new-draft.result _
+    (any_statement c.args.parts.now)
     c.new-draft.ensures c.requires.gates_below c.requires.parts_below c.in_ok-ask_any.ensures.built
 
 pub claim_any-returns-then-sign-clause-built : goal.claim_any-returns-then-sign-clause-built

@@ -19,7 +19,8 @@ pub returns : goal.returns
 returns t c =
     let ls = c.args.lits.now in
     let pushed : c.push.new.self.items ≡ c.args.parts.now.items ++ c.in_ok-halves_apart.field-0 ∷ [] = c.in_ok-push.ensures.items in
-    let halves : c.in_ok-halves_apart.field-0 ≡ halves_apart (take (half_count ls) ls) (take (length ls - half_count ls) (drop (half_count ls) ls)) =
+    let halves : c.in_ok-halves_apart.field-0 ≡ halves_apart (take (half_count ls) ls)
+    (take (length ls - half_count ls) (drop (half_count ls) ls)) =
     c.in_ok-halves_apart.ensures in
     let front : c.push_halved.new.parts.items ≡ c.push.new.self.items ++ few_of (c.args.times - 1) (take (half_count ls) ls) =
     c.in_ok-push_halved.ensures in

@@ -27,8 +27,10 @@ spread-spread_any-requires-in-NoneOf t c =
 
 pub spread-named-requires : goal.spread-named-requires
 spread-named-requires t c =
-    let e = sym c.formula.view_is ∙ ap said c.in-NoneOf.is ∙ ap (λ fs. no (any_statement fs)) (sym c.as_slice-in-NoneOf.ensures.value) in record {
-      draft_below = spread-below (gated c.args.clauses.now c.args.gates.now) _ c.new-inner.result _ (any_statement c.as_slice-in-NoneOf.result.now)
+    let e = sym c.formula.view_is ∙ ap said c.in-NoneOf.is ∙ ap (λ fs. no (any_statement fs)) (sym c.as_slice-in-NoneOf.ensures.value) in
+    record {
+      draft_below = spread-below (gated c.args.clauses.now c.args.gates.now) _ c.new-inner.result _
+          (any_statement c.as_slice-in-NoneOf.result.now)
           c.new-inner.ensures c.requires.gates_below (subst (SaidBelow c.args.clauses.now.vars) e c.requires.formula_below)
           c.in_ok-spread_any-in-NoneOf.ensures.built;
       gates_below = c.spread_any-in-NoneOf.ensures.keeps.below;

@@ -8,7 +8,8 @@ pub returns : goal.returns
 unfolding version_weight
 returns c = record {
   place = λ problem name version sorted place row moved order found at.
-      rw found (place_in_sort (row_cmp_total c.laws.ensures.total (listed_in (package_entry_of problem name))) (versions_at problem name) sorted
+      rw found (place_in_sort (row_cmp_total c.laws.ensures.total (listed_in (package_entry_of problem name)))
+      (versions_at problem name) sorted
       place row moved order at);
   not_declared = λ problem name version found. rw found refl;
 }

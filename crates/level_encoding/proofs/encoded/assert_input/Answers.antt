@@ -13,7 +13,8 @@ use Rattle.level_encoding.proofs.encoded.assert_input.Goals as goal
 
 -- the three parts are all rules
 all-parts : (s : LevelData) (old a b c : Clauses) → a ≡ assert_all old (arcs_rules s (turn_start s) s.arcs)
-    → b ≡ assert_all a (flat_map (node_rules s) (numbers_below (numbers s))) → c ≡ assert_all b (flat_map (path_rules s) (numbers_below (numbers s)))
+    → b ≡ assert_all a (flat_map (node_rules s) (numbers_below (numbers s)))
+    → c ≡ assert_all b (flat_map (path_rules s) (numbers_below (numbers s)))
     → c ≡ assert_all old (constraints s)
 unfolding constraints
 all-parts s old a b c e f g =

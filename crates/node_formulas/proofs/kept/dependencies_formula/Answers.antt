@@ -16,5 +16,7 @@ returns c =
     let table = c.args.table.now in
     let rule = λ (d : Text × Kinds). dependency_rule c.args.problem.now c.args.name.now d in
     ok-same c.all.result _ (plain_said table (each_keeps rule (kept_dependencies c.args.entry.now)))
-    (ap all_statements (c.in_ok-parts.ensures ∙ ap (λ (ds : List (Text × Kinds)). map (λ d. plain_said table (rule d)) (filter (λ d. d.1.link || d.1.run) ds)) c.as_slice-dependencies.ensures)
+    (ap all_statements (c.in_ok-parts.ensures ∙ ap
+    (λ (ds : List (Text × Kinds)). map (λ d. plain_said table (rule d)) (filter (λ d. d.1.link || d.1.run) ds))
+    c.as_slice-dependencies.ensures)
     ∙ sym (each-said (word_said no_paths table) rule (kept_dependencies c.args.entry.now))) c.all.ensures

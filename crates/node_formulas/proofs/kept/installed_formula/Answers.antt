@@ -21,4 +21,6 @@ returns-in-Some c =
 
 pub returns-in-None : goal.returns-in-None
 returns-in-None c =
-    c.given.ensures ∙ ap (λ (o : Option Record). plain_said c.args.table.now (one_keeps o (record_rule c.args.problem.now c.args.children.now c.args.name.now))) c.in-None.ensures
+    c.given.ensures
+    ∙ ap (λ (o : Option Record). plain_said c.args.table.now
+    (one_keeps o (record_rule c.args.problem.now c.args.children.now c.args.name.now))) c.in-None.ensures

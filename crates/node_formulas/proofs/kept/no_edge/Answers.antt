@@ -11,4 +11,5 @@ use Rattle.node_formulas.proofs.kept.no_edge.Goals as goal
 pub returns : goal.returns
 returns c =
     let said = λ (n : Text) (k : Kinds). plain_said c.args.table.now (isnt (fact (has_edge c.args.name.now n k))) in
-    c.negated.ensures ∙ ap opposite c.in_ok-edge.ensures ∙ ap (said c.as_str.result.now) c.no_kinds.ensures ∙ ap (λ (n : Text). said n empty_kinds) c.as_str.ensures
+    c.negated.ensures ∙ ap opposite c.in_ok-edge.ensures ∙ ap (said c.as_str.result.now) c.no_kinds.ensures
+    ∙ ap (λ (n : Text). said n empty_kinds) c.as_str.ensures

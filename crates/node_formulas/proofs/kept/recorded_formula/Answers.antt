@@ -17,7 +17,9 @@ returns c =
     let entry = c.args.entry.now in
     let child = c.as_str-child.result.now in
     ok-same c.only_recorded.result _ (plain_said table (edge_rule c.args.problem.now name entry c.args.child.now))
-    (ap (λ (b : Bool). plain_said table (if_so (fact (has_edge name child c.no_kinds.result)) (settled_test b))) c.is_child_name-recorded.ensures
-    ∙ ap (λ (k : Kinds). plain_said table (if_so (fact (has_edge name child k)) (settled_test (is_child_name c.args.problem.now entry child)))) c.no_kinds.ensures
+    (ap (λ (b : Bool). plain_said table (if_so (fact (has_edge name child c.no_kinds.result)) (settled_test b)))
+    c.is_child_name-recorded.ensures
+    ∙ ap (λ (k : Kinds). plain_said table (if_so (fact (has_edge name child k))
+    (settled_test (is_child_name c.args.problem.now entry child)))) c.no_kinds.ensures
     ∙ ap (λ (n : Text). plain_said table (edge_rule c.args.problem.now name entry n)) c.as_str-child.ensures)
     c.only_recorded.ensures

@@ -14,7 +14,8 @@ returns-then-times-eq0 t c =
     let table = c.args.table.now in
     let path = path_by table c.args.paths.now in
     let holds = holds_rule c.args.world.now (names_for table) c.args.name.now in
-    subst (λ (rs : List (Proposition GraphWord)). OnOk c.push_apart.result (c.push_apart.new.parts.items ≡ c.args.parts.now.items ++ map (rule_said path table) rs))
+    subst (λ (rs : List (Proposition GraphWord)). OnOk c.push_apart.result (c.push_apart.new.parts.items ≡ c.args.parts.now.items
+    ++ map (rule_said path table) rs))
     (sym (few-none path table holds c.args.times c.args.specs.now c.if-times-eq0.true)) c.push_apart.ensures
 
 pub returns-then-specs-le-SHORT : goal.returns-then-specs-le-SHORT
@@ -33,11 +34,15 @@ returns t c =
     let holds = holds_rule c.args.world.now (names_for table) c.args.name.now in
     let xs = c.args.specs.now in
     let pushed : c.push.new.self.items ≡ c.args.parts.now.items ++ c.in_ok-halves_formula.field-0 ∷ [] = c.in_ok-push.ensures.items in
-    let halves : c.in_ok-halves_formula.field-0 ≡ rule_said path table (halves_rule holds (take (half_length xs) xs) (take (length xs - half_length xs) (drop (half_length xs) xs))) =
+    let halves : c.in_ok-halves_formula.field-0 ≡ rule_said path table
+    (halves_rule holds (take (half_length xs) xs) (take (length xs - half_length xs) (drop (half_length xs) xs))) =
     c.in_ok-halves_formula.ensures in
-    let front : c.push_few.new.parts.items ≡ c.push.new.self.items ++ map (rule_said path table) (few_rules (c.args.times - 1) holds (take (half_length xs) xs)) = c.in_ok-push_few.ensures in
+    let front : c.push_few.new.parts.items ≡ c.push.new.self.items
+    ++ map (rule_said path table) (few_rules (c.args.times - 1) holds (take (half_length xs) xs)) = c.in_ok-push_few.ensures in
     let back : c.push_few-2.new.parts.items ≡ c.push_few.new.parts.items
-    ++ map (rule_said path table) (few_rules (c.args.times - 1) holds (take (length xs - half_length xs) (drop (half_length xs) xs))) = c.in_ok-push_few-2.ensures in
+    ++ map (rule_said path table) (few_rules (c.args.times - 1) holds (take (length xs - half_length xs) (drop (half_length xs) xs))) =
+    c.in_ok-push_few-2.ensures in
     few-joined path table holds c.args.parts.now.items c.push.new.self.items c.push_few.new.parts.items c.push_few-2.new.parts.items c.args.times xs
-    c.in_ok-halves_formula.field-0 c.if-times-eq0.false c.if-specs-le-SHORT.false pushed (rw (take_rest xs (half_length xs)) at halves) front
+    c.in_ok-halves_formula.field-0 c.if-times-eq0.false c.if-specs-le-SHORT.false pushed
+    (rw (take_rest xs (half_length xs)) at halves) front
     (rw (take_rest xs (half_length xs)) at back)

@@ -24,7 +24,8 @@ returns g c =
     let again = ok-is c.met-2.result c.in_ok-again.again (condition name row.when) c.in_ok-again.was c.met-2.ensures in
     let edge = ok-is c.edge_formula.result c.in_ok-edge.edge (implication_of c.in_ok-met.met goes) c.in_ok-edge.was c.edge_formula.ensures
     ∙ implies-same _ _ _ _ met (sym (edge-agree path table problem (names_for table) name row)) in
-    let constraint = ok-is c.constraint_formula.result c.in_ok-constraint.constraint (implication_of c.in_ok-again.again suits) c.in_ok-constraint.was c.constraint_formula.ensures
+    let constraint = ok-is c.constraint_formula.result c.in_ok-constraint.constraint (implication_of c.in_ok-again.again suits)
+    c.in_ok-constraint.was c.constraint_formula.ensures
     ∙ implies-same _ _ _ _ again (sym (suits_asked-agree path table problem (names_for table) row)) in
     ok-same c.both.result (both_statements c.in_ok-edge.edge c.in_ok-constraint.constraint)
     (term_formula path condition table (both_of (edge_rule problem (names_for table) name row) (constraint_rule problem (names_for table) name row)))

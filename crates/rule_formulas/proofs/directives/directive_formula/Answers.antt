@@ -23,12 +23,16 @@ returns g c =
     let number = c.args.number in
     let said = λ (rule : Proposition Term). term_formula path condition table rule in
     let depends = ok-is c.depends_formula.result c.in_ok-depends.depends
-    (said (each_keeps (λ row. both_of (edge_rule problem (names_for table) name row) (constraint_rule problem (names_for table) name row)) (filter (λ row. row.number == number) (depends_at problem name))))
+    (said (each_keeps (λ row. both_of (edge_rule problem (names_for table) name row) (constraint_rule problem (names_for table) name row))
+    (filter (λ row. row.number == number) (depends_at problem name))))
     c.in_ok-depends.was c.depends_formula.ensures in
     let conflicts = ok-is c.conflicts_formula.result c.in_ok-conflicts.conflicts
-    (said (each_keeps (conflict_rule problem (names_for table) name) (filter (λ row. row.number == number) (conflicts_at problem name)))) c.in_ok-conflicts.was c.conflicts_formula.ensures in
+    (said (each_keeps (conflict_rule problem (names_for table) name) (filter (λ row. row.number == number) (conflicts_at problem name))))
+    c.in_ok-conflicts.was c.conflicts_formula.ensures in
     let requirements = ok-is c.requirements_formula.result c.in_ok-requirements.requirements
-    (said (each_keeps (requirement_rule problem (names_for table) name) (filter (λ row. row.number == number) (requirements_at problem name)))) c.in_ok-requirements.was c.requirements_formula.ensures in
+    (said (each_keeps (requirement_rule problem (names_for table) name)
+    (filter (λ row. row.number == number) (requirements_at problem name)))) c.in_ok-requirements.was c.requirements_formula.ensures in
     let most = c.in_ok-most.ensures ∙ both-same _ _ _ _ depends conflicts in
-    ok-same c.both-2.result (both_statements c.in_ok-most.most c.in_ok-requirements.requirements) (said (directive_rule problem (names_for table) number name))
+    ok-same c.both-2.result (both_statements c.in_ok-most.most c.in_ok-requirements.requirements)
+    (said (directive_rule problem (names_for table) number name))
     (both-same _ _ _ _ most requirements) c.both-2.ensures

@@ -22,7 +22,8 @@ returns g c =
     let p = λ (row : RequireRow). row.number == c.args.number in
     let rule = λ (row : RequireRow). requirement_rule problem (names_for table) name row in
     let formula = λ (row : RequireRow). term_formula path condition table (requirement_rule problem (names_for table) name row) in
-    ok-same c.each_where.result (all_statements (map formula (filter p c.requirements_at.result.now))) (term_formula path condition table (each_keeps rule (filter p (requirements_at problem name))))
+    ok-same c.each_where.result (all_statements (map formula (filter p c.requirements_at.result.now)))
+    (term_formula path condition table (each_keeps rule (filter p (requirements_at problem name))))
     (ap (λ (l : List RequireRow). all_statements (map formula (filter p l))) c.requirements_at.ensures
     ∙ sym (each-said (term_said path condition table) rule (filter p (requirements_at problem name))))
     (c.each_where.ensures p formula (λ x b says. search rules) (λ x r says. search rules))

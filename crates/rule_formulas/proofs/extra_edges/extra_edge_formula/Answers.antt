@@ -16,9 +16,16 @@ returns g c =
     let name = c.args.name.now in
     let child = c.args.child.now in
     let said = λ (rule : Proposition Term). plain_term table condition rule in
-    let build = ok-is c.kind_formula.result c.in_ok-build.build (said (kind_rule problem (names_for table) (record empty_kinds { build = true }) (λ kinds. kinds.build) name child)) c.in_ok-build.was c.kind_formula.ensures in
-    let link = ok-is c.kind_formula-2.result c.in_ok-link.link (said (kind_rule problem (names_for table) (record empty_kinds { link = true }) (λ kinds. kinds.link) name child)) c.in_ok-link.was c.kind_formula-2.ensures in
-    let run = ok-is c.kind_formula-3.result c.in_ok-run.run' (said (kind_rule problem (names_for table) (record empty_kinds { run = true }) (λ kinds. kinds.run) name child)) c.in_ok-run.was c.kind_formula-3.ensures in
+    let build = ok-is c.kind_formula.result c.in_ok-build.build
+    (said (kind_rule problem (names_for table) (record empty_kinds { build = true }) (λ kinds. kinds.build) name child))
+    c.in_ok-build.was c.kind_formula.ensures in
+    let link = ok-is c.kind_formula-2.result c.in_ok-link.link
+    (said (kind_rule problem (names_for table) (record empty_kinds { link = true }) (λ kinds. kinds.link) name child)) c.in_ok-link.was
+    c.kind_formula-2.ensures in
+    let run = ok-is c.kind_formula-3.result c.in_ok-run.run'
+    (said (kind_rule problem (names_for table) (record empty_kinds { run = true }) (λ kinds. kinds.run) name child)) c.in_ok-run.was
+    c.kind_formula-3.ensures in
     let most = c.in_ok-most.ensures ∙ both-same _ _ _ _ build link in
-    ok-same c.both-2.result (both_statements c.in_ok-most.most c.in_ok-run.run') (said (extra_edge_rule problem (names_for table) name child))
+    ok-same c.both-2.result (both_statements c.in_ok-most.most c.in_ok-run.run')
+    (said (extra_edge_rule problem (names_for table) name child))
     (both-same _ _ _ _ most run) c.both-2.ensures

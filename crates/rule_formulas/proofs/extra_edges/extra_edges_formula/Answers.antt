@@ -25,7 +25,8 @@ returns g c =
     let rule = λ (n : Text). extra_edge_rule problem (names_for table) name n in
     let said = λ (n : Text). plain_term table condition (extra_edge_rule problem (names_for table) name n) in
     let formula = λ (e : EdgeLits). plain_term table condition (extra_edge_rule problem (names_for table) name e.child) in
-    ok-same c.each_where.result (all_statements (map formula (filter p c.edges.result.now))) (plain_term table condition (each_keeps rule (children_of table name)))
+    ok-same c.each_where.result (all_statements (map formula (filter p c.edges.result.now)))
+    (plain_term table condition (each_keeps rule (children_of table name)))
     (ap (λ (l : List EdgeLits). all_statements (map formula (filter p l))) c.edges.ensures.edges
     ∙ ap all_statements (over-mapped said child (filter p table.edges))
     ∙ sym (each-said (term_said no_paths condition table) rule (children_of table name)))

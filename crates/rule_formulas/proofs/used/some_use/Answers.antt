@@ -23,7 +23,8 @@ returns g c =
     let said = λ (name : Text). plain_term table condition (use_rule problem (virtual_name, provider) name) in
     let p = λ (b : Block). may_use problem virtual_name b.name in
     let formula = λ (b : Block). plain_term table condition (use_rule problem (virtual_name, provider) b.name) in
-    ok-same c.some_where.result (any_statement (map formula (filter p c.blocks-2.result.now))) (plain_term table condition (some rule (filter (may_use problem virtual_name) (table_names table))))
+    ok-same c.some_where.result (any_statement (map formula (filter p c.blocks-2.result.now)))
+    (plain_term table condition (some rule (filter (may_use problem virtual_name) (table_names table))))
     (ap (λ (l : List Block). any_statement (map formula (filter p l))) c.blocks-2.ensures.blocks
     ∙ ap any_statement (filter-mapped said block_name (may_use problem virtual_name) table.blocks)
     ∙ sym (some-said (term_said no_paths condition table) rule (filter (may_use problem virtual_name) (table_names table))))

@@ -23,9 +23,11 @@ returns g c =
     let provider = c.args.provider.now in
     let there = λ (n : Text). plain_said table (fact (has_edge name n empty_kinds)) in
     let rows_said = plain_term table condition (some (λ (row : DependRow). met_rule name row.when) (filter (names_virtual virtual_name) (depends_at problem name))) in
-    let built = ok-is c.built_formula.result c.in_ok-built.built (node_said table name (has_origin builds_node)) c.in_ok-built.was c.built_formula.ensures in
+    let built = ok-is c.built_formula.result c.in_ok-built.built (node_said table name (has_origin builds_node)) c.in_ok-built.was
+    c.built_formula.ensures in
     let edge = ok-is c.has_edge.result c.in_ok-edge.edge (there c.as_str.result.now) c.in_ok-edge.was c.has_edge.ensures ∙ ap there c.as_str.ensures in
     let with_edge = c.in_ok-with_edge.ensures ∙ both-same _ _ _ _ built edge in
     let rows = ok-is c.rows_formula.result c.in_ok-rows.rows rows_said c.in_ok-rows.was c.rows_formula.ensures in
-    ok-same c.both-2.result (both_statements c.in_ok-with_edge.with_edge c.in_ok-rows.rows) (plain_term table condition (use_rule problem (virtual_name, provider) name))
+    ok-same c.both-2.result (both_statements c.in_ok-with_edge.with_edge c.in_ok-rows.rows)
+    (plain_term table condition (use_rule problem (virtual_name, provider) name))
     (both-same _ _ _ _ with_edge rows) c.both-2.ensures

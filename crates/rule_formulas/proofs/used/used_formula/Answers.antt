@@ -20,11 +20,15 @@ returns g c =
     let problem = c.args.problem.now in
     let condition = g.C.MetConditions.condition_of c.args.conditions.now in
     let virtual_name = c.args.virtual_name.now in
-    let rule = λ (n : Text). if_so (known_rule (fact (provides_as virtual_name n))) (used_rule problem (table_names table) (virtual_name, n)) in
-    let said = λ (n : Text). plain_term table condition (if_so (known_rule (fact (provides_as virtual_name n))) (used_rule problem (table_names table) (virtual_name, n))) in
-    let formula = λ (choice : Text × Lit). plain_term table condition (if_so (known_rule (fact (provides_as virtual_name choice.0))) (used_rule problem (table_names table) (virtual_name, choice.0))) in
+    let rule = λ (n : Text). if_so (known_rule (fact (provides_as virtual_name n)))
+    (used_rule problem (table_names table) (virtual_name, n)) in
+    let said = λ (n : Text). plain_term table condition
+    (if_so (known_rule (fact (provides_as virtual_name n))) (used_rule problem (table_names table) (virtual_name, n))) in
+    let formula = λ (choice : Text × Lit). plain_term table condition
+    (if_so (known_rule (fact (provides_as virtual_name choice.0))) (used_rule problem (table_names table) (virtual_name, choice.0))) in
     let first = λ (choice : Text × Lit). choice.0 in
-    ok-same c.each.result (all_statements (map formula c.packages.result.now)) (plain_term table condition (of_provider (names_for table) (used_rule problem (table_names table)) virtual_name))
+    ok-same c.each.result (all_statements (map formula c.packages.result.now))
+    (plain_term table condition (of_provider (names_for table) (used_rule problem (table_names table)) virtual_name))
     (ap (λ (l : List (Text × Lit)). all_statements (map formula l)) (c.packages.ensures ∙ ap (packages_of table) c.as_str.ensures)
     ∙ ap all_statements (over-mapped said first (packages_of table virtual_name))
     ∙ sym (each-said (term_said no_paths condition table) rule (names_for table virtual_name)))

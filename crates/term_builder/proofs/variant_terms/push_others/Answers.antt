@@ -15,4 +15,6 @@ returns c =
     ended (λ choice. only_if (not (is_one_text c.args.row.now.default choice.0)) (weighed_once (both_statements (atom choice.1) governing)))
     c.args.values.now c.args.values.now c.loop-choice.choice-index c.loop-choice.terms.items c.args.terms.now.items _
     refl (drop_all c.loop-choice.choice-index c.args.values.now c.loop-choice-test.false) c.loop-choice.invariant
-    (pushed-if (λ choice. not (is_one_text c.args.row.now.default choice.0)) (λ choice. weighed_once (both_statements (atom choice.1) governing)) c.args.values.now)
+    (pushed-if (λ choice. not (is_one_text c.args.row.now.default choice.0))
+    (λ choice. weighed_once (both_statements (atom choice.1) governing))
+    c.args.values.now)

@@ -10,8 +10,10 @@ use Rattle.term_builder.proofs.variant_terms.push_others.Given as goal
 abbrev pub invariant-loop-choice : goal.invariant-loop-choice
 invariant-loop-choice l =
     l.terms.items ++ flat_map (λ c. only_if (not (is_one_text l.fn.row.default c.0))
-    (weighed_once (both_statements (atom c.1) (governs l.fn.variant (statement_of l.condition) l.fn.rows (map statement_of l.fn.conditions)))))
+    (weighed_once
+    (both_statements (atom c.1) (governs l.fn.variant (statement_of l.condition) l.fn.rows (map statement_of l.fn.conditions)))))
     (drop l.choice-index l.fn.values)
     ≡ l.fn.terms.items ++ flat_map (λ c. only_if (not (is_one_text l.fn.row.default c.0))
-    (weighed_once (both_statements (atom c.1) (governs l.fn.variant (statement_of l.condition) l.fn.rows (map statement_of l.fn.conditions)))))
+    (weighed_once
+    (both_statements (atom c.1) (governs l.fn.variant (statement_of l.condition) l.fn.rows (map statement_of l.fn.conditions)))))
     l.fn.values

@@ -6,7 +6,7 @@ use Rattle.graph_formulas.specs.Facts.{provides_as}
 use Rattle.literal_table.specs.Choices.{any_choice}
 use Rattle.word_formulas.specs.Builders.{plain_said}
 use Rattle.word_formulas.proofs.Steps.{ok-same}
-use Rattle.node_formulas.proofs.provider_rows.provides.Goals as goal
+use Rattle.word_formulas.proofs.asked_nodes.provides_as.Goals as goal
 
 pub returns : goal.returns
 returns c = ok-same c.any_choice.result (any_choice (λ (p : Text). bytes_eq p c.args.name.now) c.packages.result.now)
