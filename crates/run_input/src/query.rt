@@ -62,7 +62,13 @@ fn without_roots(alloc: Global, stock: Stock) -> Result<Problem, ReadStop>
         records,
     } = stock;
     let (recipes, settings) = (recipes.recipes(), settings.settings());
-    posed(alloc, recipes, settings, records.records(), List::new(alloc))
+    posed(
+        alloc,
+        recipes,
+        settings,
+        records.records(),
+        List::new(alloc),
+    )
 }
 
 /// The condition, and then the problem.
