@@ -7,7 +7,7 @@ use Rattle.std.specs.List.{list_any, list_all}
 use Rattle.std.specs.Option.{is_some, option_or}
 use Rattle.clause_formulas.specs.Rules.{Proposition, keeps_rule, isnt, any_rule}
 use Rattle.condition_rules.specs.Words.{if_written, is_some_and, find_last}
-use Rattle.graph_formulas.specs.Lists.{settled_test, asked_unless, where_written, one_keeps, each_keeps, some, half_length, last_in_turn, last_of_halves, last_halved, last_one}
+use Rattle.graph_formulas.specs.Lists.{settled_test, asked_unless, where_written, one_keeps, each, some, half_length, last_in_turn, last_of_halves, last_halved, last_one}
 
 pub any-last : {T : Type 0} (f : T → Bool) (xs : List T) → list_any f xs ≡ is_some (find_last f xs)
 any-last f [] = refl
@@ -68,11 +68,11 @@ module _ {W : Type 0} (p : W → Bool) where
     named-kept None = refl
     named-kept (Some x) = same x
 
-    pub each-kept : (xs : List T) → keeps_rule p (each_keeps rule xs) ≡ list_all test xs
+    pub each-kept : (xs : List T) → keeps_rule p (each rule xs) ≡ list_all test xs
     each-kept [] = refl
     each-kept (x ∷ xs) = rw (same x, not-nor (test x) (keeps_rule p (any_rule (map isnt (map rule xs)))), each-kept xs) refl
 
-    module _ (passes : T → Rule W) (f : T → Bool) (each : (x : T) → keeps_rule p (passes x) ≡ f x) where
+    module _ (passes : T → Proposition W) (f : T → Bool) (each : (x : T) → keeps_rule p (passes x) ≡ f x) where
       in-turn-kept : (xs : List T) → keeps_rule p (last_in_turn passes rule xs) ≡ is_some_and (find_last f xs) test
       in-turn-kept [] = refl
       in-turn-kept (x ∷ xs) = rw (in-turn-kept xs, some-kept passes f each xs, any-last f xs, each x, same x) (step (find_last f xs) (f x))
@@ -83,7 +83,7 @@ module _ {W : Type 0} (p : W → Bool) where
           step None false = refl
           step (Some y) b = refl
 
-      of-halves-kept : (ys : List T) (front back : Rule W) (o : Option T) → keeps_rule p front ≡ is_some_and o test
+      of-halves-kept : (ys : List T) (front back : Proposition W) (o : Option T) → keeps_rule p front ≡ is_some_and o test
           → keeps_rule p back ≡ is_some_and (find_last f ys) test
           → keeps_rule p (last_of_halves passes ys front back) ≡ is_some_and (option_or (find_last f ys) o) test
       of-halves-kept ys front back o first second = rw (some-kept passes f each ys, any-last f ys, first, second) (step (find_last f ys))
@@ -108,6 +108,6 @@ module _ {W : Type 0} (p : W → Bool) where
             | false ↦ in-turn-kept xs
           ]
 
-    pub last-kept : (passes : T → Rule W) (f : T → Bool) → ((x : T) → keeps_rule p (passes x) ≡ f x) → (xs : List T)
+    pub last-kept : (passes : T → Proposition W) (f : T → Bool) → ((x : T) → keeps_rule p (passes x) ≡ f x) → (xs : List T)
         → keeps_rule p (last_one passes rule xs) ≡ is_some_and (find_last f xs) test
     last-kept passes f each xs = halved-kept passes f each (length xs / 8) xs
