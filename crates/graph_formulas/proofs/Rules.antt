@@ -7,7 +7,7 @@ use Rattle.std.specs.List.{list_any, list_all}
 use Rattle.std.specs.Option.{is_some, option_or}
 use Rattle.clause_formulas.specs.Rules.{Proposition, keeps_rule, isnt, any_rule}
 use Rattle.condition_rules.specs.Words.{if_written, is_some_and, find_last}
-use Rattle.graph_formulas.specs.Lists.{settled_test, asked_unless, where_written, one_keeps, each, some, half_length, last_in_turn, last_of_halves, last_halved, last_one}
+use Rattle.graph_formulas.specs.Lists.{settled_test, asked_unless, where_written, one_keeps, each_keeps, some, half_length, last_in_turn, last_of_halves, last_halved, last_one}
 
 pub any-last : {T : Type 0} (f : T → Bool) (xs : List T) → list_any f xs ≡ is_some (find_last f xs)
 any-last f [] = refl
@@ -68,7 +68,7 @@ module _ {W : Type 0} (p : W → Bool) where
     named-kept None = refl
     named-kept (Some x) = same x
 
-    pub each-kept : (xs : List T) → keeps_rule p (each rule xs) ≡ list_all test xs
+    pub each-kept : (xs : List T) → keeps_rule p (each_keeps rule xs) ≡ list_all test xs
     each-kept [] = refl
     each-kept (x ∷ xs) = rw (same x, not-nor (test x) (keeps_rule p (any_rule (map isnt (map rule xs)))), each-kept xs) refl
 
