@@ -1,9 +1,7 @@
 -- What the words say of a run, for any desk.
-use Rattle.std.specs.Prelude.{◌≡◌, ◌⊎◌, ℕ, false, List, Option, Some, Ok}
+use Rattle.std.specs.Prelude.{◌≡◌, ◌⊎◌, ℕ, false, List, Option, Some}
 use Rattle.outside_desk.specs.Files.{Files}
-use Rattle.spec_grammar.specs.declared.part.Spec.{Spec}
-use Rattle.run_output.specs.Roots.{RootsOf}
-use Rattle.run_output.specs.Tasks.{IsTaskPath}
+use Rattle.run_output.specs.Tasks.{HasSpecs, IsTaskPath}
 use Rattle.run_output.specs.Words.{Command, command_of, is_dash_path, lock_path, cert_path}
 use Rattle.run_output.specs.Work.TheVariants as works
 
@@ -11,8 +9,7 @@ use Rattle.run_output.specs.Work.TheVariants as works
 pub record IsAsked (words : List (List ℕ)) : Type 0 where
   pub command : Command
   pub named : command_of words ≡ Some command
-  pub roots : List Spec
-  pub asks : RootsOf command.spec (Ok roots)
+  pub asks : HasSpecs command
 
 -- they are `concretize`, the one command that puts files
 pub record IsLocking (words : List (List ℕ)) : Type 0 where

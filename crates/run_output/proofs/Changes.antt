@@ -79,10 +79,7 @@ module _ (lock cert : List ℕ) where
   keeps task None after kept = tt
   keeps task (Some m) after (inl same) = keeps_none (Some m) after same
   keeps (tasks.Solve input) (Some m) after (inr kept) = keeps_whole input.problem kept.answer (Some m) after kept.held
-  keeps (tasks.Report numbers) (Some m) after (inr kept) = absurd kept
-  keeps tasks.Accepted (Some m) after (inr kept) = absurd kept
-  keeps (tasks.Explain input) (Some m) after (inr kept) = absurd kept
-  keeps (tasks.Try input) (Some m) after (inr kept) = absurd kept
+  keeps other (Some m) after (inr kept) = absurd kept
 
   -- files that are as they were
   pub unchanged : (before : Files) (after : Option Files) → after ≡ Some before → ChangesOnly lock cert before after

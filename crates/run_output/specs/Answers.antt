@@ -166,9 +166,13 @@ HasNone sense cert task before after out_before out_after = IsTold sense task ou
 
 -- the budget was spent
 abbrev pub HasSpent : Sense → List ℕ → Task → Option Files → Option Files → Option (List ℕ) → Option (List ℕ) → Type 0
-HasSpent sense cert (tasks.Solve input) before after out_before out_after =
-    IsBudgetSpent sense cert input.problem before after out_before out_after
+HasSpent sense cert (tasks.Solve input) before after out_before out_after = IsBudgetSpent sense cert input.problem before after out_before out_after
 HasSpent sense cert task before after out_before out_after = IsTold sense task outcomes.Undecided before after out_before out_after
+
+-- the lock file is right, and a better graph was found: `fresh` alone says so
+abbrev pub HasBetter : Sense → Task → Option Files → Option Files → Option (List ℕ) → Option (List ℕ) → Type 0
+HasBetter sense (tasks.Solve input) before after out_before out_after = ⊥
+HasBetter sense task before after out_before out_after = IsTold sense task outcomes.Stale before after out_before out_after
 
 -- a put at the path failed
 abbrev pub IsHalfDone : Sense → List ℕ → List ℕ → Task → List ℕ → Option Files → Option Files → Type 0
@@ -187,6 +191,7 @@ abbrev pub Writes : Sense → List ℕ → List ℕ → Task → Option Files �
 Writes sense lock cert task before after out_before out_after (Ok outcomes.Solved) = IsFinished sense lock cert task before after out_before out_after
 Writes sense lock cert task before after out_before out_after (Ok outcomes.Unsolved) = HasNone sense cert task before after out_before out_after
 Writes sense lock cert task before after out_before out_after (Ok outcomes.Undecided) = HasSpent sense cert task before after out_before out_after
+Writes sense lock cert task before after out_before out_after (Ok outcomes.Stale) = HasBetter sense task before after out_before out_after
 Writes sense lock cert task before after out_before out_after (Err (writes.Put at)) =
     IsHalfDone sense lock cert task at before after × (out_after ≡ out_before)
 Writes sense lock cert task before after out_before out_after (Err writes.Output) = IsUntold sense lock cert task before after out_before out_after

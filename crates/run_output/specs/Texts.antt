@@ -43,6 +43,14 @@ outcome_of (answers.Undecided log) = outcomes.Undecided
 unfoldable pub verdict_text : List ℕ → List ℕ
 verdict_text numbers = codes "valid\n" ++ vector_line numbers
 
+-- of one that is still the best
+unfoldable pub fresh_text : List ℕ → List ℕ
+fresh_text numbers = codes "fresh\n" ++ vector_line numbers
+
+-- of one that is not: the costs of a better graph
+unfoldable pub stale_text : List ℕ → List ℕ
+stale_text numbers = codes "stale\n" ++ vector_line numbers
+
 -- and of a certificate that is right
 unfoldable pub accepted_line : List ℕ
 accepted_line = codes "accepted\n"

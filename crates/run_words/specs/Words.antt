@@ -53,8 +53,11 @@ verb_of name =
     if is_same_path name (codes "concretize") then row works.Concretize Needed Optional
     else if is_same_path name (codes "judge") then row works.Judge Needed Absent
     else if is_same_path name (codes "check") then row works.Check Needed Needed
+    else if is_same_path name (codes "fresh") then row works.Fresh Needed Absent
     else if is_same_path name (codes "refute") then row works.Refute Absent Needed
     else if is_same_path name (codes "explain") then row works.Explain Absent Absent
+    else if is_same_path name (codes "find") then row works.Find Absent Absent
+    else if is_same_path name (codes "plan") then row works.Plan Needed Absent
     else None
 
 -- ---- the words behind a verb

@@ -19,17 +19,23 @@ pub enum Work {
     Judge,
     /// Judges it, and whether a certificate shows that it is the best.
     Check,
+    /// Judges it, and whether it is still the best.
+    Fresh,
     /// Checks whether a certificate shows that there is none.
     Refute,
     /// Says why there is none.
     Explain,
+    /// Finds the installed packages that meet a spec.
+    Find,
+    /// Says in which order the graph of a lock file can be built.
+    Plan,
     /// Finds the best graph of a repository that is made in memory, of 1 to 1,000 packages.
     Trial { packages: u64, seed: u64 },
 }
 
 /// What the words behind a verb say: `concretize` and `check REPO SETTINGS DATABASE LOCK CERT SPEC`,
-/// `judge REPO SETTINGS DATABASE LOCK SPEC`, `refute REPO SETTINGS DATABASE CERT SPEC`,
-/// `explain REPO SETTINGS DATABASE SPEC`, `trial N SEED`.
+/// `judge`, `fresh` and `plan REPO SETTINGS DATABASE LOCK SPEC`, `refute REPO SETTINGS DATABASE CERT SPEC`,
+/// `explain` and `find REPO SETTINGS DATABASE SPEC`, `trial N SEED`.
 #[derive(Debug, Drop)]
 pub struct Command<'a> {
     pub work: Work,

@@ -3,7 +3,7 @@ use Rattle.run_words.specs.Words.{Command}
 use Rattle.run_input.specs.Inputs.{Behind, InRepository}
 use Rattle.run_input.proofs.Failing.{later}
 use Rattle.run_input.proofs.Staged.{staged}
-use Rattle.run_input.proofs.input.read_over.Goals as goal
+use Rattle.run_input.proofs.stock.read_over.Goals as goal
 
 pub returns-in-Ok-clause-read : goal.returns-in-Ok-clause-read
 returns-in-Ok-clause-read g c =
