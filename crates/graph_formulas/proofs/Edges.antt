@@ -233,7 +233,7 @@ module _ (problem : Problem) (packages : Text → List Text) (graph : Content)
   -- the node uses the provider
   pub use-kept : (p : Text × Text) → keeps_rule (is_true (world_of problem) graph) (use_rule problem p name) ≡ uses problem graph p node
   use-kept p = rw (
-    there (world_of problem) graph name node here (has_origin builds),
+    there (world_of problem) graph name node here (has_origin builds_node),
     sym (some-there (edge_of graph name p.1)),
     asking-kept,
   )

@@ -72,7 +72,7 @@ module _ {W : Type 0} (p : W → Bool) where
     each-kept [] = refl
     each-kept (x ∷ xs) = rw (same x, not-nor (test x) (keeps_rule p (any_rule (map isnt (map rule xs)))), each-kept xs) refl
 
-    module _ (passes : T → Rule W) (f : T → Bool) (each : (x : T) → keeps_rule p (passes x) ≡ f x) where
+    module _ (passes : T → Proposition W) (f : T → Bool) (each : (x : T) → keeps_rule p (passes x) ≡ f x) where
       in-turn-kept : (xs : List T) → keeps_rule p (last_in_turn passes rule xs) ≡ is_some_and (find_last f xs) test
       in-turn-kept [] = refl
       in-turn-kept (x ∷ xs) = rw (in-turn-kept xs, some-kept passes f each xs, any-last f xs, each x, same x) (step (find_last f xs) (f x))
@@ -83,7 +83,7 @@ module _ {W : Type 0} (p : W → Bool) where
           step None false = refl
           step (Some y) b = refl
 
-      of-halves-kept : (ys : List T) (front back : Rule W) (o : Option T) → keeps_rule p front ≡ is_some_and o test
+      of-halves-kept : (ys : List T) (front back : Proposition W) (o : Option T) → keeps_rule p front ≡ is_some_and o test
           → keeps_rule p back ≡ is_some_and (find_last f ys) test
           → keeps_rule p (last_of_halves passes ys front back) ≡ is_some_and (option_or (find_last f ys) o) test
       of-halves-kept ys front back o first second = rw (some-kept passes f each ys, any-last f ys, first, second) (step (find_last f ys))
@@ -108,6 +108,6 @@ module _ {W : Type 0} (p : W → Bool) where
             | false ↦ in-turn-kept xs
           ]
 
-    pub last-kept : (passes : T → Rule W) (f : T → Bool) → ((x : T) → keeps_rule p (passes x) ≡ f x) → (xs : List T)
+    pub last-kept : (passes : T → Proposition W) (f : T → Bool) → ((x : T) → keeps_rule p (passes x) ≡ f x) → (xs : List T)
         → keeps_rule p (last_one passes rule xs) ≡ is_some_and (find_last f xs) test
     last-kept passes f each xs = halved-kept passes f each (length xs / 8) xs

@@ -59,8 +59,8 @@ module _ (v : ℕ → Bool) (b : Block) (o : Option Node) (s : SpellsNode v b o)
   attribute-said test choices attribute is = one-chosen v test choices (option_map attribute o) is ∙ mapped-and attribute test o
 
   values-said : (variant : Text) (test : Text → Bool)
-      → eval v (any_choice test (values_of b variant)) ≡ list_any test (values_at (variants_of o) variant)
-  values-said variant test = any-chosen v test (values_of b variant) ∙ ap (list_any test) (values-spelled v b o variant s)
+      → eval v (any_choice test (variant_choices b variant)) ≡ list_any test (values_at (variants_of o) variant)
+  values-said variant test = any-chosen v test (variant_choices b variant) ∙ ap (list_any test) (values-spelled v b o variant s)
 
 at-node : (o : Option Node) (variant : Text) (test : List Text → Bool) → test [] ≡ false
     → test (values_at (variants_of o) variant) ≡ is_some_and o (λ node. test (values_at node.variants variant))
@@ -82,7 +82,7 @@ module _ (v : ℕ → Bool) (variant : Text) where
       filled-cases (x ∷ xs) rest = elim (cases_Bool (bytes_eq u.0 variant)) [ inl same ↦ rw same refl | inr other ↦ rw other rest ]
 
 module _ (v : ℕ → Bool) (b : Block) (o : Option Node) (s : SpellsNode v b o) where
-  variant-said : (variant : Text) → eval v (any_choice (λ value. true) (values_of b variant))
+  variant-said : (variant : Text) → eval v (any_choice (λ value. true) (variant_choices b variant))
       ≡ is_some_and o (λ node. variant_there node.variants variant)
   variant-said variant =
       values-said v b o s variant (λ value. true)
@@ -116,7 +116,7 @@ module _ (v : ℕ → Bool) (b : Block) (o : Option Node) (s : SpellsNode v b o)
   fact-said (has_variant variant) = variant-said variant
   fact-said (has_value variant test) = values-said v b o s variant test ∙ at-node o variant (list_any test) refl
   fact-said (has_single variant) =
-      one-said v (lits_of (values_of b variant)) ∙ one-true v (values_of b variant) ∙ ap is_single (values-spelled v b o variant s)
+      one-said v (choice_lits (variant_choices b variant)) ∙ one-true v (variant_choices b variant) ∙ ap is_single (values-spelled v b o variant s)
       ∙ at-node o variant is_single refl
   fact-said (has_variants variants) = variants-said variants
 

@@ -18,12 +18,12 @@ abbrev pub empty_kinds : Kinds
 empty_kinds = record { build = false; link = false; run = false }
 
 -- a name asks for this child, where that is there: it is the child's own, or that of a virtual which the child provides
-abbrev pub asked_child : World → Text → Text → Rule GraphWord
+abbrev pub asked_child : World → Text → Text → Proposition GraphWord
 asked_child world child asked = if is_virtual world.recipes asked then fact (provides_as asked child) else settled_test (bytes_eq asked child)
 
 module _ (problem : Problem) (packages : Text → List Text) where
   -- the row holds at the node and asks for this child, where that is there
-  abbrev pub asks_rule : Text → Text → DependRow → Rule Term
+  abbrev pub asks_rule : Text → Text → DependRow → Proposition Term
   asks_rule name child row = met_rule name row.when and known_rule (one_keeps row.part.name (asked_child (world_of problem) child))
 
   -- the row may ask for this child, by its name or by a virtual

@@ -68,20 +68,20 @@ few_rules (suc times) rule xs =
     else apart_rules rule xs
 
 -- exactly one keeps the rule: so deep as one thing's rule, however long the list is
-abbrev pub just_one : {W T : Type 0} → (T → Rule W) → List T → Rule W
-just_one rule xs = some rule xs and all_rules (few_rules (length xs / 8) rule xs)
+abbrev pub just_one : {W T : Type 0} → (T → Proposition W) → List T → Proposition W
+just_one rule xs = some rule xs and every_rule (few_rules (length xs / 8) rule xs)
 
 -- there is a last one that passes, and it keeps the rule: one thing after the other
-abbrev pub last_in_turn : {W T : Type 0} → (T → Rule W) → (T → Rule W) → List T → Rule W
+abbrev pub last_in_turn : {W T : Type 0} → (T → Proposition W) → (T → Proposition W) → List T → Proposition W
 last_in_turn passes rule [] = nowhere
 last_in_turn passes rule (x ∷ xs) = either_of (isnt (some passes xs) and passes x and rule x) (last_in_turn passes rule xs)
 
 -- it stands in the front, and none of the back passes; or in the back
-abbrev pub last_of_halves : {W T : Type 0} → (T → Rule W) → List T → Rule W → Rule W → Rule W
+abbrev pub last_of_halves : {W T : Type 0} → (T → Proposition W) → List T → Proposition W → Proposition W → Proposition W
 last_of_halves passes ys front back = any_rule ((none passes ys and front) ∷ back ∷ [])
 
 -- a list of more than eight is halved, so many times at most
-unfoldable pub last_halved : {W T : Type 0} → ℕ → (T → Rule W) → (T → Rule W) → List T → Rule W
+unfoldable pub last_halved : {W T : Type 0} → ℕ → (T → Proposition W) → (T → Proposition W) → List T → Proposition W
 last_halved zero passes rule xs = last_in_turn passes rule xs
 last_halved (suc times) passes rule xs =
     if nat_lt 8 (length xs)
@@ -90,5 +90,5 @@ last_halved (suc times) passes rule xs =
     else last_in_turn passes rule xs
 
 -- there is a last one that passes, and it keeps the rule
-abbrev pub last_one : {W T : Type 0} → (T → Rule W) → (T → Rule W) → List T → Rule W
+abbrev pub last_one : {W T : Type 0} → (T → Proposition W) → (T → Proposition W) → List T → Proposition W
 last_one passes rule xs = last_halved (length xs / 8) passes rule xs

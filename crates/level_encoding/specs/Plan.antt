@@ -38,4 +38,4 @@ pub record IsPlan (s : LevelData) (plan : Plan) : Type 0 where
   pub ways : AreWays s plan.ways.items
   pub turns : plan.turns ≡ turn_start s
   pub arriving : AreGroups s arriving plan.arriving.items
-  pub leaving : AreGroups s leaving plan.leaving.items
+  pub leaving : AreGroups s arcs_leaving plan.leaving.items

@@ -54,7 +54,7 @@ module _ (terms : Row → Choices Text → List Weighted) (f : VariantRow → �
       → sum_by (λ r. top_said (terms r values)) (governing_rows rs) ≤ sum_by (λ (r : Row). f r.0) rs
   governing-sum values le [] = omega arith
   governing-sum values le (r ∷ rs) =
-      let governs : Row = (r.0, both r.1 (none_among (formulas_of rs))) in
+      let governs : Row = (r.0, both_statements r.1 (none_among (formulas_of rs))) in
       let here = le governs in
       let rest = governing-sum values le rs in
       omega (

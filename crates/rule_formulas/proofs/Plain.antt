@@ -43,7 +43,7 @@ module _ (path : Text → Text → Statement) (condition : Text → Condition �
   extras-agree children name = each-agree f g (extra_edge_rule problem (names_for table) name) (extra-agree name) children
 
   use-agree : (p : Text × Text) (name : Text) → in_words f (use_rule problem p name) ≡ in_words g (use_rule problem p name)
-  use-agree p name = ap (λ s. both (both (f (known (built_rule name))) (f (known (fact (has_edge name p.1 no_kinds))))) s)
+  use-agree p name = ap (λ s. both_statements (both_statements (f (known (built_rule name))) (f (known (fact (has_edge name p.1 empty_kinds))))) s)
       (some-agree f g (λ row. met_rule name row.when) (λ row. refl) (filter (names_virtual p.0) (depends_at problem name)))
 
   used-agree : (names : List Text) (p : Text × Text) → in_words f (used_rule problem names p) ≡ in_words g (used_rule problem names p)

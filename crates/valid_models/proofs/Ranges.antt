@@ -77,9 +77,9 @@ variants-below m (u ∷ us) (w ∷ ws) h = let p = below-parts m (choice_lits u.
     variants-below-cases own false a b = any_of-below m (just_parts u.1 []) (variant_parts us (w ∷ ws)) (just-below m u.1 [] own) b
 
 found-below : (m : ℕ) (us : List (Text × Choices Text)) (variant : Text) → AllBelow m (value_lits us)
-    → AreBelow m (values_in (find_key byte_cmp variant_of us variant))
+    → AreBelow m (variant_choices_in (find_key byte_cmp variant_of us variant))
 found-below m [] variant h = tt
-found-below m (u ∷ us) variant h = let p = below-parts m (lits_of u.1) (value_lits us) h in
+found-below m (u ∷ us) variant h = let p = below-parts m (choice_lits u.1) (value_lits us) h in
     found-below-cases p.0 (eq_by_cmp byte_cmp u.0 variant) (found-below m us variant p.1)
   where
     found-below-cases : AreBelow m u.1 → (b : Bool) → AreBelow m (variant_choices_in (find_key byte_cmp variant_of us variant))
@@ -98,9 +98,9 @@ fact-below m b h (facts.has_os test) = choice-below m test b.os h.os
 fact-below m b h (facts.has_target test) = choice-below m test b.targets h.targets
 fact-below m b h (facts.has_prefix test) = choice-below m test b.prefixes h.prefixes
 fact-below m b h (facts.has_variant variant) =
-    choice-below m (λ value. true) (values_of b variant) (found-below m b.variants variant h.values)
-fact-below m b h (facts.has_value variant test) = choice-below m test (values_of b variant) (found-below m b.variants variant h.values)
-fact-below m b h (facts.has_single variant) = one_among-below m (lits_of (values_of b variant)) (found-below m b.variants variant h.values)
+    choice-below m (λ value. true) (variant_choices b variant) (found-below m b.variants variant h.values)
+fact-below m b h (facts.has_value variant test) = choice-below m test (variant_choices b variant) (found-below m b.variants variant h.values)
+fact-below m b h (facts.has_single variant) = one_among-below m (choice_lits (variant_choices b variant)) (found-below m b.variants variant h.values)
 fact-below m b h (facts.has_variants variants) =
     all_of-below m (atom b.present ∷ variant_parts b.variants variants) (h.present, variants-below m b.variants variants h.values)
 
@@ -134,14 +134,14 @@ module _ (n : ℕ) (t : Table) (below : IsTableBelow n t) where
   ends-below parent child kinds None at = tt
   ends-below parent child kinds (Some e) at = edge-below n kinds e
       (All-contains (λ (d : EdgeLits). AllBelow n (kind_lits d)) t.edges e below.edges
-      (find_sound pair_total pair_exact ends_of t.edges (parent, child) e at).0)
+      (find_sound pair_total pair_exact ends_of_edge t.edges (parent, child) e at).0)
 
-  packages-below : (virtual : Text) (o : Option ProviderLits) → find_key byte_cmp virtual_of t.providers virtual ≡ o
-      → AreBelow n (packages_in o)
+  packages-below : (virtual : Text) (o : Option ProviderLits) → find_key byte_cmp provider_virtual t.providers virtual ≡ o
+      → AreBelow n (provider_packages o)
   packages-below virtual None at = tt
   packages-below virtual (Some p) at =
       All-contains (λ (q : ProviderLits). AreBelow n q.packages) t.providers p below.providers
-      (find_sound nat_list_cmp_total ties_are_equal virtual_of t.providers virtual p at).0
+      (find_sound nat_list_cmp_total ties_are_equal provider_virtual t.providers virtual p at).0
 
   pub words-below : WordsBelow n t
   words-below m path le paths (node_has name f) =
@@ -149,7 +149,7 @@ module _ (n : ℕ) (t : Table) (below : IsTableBelow n t) where
   words-below m path le paths (provides_as virtual name) =
       SaidBelow-le n m (any_choice (λ p. bytes_eq p name) (packages_of t virtual)) le
       (choice-below n (λ p. bytes_eq p name) (packages_of t virtual)
-      (packages-below virtual (find_key byte_cmp virtual_of t.providers virtual) refl))
+      (packages-below virtual (find_key byte_cmp provider_virtual t.providers virtual) refl))
   words-below m path le paths (has_edge parent child kinds) =
       SaidBelow-le n m (said_in (edge_said kinds) (edge_lits_of t parent child)) le
       (ends-below parent child kinds (edge_lits_of t parent child) refl)

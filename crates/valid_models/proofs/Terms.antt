@@ -219,7 +219,7 @@ module _ (problem : Problem) (v : ℕ → Bool) (t : Table) (path other : PathFo
       some-if TermAlike (asks_rule problem packages name child) (λ row. is_told_condition row.when)
           (λ row h. (
             same_met name row.when h,
-            known-alike (named row.part.name (asked_child (world_of problem) child))
+            known-alike (one_keeps row.part.name (asked_child (world_of problem) child))
                 (named-all W (asked_child (world_of problem) child) (λ asked. asked-all asked (is_virtual problem.recipes asked))
                 row.part.name),
           ))
@@ -228,7 +228,7 @@ module _ (problem : Problem) (v : ℕ → Bool) (t : Table) (path other : PathFo
           (depends_at problem name) rows.depends),
     )
       where
-        asked-all : (asked : Text) (b : Bool) → AllWords W (if b then fact (provides_as asked child) else given (bytes_eq asked child))
+        asked-all : (asked : Text) (b : Bool) → AllWords W (if b then fact (provides_as asked child) else settled_test (bytes_eq asked child))
         asked-all asked true = refl
         asked-all asked false = given-all W (bytes_eq asked child)
 

@@ -27,10 +27,10 @@ over-offered f (c ∷ cs) = ap (λ l. f c.0 ∷ l) (over-offered f cs)
 
 module _ (table : Table) (world : World) (asked : Text) (keeps : NodeRule) where
   pub asked-virtual : is_virtual world.recipes asked ≡ true
-      → any_of (map (keeping_said table asked keeps) (packages_of table asked))
+      → any_statement (map (keeping_said table asked keeps) (packages_of table asked))
       ≡ plain_said table (asked_rule world (names_for table) asked keeps)
   asked-virtual is =
-      rw is (ap any_of (over-offered (λ name. plain_said table (both_of (fact (provides_as asked name)) (keeps name)))
+      rw is (ap any_statement (over-offered (λ name. plain_said table (both_of (fact (provides_as asked name)) (keeps name)))
       (packages_of table asked))
       ∙ sym (some-said (word_said no_paths table) (λ name. both_of (fact (provides_as asked name)) (keeps name)) (names_for table asked)))
 
@@ -40,7 +40,7 @@ module _ (table : Table) (world : World) (asked : Text) (keeps : NodeRule) where
 
 module _ (table : Table) (world : World) (part : Part) (asked name : Text) where
   pub suits-virtual : is_virtual world.recipes asked ≡ true
-      → both (plain_said table (provides_rule world name asked part.versions)) (plain_said table (rest_rule world name part))
+      → both_statements (plain_said table (provides_rule world name asked part.versions)) (plain_said table (rest_rule world name part))
       ≡ plain_said table (suits_rule world part asked name)
   suits-virtual is = rw is refl
 

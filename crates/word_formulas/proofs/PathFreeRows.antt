@@ -76,7 +76,7 @@ module _ (path : Text → Text → Statement) (table : Table) where
   asks_child-agree problem child row =
       named-agree (asked_child (world_of problem) child) (λ asked. if-virtual asked (is_virtual problem.recipes asked)) row.part.name
     where
-      if-virtual : (asked : Text) (b : Bool) → in_words f (if b then fact (provides_as asked child) else given (bytes_eq asked child))
-          ≡ in_words g (if b then fact (provides_as asked child) else given (bytes_eq asked child))
+      if-virtual : (asked : Text) (b : Bool) → in_words f (if b then fact (provides_as asked child) else settled_test (bytes_eq asked child))
+          ≡ in_words g (if b then fact (provides_as asked child) else settled_test (bytes_eq asked child))
       if-virtual asked true = refl
       if-virtual asked false = given-agree f g (bytes_eq asked child)

@@ -17,6 +17,6 @@ returns g c =
     let row = c.args.row.now in
     let asks = plain_said table (asks_child problem c.args.child.now row) in
     let met = ok-is c.met.result c.in_ok-met.met (condition name row.when) c.in_ok-met.was c.met.ensures in
-    ok-same c.asks_formula.result (both c.in_ok-met.met asks)
+    ok-same c.asks_formula.result (both_statements c.in_ok-met.met asks)
     (plain_term table condition (asks_rule problem (names_for table) name c.args.child.now row))
     (both-same c.in_ok-met.met asks (condition name row.when) asks met refl) c.asks_formula.ensures

@@ -19,5 +19,5 @@ returns g c =
     let last = c.in_ok-last.ensures ∙ both-same _ _ _ _ (c.negated.ensures ∙ ap opposite later) met in
     let allowed = ok-is c.allows_formula.result c.in_ok-allowed.allowed (plain_said table (allows_rule name variant row))
     c.in_ok-allowed.was c.allows_formula.ensures in
-    ok-same c.both-2.result (both c.in_ok-last.last c.in_ok-allowed.allowed) (governs_said table condition name variant row rest)
+    ok-same c.both-2.result (both_statements c.in_ok-last.last c.in_ok-allowed.allowed) (governs_said table condition name variant row rest)
     (both-same _ _ _ _ last allowed) c.both-2.ensures
