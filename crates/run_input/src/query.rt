@@ -1,12 +1,13 @@
 //! What a command looks for among the installed packages.
 
-ghost use Rattle.std.specs.Prelude.{Ok, [], IfOk, IfSome};
+ghost use Rattle.std.specs.Prelude.{◌≡◌, Ok, [], IfOk, IfSome};
 ghost use Rattle.problem.specs.Problems.{problem_of};
 ghost use Rattle.run_answers.specs.Stages.{Is};
 ghost use Rattle.run_answers.specs.Reads.{OnlyReads};
 ghost use Rattle.run_answers.specs.Stops.{Gives, EndsInReadFault};
 ghost use Rattle.run_input.specs.Roots.{ConditionIn, ConditionOf};
 ghost use Rattle.run_input.specs.Inputs.{Seeks, Sought, FailsAtInput};
+ghost use Rattle.run_input.specs.Inputs as inputs;
 
 use crate::input::posed;
 use crate::roots::SPECS_LIMIT;
@@ -52,6 +53,7 @@ fn condition_of(alloc: Global, text: &str) -> Result<Spec, ReadStop>
 }
 
 /// The problem of a stock without roots.
+#[tactic(auto, using(crate::proofs::Queries::posed_without))]
 fn without_roots(alloc: Global, stock: Stock) -> Result<Problem, ReadStop>
     ensures read { Gives result (Is (Ok (problem_of stock.recipes stock.settings stock.records []))) }
     ensures no_fault { EndsInReadFault result → ⊥ }
@@ -71,15 +73,29 @@ fn without_roots(alloc: Global, stock: Stock) -> Result<Problem, ReadStop>
     )
 }
 
+/// A stock without roots, and a condition.
+#[tactic(auto, using(crate::proofs::Queries::query_read, crate::proofs::Queries::query_stop))]
+fn query_of(alloc: Global, stock: Stock, spec: Spec) -> Result<Query, ReadStop>
+    ensures read { Gives result (Is (Ok (inputs.query_of stock spec))) }
+    ensures condition { IfOk result (λ query. query.spec ≡ spec) }
+    ensures no_fault { EndsInReadFault result → ⊥ }
+{
+    match without_roots(alloc, stock) {
+        Ok(problem) => Ok(Query { problem, spec }),
+        Err(stop) => Err(stop),
+    }
+}
+
 /// The condition, and then the problem.
 fn read_sought(alloc: Global, stock: Stock, spec: &str) -> Result<Query, ReadStop>
     ensures read { Gives result (Sought spec.now stock) }
     ensures condition { IfOk result (λ query. ConditionOf spec.now (Ok query.spec)) }
     ensures no_fault { EndsInReadFault result → ⊥ }
 {
-    let spec = condition_of(alloc, spec)?;
-    let problem = without_roots(alloc, stock)?;
-    Ok(Query { problem, spec })
+    match condition_of(alloc, spec) {
+        Ok(condition) => query_of(alloc, stock, condition),
+        Err(stop) => Err(stop),
+    }
 }
 
 /// What a command looks for over the desk's files.
