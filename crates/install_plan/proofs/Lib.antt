@@ -1,0 +1,4 @@
+pub mod NumberLaws
+pub mod EarliestLaws
+pub mod WaveLaws
+pub mod ChainLaws
