@@ -1,16 +1,68 @@
 -- Chains down the waves.
-use Rattle.std.proofs.Common.{◌≡◌, ◌≢◌, refl, sym, ap, subst, ◌∙◌, ℕ, zero, suc, ◌+◌, ◌-◌, ◌<◌, ◌≤◌, Bool, true, List, [], ◌∷◌, ◌++◌, length, get_or, take, reverse, All, Contains, Option, Some, None, IsTrue, ◌⊎◌, inl, inr, ⊎_elim, arith}
-use Rattle.std.proofs.lemmas.Bool.{cases_eq, cases_lt}
-use Rattle.std.proofs.lemmas.List.{get_or-reverse, length-reverse, take_more, take_all}
-use Rattle.std.proofs.lemmas.List.Elements.{All-get_or, All-head, All-tail, All-cons, All-nil, All-contains, All-from_get_or}
-use Rattle.std.specs.Ordering.{is_le}
+use Rattle.std.proofs.Common.{◌≡◌, ◌↔◌, refl, sym, ap, subst, ◌∙◌, ℕ, zero, suc, ◌+◌, ◌-◌, ◌<◌, ◌≤◌, Bool, true, List, [], ◌∷◌, ◌++◌, length, get_or, take, reverse, All, Contains, Option, Some, None, is_some, IsTrue, Bor, ◌⊎◌, inl, inr, ⊎_elim, arith}
+use Rattle.std.proofs.lemmas.Bool.{cases_lt, false≢true}
+use Rattle.std.proofs.lemmas.List.{get_or-reverse, get_or_default, length-reverse, take_more, take_all}
+use Rattle.std.proofs.lemmas.List.Elements.{All-get_or, All-head, All-tail, All-cons, All-nil, All-from_get_or, Contains-get_or}
+use Rattle.std.specs.Option.{option_copied}
+use Rattle.std.specs.Cmp.Lexicographic.{nat_list_cmp_total}
+use Rattle.std.specs.Ordering.{is_le, ordering_reverse}
+use Rattle.std.specs.declared.cmp.Ordering.{Ordering}
+use Rattle.std.specs.declared.cmp.Ordering.TheVariants.{Less, Equal, Greater}
 use Rattle.std.specs.List.Sorted.{IsStrictlySortedBy}
 use Rattle.graph_core.specs.OfVariantValues.Texts.{byte_cmp}
-use Rattle.graph_core.specs.Graphs.{Text, Content}
-use Rattle.graph_core.specs.Paths.{JoinedIn}
+use Rattle.reachability.proofs.CountLaws.{has_image}
+use Rattle.graph_core.specs.declared.node.Edge.{Edge}
+use Rattle.graph_core.specs.Graphs.{Text, Content, ends_of, edge_of}
+use Rattle.graph_core.specs.Paths.{arcs_of, JoinedIn}
+use Rattle.graph_core.proofs.OfKeyedLists.KeyedLaws.{find_known}
+use Rattle.graph_core.proofs.OfKeyedLists.RiseLaws.{rises_above, rises_rest}
+use Rattle.keyed_lists.proofs.LookupLaws.{find_sound}
+use Rattle.graph_core.proofs.PairLaws.{pair_total, pair_exact}
 use Rattle.install_plan.specs.Schedules.{IsBuilt, IsSchedule, AreWaves, wave_at}
 use Rattle.install_plan.specs.Chains.{IsLeast, Follows, GoesDown, IsChain}
 use Rattle.install_plan.specs.Steps.{last_or, HasNext, GoDown}
+
+-- ---- the least
+
+le_itself : (r : Ordering) → r ≡ ordering_reverse r → is_le r ≡ true
+le_itself Less e = absurd cc
+le_itself Equal e = refl
+le_itself Greater e = absurd cc
+
+-- names in order, at two places
+rises_at : (names : List Text) → IsStrictlySortedBy byte_cmp names → (i j : ℕ) → i < j → j < length names
+    → byte_cmp (get_or names i []) (get_or names j []) ≡ Less
+rises_at [] order i j less lt = absurd (omega (arith, lt))
+rises_at (x ∷ xs) order i zero less lt = absurd (omega (arith, less))
+rises_at (x ∷ xs) order zero (suc j) less lt = rises_above byte_cmp x xs order (get_or xs j []) (Contains-get_or xs j [] (omega (arith, lt)))
+rises_at (x ∷ xs) order (suc i) (suc j) less lt = rises_at xs (rises_rest byte_cmp x xs order) i j (omega (arith, less)) (omega (arith, lt))
+
+-- the first name in order that passes is the least
+pub first_is_least : (names : List Text) (place : ℕ) (name : Text) (Passes : Text → Type 0) → IsStrictlySortedBy byte_cmp names
+    → place < length names → name ≡ get_or names place name → ((k : ℕ) → k < place → Passes (get_or names k []) → ⊥) → Passes name
+    → IsLeast (λ x. Contains names x × Passes x) name
+first_is_least names place name Passes order lt is none passes = record {
+  passes = ((place, lt, sym is), passes);
+  least = λ other w.
+      let here : get_or names place [] ≡ name = get_or_default names place [] name lt ∙ sym is in
+      let there : get_or names w.0.0 [] ≡ other = get_or_default names w.0.0 [] other w.0.1 ∙ w.0.2 in
+      ⊎_elim
+      (λ early. absurd (none w.0.0 early (subst Passes (sym there) w.1)))
+      (λ le. ⊎_elim
+      (λ later. ap is_le (λ i. byte_cmp (sym here i) (sym there i)) ∙ ap is_le (rises_at names order place w.0.0 later w.0.1))
+      (λ same_or.
+      let same : place ≡ w.0.0 = omega (arith, le, same_or) in
+      let one : name ≡ other = sym here ∙ ap (λ k. get_or names k []) same ∙ there in
+      subst (λ x. is_le (byte_cmp name x) ≡ true) one (le_itself (byte_cmp name name) (nat_list_cmp_total.antisymm name name)))
+      (cases_lt place w.0.0))
+      (cases_lt w.0.0 place);
+}
+
+-- some name passes, so not all fail
+pub some_passes : (names : List Text) (done : ℕ) (Passes : Text → Type 0) → length names ≤ done
+    → ((k : ℕ) → k < done → Passes (get_or names k []) → ⊥) → (name : Text) → Contains names name → Passes name → ⊥
+some_passes names done Passes all none name has passes = none has.0 (omega (arith, has.1, all))
+    (subst Passes (sym (get_or_default names has.0 [] name has.1 ∙ has.2)) passes)
 
 module _ (g : Content) where
   -- one name more, of the next wave
@@ -78,6 +130,23 @@ module _ (g : Content) where
       (λ place lt x has.
       let within : place < length waves = omega (arith, lt, length-reverse waves) in
       ((are.exact (length waves - 1 - place) x).0 (subst (λ l. Contains l x) (get_or-reverse waves place [] within) has)).0)
+
+  -- ---- one name
+
+  -- what a look-up of an edge tells
+  pub edge_tells : (p q : Text) (o : Option (Bor Edge)) (is : Bool) → option_copied o ≡ edge_of g p q → is ≡ is_some o → IsTrue is ↔ JoinedIn g p q
+  edge_tells p q None is found told = (
+    λ t. absurd (false≢true (sym told ∙ t)),
+    λ joined.
+        let edge = find_known pair_total pair_exact ends_of g.edges (p, q) joined in
+        absurd (let bad : None ≡ Some edge.0 = found ∙ edge.1 in cc),
+  )
+  edge_tells p q (Some b) is found told = (
+    λ t.
+        let sound = find_sound pair_total pair_exact ends_of g.edges (p, q) b.now (sym found) in
+        subst (Contains (arcs_of g)) sound.1 (has_image ends_of g.edges b.now sound.0),
+    λ joined. told,
+  )
 
   -- ---- while a chain is made
 

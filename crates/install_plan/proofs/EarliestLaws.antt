@@ -43,7 +43,7 @@ module _ (g : Content) where
       let node = image_of name_of (filter is_built g.nodes) name built in
       let has = has_image name_of g.nodes node.0 (from_filter is_built g.nodes node.0 node.1).0 in
       let named : Contains (names_of g) name = subst (Contains (names_of g)) node.2 has in
-      (named.0, named.1, named.2)
+      (named.0, (named.1, named.2))
 
   one_name : (place : ℕ) (p q : Text) → IsAt (names_of g) p place → IsAt (names_of g) q place → p ≡ q
   one_name place p q a b = sym a.1 ∙ get_or_default (names_of g) place p q a.0 ∙ b.1

@@ -1,7 +1,6 @@
 -- Numbers that are found one after another.
-use Rattle.std.proofs.Common.{◌≡◌, ◌≢◌, refl, sym, ap, subst, ◌∙◌, ℕ, zero, suc, ◌+◌, ◌<◌, ◌≤◌, ◌==◌, cond, List, [], ◌∷◌, ◌++◌, length, get_or, set, drop, take, replicate, All, Contains, ◌⊎◌, inl, inr, ⊎_elim, arith}
-use Rattle.std.proofs.lemmas.Bool.{cases_eq, cases_lt}
-use Rattle.std.proofs.lemmas.Bool.Decides.{nat_tests}
+use Rattle.std.proofs.Common.{◌≡◌, ◌≢◌, refl, sym, ap, subst, ◌∙◌, ℕ, zero, suc, ◌+◌, ◌<◌, ◌≤◌, ◌==◌, Bool, false, cond, List, [], ◌∷◌, ◌++◌, length, get_or, set, drop, take, replicate, All, Contains, ◌⊎◌, inl, inr, ⊎_elim, arith}
+use Rattle.std.proofs.lemmas.Bool.{cases_eq, cases_lt, ne_eqb}
 use Rattle.std.proofs.lemmas.List.{length-set, get_or-set_same, get_or-set_other, get_or_past, get_or-replicate, get_or_default, length-replicate, length_push, take_more, drop_more, drop_all}
 use Rattle.std.proofs.lemmas.List.Sums.{sum_by-set, count_by-le-length}
 use Rattle.std.proofs.lemmas.List.Elements.{All-contains, All-push, All-weaker, All-nil, All-get_or, Contains-get_or, Contains-append_left, Contains-push, Contains-push_cases}
@@ -12,15 +11,20 @@ use Rattle.install_plan.specs.Numbers.{number_at, heads_at, missing, HaveHeights
 
 -- ---- numbers alone
 
-not_missing : (v : ℕ) → 1 ≤ v → cond (v == 0) 1 0 ≡ 0
-not_missing v some = grind (arith, nat_tests)
+abbrev one_if_missing : ℕ → ℕ
+one_if_missing number = cond (number == 0) 1 0
+
+not_missing : (v : ℕ) → 1 ≤ v → one_if_missing v ≡ 0
+not_missing v some = let other : (v == 0) ≡ false = ne_eqb v 0 (λ e. omega (arith, e, some)) in rw other refl
 
 -- a number for a place that had none leaves one fewer without
 pub one_fewer : (numbers : List ℕ) (p v : ℕ) → p < length numbers → number_at numbers p ≡ 0 → 1 ≤ v
     → missing (set numbers p v) + 1 ≡ missing numbers
 one_fewer numbers p v lt none some =
-    let was : cond (number_at numbers p == 0) 1 0 ≡ 1 = ap (λ n. cond (n == 0) 1 0) none in
-    omega (arith, sum_by-set (λ n. cond (n == 0) 1 0) numbers p v 0 lt, was, not_missing v some)
+    let was : one_if_missing (number_at numbers p) ≡ 1 = ap one_if_missing none in
+    let sums : missing (set numbers p v) + one_if_missing (number_at numbers p) ≡ missing numbers + one_if_missing v =
+    sum_by-set one_if_missing numbers p v 0 lt in
+    omega (arith, sums, was, not_missing v some)
 
 -- what has a number is another place than what has none
 pub apart : (numbers : List ℕ) (p q : ℕ) → number_at numbers p ≡ 0 → 1 ≤ number_at numbers q → q ≢ p
@@ -48,7 +52,7 @@ none_yet n p = ⊎_elim (λ lt. get_or-replicate n p 0 0 lt)
 module _ (heads : List (List ℕ)) where
   -- where arcs lead is a place
   pub leads_within : AreWithin heads → (p q : ℕ) → p < length heads → LeadsTo heads p q → q < length heads
-  leads_within within p q lt leads = All-contains (λ x. x < length heads) (heads_at heads p) q (All-get_or _ heads p [] lt within) leads
+  leads_within within p q lt leads = All-contains (λ x. x < length heads) (heads_at heads p) q (All-get_or (All (λ x. x < length heads)) heads p [] lt within) leads
 
   -- arcs lead to what stands at one of their places
   pub leads_at : (p k : ℕ) → k < length (heads_at heads p) → LeadsTo heads p (number_at (heads_at heads p) k)
@@ -141,7 +145,7 @@ module _ (heads : List (List ℕ)) where
       -- it waits, and so do all that waited before
       pub wait_waits : goal_of < length waiting → number_at numbers goal_of ≡ 0 → (p : ℕ)
           → (p ≡ waiter.place) ⊎ Waits heads numbers waiting settled p → Waits heads numbers longer settled p
-      wait_waits there none p = ⊎_elim
+      wait_waits there none p before = ⊎_elim
           (λ same. (
             goal_of,
             subst (λ x. LeadsTo heads x goal_of) (sym same) (leads_at waiter.place next lt),
@@ -152,7 +156,7 @@ module _ (heads : List (List ℕ)) where
           (λ same. subst (λ ws. Contains ws w.3.0) (sym (ap (waiters_at longer) same ∙ at_goal there))
           (Contains-append_left (waiters_at waiting goal_of) (later ∷ []) w.3.0
           (subst (λ c. Contains (waiters_at waiting c) w.3.0) same w.3.2)))
-          (λ other. subst (λ ws. Contains ws w.3.0) (sym (at_other w.0 other)) w.3.2) (cases_eq w.0 goal_of))))
+          (λ other. subst (λ ws. Contains ws w.3.0) (sym (at_other w.0 other)) w.3.2) (cases_eq w.0 goal_of)))) before
 
     module _ (top : ℕ) (none : number_at numbers waiter.place ≡ 0)
         (passed : (k : ℕ) → waiter.next ≤ k → k < length (heads_at heads waiter.place)
@@ -239,14 +243,14 @@ module _ (heads : List (List ℕ)) where
       -- all others wait as before
       pub number_waits : (p : ℕ) → number_at more p ≡ 0 → (p ≡ place) ⊎ Waits heads numbers waiting settled p
           → Waits heads more waiting (settled ++ place ∷ []) p
-      number_waits p still = ⊎_elim
+      number_waits p still before = ⊎_elim
           (λ same. absurd (omega (arith, still, own, ap (number_at more) same)))
           (λ w. (w.0, w.1, ⊎_elim
           (λ unset. ⊎_elim
           (λ same. inr (subst (Contains (settled ++ place ∷ [])) (sym same) (Contains-push settled place)))
           (λ other. inl (get_or-set_other numbers place w.0 (top + 1) 0 other ∙ unset))
           (cases_eq w.0 place))
-          (λ set_before. inr (Contains-append_left settled (place ∷ []) w.0 set_before)) w.2, w.3))
+          (λ set_before. inr (Contains-append_left settled (place ∷ []) w.0 set_before)) w.2, w.3)) before
 
   -- ---- those that wait for a place are taken from their list
 
@@ -343,3 +347,28 @@ module _ (heads : List (List ℕ)) where
       none_of (suc n) p below lt none =
           let w = waits p lt none in
           none_of n w.0 (omega (arith, below, heights.falls p w.0 w.1)) (leads_within within p w.0 lt w.1) w.2
+
+-- ---- the greatest of some
+
+-- one place more
+pub top_more : (numbers places : List ℕ) (done top new : ℕ) → done < length places → All (λ q. number_at numbers q ≤ top) (take done places)
+    → (top ≡ 0) ⊎ ((q : ℕ) × Contains (take done places) q × (number_at numbers q ≡ top))
+    → ((top < number_at numbers (number_at places done)) × (new ≡ number_at numbers (number_at places done)))
+    ⊎ ((number_at numbers (number_at places done) ≤ top) × (new ≡ top))
+    → All (λ q. number_at numbers q ≤ new) (take (done + 1) places)
+    × ((new ≡ 0) ⊎ ((q : ℕ) × Contains (take (done + 1) places) q × (number_at numbers q ≡ new)))
+top_more numbers places done top new lt above there which = rw (take_more places done 0 lt) (⊎_elim
+    (λ w. (
+      All-push (λ q. number_at numbers q ≤ new) (take done places) (number_at places done)
+          (All-weaker (λ q. number_at numbers q ≤ top) (λ q. number_at numbers q ≤ new) (λ q le. omega (arith, le, w.0, w.1)) (take done places) above)
+          (omega (arith, w.1)),
+      inr (number_at places done, Contains-push (take done places) (number_at places done), sym w.1),
+    ))
+    (λ w. (
+      All-push (λ q. number_at numbers q ≤ new) (take done places) (number_at places done)
+          (All-weaker (λ q. number_at numbers q ≤ top) (λ q. number_at numbers q ≤ new) (λ q le. omega (arith, le, w.1)) (take done places) above)
+          (omega (arith, w.0, w.1)),
+      ⊎_elim (λ none. inl (w.1 ∙ none))
+          (λ old. inr (old.0, Contains-append_left (take done places) (number_at places done ∷ []) old.0 old.1, old.2 ∙ sym w.1)) there,
+    ))
+    which)

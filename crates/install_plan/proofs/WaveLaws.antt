@@ -1,7 +1,7 @@
 -- The names of each wave.
 use Rattle.std.proofs.Common.{◌≡◌, ◌≢◌, ◌↔◌, refl, sym, ap, subst, ◌∙◌, ℕ, zero, suc, ◌+◌, ◌-◌, ◌<◌, ◌≤◌, ◌==◌, Bool, true, false, cond, List, [], ◌∷◌, ◌++◌, length, get_or, set, take, map, filter, replicate, All, Contains, ◌⊎◌, inl, inr, ⊎_elim, eq-eqb, arith}
 use Rattle.std.proofs.lemmas.Bool.{cases_eq, cases_lt, cases_Bool, eqb-true, ne_eqb}
-use Rattle.std.proofs.lemmas.List.{length-set, length-replicate, get_or-set_same, get_or-set_other, get_or_past, get_or_default, get_or-replicate, take_more, take_all, map-append}
+use Rattle.std.proofs.lemmas.List.{length-map, length-set, length-replicate, get_or-map, get_or-set_same, get_or-set_other, get_or_past, get_or_default, get_or-replicate, take_more, map-append, append-nil}
 use Rattle.std.proofs.lemmas.List.Elements.{All-from_get_or, Contains-append_left, Contains-push, Contains-push_cases, filter-append}
 use Rattle.std.proofs.lemmas.List.Kept.{IsStrictlySortedBy-filter}
 use Rattle.std.specs.List.Sorted.{IsStrictlySortedBy}
@@ -12,26 +12,24 @@ use Rattle.graph_core.specs.OfVariantValues.Texts.{byte_cmp}
 use Rattle.graph_core.specs.declared.node.Node.{Node}
 use Rattle.graph_core.specs.Graphs.{Text, Content, IsGraph, name_of}
 use Rattle.graph_core.specs.Paths.{JoinedIn}
+use Rattle.graph_core.proofs.PathLaws.{names_once}
 use Rattle.graph_core.proofs.OfKeyedLists.RiseLaws.{rises_above, rises_rest, rises_more, rises_none}
 use Rattle.install_plan.specs.Schedules.{is_built, IsBuilt, IsEarliest, AreWaves, wave_at}
-use Rattle.install_plan.specs.Children.{names_of, built_of, with_number, IsGreatest, AreByNumber}
+use Rattle.install_plan.specs.Children.{names_of, built_of, wave_in, with_number, IsGreatest, AreByNumber}
 use Rattle.install_plan.specs.Steps.{GoDown}
+use Rattle.install_plan.proofs.EarliestLaws.{number_there}
 
 -- ---- names of nodes to build
 
 -- one node more, which is to be built
 pub built_more : (nodes : List Node) (place : ℕ) (node : Node) → place < length nodes → node ≡ get_or nodes place node → is_built node ≡ true
     → built_of (take (place + 1) nodes) ≡ built_of (take place nodes) ++ node.name ∷ []
-built_more nodes place node lt is yes = rw (take_more nodes place node lt, ← is, filter-append is_built (take place nodes) (node ∷ []), yes, map-append) refl
+built_more nodes place node lt is passes = rw (take_more nodes place node lt, ← is, filter-append is_built (take place nodes) (node ∷ []), passes, map-append) refl
 
 -- one node more, which is not
 pub built_same : (nodes : List Node) (place : ℕ) (node : Node) → place < length nodes → node ≡ get_or nodes place node → is_built node ≡ false
     → built_of (take (place + 1) nodes) ≡ built_of (take place nodes)
-built_same nodes place node lt is no = rw (take_more nodes place node lt, ← is, filter-append is_built (take place nodes) (node ∷ []), no, map-append) (all_there (built_of (take place nodes)))
-  where
-    all_there : (names : List Text) → names ++ [] ≡ names
-    all_there [] = refl
-    all_there (name ∷ names) = ap (λ l. name ∷ l) (all_there names)
+built_same nodes place node lt is fails = rw (take_more nodes place node lt, ← is, filter-append is_built (take place nodes) (node ∷ []), fails, map-append) (append-nil (built_of (take place nodes)))
 
 -- the names of the nodes to build are in byte order, as those of all nodes are
 pub built_sorted : (nodes : List Node) → IsStrictlySortedBy byte_cmp (map name_of nodes) → IsStrictlySortedBy byte_cmp (built_of nodes)
@@ -66,11 +64,7 @@ module _ (wave_of : Text → ℕ) where
   pub with_same : (place : ℕ) (names : List Text) (name : Text) → wave_of name ≢ place + 1
       → with_number wave_of place (names ++ name ∷ []) ≡ with_number wave_of place names
   with_same place names name other =
-      rw (filter-append (λ x. wave_of x == place + 1) names (name ∷ []), ne_eqb (wave_of name) (place + 1) other) (nothing (with_number wave_of place names))
-    where
-      nothing : (xs : List Text) → xs ++ [] ≡ xs
-      nothing [] = refl
-      nothing (x ∷ xs) = ap (λ l. x ∷ l) (nothing xs)
+      rw (filter-append (λ x. wave_of x == place + 1) names (name ∷ []), ne_eqb (wave_of name) (place + 1) other) (append-nil (with_number wave_of place names))
 
   -- the names so far, each in its wave
   pub record AreSorted (waves : List (List Text)) (count : ℕ) (names : List Text) : Type 0 where
@@ -83,25 +77,25 @@ module _ (wave_of : Text → ℕ) where
     sorted = λ place lt. ap (λ ws. wave_at ws place) e ∙ get_or-replicate count place [] [] lt;
   }
 
-  pub sorted_more : (waves : List (List Text)) (count : ℕ) (names : List Text) (name : Text) → AreSorted waves count names
-      → 1 ≤ wave_of name → wave_of name ≤ count
-      → AreSorted (set waves (wave_of name - 1) (wave_at waves (wave_of name - 1) ++ name ∷ [])) count (names ++ name ∷ [])
-  sorted_more waves count names name are some le = record {
-    each = length-set waves own longer ∙ are.each;
-    sorted = λ place lt. ⊎_elim
-        (λ same. ap (wave_at (set waves own longer)) same ∙ get_or-set_same waves own longer [] (omega (arith, are.each, same, lt))
-        ∙ ap (λ l. l ++ name ∷ []) (are.sorted own (omega (arith, same, lt)))
-        ∙ sym (with_more own names name (omega (arith, some))) ∙ ap (λ p. with_number wave_of p (names ++ name ∷ [])) (sym same))
-        (λ other. get_or-set_other waves own place longer [] other ∙ are.sorted place lt
-        ∙ sym (with_same place names name (λ e. other (omega (arith, e)))))
-        (cases_eq place own);
-  }
-    where
-      own : ℕ
-      own = wave_of name - 1
+  module _ (waves : List (List Text)) (count : ℕ) (names : List Text) (name : Text) (are : AreSorted waves count names)
+      (some : 1 ≤ wave_of name) (le : wave_of name ≤ count) where
+    abbrev own : ℕ
+    own = wave_of name - 1
 
-      longer : List Text
-      longer = wave_at waves (wave_of name - 1) ++ name ∷ []
+    abbrev longer : List Text
+    longer = wave_at waves own ++ name ∷ []
+
+    pub sorted_more : AreSorted (set waves (wave_of name - 1) (wave_at waves (wave_of name - 1) ++ name ∷ [])) count (names ++ name ∷ [])
+    sorted_more = record {
+      each = length-set waves own longer ∙ are.each;
+      sorted = λ place lt. ⊎_elim
+          (λ same. ap (wave_at (set waves own longer)) same ∙ get_or-set_same waves own longer [] (omega (arith, are.each, same, lt))
+          ∙ ap (λ l. l ++ name ∷ []) (are.sorted own (omega (arith, same, lt)))
+          ∙ sym (with_more own names name (omega (arith, some))) ∙ ap (λ p. with_number wave_of p (names ++ name ∷ [])) (sym same))
+          (λ other. get_or-set_other waves own place longer [] other ∙ are.sorted place lt
+          ∙ sym (with_same place names name (λ e. other (omega (arith, e)))))
+          (cases_eq place own);
+    }
 
   -- ---- the greatest number
 
@@ -123,6 +117,70 @@ module _ (wave_of : Text → ℕ) where
         (Contains-push_cases names name other has);
     there = ⊎_elim (λ none. inl none) (λ w. inr (w.0, Contains-append_left names (name ∷ []) w.0 w.1, w.2)) is.there;
   }
+
+-- ---- nodes by their places
+
+module _ (g : Content) (graph : IsGraph g) (numbers : List ℕ) (each : length numbers ≡ length g.nodes) where
+  -- the wave of a node is the number at its place
+  pub node_wave : (place : ℕ) (node : Node) → place < length g.nodes → node ≡ get_or g.nodes place node
+      → wave_in g numbers node.name ≡ get_or numbers place 0
+  node_wave place node lt is = number_there g.nodes numbers (names_once g graph) each node.name place (
+    rw (length-map g.nodes name_of) lt,
+    get_or-map name_of g.nodes place node node.name lt ∙ ap name_of (sym is),
+  )
+
+  -- a node to build is one of them
+  pub node_built : (place : ℕ) (node : Node) → place < length g.nodes → node ≡ get_or g.nodes place node → is_built node ≡ true
+      → Contains (built_of g.nodes) node.name
+  node_built place node lt is passes = has_image name_of (filter is_built g.nodes) node
+      (in_filter is_built g.nodes node (place, lt, sym is) passes)
+
+  -- the greatest number of a node to build, with one node more
+  pub greatest_step : (place : ℕ) (node : Node) (old new : ℕ) → place < length g.nodes → node ≡ get_or g.nodes place node
+      → IsGreatest (wave_in g numbers) (built_of (take place g.nodes)) old
+      → ((is_built node ≡ true) × (old < get_or numbers place 0) × (new ≡ get_or numbers place 0))
+      ⊎ (((is_built node ≡ false) ⊎ (get_or numbers place 0 ≤ old)) × (new ≡ old))
+      → IsGreatest (wave_in g numbers) (built_of (take (place + 1) g.nodes)) new
+  greatest_step place node old new lt is so_far which = ⊎_elim
+      (λ w.
+      let wave = node_wave place node lt is in
+      rw (built_more g.nodes place node lt is w.0)
+      (subst (IsGreatest (wave_in g numbers) (built_of (take place g.nodes) ++ node.name ∷ [])) (wave ∙ sym w.2)
+      (greatest_more (wave_in g numbers) (built_of (take place g.nodes)) node.name old so_far (omega (arith, wave, w.1)))))
+      (λ w. subst (IsGreatest (wave_in g numbers) (built_of (take (place + 1) g.nodes))) (sym w.1) (⊎_elim
+      (λ passes. rw (built_more g.nodes place node lt is passes)
+      (greatest_same (wave_in g numbers) (built_of (take place g.nodes)) node.name old so_far
+      (⊎_elim (λ fails. absurd (false≢true (sym fails ∙ passes))) (λ le. omega (arith, node_wave place node lt is, le)) w.0)))
+      (λ fails. rw (built_same g.nodes place node lt is fails) so_far)
+      (cases_Bool (is_built node)))) which
+
+  -- a node to build goes to the wave of its number
+  pub sorted_step : (place : ℕ) (node : Node) (waves : List (List Text)) (count number : ℕ) → place < length g.nodes
+      → node ≡ get_or g.nodes place node → is_built node ≡ true → IsGreatest (wave_in g numbers) (built_of g.nodes) count
+      → number ≡ get_or numbers place 0 → 1 ≤ number → AreSorted (wave_in g numbers) waves count (built_of (take place g.nodes))
+      → AreSorted (wave_in g numbers) (set waves (number - 1) (wave_at waves (number - 1) ++ node.name ∷ [])) count
+      (built_of (take (place + 1) g.nodes))
+  sorted_step place node waves count number lt is passes greatest own some so_far =
+      let wave : wave_in g numbers node.name ≡ number = node_wave place node lt is ∙ sym own in
+      rw (built_more g.nodes place node lt is passes)
+      (subst (λ n. AreSorted (wave_in g numbers) (set waves (n - 1) (wave_at waves (n - 1) ++ node.name ∷ [])) count
+      (built_of (take place g.nodes) ++ node.name ∷ [])) wave
+      (sorted_more (wave_in g numbers) waves count (built_of (take place g.nodes)) node.name so_far (omega (arith, wave, some))
+      (greatest.above node.name (node_built place node lt is passes))))
+
+  -- its wave is there
+  pub wave_within : (place : ℕ) (node : Node) (waves : List (List Text)) (count number : ℕ) → place < length g.nodes
+      → node ≡ get_or g.nodes place node → is_built node ≡ true → IsGreatest (wave_in g numbers) (built_of g.nodes) count
+      → number ≡ get_or numbers place 0 → 1 ≤ number → AreSorted (wave_in g numbers) waves count (built_of (take place g.nodes))
+      → number - 1 < length waves
+  wave_within place node waves count number lt is passes greatest own some so_far = omega (
+        arith,
+        node_wave place node lt is,
+        own,
+        some,
+        so_far.each,
+        greatest.above node.name (node_built place node lt is passes),
+      )
 
 -- ---- the waves of a schedule
 

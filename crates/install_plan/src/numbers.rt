@@ -77,7 +77,8 @@ fn settle(
     let next = first_missing(children, waiter.next, numbers.as_slice());
     if next < children.len() {
         let list = &mut waiting[children[next]];
-        list.push(Waiter { place, next })
+        list.push(Waiter { place, next })?;
+        Ok(())
     } else {
         numbers[place] = greatest(children, numbers.as_slice()) + 1;
         settled.push(place)?;
