@@ -12,3 +12,4 @@ pub mod Later
 pub mod Blocks
 pub mod Copies
 pub mod WholeLogs
+pub mod Links
