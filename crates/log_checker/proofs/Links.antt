@@ -149,9 +149,11 @@ pub indexed-more : (factor : ℕ) (heads links heads_new links_new : List ℕ) (
     → (at + 1 ≡ length links_new) × AreIndexed factor heads_new links_new ks
 indexed-more factor heads links heads_new links_new ks at k h e q n f i = (
   sym count,
-  omega (arith, count, h),
-  subst (λ m. AreLinked (bucket_of factor m) heads_new links_new (take (length links_new) ks)) (sym n) (
-    subst (AreLinked (bucket_of factor (length heads)) heads_new links_new) (sym (ap (λ m. take m ks) count ∙ more)) noted),
+  (
+    omega (arith, count, h),
+    subst (λ m. AreLinked (bucket_of factor m) heads_new links_new (take (length links_new) ks)) (sym n) (
+      subst (AreLinked (bucket_of factor (length heads)) heads_new links_new) (sym (ap (λ m. take m ks) count ∙ more)) noted),
+  ),
 )
   where
     more : take (at + 1) ks ≡ take (length links) ks ++ k ∷ []
@@ -242,7 +244,7 @@ among-some (j ∷ ks) c (suc p) k e n s = by j.by_bit (among-some ks c p k e n s
 -- a walk through the bucket of a clause: below `at` is the next place, and from there on is no rival
 abbrev pub Seeks : (List Lit → ℕ) → List Known → List Lit → ℕ → Type 0
 Seeks h ks c at = (at ≤ length ks) × ((p : ℕ) → at ≡ suc p → slot_of h (slice_get ks p) ≡ Some (h c))
-× ((q : ℕ) → at ≤ q → is_rival c (slice_get ks q) ≡ false)
+    × ((q : ℕ) → at ≤ q → is_rival c (slice_get ks q) ≡ false)
 
 pub seeks-first : (h : List Lit → ℕ) (heads links : List ℕ) (ks : List Known) (c : List Lit) (b at : ℕ) → AreLinked h heads links ks
     → b ≡ h c → b < length heads → at ≡ get_or heads b 0 → Seeks h ks c at

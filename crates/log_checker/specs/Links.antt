@@ -24,12 +24,12 @@ slot_of h (Some k) = if k.by_bit then None else Some (h k.clause)
 -- the last place of a bucket below an end is the one below `at`; there is none where `at` is 0
 abbrev pub IsLast : (List Lit → ℕ) → List Known → ℕ → ℕ → ℕ → Type 0
 IsLast h ks b end at = (at ≤ end) × ((p : ℕ) → at ≡ suc p → slot_of h (slice_get ks p) ≡ Some b)
-× ((q : ℕ) → at ≤ q → q < end → slot_of h (slice_get ks q) ≡ Some b → ⊥)
+    × ((q : ℕ) → at ≤ q → q < end → slot_of h (slice_get ks q) ≡ Some b → ⊥)
 
 -- the last place of each bucket, and of each place the one before it in its bucket
 abbrev pub AreLinked : (List Lit → ℕ) → List ℕ → List ℕ → List Known → Type 0
 AreLinked h heads links ks = ((b : ℕ) → b < length heads → IsLast h ks b (length ks) (slice_index heads b)) × (length links ≡ length ks)
-× ((p b : ℕ) → slot_of h (slice_get ks p) ≡ Some b → IsLast h ks b p (slice_index links p))
+    × ((p b : ℕ) → slot_of h (slice_get ks p) ≡ Some b → IsLast h ks b p (slice_index links p))
 
 -- the same of the first clauses, as many as there are links
 abbrev pub AreIndexed : ℕ → List ℕ → List ℕ → List Known → Type 0
