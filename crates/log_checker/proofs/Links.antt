@@ -1,9 +1,9 @@
 -- The index of the known clauses: places linked in buckets.
 use Prim.Native.Nat.{zero, suc}
-use Rattle.std.proofs.Common.{◌≡◌, ℕ, ◌+◌, ◌<◌, ◌≤◌, Bool, true, false, not, ◌&&◌, ◌||◌, List, [], ◌∷◌, ◌++◌, take, length, get_or, set, replicate, Option, Some, None, refl, sym, ap, ◌∙◌, subst, arith, inl, inr}
+use Rattle.std.proofs.Common.{◌≡◌, ℕ, ◌+◌, ◌<◌, ◌≤◌, Bool, true, false, not, ◌&&◌, ◌||◌, List, [], ◌∷◌, ◌++◌, take, drop, length, get_or, set, replicate, Option, Some, None, refl, sym, ap, ◌∙◌, subst, arith, inl, inr}
 use Rattle.std.specs.Prelude.{slice_get, if◌then◌else◌}
 use Rattle.std.proofs.lemmas.Bool.Decides.{eqb_tells, leb_tells}
-use Rattle.std.proofs.lemmas.List.{length-append, length-set, length-take-le, take-append-le, take_all, take_more, length-replicate, get_or-replicate, get_or-set_same, get_or-set_other, get_or_append_left}
+use Rattle.std.proofs.lemmas.List.{length-append, length-set, length-take-le, take-append-le, take_all, take_more, drop_all, append-nil, length-replicate, get_or-replicate, get_or-set_same, get_or-set_other, get_or_append_left}
 use Rattle.std.proofs.Math.Seq.{get_or-append_seam}
 use Rattle.std.proofs.Math.Bool.{or-true}
 use Rattle.std.proofs.lemmas.Option.{same_Some, none-some}
@@ -297,3 +297,22 @@ seeks-none h ks c at s e = among-none ks c (λ q. s.2 q (omega (arith, e)))
 pub zeros : (heads : List ℕ) (n : ℕ) → heads ≡ replicate n 0 → (b : ℕ) → b < length heads → get_or heads b 0 ≡ 0
 zeros heads n e b i = ap (λ hs. get_or hs b 0) e
     ∙ get_or-replicate n b 0 0 (omega (arith, i, ap length e, length-replicate {A = ℕ} n 0))
+
+-- buckets that were written through a slice of all of them
+written : (n : ℕ) (new old : List ℕ) → length new ≡ length old → length old ≤ n → take n (new ++ drop (length new) old) ≡ new
+written n new old e w = ap (λ rest. take n (new ++ rest)) (drop_all (length new) old (omega (arith, e))) ∙ ap (take n) (append-nil new)
+    ∙ take_all n new (omega (arith, e, w))
+
+pub indexed-written : (factor n : ℕ) (new old links : List ℕ) (ks : List Known) → length new ≡ length old → length old ≤ n → 0 < length old
+    → AreIndexed factor new links ks
+    → (0 < length (take n (new ++ drop (length new) old))) × AreIndexed factor (take n (new ++ drop (length new) old)) links ks
+indexed-written factor n new old links ks e w z i =
+    subst (λ hs. (0 < length hs) × AreIndexed factor hs links ks) (sym (written n new old e w)) (omega (arith, e, z), i)
+
+pub linked-written : (factor n : ℕ) (new old links heads nexts : List ℕ) (ks all : List Known) → length new ≡ length old → length old ≤ n
+    → heads ≡ take n (new ++ drop (length new) old) → nexts ≡ links → all ≡ ks → AreIndexed factor new links ks → length links ≡ length ks
+    → AreLinked (bucket_of factor (length heads)) heads nexts all
+linked-written factor n new old links heads nexts ks all e w eh el ek i c =
+    subst (λ h. AreLinked (bucket_of factor (length h)) h nexts all) (sym (eh ∙ written n new old e w)) (
+    subst (λ l. AreLinked (bucket_of factor (length new)) new l all) (sym el) (
+    subst (AreLinked (bucket_of factor (length new)) new links) (sym ek) (indexed-all factor new links ks i c)))

@@ -2,6 +2,7 @@ use Prim.Native.Nat.{suc}
 use Rattle.std.proofs.Common.{◌≡◌, ◌-◌, ◌<◌, ◌≤◌, ◌∙◌, true, false, Some, length, get_or, sym, ap, refl, arith}
 use Rattle.std.specs.Prelude.{slice_get}
 use Rattle.std.proofs.lemmas.Option.{slice_get-get_or}
+use Rattle.log_checker.specs.declared.known.Known.{Known}
 use Rattle.log_checker.specs.Steps.{same_lits}
 use Rattle.log_checker.specs.Links.{bucket_of}
 use Rattle.log_checker.proofs.Links.{seeks-first, seeks-before, seeks-next, seeks-found, seeks-none}
@@ -20,7 +21,8 @@ returns-then-are_same c =
     slice_get-get_or c.args.known.now (c.loop-next.next - 1) c.index-known-place.result within ∙ ap Some (sym c.index-known-place.is) in
     sym (seeks-found (bucket_of c.args.factor (length c.args.heads.now)) c.args.known.now c.args.lits.now c.loop-next.next (c.loop-next.next - 1)
     c.index-known-place.result c.loop-next.invariant next here
-    (ap (λ x. same_lits x c.args.lits.now) (sym c.lits.ensures.value) ∙ sym c.are_same.ensures ∙ c.if-are_same.true))
+    (ap (λ (k : Known). same_lits k.clause c.args.lits.now) c.index-known-place.is
+    ∙ ap (λ x. same_lits x c.args.lits.now) (sym c.lits.ensures.value) ∙ sym c.are_same.ensures ∙ c.if-are_same.true))
 
 pub loop-next-smaller : goal.loop-next-smaller
 loop-next-smaller c =
@@ -39,7 +41,8 @@ loop-next-preserved c =
     seeks-next (bucket_of c.args.factor (length c.args.heads.now)) c.args.heads.now c.args.links.now c.args.known.now c.args.lits.now
     c.loop-next.next (c.loop-next.next - 1) (get_or c.args.links.now (c.loop-next.next - 1) 0) c.index-known-place.result
     c.requires.linked c.loop-next.invariant next here
-    (ap (λ x. same_lits x c.args.lits.now) (sym c.lits.ensures.value) ∙ sym c.are_same.ensures ∙ c.if-are_same.false) refl
+    (ap (λ (k : Known). same_lits k.clause c.args.lits.now) c.index-known-place.is
+    ∙ ap (λ x. same_lits x c.args.lits.now) (sym c.lits.ensures.value) ∙ sym c.are_same.ensures ∙ c.if-are_same.false) refl
 
 pub returns : goal.returns
 returns c = sym (seeks-none (bucket_of c.args.factor (length c.args.heads.now)) c.args.known.now c.args.lits.now c.loop-next.next

@@ -10,7 +10,7 @@ returns-clause-ok c =
     let at = c.bucket_of-bucket.result in
     let next = c.len-next.result + 1 in
     let end : next ≡ length links + 1 = omega (arith, c.len-next.ensures) in
-    subst (Notes c.args.factor heads links (set heads at next)) (sym c.in_ok-push-2.ensures.items) (
+    subst (λ ls. Notes c.args.factor heads links (set heads at next) ls c.args.known.now) (sym c.in_ok-push-2.ensures.items) (
     notes-own c.args.factor heads links c.args.known.now at next c.if-known.false
     (c.bucket_of-bucket.ensures.value ∙ ap (bucket_of c.args.factor (length heads)) c.lits.ensures.value)
     c.bucket_of-bucket.ensures.within end)
