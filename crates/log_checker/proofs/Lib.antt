@@ -1,5 +1,5 @@
 pub mod Ids
-pub mod Buckets
+pub mod Places
 pub mod Marks
 pub mod Values
 pub mod Overlays

@@ -12,7 +12,7 @@ use Rattle.log_checker.specs.declared.known.Known.{Known}
 use Rattle.log_checker.specs.Known.{rivals_in}
 use Rattle.log_checker.specs.Steps.{same_lits, is_among}
 use Rattle.log_checker.specs.Links.{bucket_of, slot_of, IsLast, AreLinked, AreIndexed, Notes}
-use Rattle.log_checker.proofs.Buckets.{same_lits-is}
+use Rattle.log_checker.proofs.Places.{same_lits-is}
 
 -- the clause at a place of a list with one more
 get-front : (ks : List Known) (k : Known) (q : ℕ) → q < length ks → slice_get (ks ++ k ∷ []) q ≡ slice_get ks q
