@@ -152,7 +152,7 @@ indexed-more factor heads links heads_new links_new ks at k h e q n f i = (
   (
     omega (arith, count, h),
     subst (λ m. AreLinked (bucket_of factor m) heads_new links_new (take (length links_new) ks)) (sym n) (
-      subst (AreLinked (bucket_of factor (length heads)) heads_new links_new) (sym (ap (λ m. take m ks) count ∙ more)) noted),
+        subst (AreLinked (bucket_of factor (length heads)) heads_new links_new) (sym (ap (λ m. take m ks) count ∙ more)) noted),
   ),
 )
   where
@@ -250,7 +250,7 @@ pub seeks-first : (h : List Lit → ℕ) (heads links : List ℕ) (ks : List Kno
     → b ≡ h c → b < length heads → at ≡ get_or heads b 0 → Seeks h ks c at
 seeks-first h heads links ks c b at a e w g =
     let l : IsLast h ks (h c) (length ks) at = subst (λ n. IsLast h ks n (length ks) at) e
-        (subst (IsLast h ks b (length ks)) (sym g) (a.0 b w)) in
+    (subst (IsLast h ks b (length ks)) (sym g) (a.0 b w)) in
     (l.0, l.1, (λ q lo. not-rival h c (slice_get ks q) (λ s. l.2 q lo (slot-within h ks q (h c) s) s)))
 
 -- the next place of the bucket

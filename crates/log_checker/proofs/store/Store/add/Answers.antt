@@ -7,6 +7,6 @@ pub invariant_of-self-2 : goal.invariant_of-self-2
 invariant_of-self-2 c = (
   c.self.invariant.0,
   subst (AreIndexed c.self.inside.factor c.self.inside.heads.items c.self.inside.links.items) (sym c.in_ok-push.ensures.items) (
-    indexed-push c.self.inside.factor c.self.inside.heads.items c.self.inside.links.items c.self.inside.known.items c.args.known
-    c.self.invariant.1),
+      indexed-push c.self.inside.factor c.self.inside.heads.items c.self.inside.links.items c.self.inside.known.items c.args.known
+      c.self.invariant.1),
 )
