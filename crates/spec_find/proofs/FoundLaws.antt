@@ -36,7 +36,7 @@ module _ (records : List Record) (Holds : Record → Type 0) where
   marks_none = record { each = refl; exact = λ place entry lt got. absurd (omega (arith, lt)) }
 
   pub marks_more : (end : ℕ) (marks : List Bool) (entry : Record) (mark : Bool) → AreMarksBefore records Holds end marks
-      → slice_get records end ≡ Some entry → IsTrue mark ↔ Holds entry → AreMarksBefore records Holds (end + 1) (marks ++ mark ∷ [])
+      → slice_get records end ≡ Some entry → (IsTrue mark ↔ Holds entry) → AreMarksBefore records Holds (end + 1) (marks ++ mark ∷ [])
   marks_more end marks entry mark so_far got tells = record {
     each = length_push marks mark ∙ ap (λ n. n + 1) so_far.each;
     exact = λ place other lt got_other. ⊎_elim
@@ -61,7 +61,8 @@ module _ (records : List Record) (Holds : Record → Type 0) where
 
 module _ (world : World) (records : List Record) (top : Part) where
   -- where the top part holds, no part is met yet
-  pub top_alone : (entry : Record) (is : Bool) → is ≡ meets world top (installed_node entry) → IsTrue is ↔ MeetsParts world records top [] entry
+  pub top_alone : (entry : Record) (is : Bool) → is ≡ meets world top (installed_node entry)
+      → IsTrue is ↔ MeetsParts world records top [] entry
   top_alone entry is e = (
     λ t. record { top = sym e ∙ t; below = All-nil (IsMetBelow world records entry) },
     λ met. e ∙ met.top,

@@ -77,7 +77,7 @@ kept_there records right place entry got d has kept =
     let there : Contains records entry = (place, got_lt records place entry got, got_is records place entry entry got) in
     let not_lost = found_none (is_lost (hashes_of records)) entry.dependencies (lost_none (hashes_of records) records right.known entry there) d has in
     ⊎_elim
-    (λ no. absurd (false≢true (sym no ∙ kept)))
+    (λ fails. absurd (false≢true (sym fails ∙ kept)))
     (λ known. Contains-from_any {eq = bytes_eq} (λ x y e. (bytes_decides x y).0 e) d.0 (hashes_of records)
     (not_false (list_any (bytes_eq d.0) (hashes_of records)) known))
     (and_cases (is_kept d) (not (list_any (bytes_eq d.0) (hashes_of records))) not_lost)
@@ -118,8 +118,8 @@ pub links_same : (entry : Record) (done : ℕ) (d : Text × Kinds) → done < le
     → is_kept d ≡ false
     → flipped (map (λ x. (entry.hash, x.0)) (filter is_kept (take (done + 1) entry.dependencies)))
     ≡ flipped (map (λ x. (entry.hash, x.0)) (filter is_kept (take done entry.dependencies)))
-links_same entry done d lt is no =
-    rw (take_more entry.dependencies done d lt, ← is, filter-append is_kept (take done entry.dependencies) (d ∷ []), no, append-nil) refl
+links_same entry done d lt is fails =
+    rw (take_more entry.dependencies done d lt, ← is, filter-append is_kept (take done entry.dependencies) (d ∷ []), fails, append-nil) refl
 
 -- the links of one record more
 pub links_more : (records : List Record) (place : ℕ) (entry : Record) → slice_get records place ≡ Some entry

@@ -43,7 +43,7 @@ module _ (parents : List (List ℕ)) (starts : List ℕ) (within : AreWithin par
       (cases_lt p (length parents))
 
   arc_within : (p q : ℕ) → p < length parents → LeadsTo parents p q → q < length parents
-  arc_within p q lt arc = All-contains (λ x. x < length parents) (get_or parents p []) q (All-get_or _ parents p [] lt within) arc
+  arc_within p q lt arc = All-contains (λ x. x < length parents) (get_or parents p []) q (All-get_or (All (λ x. x < length parents)) parents p [] lt within) arc
 
   -- a path from an old place is an old one
   old_path : (p q : ℕ) → p < length parents → Path (LeadsTo longer) p q → Path (LeadsTo parents) p q
@@ -105,7 +105,7 @@ module _ (world : World) (records : List Record) (parents : List (List ℕ)) (pa
   pub starts_same : (upto : ℕ) (starts : List ℕ) (entry : Record) → AreStarts world records parents part name upto starts
       → slice_get records upto ≡ Some entry → suits world part name (installed_node entry) ≡ false
       → AreStarts world records parents part name (upto + 1) starts
-  starts_same upto starts entry so_far got no = record {
+  starts_same upto starts entry so_far got fails = record {
     exact = λ i. (
       λ has. let w = (so_far.exact i).0 has in (w.0, omega (arith, w.1), w.2, w.3),
       λ w. ⊎_elim
@@ -114,7 +114,7 @@ module _ (world : World) (records : List Record) (parents : List (List ℕ)) (pa
           let same : upto ≡ w.0 = omega (arith, le, w.1) in
           let is : Some w.2.0 ≡ Some entry = sym w.2.1 ∙ ap (slice_get records) (sym same) ∙ got in
           let one : w.2.0 ≡ entry = cc in
-          absurd (false≢true (sym no ∙ ap (λ e. suits world part name (installed_node e)) (sym one) ∙ w.2.2)))
+          absurd (false≢true (sym fails ∙ ap (λ e. suits world part name (installed_node e)) (sym one) ∙ w.2.2)))
           (cases_lt w.0 upto),
     );
   }
@@ -124,7 +124,7 @@ module _ (world : World) (records : List Record) (parents : List (List ℕ)) (pa
       → All (λ s. s < length parents) starts
   starts_low starts are told = all_from (λ s. s < length parents) starts (λ i has.
       let w = (told.exact i).0 has in
-      All-contains (λ x. x < length parents) (get_or parents w.0 []) i (All-get_or _ parents w.0 [] (omega (arith, w.1, are.each)) are.within) w.3)
+      All-contains (λ x. x < length parents) (get_or parents w.0 []) i (All-get_or (All (λ x. x < length parents)) parents w.0 [] (omega (arith, w.1, are.each)) are.within) w.3)
 
   -- what is marked is what the part is met below
   pub met_where_marked : (starts : List ℕ) (marks : List Bool) → part.name ≡ Some name → AreParents records parents

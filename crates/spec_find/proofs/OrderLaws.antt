@@ -96,13 +96,13 @@ texts_distinct (k ∷ ks) once = (
 
 -- where neither the other is below nor the two are one
 below_by : (p q : Text) (r : Ordering) → byte_cmp q p ≡ r → is_lt r ≡ false → (p ≡ q → ⊥) → is_lt (ordering_reverse r) ≡ true
-below_by p q Less is no differ = absurd (let bad : true ≡ false = no in cc)
-below_by p q Equal is no differ = absurd (differ (sym (ties_are_equal q p is)))
-below_by p q Greater is no differ = refl
+below_by p q Less is fails differ = absurd (let bad : true ≡ false = fails in cc)
+below_by p q Equal is fails differ = absurd (differ (sym (ties_are_equal q p is)))
+below_by p q Greater is fails differ = refl
 
 below : (p q : Text) → is_lt (byte_cmp q p) ≡ false → bytes_eq p q ≡ false → is_lt (byte_cmp p q) ≡ true
-below p q no differ = ap is_lt (nat_list_cmp_total.antisymm p q)
-    ∙ below_by p q (byte_cmp q p) refl no (λ same. absurd (false≢true (sym differ ∙ (bytes_decides p q).1 same)))
+below p q fails differ = ap is_lt (nat_list_cmp_total.antisymm p q)
+    ∙ below_by p q (byte_cmp q p) refl fails (λ same. absurd (false≢true (sym differ ∙ (bytes_decides p q).1 same)))
 
 module _ {X : Type 0} (key : X → Text) where
   rising : (xs : List X) → IsSortedBy (λ a b. is_lt (byte_cmp (key a) (key b))) xs → IsDistinct bytes_eq (map key xs) → rises byte_cmp (map key xs) ≡ true
@@ -111,7 +111,10 @@ module _ {X : Type 0} (key : X → Text) where
   rising (x ∷ []) sorted distinct = refl
   rising (x ∷ y ∷ zs) sorted distinct = and_from _ _
       (below (key x) (key y) (sorted 0 x (omega arith) (omega arith)) distinct.0.0)
-      (rising (y ∷ zs) (λ k d le lt. sorted (suc k) d (omega arith) (omega (arith, lt))) distinct.1)
+      (rising (y ∷ zs) (λ k d le lt.
+      let on : suc k + 1 ≡ suc (k + 1) = omega arith in
+      subst (λ n. is_lt (byte_cmp (key (get_or (x ∷ y ∷ zs) n d)) (key (get_or (x ∷ y ∷ zs) (suc k) d))) ≡ false) on
+      (sorted (suc k) d (omega arith) (omega (arith, lt)))) distinct.1)
 
   -- what is sorted and distinct is in order
   pub in_order : (xs : List X) → IsSortedBy (λ a b. is_lt (byte_cmp (key a) (key b))) xs → IsDistinct bytes_eq (map key xs) → IsInOrder byte_cmp key xs
