@@ -190,9 +190,11 @@ module _ (g : Content) where
       last = last_push None chain name;
       there = λ parent e.
           let same : name ≡ parent = cc in
-          let next : length waves - 1 - done ≡ length waves - (done + 1) = omega arith in
-          (omega arith, subst (λ place. Contains (wave_at waves place) parent) next
-          (subst (Contains (wave_at waves (length waves - 1 - done))) same least.passes.0));
+          let next : length waves - 1 - done ≡ length waves - (done + 1) = omega arith in (
+            omega arith,
+            subst (λ place. Contains (wave_at waves place) parent) next
+                (subst (Contains (wave_at waves (length waves - 1 - done))) same least.passes.0),
+          );
     }
 
   pub down_all : (waves : List (List Text)) (done : ℕ) (above : Option Text) (chain : List Text) → IsDown waves done above chain

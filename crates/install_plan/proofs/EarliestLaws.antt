@@ -58,10 +58,10 @@ module _ (g : Content) where
 
   height_falls : IsAcyclic (JoinedIn g) → (p q : Text) → JoinedIn g p q → height_of q < height_of p
   height_falls acyclic p q arc = omega (
-        arith,
-        level_rises bytes_eq bytes_decides (arcs_of g) acyclic parents p q (has_image (λ a. a.0) (arcs_of g) (p, q) arc) arc,
-        count_by-le-length (λ k. reaches bytes_eq (arcs_of g) k q) parents,
-      )
+    arith,
+    level_rises bytes_eq bytes_decides (arcs_of g) acyclic parents p q (has_image (λ a. a.0) (arcs_of g) (p, q) arc) arc,
+    count_by-le-length (λ k. reaches bytes_eq (arcs_of g) k q) parents,
+  )
 
   module _ (heads : List (List ℕ)) (are : AreBuiltChildren g heads) where
     -- the children to build have heights that fall

@@ -152,11 +152,20 @@ module _ (heads : List (List ℕ)) where
             inl none,
             (later, sym same, subst (λ ws. Contains ws later) (sym (at_goal there)) (Contains-push (waiters_at waiting goal_of) later)),
           ))
-          (λ w. (w.0, w.1, w.2, (w.3.0, w.3.1, ⊎_elim
-          (λ same. subst (λ ws. Contains ws w.3.0) (sym (ap (waiters_at longer) same ∙ at_goal there))
-          (Contains-append_left (waiters_at waiting goal_of) (later ∷ []) w.3.0
-          (subst (λ c. Contains (waiters_at waiting c) w.3.0) same w.3.2)))
-          (λ other. subst (λ ws. Contains ws w.3.0) (sym (at_other w.0 other)) w.3.2) (cases_eq w.0 goal_of)))) before
+          (λ w. (
+            w.0,
+            w.1,
+            w.2,
+            (
+              w.3.0,
+              w.3.1,
+              ⊎_elim
+                  (λ same. subst (λ ws. Contains ws w.3.0) (sym (ap (waiters_at longer) same ∙ at_goal there))
+                  (Contains-append_left (waiters_at waiting goal_of) (later ∷ []) w.3.0
+                  (subst (λ c. Contains (waiters_at waiting c) w.3.0) same w.3.2)))
+                  (λ other. subst (λ ws. Contains ws w.3.0) (sym (at_other w.0 other)) w.3.2) (cases_eq w.0 goal_of),
+            ),
+          )) before
 
     module _ (top : ℕ) (none : number_at numbers waiter.place ≡ 0)
         (passed : (k : ℕ) → waiter.next ≤ k → k < length (heads_at heads waiter.place)
@@ -197,11 +206,11 @@ module _ (heads : List (List ℕ)) where
       own_right = record {
         some = λ q leads. omega (arith, keeps q (all_passed q leads), all_passed q leads);
         above = λ q leads. omega (
-              arith,
-              keeps q (all_passed q leads),
-              All-contains (λ x. number_at numbers x ≤ top) (heads_at heads place) q above leads,
-              own,
-            );
+          arith,
+          keeps q (all_passed q leads),
+          All-contains (λ x. number_at numbers x ≤ top) (heads_at heads place) q above leads,
+          own,
+        );
         least = ⊎_elim
             (λ e. inl (own ∙ ap (λ n. n + 1) e))
             (λ w. inr (w.0, w.1, own ∙ ap (λ n. n + 1) (sym (keeps w.0 (all_passed w.0 w.1) ∙ w.2)))) there;
@@ -245,12 +254,17 @@ module _ (heads : List (List ℕ)) where
           → Waits heads more waiting (settled ++ place ∷ []) p
       number_waits p still before = ⊎_elim
           (λ same. absurd (omega (arith, still, own, ap (number_at more) same)))
-          (λ w. (w.0, w.1, ⊎_elim
-          (λ unset. ⊎_elim
-          (λ same. inr (subst (Contains (settled ++ place ∷ [])) (sym same) (Contains-push settled place)))
-          (λ other. inl (get_or-set_other numbers place w.0 (top + 1) 0 other ∙ unset))
-          (cases_eq w.0 place))
-          (λ set_before. inr (Contains-append_left settled (place ∷ []) w.0 set_before)) w.2, w.3)) before
+          (λ w. (
+            w.0,
+            w.1,
+            ⊎_elim
+                (λ unset. ⊎_elim
+                (λ same. inr (subst (Contains (settled ++ place ∷ [])) (sym same) (Contains-push settled place)))
+                (λ other. inl (get_or-set_other numbers place w.0 (top + 1) 0 other ∙ unset))
+                (cases_eq w.0 place))
+                (λ set_before. inr (Contains-append_left settled (place ∷ []) w.0 set_before)) w.2,
+            w.3,
+          )) before
 
   -- ---- a place is settled, or waits
 

@@ -174,13 +174,13 @@ module _ (g : Content) (graph : IsGraph g) (numbers : List ℕ) (each : length n
       → number ≡ get_or numbers place 0 → 1 ≤ number → AreSorted (wave_in g numbers) waves count (built_of (take place g.nodes))
       → number - 1 < length waves
   wave_within place node waves count number lt is passes greatest own some so_far = omega (
-        arith,
-        node_wave place node lt is,
-        own,
-        some,
-        so_far.each,
-        greatest.above node.name (node_built place node lt is passes),
-      )
+    arith,
+    node_wave place node lt is,
+    own,
+    some,
+    so_far.each,
+    greatest.above node.name (node_built place node lt is passes),
+  )
 
 -- ---- the waves of a schedule
 

@@ -33,7 +33,14 @@ pub(crate) fn numbers_of(alloc: Global, heads: &[List<usize>]) -> Result<Vec<usi
         settle(heads, waiter, &mut numbers, &mut waiting, &mut settled)?;
     }
     while let Some(place) = settled.pop() {
-        wake(alloc, heads, place, &mut numbers, &mut waiting, &mut settled)?;
+        wake(
+            alloc,
+            heads,
+            place,
+            &mut numbers,
+            &mut waiting,
+            &mut settled,
+        )?;
     }
     Ok(numbers)
 }

@@ -3,7 +3,7 @@ ghost use Rattle.std.specs.Prelude.{◌≡◌, ◌<◌, ◌≤◌, ◌+◌, ◌^
 ghost use Rattle.std.specs.Option.{option_map};
 ghost use Rattle.clause_store.specs.Clauses.{clauses_of};
 ghost use Rattle.proof_log.specs.Known.{AllClauses};
-ghost use Rattle.log_checker.specs.Steps.{unless, begun, begins, may_stand, next_id, next_bit, has_value, own_fault, place_fault, plain_fault, fault, noted, accept};
+ghost use Rattle.log_checker.specs.Steps.{unless, begun, is_first_line, may_stand_later, next_id, next_bit, has_value, own_line_fault, place_fault, plain_fault, fault, noted, accept};
 ghost use Rattle.log_checker.specs.Known.{as_known};
 ghost use Rattle.log_checker.specs.Blocks.{Fits, mark_of, back_to};
 
@@ -36,9 +36,9 @@ pub struct Position {
 impl Model for Position {
     ghost use Rattle.std.specs.Prelude.{◌+◌, ◌≤◌, ◌<◌, ◌^◌, length, if◌then◌else◌};
     ghost use Rattle.std.specs.Option.{option_map};
-    ghost use Rattle.log_checker.specs.Steps.{State};
+    ghost use Rattle.log_checker.specs.Steps.{CheckerState};
 
-    ghost Value = { State };
+    ghost Value = { CheckerState };
 
     ghost view = { λ p. record {
       vars = p.vars;
@@ -64,16 +64,13 @@ pub struct Mark {
     ended: bool,
 }
 
-/// How many buckets a store begins with at least.
-const LEAST_BUCKETS: usize = 64;
-
 /// The clauses of a list, as the first known ones.
 fn copy_all(alloc: Global, clauses: &ClauseList) -> Result<Store, AllocError>
     ensures copied { IfOk result (λ store. store ≡ as_known (clauses_of clauses.now.entries)) }
     ensures in_order { OnOk result (AllClauses (clauses_of clauses.now.entries)) }
 {
     let count = clauses.len();
-    let mut store = Store::new(alloc, (count as usize).max(LEAST_BUCKETS))?;
+    let mut store = Store::new(alloc)?;
     for place in 0..count {
         match clauses.get(alloc, place + 1)? {
             Some(clause) => store.add(input_known(clause))?,
@@ -143,7 +140,7 @@ impl Position {
 
     /// Whether the first line has the numbers of the input.
     fn begins(&self, line: &Line) -> bool
-        ensures { result ≡ begins self.now line.now }
+        ensures { result ≡ is_first_line self.now line.now }
     {
         match line {
             Line::Header {
@@ -169,7 +166,7 @@ impl Position {
 
     /// Whether a later line may stand here.
     fn may_stand(&self, line: &Line) -> bool
-        ensures { result ≡ may_stand self.now line.now }
+        ensures { result ≡ may_stand_later self.now line.now }
     {
         match line {
             Line::Learnt { id, .. } => self.is_next_id(*id),
@@ -211,33 +208,36 @@ impl Position {
     }
 
     /// The fault of a bit's value or of a learnt clause.
-    fn own_fault(&self, line: &Line) -> Option<Why>
-        ensures { result ≡ own_fault self.now line.now }
+    fn own_fault(&mut self, line: &Line) -> Result<Option<Why>, AllocError>
+        ensures value { IfOk result (λ why. why ≡ own_line_fault self.old line.now) }
+        ensures same { self.new ≡ self.old }
     {
         match line {
-            Line::Learnt { clause, .. } => unless(
-                !self.store.has_rival(clause.lits()),
-                Why::NotNew,
-            ),
-            Line::Zero { bit, .. } => unless(self.has_value(*bit, false), Why::WrongBit),
-            Line::One { bit, .. } => unless(self.has_value(*bit, true), Why::WrongBit),
-            _ => None,
+            Line::Learnt { clause, .. } => {
+                let found = self.store.has_rival(clause.lits())?;
+                Ok(unless(!found, Why::NotNew))
+            }
+            Line::Zero { bit, .. } => Ok(unless(self.has_value(*bit, false), Why::WrongBit)),
+            Line::One { bit, .. } => Ok(unless(self.has_value(*bit, true), Why::WrongBit)),
+            _ => Ok(None),
         }
     }
 
     /// Which rule a line breaks first, but for the check of its chain.
-    pub fn plain_fault(&self, line: &Line) -> Option<Why>
-        ensures { result ≡ plain_fault self.now line.now }
+    pub fn plain_fault(&mut self, line: &Line) -> Result<Option<Why>, AllocError>
+        ensures value { IfOk result (λ why. why ≡ plain_fault self.old line.now) }
+        ensures same { self.new ≡ self.old }
     {
         if let Some(why) = self.place_fault(line) {
-            return Some(why);
+            return Ok(Some(why));
         }
         self.own_fault(line)
     }
 
     /// Which rule a line breaks first.
-    pub fn fault(&self, signs: &mut Signs, line: &Line) -> Result<Option<Why>, AllocError>
-        ensures { IfOk result (λ why. why ≡ fault self.now line.now) }
+    pub fn fault(&mut self, signs: &mut Signs, line: &Line) -> Result<Option<Why>, AllocError>
+        ensures value { IfOk result (λ why. why ≡ fault self.old line.now) }
+        ensures same { self.new ≡ self.old }
     {
         if let Some(why) = self.place_fault(line) {
             return Ok(Some(why));
@@ -246,7 +246,7 @@ impl Position {
         if let Some(why) = derivation_fault(signs, bits, self.store.known(), line)? {
             return Ok(Some(why));
         }
-        Ok(self.own_fault(line))
+        self.own_fault(line)
     }
 
     /// The known clause that a line makes.

@@ -74,8 +74,11 @@ hashes_once records once hash i j at_i at_j = ⊎_elim (λ less. absurd (earlier
           omega (arith, length-take j (hashes_of records), at_j.0, less),
           get_or-take j (hashes_of records) i hash less ∙ at_i.1,
         ) in
-        once j (lt, λ d. subst (Contains (take j (hashes_of records)))
-        (sym at_j.1 ∙ get_or-map (λ (e : Record). e.hash) records j d hash lt) before)
+        once j (
+          lt,
+          λ d. subst (Contains (take j (hashes_of records)))
+              (sym at_j.1 ∙ get_or-map (λ (e : Record). e.hash) records j d hash lt) before,
+        )
 
 -- texts that stand once each are distinct
 pub texts_distinct : (keys : List Text) → AreOnce keys → IsDistinct bytes_eq keys

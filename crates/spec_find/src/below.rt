@@ -31,8 +31,14 @@ pub(crate) fn marks_below(
 {
     match &part.name {
         Some(name) => {
-            let starts =
-                starts_of(alloc, world, records, parents.as_slice(), part, name.as_str())?;
+            let starts = starts_of(
+                alloc,
+                world,
+                records,
+                parents.as_slice(),
+                part,
+                name.as_str(),
+            )?;
             marks_above(alloc, parents, starts)
         }
         None => Bits::new(alloc, records.len()),

@@ -30,7 +30,15 @@ pub fn find(
     let order = by_hash(alloc, records)?;
     let mut marks = top_marks(alloc, world, records, &spec.top)?;
     let parts = spec.below.as_slice();
-    keep_met(alloc, world, records, order.as_slice(), &spec.top, parts, &mut marks)?;
+    keep_met(
+        alloc,
+        world,
+        records,
+        order.as_slice(),
+        &spec.top,
+        parts,
+        &mut marks,
+    )?;
     places_in(alloc, order.as_slice(), marks.as_slice())
 }
 

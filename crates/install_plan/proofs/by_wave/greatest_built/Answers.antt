@@ -11,8 +11,11 @@ loop-place-preserved c =
     c.index-nodes-place.result c.loop-place.greatest c.if-is_built.greatest lt (rw nodes_is at c.index-nodes-place.is)
     (rw nodes_is at c.loop-place.invariant) (elim c.if-is_built.branch [
       | then-is_built+then-numbers-place w ↦ inl (sym c.is_built.ensures ∙ w.if-is_built.true, w.if-numbers-place.true, w.greatest-is)
-      | else-is_built w ↦ inr (elim w.else-is_built.branch [
+      | else-is_built w ↦ inr (
+        elim w.else-is_built.branch [
           | else-is_built-via-then-is_built+else-numbers-place w' ↦ inr w'.if-numbers-place.false
           | else-is_built-via-else-is_built w' ↦ inl (sym c.is_built.ensures ∙ w'.if-is_built.false)
-        ], w.greatest-is)
+        ],
+        w.greatest-is,
+      )
     ]))

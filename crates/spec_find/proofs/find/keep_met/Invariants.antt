@@ -6,5 +6,5 @@ abbrev pub invariant-loop-part : goal.invariant-loop-part
 invariant-loop-part l = record {
   each : length l.marks.items ≡ length l.records;
   told : AreMarks l.records (MeetsParts l.world l.records l.top (take l.part-index l.parts)) l.marks.items;
-  parents : AreParents l.records l.parents.items
+  parents : AreParents l.records l.parents.items;
 }
