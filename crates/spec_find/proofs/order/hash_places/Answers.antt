@@ -1,6 +1,6 @@
 use Rattle.std.proofs.Common.{sym, refl, arith, ◌≡◌, length}
 use Rattle.spec_find.proofs.OrderLaws.{placed_none, placed_more, placed_all, got_from}
-use Rattle.spec_find.proofs.order.placed.Goals as goal
+use Rattle.spec_find.proofs.order.hash_places.Goals as goal
 
 pub loop-place-init : goal.loop-place-init
 loop-place-init c = rw c.new.ensures (placed_none c.args.records.now)
