@@ -1,4 +1,4 @@
-use Rattle.spec_find.proofs.find.top_marks.Goals as goal
+use Rattle.spec_find.proofs.search.top_marks.Goals as goal
 
 pub loop-entry-preserved : goal.loop-entry-preserved
 loop-entry-preserved c = ?
