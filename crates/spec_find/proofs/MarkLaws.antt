@@ -1,5 +1,5 @@
 -- Marks of records: one place more leads to all starts of a search.
-use Rattle.std.proofs.Common.{◌≡◌, ◌↔◌, refl, sym, ap, subst, ◌∙◌, ℕ, ◌+◌, ◌<◌, ◌≤◌, Bool, true, false, List, [], ◌∷◌, ◌++◌, length, get_or, replicate, All, Contains, Some, None, IsTrue, ◌⊎◌, inl, inr, ⊎_elim, arith}
+use Rattle.std.proofs.Common.{◌≡◌, ◌↔◌, refl, sym, ap, subst, ◌∙◌, ℕ, ◌+◌, ◌<◌, ◌≤◌, Bool, true, false, List, [], ◌∷◌, ◌++◌, length, get_or, replicate, All, Contains, Some, None, Result, Ok, Err, IfOk, IsTrue, ◌⊎◌, inl, inr, ⊎_elim, arith}
 use Rattle.std.specs.List.{slice_get}
 use Rattle.std.proofs.lemmas.Bool.{cases_lt, false≢true}
 use Rattle.std.proofs.lemmas.List.{get_or_append_left, get_or_past, get_or_push, length_push}
@@ -19,6 +19,11 @@ use Rattle.spec_find.specs.Found.{IsChained, IsMetBelow, installed_node}
 use Rattle.spec_find.specs.Marks.{AreParents, SuitsAt, AreStarts, AreAbove, AreMarks}
 use Rattle.spec_find.proofs.OrderLaws.{got_lt, got_is, got_from, hash_there}
 
+-- what two clauses on what was made tell
+pub ok_both : {T E : Type 0} (P Q R : T → Type 0) → ((x : T) → P x → Q x → R x) → (r : Result T E) → IfOk r P → IfOk r Q → IfOk r R
+ok_both P Q R both (Ok x) p q = both x p q
+ok_both P Q R both (Err e) p q = tt
+
 -- ---- one place more
 
 module _ (parents : List (List ℕ)) (starts : List ℕ) (within : AreWithin parents) (low : All (λ s. s < length parents) starts) where
@@ -34,11 +39,11 @@ module _ (parents : List (List ℕ)) (starts : List ℕ) (within : AreWithin par
       more = All-weaker (λ q. q < length parents) (λ q. q < length (parents ++ starts ∷ [])) (λ q lt. omega (arith, lt, length_push parents starts))
 
   old_arc : (p q : ℕ) → p < length parents → LeadsTo longer p q → LeadsTo parents p q
-  old_arc p q lt arc = subst (λ l. Contains l q) (get_or_append_left parents (starts ∷ []) p [] lt) arc
+  old_arc p q lt arc = subst (λ l. Contains l q) (get_or_append_left parents (starts ∷ []) [] p lt) arc
 
   new_arc : (p q : ℕ) → LeadsTo parents p q → LeadsTo longer p q
   new_arc p q arc = ⊎_elim
-      (λ lt. subst (λ l. Contains l q) (sym (get_or_append_left parents (starts ∷ []) p [] lt)) arc)
+      (λ lt. subst (λ l. Contains l q) (sym (get_or_append_left parents (starts ∷ []) [] p lt)) arc)
       (λ past. absurd (omega (arith, (subst (λ l. Contains l q) (get_or_past parents p [] past) arc).1)))
       (cases_lt p (length parents))
 

@@ -7,7 +7,6 @@
 #![tactic(auto)]
 
 mod below;
-
 mod links;
 mod node;
 mod order;
