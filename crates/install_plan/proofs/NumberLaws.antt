@@ -1,7 +1,7 @@
 -- Numbers that are found one after another.
 use Rattle.std.proofs.Common.{◌≡◌, ◌≢◌, refl, sym, ap, subst, ◌∙◌, ℕ, zero, suc, ◌+◌, ◌<◌, ◌≤◌, ◌==◌, Bool, false, cond, List, [], ◌∷◌, ◌++◌, length, get_or, set, drop, take, replicate, All, Contains, ◌⊎◌, inl, inr, ⊎_elim, arith}
 use Rattle.std.proofs.lemmas.Bool.{cases_eq, cases_lt, ne_eqb}
-use Rattle.std.proofs.lemmas.List.{length-set, get_or-set_same, get_or-set_other, get_or_past, get_or-replicate, get_or_default, length-replicate, length_push, take_more, drop_more, drop_all}
+use Rattle.std.proofs.lemmas.List.{length-set, get_or-set_same, get_or-set_other, get_or_past, get_or-replicate, get_or_default, length-replicate, length_push, take_more, drop_more, drop_all, get_or_read}
 use Rattle.std.proofs.lemmas.List.Sums.{sum_by-set, count_by-le-length}
 use Rattle.std.proofs.lemmas.List.Elements.{All-contains, All-push, All-weaker, All-nil, All-get_or, Contains-get_or, Contains-append_left, Contains-push, Contains-push_cases}
 use Rattle.reachability.specs.Places.{LeadsTo, AreWithin}
@@ -266,6 +266,59 @@ module _ (heads : List (List ℕ)) where
             w.3,
           )) before
 
+  -- ---- a place is settled, or waits
+
+  -- what settling a place changes: it gets its number or waits, and all others wait as before
+  pub record Settles (numbers new : List ℕ) (waiting new_waiting : List (List Waiter)) (settled new_settled : List ℕ) (place : ℕ) : Type 0 where
+    pub right : AreRight heads new new_waiting new_settled
+    pub kept : Keeps numbers new
+    pub work : length new_settled + missing new ≡ length settled + missing numbers
+    pub waits : (p : ℕ) → number_at new p ≡ 0 → (p ≡ place) ⊎ Waits heads numbers waiting settled p → Waits heads new new_waiting new_settled p
+
+  module _ (within : AreWithin heads) (numbers : List ℕ) (waiting : List (List Waiter)) (settled : List ℕ) (waiter : Waiter)
+      (are : AreRight heads numbers waiting settled) (is : IsWaiter heads numbers waiter) (children : List ℕ)
+      (same : children ≡ heads_at heads waiter.place) (next : ℕ)
+      (passed : (k : ℕ) → waiter.next ≤ k → k < next → 1 ≤ number_at numbers (number_at children k)) where
+    -- it waits for the first child without a number
+    pub settles_wait : next < length children → number_at numbers (number_at children next) ≡ 0 → (list new_list : List Waiter)
+        → list ≡ get_or waiting (number_at children next) list → new_list ≡ list ++ record { place = waiter.place; next = next } ∷ []
+        → Settles numbers numbers waiting (set waiting (number_at children next) new_list) settled settled waiter.place
+    settles_wait lt stop list new_list list_is new_is =
+        let lt_next : next < length (heads_at heads waiter.place) = omega (arith, lt, ap length same) in
+        let passed_next = rw same at passed in
+        let stop_next = rw same at stop in
+        let goal_lt : number_at (heads_at heads waiter.place) next < length heads =
+        leads_within within waiter.place (number_at (heads_at heads waiter.place) next) is.place (leads_at waiter.place next lt_next) in
+        let there : number_at (heads_at heads waiter.place) next < length waiting = omega (arith, goal_lt, are.lists) in
+        let list_at = rw same at list_is in
+        let longer_is : new_list ≡ waiters_at waiting (number_at (heads_at heads waiter.place) next) ++ record { place = waiter.place; next = next } ∷ [] =
+        new_is ∙ ap (λ l. l ++ record { place = waiter.place; next = next } ∷ [])
+        (get_or_read waiting (number_at (heads_at heads waiter.place) next) list there list_at []) in
+        rw (same, longer_is) (record {
+          right = wait_right numbers waiting settled waiter are is next lt_next passed_next there;
+          kept = keeps_all numbers;
+          work = refl;
+          waits = λ p none before. wait_waits numbers waiting settled waiter are is next lt_next passed_next there stop_next p before;
+        })
+
+    -- all children have numbers, and it gets its own
+    pub settles_number : (top : ℕ) → length children ≤ next → number_at numbers waiter.place ≡ 0 → All (λ q. number_at numbers q ≤ top) children
+        → (top ≡ 0) ⊎ ((q : ℕ) × Contains children q × (number_at numbers q ≡ top)) → (new_settled : List ℕ)
+        → new_settled ≡ settled ++ waiter.place ∷ []
+        → Settles numbers (set numbers waiter.place (top + 1)) waiting waiting settled new_settled waiter.place
+    settles_number top all none above there new_settled settled_is =
+        let passed_all : (k : ℕ) → waiter.next ≤ k → k < length (heads_at heads waiter.place)
+            → 1 ≤ number_at numbers (number_at (heads_at heads waiter.place) k) =
+        λ k le lt. (rw same at passed) k le (omega (arith, lt, all, ap length same)) in
+        let above_all = rw same at above in
+        let there_one = rw same at there in
+        rw settled_is (record {
+          right = number_right numbers waiting settled waiter are is top none passed_all above_all there_one;
+          kept = number_keeps numbers waiting settled waiter are is top none passed_all above_all there_one;
+          work = number_work numbers waiting settled waiter are is top none passed_all above_all there_one;
+          waits = number_waits numbers waiting settled waiter are is top none passed_all above_all there_one;
+        })
+
   -- ---- those that wait for a place are taken from their list
 
   module _ (numbers : List ℕ) (waiting : List (List Waiter)) (settled : List ℕ) (place : ℕ) (are : AreRight heads numbers waiting settled) where
@@ -317,6 +370,21 @@ module _ (heads : List (List ℕ)) where
     pub same : length settled + missing numbers ≡ work
     pub waits : (p : ℕ) → number_at numbers p ≡ 0 → Before p
         → Waits heads numbers waiting settled p ⊎ ((waiter : Waiter) × Contains (drop done waiters) waiter × (waiter.place ≡ p))
+
+  pub woken_start : (numbers : List ℕ) (waiting : List (List Waiter)) (settled : List ℕ) (place : ℕ) → AreRight heads numbers waiting settled
+      → place < length heads → (list rest : List Waiter) → list ≡ get_or waiting place list → rest ≡ []
+      → IsWoken numbers (λ p. Waits heads numbers waiting (settled ++ place ∷ []) p) list (length settled + missing numbers) 0 numbers
+      (set waiting place rest) settled
+  woken_start numbers waiting settled place are lt list rest list_is none =
+      let within : place < length waiting = omega (arith, lt, are.lists) in
+      let is : list ≡ waiters_at waiting place = get_or_read waiting place list within list_is [] in
+      rw (none, is) (record {
+        right = taken_right numbers waiting settled place are within;
+        each = are.waiters place;
+        kept = keeps_all numbers;
+        same = refl;
+        waits = λ p unset before. taken_waits numbers waiting settled place are p before;
+      })
 
   module _ (first : List ℕ) (Before : ℕ → Type 0) (waiters : List Waiter) (work done : ℕ) (numbers : List ℕ)
       (waiting : List (List Waiter)) (settled : List ℕ) (so_far : IsWoken first Before waiters work done numbers waiting settled) where

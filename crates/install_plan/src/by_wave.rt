@@ -1,5 +1,6 @@
 // The names of each wave.
-ghost use Rattle.std.specs.Prelude.{◌≡◌, ℕ, ◌≤◌, All, length, IfOk, replicate, []};
+ghost use Rattle.std.specs.Prelude.{◌≡◌, ◌<◌, ◌≤◌, ◌∷◌, ◌++◌, [], All, length, replicate, IfOk, OnOk, slice_set};
+ghost use Rattle.install_plan.specs.Schedules.{wave_at};
 ghost use Rattle.install_plan.specs.Children.{built_of, wave_in, IsGreatest, AreByNumber};
 
 use crate::children::is_built;
@@ -25,11 +26,26 @@ pub(crate) fn by_wave(
     let mut waves = no_names(alloc, count)?;
     for place in 0..nodes.len() {
         if is_built(&nodes[place]) {
-            let wave = &mut waves[numbers[place] - 1];
-            wave.push(nodes[place].name.duplicate(alloc)?)?;
+            add_name(alloc, &mut waves, numbers[place] - 1, &nodes[place].name)?;
         }
     }
     Ok(waves)
+}
+
+/// Adds a name to the wave at a place.
+fn add_name(
+    alloc: Global,
+    waves: &mut Vec<List<Word>>,
+    place: usize,
+    name: &Word,
+) -> Result<(), AllocError>
+    requires { place < length waves.old.items }
+    ensures { OnOk result (waves.new.items ≡ slice_set waves.old.items place
+        (wave_at waves.old.items place ++ name.now ∷ [])) }
+{
+    let wave = &mut waves[place];
+    wave.push(name.duplicate(alloc)?)?;
+    Ok(())
 }
 
 fn no_names(alloc: Global, count: usize) -> Result<Vec<List<Word>>, AllocError>

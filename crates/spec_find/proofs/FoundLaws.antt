@@ -2,8 +2,8 @@
 use Rattle.std.proofs.Common.{◌≡◌, ◌↔◌, refl, sym, ap, subst, ◌∙◌, ℕ, ◌+◌, ◌<◌, ◌≤◌, Bool, true, false, List, [], ◌∷◌, ◌++◌, length, get_or, set, take, map, filter, All, Contains, Some, IsTrue, ◌⊎◌, inl, inr, ⊎_elim, arith}
 use Rattle.std.specs.List.{slice_get}
 use Rattle.std.proofs.lemmas.Bool.{cases_eq, cases_lt, cases_Bool, false≢true}
-use Rattle.std.proofs.lemmas.List.{get_or_default, get_or_append_left, get_or_push, get_or-set_same, get_or-set_other, get_or_past, length_push, length-set, take_more}
-use Rattle.std.proofs.lemmas.List.Elements.{All-nil, All-head, All-tail, All-push, All-contains, Contains-append_left, Contains-push}
+use Rattle.std.proofs.lemmas.List.{get_or_default, get_or_append_left, get_or_push, get_or-set_same, get_or-set_other, get_or_past, length_push, length-set, take_more, map-append, append-nil}
+use Rattle.std.proofs.lemmas.List.Elements.{All-nil, All-head, All-tail, All-push, All-contains, Contains-append_left, Contains-push, filter-append}
 use Rattle.reachability.specs.Places.{IsAt, IsMarked}
 use Rattle.reachability.proofs.CountLaws.{has_first, has_later, first_or_later, has_image, image_of}
 use Rattle.reachability.proofs.SpreadLaws.{from_filter, in_filter}
@@ -36,13 +36,13 @@ module _ (records : List Record) (Holds : Record → Type 0) where
   marks_none = record { each = refl; exact = λ place entry lt got. absurd (omega (arith, lt)) }
 
   pub marks_more : (end : ℕ) (marks : List Bool) (entry : Record) (mark : Bool) → AreMarksBefore records Holds end marks
-      → slice_get records end ≡ Some entry → IsTrue mark ↔ Holds entry → AreMarksBefore records Holds (end + 1) (marks ++ mark ∷ [])
+      → slice_get records end ≡ Some entry → (IsTrue mark ↔ Holds entry) → AreMarksBefore records Holds (end + 1) (marks ++ mark ∷ [])
   marks_more end marks entry mark so_far got tells = record {
     each = length_push marks mark ∙ ap (λ n. n + 1) so_far.each;
     exact = λ place other lt got_other. ⊎_elim
         (λ less.
         let read : get_or (marks ++ mark ∷ []) place false ≡ get_or marks place false =
-        get_or_append_left marks (mark ∷ []) place false (omega (arith, less, so_far.each)) in
+        get_or_append_left marks (mark ∷ []) false place (omega (arith, less, so_far.each)) in
         let told = so_far.exact place other less got_other in
         (λ marked. told.0 (sym read ∙ marked), λ holds. read ∙ told.1 holds))
         (λ le.
@@ -61,7 +61,8 @@ module _ (records : List Record) (Holds : Record → Type 0) where
 
 module _ (world : World) (records : List Record) (top : Part) where
   -- where the top part holds, no part is met yet
-  pub top_alone : (entry : Record) (is : Bool) → is ≡ meets world top (installed_node entry) → IsTrue is ↔ MeetsParts world records top [] entry
+  pub top_alone : (entry : Record) (is : Bool) → is ≡ meets world top (installed_node entry)
+      → IsTrue is ↔ MeetsParts world records top [] entry
   top_alone entry is e = (
     λ t. record { top = sym e ∙ t; below = All-nil (IsMetBelow world records entry) },
     λ met. e ∙ met.top,
@@ -129,7 +130,7 @@ module _ (world : World) (records : List Record) (spec : Spec) (order : List Pla
   -- the places of the marked records are those that are looked for
   pub are_found : AreFound world records spec (map place_of (filter is_marked order))
   are_found = record {
-    order = subst (IsStrictlySortedBy byte_cmp) (sym hashes_same) (in_order-filter hash_of is_marked order are.order);
+    order = subst (IsStrictlySortedBy byte_cmp) (sym hashes_same) (in_order-filter hash_of is_marked order are.rises);
     exact = λ place. (
       λ has.
           let placed = image_of place_of (filter is_marked order) place has in
@@ -146,6 +147,30 @@ module _ (world : World) (records : List Record) (spec : Spec) (order : List Pla
           (has_image place_of (filter is_marked order) placed.0 (in_filter is_marked order placed.0 placed.1 passes)),
     );
   }
+
+-- ---- places, one after another
+
+module _ (order : List Placed) (marks : List Bool) (done : ℕ) (d : Placed) (places : List ℕ) (lt : done < length order)
+    (so_far : places ≡ map (λ (p : Placed). p.place) (filter (λ (p : Placed). get_or marks p.place false) (take done order))) where
+  pub places_more : get_or marks (get_or order done d).place false ≡ true
+      → places ++ (get_or order done d).place ∷ []
+      ≡ map (λ (p : Placed). p.place) (filter (λ (p : Placed). get_or marks p.place false) (take (done + 1) order))
+  places_more passes = rw (
+      take_more order done d lt,
+      filter-append (λ (p : Placed). get_or marks p.place false) (take done order) (get_or order done d ∷ []),
+      passes,
+      map-append,
+      ← so_far,
+    ) refl
+
+  pub places_same : get_or marks (get_or order done d).place false ≡ false
+      → places ≡ map (λ (p : Placed). p.place) (filter (λ (p : Placed). get_or marks p.place false) (take (done + 1) order))
+  places_same fails = rw (
+      take_more order done d lt,
+      filter-append (λ (p : Placed). get_or marks p.place false) (take done order) (get_or order done d ∷ []),
+      fails,
+      append-nil,
+    ) so_far
 
 -- ---- marks that stay
 

@@ -19,7 +19,7 @@ use Rattle.reuse_db.specs.Databases.{AreRecords, hashes_of, is_lost, dangling, l
 use Rattle.reuse_db.specs.declared.record.Record.{Record}
 use Rattle.spec_find.specs.Found.{is_kept, links_of, links_in, IsChained}
 use Rattle.spec_find.specs.Marks.{flip, flipped, AreParents}
-use Rattle.spec_find.proofs.OrderLaws.{got_lt, got_is}
+use Rattle.spec_find.proofs.OrderLaws.{got_lt, got_is, hash_there}
 
 -- ---- arcs the other way
 
@@ -77,7 +77,7 @@ kept_there records right place entry got d has kept =
     let there : Contains records entry = (place, got_lt records place entry got, got_is records place entry entry got) in
     let not_lost = found_none (is_lost (hashes_of records)) entry.dependencies (lost_none (hashes_of records) records right.known entry there) d has in
     ⊎_elim
-    (λ no. absurd (false≢true (sym no ∙ kept)))
+    (λ fails. absurd (false≢true (sym fails ∙ kept)))
     (λ known. Contains-from_any {eq = bytes_eq} (λ x y e. (bytes_decides x y).0 e) d.0 (hashes_of records)
     (not_false (list_any (bytes_eq d.0) (hashes_of records)) known))
     (and_cases (is_kept d) (not (list_any (bytes_eq d.0) (hashes_of records))) not_lost)
@@ -118,8 +118,28 @@ pub links_same : (entry : Record) (done : ℕ) (d : Text × Kinds) → done < le
     → is_kept d ≡ false
     → flipped (map (λ x. (entry.hash, x.0)) (filter is_kept (take (done + 1) entry.dependencies)))
     ≡ flipped (map (λ x. (entry.hash, x.0)) (filter is_kept (take done entry.dependencies)))
-links_same entry done d lt is no =
-    rw (take_more entry.dependencies done d lt, ← is, filter-append is_kept (take done entry.dependencies) (d ∷ []), no, append-nil) refl
+links_same entry done d lt is fails =
+    rw (take_more entry.dependencies done d lt, ← is, filter-append is_kept (take done entry.dependencies) (d ∷ []), fails, append-nil) refl
+
+-- two records at one place are one, with one list of dependencies
+pub same_dependencies : (records : List Record) (place : ℕ) (e entry : Record) (items : List (Text × Kinds)) → slice_get records place ≡ Some e
+    → slice_get records place ≡ Some entry → items ≡ e.dependencies → items ≡ entry.dependencies
+same_dependencies records place e entry items got got_other is =
+    let both : Some e ≡ Some entry = sym got ∙ got_other in
+    let one : e ≡ entry = cc in
+    is ∙ ap (λ (x : Record). x.dependencies) one
+
+-- one arc more, of a dependency that is kept
+pub one_arc_more : (records : List Record) (place : ℕ) (entry : Record) → slice_get records place ≡ Some entry → (done : ℕ) (d : Text × Kinds)
+    → done < length entry.dependencies → d ≡ get_or entry.dependencies done d → is_kept d ≡ true → (a : ℕ) → IsAt (hashes_of records) d.0 a
+    → (links : List (Text × Text)) (arcs : List (ℕ × ℕ))
+    → AreNumbered (hashes_of records) (links ++ flipped (map (λ x. (entry.hash, x.0)) (filter is_kept (take done entry.dependencies)))) arcs
+    → AreNumbered (hashes_of records) (links ++ flipped (map (λ x. (entry.hash, x.0)) (filter is_kept (take (done + 1) entry.dependencies))))
+    (arcs ++ (a, place) ∷ [])
+one_arc_more records place entry got done d lt is kept a at links arcs so_far =
+    subst (λ l. AreNumbered (hashes_of records) (links ++ l) (arcs ++ (a, place) ∷ [])) (sym (links_kept entry done d lt is kept))
+    (numbered_push (hashes_of records) links (flipped (map (λ x. (entry.hash, x.0)) (filter is_kept (take done entry.dependencies))))
+    (d.0, entry.hash) arcs (a, place) so_far at (hash_there records place entry got))
 
 -- the links of one record more
 pub links_more : (records : List Record) (place : ℕ) (entry : Record) → slice_get records place ≡ Some entry

@@ -1,5 +1,5 @@
 -- Marks of records: one place more leads to all starts of a search.
-use Rattle.std.proofs.Common.{◌≡◌, ◌↔◌, refl, sym, ap, subst, ◌∙◌, ℕ, ◌+◌, ◌<◌, ◌≤◌, Bool, true, false, List, [], ◌∷◌, ◌++◌, length, get_or, replicate, All, Contains, Some, None, IsTrue, ◌⊎◌, inl, inr, ⊎_elim, arith}
+use Rattle.std.proofs.Common.{◌≡◌, ◌↔◌, refl, sym, ap, subst, ◌∙◌, ℕ, ◌+◌, ◌<◌, ◌≤◌, Bool, true, false, List, [], ◌∷◌, ◌++◌, length, get_or, replicate, All, Contains, Some, None, Result, Ok, Err, IfOk, IsTrue, ◌⊎◌, inl, inr, ⊎_elim, arith}
 use Rattle.std.specs.List.{slice_get}
 use Rattle.std.proofs.lemmas.Bool.{cases_lt, false≢true}
 use Rattle.std.proofs.lemmas.List.{get_or_append_left, get_or_past, get_or_push, length_push}
@@ -19,6 +19,11 @@ use Rattle.spec_find.specs.Found.{IsChained, IsMetBelow, installed_node}
 use Rattle.spec_find.specs.Marks.{AreParents, SuitsAt, AreStarts, AreAbove, AreMarks}
 use Rattle.spec_find.proofs.OrderLaws.{got_lt, got_is, got_from, hash_there}
 
+-- what two clauses on what was made tell
+pub ok_both : {T E : Type 0} (P Q R : T → Type 0) → ((x : T) → P x → Q x → R x) → (r : Result T E) → IfOk r P → IfOk r Q → IfOk r R
+ok_both P Q R both (Ok x) p q = both x p q
+ok_both P Q R both (Err e) p q = tt
+
 -- ---- one place more
 
 module _ (parents : List (List ℕ)) (starts : List ℕ) (within : AreWithin parents) (low : All (λ s. s < length parents) starts) where
@@ -34,16 +39,16 @@ module _ (parents : List (List ℕ)) (starts : List ℕ) (within : AreWithin par
       more = All-weaker (λ q. q < length parents) (λ q. q < length (parents ++ starts ∷ [])) (λ q lt. omega (arith, lt, length_push parents starts))
 
   old_arc : (p q : ℕ) → p < length parents → LeadsTo longer p q → LeadsTo parents p q
-  old_arc p q lt arc = subst (λ l. Contains l q) (get_or_append_left parents (starts ∷ []) p [] lt) arc
+  old_arc p q lt arc = subst (λ l. Contains l q) (get_or_append_left parents (starts ∷ []) [] p lt) arc
 
   new_arc : (p q : ℕ) → LeadsTo parents p q → LeadsTo longer p q
   new_arc p q arc = ⊎_elim
-      (λ lt. subst (λ l. Contains l q) (sym (get_or_append_left parents (starts ∷ []) p [] lt)) arc)
+      (λ lt. subst (λ l. Contains l q) (sym (get_or_append_left parents (starts ∷ []) [] p lt)) arc)
       (λ past. absurd (omega (arith, (subst (λ l. Contains l q) (get_or_past parents p [] past) arc).1)))
       (cases_lt p (length parents))
 
   arc_within : (p q : ℕ) → p < length parents → LeadsTo parents p q → q < length parents
-  arc_within p q lt arc = All-contains (λ x. x < length parents) (get_or parents p []) q (All-get_or _ parents p [] lt within) arc
+  arc_within p q lt arc = All-contains (λ x. x < length parents) (get_or parents p []) q (All-get_or (All (λ x. x < length parents)) parents p [] lt within) arc
 
   -- a path from an old place is an old one
   old_path : (p q : ℕ) → p < length parents → Path (LeadsTo longer) p q → Path (LeadsTo parents) p q
@@ -105,7 +110,7 @@ module _ (world : World) (records : List Record) (parents : List (List ℕ)) (pa
   pub starts_same : (upto : ℕ) (starts : List ℕ) (entry : Record) → AreStarts world records parents part name upto starts
       → slice_get records upto ≡ Some entry → suits world part name (installed_node entry) ≡ false
       → AreStarts world records parents part name (upto + 1) starts
-  starts_same upto starts entry so_far got no = record {
+  starts_same upto starts entry so_far got fails = record {
     exact = λ i. (
       λ has. let w = (so_far.exact i).0 has in (w.0, omega (arith, w.1), w.2, w.3),
       λ w. ⊎_elim
@@ -114,7 +119,7 @@ module _ (world : World) (records : List Record) (parents : List (List ℕ)) (pa
           let same : upto ≡ w.0 = omega (arith, le, w.1) in
           let is : Some w.2.0 ≡ Some entry = sym w.2.1 ∙ ap (slice_get records) (sym same) ∙ got in
           let one : w.2.0 ≡ entry = cc in
-          absurd (false≢true (sym no ∙ ap (λ e. suits world part name (installed_node e)) (sym one) ∙ w.2.2)))
+          absurd (false≢true (sym fails ∙ ap (λ e. suits world part name (installed_node e)) (sym one) ∙ w.2.2)))
           (cases_lt w.0 upto),
     );
   }
@@ -124,7 +129,7 @@ module _ (world : World) (records : List Record) (parents : List (List ℕ)) (pa
       → All (λ s. s < length parents) starts
   starts_low starts are told = all_from (λ s. s < length parents) starts (λ i has.
       let w = (told.exact i).0 has in
-      All-contains (λ x. x < length parents) (get_or parents w.0 []) i (All-get_or _ parents w.0 [] (omega (arith, w.1, are.each)) are.within) w.3)
+      All-contains (λ x. x < length parents) (get_or parents w.0 []) i (All-get_or (All (λ x. x < length parents)) parents w.0 [] (omega (arith, w.1, are.each)) are.within) w.3)
 
   -- what is marked is what the part is met below
   pub met_where_marked : (starts : List ℕ) (marks : List Bool) → part.name ≡ Some name → AreParents records parents

@@ -44,6 +44,11 @@ got_from [] i x d lt is = absurd (omega (arith, lt))
 got_from (y ∷ ys) zero x d lt is = ap (λ z. Some z) is
 got_from (y ∷ ys) (suc i) x d lt is = got_from ys i x d (omega (arith, lt)) is
 
+pub got_some : {X : Type 0} (xs : List X) (i : ℕ) → i < length xs → (x : X) × (slice_get xs i ≡ Some x)
+got_some [] i lt = absurd (omega (arith, lt))
+got_some (y ∷ ys) zero lt = (y, refl)
+got_some (y ∷ ys) (suc i) lt = got_some ys i (omega (arith, lt))
+
 -- the hash of a record stands at its place
 pub hash_there : (records : List Record) (i : ℕ) (entry : Record) → slice_get records i ≡ Some entry → IsAt (hashes_of records) entry.hash i
 hash_there records i entry got = (
@@ -99,13 +104,13 @@ texts_distinct (k ∷ ks) once = (
 
 -- where neither the other is below nor the two are one
 below_by : (p q : Text) (r : Ordering) → byte_cmp q p ≡ r → is_lt r ≡ false → (p ≡ q → ⊥) → is_lt (ordering_reverse r) ≡ true
-below_by p q Less is no differ = absurd (let bad : true ≡ false = no in cc)
-below_by p q Equal is no differ = absurd (differ (sym (ties_are_equal q p is)))
-below_by p q Greater is no differ = refl
+below_by p q Less is fails differ = absurd (let bad : true ≡ false = fails in cc)
+below_by p q Equal is fails differ = absurd (differ (sym (ties_are_equal q p is)))
+below_by p q Greater is fails differ = refl
 
 below : (p q : Text) → is_lt (byte_cmp q p) ≡ false → bytes_eq p q ≡ false → is_lt (byte_cmp p q) ≡ true
-below p q no differ = ap is_lt (nat_list_cmp_total.antisymm p q)
-    ∙ below_by p q (byte_cmp q p) refl no (λ same. absurd (false≢true (sym differ ∙ (bytes_decides p q).1 same)))
+below p q fails differ = ap is_lt (nat_list_cmp_total.antisymm p q)
+    ∙ below_by p q (byte_cmp q p) refl fails (λ same. absurd (false≢true (sym differ ∙ (bytes_decides p q).1 same)))
 
 module _ {X : Type 0} (key : X → Text) where
   rising : (xs : List X) → IsSortedBy (λ a b. is_lt (byte_cmp (key a) (key b))) xs → IsDistinct bytes_eq (map key xs) → rises byte_cmp (map key xs) ≡ true
@@ -114,7 +119,10 @@ module _ {X : Type 0} (key : X → Text) where
   rising (x ∷ []) sorted distinct = refl
   rising (x ∷ y ∷ zs) sorted distinct = and_from _ _
       (below (key x) (key y) (sorted 0 x (omega arith) (omega arith)) distinct.0.0)
-      (rising (y ∷ zs) (λ k d le lt. sorted (suc k) d (omega arith) (omega (arith, lt))) distinct.1)
+      (rising (y ∷ zs) (λ k d le lt.
+      let on : suc k + 1 ≡ suc (k + 1) = omega arith in
+      subst (λ n. is_lt (byte_cmp (key (get_or (x ∷ y ∷ zs) n d)) (key (get_or (x ∷ y ∷ zs) (suc k) d))) ≡ false) on
+      (sorted (suc k) d (omega arith) (omega (arith, lt)))) distinct.1)
 
   -- what is sorted and distinct is in order
   pub in_order : (xs : List X) → IsSortedBy (λ a b. is_lt (byte_cmp (key a) (key b))) xs → IsDistinct bytes_eq (map key xs) → IsInOrder byte_cmp key xs
@@ -144,7 +152,7 @@ flips p q = same_from_decides (bytes_eq p q) (bytes_eq q p) (bytes_decides p q)
 pub sorted_hashes : (records : List Record) (order sorted : List Placed) → HasNoTwice records → ArePlaced records order
     → IsPermutation order sorted → IsSortedBy (λ a b. is_lt (byte_cmp (hash_of a) (hash_of b))) sorted → AreByHash records sorted
 sorted_hashes records order sorted once are permuted by_hash = record {
-  order = in_order hash_of sorted by_hash (IsDistinct-IsPermutation bytes_eq flips (map hash_of order) (map hash_of sorted)
+  rises = in_order hash_of sorted by_hash (IsDistinct-IsPermutation bytes_eq flips (map hash_of order) (map hash_of sorted)
       (IsPermutation-map hash_of order sorted permuted)
       (subst (IsDistinct bytes_eq) (sym are.hashes) (texts_distinct (hashes_of records) (hashes_once records once))));
   places = All-permutation (λ placed. IsAt (hashes_of records) (hash_of placed) placed.place) order sorted permuted are.places;
@@ -197,7 +205,7 @@ module _ (records : List Record) (order : List Placed) (are : AreByHash records 
   -- what is found has the place of the hash
   pub found_place : (placed : Placed) → find_key byte_cmp hash_of order hash ≡ Some placed → IsAt (hashes_of records) hash placed.place
   found_place placed found =
-      let is = (found_iff nat_list_cmp_total ties_are_equal hash_of order hash placed are.order).0 found in
+      let is = (found_iff nat_list_cmp_total ties_are_equal hash_of order hash placed are.rises).0 found in
       subst (λ h. IsAt (hashes_of records) h placed.place) is.1
       (All-contains (λ (p : Placed). IsAt (hashes_of records) (hash_of p) p.place) order placed are.places is.0)
 
@@ -209,5 +217,5 @@ module _ (records : List Record) (order : List Placed) (are : AreByHash records 
       (All-contains (λ (p : Placed). IsAt (hashes_of records) (hash_of p) p.place) order w.0 are.places w.1) in
       let same : hash_of w.0 ≡ hash = sym at.1 ∙ get_or_default (hashes_of records) there.0 (hash_of w.0) hash at.0 ∙ there.2 in
       let found : find_key byte_cmp hash_of order hash ≡ Some w.0 =
-      (found_iff nat_list_cmp_total ties_are_equal hash_of order hash w.0 are.order).1 (w.1, same) in
+      (found_iff nat_list_cmp_total ties_are_equal hash_of order hash w.0 are.rises).1 (w.1, same) in
       let no : None ≡ Some w.0 = sym none ∙ found in cc

@@ -19,6 +19,6 @@ pub record ArePlaced (records : List Record) (order : List Placed) : Type 0 wher
 
 -- the same by bytes of hashes, each hash once
 pub record AreByHash (records : List Record) (order : List Placed) : Type 0 where
-  pub order : IsInOrder byte_cmp hash_of order
+  pub rises : IsInOrder byte_cmp hash_of order
   pub places : All (λ placed. IsAt (hashes_of records) (hash_of placed) placed.place) order
   pub each : (place : ℕ) → place < length records → (placed : Placed) × Contains order placed × (placed.place ≡ place)

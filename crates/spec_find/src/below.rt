@@ -1,5 +1,5 @@
 // The records below which a part after `^` is met.
-ghost use Rattle.std.specs.Prelude.{◌≡◌, ℕ, ◌<◌, ◌≤◌, ◌++◌, Some, All, length, IfOk, OnOk};
+ghost use Rattle.std.specs.Prelude.{◌≡◌, ℕ, ◌<◌, ◌≤◌, ◌++◌, All, length, IfOk, OnOk};
 ghost use Rattle.graph_core.specs.OfReachability.Places.{AreWithin};
 ghost use Rattle.reuse_db.specs.Databases.{AreRecords};
 ghost use Rattle.spec_find.specs.Found.{IsMetBelow};
@@ -54,8 +54,7 @@ fn starts_of(
     part: &Part,
     name: &str,
 ) -> Result<List<usize>, AllocError>
-    requires name { part.now.name ≡ Some name.now }
-    requires each { length parents.now ≡ length records.now }
+    requires { length parents.now ≡ length records.now }
     ensures { IfOk result (AreStarts world.now records.now parents.now part.now name.now
         (length records.now)) }
 {

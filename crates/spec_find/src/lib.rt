@@ -7,10 +7,11 @@
 #![tactic(auto)]
 
 mod below;
-mod find;
 mod links;
 mod node;
 mod order;
+mod search;
 
-pub use find::find;
 pub use node::installed_node;
+pub use search::find;
+

@@ -1,5 +1,5 @@
 // The node that stands for a record, and what parts of a spec ask of it.
-ghost use Rattle.std.specs.Prelude.{◌≡◌, IfOk, Some};
+ghost use Rattle.std.specs.Prelude.{◌≡◌, IfOk};
 ghost use Rattle.condition_rules.specs.Meets.{meets, meets_name};
 ghost use Rattle.condition_rules.specs.Holds.{suits};
 ghost use Rattle.spec_find.specs.Found.{installed_node};
@@ -42,7 +42,8 @@ pub(crate) fn record_meets(
     Ok(meets(world, part, &node))
 }
 
-/// Whether a record's node suits a part of this name; it is only made where the names agree, or the name is a virtual.
+/// Whether a record's node suits a part that has this name; it is only made where the names agree, or the name is a
+/// virtual.
 pub(crate) fn record_suits(
     alloc: Global,
     world: &World,
@@ -50,10 +51,9 @@ pub(crate) fn record_suits(
     name: &str,
     entry: &Record,
 ) -> Result<bool, AllocError>
-    requires { part.now.name ≡ Some name.now }
     ensures { IfOk result (λ is. is ≡ suits world.now part.now name.now (installed_node entry.now)) }
 {
-    if !world.is_virtual(name) && entry.name.as_str() != name {
+    if !world.is_virtual(name) && !has_name(part, entry) {
         return Ok(false);
     }
     let node = installed_node(alloc, entry)?;

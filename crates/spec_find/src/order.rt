@@ -31,12 +31,12 @@ pub(crate) fn by_hash<'a>(
     requires { HasNoTwice records.now }
     ensures { IfOk result (λ order. AreByHash records.now order.items) }
 {
-    let mut order = placed(alloc, records)?;
+    let mut order = hash_places(alloc, records)?;
     order.sort_by(|a, b| a.hash.cmp(b.hash))?;
     Ok(order)
 }
 
-fn placed<'a>(alloc: Global, records: &'a [Record]) -> Result<Vec<Placed<'a>>, AllocError>
+fn hash_places<'a>(alloc: Global, records: &'a [Record]) -> Result<Vec<Placed<'a>>, AllocError>
     ensures { IfOk result (λ order. ArePlaced records.now order.items) }
 {
     let mut order = Vec::new(alloc);

@@ -1,6 +1,6 @@
 use Rattle.std.proofs.Common.{◌≡◌, false, take, map, filter, get_or}
 use Rattle.spec_find.specs.declared.order.Placed.{Placed}
-use Rattle.spec_find.proofs.find.places_in.Given as goal
+use Rattle.spec_find.proofs.search.places_in.Given as goal
 
 abbrev pub invariant-loop-placed : goal.invariant-loop-placed
 invariant-loop-placed l = l.places.items

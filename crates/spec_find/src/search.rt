@@ -1,5 +1,5 @@
 // The search for records that meet a spec.
-ghost use Rattle.std.specs.Prelude.{◌≡◌, ◌≤◌, ◌↔◌, ℕ, ◌<◌, [], length, map, filter, false, IfOk, OnOk, slice_index_or};
+ghost use Rattle.std.specs.Prelude.{◌≡◌, ◌≤◌, ◌↔◌, ℕ, ◌<◌, [], length, map, filter, false, IfOk, OnOk, slice_index_or, slice_set};
 ghost use Rattle.graph_core.specs.OfReachability.Places.{IsMarked};
 ghost use Rattle.reuse_db.specs.Databases.{AreRecords};
 ghost use Rattle.spec_find.specs.Found.{AreFound};
@@ -100,9 +100,16 @@ fn keep_both(marks: &mut Vec<bool>, others: &Bits)
 {
     for place in 0..marks.len() {
         if !others.get(place) {
-            marks[place] = false;
+            clear(marks, place);
         }
     }
+}
+
+fn clear(marks: &mut Vec<bool>, place: usize)
+    requires { place < length marks.old.items }
+    ensures { marks.new.items ≡ slice_set marks.old.items place false }
+{
+    marks[place] = false;
 }
 
 /// The places of the marked records, by bytes of their hashes.

@@ -1,6 +1,6 @@
 use Rattle.std.proofs.Common.{◌≡◌, take, length}
 use Rattle.spec_find.specs.Marks.{AreMarks, AreParents, MeetsParts}
-use Rattle.spec_find.proofs.find.keep_met.Given as goal
+use Rattle.spec_find.proofs.search.keep_met.Given as goal
 
 abbrev pub invariant-loop-part : goal.invariant-loop-part
 invariant-loop-part l = record {
