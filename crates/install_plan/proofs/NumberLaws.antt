@@ -308,7 +308,7 @@ module _ (heads : List (List ℕ)) where
         → Settles numbers (set numbers waiter.place (top + 1)) waiting waiting settled new_settled waiter.place
     settles_number top all none above there new_settled settled_is =
         let passed_all : (k : ℕ) → waiter.next ≤ k → k < length (heads_at heads waiter.place)
-            → 1 ≤ number_at numbers (number_at (heads_at heads waiter.place) k) =
+        → 1 ≤ number_at numbers (number_at (heads_at heads waiter.place) k) =
         λ k le lt. (rw same at passed) k le (omega (arith, lt, all, ap length same)) in
         let above_all = rw same at above in
         let there_one = rw same at there in

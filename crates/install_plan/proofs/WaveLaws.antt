@@ -147,12 +147,15 @@ module _ (g : Content) (graph : IsGraph g) (numbers : List ℕ) (each : length n
       rw (built_more g.nodes place node lt is w.0)
       (subst (IsGreatest (wave_in g numbers) (built_of (take place g.nodes) ++ node.name ∷ [])) (wave ∙ sym w.2)
       (greatest_more (wave_in g numbers) (built_of (take place g.nodes)) node.name old so_far (omega (arith, wave, w.1)))))
-      (λ w. subst (IsGreatest (wave_in g numbers) (built_of (take (place + 1) g.nodes))) (sym w.1) (⊎_elim
+      (λ (w : ((is_built node ≡ false) ⊎ (get_or numbers place 0 ≤ old)) × (new ≡ old)).
+      let same : IsGreatest (wave_in g numbers) (built_of (take (place + 1) g.nodes)) old = ⊎_elim
       (λ passes. rw (built_more g.nodes place node lt is passes)
       (greatest_same (wave_in g numbers) (built_of (take place g.nodes)) node.name old so_far
-      (⊎_elim (λ fails. absurd (false≢true (sym fails ∙ passes))) (λ le. omega (arith, node_wave place node lt is, le)) w.0)))
+      (⊎_elim {B = get_or numbers place 0 ≤ old} (λ fails. absurd (false≢true (sym fails ∙ passes)))
+      (λ le. omega (arith, node_wave place node lt is, le)) w.0)))
       (λ fails. rw (built_same g.nodes place node lt is fails) so_far)
-      (cases_Bool (is_built node)))) which
+      (cases_Bool (is_built node)) in
+      subst (IsGreatest (wave_in g numbers) (built_of (take (place + 1) g.nodes))) (sym w.1) same) which
 
   -- a node to build goes to the wave of its number
   pub sorted_step : (place : ℕ) (node : Node) (waves : List (List Text)) (count number : ℕ) → place < length g.nodes

@@ -156,21 +156,21 @@ module _ (order : List Placed) (marks : List Bool) (done : ℕ) (d : Placed) (pl
       → places ++ (get_or order done d).place ∷ []
       ≡ map (λ (p : Placed). p.place) (filter (λ (p : Placed). get_or marks p.place false) (take (done + 1) order))
   places_more passes = rw (
-      take_more order done d lt,
-      filter-append (λ (p : Placed). get_or marks p.place false) (take done order) (get_or order done d ∷ []),
-      passes,
-      map-append,
-      ← so_far,
-    ) refl
+    take_more order done d lt,
+    filter-append (λ (p : Placed). get_or marks p.place false) (take done order) (get_or order done d ∷ []),
+    passes,
+    map-append,
+    ← so_far,
+  ) refl
 
   pub places_same : get_or marks (get_or order done d).place false ≡ false
       → places ≡ map (λ (p : Placed). p.place) (filter (λ (p : Placed). get_or marks p.place false) (take (done + 1) order))
   places_same fails = rw (
-      take_more order done d lt,
-      filter-append (λ (p : Placed). get_or marks p.place false) (take done order) (get_or order done d ∷ []),
-      fails,
-      append-nil,
-    ) so_far
+    take_more order done d lt,
+    filter-append (λ (p : Placed). get_or marks p.place false) (take done order) (get_or order done d ∷ []),
+    fails,
+    append-nil,
+  ) so_far
 
 -- ---- marks that stay
 

@@ -14,4 +14,3 @@ mod search;
 
 pub use node::installed_node;
 pub use search::find;
-

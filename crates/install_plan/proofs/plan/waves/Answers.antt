@@ -26,8 +26,12 @@ returns c =
     let found = rw c.as_slice.ensures.value at c.in_ok-numbers.ensures in
     let first = earliest g c.in_ok-children.children.items children graph numbers found in
     rw c.from_vec.ensures (record {
-      earliest = (wave_in g numbers, first, are_waves g graph (wave_in g numbers) c.in_ok-waves.waves.items
-          (rw c.as_slice-2.ensures.value at c.in_ok-waves.ensures) first.schedule.from_one
-          (steps_down g c.in_ok-children.children.items children graph numbers found));
+      earliest = (
+        wave_in g numbers,
+        first,
+        are_waves g graph (wave_in g numbers) c.in_ok-waves.waves.items
+            (rw c.as_slice-2.ensures.value at c.in_ok-waves.ensures) first.schedule.from_one
+            (steps_down g c.in_ok-children.children.items children graph numbers found),
+      );
       down = rw c.as_slice-3.ensures.value at c.in_ok-chain.ensures;
     })

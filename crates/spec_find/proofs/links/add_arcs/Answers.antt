@@ -38,8 +38,11 @@ loop-needed-preserved c =
       | else-is_kept w ↦ λ links entry got start.
           let deps = same_dependencies c.args.records.now c.args.place c.index-records-place.result entry c.as_slice-needed-items.result.now own got
           c.as_slice-needed-items.ensures in
-          rw (w.arcs-is, links_same entry c.loop-needed.needed-index c.needed-item.result (rw deps at c.loop-needed-test.true)
-          (rw deps at c.needed-item.is) (sym c.is_kept.ensures ∙ w.if-is_kept.false)) (c.loop-needed.invariant links entry got start)
+          rw (
+            w.arcs-is,
+            links_same entry c.loop-needed.needed-index c.needed-item.result (rw deps at c.loop-needed-test.true)
+                (rw deps at c.needed-item.is) (sym c.is_kept.ensures ∙ w.if-is_kept.false),
+          ) (c.loop-needed.invariant links entry got start)
     ]
 
 pub returns : goal.returns
