@@ -33,7 +33,7 @@ returns-then-is_search-clause-specs g c =
 -- ---- a problem
 
 pub read_posed-requires : goal.read_posed-requires
-read_posed-requires g c =
+read_posed-requires g c κs long =
     sym (ap (λ (k : Command). is_search k.work) c.command.view_is) ∙ (sym c.is_search.ensures ∙ c.if-is_search.false)
 
 pub returns-else-is_search-clause-read : goal.returns-else-is_search-clause-read
