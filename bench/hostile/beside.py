@@ -92,7 +92,8 @@ def kills(other, options):
             time.sleep(drawn.uniform(0, took))
             process.kill()
         held = other.held()
-        count.saw(held)
+        if held != "lost":
+            count.saw(held)
         count.add("lost" if held == "lost" else None, str(number))
     return count
 
