@@ -12,22 +12,28 @@ spack_concretize judge REPO SETTINGS DATABASE LOCK SPEC..
     says whether the graph of the lock file LOCK is valid, and what it costs
 spack_concretize check REPO SETTINGS DATABASE LOCK CERT SPEC..
     says whether it is the best besides, as the certificate CERT shows
+spack_concretize fresh REPO SETTINGS DATABASE LOCK SPEC..
+    says whether it is still the best, which takes a search and no certificate
 spack_concretize refute REPO SETTINGS DATABASE CERT SPEC..
     says whether the certificate CERT shows that there is no valid graph
 spack_concretize explain REPO SETTINGS DATABASE SPEC..
     says that there is a graph, or which directives and specs stand against one
+spack_concretize find REPO SETTINGS DATABASE SPEC..
+    says which installed packages meet the spec, which need not name one
+spack_concretize plan REPO SETTINGS DATABASE LOCK SPEC..
+    says in which waves the packages of the lock file LOCK can be built
 spack_concretize trial N SEED
     finds the best graph of N packages (1 to 1,000) that are made from SEED
 
 REPO      a folder with packages/NAME/package.py           docs/formats/recipes.md
 SETTINGS  a JSON file, or - for the standard settings      docs/formats/settings.md
 DATABASE  what is installed, or - for nothing              docs/formats/database.md
-LOCK      where the lock file is put; judge reads it       docs/formats/lock-file.md
+LOCK      where the lock file is put; the others read it   docs/formats/lock-file.md
 CERT      the log of the search, or - for none             docs/CERTIFICATES.md
 SPEC      such as 'hdf5@1.14: +mpi ^mpich'                 docs/formats/specs.md
 
 0 done  1 unsatisfiable  2 usage  3 undecided  4 bad input  5 read fault  6 write fault  7 too large  8 refused
-9 no memory  10 no words  70 no program could be built. What a refusal means: docs/WHEN-REFUSED.md
+9 no memory  10 no words  11 stale  70 no program could be built. What a refusal means: docs/WHEN-REFUSED.md
 
 spack_concretize --where | --version | --help | COMMAND --help
     which file runs, and why; of which sources it is; this text, or that of one command. They run nothing, and build nothing.

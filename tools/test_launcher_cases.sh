@@ -124,6 +124,10 @@ cases_of_words() {
   done
   call judge --help
   check "help about one command has no other" sh -c '! grep -q "^spack_concretize explain\|^CERT"' <<<"$out"
+  for command in fresh find plan; do
+    call help $command
+    check "help $command has its line" sh -c 'grep -q "^spack_concretize $1 REPO SETTINGS DATABASE .*SPEC"' - "$command" <<<"$out"
+  done
   call end 2
   check "where the program says Usage, the wrong word is named behind it" says '^spack_concretize: word 1, `end`, is no command'
   check "and the status stays" test "$status" = 2

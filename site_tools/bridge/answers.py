@@ -5,11 +5,13 @@ from typing import Any, Optional
 from . import criteria
 from .fault_lines import ANSWERS
 
-NAMES = {0: "Done", 1: "Unsatisfiable", 3: "Undecided", 10: "NoWords", 70: "NoProgram", **ANSWERS}
+NAMES = {0: "Done", 1: "Unsatisfiable", 3: "Undecided", 10: "NoWords", 11: "Stale", 70: "NoProgram", **ANSWERS}
 NODE = re.compile(
     r"(?P<name>\S+?)@=(?P<version>\S+)(?P<variants>(?: [^%\s]\S*)*?)(?: %(?P<compiler>\S+?)@=(?P<of>\S+))?"
     r" os=(?P<os>\S+) target=(?P<target>\S+) (?P<origin>built|external|installed)(?: (?P<behind>\S+))?"
 )
+
+HASH = re.compile(r"[a-z2-7]{32}")
 
 
 def variants(text: str) -> dict[str, list[str]]:
@@ -25,7 +27,10 @@ def variants(text: str) -> dict[str, list[str]]:
 
 
 def node(line: str) -> Optional[dict[str, Any]]:
-    """A node's line as data; None where it is none."""
+    """A node's line as data; None where it is none. That of an installed package begins with its hash."""
+    hash_of, _, behind = line.partition(" ")
+    if HASH.fullmatch(hash_of) and behind.endswith(" installed"):
+        return node(f"{behind} {hash_of}")
     each = NODE.fullmatch(line)
     if each is None:
         return None
@@ -55,8 +60,15 @@ def data(out: str) -> dict[str, Any]:
                 {"number": place, "value": value, "words": names[place - 1]}
                 for place, value in enumerate(found["vector"], start=1) if value
             ]
-        elif word in ("valid", "accepted", "satisfiable", "fresh", "stale", "broken") and not rest:
+        elif word in ("valid", "accepted", "satisfiable", "fresh", "stale") and not rest:
             found["said"] = word
+        elif word == "wave":
+            found.setdefault("waves", []).append(rest.split(" ")[1:])
+        elif word == "chain":
+            found["chain"] = rest.split()
+            found.setdefault("waves", [])
+        elif word == "found" and rest.isdigit():
+            found["found"] = int(rest)
         elif word == "undecided":
             found["budget"] = int(rest)
         elif word == "learnt" and rest.isdigit():

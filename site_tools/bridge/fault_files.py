@@ -20,6 +20,8 @@ TAKES = {
     "fresh": ("repo", "settings", "database", "lock"),
     "refute": ("repo", "settings", "database", "cert"),
     "explain": ("repo", "settings", "database"),
+    "find": ("repo", "settings", "database"),
+    "plan": ("repo", "settings", "database", "lock"),
 }
 
 

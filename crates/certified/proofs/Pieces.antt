@@ -4,16 +4,19 @@ use Rattle.proof_log.specs.declared.line.Line.{Line}
 use Rattle.proof_log.specs.declared.reader.LogFault.{LogFault}
 use Rattle.proof_log.specs.declared.reader.LogFault.TheVariants.{BadLine, OutOfMemory}
 use Rattle.proof_log.specs.Readings.{Place, reading, Takes}
-use Rattle.log_checker.specs.Steps.{Progress, run}
+use Rattle.log_checker.specs.Steps.{Progress, run_lines}
 use Rattle.log_checker.proofs.Accepted.{run-append}
 use Rattle.certified.specs.Texts.{TakesPiece}
 
 -- a piece was read, and the lines that came were taken
 pub piece-taken : (old new : Progress) (from to : Place) (piece : List ℕ) (lines : List Line) → Takes from to piece [] lines
-    → new ≡ run old lines → TakesPiece old new from to piece
+    → new ≡ run_lines old lines → TakesPiece old new from to piece
 piece-taken old new from to piece lines t e begin bytes h =
-    let r = t bytes h.0 in
-    (r.0, e ∙ ap (run old) r.3 ∙ ap (λ p. run p r.1) h.1 ∙ sym (run-append begin (reading bytes).lines r.1) ∙ ap (run begin) (sym r.2))
+    let r = t bytes h.0 in (
+      r.0,
+      e ∙ ap (run_lines old) r.3 ∙ ap (λ p. run_lines p r.1) h.1 ∙ sym (run-append begin (reading bytes).lines r.1)
+          ∙ ap (run_lines begin) (sym r.2),
+    )
 
 pub ok-not : (r : Result (Unit {0}) LogFault) (x : Unit {0}) → r ≡ Ok x → r ≢ Err OutOfMemory
 ok-not r x e q = differ (sym e ∙ q)

@@ -18,7 +18,7 @@ use Rattle.proof_log.proofs.LogLaws.{log-reads}
 use Rattle.log_checker.specs.declared.step.Step.{Step}
 use Rattle.log_checker.specs.declared.step.Step.TheVariants.{Accepted, Refused}
 use Rattle.log_checker.specs.declared.step.Why.{Why}
-use Rattle.log_checker.specs.Steps.{State, Progress, Going, Stopped, begun, fault, accept, run, told, finish_on}
+use Rattle.log_checker.specs.Steps.{CheckerState, Progress, Going, Stopped, begun, fault, accept, run_lines, told, finish_on}
 use Rattle.log_checker.specs.Steps as steps
 use Rattle.log_checker.specs.Kinds.{IsLogOf, IsSoFar}
 use Rattle.log_checker.proofs.Accepted.{run-accept, run-refuse}
@@ -72,15 +72,15 @@ refused-apart n w q = cc
 bad-apart : (n : ℕ) (a : Step) → BadLine n ≡ Checked a → ⊥
 bad-apart n a q = cc
 
-stopped-apart : (n : ℕ) (w : Why) (s : State) → Stopped n w ≡ Going s → ⊥
+stopped-apart : (n : ℕ) (w : Why) (s : CheckerState) → Stopped n w ≡ Going s → ⊥
 stopped-apart n w s q = cc
 
 -- a checker that goes on has counted its lines
-run-count : (s : State) (ls : List Line) (t : State) → run (Going s) ls ≡ Going t → t.lines ≡ s.lines + length ls
+run-count : (s : CheckerState) (ls : List Line) (t : CheckerState) → run_lines (Going s) ls ≡ Going t → t.lines ≡ s.lines + length ls
 run-count s [] t e = let h : s.lines + 1 ≡ t.lines + 1 = ap steps.line_of e in omega (arith, h)
 run-count s (l ∷ ls) t e = by (run-count (accept s l) ls t) (fault s l) refl
   where
-    by : (run (Going (accept s l)) ls ≡ Going t → t.lines ≡ s.lines + 1 + length ls) → (o : Option Why) → fault s l ≡ o
+    by : (run_lines (Going (accept s l)) ls ≡ Going t → t.lines ≡ s.lines + 1 + length ls) → (o : Option Why) → fault s l ≡ o
         → t.lines ≡ s.lines + length (l ∷ ls)
     by more None f = let h = more (sym (run-accept s l ls f) ∙ e) in omega (arith, h)
     by more (Some w) f = absurd (stopped-apart (s.lines + 1) w t (sym (run-refuse s l ls w f) ∙ e))
@@ -112,7 +112,7 @@ pub text-accepted : (s : Clauses) (bits : List Lit) (values : Option (List Bool)
 text-accepted s bits values text a = (to, from)
   where
     p : Progress
-    p = run (Going (begun s bits values)) (reading text).lines
+    p = run_lines (Going (begun s bits values)) (reading text).lines
 
     log : (finish_on p ≡ Accepted) ↔ IsLogOf s.vars (clauses_of s.entries) bits values (reading text).lines
     log = accepted-is s.vars (clauses_of s.entries) bits values (reading text).lines a (reading-typed text)
@@ -129,13 +129,14 @@ text-accepted s bits values text a = (to, from)
 pub text-bad : (s : Clauses) (bits : List Lit) (values : Option (List Bool)) (text : List ℕ) (n : ℕ) → AllClauses (clauses_of s.entries)
     → answer_of (begun s bits values) text ≡ BadLine n
     → (n ≡ length (reading text).lines + 1) × IsSoFar s.vars (clauses_of s.entries) bits values (reading text).lines
-text-bad s bits values text n a q = by (run (Going (begun s bits values)) (reading text).lines) refl q
+text-bad s bits values text n a q = by (run_lines (Going (begun s bits values)) (reading text).lines) refl q
   where
-    number : (t : State) (b : Bool) → (if b then BadLine (t.lines + 1) else Checked (finish_on (Going t))) ≡ BadLine n → t.lines + 1 ≡ n
+    number : (t : CheckerState) (b : Bool) → (if b then BadLine (t.lines + 1) else Checked (finish_on (Going t))) ≡ BadLine n
+        → t.lines + 1 ≡ n
     number t true q = bad-inner (t.lines + 1) n q
     number t false q = absurd (bad-apart n (finish_on (Going t)) (sym q))
 
-    by : (p : Progress) → run (Going (begun s bits values)) (reading text).lines ≡ p
+    by : (p : Progress) → run_lines (Going (begun s bits values)) (reading text).lines ≡ p
         → answer_at p (reading text).failed (reading text).rest ≡ BadLine n
         → (n ≡ length (reading text).lines + 1) × IsSoFar s.vars (clauses_of s.entries) bits values (reading text).lines
     by (Stopped m w) e q = absurd (bad-apart n (Refused m w) (sym q))
@@ -147,7 +148,8 @@ text-bad s bits values text n a q = by (run (Going (begun s bits values)) (readi
         )
 
 -- the text of lines that may be written
-pub text-written : (s : State) (lines : List Line) → AreWritable lines
-    → answer_of s (log_text lines) ≡ Checked (finish_on (run (Going s) lines))
+pub text-written : (s : CheckerState) (lines : List Line) → AreWritable lines
+    → answer_of s (log_text lines) ≡ Checked (finish_on (run_lines (Going s) lines))
 text-written s lines w =
-    ap (λ r. answer_at (run (Going s) r.lines) r.failed r.rest) (log-reads lines w) ∙ whole (run (Going s) lines) false [] refl refl
+    ap (λ r. answer_at (run_lines (Going s) r.lines) r.failed r.rest) (log-reads lines w)
+    ∙ whole (run_lines (Going s) lines) false [] refl refl

@@ -7,7 +7,7 @@ ghost use Rattle.proof_log.specs.Known.{AllClauses};
 ghost use Rattle.proof_log.specs.Lines.{AllLines, OfLearnt};
 ghost use Rattle.proof_log.specs.Certificates.{bits_at, IsBelow, IsCertificate, IsRefutation};
 ghost use Rattle.log_checker.specs.declared.step.Step.TheVariants.{Accepted};
-ghost use Rattle.log_checker.specs.Steps.{Going, start, run, finish_on};
+ghost use Rattle.log_checker.specs.Steps.{Going, starting_state, run_lines, finish_on};
 ghost use Rattle.log_checker.specs.Kinds.{IsLogOf};
 ghost use Rattle.certified.specs.Encodings.{MeetsAll};
 
@@ -43,7 +43,7 @@ pub(crate) fn feed<R: Threads + Sync>(
     checker: &mut Checker,
     lines: &[Line],
 ) -> Result<(), AllocError>
-    ensures { OnOk result (checker.new ≡ run checker.old lines.now) }
+    ensures { OnOk result (checker.new ≡ run_lines checker.old lines.now) }
 {
     let mut rest = lines;
     while !rest.is_empty() {

@@ -8,7 +8,7 @@ ghost use Rattle.proof_log.specs.Certificates.{bits_at, IsBelow, IsCertificate, 
 ghost use Rattle.proof_log.specs.Readings.{reading, log_text, AtLineStart, AreWritable};
 ghost use Rattle.log_checker.specs.declared.step.Step.TheVariants.{Accepted};
 ghost use Rattle.log_checker.specs.Kinds.{IsLogOf, IsSoFar};
-ghost use Rattle.log_checker.specs.Steps.{State, Going, begun, run, finish_on};
+ghost use Rattle.log_checker.specs.Steps.{CheckerState, Going, begun, run_lines, finish_on};
 ghost use Rattle.certified.specs.Encodings.{MeetsAll, IsEncoding};
 ghost use Rattle.certified.specs.Texts.{answer_of, is_settled_by};
 ghost use Rattle.certified.specs.declared.text.TextAnswer.TheVariants.{Checked, BadLine};
@@ -27,7 +27,7 @@ pub fn clause_laws()
 
 /// What the answer to a text means, and when no further byte changes it.
 pub fn text_laws()
-    ensures settled { (s : State) (text more : List ℕ) → is_settled_by s text ≡ true
+    ensures settled { (s : CheckerState) (text more : List ℕ) → is_settled_by s text ≡ true
         → answer_of s (text ++ more) ≡ answer_of s text }
     ensures accepted { (s : Clauses) (bits : List Lit) (values : Option (List Bool))
         (text : List ℕ) → AllClauses (clauses_of s.entries)
@@ -39,8 +39,8 @@ pub fn text_laws()
         → answer_of (begun s bits values) text ≡ BadLine n
         → (n ≡ length (reading text).lines + 1)
         × IsSoFar s.vars (clauses_of s.entries) bits values (reading text).lines }
-    ensures written { (s : State) (lines : List Line) → AreWritable lines
-        → answer_of s (log_text lines) ≡ Checked (finish_on (run (Going s) lines)) }
+    ensures written { (s : CheckerState) (lines : List Line) → AreWritable lines
+        → answer_of s (log_text lines) ≡ Checked (finish_on (run_lines (Going s) lines)) }
 {}
 
 /// In a sound and complete encoding no right thing has smaller bits than one whose bits are certified,

@@ -8,7 +8,7 @@ use Rattle.clause_store.specs.Lits.{lit_eq, clause_of}
 use Rattle.clause_formulas.specs.declared.defined.Defined.{Defined}
 use Rattle.clause_formulas.specs.declared.defined.Defined.TheVariants.{Known, By}
 use Rattle.clause_formulas.specs.Statements.{Statement, atom, never, or, no}
-use Rattle.clause_formulas.specs.Drafts.{Draft, empty, with_defined, reverse_of}
+use Rattle.clause_formulas.specs.Drafts.{ClauseDraft, empty, draft_with, reverse_of}
 use Rattle.clause_formulas.specs.Gated.{Gate, Gated, gate_of}
 use Rattle.clause_formulas.specs.Built.{Shared, or_on, or_in, found_or, by_clause, named_in, spread_in, define_in}
 use Rattle.clause_formulas.proofs.DraftLaws.{or-false, or-assoc}
@@ -92,42 +92,43 @@ unfolding named_in
 named_parts-again s t ls true h = refl
 named_parts-again s t ls false h = by_clause-again s t (clause_of ls) h
 
-named-later : (s : Gated) (d : Draft) → Later s (named_in s d).state
+named-later : (s : Gated) (d : ClauseDraft) → Later s (named_in s d).state
 named-later s d = named_parts-later s d.lits d.always
 
-named-again : (s t : Gated) (d : Draft) → Later (named_in s d).state t → named_in t d ≡ record { state = t; answer = (named_in s d).answer }
+named-again : (s t : Gated) (d : ClauseDraft) → Later (named_in s d).state t
+    → named_in t d ≡ record { state = t; answer = (named_in s d).answer }
 named-again s t d h = named_parts-again s t d.lits d.always h
 
 -- a draft with the literals of another
-abbrev joined : Draft → Draft → Draft
+abbrev joined : ClauseDraft → ClauseDraft → ClauseDraft
 joined d k = record { lits = d.lits ++ k.lits; always = d.always || k.always }
 
-joined-empty : (d : Draft) → d ≡ joined d empty
+joined-empty : (d : ClauseDraft) → d ≡ joined d empty
 joined-empty d = λ i. record { lits = sym (append-nil d.lits) i; always = sym (or-false d.always) i }
 
-empty-joined : (d : Draft) → joined empty d ≡ d
+empty-joined : (d : ClauseDraft) → joined empty d ≡ d
 empty-joined d = refl
 
-joined-assoc : (d k j : Draft) → joined (joined d k) j ≡ joined d (joined k j)
+joined-assoc : (d k j : ClauseDraft) → joined (joined d k) j ≡ joined d (joined k j)
 joined-assoc d k j = λ i. record { lits = append_assoc d.lits k.lits j.lits i; always = or-assoc d.always k.always j.always i }
 
 -- what a value adds
-abbrev adds : Defined → Draft
+abbrev adds : Defined → ClauseDraft
 adds (Known b) = record { lits = []; always = b }
 adds (By l) = record { lits = l ∷ []; always = false }
 
-with-adds : (d : Draft) (x : Defined) → with_defined d x ≡ joined d (adds x)
+with-adds : (d : ClauseDraft) (x : Defined) → draft_with d x ≡ joined d (adds x)
 with-adds d (Known b) = λ i. record { lits = sym (append-nil d.lits) i; always = d.always || b }
 with-adds d (By l) = λ i. record { lits = d.lits ++ l ∷ []; always = sym (or-false d.always) i }
 
 -- two runs of one formula add the same; the later one finds all gates
-record Again (s t : Gated) (d e : Draft) (f : Statement) : Type 0 where
-  more : Draft
+record Again (s t : Gated) (d e : ClauseDraft) (f : Statement) : Type 0 where
+  more : ClauseDraft
   first : (spread_in s d f).answer ≡ joined d more
   second : spread_in t e f ≡ record { state = t; answer = joined e more }
 
 -- gates are only added to
-pub spread-later : (f : Statement) (s : Gated) (d : Draft) → Later s (spread_in s d f).state
+pub spread-later : (f : Statement) (s : Gated) (d : ClauseDraft) → Later s (spread_in s d f).state
 spread-later (atom l) s d = Later-refl s
 spread-later never s d = Later-refl s
 spread-later (or f g) s d =
@@ -137,16 +138,16 @@ spread-later (no f) s d =
     let m = spread_in s empty f in
     Later-trans s m.state (named_in m.state m.answer).state (spread-later f s empty) (named-later m.state m.answer)
 
-spread-again : (f : Statement) (s t : Gated) (d e : Draft) → Later (spread_in s d f).state t → Again s t d e f
+spread-again : (f : Statement) (s t : Gated) (d e : ClauseDraft) → Later (spread_in s d f).state t → Again s t d e f
 spread-again (atom l) s t d e h = record {
   more = adds (By l);
   first = with-adds d (By l);
-  second = ap (λ (k : Draft). let made : Shared Draft = record { state = t; answer = k } in made) (with-adds e (By l));
+  second = ap (λ (k : ClauseDraft). let made : Shared ClauseDraft = record { state = t; answer = k } in made) (with-adds e (By l));
 }
 spread-again never s t d e h = record {
   more = empty;
   first = joined-empty d;
-  second = ap (λ (k : Draft). let made : Shared Draft = record { state = t; answer = k } in made) (joined-empty e);
+  second = ap (λ (k : ClauseDraft). let made : Shared ClauseDraft = record { state = t; answer = k } in made) (joined-empty e);
 }
 spread-again (or f g) s t d e h =
     let m = spread_in s d f in
@@ -156,8 +157,9 @@ spread-again (or f g) s t d e h =
     record {
       more = joined a.more b.more;
       first = b.first ∙ ap (λ k. joined k b.more) a.first ∙ joined-assoc d a.more b.more;
-      second = ap (λ (k : Shared Draft). spread_in k.state k.answer g) a.second ∙ b.second
-          ∙ ap (λ (k : Draft). let made : Shared Draft = record { state = t; answer = k } in made) (joined-assoc e a.more b.more);
+      second = ap (λ (k : Shared ClauseDraft). spread_in k.state k.answer g) a.second ∙ b.second
+          ∙ ap (λ (k : ClauseDraft). let made : Shared ClauseDraft = record { state = t; answer = k } in
+          made) (joined-assoc e a.more b.more);
     }
 spread-again (no f) s t d e h =
     let m = spread_in s empty f in
@@ -167,13 +169,13 @@ spread-again (no f) s t d e h =
     record {
       more = adds x;
       first = with-adds d x;
-      second = ap (λ (k : Shared Draft). let p = named_in k.state k.answer in
-          let made : Shared Draft = record { state = p.state; answer = with_defined e (reverse_of p.answer) } in made)
-          (a.second ∙ ap (λ (k : Draft). let made : Shared Draft = record { state = t; answer = k } in made) (sym a.first))
-          ∙ ap (λ (p : Shared Defined). let made : Shared Draft =
-          record { state = p.state; answer = with_defined e (reverse_of p.answer) } in made)
+      second = ap (λ (k : Shared ClauseDraft). let p = named_in k.state k.answer in
+          let made : Shared ClauseDraft = record { state = p.state; answer = draft_with e (reverse_of p.answer) } in made)
+          (a.second ∙ ap (λ (k : ClauseDraft). let made : Shared ClauseDraft = record { state = t; answer = k } in made) (sym a.first))
+          ∙ ap (λ (p : Shared Defined). let made : Shared ClauseDraft =
+          record { state = p.state; answer = draft_with e (reverse_of p.answer) } in made)
           (named-again m.state t m.answer h)
-          ∙ ap (λ (k : Draft). let made : Shared Draft = record { state = t; answer = k } in made) (with-adds e x);
+          ∙ ap (λ (k : ClauseDraft). let made : Shared ClauseDraft = record { state = t; answer = k } in made) (with-adds e x);
     }
 
 -- ---- values
@@ -190,8 +192,8 @@ unfolding define_in
 define-found s t f h =
     let m = spread_in s empty f in
     let a = spread-again f s t empty empty (Later-trans m.state (named_in m.state m.answer).state t (named-later m.state m.answer) h) in
-    ap (λ (k : Shared Draft). named_in k.state k.answer)
-    (a.second ∙ ap (λ (k : Draft). let made : Shared Draft = record { state = t; answer = k } in made) (sym a.first))
+    ap (λ (k : Shared ClauseDraft). named_in k.state k.answer)
+    (a.second ∙ ap (λ (k : ClauseDraft). let made : Shared ClauseDraft = record { state = t; answer = k } in made) (sym a.first))
     ∙ named-again m.state t m.answer h
 
 -- a formula that was defined has its value again, and adds nothing

@@ -6,7 +6,7 @@ use Rattle.clause_store.specs.declared.Label.TheVariants.{Demand}
 use Rattle.clause_store.specs.Clauses.{Clauses, counts}
 use Rattle.clause_circuits.specs.Growth.{Agree, where_asked}
 use Rattle.clause_circuits.proofs.Composed.{Grows-refl, Grows-trans, Extends-refl, Agree-trans, MeetsSince-parts, MeetsSince-join, Meets-agree, since}
-use Rattle.clause_formulas.specs.Statements.{Statement, eval, any_of, SaidBelow}
+use Rattle.clause_formulas.specs.Statements.{Statement, eval, any_statement, SaidBelow}
 use Rattle.clause_formulas.specs.Gated.{Gated, gated, GatesBelow, Keeps}
 use Rattle.clause_formulas.specs.Built.{assert_in, demand_in, claimed, demands_true}
 use Rattle.clause_formulas.specs.Allowed.{Allows, AllowsIn}
@@ -99,24 +99,24 @@ none-part false true b h = absurd (cc)
 none-part false false true h = absurd (cc)
 none-part false false false h = (refl, refl)
 
-none-at : (label : Label) (n : ℕ) (fs : List Statement) (i : ℕ) (d : Statement) → i < length fs → SaidBelow n (any_of fs)
-    → (asked v w : ℕ → Bool) → Agree n v w → claims label false (any_of fs) asked v → claims label false (get_or fs i d) asked w
+none-at : (label : Label) (n : ℕ) (fs : List Statement) (i : ℕ) (d : Statement) → i < length fs → SaidBelow n (any_statement fs)
+    → (asked v w : ℕ → Bool) → Agree n v w → claims label false (any_statement fs) asked v → claims label false (get_or fs i d) asked w
 none-at label n [] i d h b asked v w a k = absurd (omega arith)
 none-at label n (f ∷ fs) zero d h b asked v w a k =
     ap (λ x. not (counts asked label) || not x) (sym (eval-agree n v w a f b.0))
-    ∙ (none-part (not (counts asked label)) (eval v f) (eval v (any_of fs)) k).0
+    ∙ (none-part (not (counts asked label)) (eval v f) (eval v (any_statement fs)) k).0
 none-at label n (f ∷ fs) (suc i) d h b asked v w a k =
-    none-at label n fs i d (omega arith) b.1 asked v w a (none-part (not (counts asked label)) (eval v f) (eval v (any_of fs)) k).1
+    none-at label n fs i d (omega arith) b.1 asked v w a (none-part (not (counts asked label)) (eval v f) (eval v (any_statement fs)) k).1
 
 -- of parts that none is claimed of, none holds
 pub none-claimed : (label : Label) (n : ℕ) (fs : List Statement) (i : ℕ) (f : Statement) → i < length fs → f ≡ get_or fs i f
-    → SaidBelow n (any_of fs) → (asked v w : ℕ → Bool) → Agree n v w → claims label false (any_of fs) asked v
+    → SaidBelow n (any_statement fs) → (asked v w : ℕ → Bool) → Agree n v w → claims label false (any_statement fs) asked v
     → claims label false f asked w
 none-claimed label n fs i f h e b asked v w a k =
     subst (λ g. claims label false g asked w) (sym e) (none-at label n fs i f h b asked v w a k)
 
 -- the demand at a place
-demanded-at : (n id : ℕ) (fs : List Statement) (i : ℕ) (d : Statement) → i < length fs → SaidBelow n (any_of fs)
+demanded-at : (n id : ℕ) (fs : List Statement) (i : ℕ) (d : Statement) → i < length fs → SaidBelow n (any_statement fs)
     → (asked v w : ℕ → Bool) → Agree n v w → demands_true asked v id fs ≡ true
     → where_asked (Demand (id + i)) (λ u. eval u (get_or fs i d)) asked w ≡ true
 demanded-at n id [] i d h b asked v w a k = absurd (omega arith)
@@ -130,7 +130,7 @@ demanded-at n id (f ∷ fs) (suc i) d h b asked v w a k =
     (and_parts (not (asked id) || eval v f) (demands_true asked v (id + 1) fs) k).1)
 
 -- of demanded formulas each one is
-pub demanded : (n : ℕ) (fs : List Statement) (i : ℕ) (f : Statement) → i < length fs → f ≡ get_or fs i f → SaidBelow n (any_of fs)
+pub demanded : (n : ℕ) (fs : List Statement) (i : ℕ) (f : Statement) → i < length fs → f ≡ get_or fs i f → SaidBelow n (any_statement fs)
     → (asked v w : ℕ → Bool) → Agree n v w → demands_true asked v 0 fs ≡ true
     → where_asked (Demand i) (λ u. eval u f) asked w ≡ true
 demanded n fs i f h e b asked v w a k =

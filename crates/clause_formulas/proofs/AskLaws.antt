@@ -14,7 +14,7 @@ use Rattle.clause_circuits.proofs.Cover.{cover-gate}
 use Rattle.clause_formulas.specs.declared.defined.Defined.{Defined}
 use Rattle.clause_formulas.specs.declared.defined.Defined.TheVariants.{Known, By}
 use Rattle.clause_formulas.specs.Statements.{Statement, atom, never, or, no, eval, SaidBelow}
-use Rattle.clause_formulas.specs.Drafts.{Draft, empty, draft_true, with_defined, defined_true, DefinedBelow, reverse_of}
+use Rattle.clause_formulas.specs.Drafts.{ClauseDraft, empty, draft_true, draft_with, defined_true, DefinedBelow, reverse_of}
 use Rattle.clause_formulas.specs.Gated.{Gated, gated, Fits, GatesBelow, Keeps}
 use Rattle.clause_formulas.specs.Values.{CoversValue}
 use Rattle.clause_formulas.specs.Allowed.{SaysIn}
@@ -73,11 +73,11 @@ unfolding covered_on
 covered_parts s ls true b = same_cover s (Known true) (λ v. true) tt (λ v. refl)
 covered_parts s ls false b = by_cover_is s ls (clause_of ls) b refl
 
-covered_is : (s : Clauses) (d : Draft) → AllBelow s.vars d.lits
+covered_is : (s : Clauses) (d : ClauseDraft) → AllBelow s.vars d.lits
     → CoversValue s (covered_on s d).list (covered_on s d).answer (λ v. draft_true v d)
 covered_is s d b = covered_parts s d.lits d.always b
 
-draft_true-agree : (n : ℕ) (v w : ℕ → Bool) → Agree n v w → (d : Draft) → AllBelow n d.lits → draft_true v d ≡ draft_true w d
+draft_true-agree : (n : ℕ) (v w : ℕ → Bool) → Agree n v w → (d : ClauseDraft) → AllBelow n d.lits → draft_true v d ≡ draft_true w d
 draft_true-agree n v w a d b = ap (λ x. d.always || x) (clause_true-agree n v w a d.lits b)
 
 -- a cover leaves each old assignment open
@@ -89,7 +89,7 @@ CoversValue-extends s t x f d = record {
 }
 
 -- a draft got literals of which none is true unless the formula is
-pub record Asks (s : Gated) (d : Draft) (t : Gated) (e : Draft) (f : Statement) : Type 0 where
+pub record Asks (s : Gated) (d : ClauseDraft) (t : Gated) (e : ClauseDraft) (f : Statement) : Type 0 where
   pub keeps : Keeps s t
   pub below : AllBelow t.list.vars e.lits
   pub only : (asked v : ℕ → Bool) → Fits v s.gates → MeetsSince asked v s.list t.list → draft_true v e ≡ true
@@ -97,7 +97,7 @@ pub record Asks (s : Gated) (d : Draft) (t : Gated) (e : Draft) (f : Statement) 
   pub each : (asked v : ℕ → Bool) → Fits v s.gates → (w : ℕ → Bool) × Agree s.list.vars v w × MeetsSince asked w s.list t.list
       × (draft_true w e ≡ (draft_true w d || eval w f))
 
-Asks-same : (s : Gated) (d e : Draft) (f : Statement) → GatesBelow s.list.vars s.gates → AllBelow s.list.vars e.lits
+Asks-same : (s : Gated) (d e : ClauseDraft) (f : Statement) → GatesBelow s.list.vars s.gates → AllBelow s.list.vars e.lits
     → ((v : ℕ → Bool) → draft_true v e ≡ (draft_true v d || eval v f)) → Asks s d s e f
 Asks-same s d e f k b h = record {
   keeps = Keeps-refl s k;
@@ -111,7 +111,7 @@ or-then true b c t h = ap (λ x. x || c) (h refl)
 or-then false true c t h = refl
 or-then false false c t h = t
 
-Asks-or : (s t u : Gated) (d e k : Draft) (f g : Statement) → GatesBelow s.list.vars s.gates → AllBelow s.list.vars d.lits
+Asks-or : (s t u : Gated) (d e k : ClauseDraft) (f g : Statement) → GatesBelow s.list.vars s.gates → AllBelow s.list.vars d.lits
     → SaidBelow s.list.vars f → Asks s d t e f → Asks t e u k g → Asks s d u k (or f g)
 Asks-or s t u d e k f g i h l a b =
     let first = a.keeps.extends.grows in
@@ -146,9 +146,9 @@ or-uncovered false true e t h = absurd (cc)
 or-uncovered false false true t h = h refl
 or-uncovered false false false t h = refl
 
-Asks-no : (s t : Gated) (u : Clauses) (d e : Draft) (x : Defined) (f : Statement) → GatesBelow s.list.vars s.gates
+Asks-no : (s t : Gated) (u : Clauses) (d e : ClauseDraft) (x : Defined) (f : Statement) → GatesBelow s.list.vars s.gates
     → AllBelow s.list.vars d.lits → Spreads s empty t e f → CoversValue t.list u x (λ v. draft_true v e)
-    → Asks s d (gated u t.gates) (with_defined d (reverse_of x)) (no f)
+    → Asks s d (gated u t.gates) (draft_with d (reverse_of x)) (no f)
 Asks-no s t u d e x f i h a b =
     let first = a.defines.says in
     record {
@@ -174,9 +174,9 @@ Asks-no s t u d e x f i h a b =
     }
 
 -- a formula that is asked for is spread into a draft, with one side of its parts
-pub ask_is : (f : Statement) (s : Gated) (d : Draft) → AllBelow s.list.vars d.lits → GatesBelow s.list.vars s.gates
+pub ask_is : (f : Statement) (s : Gated) (d : ClauseDraft) → AllBelow s.list.vars d.lits → GatesBelow s.list.vars s.gates
     → SaidBelow s.list.vars f → Asks s d (ask_in s d f).state (ask_in s d f).answer f
-ask_is (atom l) s d h i b = Asks-same s d (with_defined d (By l)) (atom l) i (with_defined-below s.list.vars d (By l) h b)
+ask_is (atom l) s d h i b = Asks-same s d (draft_with d (By l)) (atom l) i (with_defined-below s.list.vars d (By l) h b)
     (λ v. with_defined-true v d (By l))
 ask_is never s d h i b = Asks-same s d d never i h (λ v. sym (or-false (draft_true v d)))
 ask_is (or f g) s d h i b =

@@ -8,8 +8,8 @@ use Rattle.clause_store.specs.declared.Label.TheVariants.{Demand}
 use Rattle.clause_store.specs.Lits.{negation, clause_of}
 use Rattle.clause_store.specs.Clauses.{Clauses}
 use Rattle.clause_formulas.specs.declared.defined.Defined.{Defined}
-use Rattle.clause_formulas.specs.Statements.{Statement, eval, never, or, any_of, SaidBelow}
-use Rattle.clause_formulas.specs.Drafts.{Draft, empty, with_defined, defined_true, DefinedBelow}
+use Rattle.clause_formulas.specs.Statements.{Statement, eval, never, or, any_statement, SaidBelow}
+use Rattle.clause_formulas.specs.Drafts.{ClauseDraft, empty, draft_with, defined_true, DefinedBelow}
 use Rattle.clause_circuits.specs.Growth.{Says, where_asked}
 use Rattle.clause_formulas.specs.Gated.{Gate, Gated, gated, Fits, GatesBelow}
 use Rattle.clause_formulas.specs.Values.{DefinesValue, DefinesIn, DefinesValues}
@@ -20,31 +20,32 @@ use Rattle.clause_formulas.specs.Built.{spread_in, ask_in, named_in, define_in, 
 use Rattle.clause_formulas.proofs.Laws.{define_in_is, define_is, literal_is, define_all_is, assert_in_is, assert_is, demand_is, demand_all_is}
 
 -- a draft's clause
-pub with_draft-always : (s : Clauses) (label : Label) (d : Draft) → d.always ≡ true → s ≡ with_draft s label d
+pub with_draft-always : (s : Clauses) (label : Label) (d : ClauseDraft) → d.always ≡ true → s ≡ with_draft s label d
 unfolding with_draft
 with_draft-always s label d e = rw e refl
 
-with_draft-clause : (s : Clauses) (label : Label) (d : Draft) (ls : List Lit) (o : Option (List Lit)) → d.always ≡ false → ls ≡ d.lits
+with_draft-clause : (s : Clauses) (label : Label) (d : ClauseDraft) (ls : List Lit) (o : Option (List Lit)) → d.always ≡ false → ls ≡ d.lits
     → o ≡ clause_of ls → record s { entries = s.entries ++ map (labelled label) (option_list o) } ≡ with_draft s label d
 unfolding with_draft kept_clauses
 with_draft-clause s label d ls o e f q = rw (e, q, f) refl
 
 -- a draft that is a clause is added
-pub with_draft-some : (s : Clauses) (label : Label) (d : Draft) (ls c : List Lit) → d.always ≡ false → ls ≡ d.lits → Some c ≡ clause_of ls
+pub with_draft-some : (s : Clauses) (label : Label) (d : ClauseDraft) (ls c : List Lit) → d.always ≡ false → ls ≡ d.lits
+    → Some c ≡ clause_of ls
     → record s { entries = s.entries ++ labelled label c ∷ [] } ≡ with_draft s label d
 with_draft-some s label d ls c e f q = with_draft-clause s label d ls (Some c) e f q
 
 -- one that always holds adds nothing
-pub with_draft-none : (s : Clauses) (label : Label) (d : Draft) (ls : List Lit) → d.always ≡ false → ls ≡ d.lits → None ≡ clause_of ls
+pub with_draft-none : (s : Clauses) (label : Label) (d : ClauseDraft) (ls : List Lit) → d.always ≡ false → ls ≡ d.lits → None ≡ clause_of ls
     → s ≡ with_draft s label d
 with_draft-none s label d ls e f q = ap (λ es. record s { entries = es }) (sym (append-nil s.entries))
     ∙ with_draft-clause s label d ls None e f q
 
 -- a definition
-pub define-step : (s t : Gated) (d e : Draft) (f : Statement) → d ≡ empty → spread_in s d f ≡ record { state = t; answer = e }
+pub define-step : (s t : Gated) (d e : ClauseDraft) (f : Statement) → d ≡ empty → spread_in s d f ≡ record { state = t; answer = e }
     → define_in s f ≡ named_in t e
 unfolding define_in
-define-step s t d e f q r = ap (λ (m : Shared Draft). named_in m.state m.answer) (ap (λ k. spread_in s k f) (sym q) ∙ r)
+define-step s t d e f q r = ap (λ (m : Shared ClauseDraft). named_in m.state m.answer) (ap (λ k. spread_in s k f) (sym q) ∙ r)
 
 -- a value of the code means its formula
 pub define_at : (s t : Gated) (f : Statement) (x : Defined) → GatesBelow s.list.vars s.gates → SaidBelow s.list.vars f
@@ -95,18 +96,19 @@ after ds m = record { state = m.state; answer = ds ++ m.answer }
 
 -- values of the code mean their formulas
 pub define_all_at : (s t : Gated) (fs : List Statement) (ds : List Defined) → GatesBelow s.list.vars s.gates
-    → SaidBelow s.list.vars (any_of fs) → define_all_in s fs ≡ record { state = t; answer = ds } → DefinesValues s t ds fs
+    → SaidBelow s.list.vars (any_statement fs) → define_all_in s fs ≡ record { state = t; answer = ds } → DefinesValues s t ds fs
 define_all_at s t fs ds i b q = let P : Shared (List Defined) → Type 0 = λ m. DefinesValues s m.state m.answer fs in
     subst P q (define_all_is s fs i b)
 
 -- clauses that make a formula true
-pub assert-any : (s t : Gated) (u : Clauses) (label : Label) (d e : Draft) (fs : List Statement) → d ≡ empty
-    → ask_in s d (any_of fs) ≡ record { state = t; answer = e } → u ≡ with_draft t.list label e
-    → assert_in label s true (any_of fs) ≡ gated u t.gates
+pub assert-any : (s t : Gated) (u : Clauses) (label : Label) (d e : ClauseDraft) (fs : List Statement) → d ≡ empty
+    → ask_in s d (any_statement fs) ≡ record { state = t; answer = e } → u ≡ with_draft t.list label e
+    → assert_in label s true (any_statement fs) ≡ gated u t.gates
 assert-any s t u label d e [] q r p =
-    ap (λ (m : Shared Draft). drafted m.state label m.answer) (ap (λ k. ask_in s k never) (sym q) ∙ r) ∙ ap (λ l. gated l t.gates) (sym p)
+    ap (λ (m : Shared ClauseDraft). drafted m.state label m.answer) (ap (λ k. ask_in s k never) (sym q) ∙ r)
+    ∙ ap (λ l. gated l t.gates) (sym p)
 assert-any s t u label d e (f ∷ fs) q r p =
-    ap (λ (m : Shared Draft). drafted m.state label m.answer) (ap (λ k. ask_in s k (or f (any_of fs))) (sym q) ∙ r)
+    ap (λ (m : Shared ClauseDraft). drafted m.state label m.answer) (ap (λ k. ask_in s k (or f (any_statement fs))) (sym q) ∙ r)
     ∙ ap (λ l. gated l t.gates) (sym p)
 
 -- what the code asserted asks for the formula, and for nothing else
@@ -130,13 +132,13 @@ pub allows-alone : (s t : Clauses) (gs hs : List Gate) (p : (ℕ → Bool) → (
 allows-alone s t gs hs p e d = record { grows = d.grows; each = λ asked v h. d.each asked v (subst (Fits v) (sym e) tt) h }
 
 -- one more demand of the code
-pub demand-step : (s t : Gated) (u : Clauses) (f : Statement) (id : ℕ) (x : Defined) (d e : Draft)
-    → define_in s f ≡ record { state = t; answer = x } → d ≡ empty → e ≡ with_defined d x → u ≡ with_draft t.list (Demand id) e
+pub demand-step : (s t : Gated) (u : Clauses) (f : Statement) (id : ℕ) (x : Defined) (d e : ClauseDraft)
+    → define_in s f ≡ record { state = t; answer = x } → d ≡ empty → e ≡ draft_with d x → u ≡ with_draft t.list (Demand id) e
     → demand_in s f id ≡ gated u t.gates
 unfolding demand_in
 demand-step s t u f id x d e q r p o =
-    ap (λ (m : Shared Defined). drafted m.state (Demand id) (with_defined empty m.answer)) q
-    ∙ ap (λ k. drafted t (Demand id) (with_defined k x)) (sym r) ∙ ap (drafted t (Demand id)) (sym p) ∙ ap (λ l. gated l t.gates) (sym o)
+    ap (λ (m : Shared Defined). drafted m.state (Demand id) (draft_with empty m.answer)) q
+    ∙ ap (λ k. drafted t (Demand id) (draft_with k x)) (sym r) ∙ ap (drafted t (Demand id)) (sym p) ∙ ap (λ l. gated l t.gates) (sym o)
 
 -- a demand of the code asks for its formula, and for nothing else
 pub demand_at : (s t : Gated) (f : Statement) (id : ℕ) → GatesBelow s.list.vars s.gates → SaidBelow s.list.vars f → demand_in s f id ≡ t
@@ -144,6 +146,6 @@ pub demand_at : (s t : Gated) (f : Statement) (id : ℕ) → GatesBelow s.list.v
 demand_at s t f id i b q = subst (λ u. SaysIn s u (where_asked (Demand id) (λ v. eval v f))) q (demand_is s f id i b)
 
 -- so do many
-pub demand_all_at : (s t : Gated) (fs : List Statement) → GatesBelow s.list.vars s.gates → SaidBelow s.list.vars (any_of fs)
+pub demand_all_at : (s t : Gated) (fs : List Statement) → GatesBelow s.list.vars s.gates → SaidBelow s.list.vars (any_statement fs)
     → demand_all_in s 0 fs ≡ t → SaysIn s t (λ asked v. demands_true asked v 0 fs)
 demand_all_at s t fs i b q = subst (λ u. SaysIn s u (λ asked v. demands_true asked v 0 fs)) q (demand_all_is s 0 fs i b)

@@ -5,7 +5,7 @@ use Rattle.clause_store.specs.Lits.{var_of, lit_true, clause_true, AllBelow}
 use Rattle.clause_formulas.specs.declared.defined.Defined.{Defined}
 use Rattle.clause_formulas.specs.declared.defined.Defined.TheVariants.{Known, By}
 use Rattle.clause_formulas.specs.Statements.{Statement, atom, never, or, no, eval, SaidBelow}
-use Rattle.clause_formulas.specs.Drafts.{Draft, draft_true, with_defined, defined_true, DefinedBelow, reverse_of}
+use Rattle.clause_formulas.specs.Drafts.{ClauseDraft, draft_true, draft_with, defined_true, DefinedBelow, reverse_of}
 use Rattle.clause_circuits.specs.Growth.{Agree}
 use Rattle.clause_store.proofs.Meaning.{lit_true-negation}
 use Rattle.clause_circuits.proofs.Composed.{lit_true-agree}
@@ -47,12 +47,13 @@ AllBelow-last n [] l b h = (h, tt)
 AllBelow-last n (k ∷ ls) l b h = (b.0, AllBelow-last n ls l b.1 h)
 
 -- one more part of a draft
-pub with_defined-true : (v : ℕ → Bool) (d : Draft) (x : Defined) → draft_true v (with_defined d x) ≡ (draft_true v d || defined_true v x)
+pub with_defined-true : (v : ℕ → Bool) (d : ClauseDraft) (x : Defined)
+    → draft_true v (draft_with d x) ≡ (draft_true v d || defined_true v x)
 with_defined-true v d (Known b) = or-inner d.always (clause_true v d.lits) b
 with_defined-true v d (By l) = ap (λ b. d.always || b) (clause_true-last v d.lits l)
     ∙ sym (or-assoc d.always (clause_true v d.lits) (lit_true v l))
 
-pub with_defined-below : (n : ℕ) (d : Draft) (x : Defined) → AllBelow n d.lits → DefinedBelow n x → AllBelow n (with_defined d x).lits
+pub with_defined-below : (n : ℕ) (d : ClauseDraft) (x : Defined) → AllBelow n d.lits → DefinedBelow n x → AllBelow n (draft_with d x).lits
 with_defined-below n d (Known b) h t = h
 with_defined-below n d (By l) h t = AllBelow-last n d.lits l h t
 

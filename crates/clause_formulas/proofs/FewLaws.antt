@@ -7,9 +7,9 @@ use Rattle.std.proofs.lemmas.List.{take-append-drop}
 use Rattle.clause_store.specs.declared.Lit.{Lit}
 use Rattle.clause_store.specs.Lits.{var_of, lit_true, AllBelow}
 use Rattle.clause_store.proofs.Meaning.{lit_true-negation}
-use Rattle.clause_formulas.specs.Statements.{Statement, eval, atom, no, opposite, any_of, not_both, apart, truths, none_true, one_true, all_eval, SaidBelow}
+use Rattle.clause_formulas.specs.Statements.{Statement, eval, atom, no, opposite, any_statement, not_both, apart, truths, none_true, one_true, all_eval, SaidBelow}
 use Rattle.clause_formulas.proofs.Words.{eval-all_of, all_eval-append, any_of-below, all_of-below}
-use Rattle.clause_formulas.specs.Few.{few_true, none_of, halves_apart, half_of, few_of, few_among, one_among}
+use Rattle.clause_formulas.specs.Few.{few_true, none_of, halves_apart, half_count, few_of, few_among, one_among}
 
 or-true : (a : Bool) → (a || true) ≡ true
 or-true true = refl
@@ -76,16 +76,16 @@ module _ (v : ℕ → Bool) where
   unfolding few_of
   few-said zero ls = apart-few ls
   few-said (suc times) ls =
-      let front = few-said times (take (half_of ls) ls) in
-      let back = few-said times (drop (half_of ls) ls) in
-      elim (nat_lt 8 (length ls)) as (λ b. all_eval v (if b then halves_apart (take (half_of ls) ls) (drop (half_of ls) ls)
-      ∷ (few_of times (take (half_of ls) ls) ++ few_of times (drop (half_of ls) ls)) else apart ls) ≡ few_true (truths v ls)) [
-        | true ↦ ap (λ b. eval v (halves_apart (take (half_of ls) ls) (drop (half_of ls) ls)) && b)
-            (all_eval-append v (few_of times (take (half_of ls) ls)) (few_of times (drop (half_of ls) ls)))
-            ∙ rw (halves-said (take (half_of ls) ls) (drop (half_of ls) ls), front, back) refl
-            ∙ sym (few-append (truths v (take (half_of ls) ls)) (truths v (drop (half_of ls) ls)))
-            ∙ ap few_true (sym (truths-append (take (half_of ls) ls) (drop (half_of ls) ls)))
-            ∙ ap (λ l. few_true (truths v l)) (take-append-drop (half_of ls) ls)
+      let front = few-said times (take (half_count ls) ls) in
+      let back = few-said times (drop (half_count ls) ls) in
+      elim (nat_lt 8 (length ls)) as (λ b. all_eval v (if b then halves_apart (take (half_count ls) ls) (drop (half_count ls) ls)
+      ∷ (few_of times (take (half_count ls) ls) ++ few_of times (drop (half_count ls) ls)) else apart ls) ≡ few_true (truths v ls)) [
+        | true ↦ ap (λ b. eval v (halves_apart (take (half_count ls) ls) (drop (half_count ls) ls)) && b)
+            (all_eval-append v (few_of times (take (half_count ls) ls)) (few_of times (drop (half_count ls) ls)))
+            ∙ rw (halves-said (take (half_count ls) ls) (drop (half_count ls) ls), front, back) refl
+            ∙ sym (few-append (truths v (take (half_count ls) ls)) (truths v (drop (half_count ls) ls)))
+            ∙ ap few_true (sym (truths-append (take (half_count ls) ls) (drop (half_count ls) ls)))
+            ∙ ap (λ l. few_true (truths v l)) (take-append-drop (half_count ls) ls)
         | false ↦ apart-few ls
       ]
 
@@ -94,13 +94,14 @@ module _ (v : ℕ → Bool) where
   one-few (true ∷ bs) = refl
   one-few (false ∷ bs) = one-few bs
 
-  any-said : (ls : List Lit) → eval v (any_of (map atom ls)) ≡ not (none_true (truths v ls))
+  any-said : (ls : List Lit) → eval v (any_statement (map atom ls)) ≡ not (none_true (truths v ls))
   any-said [] = refl
   any-said (l ∷ ls) = elim (cases_Bool (lit_true v l)) [ inl t ↦ rw t refl | inr f ↦ rw f (any-said ls) ]
 
   -- and that exactly one is
   pub one-said : (ls : List Lit) → eval v (one_among ls) ≡ one_true (truths v ls)
-  one-said ls = eval-all_of v (any_of (map atom ls) ∷ few_among ls) ∙ rw (any-said ls, few-said (length ls / 8) ls) (one-few (truths v ls))
+  one-said ls = eval-all_of v (any_statement (map atom ls) ∷ few_among ls)
+      ∙ rw (any-said ls, few-said (length ls / 8) ls) (one-few (truths v ls))
 
 -- ---- the variables
 
@@ -110,36 +111,37 @@ module _ (n : ℕ) where
   parts-below (suc i) [] h = (tt, tt)
   parts-below (suc i) (l ∷ ls) h = let rest = parts-below i ls h.1 in ((h.0, rest.0), rest.1)
 
-  atoms-below : (ls : List Lit) → AllBelow n ls → SaidBelow n (any_of (map atom ls))
+  atoms-below : (ls : List Lit) → AllBelow n ls → SaidBelow n (any_statement (map atom ls))
   atoms-below [] h = tt
   atoms-below (l ∷ ls) h = (h.0, atoms-below ls h.1)
 
-  not_both-below : (l : Lit) (ls : List Lit) → var_of l < n → AllBelow n ls → SaidBelow n (any_of (map (not_both l) ls))
+  not_both-below : (l : Lit) (ls : List Lit) → var_of l < n → AllBelow n ls → SaidBelow n (any_statement (map (not_both l) ls))
   not_both-below l [] h b = tt
   not_both-below l (k ∷ ls) h b = ((h, (b.0, tt)), not_both-below l ls h b.1)
 
-  apart-below : (ls : List Lit) → AllBelow n ls → SaidBelow n (any_of (apart ls))
+  apart-below : (ls : List Lit) → AllBelow n ls → SaidBelow n (any_statement (apart ls))
   apart-below [] b = tt
   apart-below (l ∷ ls) b = any_of-below n (map (not_both l) ls) (apart ls) (not_both-below l ls b.0 b.1) (apart-below ls b.1)
 
-  pub few-below : (times : ℕ) (ls : List Lit) → AllBelow n ls → SaidBelow n (any_of (few_of times ls))
+  pub few-below : (times : ℕ) (ls : List Lit) → AllBelow n ls → SaidBelow n (any_statement (few_of times ls))
   unfolding few_of
   few-below zero ls h = apart-below ls h
   few-below (suc times) ls h =
-      let parts = parts-below (half_of ls) ls h in
-      let front = few-below times (take (half_of ls) ls) parts.0 in
-      let back = few-below times (drop (half_of ls) ls) parts.1 in
-      elim (nat_lt 8 (length ls)) as (λ b. SaidBelow n (any_of (if b then halves_apart (take (half_of ls) ls) (drop (half_of ls) ls)
-      ∷ (few_of times (take (half_of ls) ls) ++ few_of times (drop (half_of ls) ls)) else apart ls))) [
+      let parts = parts-below (half_count ls) ls h in
+      let front = few-below times (take (half_count ls) ls) parts.0 in
+      let back = few-below times (drop (half_count ls) ls) parts.1 in
+      elim (nat_lt 8 (length ls)) as (λ b. SaidBelow n
+      (any_statement (if b then halves_apart (take (half_count ls) ls) (drop (half_count ls) ls)
+      ∷ (few_of times (take (half_count ls) ls) ++ few_of times (drop (half_count ls) ls)) else apart ls))) [
         | true ↦ (
-          (atoms-below (take (half_of ls) ls) parts.0, (atoms-below (drop (half_of ls) ls) parts.1, tt)),
-          any_of-below n (few_of times (take (half_of ls) ls)) (few_of times (drop (half_of ls) ls)) front back,
+          (atoms-below (take (half_count ls) ls) parts.0, (atoms-below (drop (half_count ls) ls) parts.1, tt)),
+          any_of-below n (few_of times (take (half_count ls) ls)) (few_of times (drop (half_count ls) ls)) front back,
         )
         | false ↦ apart-below ls h
       ]
 
   pub one_among-below : (ls : List Lit) → AllBelow n ls → SaidBelow n (one_among ls)
-  one_among-below ls h = all_of-below n (any_of (map atom ls) ∷ few_among ls) (atoms-below ls h, few-below (length ls / 8) ls h)
+  one_among-below ls h = all_of-below n (any_statement (map atom ls) ∷ few_among ls) (atoms-below ls h, few-below (length ls / 8) ls h)
 
 -- ---- step by step
 
@@ -156,8 +158,8 @@ few-short (suc times) ls le = let short : nat_lt 8 (length ls) ≡ false = grind
 
 -- a long one is
 pub few-long : (times : ℕ) (ls : List Lit) → (times ≡ 0 → ⊥) → 8 < length ls
-    → few_of times ls ≡ halves_apart (take (half_of ls) ls) (drop (half_of ls) ls)
-    ∷ (few_of (times - 1) (take (half_of ls) ls) ++ few_of (times - 1) (drop (half_of ls) ls))
+    → few_of times ls ≡ halves_apart (take (half_count ls) ls) (drop (half_count ls) ls)
+    ∷ (few_of (times - 1) (take (half_count ls) ls) ++ few_of (times - 1) (drop (half_count ls) ls))
 unfolding few_of
 few-long zero ls some lt = absurd (some refl)
 few-long (suc times) ls some lt =
@@ -167,17 +169,17 @@ few-long (suc times) ls some lt =
 
 -- the code's halves are the definition's
 pub few-joined : (old one two three : List Statement) (times : ℕ) (ls : List Lit) (h : Statement) → (times ≡ 0 → ⊥) → 8 < length ls
-    → one ≡ old ++ h ∷ [] → h ≡ halves_apart (take (half_of ls) ls) (drop (half_of ls) ls)
-    → two ≡ one ++ few_of (times - 1) (take (half_of ls) ls) → three ≡ two ++ few_of (times - 1) (drop (half_of ls) ls)
+    → one ≡ old ++ h ∷ [] → h ≡ halves_apart (take (half_count ls) ls) (drop (half_count ls) ls)
+    → two ≡ one ++ few_of (times - 1) (take (half_count ls) ls) → three ≡ two ++ few_of (times - 1) (drop (half_count ls) ls)
     → three ≡ old ++ few_of times ls
 few-joined old one two three times ls h some lt pushed halves front back =
-    let a = few_of (times - 1) (take (half_of ls) ls) in
-    let b = few_of (times - 1) (drop (half_of ls) ls) in
+    let a = few_of (times - 1) (take (half_count ls) ls) in
+    let b = few_of (times - 1) (drop (half_count ls) ls) in
     back ∙ ap (λ xs. xs ++ b) (front ∙ ap (λ xs. xs ++ a) pushed)
     ∙ append_assoc (old ++ h ∷ []) a b ∙ append_assoc old (h ∷ []) (a ++ b)
     ∙ ap (λ k. old ++ k ∷ (a ++ b)) halves ∙ ap (λ fs. old ++ fs) (sym (few-long times ls some lt))
 
 -- the opposite of an any-of is a none-of
-pub opposite-any : (fs : List Statement) → opposite (any_of fs) ≡ no (any_of fs)
+pub opposite-any : (fs : List Statement) → opposite (any_statement fs) ≡ no (any_statement fs)
 opposite-any [] = refl
 opposite-any (f ∷ fs) = refl

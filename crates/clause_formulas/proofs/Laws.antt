@@ -6,8 +6,8 @@ use Rattle.clause_store.specs.Lits.{negation, lit_true, AllBelow}
 use Rattle.clause_store.specs.Clauses.{Clauses, counts}
 use Rattle.clause_formulas.specs.declared.defined.Defined.{Defined}
 use Rattle.clause_formulas.specs.declared.defined.Defined.TheVariants.{Known, By}
-use Rattle.clause_formulas.specs.Statements.{Statement, atom, never, or, no, eval, any_of, SaidBelow}
-use Rattle.clause_formulas.specs.Drafts.{Draft, empty, draft_true, with_defined, defined_true, DefinedBelow}
+use Rattle.clause_formulas.specs.Statements.{Statement, atom, never, or, no, eval, any_statement, SaidBelow}
+use Rattle.clause_formulas.specs.Drafts.{ClauseDraft, empty, draft_true, draft_with, defined_true, DefinedBelow}
 use Rattle.clause_circuits.specs.Growth.{Agree, MeetsSince, Grows, Says, where_asked}
 use Rattle.clause_formulas.specs.Gated.{Gated, bare, Fits, GatesBelow, Keeps}
 use Rattle.clause_formulas.specs.Values.{DefinesValue, DefinesIn, MeanEach, DefinesValues}
@@ -34,7 +34,7 @@ MeanEach-earlier a b c (d ∷ ds) (f ∷ fs) g h m = (
   MeanEach-earlier a b c ds fs g h m.1,
 )
 
-gate-join : (s t u : Gated) (e : Draft) (x : Defined) (f : Statement) → Spreads s empty t e f → DefinesIn t u x (λ v. draft_true v e)
+gate-join : (s t u : Gated) (e : ClauseDraft) (x : Defined) (f : Statement) → Spreads s empty t e f → DefinesIn t u x (λ v. draft_true v e)
     → DefinesIn s u x (λ v. eval v f)
 gate-join s t u e x f a b = record {
   defines = Defines-trans s.list t.list u.list a.defines b.defines;
@@ -92,7 +92,7 @@ literal_is s (Known true) b =
     }
 
 -- values mean their formulas
-pub define_all_is : (s : Gated) (fs : List Statement) → GatesBelow s.list.vars s.gates → SaidBelow s.list.vars (any_of fs)
+pub define_all_is : (s : Gated) (fs : List Statement) → GatesBelow s.list.vars s.gates → SaidBelow s.list.vars (any_statement fs)
     → DefinesValues s (define_all_in s fs).state (define_all_in s fs).answer fs
 define_all_is s [] i b = record { defines = Defines-refl s.list; keeps = Keeps-refl s i; means = tt }
 define_all_is s (f ∷ fs) i b =
@@ -101,7 +101,8 @@ define_all_is s (f ∷ fs) i b =
     let x = define_in_is s f i b.0 in
     let n = define_all_in t fs in
     let u = n.state in
-    let y = define_all_is t fs x.keeps.below (SaidBelow-le s.list.vars t.list.vars (any_of fs) x.defines.says.grows.more b.1) in record {
+    let y = define_all_is t fs x.keeps.below (SaidBelow-le s.list.vars t.list.vars (any_statement fs) x.defines.says.grows.more b.1) in
+    record {
       defines = Defines-trans s.list t.list u.list x.defines y.defines;
       keeps = Keeps-trans s t u x.keeps y.keeps;
       means = (
@@ -119,16 +120,16 @@ both-fail false true b = refl
 both-fail false false b = refl
 
 -- the clause of a draft
-drafted_says : (s : Gated) (label : Label) (d : Draft) → GatesBelow s.list.vars s.gates → AllBelow s.list.vars d.lits
+drafted_says : (s : Gated) (label : Label) (d : ClauseDraft) → GatesBelow s.list.vars s.gates → AllBelow s.list.vars d.lits
     → SaysIn s (drafted s label d) (where_asked label (λ v. draft_true v d))
 drafted_says s label d i b = SaysIn-from s (with_draft s.list label d) _ i (draft_says s.list label d b)
 
 -- an assertion asks for its formula, and for nothing else
 pub assert_in_is : (label : Label) (f : Statement) (sign : Bool) (s : Gated) → GatesBelow s.list.vars s.gates → SaidBelow s.list.vars f
     → SaysIn s (assert_in label s sign f) (asserts label sign f)
-assert_in_is label (atom l) true s i b = SaysIn-as s _ _ _ (drafted_says s label (with_defined empty (By l)) i (b, tt))
+assert_in_is label (atom l) true s i b = SaysIn-as s _ _ _ (drafted_says s label (draft_with empty (By l)) i (b, tt))
     (λ asked v. ap (λ x. not (counts asked label) || x) (or-false (lit_true v l)))
-assert_in_is label (atom l) false s i b = SaysIn-as s _ _ _ (drafted_says s label (with_defined empty (By (negation l))) i (b, tt))
+assert_in_is label (atom l) false s i b = SaysIn-as s _ _ _ (drafted_says s label (draft_with empty (By (negation l))) i (b, tt))
     (λ asked v. ap (λ x. not (counts asked label) || x) (or-false _ ∙ lit_true-negation v l))
 assert_in_is label never true s i b = drafted_says s label empty i tt
 assert_in_is label never false s i b = SaysIn-as s s (λ asked v. true) _ (SaysIn-refl s i)
@@ -162,19 +163,19 @@ unfolding demand_in
 demand_is s f id i b =
     let m = define_in s f in
     let x = define_in_is s f i b in
-    Says-defined s m.state _ (Demand id) (λ v. draft_true v (with_defined empty m.answer)) f i b x.keeps
+    Says-defined s m.state _ (Demand id) (λ v. draft_true v (draft_with empty m.answer)) f i b x.keeps
     (λ asked v k h. with_defined-true v empty m.answer ∙ x.means.value asked v k h)
-    (drafted_says m.state (Demand id) (with_defined empty m.answer) x.keeps.below
+    (drafted_says m.state (Demand id) (draft_with empty m.answer) x.keeps.below
     (with_defined-below m.state.list.vars empty m.answer tt x.means.below))
 
 -- demands rest on the values of their variables alone
-pub demands-agree : (n : ℕ) (asked v w : ℕ → Bool) (id : ℕ) (fs : List Statement) → Agree n v w → SaidBelow n (any_of fs)
+pub demands-agree : (n : ℕ) (asked v w : ℕ → Bool) (id : ℕ) (fs : List Statement) → Agree n v w → SaidBelow n (any_statement fs)
     → demands_true asked v id fs ≡ demands_true asked w id fs
 demands-agree n asked v w id [] a b = refl
 demands-agree n asked v w id (f ∷ fs) a b = rw (eval-agree n v w a f b.0, demands-agree n asked v w (id + 1) fs a b.1) refl
 
 -- many demands do
-pub demand_all_is : (s : Gated) (id : ℕ) (fs : List Statement) → GatesBelow s.list.vars s.gates → SaidBelow s.list.vars (any_of fs)
+pub demand_all_is : (s : Gated) (id : ℕ) (fs : List Statement) → GatesBelow s.list.vars s.gates → SaidBelow s.list.vars (any_statement fs)
     → SaysIn s (demand_all_in s id fs) (λ asked v. demands_true asked v id fs)
 demand_all_is s id [] i b = SaysIn-refl s i
 demand_all_is s id (f ∷ fs) i b =
@@ -182,5 +183,5 @@ demand_all_is s id (f ∷ fs) i b =
     let x = demand_is s f id i b.0 in
     let p : (ℕ → Bool) → (ℕ → Bool) → Bool = λ asked v. demands_true asked v (id + 1) fs in
     SaysIn-then s t _ (where_asked (Demand id) (λ v. eval v f)) p p i x
-    (demand_all_is t (id + 1) fs x.allows.below (SaidBelow-le s.list.vars t.list.vars (any_of fs) x.allows.grows.more b.1))
+    (demand_all_is t (id + 1) fs x.allows.below (SaidBelow-le s.list.vars t.list.vars (any_statement fs) x.allows.grows.more b.1))
     (λ asked v k m. refl) (λ asked v w g. demands-agree s.list.vars asked v w (id + 1) fs g b.1)

@@ -8,7 +8,7 @@ use Rattle.clause_store.proofs.Range.{AllBelow-le}
 use Rattle.clause_formulas.specs.declared.defined.Defined.{Defined}
 use Rattle.clause_formulas.specs.declared.defined.Defined.TheVariants.{Known, By}
 use Rattle.clause_formulas.specs.Statements.{Statement, atom, never, or, no, eval, SaidBelow}
-use Rattle.clause_formulas.specs.Drafts.{Draft, empty, draft_true, with_defined, defined_true, DefinedBelow, reverse_of}
+use Rattle.clause_formulas.specs.Drafts.{ClauseDraft, empty, draft_true, draft_with, defined_true, DefinedBelow, reverse_of}
 use Rattle.clause_circuits.specs.Growth.{MeetsSince, Says, Defines, where_asked}
 use Rattle.clause_formulas.specs.Gated.{Gated, Fits, GatesBelow, Keeps}
 use Rattle.clause_formulas.specs.Values.{DefinesIn}
@@ -57,18 +57,18 @@ named_parts s ls true b k = same_value s (Known true) (λ v. true) k tt (λ v. r
 named_parts s ls false b k = by_clause_is s ls (clause_of ls) b k refl
 
 -- the value of a draft means that some part of it is true
-pub named_is : (s : Gated) (d : Draft) → AllBelow s.list.vars d.lits → GatesBelow s.list.vars s.gates
+pub named_is : (s : Gated) (d : ClauseDraft) → AllBelow s.list.vars d.lits → GatesBelow s.list.vars s.gates
     → DefinesIn s (named_in s d).state (named_in s d).answer (λ v. draft_true v d)
 named_is s d b k = named_parts s d.lits d.always b k
 
 -- a draft got the literals that make a formula true
-pub record Spreads (s : Gated) (d : Draft) (t : Gated) (e : Draft) (f : Statement) : Type 0 where
+pub record Spreads (s : Gated) (d : ClauseDraft) (t : Gated) (e : ClauseDraft) (f : Statement) : Type 0 where
   pub defines : Defines s.list t.list
   pub keeps : Keeps s t
   pub below : AllBelow t.list.vars e.lits
   pub says : (asked v : ℕ → Bool) → Fits v s.gates → MeetsSince asked v s.list t.list → draft_true v e ≡ (draft_true v d || eval v f)
 
-Spreads-or : (s t u : Gated) (d e k : Draft) (f g : Statement) → Spreads s d t e f → Spreads t e u k g → Spreads s d u k (or f g)
+Spreads-or : (s t u : Gated) (d e k : ClauseDraft) (f g : Statement) → Spreads s d t e f → Spreads t e u k g → Spreads s d u k (or f g)
 Spreads-or s t u d e k f g a b = record {
   defines = Defines-trans s.list t.list u.list a.defines b.defines;
   keeps = Keeps-trans s t u a.keeps b.keeps;
@@ -79,8 +79,8 @@ Spreads-or s t u d e k f g a b = record {
       ∙ or-assoc (draft_true v d) (eval v f) (eval v g);
 }
 
-Spreads-no : (s t u : Gated) (d e : Draft) (x : Defined) (f : Statement) → AllBelow s.list.vars d.lits → Spreads s empty t e f
-    → DefinesIn t u x (λ v. draft_true v e) → Spreads s d u (with_defined d (reverse_of x)) (no f)
+Spreads-no : (s t u : Gated) (d e : ClauseDraft) (x : Defined) (f : Statement) → AllBelow s.list.vars d.lits → Spreads s empty t e f
+    → DefinesIn t u x (λ v. draft_true v e) → Spreads s d u (draft_with d (reverse_of x)) (no f)
 Spreads-no s t u d e x f h a b = record {
   defines = Defines-trans s.list t.list u.list a.defines b.defines;
   keeps = Keeps-trans s t u a.keeps b.keeps;
@@ -94,7 +94,7 @@ Spreads-no s t u d e x f h a b = record {
 }
 
 -- a formula is spread into the literals of one clause
-pub spread_is : (f : Statement) (s : Gated) (d : Draft) → AllBelow s.list.vars d.lits → GatesBelow s.list.vars s.gates
+pub spread_is : (f : Statement) (s : Gated) (d : ClauseDraft) → AllBelow s.list.vars d.lits → GatesBelow s.list.vars s.gates
     → SaidBelow s.list.vars f → Spreads s d (spread_in s d f).state (spread_in s d f).answer f
 spread_is (atom l) s d h k b = record {
   defines = Defines-refl s.list;
@@ -146,6 +146,6 @@ draft_parts s label ls true b = Says-as s s (λ asked v. true) (where_asked labe
 draft_parts s label ls false b = kept_says s label ls b
 
 -- the clause of a draft asks for some part of it, and for nothing else
-pub draft_says : (s : Clauses) (label : Label) (d : Draft) → AllBelow s.vars d.lits
+pub draft_says : (s : Clauses) (label : Label) (d : ClauseDraft) → AllBelow s.vars d.lits
     → Says s (with_draft s label d) (where_asked label (λ v. draft_true v d))
 draft_says s label d b = draft_parts s label d.lits d.always b

@@ -3,10 +3,10 @@ use Rattle.std.proofs.Common.{◌≡◌, ℕ, zero, suc, ◌<◌, Bool, true, fa
 use Rattle.std.specs.Prelude.{if◌then◌else◌}
 use Rattle.clause_store.specs.declared.Lit.{Lit}
 use Rattle.clause_store.specs.Lits.{var_of, lit_true, AllBelow}
-use Rattle.clause_formulas.specs.Statements.{Statement, atom, never, or, no, eval, opposite, any_of, all_of, both, implies, not_both, apart, one_of, truths, none_true, one_true, all_eval, SaidBelow}
+use Rattle.clause_formulas.specs.Statements.{Statement, atom, never, or, no, eval, opposite, any_statement, all_statements, both_statements, implication_of, not_both, apart, one_of, truths, none_true, one_true, all_eval, SaidBelow}
 use Rattle.clause_formulas.specs.declared.defined.Defined.{Defined}
 use Rattle.clause_formulas.specs.declared.defined.Defined.TheVariants.{Known, By}
-use Rattle.clause_formulas.specs.Drafts.{said_of, defined_true, DefinedBelow, value_at, part_at}
+use Rattle.clause_formulas.specs.Drafts.{statement_of, defined_true, DefinedBelow, statement_at, part_at}
 use Rattle.clause_circuits.specs.Growth.{MeetsSince}
 use Rattle.clause_formulas.specs.Gated.{Gated, Fits}
 use Rattle.clause_formulas.specs.Values.{MeanEach}
@@ -32,26 +32,26 @@ eval-opposite v never = refl
 eval-opposite v (or f g) = refl
 eval-opposite v (no f) = sym (not-not (eval v f))
 
-pub eval-all_of : (v : ℕ → Bool) (fs : List Statement) → eval v (all_of fs) ≡ all_eval v fs
+pub eval-all_of : (v : ℕ → Bool) (fs : List Statement) → eval v (all_statements fs) ≡ all_eval v fs
 eval-all_of v [] = refl
 eval-all_of v (f ∷ fs) =
-    ap (λ b. not (b || eval v (any_of (map opposite fs)))) (eval-opposite v f)
-    ∙ ap (λ b. not (not (eval v f) || b)) (sym (not-not (eval v (any_of (map opposite fs)))))
-    ∙ not-or (eval v f) (eval v (all_of fs)) ∙ ap (λ b. eval v f && b) (eval-all_of v fs)
+    ap (λ b. not (b || eval v (any_statement (map opposite fs)))) (eval-opposite v f)
+    ∙ ap (λ b. not (not (eval v f) || b)) (sym (not-not (eval v (any_statement (map opposite fs)))))
+    ∙ not-or (eval v f) (eval v (all_statements fs)) ∙ ap (λ b. eval v f && b) (eval-all_of v fs)
 
-pub eval-both : (v : ℕ → Bool) (f g : Statement) → eval v (both f g) ≡ (eval v f && eval v g)
+pub eval-both : (v : ℕ → Bool) (f g : Statement) → eval v (both_statements f g) ≡ (eval v f && eval v g)
 eval-both v f g = eval-all_of v (f ∷ g ∷ []) ∙ ap (λ b. eval v f && b) (and-true (eval v g))
 
-pub eval-implies : (v : ℕ → Bool) (f g : Statement) → eval v (implies f g) ≡ (not (eval v f) || eval v g)
+pub eval-implies : (v : ℕ → Bool) (f g : Statement) → eval v (implication_of f g) ≡ (not (eval v f) || eval v g)
 eval-implies v f g = rw (eval-opposite v f, or-false (eval v g)) refl
 
-pub eval-said_of : (v : ℕ → Bool) (x : Defined) → eval v (said_of x) ≡ defined_true v x
+pub eval-said_of : (v : ℕ → Bool) (x : Defined) → eval v (statement_of x) ≡ defined_true v x
 eval-said_of v (Known true) = refl
 eval-said_of v (Known false) = refl
 eval-said_of v (By l) = refl
 
 -- exactly one
-eval-atoms : (v : ℕ → Bool) (ls : List Lit) → eval v (any_of (map atom ls)) ≡ not (none_true (truths v ls))
+eval-atoms : (v : ℕ → Bool) (ls : List Lit) → eval v (any_statement (map atom ls)) ≡ not (none_true (truths v ls))
 eval-atoms v [] = refl
 eval-atoms v (l ∷ ls) = ap (λ b. lit_true v l || b) (eval-atoms v ls) ∙ by-bools (lit_true v l) (none_true (truths v ls))
   where
@@ -105,7 +105,8 @@ one-apart v (l ∷ ls) = ap (λ b. not (none_true (truths v (l ∷ ls))) && b) (
     by-bools false n a o e f = f
 
 pub eval-one_of : (v : ℕ → Bool) (ls : List Lit) → eval v (one_of ls) ≡ one_true (truths v ls)
-eval-one_of v ls = eval-all_of v (any_of (map atom ls) ∷ apart ls) ∙ ap (λ b. b && all_eval v (apart ls)) (eval-atoms v ls) ∙ one-apart v ls
+eval-one_of v ls = eval-all_of v (any_statement (map atom ls) ∷ apart ls) ∙ ap (λ b. b && all_eval v (apart ls)) (eval-atoms v ls)
+    ∙ one-apart v ls
 
 -- the variables of the words
 pub opposite-below : (n : ℕ) (f : Statement) → SaidBelow n f → SaidBelow n (opposite f)
@@ -114,40 +115,41 @@ opposite-below n never b = tt
 opposite-below n (or f g) b = b
 opposite-below n (no f) b = b
 
-pub any_of-below : (n : ℕ) (fs gs : List Statement) → SaidBelow n (any_of fs) → SaidBelow n (any_of gs) → SaidBelow n (any_of (fs ++ gs))
+pub any_of-below : (n : ℕ) (fs gs : List Statement) → SaidBelow n (any_statement fs) → SaidBelow n (any_statement gs)
+    → SaidBelow n (any_statement (fs ++ gs))
 any_of-below n [] gs a b = b
 any_of-below n (f ∷ fs) gs a b = (a.0, any_of-below n fs gs a.1 b)
 
-pub all_of-below : (n : ℕ) (fs : List Statement) → SaidBelow n (any_of fs) → SaidBelow n (all_of fs)
+pub all_of-below : (n : ℕ) (fs : List Statement) → SaidBelow n (any_statement fs) → SaidBelow n (all_statements fs)
 all_of-below n [] b = tt
 all_of-below n (f ∷ fs) b = (opposite-below n f b.0, all_of-below n fs b.1)
 
-pub implies-below : (n : ℕ) (f g : Statement) → SaidBelow n f → SaidBelow n g → SaidBelow n (implies f g)
+pub implies-below : (n : ℕ) (f g : Statement) → SaidBelow n f → SaidBelow n g → SaidBelow n (implication_of f g)
 implies-below n f g a b = (opposite-below n f a, (b, tt))
 
-pub said_of-below : (n : ℕ) (x : Defined) → DefinedBelow n x → SaidBelow n (said_of x)
+pub said_of-below : (n : ℕ) (x : Defined) → DefinedBelow n x → SaidBelow n (statement_of x)
 said_of-below n (Known true) b = tt
 said_of-below n (Known false) b = tt
 said_of-below n (By l) b = b
 
-not_both-below : (n : ℕ) (l : Lit) (ls : List Lit) → var_of l < n → AllBelow n ls → SaidBelow n (any_of (map (not_both l) ls))
+not_both-below : (n : ℕ) (l : Lit) (ls : List Lit) → var_of l < n → AllBelow n ls → SaidBelow n (any_statement (map (not_both l) ls))
 not_both-below n l [] h b = tt
 not_both-below n l (k ∷ ls) h b = ((h, (b.0, tt)), not_both-below n l ls h b.1)
 
-apart-below : (n : ℕ) (ls : List Lit) → AllBelow n ls → SaidBelow n (any_of (apart ls))
+apart-below : (n : ℕ) (ls : List Lit) → AllBelow n ls → SaidBelow n (any_statement (apart ls))
 apart-below n [] b = tt
 apart-below n (l ∷ ls) b = any_of-below n (map (not_both l) ls) (apart ls) (not_both-below n l ls b.0 b.1) (apart-below n ls b.1)
 
-atoms-below : (n : ℕ) (ls : List Lit) → AllBelow n ls → SaidBelow n (any_of (map atom ls))
+atoms-below : (n : ℕ) (ls : List Lit) → AllBelow n ls → SaidBelow n (any_statement (map atom ls))
 atoms-below n [] b = tt
 atoms-below n (l ∷ ls) b = (b.0, atoms-below n ls b.1)
 
 pub one_of-below : (n : ℕ) (ls : List Lit) → AllBelow n ls → SaidBelow n (one_of ls)
-one_of-below n ls b = all_of-below n (any_of (map atom ls) ∷ apart ls) (atoms-below n ls b, apart-below n ls b)
+one_of-below n ls b = all_of-below n (any_statement (map atom ls) ∷ apart ls) (atoms-below n ls b, apart-below n ls b)
 
 -- a table of values, each of which means its formula
 pub value-said : (s t : Gated) (asked v : ℕ → Bool) → Fits v s.gates → MeetsSince asked v s.list t.list → (ds : List Defined)
-    (fs : List Statement) → MeanEach s t ds fs → (k : ℕ) → eval v (value_at ds k) ≡ eval v (part_at fs k)
+    (fs : List Statement) → MeanEach s t ds fs → (k : ℕ) → eval v (statement_at ds k) ≡ eval v (part_at fs k)
 value-said s t asked v i m [] [] h k = refl
 value-said s t asked v i m [] (f ∷ fs) h k = elim h [ ]
 value-said s t asked v i m (d ∷ ds) [] h k = elim h [ ]
@@ -155,13 +157,13 @@ value-said s t asked v i m (d ∷ ds) (f ∷ fs) h zero = eval-said_of v d ∙ h
 value-said s t asked v i m (d ∷ ds) (f ∷ fs) h (suc k) = value-said s t asked v i m ds fs h.1 k
 
 pub value-below : (s t : Gated) (ds : List Defined) (fs : List Statement) → MeanEach s t ds fs → (k : ℕ)
-    → SaidBelow t.list.vars (value_at ds k)
+    → SaidBelow t.list.vars (statement_at ds k)
 value-below s t [] fs h k = tt
 value-below s t (d ∷ ds) [] h k = elim h [ ]
 value-below s t (d ∷ ds) (f ∷ fs) h zero = said_of-below t.list.vars d h.0.below
 value-below s t (d ∷ ds) (f ∷ fs) h (suc k) = value-below s t ds fs h.1 k
 
-pub part-below : (n : ℕ) (fs : List Statement) → SaidBelow n (any_of fs) → (k : ℕ) → SaidBelow n (part_at fs k)
+pub part-below : (n : ℕ) (fs : List Statement) → SaidBelow n (any_statement fs) → (k : ℕ) → SaidBelow n (part_at fs k)
 part-below n [] b k = tt
 part-below n (f ∷ fs) b zero = b.0
 part-below n (f ∷ fs) b (suc k) = part-below n fs b.1 k

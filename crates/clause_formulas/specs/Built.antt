@@ -8,7 +8,7 @@ use Rattle.clause_store.specs.Clauses.{Clauses}
 use Rattle.clause_formulas.specs.declared.defined.Defined.{Defined}
 use Rattle.clause_formulas.specs.declared.defined.Defined.TheVariants.{Known, By}
 use Rattle.clause_formulas.specs.Statements.{Statement, atom, never, or, no, eval}
-use Rattle.clause_formulas.specs.Drafts.{Draft, empty, with_defined, reverse_of}
+use Rattle.clause_formulas.specs.Drafts.{ClauseDraft, empty, draft_with, reverse_of}
 use Rattle.clause_formulas.specs.Gated.{Gated, gated, bare, gate_of}
 use Rattle.clause_circuits.specs.Gates.{kept_clauses, labelled, lit_of, with_gates}
 use Rattle.clause_circuits.specs.Shapes.{any_of as some_of, with_cover}
@@ -32,12 +32,12 @@ pub record Shared (A : Type 0) : Type 0 where
   pub answer : A
 
 -- with a new gate, which is kept
-abbrev pub with_gate : Gated → List Lit → Shared Lit
-with_gate s ls = let m = or_on s.list ls in record { state = gated m.list (s.gates ++ (ls, m.answer) ∷ []); answer = m.answer }
+abbrev pub with_new_gate : Gated → List Lit → Shared Lit
+with_new_gate s ls = let m = or_on s.list ls in record { state = gated m.list (s.gates ++ (ls, m.answer) ∷ []); answer = m.answer }
 
 abbrev pub found_or : Gated → List Lit → Option Lit → Shared Lit
 found_or s ls (Some l) = record { state = s; answer = l }
-found_or s ls None = with_gate s ls
+found_or s ls None = with_new_gate s ls
 
 -- a gate that is true where some literal is: the one that was made, or a new one
 unfoldable pub or_in : Gated → List Lit → Shared Lit
@@ -53,18 +53,18 @@ by_clause s (Some (l ∷ [])) = record { state = s; answer = By l }
 by_clause s (Some (l ∷ k ∷ c)) = by_gate (or_in s (l ∷ k ∷ c))
 
 -- the value of a draft: a gate only for a clause of two literals and more
-unfoldable pub named_in : Gated → Draft → Shared Defined
+unfoldable pub named_in : Gated → ClauseDraft → Shared Defined
 named_in s d = if d.always then record { state = s; answer = Known true } else by_clause s (clause_of d.lits)
 
 -- a draft with the literals that make a formula true
-abbrev pub spread_in : Gated → Draft → Statement → Shared Draft
-spread_in s d (atom l) = record { state = s; answer = with_defined d (By l) }
+abbrev pub spread_in : Gated → ClauseDraft → Statement → Shared ClauseDraft
+spread_in s d (atom l) = record { state = s; answer = draft_with d (By l) }
 spread_in s d never = record { state = s; answer = d }
 spread_in s d (or f g) = let m = spread_in s d f in spread_in m.state m.answer g
 spread_in s d (no f) =
     let m = spread_in s empty f in
     let n = named_in m.state m.answer in
-    record { state = n.state; answer = with_defined d (reverse_of n.answer) }
+    record { state = n.state; answer = draft_with d (reverse_of n.answer) }
 
 -- a literal that is true where some literal is, and may be true elsewhere
 unfoldable pub cover_on : Clauses → List Lit → Grown Lit
@@ -77,27 +77,27 @@ by_cover s (Some (l ∷ [])) = record { list = s; answer = By l }
 by_cover s (Some (l ∷ k ∷ c)) = let m = cover_on s (l ∷ k ∷ c) in record { list = m.list; answer = By m.answer }
 
 -- a value that is true where a draft is, and may be true elsewhere
-unfoldable pub covered_on : Clauses → Draft → Grown Defined
+unfoldable pub covered_on : Clauses → ClauseDraft → Grown Defined
 covered_on s d = if d.always then record { list = s; answer = Known true } else by_cover s (clause_of d.lits)
 
 -- a draft with literals of which none is true unless a formula is: of what stands under the other sign, one side is enough
-abbrev pub ask_in : Gated → Draft → Statement → Shared Draft
-ask_in s d (atom l) = record { state = s; answer = with_defined d (By l) }
+abbrev pub ask_in : Gated → ClauseDraft → Statement → Shared ClauseDraft
+ask_in s d (atom l) = record { state = s; answer = draft_with d (By l) }
 ask_in s d never = record { state = s; answer = d }
 ask_in s d (or f g) = let m = ask_in s d f in ask_in m.state m.answer g
 ask_in s d (no f) =
     let m = spread_in s empty f in
     let n = covered_on m.state.list m.answer in
-    record { state = gated n.list m.state.gates; answer = with_defined d (reverse_of n.answer) }
+    record { state = gated n.list m.state.gates; answer = draft_with d (reverse_of n.answer) }
 
 unfoldable pub define_in : Gated → Statement → Shared Defined
 define_in s f = let m = spread_in s empty f in named_in m.state m.answer
 
 -- the list with the clause of a draft
-unfoldable pub with_draft : Clauses → Label → Draft → Clauses
+unfoldable pub with_draft : Clauses → Label → ClauseDraft → Clauses
 with_draft s label d = if d.always then s else with_kept s label d.lits
 
-abbrev pub drafted : Gated → Label → Draft → Gated
+abbrev pub drafted : Gated → Label → ClauseDraft → Gated
 drafted s label d = gated (with_draft s.list label d) s.gates
 
 abbrev pub claimed : Bool → Bool → Bool
@@ -107,16 +107,16 @@ claimed sign b = if sign then b else not b
 abbrev pub assert_in : Label → Gated → Bool → Statement → Gated
 assert_in label s true (no f) = assert_in label s false f
 assert_in label s false (no f) = assert_in label s true f
-assert_in label s false (atom l) = drafted s label (with_defined empty (By (negation l)))
+assert_in label s false (atom l) = drafted s label (draft_with empty (By (negation l)))
 assert_in label s false never = s
 assert_in label s false (or f g) = assert_in label (assert_in label s false f) false g
-assert_in label s true (atom l) = drafted s label (with_defined empty (By l))
+assert_in label s true (atom l) = drafted s label (draft_with empty (By l))
 assert_in label s true never = drafted s label empty
 assert_in label s true (or f g) = let m = ask_in s empty (or f g) in drafted m.state label m.answer
 
 -- a formula's value, and the clause of this value alone
 unfoldable pub demand_in : Gated → Statement → ℕ → Gated
-demand_in s f id = let m = define_in s f in drafted m.state (Demand id) (with_defined empty m.answer)
+demand_in s f id = let m = define_in s f in drafted m.state (Demand id) (draft_with empty m.answer)
 
 -- the values of formulas, in their order
 abbrev pub define_all_in : Gated → List Statement → Shared (List Defined)

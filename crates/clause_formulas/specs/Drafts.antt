@@ -19,17 +19,17 @@ reverse_of (Known b) = Known (not b)
 reverse_of (By l) = By (negation l)
 
 -- the formula that it is
-abbrev pub said_of : Defined → Statement
-said_of (Known b) = if b then no never else never
-said_of (By l) = atom l
+abbrev pub statement_of : Defined → Statement
+statement_of (Known b) = if b then no never else never
+statement_of (By l) = atom l
 
 abbrev pub value_in : Option Defined → Statement
 value_in None = never
-value_in (Some d) = said_of d
+value_in (Some d) = statement_of d
 
 -- the formula of a value in a list: false beyond its end
-abbrev pub value_at : List Defined → ℕ → Statement
-value_at ds k = value_in (slice_get ds k)
+abbrev pub statement_at : List Defined → ℕ → Statement
+statement_at ds k = value_in (slice_get ds k)
 
 abbrev pub part_in : Option Statement → Statement
 part_in None = never
@@ -39,16 +39,16 @@ abbrev pub part_at : List Statement → ℕ → Statement
 part_at fs k = part_in (slice_get fs k)
 
 -- some of these literals is true, or it always holds
-pub record Draft : Type 0 where
+pub record ClauseDraft : Type 0 where
   pub lits : List Lit
   pub always : Bool
 
-abbrev pub draft_true : (ℕ → Bool) → Draft → Bool
+abbrev pub draft_true : (ℕ → Bool) → ClauseDraft → Bool
 draft_true v d = d.always || clause_true v d.lits
 
-abbrev pub empty : Draft
+abbrev pub empty : ClauseDraft
 empty = record { lits = []; always = false }
 
-abbrev pub with_defined : Draft → Defined → Draft
-with_defined d (Known b) = record d { always = d.always || b }
-with_defined d (By l) = record d { lits = d.lits ++ l ∷ [] }
+abbrev pub draft_with : ClauseDraft → Defined → ClauseDraft
+draft_with d (Known b) = record d { always = d.always || b }
+draft_with d (By l) = record d { lits = d.lits ++ l ∷ [] }

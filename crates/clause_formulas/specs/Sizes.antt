@@ -5,10 +5,10 @@ use denote.Param.Weighed.{most}
 use Rattle.clause_formulas.specs.declared.formula.Node.{Node}
 use Rattle.clause_formulas.specs.declared.formula.Node.TheVariants.{Atom, Any, NoneOf}
 use Rattle.clause_formulas.specs.declared.formula.Formula.TheDeep.{deep-Node}
-use Rattle.clause_formulas.specs.Statements.{Statement, any_of, weight}
+use Rattle.clause_formulas.specs.Statements.{Statement, any_statement, weight}
 use Rattle.clause_formulas.specs.Nodes.{said}
 
-most_le-weight : (fs : List Statement) → most (λ f. weight f + 1) fs ≤ weight (any_of fs)
+most_le-weight : (fs : List Statement) → most (λ f. weight f + 1) fs ≤ weight (any_statement fs)
 most_le-weight [] = omega arith
 most_le-weight (f ∷ fs) = omega (arith, most_le-weight fs)
 

@@ -3,7 +3,7 @@
 ghost use Rattle.std.specs.Prelude.{◌≡◌, Some, IfOk, OnOk};
 ghost use Rattle.clause_store.specs.Lits.{AllBelow};
 ghost use Rattle.clause_circuits.specs.Growth.{Extends};
-ghost use Rattle.clause_formulas.specs.Statements.{SaidBelow, any_of, no};
+ghost use Rattle.clause_formulas.specs.Statements.{SaidBelow, any_statement, no};
 ghost use Rattle.clause_formulas.specs.Gated.{gated, GatesBelow, Keeps};
 ghost use Rattle.clause_formulas.specs.Built.{ask_in, by_cover, cover_on, covered_on};
 
@@ -52,11 +52,11 @@ pub(crate) fn ask_any(
     draft: &mut Draft,
     parts: &[Formula],
 ) -> Result<(), AllocError>
-    requires parts_below { SaidBelow clauses.old.vars (any_of parts.now) }
+    requires parts_below { SaidBelow clauses.old.vars (any_statement parts.now) }
     requires gates_below { GatesBelow clauses.old.vars gates.old }
     requires draft_below { AllBelow clauses.old.vars draft.old.lits }
     ensures built { OnOk result (ask_in (gated clauses.old gates.old) draft.old
-        (any_of parts.now) ≡ record {
+        (any_statement parts.now) ≡ record {
           state =
               gated clauses.new gates.new;
           answer = draft.new;
@@ -77,10 +77,10 @@ fn ask_none(
     draft: &mut Draft,
     parts: &[Formula],
 ) -> Result<(), AllocError>
-    requires parts_below { SaidBelow clauses.old.vars (any_of parts.now) }
+    requires parts_below { SaidBelow clauses.old.vars (any_statement parts.now) }
     requires gates_below { GatesBelow clauses.old.vars gates.old }
     ensures built { OnOk result (ask_in (gated clauses.old gates.old) draft.old
-        (no (any_of parts.now)) ≡ record {
+        (no (any_statement parts.now)) ≡ record {
           state =
               gated clauses.new gates.new;
           answer = draft.new;

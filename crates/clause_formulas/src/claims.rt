@@ -3,7 +3,7 @@ ghost use Rattle.std.specs.Prelude.{◌≡◌, true, OnOk, OnErr};
 ghost use Rattle.clause_store.specs.declared.Label.TheVariants.{Demand as DemandOf};
 ghost use Rattle.clause_store.specs.Lits.{AllBelow};
 ghost use Rattle.clause_circuits.specs.Growth.{Says, where_asked};
-ghost use Rattle.clause_formulas.specs.Statements.{SaidBelow, any_of, eval};
+ghost use Rattle.clause_formulas.specs.Statements.{SaidBelow, any_statement, eval};
 ghost use Rattle.clause_formulas.specs.Gated.{gated, GatesBelow};
 ghost use Rattle.clause_formulas.specs.Built.{with_draft, assert_in, assert_on, claimed, demand_in, demand_all_in, demands_true};
 ghost use Rattle.clause_formulas.specs.Allowed.{Allows, AllowsIn, SaysIn};
@@ -91,7 +91,7 @@ pub fn demand_all_in(
     gates: &mut Gates,
     formulas: &[Formula],
 ) -> Result<(), AllocError>
-    requires formulas_below { SaidBelow clauses.old.vars (any_of formulas.now) }
+    requires formulas_below { SaidBelow clauses.old.vars (any_statement formulas.now) }
     requires gates_below { GatesBelow clauses.old.vars gates.old }
     ensures built { OnOk result (demand_all_in (gated clauses.old gates.old) 0 formulas.now
         ≡ gated clauses.new gates.new) }
@@ -144,12 +144,12 @@ fn claim_any(
     parts: &[Formula],
     label: Label,
 ) -> Result<(), AllocError>
-    requires parts_below { SaidBelow clauses.old.vars (any_of parts.now) }
+    requires parts_below { SaidBelow clauses.old.vars (any_statement parts.now) }
     requires gates_below { GatesBelow clauses.old.vars gates.old }
     ensures built { OnOk result (assert_in label (gated clauses.old gates.old) sign
-        (any_of parts.now) ≡ gated clauses.new gates.new) }
+        (any_statement parts.now) ≡ gated clauses.new gates.new) }
     ensures allows { AllowsIn (gated clauses.old gates.old) (gated clauses.new gates.new)
-        (λ asked v. where_asked label (λ w. claimed sign (eval w (any_of parts.now))) asked v
+        (λ asked v. where_asked label (λ w. claimed sign (eval w (any_statement parts.now))) asked v
         ≡ true) }
 {
     if sign {

@@ -1,6 +1,6 @@
 //! What is known of a formula.
 ghost use Rattle.std.specs.Prelude.{◌≡◌, OnOk};
-ghost use Rattle.clause_formulas.specs.Drafts.{reverse_of, with_defined, empty};
+ghost use Rattle.clause_formulas.specs.Drafts.{reverse_of, draft_with, empty};
 
 use clause_store::Lit;
 use std::alloc::{AllocError, Global};
@@ -33,9 +33,9 @@ pub(crate) struct Draft {
 }
 
 impl Model for Draft {
-    ghost use Rattle.clause_formulas.specs.Drafts.{Draft};
+    ghost use Rattle.clause_formulas.specs.Drafts.{ClauseDraft};
 
-    ghost Value = { Draft };
+    ghost Value = { ClauseDraft };
 
     ghost view = { λ d. record { lits = d.lits.items; always = d.always } };
 }
@@ -53,7 +53,7 @@ impl Draft {
 
     /// One more part: a known value, or a literal.
     pub(crate) fn put(&mut self, value: Defined) -> Result<(), AllocError>
-        ensures { OnOk result (self.new ≡ with_defined self.old value) }
+        ensures { OnOk result (self.new ≡ draft_with self.old value) }
     {
         match value {
             Defined::Known(holds) => self.always = self.always || holds,

@@ -1,7 +1,7 @@
 //! A formula as plain data.
 ghost use Rattle.std.specs.Prelude.{◌≡◌, ◌++◌, map, IfOk, OnOk};
-ghost use Rattle.clause_formulas.specs.Statements.{atom, any_of, all_of, both, implies, one_of, not_both, opposite};
-ghost use Rattle.clause_formulas.specs.Drafts.{said_of, value_at};
+ghost use Rattle.clause_formulas.specs.Statements.{atom, any_statement, all_statements, both_statements, implication_of, one_of, not_both, opposite};
+ghost use Rattle.clause_formulas.specs.Drafts.{statement_of, statement_at};
 
 use crate::defined::Defined;
 use clause_store::Lit;
@@ -54,7 +54,7 @@ impl Formula {
 
     /// Some formula of the list is true.
     pub fn any(parts: Vec<Formula>) -> Formula
-        ensures { result ≡ any_of parts.items }
+        ensures { result ≡ any_statement parts.items }
     {
         Formula {
             node: Node::Any(parts),
@@ -76,7 +76,7 @@ impl Formula {
 
     /// A value that was defined before.
     pub fn of(alloc: Global, value: Defined) -> Formula
-        ensures { result ≡ said_of value }
+        ensures { result ≡ statement_of value }
     {
         match value {
             Defined::Known(true) => Formula {
@@ -89,7 +89,7 @@ impl Formula {
 
     /// A value of a list that was defined before: false beyond its end.
     pub fn value(alloc: Global, values: &[Defined], at: usize) -> Formula
-        ensures { result ≡ value_at values.now at }
+        ensures { result ≡ statement_at values.now at }
     {
         match values.get(at) {
             Some(value) => Formula::of(alloc, *value),
@@ -99,7 +99,7 @@ impl Formula {
 
     /// Each formula of the list is true.
     pub fn all(alloc: Global, parts: Vec<Formula>) -> Result<Formula, AllocError>
-        ensures { IfOk result (λ formula. formula ≡ all_of parts.items) }
+        ensures { IfOk result (λ formula. formula ≡ all_statements parts.items) }
     {
         let mut negated = Vec::new(alloc);
         for part in parts {
@@ -112,7 +112,7 @@ impl Formula {
 
     /// Both formulas are true.
     pub fn both(alloc: Global, first: Formula, second: Formula) -> Result<Formula, AllocError>
-        ensures { IfOk result (λ formula. formula ≡ both first second) }
+        ensures { IfOk result (λ formula. formula ≡ both_statements first second) }
     {
         let mut parts = Vec::new(alloc);
         parts.push(first)?;
@@ -122,7 +122,7 @@ impl Formula {
 
     /// The second formula is true where the first is.
     pub fn implies(alloc: Global, first: Formula, second: Formula) -> Result<Formula, AllocError>
-        ensures { IfOk result (λ formula. formula ≡ implies first second) }
+        ensures { IfOk result (λ formula. formula ≡ implication_of first second) }
     {
         let mut parts = Vec::new(alloc);
         parts.push(first.negated())?;

@@ -3,7 +3,7 @@ ghost use Rattle.std.specs.Prelude.{◌≡◌, ℕ, Bool, List, length};
 ghost use Rattle.clause_store.specs.declared.Lit.{Lit};
 ghost use Rattle.clause_store.specs.Lits.{AllBelow};
 ghost use Rattle.clause_store.specs.declared.Label.TheVariants.{Structure};
-ghost use Rattle.clause_formulas.specs.Statements.{any_of, eval, all_eval, one_true, one_of, truths, SaidBelow};
+ghost use Rattle.clause_formulas.specs.Statements.{any_statement, eval, all_eval, one_true, one_of, truths, SaidBelow};
 ghost use Rattle.clause_formulas.specs.Built.{assert_on};
 ghost use Rattle.clause_formulas.specs.Few.{few_true, few_of, one_among, some_lits, clauses_of};
 
@@ -14,7 +14,7 @@ pub fn few_laws()
     ensures one { (v : ℕ → Bool) (lits : List Lit)
         → eval v (one_among lits) ≡ one_true (truths v lits) }
     ensures few_below { (n times : ℕ) (lits : List Lit) → AllBelow n lits
-        → SaidBelow n (any_of (few_of times lits)) }
+        → SaidBelow n (any_statement (few_of times lits)) }
     ensures one_below { (n : ℕ) (lits : List Lit) → AllBelow n lits → SaidBelow n (one_among lits) }
 {}
 

@@ -1,6 +1,6 @@
 //! The test of what the calls ask of a formula: that its variables are the list's.
 ghost use Rattle.std.specs.Prelude.{◌≡◌, ◌↔◌, IsTrue};
-ghost use Rattle.clause_formulas.specs.Statements.{SaidBelow, any_of};
+ghost use Rattle.clause_formulas.specs.Statements.{SaidBelow, any_statement};
 
 use crate::formula::{Formula, Node};
 
@@ -19,7 +19,7 @@ pub fn is_below(formula: &Formula, vars: u64) -> bool
 /// The same for each of a list.
 #[cycle(range)]
 pub fn are_below(formulas: &[Formula], vars: u64) -> bool
-    ensures { IsTrue result ↔ SaidBelow vars (any_of formulas.now) }
+    ensures { IsTrue result ↔ SaidBelow vars (any_statement formulas.now) }
 {
     for formula in formulas {
         if !is_below(formula, vars) {

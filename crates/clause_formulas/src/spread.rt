@@ -1,7 +1,7 @@
 //! The clauses of a formula.
 ghost use Rattle.std.specs.Prelude.{◌≡◌, Some, IfOk, OnOk};
 ghost use Rattle.clause_store.specs.Lits.{AllBelow};
-ghost use Rattle.clause_formulas.specs.Statements.{SaidBelow, any_of};
+ghost use Rattle.clause_formulas.specs.Statements.{SaidBelow, any_statement};
 ghost use Rattle.clause_formulas.specs.Gated.{gated, GatesBelow, Keeps};
 ghost use Rattle.clause_formulas.specs.Built.{by_clause, named_in, spread_in};
 
@@ -52,11 +52,11 @@ pub(crate) fn spread_any(
     draft: &mut Draft,
     parts: &[Formula],
 ) -> Result<(), AllocError>
-    requires parts_below { SaidBelow clauses.old.vars (any_of parts.now) }
+    requires parts_below { SaidBelow clauses.old.vars (any_statement parts.now) }
     requires gates_below { GatesBelow clauses.old.vars gates.old }
     requires draft_below { AllBelow clauses.old.vars draft.old.lits }
     ensures built { OnOk result (spread_in (gated clauses.old gates.old) draft.old
-        (any_of parts.now) ≡ record {
+        (any_statement parts.now) ≡ record {
           state =
               gated clauses.new gates.new;
           answer = draft.new;

@@ -5,8 +5,8 @@ ghost use Rattle.clause_store.specs.declared.Label.TheVariants.{Structure, Deman
 ghost use Rattle.clause_store.specs.Lits.{negation, AllBelow};
 ghost use Rattle.clause_circuits.specs.Gates.{lit_of, labelled};
 ghost use Rattle.clause_formulas.specs.declared.defined.Defined.TheVariants.{Known, By};
-ghost use Rattle.clause_formulas.specs.Statements.{Statement, atom, never, eval, opposite, any_of, all_of, both, implies, one_of, all_eval, one_true, truths, SaidBelow};
-ghost use Rattle.clause_formulas.specs.Rules.{Rule, keeps_rule, in_words};
+ghost use Rattle.clause_formulas.specs.Statements.{Statement, atom, never, eval, opposite, any_statement, all_statements, both_statements, implication_of, one_of, all_eval, one_true, truths, SaidBelow};
+ghost use Rattle.clause_formulas.specs.Rules.{Proposition, keeps_rule, in_words};
 ghost use Rattle.clause_formulas.specs.Gated.{Gated, gated, bare};
 ghost use Rattle.clause_formulas.specs.Built.{define_in, define_all_in, define_on, assert_on, demand_in, demand_all_in};
 ghost use Rattle.clause_formulas.specs.Rows.{a, b, c, start, made, shared, entries_of, with_entries, structures};
@@ -14,13 +14,15 @@ ghost use Rattle.clause_formulas.specs.Rows.{a, b, c, start, made, shared, entri
 /// The words of formulas say what their names say.
 pub fn word_laws()
     ensures negated { (v : ℕ → Bool) (f : Statement) → eval v (opposite f) ≡ not (eval v f) }
-    ensures all { (v : ℕ → Bool) (fs : List Statement) → eval v (all_of fs) ≡ all_eval v fs }
-    ensures both { (v : ℕ → Bool) (f g : Statement) → eval v (both f g) ≡ (eval v f && eval v g) }
+    ensures all { (v : ℕ → Bool) (fs : List Statement)
+        → eval v (all_statements fs) ≡ all_eval v fs }
+    ensures both { (v : ℕ → Bool) (f g : Statement)
+        → eval v (both_statements f g) ≡ (eval v f && eval v g) }
     ensures implies { (v : ℕ → Bool) (f g : Statement)
-        → eval v (implies f g) ≡ (not (eval v f) || eval v g) }
+        → eval v (implication_of f g) ≡ (not (eval v f) || eval v g) }
     ensures one { (v : ℕ → Bool) (ls : List Lit) → eval v (one_of ls) ≡ one_true (truths v ls) }
-    ensures all_in_range { (n : ℕ) (fs : List Statement) → SaidBelow n (any_of fs)
-        → SaidBelow n (all_of fs) }
+    ensures all_in_range { (n : ℕ) (fs : List Statement) → SaidBelow n (any_statement fs)
+        → SaidBelow n (all_statements fs) }
     ensures one_in_range { (n : ℕ) (ls : List Lit) → AllBelow n ls → SaidBelow n (one_of ls) }
 {}
 
@@ -28,8 +30,10 @@ pub fn word_laws()
 /// variables but those of the words.
 pub fn rule_laws<W>()
     ensures said { (v : ℕ → Bool) (f : W → Statement) (p : W → Bool)
-        → ((w : W) → eval v (f w) ≡ p w) → (r : Rule W) → eval v (in_words f r) ≡ keeps_rule p r }
-    ensures in_range { (n : ℕ) (f : W → Statement) → ((w : W) → SaidBelow n (f w)) → (r : Rule W)
+        → ((w : W) → eval v (f w) ≡ p w) → (r : Proposition W)
+        → eval v (in_words f r) ≡ keeps_rule p r }
+    ensures in_range { (n : ℕ) (f : W → Statement) → ((w : W) → SaidBelow n (f w))
+        → (r : Proposition W)
         → SaidBelow n (in_words f r) }
 {}
 
@@ -46,13 +50,15 @@ pub fn gate_laws()
 /// Two literals take one variable; one that is said twice beside a constant, and constants, none.
 #[tactic(auto, unfolding(crate::specs::Built::define_on, crate::specs::Built::define_in, crate::specs::Built::named_in, crate::specs::Built::or_in, crate::specs::Built::or_on, clause_circuits::specs::Gates::kept_clauses))]
 pub fn worked_values()
-    ensures two { define_on start (any_of (atom a ∷ atom b ∷ []))
+    ensures two { define_on start (any_statement (atom a ∷ atom b ∷ []))
         ≡ made ((negation a ∷ lit_of 3 ∷ []) ∷ (negation b ∷ lit_of 3 ∷ [])
         ∷ (a ∷ b ∷ negation (lit_of 3) ∷ []) ∷ []) 4 (By (lit_of 3)) }
-    ensures one { define_on start (any_of (atom a ∷ never ∷ atom a ∷ all_of (atom a ∷ []) ∷ []))
+    ensures one { define_on start (any_statement
+        (atom a ∷ never ∷ atom a ∷ all_statements (atom a ∷ []) ∷ []))
         ≡ made [] 3 (By a) }
-    ensures always { define_on start (any_of (all_of [] ∷ atom a ∷ [])) ≡ made [] 3 (Known true) }
-    ensures both_signs { define_on start (all_of (atom a ∷ atom (negation a) ∷ []))
+    ensures always { define_on start (any_statement (all_statements [] ∷ atom a ∷ []))
+        ≡ made [] 3 (Known true) }
+    ensures both_signs { define_on start (all_statements (atom a ∷ atom (negation a) ∷ []))
         ≡ made [] 3 (Known false) }
 {}
 
@@ -60,7 +66,7 @@ pub fn worked_values()
 #[tactic(auto, unfolding(crate::specs::Built::define_in, crate::specs::Built::demand_in, crate::specs::Built::with_draft, crate::specs::Built::named_in, crate::specs::Built::or_in, crate::specs::Built::or_on, clause_circuits::specs::Gates::kept_clauses))]
 pub fn worked_claims()
     ensures implication { assert_on Structure start true
-        (implies (both (atom a) (atom b)) (any_of (atom c ∷ never ∷ [])))
+        (implication_of (both_statements (atom a) (atom b)) (any_statement (atom c ∷ never ∷ [])))
         ≡ with_entries (structures ((negation a ∷ negation b ∷ c ∷ []) ∷ [])) 3 }
     ensures one_of_three { assert_on Structure start true (one_of (a ∷ b ∷ c ∷ []))
         ≡ with_entries (structures ((a ∷ b ∷ c ∷ []) ∷ (negation a ∷ negation b ∷ [])
@@ -73,12 +79,13 @@ pub fn worked_claims()
 /// stands twice in a formula takes one: twelve clauses, where a gate for each time made fifteen.
 #[tactic(auto, unfolding(crate::specs::Built::define_in, crate::specs::Built::demand_in, crate::specs::Built::with_draft, crate::specs::Built::named_in, crate::specs::Built::or_in, crate::specs::Built::or_on, clause_circuits::specs::Gates::kept_clauses))]
 pub fn worked_gates()
-    ensures once { define_all_in (bare start) (any_of (atom a ∷ atom b ∷ [])
-        ∷ any_of (atom b ∷ atom a ∷ []) ∷ all_of (atom (negation a) ∷ atom (negation b) ∷ []) ∷ [])
+    ensures once { define_all_in (bare start) (any_statement (atom a ∷ atom b ∷ [])
+        ∷ any_statement (atom b ∷ atom a ∷ [])
+        ∷ all_statements (atom (negation a) ∷ atom (negation b) ∷ []) ∷ [])
         ≡ shared ((negation a ∷ lit_of 3 ∷ []) ∷ (negation b ∷ lit_of 3 ∷ [])
         ∷ (a ∷ b ∷ negation (lit_of 3) ∷ []) ∷ []) 4 ((a ∷ b ∷ [], lit_of 3) ∷ [])
         (By (lit_of 3) ∷ By (lit_of 3) ∷ By (negation (lit_of 3)) ∷ []) }
     ensures within { entries_of (define_in (bare start)
-        (any_of (both (any_of (atom a ∷ atom b ∷ [])) (atom c)
-        ∷ both (any_of (atom b ∷ atom a ∷ [])) (atom (negation c)) ∷ []))) ≡ 12 }
+        (any_statement (both_statements (any_statement (atom a ∷ atom b ∷ [])) (atom c)
+        ∷ both_statements (any_statement (atom b ∷ atom a ∷ [])) (atom (negation c)) ∷ []))) ≡ 12 }
 {}

@@ -1,7 +1,7 @@
 //! Formulas get values.
 ghost use Rattle.std.specs.Prelude.{◌≡◌, IfOk};
 ghost use Rattle.clause_circuits.specs.Growth.{Extends};
-ghost use Rattle.clause_formulas.specs.Statements.{SaidBelow, any_of, eval};
+ghost use Rattle.clause_formulas.specs.Statements.{SaidBelow, any_statement, eval};
 ghost use Rattle.clause_formulas.specs.Drafts.{defined_true, DefinedBelow};
 ghost use Rattle.clause_formulas.specs.Gated.{gated, GatesBelow, Keeps};
 ghost use Rattle.clause_formulas.specs.Values.{DefinesValue, DefinesIn, DefinesValues};
@@ -47,7 +47,7 @@ pub fn define_all_in(
     gates: &mut Gates,
     formulas: &[Formula],
 ) -> Result<Vec<Defined>, AllocError>
-    requires formulas_below { SaidBelow clauses.old.vars (any_of formulas.now) }
+    requires formulas_below { SaidBelow clauses.old.vars (any_statement formulas.now) }
     requires gates_below { GatesBelow clauses.old.vars gates.old }
     ensures built { IfOk result (λ values. define_all_in (gated clauses.old gates.old) formulas.now
         ≡ record {

@@ -1,7 +1,7 @@
 //! The whole program, over a runtime: the top call over the files and the streams of the machine.
 //!
 //! What it is: `run_machine`, which takes the words behind the program's name and ends with an exit status.
-//! What it promises: that status is the place of `run`'s answer in the list of answers (`ended`).
+//! What it promises: that status is the number of `run`'s answer (`ended`).
 //! What it stands on: `concretizer`, and the machine's devices of `outside_desk`.
 //! What it must not know: what the words mean.
 //! It stands apart from `main` so that more than one stored run goes through it.
@@ -59,7 +59,7 @@ fn refuse<E: Sink>(alloc: Global, err: &mut E, line: &str) -> Status {
 /// `concretize` is refused as Usage, before anything is read, where LOCK and CERT lead to one file, or one of them to SETTINGS, DATABASE
 /// or a recipe that stands: what is put there would be lost to the other. `run` compares the words alone, since a desk tells no links.
 ///
-/// It ends with the place of the answer in the list of answers, from 0 for `Done` to 9 for `NoMemory`.
+/// It ends with the number of the answer: its place in the list, from 0 for `Done` to 9 for `NoMemory`, and 11 for `Stale`.
 /// Where the system refuses the words it says nothing, and ends with 9 for want of memory and with 10 for
 /// any other cause.
 pub fn run_machine<R: Env + Files + AllocGlobal + Threads + Sync, O: Write + Drop, E: Write + Drop>(

@@ -11,9 +11,9 @@ use Rattle.run_output.specs.Status.TheVariants as statuses
 use Rattle.run_output.specs.Stop.{Stop}
 use Rattle.run_output.specs.Stops.{stop_status, stop_line}
 use Rattle.run_output.specs.declared.answer.Outcome.{Outcome}
-use Rattle.run_output.specs.declared.answer.Outcome.TheVariants.{Solved, Unsolved, Undecided}
+use Rattle.run_output.specs.declared.answer.Outcome.TheVariants.{Solved, Unsolved, Undecided, Stale}
 use Rattle.concretizer.specs.Attempts.{Attempts, Follows, StopsBefore, FailsToPut, FailsToSay}
-use Rattle.concretizer.specs.Headline.{IsDone, IsSilent, IsUndecided, IsUnsatisfiable, Reports}
+use Rattle.concretizer.specs.Headline.{IsDone, IsOutdated, IsSilent, IsUndecided, IsUnsatisfiable, Reports}
 use Rattle.concretizer.specs.Logs.{IsShownByLogs}
 use Rattle.concretizer.proofs.Ends.{refused}
 use Rattle.concretizer.proofs.Faults.{write_fault, no_memory}
@@ -42,6 +42,11 @@ module _ (sense : Sense) (words : List (List ℕ)) (after : Option Files) (out e
   spent None left = tt
   spent (Some files) left = record { task = left.task; read = left.read; spent = left.left; errors = silent }
 
+  outdated : (before : Option Files) → IfSome before (λ files. Attempts sense files words after out.0 out.1 (Ok Stale))
+      → IfSome before (λ files. IsOutdated sense files words after out err)
+  outdated None left = tt
+  outdated (Some files) left = record { task = left.task; read = left.read; better = left.left; errors = silent }
+
   -- Done
   pub done : (before : Option Files) (outcome : Outcome) → outcome ≡ Solved
       → IfSome before (λ files. Attempts sense files words after out.0 out.1 (Ok outcome))
@@ -60,6 +65,12 @@ module _ (sense : Sense) (words : List (List ℕ)) (after : Option Files) (out e
       → IfSome before (λ files. IsUndecided sense files words after out err)
   undecided before outcome same left = spent before (came before outcome Undecided same left)
 
+  -- Stale
+  pub stale : (before : Option Files) (outcome : Outcome) → outcome ≡ Stale
+      → IfSome before (λ files. Attempts sense files words after out.0 out.1 (Ok outcome))
+      → IfSome before (λ files. IsOutdated sense files words after out err)
+  stale before outcome same left = outdated before (came before outcome Stale same left)
+
 module _ (words : List (List ℕ)) (files : Option Files × Option Files) (stop : Stop) (puts says errs : ℕ × ℕ) (out err : Spoken)
     (follows : Follows files.0 words (Err stop))
     (left : IfSome files.0 (λ before. Attempts evidence before words files.1 out.0 out.1 (Err stop)))
@@ -72,6 +83,7 @@ module _ (words : List (List ℕ)) (files : Option Files × Option Files) (stop 
   stopped_shown statuses.Unsatisfiable reports =
       absurd (unanswered stop statuses.Unsatisfiable tt err errs statuses.Unsatisfiable reports refl)
   stopped_shown statuses.Undecided reports = absurd (unanswered stop statuses.Undecided tt err errs statuses.Undecided reports refl)
+  stopped_shown statuses.Stale reports = absurd (unanswered stop statuses.Stale tt err errs statuses.Stale reports refl)
   stopped_shown statuses.ReadFault reports = tt
   stopped_shown statuses.WriteFault reports =
       write_fault evidence words stop puts says files out err errs statuses.WriteFault reports follows left unsaid put said refl

@@ -9,7 +9,7 @@ use Rattle.run_output.specs.Tasks.{Poses}
 use Rattle.run_output.specs.CertificateVerdicts.{no_verdict}
 use Rattle.run_output.specs.Certificates.{log_verdict}
 use Rattle.run_output.specs.Evidence.{evidence}
-use Rattle.run_output.specs.Refusals.{status_of, line_of}
+use Rattle.run_output.specs.Refusals.{status_of, line_of_refusal}
 use Rattle.run_output.specs.Senses.{Sense}
 use Rattle.run_output.specs.Stops.{stop_status, stop_line}
 use Rattle.concretizer.specs.Attempts.{Attempts, Concludes, StopsAtOnce, FailsToRead, FailsToPut, FailsToSay}
@@ -177,7 +177,7 @@ due_here laws files words Usage after out err reads puts says errs result left c
     not_refused words poses.0 poses.1 left.0
 due_here laws files words (Read (Refused given)) after out err reads puts says errs result left counts reports refusal poses still =
     subst (λ (r : Refusal). IsAnsweredBy (status_of r) result) (same_refusal laws files words given refusal left.0 poses)
-    (reported (status_of given) (line_of given) err errs result reports still.err)
+    (reported (status_of given) (line_of_refusal given) err errs result reports still.err)
 due_here laws files words (Read (Fault path)) after out err reads puts says errs result left counts reports refusal poses still =
     absurd (still.read (counts.read.cause tt))
 due_here laws files words (Read NoMemory) after out err reads puts says errs result left counts reports refusal poses still =

@@ -15,15 +15,14 @@ use Rattle.run_output.specs.Stop.TheVariants.{Write}
 use Rattle.run_output.specs.Task.{Task}
 use Rattle.run_output.specs.Task.TheVariants as tasks
 use Rattle.run_output.specs.Tasks.{Named, IsOf}
-use Rattle.run_output.specs.Words.{Command, command_of, is_dash, lock_path, cert_path}
+use Rattle.run_output.specs.Words.{Command, command_of, is_dash_path, lock_path, cert_path}
 use Rattle.run_output.specs.Work.{Work}
 use Rattle.run_output.specs.Work.TheVariants as works
 use Rattle.run_output.specs.WriteStop.{WriteStop}
 use Rattle.run_output.specs.WriteStop.TheVariants.{Put, Output, NoMemory}
 use Rattle.concretizer.specs.Asked.{IsAsked, IsPutPath}
 use Rattle.concretizer.specs.Attempts.{Attempts, Follows, StopsBefore}
-use Rattle.run_output.specs.Shown.{IsShown}
-use Rattle.concretizer.specs.Headline.{HasShown, Keeps}
+use Rattle.concretizer.specs.Headline.{Keeps}
 
 -- the stop that was handed on
 pub write_carried : (stop : WriteStop) (result : Result Outcome Stop) → IsErrAnd result (λ given. given ≡ Write stop) → result ≡ Err (Write stop)
@@ -85,17 +84,13 @@ held words command lock cert task (Some files) between after ordered read same a
 
 is_concretize : (work : Work) (input : Input) → IsOf work (tasks.Solve input) → work ≡ works.Concretize
 is_concretize works.Concretize input of = refl
-is_concretize works.Judge input of = absurd of
-is_concretize works.Check input of = absurd of
-is_concretize works.Refute input of = absurd of
-is_concretize works.Explain input of = absurd of
-is_concretize (works.Trial packages seed) input of = absurd of
+is_concretize other input of = absurd of
 
 -- the path of a put that failed
 put_path : (words : List (List ℕ)) (lock cert : List ℕ) (input : Input) (answer : Answer) (at : List ℕ) (before after : Option Files)
     → lock ≡ lock_path words → cert ≡ cert_path words → IsHalfPut lock cert input.problem answer at before after → IsPutPath words at
 put_path words lock cert input answer at before after is_lock is_cert (inl (same, (dash, held))) =
-    inr (same ∙ is_cert, subst (λ (c : List ℕ). is_dash c ≡ false) is_cert dash)
+    inr (same ∙ is_cert, subst (λ (c : List ℕ). is_dash_path c ≡ false) is_cert dash)
 put_path words lock cert input answer at before after is_lock is_cert (inr (same, held)) = inl (same ∙ is_lock)
 
 follows_here : (told : Option Files) (words : List (List ℕ)) (lock cert : List ℕ) (task : Task) (stop : WriteStop) (before after : Option Files)
@@ -106,12 +101,7 @@ follows_here told words lock cert (tasks.Solve input) (Put at) before after said
   record { asked = asked; work = is_concretize asked.command.work input work },
   put_path words lock cert input left.answer at before after is_lock is_cert left.half,
 )
-follows_here told words lock cert (tasks.Report numbers) (Put at) before after said_before said_after asked work is_lock is_cert left =
-    absurd left.0
-follows_here told words lock cert tasks.Accepted (Put at) before after said_before said_after asked work is_lock is_cert left = absurd left.0
-follows_here told words lock cert (tasks.Explain input) (Put at) before after said_before said_after asked work is_lock is_cert left =
-    absurd left.0
-follows_here told words lock cert (tasks.Try input) (Put at) before after said_before said_after asked work is_lock is_cert left = absurd left.0
+follows_here told words lock cert other (Put at) before after said_before said_after asked work is_lock is_cert left = absurd left.0
 follows_here told words lock cert task Output before after said_before said_after asked work is_lock is_cert left = asked
 follows_here told words lock cert task NoMemory before after said_before said_after asked work is_lock is_cert left = tt
 
@@ -124,12 +114,6 @@ pub follows : (told : Option Files) (words : List (List ℕ)) (lock cert : List 
 follows told words lock cert task stop result before after said_before said_after carried asked work is_lock is_cert left =
     rw (write_carried stop result carried)
     (follows_here told words lock cert task stop before after said_before said_after asked work is_lock is_cert left)
-
--- what a command's yes shows
-pub has_shown : (words : List (List ℕ)) (command : Command) (before : Option Files) → command_of words ≡ Some command
-    → IfSome before (λ files. IsShown files command) → IfSome before (λ files. HasShown files words)
-has_shown words command None ordered shown = tt
-has_shown words command (Some files) ordered shown = record { command = command; named = ordered; shown = shown }
 
 -- what is said by a writing that stopped before
 quiet : (lock cert : List ℕ) (task : Task) (stop : WriteStop) (before after : Option Files) (said_before said_after : Option (List ℕ))

@@ -6,4 +6,5 @@ pub mod Left
 pub mod Logs
 pub mod Meaning
 pub mod Reported
+pub mod Shown
 pub mod Stages

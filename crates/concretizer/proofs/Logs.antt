@@ -73,6 +73,7 @@ module _ (files : Files) (words : List (List ℕ)) (after : Option Files) (kept 
   of_refusal statuses.Unsatisfiable refuses empty = absurd refuses
   of_refusal statuses.Usage refuses empty = absurd refuses
   of_refusal statuses.Undecided refuses empty = absurd refuses
+  of_refusal statuses.Stale refuses empty = absurd refuses
   of_refusal statuses.BadInput refuses empty = empty
   of_refusal statuses.ReadFault refuses empty = empty
   of_refusal statuses.WriteFault refuses empty = absurd refuses

@@ -76,12 +76,14 @@ abbrev pub IsAnswer : Status → Type 0
 IsAnswer statuses.Done = Unit {0}
 IsAnswer statuses.Unsatisfiable = Unit {0}
 IsAnswer statuses.Undecided = Unit {0}
+IsAnswer statuses.Stale = Unit {0}
 IsAnswer other = ⊥
 
 no_answer : (status : Status) → IsRefusalStatus status → IsAnswer status → ⊥
 no_answer statuses.Done refuses answers = refuses
 no_answer statuses.Unsatisfiable refuses answers = refuses
 no_answer statuses.Undecided refuses answers = refuses
+no_answer statuses.Stale refuses answers = refuses
 no_answer statuses.Usage refuses answers = answers
 no_answer statuses.BadInput refuses answers = answers
 no_answer statuses.TooLarge refuses answers = answers
@@ -117,6 +119,7 @@ no_other : (status : Status) → IsRefusalStatus status → IsOther status
 no_other statuses.Done refuses = absurd refuses
 no_other statuses.Unsatisfiable refuses = absurd refuses
 no_other statuses.Undecided refuses = absurd refuses
+no_other statuses.Stale refuses = absurd refuses
 no_other statuses.Usage refuses = refuses
 no_other statuses.BadInput refuses = tt
 no_other statuses.TooLarge refuses = tt

@@ -8,14 +8,16 @@ use Rattle.run_answers.specs.Exits.{Spoken}
 use Rattle.outside_desk.specs.Causes.{Rose}
 use Rattle.outside_desk.specs.Files.{Files, and_said, SaysPart}
 use Rattle.run_output.specs.Senses.{Sense}
-use Rattle.run_output.specs.Shown.{IsShown}
+use Rattle.run_output.specs.Shown.{IsOutdone, IsShown}
 use Rattle.run_output.specs.Words.{Command, command_of, lock_path, cert_path}
 use Rattle.run_output.specs.Task.{Task}
 use Rattle.run_output.specs.Tasks.{Poses}
-use Rattle.run_output.specs.Refusals.{status_of, line_of}
+use Rattle.run_output.specs.Refusals.{status_of, line_of_refusal}
 use Rattle.run_output.specs.Stop.{Stop}
 use Rattle.run_output.specs.Stops.{read_fault_line, write_fault_line, output_fault_line, no_memory_line, stop_line, usage_line}
-use Rattle.run_output.specs.Answers.{IsFinished, HasNone, HasSpent, IsHalfDone, IsUntold, KeepsWhole}
+use Rattle.run_output.specs.Answers.{IsFinished, HasBetter, HasNone, HasSpent, IsHalfDone, IsUntold, KeepsWhole}
+use Rattle.run_output.specs.declared.answer.Outcome.{Outcome}
+use Rattle.run_output.specs.declared.answer.Outcome.TheVariants as outcomes
 use Rattle.run_output.specs.Refusal.{Refusal}
 use Rattle.run_output.specs.Status.{Status}
 use Rattle.run_output.specs.Status.TheVariants as statuses
@@ -37,20 +39,43 @@ SaysFront said line = SaysPart said.0 said.1 line
 -- Done, by `concretize` (`IsSolved` in `run_output`): LOCK holds the lock file of a graph that is well-formed and optimal
 -- for the problem that was read, CERT, unless it is `-`, the text of a log (as evidence, a certificate of its costs), every
 -- other file is as at entry, its lines were said, and nothing else was. By the other commands (`IsTold`): no file changed, and
--- what the task comes to was said: of `judge` the cost vector of the lock file's valid graph, of `check` and `refute` that the
--- certificate is right, of `explain` that some graph is valid, of `trial` the counts of an optimal graph
+-- what the task comes to was said: of `judge` the cost vector of the lock file's valid graph, of `fresh` that no valid graph costs
+-- less than it, of `check` and `refute` that the certificate is right, of `explain` that some graph is valid, of `find` exactly the
+-- installed packages that meet the condition, of `plan` the earliest order in which the lock file's valid graph can be built, of
+-- `trial` the counts of an optimal graph
 pub record IsDone (sense : Sense) (files : Files) (words : List (List ℕ)) (after : Option Files) (out err : Spoken) : Type 0 where
   pub task : Task
   pub read : Poses sense.verdicts files words (Ok task)
   pub finished : IsFinished sense (lock_path words) (cert_path words) task (Some files) after out.0 out.1
   pub errors : IsSilent err
 
--- What the yes of a command shows, whoever made the files (`IsShown` in `run_task`): of `check`, that LOCK holds a lock file of just
--- the roots that are asked for, and that its graph is optimal for the problem that was read; of `refute`, that no graph is valid
+-- What the yes of a command shows, whoever made the files (`IsShown` in `run_task`): of `check` and `fresh`, that LOCK holds a lock
+-- file of just the roots that are asked for, and that its graph is optimal for the problem that was read; of `refute`, that no graph
+-- is valid
 pub record HasShown (files : Files) (words : List (List ℕ)) : Type 0 where
   pub command : Command
   pub named : command_of words ≡ Some command
   pub shown : IsShown files command
+
+-- Stale, by `fresh` alone: a better graph was found, its cost vector was said, and no file changed
+pub record IsOutdated (sense : Sense) (files : Files) (words : List (List ℕ)) (after : Option Files) (out err : Spoken) : Type 0 where
+  pub task : Task
+  pub read : Poses sense.verdicts files words (Ok task)
+  pub better : HasBetter sense task (Some files) after out.0 out.1
+  pub errors : IsSilent err
+
+-- What that shows, whoever made the lock file (`IsOutdone` in `run_task`): LOCK holds a lock file of just the roots that are asked
+-- for, whose graph is valid, and an optimal graph of the problem that was read costs less
+pub record HasOutdone (files : Files) (words : List (List ℕ)) : Type 0 where
+  pub command : Command
+  pub named : command_of words ≡ Some command
+  pub outdone : IsOutdone files command
+
+-- what is shown where an answer came to this
+abbrev pub ShowsBy : Outcome → Files → List (List ℕ) → Type 0
+ShowsBy outcomes.Solved files words = HasShown files words
+ShowsBy outcomes.Stale files words = HasOutdone files words
+ShowsBy other files words = Unit {0}
 
 -- Unsatisfiable, by `concretize`: no graph is valid, CERT holds the text of a log (as evidence, it refutes the problem), and every
 -- other file is as at entry. By `explain`: a line was said for each demand that a refutation of the problem rests on, and no
@@ -62,7 +87,7 @@ pub record IsUnsatisfiable (sense : Sense) (files : Files) (words : List (List �
   pub errors : IsSilent err
 
 -- Undecided, by `concretize`: the budget of the settings was spent, CERT holds the text of a log (as evidence, it shows that), and
--- every other file is as at entry; by `explain` and `trial` likewise, and no file changed
+-- every other file is as at entry; by `explain`, `fresh` and `trial` likewise, and no file changed
 pub record IsUndecided (sense : Sense) (files : Files) (words : List (List ℕ)) (after : Option Files) (out err : Spoken) : Type 0 where
   pub task : Task
   pub read : Poses sense.verdicts files words (Ok task)
@@ -76,10 +101,10 @@ pub record IsRefused (sense : Sense) (files : Files) (words : List (List ℕ)) (
   pub status : answer ≡ status_of refusal
   pub unchanged : after ≡ Some files
   pub output : IsSilent out
-  pub errors : Says err (line_of refusal)
+  pub errors : Says err (line_of_refusal refusal)
 
 -- ReadFault: the desk failed to read the settings, the folder of packages, a recipe that it names, the database, or what the command
--- looks at besides: the lock file (`judge`, `check`), the certificate (`check`, `refute`); and that was said
+-- looks at besides: the lock file (`judge`, `check`, `fresh`, `plan`), the certificate (`check`, `refute`); and that was said
 pub record IsReadFault (words : List (List ℕ)) (faults : ℕ × ℕ) (files : Option Files × Option Files) (out err : Spoken) : Type 0 where
   pub path : List ℕ
   pub read : IsRead files.0 words path
@@ -157,6 +182,7 @@ abbrev pub Settles : Status → Type 0
 Settles statuses.Done = Unit {0}
 Settles statuses.Unsatisfiable = Unit {0}
 Settles statuses.Undecided = Unit {0}
+Settles statuses.Stale = Unit {0}
 Settles statuses.NoMemory = Unit {0}
 Settles other = ⊥
 

@@ -18,7 +18,7 @@ use Rattle.run_output.specs.Stop.TheVariants.{Usage, Read, Write}
 use Rattle.run_output.specs.Task.{Task}
 use Rattle.run_output.specs.Tasks.{Poses}
 use Rattle.run_output.specs.Words.{lock_path, cert_path}
-use Rattle.concretizer.specs.Headline.{IsDone, IsOutOfMemory, IsRefused, IsUndecided, IsUnsatisfiable, IsWriteFault, Keeps, Settles}
+use Rattle.concretizer.specs.Headline.{IsDone, IsOutOfMemory, IsOutdated, IsRefused, IsUndecided, IsUnsatisfiable, IsWriteFault, Keeps, Settles}
 
 -- ---- what is shown
 
@@ -29,6 +29,7 @@ IsShownByLogs statuses.Unsatisfiable words files puts says errs out err =
     IfSome files.0 (λ before. IsUnsatisfiable evidence before words files.1 out err)
 IsShownByLogs statuses.Undecided words files puts says errs out err =
     IfSome files.0 (λ before. IsUndecided evidence before words files.1 out err)
+IsShownByLogs statuses.Stale words files puts says errs out err = IfSome files.0 (λ before. IsOutdated evidence before words files.1 out err)
 IsShownByLogs statuses.Usage words files puts says errs out err = Unit {0}
 IsShownByLogs statuses.ReadFault words files puts says errs out err = Unit {0}
 IsShownByLogs statuses.WriteFault words files puts says errs out err = IsWriteFault evidence words files puts says errs out err
@@ -76,6 +77,7 @@ abbrev pub KeepsFor : Status → Files → List (List ℕ) → Option Files → 
 KeepsFor statuses.Done files words after kept = HasKept files words outcomes.Solved after kept
 KeepsFor statuses.Unsatisfiable files words after kept = HasKept files words outcomes.Unsolved after kept
 KeepsFor statuses.Undecided files words after kept = HasKept files words outcomes.Undecided after kept
+KeepsFor statuses.Stale files words after kept = HasKept files words outcomes.Stale after kept
 KeepsFor statuses.WriteFault files words after kept = MayKeep files words kept
 KeepsFor statuses.NoMemory files words after kept = MayKeep files words kept
 KeepsFor other files words after kept = kept ≡ []

@@ -1,13 +1,13 @@
 //! The reading of a task, and the writing of its answer.
 
-ghost use Rattle.std.specs.Prelude.{◌≡◌, ◌≤◌, [], Some, None, IfSome, OnOk};
+ghost use Rattle.std.specs.Prelude.{◌≡◌, ◌≤◌, [], Some, None, IfOk, IfSome};
 ghost use Rattle.outside_desk.specs.Causes.{Counts};
 ghost use Rattle.run_output.specs.Evidence.{evidence};
 ghost use Rattle.run_output.specs.Stops.{stop_status, stop_line};
 ghost use Rattle.run_output.specs.Words.{words_of, command_of};
 ghost use Rattle.concretizer.specs.Attempts.{Attempts, Concludes, Follows, StopsAtOnce, StopsBefore, FailsToRead, FailsToPut, FailsToSay};
 ghost use Rattle.concretizer.specs.Logs.{AttemptKeeps};
-ghost use Rattle.concretizer.specs.Headline.{HasShown, Keeps, Reports};
+ghost use Rattle.concretizer.specs.Headline.{Keeps, Reports, ShowsBy};
 
 use outside_desk::{Desk, Sink, SinkFault};
 use run_output::{
@@ -20,8 +20,10 @@ use std::thread::Threads;
 /// What a run of this command is at while it reads.
 fn reading_of(command: &Command<'_>) -> Stage {
     match command.work {
-        Work::Concretize | Work::Explain | Work::Trial { .. } => Stage::Reading,
-        Work::Judge | Work::Check | Work::Refute => Stage::Checking,
+        Work::Concretize | Work::Fresh | Work::Explain | Work::Find | Work::Trial { .. } => {
+            Stage::Reading
+        }
+        Work::Judge | Work::Check | Work::Refute | Work::Plan => Stage::Checking,
     }
 }
 
@@ -41,8 +43,8 @@ fn attempt_by<R: Threads + Sync, D: Desk, O: Sink, P: Progress>(
     ensures outcome { IfSome (D.files desk.old)
         (λ files. Attempts evidence files (words_of _words.now) (D.files desk.new) (O.said out.old)
         (O.said out.new) result) }
-    ensures shown { OnOk result (IfSome (D.files desk.old)
-        (λ files. HasShown files (words_of _words.now))) }
+    ensures shown { IfOk result (λ outcome. IfSome (D.files desk.old)
+        (λ files. ShowsBy outcome files (words_of _words.now))) }
     ensures follows { Follows (D.files desk.old) (words_of _words.now) result }
     ensures unread { FailsToRead result → D.files desk.new ≡ D.files desk.old }
     ensures unsaid { StopsBefore result → O.said out.new ≡ O.said out.old }
@@ -87,8 +89,8 @@ pub fn attempt<R: Threads + Sync, D: Desk, O: Sink, P: Progress>(
     ensures outcome { IfSome (D.files desk.old)
         (λ files. Attempts evidence files (words_of words.now) (D.files desk.new) (O.said out.old)
         (O.said out.new) result) }
-    ensures shown { OnOk result (IfSome (D.files desk.old)
-        (λ files. HasShown files (words_of words.now))) }
+    ensures shown { IfOk result (λ outcome. IfSome (D.files desk.old)
+        (λ files. ShowsBy outcome files (words_of words.now))) }
     ensures follows { Follows (D.files desk.old) (words_of words.now) result }
     ensures at_once { command_of (words_of words.now) ≡ None → StopsAtOnce result
         × (D.files desk.new ≡ D.files desk.old) × (O.said out.new ≡ O.said out.old)

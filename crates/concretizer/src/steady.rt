@@ -7,7 +7,7 @@ ghost use Rattle.run_output.specs.Senses.{meaning};
 ghost use Rattle.run_output.specs.Words.{command_of, words_of};
 ghost use Rattle.run_output.specs.Task.{Task};
 ghost use Rattle.run_output.specs.Tasks.{Poses};
-ghost use Rattle.concretizer.specs.Headline.{IsDone, HasShown, IsUnsatisfiable, IsUndecided, IsRefused, Settles, ReportsWords};
+ghost use Rattle.concretizer.specs.Headline.{IsDone, HasShown, HasOutdone, IsUnsatisfiable, IsUndecided, IsOutdated, IsRefused, Settles, ReportsWords};
 ghost use Rattle.concretizer.specs.Logs.{IsLogged, KeepsFor};
 ghost use Rattle.run_output.specs.Refusals.{status_of};
 ghost use Rattle.run_output.specs.Refusal.{Refusal};
@@ -19,7 +19,7 @@ use std::alloc::Global;
 use std::thread::Threads;
 
 /// `run` over files and sinks in memory, none of which fails. So no fault is answered, and input that
-/// nothing refuses is Done, Unsatisfiable, Undecided or NoMemory, and input that is refused is answered so. Nobody is told how far it is.
+/// nothing refuses is Done, Unsatisfiable, Undecided, Stale or NoMemory, and input that is refused is answered so. Nobody is told how far it is.
 pub fn run_steady<R: Threads + Sync>(
     rt: &R,
     alloc: Global,
@@ -43,6 +43,10 @@ pub fn run_steady<R: Threads + Sync>(
     ensures undecided { result ≡ Status.Undecided
         → IsUndecided meaning desk.old (words_of words.now) (Some desk.new) (Some out.old, Some out.new)
         (Some err.old, Some err.new) }
+    ensures stale { result ≡ Status.Stale
+        → IsOutdated meaning desk.old (words_of words.now) (Some desk.new) (Some out.old, Some out.new)
+        (Some err.old, Some err.new) }
+    ensures outdone { result ≡ Status.Stale → HasOutdone desk.old (words_of words.now) }
     ensures refused { IsRefusalStatus result
         → IsRefused meaning desk.old (words_of words.now) result (Some desk.new)
         (Some out.old, Some out.new) (Some err.old, Some err.new) }

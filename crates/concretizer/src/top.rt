@@ -12,7 +12,7 @@ ghost use Rattle.run_output.specs.Task.{Task};
 ghost use Rattle.run_output.specs.Tasks.{Poses};
 ghost use Rattle.run_output.specs.Words.{words_of, command_of, lock_path, cert_path};
 ghost use Rattle.concretizer.specs.Logs.{IsLogged, KeepsFor};
-ghost use Rattle.concretizer.specs.Headline.{IsDone, HasShown, IsUnsatisfiable, IsUndecided, IsRefused, IsReadFault, IsWriteFault, IsOutOfMemory, IsOfInput, Keeps, Settles, ReportsWords};
+ghost use Rattle.concretizer.specs.Headline.{IsDone, HasShown, HasOutdone, IsUnsatisfiable, IsUndecided, IsOutdated, IsRefused, IsReadFault, IsWriteFault, IsOutOfMemory, IsOfInput, Keeps, Settles, ReportsWords};
 
 use crate::attempt::{attempt, report};
 use outside_desk::{Desk, Sink};
@@ -30,8 +30,13 @@ use std::thread::Threads;
 ///   valid, or the budget of the settings is spent, CERT gets the log of that, and LOCK is not touched.
 /// - `judge REPO SETTINGS DATABASE LOCK SPEC..`: where LOCK holds a valid graph of the specs, `out` gets `valid` and the cost vector.
 /// - `check REPO SETTINGS DATABASE LOCK CERT SPEC..`: where besides CERT shows that no valid graph costs less, `out` gets `accepted`.
+/// - `fresh REPO SETTINGS DATABASE LOCK SPEC..`: where LOCK holds such a graph, `out` gets `fresh` and its cost vector where no valid
+///   graph costs less, and else `stale` and the vector of the best one.
 /// - `refute REPO SETTINGS DATABASE CERT SPEC..`: where CERT shows that no graph is valid, `out` gets `accepted`.
 /// - `explain REPO SETTINGS DATABASE SPEC..`: `out` gets `satisfiable`, or a line for each demand that stands against a graph.
+/// - `find REPO SETTINGS DATABASE SPEC..`: `out` gets a line for each installed package that meets the spec, which need not name one.
+/// - `plan REPO SETTINGS DATABASE LOCK SPEC..`: where LOCK holds a valid graph of the specs, `out` gets its packages to build in waves,
+///   each of which needs only those before it, and a chain of packages that shows that there are no fewer.
 /// - `trial N SEED` finds the best graph of N packages that are made in memory; `out` gets how many nodes it has, its cost vector
 ///   and how many clauses were learnt.
 ///
@@ -71,6 +76,11 @@ pub fn run<R: Threads + Sync, D: Desk, O: Sink, E: Sink, P: Progress>(
     ensures undecided { result ≡ Status.Undecided → IfSome (D.files desk.old) (λ files.
         IsUndecided meaning files (words_of words.now) (D.files desk.new)
         (O.said out.old, O.said out.new) (E.said err.old, E.said err.new)) }
+    ensures stale { result ≡ Status.Stale → IfSome (D.files desk.old) (λ files.
+        IsOutdated meaning files (words_of words.now) (D.files desk.new)
+        (O.said out.old, O.said out.new) (E.said err.old, E.said err.new)) }
+    ensures outdone { result ≡ Status.Stale → IfSome (D.files desk.old) (λ files.
+        HasOutdone files (words_of words.now)) }
     ensures refused { IsRefusalStatus result → IfSome (D.files desk.old) (λ files.
         IsRefused meaning files (words_of words.now) result (D.files desk.new)
         (O.said out.old, O.said out.new) (E.said err.old, E.said err.new)) }
@@ -136,6 +146,7 @@ pub fn run<R: Threads + Sync, D: Desk, O: Sink, E: Sink, P: Progress>(
         Ok(Outcome::Solved) => Status::Done,
         Ok(Outcome::Unsolved) => Status::Unsatisfiable,
         Ok(Outcome::Undecided) => Status::Undecided,
+        Ok(Outcome::Stale) => Status::Stale,
         Err(stop) => report(alloc, err, &stop),
     }
 }

@@ -6,12 +6,12 @@ use Rattle.std.specs.Str.{bytes_eq}
 use Rattle.virtuals.specs.OfGraphCore.Graphs.{Text}
 
 -- the text is one of these
-abbrev pub among : List Text → Text → Bool
-among texts text = list_any (bytes_eq text) texts
+abbrev pub is_one_text : List Text → Text → Bool
+is_one_text texts text = list_any (bytes_eq text) texts
 
 -- all these texts are among those
 abbrev pub includes : List Text → List Text → Bool
-includes texts wanted = list_all (among texts) wanted
+includes texts wanted = list_all (is_one_text texts) wanted
 
 -- what is not written asks nothing
 abbrev pub if_written : {T : Type 0} → Option T → (T → Bool) → Bool

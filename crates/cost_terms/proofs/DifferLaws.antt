@@ -5,7 +5,7 @@ use Rattle.std.specs.List.{list_any, list_all}
 use Rattle.std.proofs.lemmas.Bool.{cases_Bool}
 use Rattle.clause_store.specs.Lits.{lit_true}
 use Rattle.clause_circuits.specs.Cells.{bit}
-use Rattle.clause_formulas.specs.Statements.{Statement, eval, atom, both, no, any_of, all_of, all_eval}
+use Rattle.clause_formulas.specs.Statements.{Statement, eval, atom, both_statements, no, any_statement, all_statements, all_eval}
 use Rattle.clause_formulas.proofs.Words.{eval-both, eval-all_of}
 use Rattle.literal_table.specs.Choices.{Choices, chosen, any_choice}
 use Rattle.literal_table.proofs.Choices.{any-chosen}

@@ -6,7 +6,7 @@ use Rattle.std.specs.List.{list_any, list_all}
 use Rattle.std.proofs.lemmas.Bool.{cases_Bool, and_parts}
 use Rattle.clause_store.specs.Lits.{lit_true}
 use Rattle.clause_circuits.specs.Cells.{bit}
-use Rattle.clause_formulas.specs.Statements.{Statement, eval, both, opposite, no, any_of}
+use Rattle.clause_formulas.specs.Statements.{Statement, eval, both_statements, opposite, no, any_statement}
 use Rattle.clause_formulas.proofs.Words.{eval-both}
 use Rattle.graph_core.specs.declared.node.Origin.{Origin}
 use Rattle.literal_table.specs.Choices.{Choices, chosen, any_choice}
@@ -98,6 +98,6 @@ module _ (v : ℕ → Bool) where
   ]
 
 -- none of some formulas
-pub opposite-any : (fs : List Statement) → opposite (any_of fs) ≡ no (any_of fs)
+pub opposite-any : (fs : List Statement) → opposite (any_statement fs) ≡ no (any_statement fs)
 opposite-any [] = refl
 opposite-any (f ∷ fs) = refl

@@ -19,7 +19,7 @@ use Rattle.literal_table.specs.Choices.{Choices, chosen, any_choice, weight_of}
 use Rattle.literal_table.proofs.Choices.{any-chosen, one-weighs}
 use Rattle.cost_terms.specs.declared.weighted.Weighted.{Weighted}
 use Rattle.cost_terms.specs.Weighed.{weight_said, sum_said}
-use Rattle.cost_terms.specs.Spread.{weighed, is_odd, half_of, digit_terms, plain_terms, greatest, spread}
+use Rattle.cost_terms.specs.Spread.{weighed_choices, is_odd, half_of, digit_terms, plain_terms, greatest, spread_terms}
 
 digit-sum : (unit n : ℕ) → unit * bit (is_odd n) + 2 * unit * (n / 2) ≡ unit * n
 digit-sum unit n =
@@ -44,7 +44,7 @@ digit-sum unit n =
 module _ (v : ℕ → Bool) where
   -- what is chosen of weights is the weight of what is chosen
   pub chosen-weighed : {T : Type 0} (weight : T → ℕ) (choices : Choices T)
-      → chosen v (weighed weight choices) ≡ map weight (chosen v choices)
+      → chosen v (weighed_choices weight choices) ≡ map weight (chosen v choices)
   chosen-weighed weight [] = refl
   chosen-weighed weight (c ∷ cs) = elim (cases_Bool (lit_true v c.1)) [
     | inl l ↦ rw l (ap (λ ns. weight c.0 ∷ ns) (chosen-weighed weight cs))
@@ -53,7 +53,7 @@ module _ (v : ℕ → Bool) where
 
   -- the weight of the one that is chosen
   pub one-weighed : {T : Type 0} (weight : T → ℕ) (choices : Choices T) (one : Option T) → chosen v choices ≡ option_to_list one
-      → chosen v (weighed weight choices) ≡ option_to_list (option_map weight one)
+      → chosen v (weighed_choices weight choices) ≡ option_to_list (option_map weight one)
   one-weighed weight choices one is = chosen-weighed weight choices ∙ ap (map weight) is ∙ mapped one
     where
       mapped : (o : Option _) → map weight (option_to_list o) ≡ option_to_list (option_map weight o)
@@ -69,8 +69,8 @@ module _ (v : ℕ → Bool) where
   digits-none (suc more) unit choices is =
       let t : Weighted = record { weight = unit; formula = any_choice is_odd choices } in
       let digit : eval v (any_choice is_odd choices) ≡ false = any-chosen v is_odd choices ∙ ap (list_any is_odd) is in
-      let rest = digits-none more (2 * unit) (weighed half_of choices) (chosen-weighed half_of choices ∙ ap (map half_of) is) in
-      said-cons t (digit_terms more (2 * unit) (weighed half_of choices)) ∙ rw (digit, rest) (omega arith)
+      let rest = digits-none more (2 * unit) (weighed_choices half_of choices) (chosen-weighed half_of choices ∙ ap (map half_of) is) in
+      said-cons t (digit_terms more (2 * unit) (weighed_choices half_of choices)) ∙ rw (digit, rest) (omega arith)
 
   digits-one : (more unit n : ℕ) (choices : Choices ℕ) → chosen v choices ≡ n ∷ [] → n < 2 ^ more
       → sum_said v (digit_terms more unit choices) ≡ unit * n
@@ -80,8 +80,9 @@ module _ (v : ℕ → Bool) where
       let digit : eval v (any_choice is_odd choices) ≡ is_odd n = any-chosen v is_odd choices ∙ ap (list_any is_odd) is
       ∙ or-false (is_odd n) in
       let less : n / 2 < 2 ^ more = omega (arith, pow-suc 2 more) in
-      let rest = digits-one more (2 * unit) (n / 2) (weighed half_of choices) (chosen-weighed half_of choices ∙ ap (map half_of) is) less in
-      said-cons t (digit_terms more (2 * unit) (weighed half_of choices)) ∙ rw (digit, rest) (digit-sum unit n)
+      let rest = digits-one more (2 * unit) (n / 2) (weighed_choices half_of choices) (chosen-weighed half_of choices
+      ∙ ap (map half_of) is) less in
+      said-cons t (digit_terms more (2 * unit) (weighed_choices half_of choices)) ∙ rw (digit, rest) (digit-sum unit n)
     where
       or-false : (b : Bool) → list_any (λ (c : Bool). c) (b ∷ []) ≡ b
       or-false true = refl
@@ -104,8 +105,8 @@ module _ (v : ℕ → Bool) where
 
   -- the digits add up to it
   pub spread-sum : (choices : Choices ℕ) (one : Option ℕ) → chosen v choices ≡ option_to_list one
-      → sum_said v (spread choices) ≡ adds_or_none (λ n. n) one
-  unfolding spread
+      → sum_said v (spread_terms choices) ≡ adds_or_none (λ n. n) one
+  unfolding spread_terms
   spread-sum choices one is = elim (cases_Bool (nat_lt (greatest choices) (2 ^ 63))) [
     | inl small ↦ rw small (by-digits one is (ltb-true (greatest choices) (2 ^ 63) small))
     | inr large ↦ rw large (plain-is choices ∙ one-weighs v (λ n. n) choices one is)
@@ -122,9 +123,9 @@ module _ (v : ℕ → Bool) where
   -- terms of an attribute weigh what the node's weighs
   pub attribute-sum : {N T : Type 0} (weight : T → ℕ) (attribute : N → T) (choices : Choices T) (one : Option N)
       → chosen v choices ≡ option_to_list (option_map attribute one)
-      → sum_said v (spread (weighed weight choices)) ≡ adds_or_none (λ node. weight (attribute node)) one
+      → sum_said v (spread_terms (weighed_choices weight choices)) ≡ adds_or_none (λ node. weight (attribute node)) one
   attribute-sum weight attribute choices one is =
-      spread-sum (weighed weight choices) _ (one-weighed weight choices (option_map attribute one) is) ∙ twice one
+      spread-sum (weighed_choices weight choices) _ (one-weighed weight choices (option_map attribute one) is) ∙ twice one
     where
       twice : (o : Option _) → adds_or_none (λ n. n) (option_map weight (option_map attribute o))
           ≡ adds_or_none (λ node. weight (attribute node)) o

@@ -8,9 +8,10 @@ use Rattle.std.proofs.Math.Seq.{drop-cons}
 use Rattle.clause_store.specs.declared.Lit.{Lit}
 use Rattle.clause_store.specs.Clauses.{Clauses}
 use Rattle.clause_formulas.specs.declared.defined.Defined.{Defined}
-use Rattle.clause_formulas.specs.Built.{Grown, define_on}
+use Rattle.clause_formulas.specs.Gated.{Gated, Gate, gated}
+use Rattle.clause_formulas.specs.Built.{Grown, Shared, define_in}
 use Rattle.cost_terms.specs.declared.weighted.Weighted.{Weighted}
-use Rattle.cost_terms.specs.Weighed.{WeighedBelow, AllWeighedBelow, term_on, one_on, terms_on, lists_on, AreTotals}
+use Rattle.cost_terms.specs.Weighed.{WeighedBelow, AllWeighedBelow, term_on, one_in, terms_in, lists_in, lists_on, AreTotals}
 use Rattle.cost_terms.proofs.TermLaws.{WeighedBelow-le, DefinesLists, lists_is}
 use Rattle.clause_formulas.specs.Statements.{SaidBelow}
 use Rattle.clause_formulas.proofs.DraftLaws.{SaidBelow-le}
@@ -21,18 +22,23 @@ use Rattle.criteria_totals.specs.Totals.{tops, totals_on, IsTotals}
 use Rattle.cost_terms.specs.Built.{sums_on, define_totals_on}
 
 -- terms after those that were made
-abbrev pub after : {A : Type 0} → List A → Grown (List A) → Grown (List A)
-after ts m = record { list = m.list; answer = ts ++ m.answer }
+abbrev pub after : {A : Type 0} → List A → Shared (List A) → Shared (List A)
+after ts m = record { state = m.state; answer = ts ++ m.answer }
 
 -- what is left begins with the next one
 pub rest-at : {A : Type 0} (xs : List A) (i : ℕ) (x : A) → i < length xs → x ≡ get_or xs i x → drop i xs ≡ x ∷ drop (i + 1) xs
 rest-at xs i x h e = rw add-one (drop-cons xs i x h ∙ ap (λ y. y ∷ drop (suc i) xs) (sym e))
 
-pub one-step : (s t u : Clauses) (w : Weighted) (d : Defined) (r : Option (ℕ × Lit))
-    → define_on s w.formula ≡ record { list = t; answer = d }
-    → term_on t w.weight d ≡ record { list = u; answer = r } → one_on s w ≡ record { list = u; answer = r }
-unfolding one_on
-one-step s t u w d r e f = ap (λ (m : Grown Defined). term_on m.list w.weight m.answer) e ∙ f
+pub one-step : (s : Gated) (t u : Clauses) (gs : List Gate) (w : Weighted) (d : Defined) (r : Option (ℕ × Lit))
+    → define_in s w.formula ≡ record { state = gated t gs; answer = d }
+    → term_on t w.weight d ≡ record { list = u; answer = r } → one_in s w ≡ record { state = gated u gs; answer = r }
+unfolding one_in
+one-step s t u gs w d r e f =
+    ap (λ (m : Shared Defined).
+    let n = term_on m.state.list w.weight m.answer in
+    let made : Shared (Option (ℕ × Lit)) = record { state = gated n.list m.state.gates; answer = n.answer } in made) e
+    ∙ ap (λ (n : Grown (Option (ℕ × Lit))).
+    let made : Shared (Option (ℕ × Lit)) = record { state = gated n.list gs; answer = n.answer } in made) f
 
 pub weighed-at : (m n : ℕ) (ts : List Weighted) (i : ℕ) (t : Weighted) → m ≤ n → i < length ts → t ≡ get_or ts i t → WeighedBelow m ts
     → SaidBelow n t.formula
@@ -81,27 +87,35 @@ are-totals s t u lists terms bits most x y e =
     }
 
 -- one formula more
-pub term-step : (s t : Clauses) (ws : List Weighted) (i : ℕ) (w : Weighted) (r : Option (ℕ × Lit)) (ts us : List (ℕ × Lit))
-    (whole : Grown (List (ℕ × Lit))) → i < length ws → w ≡ get_or ws i w → one_on s w ≡ record { list = t; answer = r }
-    → us ≡ ts ++ option_to_list r → after ts (terms_on s (drop i ws)) ≡ whole → after us (terms_on t (drop (i + 1) ws)) ≡ whole
+pub term-step : (s t : Gated) (ws : List Weighted) (i : ℕ) (w : Weighted) (r : Option (ℕ × Lit)) (ts us : List (ℕ × Lit))
+    (whole : Shared (List (ℕ × Lit))) → i < length ws → w ≡ get_or ws i w → one_in s w ≡ record { state = t; answer = r }
+    → us ≡ ts ++ option_to_list r → after ts (terms_in s (drop i ws)) ≡ whole → after us (terms_in t (drop (i + 1) ws)) ≡ whole
 term-step s t ws i w r ts us whole h e f g k =
-    rw g (ap (λ (made : List (ℕ × Lit)). let n = terms_on t (drop (i + 1) ws) in record { list = n.list; answer = made })
+    rw g (ap (λ (made : List (ℕ × Lit)). let n = terms_in t (drop (i + 1) ws) in record { state = n.state; answer = made })
     (append_assoc ts (option_to_list r) _)
-    ∙ ap (λ (m : Grown (Option (ℕ × Lit))). let n = terms_on m.list (drop (i + 1) ws) in
-    record { list = n.list; answer = ts ++ (option_to_list m.answer ++ n.answer) }) (sym f)
-    ∙ ap (λ rest. after ts (terms_on s rest)) (sym (rest-at ws i w h e)) ∙ k)
+    ∙ ap (λ (m : Shared (Option (ℕ × Lit))). let n = terms_in m.state (drop (i + 1) ws) in
+    record { state = n.state; answer = ts ++ (option_to_list m.answer ++ n.answer) }) (sym f)
+    ∙ ap (λ rest. after ts (terms_in s rest)) (sym (rest-at ws i w h e)) ∙ k)
 
 -- one list more
-pub list-step : (s t : Clauses) (lists : List (List Weighted)) (i : ℕ) (ws : List Weighted) (r : List (ℕ × Lit))
+pub list-step : (s t : Gated) (lists : List (List Weighted)) (i : ℕ) (ws : List Weighted) (r : List (ℕ × Lit))
     (ts us : List (List (ℕ × Lit)))
-    (whole : Grown (List (List (ℕ × Lit)))) → i < length lists → ws ≡ get_or lists i ws → terms_on s ws ≡ record { list = t; answer = r }
-    → us ≡ ts ++ r ∷ [] → after ts (lists_on s (drop i lists)) ≡ whole → after us (lists_on t (drop (i + 1) lists)) ≡ whole
+    (whole : Shared (List (List (ℕ × Lit)))) → i < length lists → ws ≡ get_or lists i ws → terms_in s ws ≡ record { state = t; answer = r }
+    → us ≡ ts ++ r ∷ [] → after ts (lists_in s (drop i lists)) ≡ whole → after us (lists_in t (drop (i + 1) lists)) ≡ whole
 list-step s t lists i ws r ts us whole h e f g k =
-    rw g (ap (λ (made : List (List (ℕ × Lit))). let n = lists_on t (drop (i + 1) lists) in record { list = n.list; answer = made })
+    rw g (ap (λ (made : List (List (ℕ × Lit))). let n = lists_in t (drop (i + 1) lists) in record { state = n.state; answer = made })
     (append_assoc ts (r ∷ []) _)
-    ∙ ap (λ (m : Grown (List (ℕ × Lit))). let n = lists_on m.list (drop (i + 1) lists) in
-    record { list = n.list; answer = ts ++ (m.answer ∷ n.answer) }) (sym f)
-    ∙ ap (λ rest. after ts (lists_on s rest)) (sym (rest-at lists i ws h e)) ∙ k)
+    ∙ ap (λ (m : Shared (List (ℕ × Lit))). let n = lists_in m.state (drop (i + 1) lists) in
+    record { state = n.state; answer = ts ++ (m.answer ∷ n.answer) }) (sym f)
+    ∙ ap (λ rest. after ts (lists_in s rest)) (sym (rest-at lists i ws h e)) ∙ k)
+
+-- all lists, over gates of their own
+pub lists-alone : (s t : Clauses) (gs hs : List Gate) (lists : List (List Weighted)) (terms : List (List (ℕ × Lit))) → gs ≡ []
+    → lists_in (gated s gs) lists ≡ record { state = gated t hs; answer = terms } → lists_on s lists ≡ record { list = t; answer = terms }
+lists-alone s t gs hs lists terms e q =
+    ap (λ (m : Shared (List (List (ℕ × Lit)))). let made : Grown (List (List (ℕ × Lit))) =
+    record { list = m.state.list; answer = m.answer } in made)
+    (ap (λ ks. lists_in (gated s ks) lists) (sym e) ∙ q)
 
 -- the bits that were built are those of the definition
 pub built-at : (s t u : Clauses) (lists : List (List Weighted)) (terms : List (List (ℕ × Lit))) (bits : List Lit) (most : List ℕ)

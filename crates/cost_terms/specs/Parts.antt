@@ -1,7 +1,7 @@
 -- Terms of the nodes to build, and of the others.
 use Rattle.std.specs.Prelude.{Bool, true, false, not, List, [], map, if◌then◌else◌}
 use Rattle.std.specs.List.{list_any, list_all}
-use Rattle.clause_formulas.specs.Statements.{Statement, no, both}
+use Rattle.clause_formulas.specs.Statements.{Statement, no, both_statements}
 use Rattle.graph_core.specs.declared.node.Origin.{Origin}
 use Rattle.graph_core.specs.declared.node.Origin.TheVariants.{Built, External, Installed}
 use Rattle.literal_table.specs.Choices.{Choices, any_choice}
@@ -20,7 +20,7 @@ part_said true origins = any_choice builds origins
 part_said false origins = no (any_choice builds origins)
 
 abbrev pub only_where : Statement → Weighted → Weighted
-only_where part t = record { weight = t.weight; formula = both part t.formula }
+only_where part t = record { weight = t.weight; formula = both_statements part t.formula }
 
 -- the terms where the node is of the part: none where it cannot be, and as they are where it must be
 unfoldable pub in_part : Bool → Choices Origin → List Weighted → List Weighted

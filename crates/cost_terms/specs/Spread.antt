@@ -7,8 +7,8 @@ use Rattle.literal_table.specs.Choices.{Choices, any_choice}
 use Rattle.cost_terms.specs.declared.weighted.Weighted.{Weighted}
 
 -- the weights of choices, each with its literal
-abbrev pub weighed : {T : Type 0} → (T → ℕ) → Choices T → Choices ℕ
-weighed weight choices = map (λ c. (weight c.0, c.1)) choices
+abbrev pub weighed_choices : {T : Type 0} → (T → ℕ) → Choices T → Choices ℕ
+weighed_choices weight choices = map (λ c. (weight c.0, c.1)) choices
 
 abbrev pub is_odd : ℕ → Bool
 is_odd n = n % 2 == 1
@@ -20,7 +20,7 @@ half_of n = n / 2
 abbrev pub digit_terms : ℕ → ℕ → Choices ℕ → List Weighted
 digit_terms zero unit choices = []
 digit_terms (suc more) unit choices =
-    record { weight = unit; formula = any_choice is_odd choices } ∷ digit_terms more (2 * unit) (weighed half_of choices)
+    record { weight = unit; formula = any_choice is_odd choices } ∷ digit_terms more (2 * unit) (weighed_choices half_of choices)
 
 -- a term for each choice
 abbrev pub plain_terms : Choices ℕ → List Weighted
@@ -31,6 +31,6 @@ greatest [] = 0
 greatest (c ∷ cs) = max c.0 (greatest cs)
 
 -- terms whose sum is the weight of the one that is chosen
-unfoldable pub spread : Choices ℕ → List Weighted
-spread choices =
+unfoldable pub spread_terms : Choices ℕ → List Weighted
+spread_terms choices =
     if nat_lt (greatest choices) (2 ^ 63) then digit_terms (size (greatest choices)) 1 choices else plain_terms choices

@@ -9,7 +9,8 @@ use Rattle.clause_circuits.specs.Trees.{total, weight, TermsBelow}
 use Rattle.clause_formulas.specs.declared.defined.Defined.{Defined}
 use Rattle.clause_formulas.specs.declared.defined.Defined.TheVariants.{Known, By}
 use Rattle.clause_formulas.specs.Statements.{eval, SaidBelow}
-use Rattle.clause_formulas.specs.Built.{Grown, define_on, literal_on}
+use Rattle.clause_formulas.specs.Gated.{Gated, gated, bare, Fits, Keeps}
+use Rattle.clause_formulas.specs.Built.{Grown, Shared, define_in, literal_on}
 use Rattle.criteria_totals.specs.Spellings.{compare_bits, compare_numbers, bits_for}
 use Rattle.criteria_totals.specs.Totals.{values_at}
 use Rattle.cost_terms.specs.declared.weighted.Weighted.{Weighted}
@@ -54,29 +55,37 @@ term_on s weight (Known true) = with_weight weight (literal_on s (Known true))
 term_on s weight (By l) = with_weight weight (literal_on s (By l))
 
 -- the term of one formula
-unfoldable pub one_on : Clauses → Weighted → Grown (Option (ℕ × Lit))
-one_on s t = let m = define_on s t.formula in term_on m.list t.weight m.answer
+unfoldable pub one_in : Gated → Weighted → Shared (Option (ℕ × Lit))
+one_in s t =
+    let m = define_in s t.formula in
+    let n = term_on m.state.list t.weight m.answer in
+    record { state = gated n.list m.state.gates; answer = n.answer }
 
-abbrev pub terms_on : Clauses → List Weighted → Grown (List (ℕ × Lit))
-terms_on s [] = record { list = s; answer = [] }
-terms_on s (t ∷ ts) =
-    let m = one_on s t in
-    let n = terms_on m.list ts in
-    record { list = n.list; answer = option_to_list m.answer ++ n.answer }
+abbrev pub terms_in : Gated → List Weighted → Shared (List (ℕ × Lit))
+terms_in s [] = record { state = s; answer = [] }
+terms_in s (t ∷ ts) =
+    let m = one_in s t in
+    let n = terms_in m.state ts in
+    record { state = n.state; answer = option_to_list m.answer ++ n.answer }
 
+abbrev pub lists_in : Gated → List (List Weighted) → Shared (List (List (ℕ × Lit)))
+lists_in s [] = record { state = s; answer = [] }
+lists_in s (ts ∷ lists) =
+    let m = terms_in s ts in
+    let n = lists_in m.state lists in
+    record { state = n.state; answer = m.answer ∷ n.answer }
+
+-- the terms of all lists, over gates of their own: no gate is made twice
 abbrev pub lists_on : Clauses → List (List Weighted) → Grown (List (List (ℕ × Lit)))
-lists_on s [] = record { list = s; answer = [] }
-lists_on s (ts ∷ lists) =
-    let m = terms_on s ts in
-    let n = lists_on m.list lists in
-    record { list = n.list; answer = m.answer ∷ n.answer }
+lists_on s lists = let m = lists_in (bare s) lists in record { list = m.state.list; answer = m.answer }
 
--- the longer list defines terms that weigh what the formulas weigh
-pub record DefinesTerms (old new : Clauses) (terms : List (ℕ × Lit)) (ts : List Weighted) : Type 0 where
-  pub defines : Defines old new
-  pub below : TermsBelow new.vars terms
+-- the longer list defines terms that weigh what the formulas weigh, where an assignment gives the old gates their values
+pub record DefinesTerms (old new : Gated) (terms : List (ℕ × Lit)) (ts : List Weighted) : Type 0 where
+  pub defines : Defines old.list new.list
+  pub keeps : Keeps old new
+  pub below : TermsBelow new.list.vars terms
   pub small : total terms ≤ top_said ts
-  pub weighs : (asked v : ℕ → Bool) → MeetsSince asked v old new → weight v terms ≡ sum_said v ts
+  pub weighs : (asked v : ℕ → Bool) → Fits v old.gates → MeetsSince asked v old.list new.list → weight v terms ≡ sum_said v ts
 
 -- ---- their sums as bits
 

@@ -1,7 +1,7 @@
 //! The terms of the weights of attributes.
 ghost use Rattle.std.specs.Prelude.{◌≡◌, IfOk};
 ghost use Rattle.graph_rules.specs.Weights.{os_weight, target_weight, compiler_weight};
-ghost use Rattle.cost_terms.specs.Spread.{weighed};
+ghost use Rattle.cost_terms.specs.Spread.{weighed_choices};
 ghost use Rattle.cost_terms.specs.Terms.{deprecated_terms, version_terms, os_terms, target_terms, compiler_terms};
 
 use crate::{Weighted, spread};
@@ -19,7 +19,8 @@ fn os_weights(
     problem: &Problem,
     choices: &[(Word, Lit)],
 ) -> Result<Vec<(u64, Lit)>, AllocError>
-    ensures { IfOk result (λ weights. weights.items ≡ weighed (os_weight problem.now) choices.now) }
+    ensures { IfOk result (λ weights. weights.items ≡ weighed_choices (os_weight problem.now)
+        choices.now) }
 {
     let mut weights = Vec::new(alloc);
     for choice in choices {
@@ -36,7 +37,7 @@ fn target_weights(
     choices: &[(Word, Lit)],
 ) -> Result<Vec<(u64, Lit)>, AllocError>
     ensures { IfOk result (λ weights. weights.items
-        ≡ weighed (target_weight problem.now) choices.now) }
+        ≡ weighed_choices (target_weight problem.now) choices.now) }
 {
     let mut weights = Vec::new(alloc);
     for choice in choices {
@@ -53,7 +54,7 @@ fn compiler_weights(
     choices: &[(Option<Compiler>, Lit)],
 ) -> Result<Vec<(u64, Lit)>, AllocError>
     ensures { IfOk result (λ weights. weights.items
-        ≡ weighed (compiler_weight problem.now) choices.now) }
+        ≡ weighed_choices (compiler_weight problem.now) choices.now) }
 {
     let mut weights = Vec::new(alloc);
     for choice in choices {

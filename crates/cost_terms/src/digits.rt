@@ -1,6 +1,6 @@
 //! Weights as weighted formulas, one for each binary digit.
 ghost use Rattle.std.specs.Prelude.{◌≡◌, ◌++◌, ◌*◌, ◌<◌, ◌^◌, map, IfOk, OnOk};
-ghost use Rattle.cost_terms.specs.Spread.{weighed, is_odd, half_of, digit_terms, plain_terms, greatest, spread};
+ghost use Rattle.cost_terms.specs.Spread.{weighed_choices, is_odd, half_of, digit_terms, plain_terms, greatest, spread_terms};
 ghost use Rattle.literal_table.specs.Choices.{any_choice as any_choice_on};
 
 use crate::Weighted;
@@ -25,7 +25,7 @@ fn any_odd(alloc: Global, choices: &[(u64, Lit)]) -> Result<Formula, AllocError>
 
 // Half of each weight.
 fn halved(alloc: Global, choices: &[(u64, Lit)]) -> Result<Vec<(u64, Lit)>, AllocError>
-    ensures { IfOk result (λ halves. halves.items ≡ weighed half_of choices.now) }
+    ensures { IfOk result (λ halves. halves.items ≡ weighed_choices half_of choices.now) }
 {
     let mut halves = Vec::new(alloc);
     for choice in choices {
@@ -88,9 +88,9 @@ fn greatest(choices: &[(u64, Lit)]) -> u64
 
 /// Terms whose sum is the weight of the one that is chosen: one for each binary digit of the
 /// weights.
-#[tactic(auto, unfolding(crate::specs::Spread::spread))]
+#[tactic(auto, unfolding(crate::specs::Spread::spread_terms))]
 pub fn spread(alloc: Global, choices: &[(u64, Lit)]) -> Result<Vec<Weighted>, AllocError>
-    ensures { IfOk result (λ terms. terms.items ≡ spread choices.now) }
+    ensures { IfOk result (λ terms. terms.items ≡ spread_terms choices.now) }
 {
     let top = greatest(choices);
     if top < 9223372036854775808 {

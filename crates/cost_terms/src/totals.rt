@@ -2,13 +2,14 @@
 ghost use Rattle.std.specs.Prelude.{◌≡◌, ◌++◌, IfOk, OnOk};
 ghost use Rattle.clause_circuits.specs.Growth.{Extends};
 ghost use Rattle.clause_formulas.specs.Drafts.{DefinedBelow};
+ghost use Rattle.clause_formulas.specs.Gated.{gated, GatesBelow, Keeps};
 ghost use Rattle.clause_formulas.specs.Statements.{SaidBelow};
 ghost use Rattle.criteria_totals.specs.Spellings.{AllSmall};
 ghost use Rattle.cost_terms.specs.Built.{define_totals_on};
-ghost use Rattle.cost_terms.specs.Weighed.{WeighedBelow, AllWeighedBelow, tops_said, term_on, one_on, terms_on, lists_on, AreTotals};
+ghost use Rattle.cost_terms.specs.Weighed.{WeighedBelow, AllWeighedBelow, tops_said, term_on, one_in, terms_in, lists_in, lists_on, AreTotals};
 
 use crate::weighted::Weighted;
-use clause_formulas::{Defined, define, literal};
+use clause_formulas::{Defined, Gates, define_in, literal};
 use clause_store::{ClauseList, Lit};
 use criteria_totals::{Bits, Terms, totals};
 use plain_data::List;
@@ -35,7 +36,7 @@ pub fn define_totals(
     totals(alloc, clauses, terms.as_slice())
 }
 
-// The terms of each list.
+// The terms of each list, over gates of their own.
 fn lists_of(
     alloc: Global,
     clauses: &mut ClauseList,
@@ -49,9 +50,30 @@ fn lists_of(
     }) }
     ensures extends { Extends clauses.old clauses.new }
 {
+    let mut gates = Gates::new(alloc);
+    lists_in(alloc, clauses, &mut gates, lists)
+}
+
+// The terms of each list. Gates that were made serve again.
+fn lists_in(
+    alloc: Global,
+    clauses: &mut ClauseList,
+    gates: &mut Gates,
+    lists: &[List<Weighted>],
+) -> Result<Vec<Terms>, AllocError>
+    requires lists_below { AllWeighedBelow clauses.old.vars lists.now }
+    requires gates_below { GatesBelow clauses.old.vars gates.old }
+    ensures built { IfOk result (λ terms. lists_in (gated clauses.old gates.old) lists.now
+        ≡ record {
+          state =
+              gated clauses.new gates.new;
+          answer = terms.items;
+        }) }
+    ensures keeps { Keeps (gated clauses.old gates.old) (gated clauses.new gates.new) }
+{
     let mut terms = Vec::new(alloc);
     for list in lists {
-        terms.push(terms_of(alloc, clauses, list.as_slice())?)?;
+        terms.push(terms_of(alloc, clauses, gates, list.as_slice())?)?;
     }
     Ok(terms)
 }
@@ -60,19 +82,22 @@ fn lists_of(
 fn terms_of(
     alloc: Global,
     clauses: &mut ClauseList,
+    gates: &mut Gates,
     weighted: &[Weighted],
 ) -> Result<Terms, AllocError>
-    requires { WeighedBelow clauses.old.vars weighted.now }
-    ensures built { IfOk result (λ terms. terms_on clauses.old weighted.now ≡ record {
-      list =
-          clauses.new;
-      answer = terms;
-    }) }
-    ensures extends { Extends clauses.old clauses.new }
+    requires weighted_below { WeighedBelow clauses.old.vars weighted.now }
+    requires gates_below { GatesBelow clauses.old.vars gates.old }
+    ensures built { IfOk result (λ terms. terms_in (gated clauses.old gates.old) weighted.now
+        ≡ record {
+          state =
+              gated clauses.new gates.new;
+          answer = terms;
+        }) }
+    ensures keeps { Keeps (gated clauses.old gates.old) (gated clauses.new gates.new) }
 {
     let mut terms = Vec::new(alloc);
     for one in weighted {
-        if let Some(term) = term_of(alloc, clauses, one)? {
+        if let Some(term) = term_of(alloc, clauses, gates, one)? {
             terms.push(term)?;
         }
     }
@@ -83,17 +108,19 @@ fn terms_of(
 fn term_of(
     alloc: Global,
     clauses: &mut ClauseList,
+    gates: &mut Gates,
     one: &Weighted,
 ) -> Result<Option<(u64, Lit)>, AllocError>
-    requires { SaidBelow clauses.old.vars one.now.formula }
-    ensures built { IfOk result (λ term. one_on clauses.old one.now ≡ record {
-      list =
-          clauses.new;
+    requires formula_below { SaidBelow clauses.old.vars one.now.formula }
+    requires gates_below { GatesBelow clauses.old.vars gates.old }
+    ensures built { IfOk result (λ term. one_in (gated clauses.old gates.old) one.now ≡ record {
+      state =
+          gated clauses.new gates.new;
       answer = term;
     }) }
-    ensures extends { Extends clauses.old clauses.new }
+    ensures keeps { Keeps (gated clauses.old gates.old) (gated clauses.new gates.new) }
 {
-    let value = define(alloc, clauses, &one.formula)?;
+    let value = define_in(alloc, clauses, gates, &one.formula)?;
     term_for(alloc, clauses, one.weight, value)
 }
 

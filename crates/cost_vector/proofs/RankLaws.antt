@@ -16,7 +16,7 @@ use Rattle.graph_core.specs.Graphs.{Text}
 use Rattle.recipe_data.specs.declared.recipe.VersionRow.{VersionRow}
 use Rattle.keyed_lists.proofs.RunLaws.{filter_run, lt_parts}
 use Rattle.keyed_lists.proofs.Lent.{filter_mapped}
-use Rattle.problem.specs.Problems.{versions_at, entry_of, Problem}
+use Rattle.problem.specs.Problems.{versions_at, package_entry_of, Problem}
 use Rattle.graph_rules.specs.Weights.{row_cmp, listed_in, place_or_number, version_weight}
 use Rattle.cost_vector.specs.Ranks.{Rank, rank, rank_cmp, place_among, weight_among}
 
@@ -96,17 +96,17 @@ weight_is lists rows version = place_of_rank lists rows (find (λ row. bytes_eq 
     (first_rank lists (λ row. bytes_eq row.version version) rows)
 
 weighs : (problem : Problem) (name : Text) (table : List Rank) (lists : List (List Range)) (rows : List VersionRow)
-    → table ≡ map (rank lists) rows → lists ≡ listed_in (entry_of problem name) → rows ≡ versions_at problem name
+    → table ≡ map (rank lists) rows → lists ≡ listed_in (package_entry_of problem name) → rows ≡ versions_at problem name
     → (version : Text) → weight_among table version ≡ version_weight problem name version
 unfolding version_weight
 weighs problem name table lists rows is lists_are rows_are version =
     ap (λ t. weight_among t version) is ∙ weight_is lists rows version
     ∙ ap (λ ls. place_or_number ls rows (find (λ row. bytes_eq row.version version) rows)) lists_are
-    ∙ ap (λ rs. place_or_number (listed_in (entry_of problem name)) rs (find (λ row. bytes_eq row.version version) rs)) rows_are
+    ∙ ap (λ rs. place_or_number (listed_in (package_entry_of problem name)) rs (find (λ row. bytes_eq row.version version) rs)) rows_are
 
 -- the weights of all choices
 pub all_weigh : {L : Type 0} (problem : Problem) (name : Text) (table : List Rank) (lists : List (List Range)) (rows : List VersionRow)
-    → table ≡ map (rank lists) rows → lists ≡ listed_in (entry_of problem name) → rows ≡ versions_at problem name
+    → table ≡ map (rank lists) rows → lists ≡ listed_in (package_entry_of problem name) → rows ≡ versions_at problem name
     → (choices : List (Text × L))
     → map {B = ℕ × L} (λ c. (weight_among table c.0, c.1)) choices ≡ map {B = ℕ × L} (λ c. (version_weight problem name c.0, c.1)) choices
 all_weigh {L = L} problem name table lists rows is lists_are rows_are choices =

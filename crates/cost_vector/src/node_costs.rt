@@ -4,7 +4,7 @@ ghost use Rattle.std.specs.List.{list_any};
 ghost use Rattle.std.specs.Option.{option_copied};
 ghost use Rattle.std.specs.Str.{bytes_eq};
 ghost use Rattle.graph_core.specs.Graphs.{node_of};
-ghost use Rattle.condition_rules.specs.Words.{among, is_some_and};
+ghost use Rattle.condition_rules.specs.Words.{is_one_text, is_some_and};
 ghost use Rattle.condition_rules.specs.Holds.{governing};
 ghost use Rattle.problem.specs.Problems.{same_compiler};
 ghost use Rattle.graph_rules.specs.Costs.{is_root, missing, stopped};
@@ -45,7 +45,7 @@ pub(crate) fn is_root(problem: &Problem, node: &Node) -> bool
 // ---- variants
 
 fn among(texts: &[Word], text: &str) -> bool
-    ensures { result ≡ among texts.now text.now }
+    ensures { result ≡ is_one_text texts.now text.now }
 {
     texts.iter().any(|other| text == other.as_str())
 }

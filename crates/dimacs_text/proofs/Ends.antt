@@ -5,7 +5,7 @@ use Rattle.run_answers.specs.Exits.{IsAnsweredBy, IsRefusalStatus, Spoken}
 use Rattle.outside_desk.specs.Causes.{Counts, Rose}
 use Rattle.outside_desk.specs.Files.{Files, and_said}
 use Rattle.run_input.proofs.StageLaws.{IsOne, one_is, one_then}
-use Rattle.run_input.specs.Inputs.{Reads}
+use Rattle.run_input.specs.Inputs.{ReadsInput}
 use Rattle.run_input.specs.Reading.{GivesCommand}
 use Rattle.run_input.specs.ReadStop.{ReadStop}
 use Rattle.run_input.specs.ReadStop.TheVariants.{Refused, Fault, NoMemory}
@@ -29,7 +29,7 @@ use Rattle.dimacs_text.specs.Attempts.{Attempts, AttemptsBy, FailsToPut, FailsTo
 -- ---- attempts
 
 said_here : (files : Files) (command : Command) (input : Input) (before after : Option (List ℕ)) (result : Result (Unit {0}) Stop)
-    → Reads files command (Ok input) → OnOk result (after ≡ and_said before (text_of input.problem)) → (StopsBefore result → ⊥)
+    → ReadsInput files command (Ok input) → OnOk result (after ≡ and_said before (text_of input.problem)) → (StopsBefore result → ⊥)
     → AttemptsBy files command before after result
 said_here files command input before after (Ok done) read said no_read = (text_of input.problem, (input, read, refl), said)
 said_here files command input before after (Err Usage) read said no_read = absurd (no_read tt)
@@ -38,7 +38,8 @@ said_here files command input before after (Err (Write stop)) read said no_read 
 
 -- the problem was read, and its encoding said or not
 pub was_said : (files : Option Files) (command : Command) (input : Input) (before after : Option (List ℕ)) (result : Result (Unit {0}) Stop)
-    → IfSome files (λ m. Gives {T = Input} (Ok input) (Reads m command)) → OnOk result (after ≡ and_said before (text_of input.problem))
+    → IfSome files (λ m. Gives {T = Input} (Ok input) (ReadsInput m command))
+    → OnOk result (after ≡ and_said before (text_of input.problem))
     → (StopsBefore result → ⊥) → IfSome files (λ m. AttemptsBy m command before after result)
 was_said None command input before after result read said no_read = tt
 was_said (Some files) command input before after result read said no_read =
@@ -46,7 +47,7 @@ was_said (Some files) command input before after result read said no_read =
 
 -- the reading stopped
 pub was_stopped : (files : Option Files) (command : Command) (stop : ReadStop) (before after : Option (List ℕ))
-    → IfSome files (λ m. Gives {T = Input} (Err stop) (Reads m command)) → after ≡ before
+    → IfSome files (λ m. Gives {T = Input} (Err stop) (ReadsInput m command)) → after ≡ before
     → IfSome files (λ m. AttemptsBy m command before after (Err (Read stop)))
 was_stopped None command stop before after read same = tt
 was_stopped (Some files) command (Refused refusal) before after read same = (inl read, same)
@@ -79,7 +80,7 @@ was_none (Some files) words before after none same = (none, same)
 -- ---- answers
 
 abbrev pub ReadsOnce : Type 0
-ReadsOnce = (files : Files) (command : Command) → IsOne (Reads files command)
+ReadsOnce = (files : Files) (command : Command) → IsOne (ReadsInput files command)
 
 some_same : {A : Type 0} (x y : A) → (let T : Type 0 = Option A in let a : T = Some x in let b : T = Some y in a ≡ b) → x ≡ y
 some_same x y e = cc
@@ -90,7 +91,8 @@ some_not_none x same = absurd cc
 -- a command asks for one text at most, or is due one refusal
 one_asked : ReadsOnce → (files : Files) (command : Command) → IsOne (Asks files command)
 one_asked one files command =
-    one_then (Reads files command) (λ input. Is (Ok (text_of input.problem))) (one files command) (λ input. one_is (Ok (text_of input.problem)))
+    one_then (ReadsInput files command) (λ input. Is (Ok (text_of input.problem))) (one files command)
+    (λ input. one_is (Ok (text_of input.problem)))
 
 -- words pose one thing at most
 one_posed : ReadsOnce → (files : Files) (words : List (List ℕ)) (a b : Posed) → PosesBy files words a → PosesBy files words b → a ≡ b

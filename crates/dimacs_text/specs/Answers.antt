@@ -9,7 +9,7 @@ use Rattle.problem.specs.Problems.{Problem}
 use Rattle.problem_encoding.specs.Built.{encoding_of, rule_clauses}
 use Rattle.dimacs_text.specs.Clauses.{rules_line}
 use Rattle.dimacs_text.specs.Texts.{dimacs_text}
-use Rattle.run_input.specs.Inputs.{Reads}
+use Rattle.run_input.specs.Inputs.{ReadsInput}
 use Rattle.run_input.specs.Refusal.{Refusal}
 use Rattle.run_input.specs.Refusals as lines
 use Rattle.run_input.specs.Stages.{Is, Then}
@@ -31,7 +31,7 @@ Posed = Option (Result (List ℕ) Refusal)
 
 -- the text that a command asks for, or the refusal that is due first
 abbrev pub Asks : Files → Command → Result (List ℕ) Refusal → Type 0
-Asks files command = Then (Reads files command) (λ input. Is (Ok (text_of input.problem)))
+Asks files command = Then (ReadsInput files command) (λ input. Is (Ok (text_of input.problem)))
 
 -- what the words of a command pose over the files
 abbrev pub PosesBy : Files → List (List ℕ) → Posed → Type 0
@@ -56,7 +56,7 @@ status_of (Some (Err refusal)) = lines.status_of refusal
 abbrev pub SaysText : Spoken → Spoken → Posed → Type 0
 SaysText out err None = (out.1 ≡ out.0) × (err.1 ≡ and_said err.0 usage_line)
 SaysText out err (Some (Ok text)) = (out.1 ≡ and_said out.0 text) × (err.1 ≡ err.0)
-SaysText out err (Some (Err refusal)) = (out.1 ≡ out.0) × (err.1 ≡ and_said err.0 (lines.line_of refusal))
+SaysText out err (Some (Err refusal)) = (out.1 ≡ out.0) × (err.1 ≡ and_said err.0 (lines.line_of_refusal refusal))
 
 -- the words pose this, which has the status, and just that was said
 pub record IsSaid (files : Files) (words : List (List ℕ)) (out err : Spoken) (status : Status) : Type 0 where

@@ -15,7 +15,7 @@ use Rattle.recipe_values.specs.Arguments.{keyword_of, without_keyword}
 use Rattle.recipe_values.specs.declared.value.Scalar.TheVariants.{Text, Number, Truth, Nothing, Nested}
 use Rattle.recipe_values.specs.declared.value.Value.{Value}
 use Rattle.recipe_values.specs.declared.value.Value.TheVariants.{One, Many}
-use Rattle.recipe_values.specs.declared.value.Reading.{Reading}
+use Rattle.recipe_values.specs.declared.value.PlacedValue.{PlacedValue}
 use Rattle.recipe_values.specs.declared.segment.Segment.{Segment}
 use Rattle.directive_arguments.specs.declared.fault.ArgumentFault.TheVariants as fault
 use Rattle.directive_arguments.specs.declared.directive.Count.{Count}
@@ -29,11 +29,11 @@ use Rattle.directive_arguments.specs.declared.directive.Role.TheVariants.{Reads,
 use Rattle.directive_arguments.specs.declared.given.Given.{Given}
 use Rattle.directive_arguments.specs.declared.given.Options.{Options}
 use Rattle.directive_arguments.specs.declared.given.Positional.{Positional}
-use Rattle.directive_arguments.specs.Results.{Step, then_do}
+use Rattle.directive_arguments.specs.Results.{ArgumentStep, then_do}
 use Rattle.directive_arguments.specs.Table.{role, takes}
 use Rattle.directive_arguments.specs.Texts.{IsAnswer, answer, in_text, one_by, top_of, part_of, condition, version_of}
 use Rattle.directive_arguments.specs.Given.{read, text_in, with_text, with_text_in, with_value, has_value, further, positional}
-use Rattle.directive_arguments.specs.Keywords.{truth_in, some_spec, when_text, when_by, when_in as when_option, kinds_in, policy_in, values_in, default_in, option}
+use Rattle.directive_arguments.specs.Keywords.{truth_in, some_spec, when_text, when_by, when_in as when_option, kinds_in, policy_in, value_texts_in, default_value_in, option}
 use Rattle.directive_arguments.specs.Arguments.{nothing_given, note, keyword as keyword_of_role, argument_by, argument, arguments}
 use Rattle.directive_arguments.specs.Said.{IsNamed, AreNamed, GivesNamed, IsLocal, IsLocalWhen, GivesLocal}
 use Rattle.directive_arguments.proofs.TextLaws.{answer_is}
@@ -51,15 +51,15 @@ local_by place text (Err e) h = tt
 local_text : (place : ℕ) (text : List ℕ) → IfOk (condition true place text) IsLocal
 local_text place text = local_by place text (answer LocalCondition text) (answer_is LocalCondition text)
 
-some_local : (a : Step Spec) → IfOk a IsLocal → IfOk (some_spec a) IsLocalWhen
+some_local : (a : ArgumentStep Spec) → IfOk a IsLocal → IfOk (some_spec a) IsLocalWhen
 some_local (Ok s) h = h
 some_local (Err e) h = tt
 
-when_text_local : (r : Reading) (o : Option (List ℕ)) → IfOk (when_text true r o) IsLocalWhen
+when_text_local : (r : PlacedValue) (o : Option (List ℕ)) → IfOk (when_text true r o) IsLocalWhen
 when_text_local r None = tt
 when_text_local r (Some w) = some_local (condition true r.token w) (local_text r.token w)
 
-when_by_local : (r : Reading) (value : Value) → IfOk (when_by true r value) IsLocalWhen
+when_by_local : (r : PlacedValue) (value : Value) → IfOk (when_by true r value) IsLocalWhen
 when_by_local r (One Nothing) = tt
 when_by_local r (One (Text w)) = when_text_local r (Some w)
 when_by_local r (One (Number w)) = when_text_local r (Some w)
@@ -72,7 +72,7 @@ when_by_local r (Many elements) = tt
 abbrev pub HasLocal : Options → Type 0
 HasLocal o = IsLocalWhen o.when
 
-option_local : (k : Keyword) (r : Reading) (o : Options) → HasLocal o → IfOk (option directive.Provides k r o) HasLocal
+option_local : (k : Keyword) (r : PlacedValue) (o : Options) → HasLocal o → IfOk (option directive.Provides k r o) HasLocal
 unfolding option
 option_local keyword.Preferred r o h = any_then HasLocal (truth_in r) _ (λ b. h)
 option_local keyword.Deprecated r o h = any_then HasLocal (truth_in r) _ (λ b. h)
@@ -80,8 +80,8 @@ option_local keyword.Multi r o h = any_then HasLocal (truth_in r) _ (λ b. h)
 option_local keyword.When r o h = ok_then IsLocalWhen HasLocal (when_option true r) _ (when_by_local r r.value) (λ s p. p)
 option_local keyword.Kinds r o h = any_then HasLocal (kinds_in r) _ (λ b. h)
 option_local keyword.Policy r o h = any_then HasLocal (policy_in r) _ (λ b. h)
-option_local keyword.Values r o h = any_then HasLocal (values_in r) _ (λ b. h)
-option_local keyword.Default r o h = any_then HasLocal (default_in r) _ (λ b. h)
+option_local keyword.Values r o h = any_then HasLocal (value_texts_in r) _ (λ b. h)
+option_local keyword.Default r o h = any_then HasLocal (default_value_in r) _ (λ b. h)
 
 keyword_local : (role : Role) (bytes : List ℕ) (place : ℕ) (w : List ℕ) (s : Segment) (g : Given) → GivesLocal g
     → IfOk (keyword_of_role role bytes directive.Provides place w s g) GivesLocal
@@ -141,7 +141,7 @@ text_named directive.Conflicts place token w p h =
 text_named directive.Requires place token w p h =
     any_then AreNamed (condition false token w) _ (λ s. record { name = h.name; part = h.part; parts = h.parts })
 
-text_in_named : (o : Option (List ℕ)) (d : Directive) (r : Reading) (p : Positional) → AreNamed p → IfOk (with_text_in o d r p) AreNamed
+text_in_named : (o : Option (List ℕ)) (d : Directive) (r : PlacedValue) (p : Positional) → AreNamed p → IfOk (with_text_in o d r p) AreNamed
 text_in_named None d r p h = tt
 text_in_named (Some w) d r p h = text_named d r.place r.token w p h
 
@@ -159,7 +159,8 @@ positional_named : (bytes : List ℕ) (d : Directive) (s : Segment) (p : Positio
 unfolding positional
 positional_named bytes d s p h = named_by_presence (has_value d p)
   where
-    named_by_presence : (b : Bool) → IfOk (cond b (further (takes d).positional bytes d s p) (then_do (read bytes s) (λ r. with_value d r p))) AreNamed
+    named_by_presence : (b : Bool)
+        → IfOk (cond b (further (takes d).positional bytes d s p) (then_do (read bytes s) (λ r. with_value d r p))) AreNamed
     named_by_presence true = further_named (takes d).positional bytes d s p h
     named_by_presence false = value_named bytes d s p h
 
@@ -178,7 +179,8 @@ unfolding argument
 argument_named bytes d s g h = named_by_keyword (keyword_of s)
   where
     named_by_keyword : (o : Option Token) → IfOk (argument_by o bytes d s g) GivesNamed
-    named_by_keyword None = ok_then AreNamed GivesNamed (positional bytes d s g.positional) _ (positional_named bytes d s g.positional h) (λ p is. is)
+    named_by_keyword None = ok_then AreNamed GivesNamed (positional bytes d s g.positional) _
+        (positional_named bytes d s g.positional h) (λ p is. is)
     named_by_keyword (Some t) = keyword_named (role d (word bytes t)) bytes d t.start (word bytes t) (without_keyword s) g h
 
 -- what the arguments name has a NAME

@@ -7,9 +7,9 @@ use Rattle.variant_values.specs.Texts.{Texts, with_texts}
 use Rattle.recipe_values.specs.declared.value.Value.{Value}
 use Rattle.recipe_data.specs.Right.{has_all, is_count_of}
 use Rattle.directive_arguments.specs.Said.{IsShape}
-use Rattle.directive_arguments.specs.Variants.{switch, bool_shape, kind_of, default_texts, is_right_default, shape_by, shape_with}
+use Rattle.directive_arguments.specs.Variants.{switch, bool_shape, variant_kind_of, default_texts, is_right_default, shape_by, shape_with}
 
-count_is : (multi : Bool) (n : ℕ) → nat_lt 0 n ≡ true → (multi || nat_lt n 2) ≡ true → is_count_of (kind_of multi) n ≡ true
+count_is : (multi : Bool) (n : ℕ) → nat_lt 0 n ≡ true → (multi || nat_lt n 2) ≡ true → is_count_of (variant_kind_of multi) n ≡ true
 count_is true n some e = some
 count_is false n some e =
     let above : 0 < n = ltb-true 0 n some in
@@ -17,12 +17,12 @@ count_is false n some e =
     eq-eqb n 1 (omega (arith, above, below))
 
 valued_is : (b : Bool) (multi : Bool) (values default : Texts) → is_right_default multi values default ≡ b
-    → IfSome (cond b (Some (record { kind = kind_of multi; values = values; default = default })) None) IsShape
+    → IfSome (cond b (Some (record { kind = variant_kind_of multi; values = values; default = default })) None) IsShape
 valued_is true multi values default e =
     let n = length default in
     let outer = and_parts (nat_lt 0 n && (multi || nat_lt n 2)) (has_all values default) e in
     let inner = and_parts (nat_lt 0 n) (multi || nat_lt n 2) outer.0 in
-    and_from (has_all values default) (is_count_of (kind_of multi) n) outer.1 (count_is multi n inner.0 inner.1)
+    and_from (has_all values default) (is_count_of (variant_kind_of multi) n) outer.1 (count_is multi n inner.0 inner.1)
 valued_is false multi values default e = tt
 
 bool_is : (b : Bool) → IsShape (bool_shape b)

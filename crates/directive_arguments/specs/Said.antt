@@ -7,7 +7,7 @@ use Rattle.spec_grammar.specs.declared.part.Spec.{Spec}
 use Rattle.recipe_data.specs.Right.{has_all, is_count_of}
 use Rattle.directive_arguments.specs.declared.given.Given.{Given}
 use Rattle.directive_arguments.specs.declared.given.Positional.{Positional}
-use Rattle.directive_arguments.specs.declared.variant.Shape.{Shape}
+use Rattle.directive_arguments.specs.declared.variant.VariantShape.{VariantShape}
 
 -- ---- names
 
@@ -40,5 +40,5 @@ GivesLocal g = IsLocalWhen g.options.when
 -- ---- variants
 
 -- the default is allowed, and as many values as the kind takes
-abbrev pub IsShape : Shape → Type 0
+abbrev pub IsShape : VariantShape → Type 0
 IsShape shape = (has_all shape.values shape.default && is_count_of shape.kind (length shape.default)) ≡ true

@@ -11,14 +11,14 @@ use Rattle.directive_arguments.specs.declared.directive.Role.TheVariants.{Reads,
 use Rattle.directive_arguments.specs.declared.directive.Count.{Count}
 use Rattle.directive_arguments.specs.declared.directive.Count.TheVariants.{One, OneAndOthers, OneOrMore}
 
-pub record Takes : Type 0 where
+pub record DirectiveSignature : Type 0 where
   pub word : List ℕ
   pub positional : Count
   pub reads : List (List ℕ × Keyword)
   pub passes_over : List (List ℕ)
   pub passes_others : Bool
 
-abbrev pub takes : Directive → Takes
+abbrev pub takes : Directive → DirectiveSignature
 takes Version = record {
   word = codes "version";
   positional = OneAndOthers;

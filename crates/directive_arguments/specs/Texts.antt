@@ -12,7 +12,7 @@ use Rattle.spec_grammar.specs.declared.part.Spec.{Spec}
 use Rattle.spec_grammar.specs.declared.fault.SpecFault.{SpecFault}
 use Rattle.spec_grammar.specs.declared.fault.SpecFault.TheVariants as spec
 use Rattle.directive_arguments.specs.declared.fault.ArgumentFault.TheVariants as fault
-use Rattle.directive_arguments.specs.Results.{Step}
+use Rattle.directive_arguments.specs.Results.{ArgumentStep}
 
 -- ---- answers of the grammar
 
@@ -42,18 +42,18 @@ one_by (Err e) = Err e
 
 -- ---- texts whose first string is at `place`
 
-abbrev pub in_text : {A : Type 0} → ℕ → Result A SpecFault → Step A
+abbrev pub in_text : {A : Type 0} → ℕ → Result A SpecFault → ArgumentStep A
 in_text place (Ok a) = Ok a
 in_text place (Err e) = Err (fault.Spec place e)
 
-abbrev pub spec_of : Mode → ℕ → List ℕ → Step Spec
+abbrev pub spec_of : Mode → ℕ → List ℕ → ArgumentStep Spec
 spec_of mode place text = in_text place (one_by (answer mode text))
 
-abbrev pub top_of : Step Spec → Step Part
+abbrev pub top_of : ArgumentStep Spec → ArgumentStep Part
 top_of (Ok s) = Ok s.top
 top_of (Err e) = Err e
 
-abbrev pub part_of : Mode → ℕ → List ℕ → Step Part
+abbrev pub part_of : Mode → ℕ → List ℕ → ArgumentStep Part
 part_of mode place text = top_of (spec_of mode place text)
 
 -- conditions of `provides` are local: they have no `^`
@@ -62,9 +62,9 @@ condition_mode true = LocalCondition
 condition_mode false = Condition
 
 -- a condition; a local one has no `^`
-abbrev pub condition : Bool → ℕ → List ℕ → Step Spec
+abbrev pub condition : Bool → ℕ → List ℕ → ArgumentStep Spec
 condition local place text = spec_of (condition_mode local) place text
 
 -- a version
-abbrev pub version_of : ℕ → List ℕ → Step (List ℕ)
+abbrev pub version_of : ℕ → List ℕ → ArgumentStep (List ℕ)
 version_of place text = if is_version text then Ok text else Err (fault.Spec place (spec.BadVersion 0))

@@ -13,7 +13,7 @@ use Rattle.recipe_values.specs.declared.value.Element.{Element}
 use Rattle.recipe_values.specs.declared.value.Value.{Value}
 use Rattle.recipe_values.specs.declared.value.Value.TheVariants.{One, Many}
 use Rattle.recipe_data.specs.Right.{has_all}
-use Rattle.directive_arguments.specs.declared.variant.Shape.{Shape}
+use Rattle.directive_arguments.specs.declared.variant.VariantShape.{VariantShape}
 use Rattle.directive_arguments.specs.declared.given.Options.{Options}
 use Rattle.directive_arguments.specs.Keywords.{scalar_text, truth_text}
 
@@ -31,14 +31,14 @@ switch (One (Truth b)) = Some b
 switch (One (Text w)) = switch_text w
 switch value = None
 
-abbrev pub bool_shape : Bool → Shape
+abbrev pub bool_shape : Bool → VariantShape
 bool_shape on = record { kind = variant.Bool; values = codes "false" ∷ codes "true" ∷ []; default = truth_text on ∷ [] }
 
 -- ---- with values
 
-abbrev pub kind_of : Bool → VariantKind
-kind_of true = variant.Multi
-kind_of false = variant.Single
+abbrev pub variant_kind_of : Bool → VariantKind
+variant_kind_of true = variant.Multi
+variant_kind_of false = variant.Single
 
 abbrev pub scalar_texts : Scalar → Texts
 scalar_texts scalar = option_to_list (scalar_text scalar)
@@ -60,20 +60,20 @@ abbrev pub is_right_default : Bool → Texts → Texts → Bool
 is_right_default multi values default =
     nat_lt 0 (length default) && (multi || nat_lt (length default) 2) && has_all values default
 
-abbrev pub valued_shape : Bool → Texts → Texts → Option Shape
+abbrev pub valued_shape : Bool → Texts → Texts → Option VariantShape
 valued_shape multi values default =
-    if is_right_default multi values default then Some (record { kind = kind_of multi; values = values; default = default })
+    if is_right_default multi values default then Some (record { kind = variant_kind_of multi; values = values; default = default })
     else None
 
 -- ---- what the keywords make; None where the default is missing, empty, not allowed, or more than one for Single
 
-abbrev pub shape_by : Bool → Option Texts → Value → Option Shape
+abbrev pub shape_by : Bool → Option Texts → Value → Option VariantShape
 shape_by multi None value = option_map bool_shape (switch value)
 shape_by multi (Some values) value = valued_shape multi values (with_texts [] (default_texts multi value))
 
-abbrev pub shape_with : Option Value → Bool → Option Texts → Option Shape
+abbrev pub shape_with : Option Value → Bool → Option Texts → Option VariantShape
 shape_with None multi values = None
 shape_with (Some value) multi values = shape_by multi values value
 
-abbrev pub shape : Options → Option Shape
+abbrev pub shape : Options → Option VariantShape
 shape o = shape_with o.default o.multi o.values

@@ -4,13 +4,13 @@ ghost use Rattle.std.specs.Prelude.{◌≡◌, [], IfOk};
 ghost use Rattle.variant_values.specs.Texts.{with_texts};
 ghost use Rattle.spec_grammar.specs.Meaning.{truth};
 ghost use Rattle.directive_arguments.specs.Results.{Is, Gives, steps, then_do};
-ghost use Rattle.directive_arguments.specs.Keywords.{scalar_text, add_text, add_allowed, element_allowed, allowed_by, values_in, is_default, wrong_element, wrong_default, default_in};
+ghost use Rattle.directive_arguments.specs.Keywords.{scalar_text, add_text, add_allowed, element_allowed, allowed_by, value_texts_in, is_default, wrong_element, wrong_default, default_value_in};
 
 use crate::ArgumentFault;
 use crate::table::is;
 use crate::text::is_value;
 use plain_data::Word;
-use recipe_values::{Element, Reading, Scalar, Value};
+use recipe_values::{Element, PlacedValue, Scalar, Value};
 use std::alloc::{AllocError, Global};
 use variant_values::ValueSet;
 
@@ -81,7 +81,11 @@ fn add_all_allowed(
     Ok(())
 }
 
-fn allowed_by(alloc: Global, reading: &Reading, texts: &mut Vec<Word>) -> Result<(), ArgumentFault>
+fn allowed_by(
+    alloc: Global,
+    reading: &PlacedValue,
+    texts: &mut Vec<Word>,
+) -> Result<(), ArgumentFault>
     requires { texts.old.items ≡ [] }
     ensures { Gives result texts.new.items (allowed_by reading.now.place reading.now.value) }
 {
@@ -92,8 +96,8 @@ fn allowed_by(alloc: Global, reading: &Reading, texts: &mut Vec<Word>) -> Result
 }
 
 /// Values that a variant may have, or one.
-pub(crate) fn values_in(alloc: Global, reading: &Reading) -> Result<ValueSet, ArgumentFault>
-    ensures { Is result (values_in reading.now) }
+pub(crate) fn values_in(alloc: Global, reading: &PlacedValue) -> Result<ValueSet, ArgumentFault>
+    ensures { Is result (value_texts_in reading.now) }
 {
     let mut texts = Vec::new(alloc);
     allowed_by(alloc, reading, &mut texts)?;
@@ -129,8 +133,8 @@ fn wrong_default(place: u64, value: &Value) -> Option<u64>
 }
 
 /// Any value but `None`, and a tuple or list without those and without another one.
-pub(crate) fn default_in(reading: Reading) -> Result<Value, ArgumentFault>
-    ensures { Is result (default_in reading) }
+pub(crate) fn default_in(reading: PlacedValue) -> Result<Value, ArgumentFault>
+    ensures { Is result (default_value_in reading) }
 {
     match wrong_default(reading.place, &reading.value) {
         Some(place) => Err(ArgumentFault::BadArgument(place)),

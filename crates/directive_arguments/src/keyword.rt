@@ -12,12 +12,12 @@ use crate::table::is;
 use crate::text::condition;
 use crate::{ArgumentFault, Directive, Keyword, Options};
 use graph_core::Kinds;
-use recipe_values::{Reading, Scalar, Value};
+use recipe_values::{PlacedValue, Scalar, Value};
 use spec_grammar::Spec;
 use std::alloc::Global;
 
 /// `True` or `False`.
-fn truth_in(reading: &Reading) -> Result<bool, ArgumentFault>
+fn truth_in(reading: &PlacedValue) -> Result<bool, ArgumentFault>
     ensures { Is result (truth_in reading.now) }
 {
     match &reading.value {
@@ -27,7 +27,7 @@ fn truth_in(reading: &Reading) -> Result<bool, ArgumentFault>
 }
 
 /// A condition, none for `None`; a local one has no `^`.
-fn when_in(alloc: Global, local: bool, reading: &Reading) -> Result<Option<Spec>, ArgumentFault>
+fn when_in(alloc: Global, local: bool, reading: &PlacedValue) -> Result<Option<Spec>, ArgumentFault>
     ensures { Is result (when_in local reading.now) }
 {
     if let Value::One(Scalar::Nothing) = &reading.value {
@@ -56,7 +56,7 @@ fn policy_word(place: u64, word: &[u8]) -> Result<bool, ArgumentFault>
 }
 
 /// Whether exactly one is to hold.
-fn policy_in(reading: &Reading) -> Result<bool, ArgumentFault>
+fn policy_in(reading: &PlacedValue) -> Result<bool, ArgumentFault>
     ensures { Is result (policy_in reading.now) }
 {
     match &reading.value {
@@ -98,7 +98,7 @@ fn small_option(
     alloc: Global,
     directive: Directive,
     keyword: Keyword,
-    reading: &Reading,
+    reading: &PlacedValue,
     options: &mut Options,
 ) -> Result<(), ArgumentFault>
     requires { keyword ≢ Keyword.Default }
@@ -123,7 +123,7 @@ pub(crate) fn option(
     alloc: Global,
     directive: Directive,
     keyword: Keyword,
-    reading: Reading,
+    reading: PlacedValue,
     options: &mut Options,
 ) -> Result<(), ArgumentFault>
     ensures { Gives result options.new (option directive keyword reading options.old) }

@@ -7,7 +7,7 @@ ghost use Rattle.directive_arguments.specs.Keywords.{no_kinds, add_word, add_kin
 use crate::ArgumentFault;
 use crate::table::is;
 use graph_core::Kinds;
-use recipe_values::{Element, Reading, Scalar, Value};
+use recipe_values::{Element, PlacedValue, Scalar, Value};
 
 const NO_KINDS: Kinds = Kinds {
     build: false,
@@ -62,7 +62,7 @@ fn add_kinds(elements: &[Element]) -> Result<Kinds, ArgumentFault>
 }
 
 /// One kind, or a tuple or list of them that is not empty.
-pub(crate) fn kinds_in(reading: &Reading) -> Result<Kinds, ArgumentFault>
+pub(crate) fn kinds_in(reading: &PlacedValue) -> Result<Kinds, ArgumentFault>
     ensures { Is result (kinds_in reading.now) }
 {
     match &reading.value {

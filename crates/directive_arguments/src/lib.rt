@@ -28,4 +28,4 @@ pub use names::Names;
 pub use table::directive_of;
 pub use text::condition;
 pub use theorems::{answer_laws, argument_laws, worked_roles};
-pub use variant::{Shape, shape_with};
+pub use variant::{VariantShape, shape_with};

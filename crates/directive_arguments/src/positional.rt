@@ -12,7 +12,7 @@ use crate::table::count_of;
 use crate::text::{condition, dependency, provision, version};
 use crate::{ArgumentFault, Count, Directive, Positional};
 use plain_data::{List, Word};
-use recipe_values::{Reading, Scalar, Segment, Value, ValueFault, place_of, read_value};
+use recipe_values::{PlacedValue, Scalar, Segment, Value, ValueFault, place_of, read_value};
 use spec_grammar::is_name;
 use std::alloc::Global;
 
@@ -31,7 +31,11 @@ pub(crate) fn nothing_positional(alloc: Global) -> Positional
 }
 
 /// The value of a segment.
-pub(crate) fn read(alloc: Global, bytes: &[u8], segment: Segment) -> Result<Reading, ArgumentFault>
+pub(crate) fn read(
+    alloc: Global,
+    bytes: &[u8],
+    segment: Segment,
+) -> Result<PlacedValue, ArgumentFault>
     ensures { Is result (read bytes.now segment) }
 {
     match read_value(alloc, bytes, segment) {
@@ -144,7 +148,7 @@ fn with_text(
 fn with_value(
     alloc: Global,
     directive: Directive,
-    reading: &Reading,
+    reading: &PlacedValue,
     p: &mut Positional,
 ) -> Result<(), ArgumentFault>
     ensures { Gives result p.new (with_value directive reading.now p.old) }

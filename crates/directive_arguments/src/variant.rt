@@ -8,7 +8,7 @@ ghost use Rattle.std.specs.Str.{str_eq_ignore_ascii_case};
 ghost use Rattle.variant_values.specs.Texts.{with_text, with_texts};
 ghost use Rattle.recipe_data.specs.Right.{has_all};
 ghost use Rattle.directive_arguments.specs.Keywords.{scalar_text, truth_text};
-ghost use Rattle.directive_arguments.specs.Variants.{switch_text, switch, bool_shape, kind_of, scalar_texts, element_text, cut_texts, default_texts, is_right_default, valued_shape, shape_by, shape_with};
+ghost use Rattle.directive_arguments.specs.Variants.{switch_text, switch, bool_shape, variant_kind_of, scalar_texts, element_text, cut_texts, default_texts, is_right_default, valued_shape, shape_by, shape_with};
 
 use crate::choice::{scalar_text, truth};
 use plain_data::Word;
@@ -18,7 +18,7 @@ use variant_values::{ValueSet, VariantKind};
 
 /// What a variant is, besides its name.
 #[derive(Debug, Drop)]
-pub struct Shape {
+pub struct VariantShape {
     pub kind: VariantKind,
     pub values: ValueSet,
     pub default: ValueSet,
@@ -80,10 +80,10 @@ fn only(alloc: Global, on: bool) -> Result<ValueSet, AllocError>
     }
 }
 
-fn bool_shape(alloc: Global, on: bool) -> Result<Shape, AllocError>
+fn bool_shape(alloc: Global, on: bool) -> Result<VariantShape, AllocError>
     ensures { IfOk result (λ shape. shape ≡ bool_shape on) }
 {
-    Ok(Shape {
+    Ok(VariantShape {
         kind: VariantKind::Bool,
         values: both(alloc)?,
         default: only(alloc, on)?,
@@ -91,7 +91,7 @@ fn bool_shape(alloc: Global, on: bool) -> Result<Shape, AllocError>
 }
 
 fn kind_of(multi: bool) -> VariantKind
-    ensures { result ≡ kind_of multi }
+    ensures { result ≡ variant_kind_of multi }
 {
     if multi {
         VariantKind::Multi
@@ -173,20 +173,20 @@ fn is_right_default(multi: bool, values: &ValueSet, default: &ValueSet) -> bool
 }
 
 /// The shape of a variant with values, where its default is right.
-fn valued_shape(multi: bool, values: ValueSet, default: ValueSet) -> Option<Shape>
+fn valued_shape(multi: bool, values: ValueSet, default: ValueSet) -> Option<VariantShape>
     ensures { result ≡ valued_shape multi values default }
 {
     if !is_right_default(multi, &values, &default) {
         return None;
     }
-    Some(Shape {
+    Some(VariantShape {
         kind: kind_of(multi),
         values,
         default,
     })
 }
 
-fn without_values(alloc: Global, value: &Value) -> Result<Option<Shape>, AllocError>
+fn without_values(alloc: Global, value: &Value) -> Result<Option<VariantShape>, AllocError>
     ensures { IfOk result (λ shape. shape ≡ option_map bool_shape (switch value.now)) }
 {
     match switch(value) {
@@ -200,7 +200,7 @@ fn with_values(
     multi: bool,
     values: ValueSet,
     value: &Value,
-) -> Result<Option<Shape>, AllocError>
+) -> Result<Option<VariantShape>, AllocError>
     ensures { IfOk result (λ shape. shape ≡ valued_shape multi values
         (with_texts [] (default_texts multi value.now))) }
 {
@@ -214,7 +214,7 @@ pub fn shape_with(
     default: &Option<Value>,
     multi: bool,
     values: Option<ValueSet>,
-) -> Result<Option<Shape>, AllocError>
+) -> Result<Option<VariantShape>, AllocError>
     ensures { IfOk result (λ shape. shape ≡ shape_with default.now multi values) }
 {
     match (default, values) {

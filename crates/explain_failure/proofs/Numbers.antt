@@ -5,7 +5,7 @@ use Rattle.std.specs.Prelude.{if◌then◌else◌}
 use Rattle.std.proofs.lemmas.Bool.{false≢true, cases_Bool, ltb-true, lt-ltb, eqb-true, eq-eqb, ne_eqb}
 use Rattle.std.proofs.lemmas.Bool.Decides.{eqb_tells}
 use Rattle.std.proofs.lemmas.Option.{same_Some, none-some}
-use Rattle.explain_failure.specs.Uses.{stands, AllAbove, IsRising}
+use Rattle.explain_failure.specs.Uses.{stands, AllNumbersAbove, IsRising}
 use Rattle.explain_failure.specs.Rising.{place_of, with_number}
 
 not-below : (a b : ℕ) → ltb a b ≡ false → b ≤ a
@@ -68,17 +68,17 @@ stands-with (x ∷ xs) n d = by-bool (ltb x n) (stands-with xs n d)
     by-bool true ih = ap (λ b. eqb x d || b) ih ∙ swap (eqb x d) (eqb n d) (stands xs d)
     by-bool false ih = other (eqb x n) refl
 
-above-with : (m n : ℕ) (xs : List ℕ) → m < n → AllAbove m xs → AllAbove m (with_number xs n)
+above-with : (m n : ℕ) (xs : List ℕ) → m < n → AllNumbersAbove m xs → AllNumbersAbove m (with_number xs n)
 above-with m n [] h a = (h, tt)
 above-with m n (x ∷ xs) h a = by-bools (ltb x n) (eqb x n) (above-with m n xs h a.1)
   where
-    by-bools : (b c : Bool) → AllAbove m (with_number xs n)
-        → AllAbove m (if b then x ∷ with_number xs n else (if c then x ∷ xs else n ∷ x ∷ xs))
+    by-bools : (b c : Bool) → AllNumbersAbove m (with_number xs n)
+        → AllNumbersAbove m (if b then x ∷ with_number xs n else (if c then x ∷ xs else n ∷ x ∷ xs))
     by-bools true c ih = (a.0, ih)
     by-bools false true ih = a
     by-bools false false ih = (h, a)
 
-above-le : (m n : ℕ) (xs : List ℕ) → m ≤ n → AllAbove n xs → AllAbove m xs
+above-le : (m n : ℕ) (xs : List ℕ) → m ≤ n → AllNumbersAbove n xs → AllNumbersAbove m xs
 above-le m n [] h a = tt
 above-le m n (x ∷ xs) h a = (omega (arith, h, a.0), above-le m n xs h a.1)
 

@@ -12,13 +12,13 @@ use Rattle.recipe_lexer.specs.declared.token.Token.{Token}
 use Rattle.recipe_statements.specs.Lines.{word}
 use Rattle.recipe_values.specs.Arguments.{keyword_of, without_keyword}
 use Rattle.recipe_values.specs.Reads.{Read}
-use Rattle.recipe_values.specs.Values.{value_of}
+use Rattle.recipe_values.specs.Values.{segment_value}
 use Rattle.recipe_values.specs.declared.value.Scalar.{Scalar}
 use Rattle.recipe_values.specs.declared.value.Scalar.TheVariants as scalar
 use Rattle.recipe_values.specs.declared.value.Element.{Element}
 use Rattle.recipe_values.specs.declared.value.Value.{Value}
 use Rattle.recipe_values.specs.declared.value.Value.TheVariants.{One, Many}
-use Rattle.recipe_values.specs.declared.value.Reading.{Reading}
+use Rattle.recipe_values.specs.declared.value.PlacedValue.{PlacedValue}
 use Rattle.recipe_values.specs.declared.segment.Atom.{Atom}
 use Rattle.recipe_values.specs.declared.segment.Segment.{Segment}
 use Rattle.directive_arguments.specs.declared.fault.ArgumentFault.TheVariants as fault
@@ -33,11 +33,11 @@ use Rattle.directive_arguments.specs.declared.directive.Role.TheVariants.{Reads,
 use Rattle.directive_arguments.specs.declared.given.Given.{Given}
 use Rattle.directive_arguments.specs.declared.given.Options.{Options}
 use Rattle.directive_arguments.specs.declared.given.Positional.{Positional}
-use Rattle.directive_arguments.specs.Results.{Step, then_do, steps}
+use Rattle.directive_arguments.specs.Results.{ArgumentStep, then_do, steps}
 use Rattle.directive_arguments.specs.Table.{role, takes}
 use Rattle.directive_arguments.specs.Texts.{part_of, condition, version_of}
-use Rattle.directive_arguments.specs.Given.{as_step, read, text_in, with_text, with_text_in, with_value, has_value, further, positional}
-use Rattle.directive_arguments.specs.Keywords.{truth_in, when_in, kinds_in, policy_in, scalar_text, add_text, add_allowed, element_allowed, allowed_by, values_in, wrong_default, default_by, default_in, is_local, option}
+use Rattle.directive_arguments.specs.Given.{as_argument_step, read, text_in, with_text, with_text_in, with_value, has_value, further, positional}
+use Rattle.directive_arguments.specs.Keywords.{truth_in, when_in, kinds_in, policy_in, scalar_text, add_text, add_allowed, element_allowed, allowed_by, value_texts_in, wrong_default, default_by, default_value_in, is_local, option}
 use Rattle.directive_arguments.specs.Arguments.{nothing_given, note, keyword as keyword_of_role, argument_by, argument, arguments}
 use Rattle.directive_arguments.proofs.ListLaws.{ok_then, any_then}
 use Rattle.recipe_lexer.proofs.Keeping.{cond_all}
@@ -100,10 +100,10 @@ scalar-some scalar.Nested = omega arith
 
 -- ---- `values`: at most n texts more
 
-abbrev TextsMore : ℕ → Texts → Step Texts → Type 0
+abbrev TextsMore : ℕ → Texts → ArgumentStep Texts → Type 0
 TextsMore n texts r = IfOk r (λ more. length more ≤ length texts + n)
 
-texts-more : (m n : ℕ) (r : Step Texts) → IfOk r (λ more. length more ≤ m) → m ≤ n → IfOk r (λ more. length more ≤ n)
+texts-more : (m n : ℕ) (r : ArgumentStep Texts) → IfOk r (λ more. length more ≤ m) → m ≤ n → IfOk r (λ more. length more ≤ n)
 texts-more m n r h le = no-more (λ (more : Texts). length more) m n r h le
 
 text-more : (place : ℕ) (o : Option (List ℕ)) (texts : Texts) → TextsMore 1 texts (add_text place o texts)
@@ -126,7 +126,7 @@ allowed-few place (One s) = texts-more (0 + 1) (scalar_size s) (add_allowed plac
 allowed-few place (Many elements) =
     texts-more (0 + length elements) (length elements) (steps element_allowed elements []) (elements-more elements []) (omega arith)
 
-values-few : (r : Reading) → IfOk (values_in r) (λ texts. length texts ≤ value_size r.value)
+values-few : (r : PlacedValue) → IfOk (value_texts_in r) (λ texts. length texts ≤ value_size r.value)
 values-few r =
     ok_then (λ (texts : Texts). length texts ≤ value_size r.value) (λ (texts : Texts). length texts ≤ value_size r.value)
     (allowed_by r.place r.value) (λ texts. Ok (with_texts [] texts)) (allowed-few r.place r.value)
@@ -134,7 +134,7 @@ values-few r =
 
 -- ---- `default`
 
-default-same : (r : Reading) → IfOk (default_in r) (λ value. value_size value ≤ value_size r.value)
+default-same : (r : PlacedValue) → IfOk (default_value_in r) (λ value. value_size value ≤ value_size r.value)
 default-same r = default-same-cases (wrong_default r.place r.value)
   where
     default-same-cases : (o : Option ℕ) → IfOk (default_by o r.value) (λ value. value_size value ≤ value_size r.value)
@@ -147,7 +147,7 @@ default-same r = default-same-cases (wrong_default r.place r.value)
 abbrev OptionsMore : ℕ → Options → Options → Type 0
 OptionsMore n o more = options_size more ≤ options_size o + n
 
-option-grows : (d : Directive) (k : Keyword) (r : Reading) (o : Options) → IfOk (option d k r o) (OptionsMore (value_size r.value) o)
+option-grows : (d : Directive) (k : Keyword) (r : PlacedValue) (o : Options) → IfOk (option d k r o) (OptionsMore (value_size r.value) o)
 unfolding option
 option-grows d keyword.Preferred r o = any_then (OptionsMore (value_size r.value) o) (truth_in r) _ (λ b. omega arith)
 option-grows d keyword.Deprecated r o = any_then (OptionsMore (value_size r.value) o) (truth_in r) _ (λ b. omega arith)
@@ -156,10 +156,10 @@ option-grows d keyword.When r o = any_then (OptionsMore (value_size r.value) o) 
 option-grows d keyword.Kinds r o = any_then (OptionsMore (value_size r.value) o) (kinds_in r) _ (λ kinds. omega arith)
 option-grows d keyword.Policy r o = any_then (OptionsMore (value_size r.value) o) (policy_in r) _ (λ b. omega arith)
 option-grows d keyword.Values r o =
-    ok_then (λ (texts : Texts). length texts ≤ value_size r.value) (OptionsMore (value_size r.value) o) (values_in r) _ (values-few r)
+    ok_then (λ (texts : Texts). length texts ≤ value_size r.value) (OptionsMore (value_size r.value) o) (value_texts_in r) _ (values-few r)
     (λ texts h. omega (arith, h))
 option-grows d keyword.Default r o =
-    ok_then (λ (value : Value). value_size value ≤ value_size r.value) (OptionsMore (value_size r.value) o) (default_in r) _
+    ok_then (λ (value : Value). value_size value ≤ value_size r.value) (OptionsMore (value_size r.value) o) (default_value_in r) _
     (default-same r)
     (λ value h. omega (arith, h))
 
@@ -181,16 +181,17 @@ text-part directive.Provides place token w p n some =
 text-part directive.Conflicts place token w p n some = any_then (PartsMore n p) (condition false token w) _ (λ s. omega arith)
 text-part directive.Requires place token w p n some = any_then (PartsMore n p) (condition false token w) _ (λ s. omega arith)
 
-text-in : (o : Option (List ℕ)) (d : Directive) (r : Reading) (p : Positional) (n : ℕ) → 1 ≤ n → IfOk (with_text_in o d r p) (PartsMore n p)
+text-in : (o : Option (List ℕ)) (d : Directive) (r : PlacedValue) (p : Positional) (n : ℕ) → 1 ≤ n
+    → IfOk (with_text_in o d r p) (PartsMore n p)
 text-in None d r p n some = tt
 text-in (Some w) d r p n some = text-part d r.place r.token w p n some
 
-step-fits : (n : ℕ) (r : Read Reading) → ReadFits n r → IfOk (as_step r) (Fits n)
+step-fits : (n : ℕ) (r : Read PlacedValue) → ReadFits n r → IfOk (as_argument_step r) (Fits n)
 step-fits n (Ok r) h = h
 step-fits n (Err place) h = tt
 
 read-fits : (bytes : List ℕ) (s : Segment) → IfOk (read bytes s) (Fits (segment_size s))
-read-fits bytes s = step-fits (segment_size s) (value_of bytes s) (value-fits bytes s)
+read-fits bytes s = step-fits (segment_size s) (segment_value bytes s) (value-fits bytes s)
 
 value-part : (bytes : List ℕ) (d : Directive) (s : Segment) (p : Positional)
     → IfOk (then_do (read bytes s) (λ r. with_value d r p)) (PartsMore (segment_size s) p)

@@ -7,15 +7,15 @@ use Rattle.recipe_lexer.specs.declared.token.TokenKind.{TokenKind}
 use Rattle.recipe_lexer.specs.declared.token.TokenKind.TheVariants.{Op}
 use Rattle.recipe_values.specs.declared.value.Element.{Element}
 use Rattle.recipe_values.specs.declared.value.Value.TheVariants.{Many}
-use Rattle.recipe_values.specs.declared.value.Reading.{Reading}
+use Rattle.recipe_values.specs.declared.value.PlacedValue.{PlacedValue}
 use Rattle.recipe_values.specs.declared.segment.Atom.{Atom}
 use Rattle.recipe_values.specs.declared.segment.Atom.TheVariants.{Plain, Inner}
 use Rattle.recipe_values.specs.declared.segment.Segment.{Segment}
 use Rattle.recipe_values.specs.declared.levels.Level.{Level}
 use Rattle.recipe_values.specs.declared.levels.Levels.{Levels}
-use Rattle.recipe_values.specs.Reads.{Read, then_do}
-use Rattle.recipe_values.specs.Values.{is_empty, value_of}
-use Rattle.recipe_values.specs.Brackets.{without_last, segments_of, element, elements, many, bracketed, is_around, group, put, cut, enter, leave_by, leave, ends_bracket, begins_bracket, with_sign, with_kind, levels_of, arguments_of}
+use Rattle.recipe_values.specs.Reads.{Read, then_read}
+use Rattle.recipe_values.specs.Values.{is_empty, segment_value}
+use Rattle.recipe_values.specs.Brackets.{without_last, segments_of, element, elements, many, bracketed, is_around, group, put_atom, cut, enter, leave_by, leave, ends_bracket, begins_bracket, with_sign, with_kind, levels_of, arguments_of}
 use Rattle.recipe_lexer.proofs.Keeping.{cond_all}
 use Rattle.file_limits.proofs.Sizes.{token_size, tokens_size, read_size, atom_size, segment_size, level_size, levels_size}
 use Rattle.file_limits.proofs.TokenCounts.{Few, few-more, few-join}
@@ -23,7 +23,7 @@ use Rattle.file_limits.proofs.ValueSizes.{ReadFits, value-fits}
 
 -- ---- what brackets stand for
 
-element-few : (n : ℕ) (r : Read Reading) → ReadFits n r → Few n (then_do r (λ (x : Reading). Ok (element x ∷ [])))
+element-few : (n : ℕ) (r : Read PlacedValue) → ReadFits n r → Few n (then_read r (λ (x : PlacedValue). Ok (element x ∷ [])))
 element-few n (Ok r) h = omega (arith, h.1)
 element-few n (Err place) h = tt
 
@@ -31,8 +31,9 @@ elements-few : (bytes : List ℕ) (segments : List Segment) → Few (sum_by segm
 unfolding elements
 elements-few bytes [] = omega arith
 elements-few bytes (s ∷ more) =
-    let both = few-join (segment_size s) (sum_by segment_size more) (then_do (value_of bytes s) (λ (x : Reading). Ok (element x ∷ [])))
-    (elements bytes more) (element-few (segment_size s) (value_of bytes s) (value-fits bytes s)) (elements-few bytes more) in
+    let both = few-join (segment_size s) (sum_by segment_size more)
+    (then_read (segment_value bytes s) (λ (x : PlacedValue). Ok (element x ∷ [])))
+    (elements bytes more) (element-few (segment_size s) (segment_value bytes s) (value-fits bytes s)) (elements-few bytes more) in
     few-more (segment_size s + sum_by segment_size more) (sum_by segment_size (s ∷ more)) _ both
     (omega (arith, sum_by-cons segment_size s more))
 
@@ -57,11 +58,11 @@ many-size : (bytes : List ℕ) (place n : ℕ) (segments : List Segment) → sum
 many-size bytes place n segments le = many-size-cases (elements bytes segments) (elements-few bytes segments)
   where
     many-size-cases : (r : Read (List Element)) → Few (sum_by segment_size segments) r
-        → read_size (then_do r (λ (found : List Element). Ok (record { value = Many found; place = place; token = place }))) ≤ n
+        → read_size (then_read r (λ (found : List Element). Ok (record { value = Many found; place = place; token = place }))) ≤ n
     many-size-cases (Ok found) h = omega (arith, h, le)
     many-size-cases (Err p) h = omega arith
 
-around-size : (n place : ℕ) (r : Read Reading) → ReadFits n r → read_size (bracketed place r) ≤ n
+around-size : (n place : ℕ) (r : Read PlacedValue) → ReadFits n r → read_size (bracketed place r) ≤ n
 around-size n place (Ok r) h = h.0
 around-size n place (Err p) h = omega arith
 
@@ -69,15 +70,15 @@ group-size : (bytes : List ℕ) (sign place : ℕ) (level : Level) → read_size
 unfolding group
 group-size bytes sign place level =
     let n : ℕ = level_size level in
-    cond_all (λ r. read_size r ≤ n) (is_around sign level) (bracketed place (value_of bytes level.here)) _
-    (λ e. let here = around-size (segment_size level.here) place (value_of bytes level.here) (value-fits bytes level.here) in
+    cond_all (λ r. read_size r ≤ n) (is_around sign level) (bracketed place (segment_value bytes level.here)) _
+    (λ e. let here = around-size (segment_size level.here) place (segment_value bytes level.here) (value-fits bytes level.here) in
     omega (arith, here))
     (λ e. cond_all (λ r. read_size r ≤ n) (sign == 40 || sign == 91) (many bytes place (segments_of level)) (Err place)
     (λ f. many-size bytes place n (segments_of level) (segments-size level)) (λ f. omega arith))
 
 -- ---- the tokens of a call, from the right
 
-put-size : (a : Atom) (levels : Levels) → levels_size (put a levels) ≡ atom_size a + levels_size levels
+put-size : (a : Atom) (levels : Levels) → levels_size (put_atom a levels) ≡ atom_size a + levels_size levels
 put-size a levels = omega (arith, sum_by-cons atom_size a levels.inner.here.atoms)
 
 cut-size : (place : ℕ) (levels : Levels) → levels_size (cut place levels) ≡ levels_size levels
@@ -105,7 +106,7 @@ sign-size bytes b t levels is =
     cond_all P (ends_bracket b) (enter t.start levels) _ (λ e. omega (arith, enter-size t.start levels)) (λ e.
     cond_all P (begins_bracket b) (leave bytes b t.start levels) _
     (λ f. omega (arith, one, leave-by bytes b t.start levels.inner levels.around)) (λ f.
-    cond_all P (b == 44) (cut t.start levels) (put (Plain t) levels) (λ g. omega (arith, cut-size t.start levels))
+    cond_all P (b == 44) (cut t.start levels) (put_atom (Plain t) levels) (λ g. omega (arith, cut-size t.start levels))
     (λ g. omega (arith, put-size (Plain t) levels))))
 
 kind-size : (bytes : List ℕ) (k : TokenKind) (t : Token) (levels : Levels) → t.kind ≡ k

@@ -3,12 +3,12 @@ use Rattle.std.proofs.Common.{◌≡◌, refl, ap, ℕ, ◌+◌, ◌*◌, ◌≤
 use Rattle.std.proofs.lemmas.List.Sums.{sum_by_push}
 use Rattle.std.specs.List.{sum_by}
 use Rattle.spec_grammar.specs.declared.mode.Mode.TheVariants.{Specs, Condition, LocalCondition, Dependency, Provision}
-use Rattle.spec_grammar.proofs.Common.{same_Some, Step, spell, spell_step, spell_steps, AreRight, add, empty_part, spec_with, nest_in, nest, finish, begin_part, constrain, take_item, take_steps, begin}
-use Rattle.spec_grammar.specs.declared.item.Item.{Item}
+use Rattle.spec_grammar.proofs.Common.{same_Some, ItemStep, spell_item, spell_step, spell_steps, AreRight, add, empty_part, spec_with, nest_in, nest, finished_specs, begin_part, constrain, take_item, take_steps, first_draft}
+use Rattle.spec_grammar.specs.declared.item.SpecItem.{SpecItem}
 use Rattle.spec_grammar.specs.declared.mode.Mode.{Mode}
 use Rattle.spec_grammar.specs.declared.part.Part.{Part}
 use Rattle.spec_grammar.specs.declared.draft.Draft.{Draft}
-use Rattle.spec_grammar.specs.declared.item.Item.TheVariants.{Name, Caret}
+use Rattle.spec_grammar.specs.declared.item.SpecItem.TheVariants.{Name, Caret}
 use Rattle.spec_grammar.proofs.StepLaws.{some_then, some_of}
 use Rattle.file_limits.specs.SpecSizes.{part_values, spec_values, all_values, TextsBearValues}
 use Rattle.file_limits.proofs.Items.{item_values, item_room}
@@ -28,7 +28,7 @@ with_values : (top : Option Part) (below : List Part) (part : Part)
 with_values None below part = omega arith
 with_values (Some top) below part = omega (arith, sum_by_push part_values below part)
 
-finish_values : (draft : Draft) (part : Part) → draft.part ≡ Some part → all_values (finish draft part) ≡ draft_values draft
+finish_values : (draft : Draft) (part : Part) → draft.part ≡ Some part → all_values (finished_specs draft part) ≡ draft_values draft
 finish_values draft part is =
     omega (
       arith,
@@ -49,7 +49,7 @@ begin_values w draft (Some part) is =
     let ended = finish_values draft part is in
     let named = ap maybe_values is in
     elim (is_some part.name) as (λ b. draft_values
-    (if b then record { specs = finish draft part; top = None; below = []; part = Some (empty_part (Some w)) } else record draft {
+    (if b then record { specs = finished_specs draft part; top = None; below = []; part = Some (empty_part (Some w)) } else record draft {
       part =
           Some (record part { name = Some w });
     }) ≡ draft_values draft) [
@@ -57,7 +57,7 @@ begin_values w draft (Some part) is =
       | false ↦ omega (arith, named)
     ]
 
-constrain_few : (item : Item) (draft next : Draft) (part : Option Part) → draft.part ≡ part → constrain item draft part ≡ Some next
+constrain_few : (item : SpecItem) (draft next : Draft) (part : Option Part) → draft.part ≡ part → constrain item draft part ≡ Some next
     → draft_values next ≤ draft_values draft + item_values item
 constrain_few item draft next None is e = absurd cc
 constrain_few item draft next (Some part) is e =
@@ -66,14 +66,15 @@ constrain_few item draft next (Some part) is e =
 
 -- ---- items
 
-item_few : (item : Item) (draft next : Draft) → take_item item draft ≡ Some next → draft_values next ≤ draft_values draft + item_values item
+item_few : (item : SpecItem) (draft next : Draft) → take_item item draft ≡ Some next
+    → draft_values next ≤ draft_values draft + item_values item
 item_few (Name w) draft next e = omega (arith, begin_values w draft draft.part refl, ap draft_values (same_Some _ next e))
 item_few Caret draft next e =
     let nested = some_of (nest draft) draft.part next e in
     omega (arith, nest_values draft draft.top nested.0 refl nested.1, ap draft_values nested.2)
 item_few item draft next e = constrain_few item draft next draft.part refl e
 
-steps_few : (mode : Mode) (last : Option Item) (steps : List Step) (draft end : Draft) → AreRight mode last steps
+steps_few : (mode : Mode) (last : Option SpecItem) (steps : List ItemStep) (draft end : Draft) → AreRight mode last steps
     → take_steps draft steps ≡ Some end → 2 * draft_values end ≤ 2 * draft_values draft + length (spell_steps steps)
 unfolding take_steps
 steps_few mode last [] draft end are e = omega (arith, ap draft_values (same_Some draft end e))
@@ -84,11 +85,11 @@ steps_few mode last (s ∷ steps) draft end are e =
       item_few s.item draft next.0 next.1,
       item_room s.item are.0.form.0,
       steps_few mode (Some s.item) steps next.0 end are.1 next.2,
-      length-append s.gap (spell s.item),
+      length-append s.gap (spell_item s.item),
       length-append (spell_step s) (spell_steps steps),
     )
 
-first_none : (mode : Mode) → draft_values (begin mode) ≡ 0
+first_none : (mode : Mode) → draft_values (first_draft mode) ≡ 0
 first_none Specs = refl
 first_none Condition = refl
 first_none LocalCondition = refl
@@ -105,7 +106,7 @@ texts-bear-values mode text specs s =
       arith,
       ap all_values s.are,
       finish_values read.draft s.part s.last,
-      steps_few mode None read.steps (begin mode) read.draft s.is.cut.right s.is.value,
+      steps_few mode None read.steps (first_draft mode) read.draft s.is.cut.right s.is.value,
       first_none mode,
       ap length s.is.cut.spelled,
       length-append (spell_steps read.steps) read.trail,

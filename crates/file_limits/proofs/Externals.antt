@@ -83,7 +83,7 @@ external_most bear name platform d entry h =
     let told = below_ok (codes "spec") (IsDescribed name platform text.0) described.0 described.1 in
     omega (
       arith,
-      ap weight (known_ok external.keys d ms.0 (said_ok (known external.keys d) ms.0 ms.1)),
+      ap weight (known_ok external.external_keys d ms.0 (said_ok (known external.external_keys d) ms.0 ms.1)),
       need-counts _ (text_of Some) text_most (codes "spec") ms.0 text.0 (said_ok (need (text_of Some) (codes "spec") ms.0) text.0 text.1),
       key-weight ms.0 (codes "spec"),
       read_most bear name platform text.0 described.0 told.read told.right told.is,
@@ -103,7 +103,7 @@ package_most bear name platform d entry h =
     let externals = then_ok (IsListAt (IsExternal name platform) (codes "externals") ms.0) _ entry buildable.2 in
     omega (
       arith,
-      ap weight (known_ok packages.keys d ms.0 (said_ok (known packages.keys d) ms.0 ms.1)),
+      ap weight (known_ok packages.package_keys d ms.0 (said_ok (known packages.package_keys d) ms.0 ms.1)),
       listed_at_most external_size (IsExternal name platform) (external_most bear name platform) (codes "externals") ms.0 externals.0
           externals.1,
       key-weight ms.0 (codes "externals"),

@@ -8,14 +8,14 @@ use Rattle.recipe_lexer.specs.declared.token.Token.{Token}
 use Rattle.recipe_lexer.specs.declared.token.LexFault.{LexFault}
 use Rattle.recipe_statements.specs.Statements.{items}
 use Rattle.recipe_statements.specs.Order.{AreInOrder}
-use Rattle.recipe_statements.specs.declared.item.Item.{Item}
+use Rattle.recipe_statements.specs.declared.item.ClassItem.{ClassItem}
 use Rattle.recipe_statements.specs.declared.item.StatementFault.{StatementFault}
 use Rattle.recipe_statements.proofs.OrderLaws.{items_in_order}
 use Rattle.recipe_data.specs.declared.recipe.Recipe.{Recipe}
 use Rattle.directive_arguments.proofs.ListLaws.{ok_then}
 use Rattle.recipe_reader.specs.declared.state.State.{State}
-use Rattle.recipe_reader.specs.Results.{Step, lex_step, statement_step}
-use Rattle.recipe_reader.specs.Recipes.{read_items, start, recipe_in, recipe_of}
+use Rattle.recipe_reader.specs.Results.{RecipeStep, lex_step, statement_step}
+use Rattle.recipe_reader.specs.Recipes.{read_items, start_recipe, recipe_in, recipe_of_file}
 use Rattle.problem.specs.Limits.{size_of_recipe}
 use Rattle.file_limits.proofs.Sizes.{tokens_size}
 use Rattle.file_limits.proofs.TokenSizes.{tokens-fit}
@@ -27,17 +27,17 @@ lexed : (n : ℕ) (r : Result (List Token) LexFault) → IfOk r (λ found. token
 lexed n (Ok found) h = h
 lexed n (Err e) h = tt
 
-stated : (P : List Item → Type 0) (r : Result (List Item) StatementFault) → IfOk r P → IfOk (statement_step r) P
+stated : (P : List ClassItem → Type 0) (r : Result (List ClassItem) StatementFault) → IfOk r P → IfOk (statement_step r) P
 stated P (Ok found) h = h
 stated P (Err e) h = tt
 
-in-state : (m n : ℕ) (r : Step State) → StateGrowsTo m r → m ≤ n → GrowsTo n (recipe_in r)
+in-state : (m n : ℕ) (r : RecipeStep State) → StateGrowsTo m r → m ≤ n → GrowsTo n (recipe_in r)
 in-state m n (Ok s) h le = omega (arith, h, le)
 in-state m n (Err e) h le = tt
 
 -- a recipe is no larger than its file
-pub recipe-fits : (name bytes : List ℕ) → IfOk (recipe_of name bytes) (λ recipe. size_of_recipe recipe ≤ length bytes)
-unfolding recipe_of
+pub recipe-fits : (name bytes : List ℕ) → IfOk (recipe_of_file name bytes) (λ recipe. size_of_recipe recipe ≤ length bytes)
+unfolding recipe_of_file
 recipe-fits name bytes =
     let n : ℕ = length bytes in
     let P : Recipe → Type 0 = λ recipe. size_of_recipe recipe ≤ n in
@@ -45,20 +45,20 @@ recipe-fits name bytes =
     (lexed n (tokens bytes) (tokens-fit bytes)) (λ found h.
     ok_then (AreInOrder 0 (length found)) P (statement_step (items bytes found)) _
     (stated (AreInOrder 0 (length found)) (items bytes found) (items_in_order bytes found)) (λ all order.
-    in-state (0 + tokens_size found) n (read_items bytes found 0 all (start name))
-    (items-grow bytes found 0 (length found) 0 all (start name) order) (omega (arith, h))))
+    in-state (0 + tokens_size found) n (read_items bytes found 0 all (start_recipe name))
+    (items-grow bytes found 0 (length found) 0 all (start_recipe name) order) (omega (arith, h))))
 
 -- ---- files
 
 module _ {X : Type 0} (name bytes : X → List ℕ) where
   -- recipes are no larger than their files together
-  pub recipes-fit : (files : List X) (recipes : List Recipe) → map (λ file. recipe_of (name file) (bytes file)) files ≡ map Ok recipes
+  pub recipes-fit : (files : List X) (recipes : List Recipe) → map (λ file. recipe_of_file (name file) (bytes file)) files ≡ map Ok recipes
       → sum_by size_of_recipe recipes ≤ sum_by (λ file. length (bytes file)) files
   recipes-fit files [] are = omega arith
   recipes-fit [] (recipe ∷ recipes) are = absurd cc
   recipes-fit (file ∷ files) (recipe ∷ recipes) are =
-      let first : recipe_of (name file) (bytes file) ≡ Ok recipe = cc in
-      let rest : map (λ f. recipe_of (name f) (bytes f)) files ≡ map Ok recipes = cc in
+      let first : recipe_of_file (name file) (bytes file) ≡ Ok recipe = cc in
+      let rest : map (λ f. recipe_of_file (name f) (bytes f)) files ≡ map Ok recipes = cc in
       let here : size_of_recipe recipe ≤ length (bytes file) =
       IfOk-at_ok (λ made. size_of_recipe made ≤ length (bytes file)) first (recipe-fits (name file) (bytes file)) in
       omega (

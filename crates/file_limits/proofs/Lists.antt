@@ -14,8 +14,8 @@ use Rattle.json_texts.specs.Forms.{name_meaning, plain_meaning}
 use Rattle.file_limits.specs.Weights.{weight_at}
 use Rattle.json_readers.proofs.Steps.{bind_ok, ok_same}
 use Rattle.file_limits.proofs.Readers.{CountsWithin, count_or_none, known_map-counts, list-counts, may-counts, one-counts}
-use Rattle.settings_reader.specs.Keys.{may_or, os_at, targets_at, compilers_at, providers_at}
-use Rattle.settings_reader.specs.Lists.{os_list, target_at, target_list, compiler_at, compiler_list, pair_cmp, pairs_of, provider_list}
+use Rattle.settings_reader.specs.Keys.{may_or, os_at, target_entries_at, compilers_at, provider_entries_at}
+use Rattle.settings_reader.specs.Lists.{os_list, target_at, target_list, compiler_entry_at, compiler_list, compiler_pair_cmp, compiler_pairs, provider_list}
 use Rattle.site_settings.specs.Standard as standard
 use Rattle.site_settings.specs.declared.settings.CompilerEntry.{CompilerEntry}
 use Rattle.target_table.specs.declared.entry.TargetEntry.{TargetEntry}
@@ -60,7 +60,8 @@ targets_most = once_tested twice_length (list_of target_at) (each_twice target_a
 compilers_most : CountsWithin twice_length compiler_list
 unfolding compiler_list
 compilers_most =
-    twice_tested twice_length (list_of compiler_at) (each_twice compiler_at) not_empty (λ entries. distinct pair_cmp (pairs_of entries))
+    twice_tested twice_length (list_of compiler_entry_at) (each_twice compiler_entry_at) not_empty
+    (λ entries. distinct compiler_pair_cmp (compiler_pairs entries))
 
 names_most : CountsWithin twice_length provider_list
 unfolding provider_list
@@ -97,7 +98,7 @@ pub os_at_most : (ms : Members) (os : List (List ℕ)) → os_at ms ≡ Ok os �
 os_at_most = may_or_most twice_length standard.os os_list os_most (codes "os")
 
 -- so does that of targets
-pub targets_at_most : (ms : Members) (targets : List TargetEntry) → targets_at ms ≡ Ok targets
+pub targets_at_most : (ms : Members) (targets : List TargetEntry) → target_entries_at ms ≡ Ok targets
     → 2 * length targets ≤ weight_at ms (codes "targets") + 2
 targets_at_most = may_or_most twice_length standard.targets target_list targets_most (codes "targets")
 
@@ -107,6 +108,6 @@ pub compilers_at_most : (ms : Members) (compilers : List CompilerEntry) → comp
 compilers_at_most = may_or_most twice_length standard.compilers compiler_list compilers_most (codes "compilers")
 
 -- the lists of providers weigh two for each name in them
-pub providers_at_most : (ms : Members) (lists : List (List ℕ × List (List ℕ))) → providers_at ms ≡ Ok lists
+pub providers_at_most : (ms : Members) (lists : List (List ℕ × List (List ℕ))) → provider_entries_at ms ≡ Ok lists
     → 2 * sum_by provider_names lists ≤ weight_at ms (codes "providers") + 0
 providers_at_most = may_or_most providers_size [] (known_map_of name_meaning provider_list) providers_most (codes "providers")

@@ -9,7 +9,7 @@ use Rattle.file_limits.specs.Weights.{weight, items_weight, members_weight, weig
 use Rattle.json_readers.proofs.Steps.{items_ok}
 use Rattle.settings_reader.specs.Told.{Told, Below}
 use Rattle.settings_reader.proofs.Outcomes.{ok_same, then_ok, below_ok, said_ok}
-use Rattle.settings_reader.specs.Parsed.{AreEach, IsList, IsListAt, IsOptional, items_at, members_of}
+use Rattle.settings_reader.specs.Parsed.{AreEach, IsListOf, IsListAt, IsOptional, items_at, member_pairs}
 
 -- ---- how much a step can give
 
@@ -39,9 +39,9 @@ each_most size tells each (v ∷ vs) xs h =
       ap (sum_by size) (ok_same xs (first.0 ∷ rest.0) rest.2),
     )
 
-members_most : (ms : Members) → values_weight (members_of ms) ≤ members_weight ms
+members_most : (ms : Members) → values_weight (member_pairs ms) ≤ members_weight ms
 members_most no_members = omega arith
-members_most (member key d ms) = omega (arith, members_most ms, values_first (key, d) (members_of ms))
+members_most (member key d ms) = omega (arith, members_most ms, values_first (key, d) (member_pairs ms))
 
 items_most : (i : ℕ) (ds : Items) → values_weight (items_at i ds) ≤ items_weight ds
 items_most i no_items = omega arith
@@ -50,8 +50,8 @@ items_most i (item d ds) = omega (arith, items_most (i + 1) ds, values_first (de
 module _ {T : Type 0} (size : T → ℕ) where
   -- all members of an object
   pub members_at_most : (tells : List ℕ → Data → Told T) → ((key : List ℕ) (d : Data) → AtMost size (weight d) (tells key d))
-      → (ms : Members) → AtMost (sum_by size) (members_weight ms) (AreEach tells (members_of ms))
-  members_at_most tells each ms xs h = omega (arith, each_most size tells each (members_of ms) xs h, members_most ms)
+      → (ms : Members) → AtMost (sum_by size) (members_weight ms) (AreEach tells (member_pairs ms))
+  members_at_most tells each ms xs h = omega (arith, each_most size tells each (member_pairs ms) xs h, members_most ms)
 
   -- what may be missing
   pub optional_at_most : (tells : Data → Told (List T)) → ((d : Data) → AtMost (sum_by size) (weight d) (tells d)) → (found : Option Data)
@@ -60,7 +60,7 @@ module _ {T : Type 0} (size : T → ℕ) where
   optional_at_most tells each (Some d) xs h = each d xs h
 
   list_at_most : (tells : Data → Told T) → ((d : Data) → AtMost size (weight d) (tells d)) → (d : Data)
-      → AtMost (sum_by size) (weight d) (IsList tells d)
+      → AtMost (sum_by size) (weight d) (IsListOf tells d)
   list_at_most tells each d xs h =
       let items = then_ok _ _ xs h in
       let is : d ≡ array items.0 = items_ok d items.0 (said_ok (given (as_array d)) items.0 items.1) in
@@ -70,5 +70,5 @@ module _ {T : Type 0} (size : T → ℕ) where
   pub listed_at_most : (tells : Data → Told T) → ((d : Data) → AtMost size (weight d) (tells d)) → (key : List ℕ) (ms : Members)
       → AtMost (sum_by size) (weight_at ms key) (IsListAt tells key ms)
   listed_at_most tells each key ms xs h =
-      optional_at_most (IsList tells) (list_at_most tells each) (get_member key ms) xs
-      (below_ok key (IsOptional (IsList tells) (get_member key ms)) xs h)
+      optional_at_most (IsListOf tells) (list_at_most tells each) (get_member key ms) xs
+      (below_ok key (IsOptional (IsListOf tells) (get_member key ms)) xs h)

@@ -5,11 +5,11 @@ use Rattle.std.specs.List.{sum_by}
 use Rattle.std.specs.Ordering.{match_ordering}
 use Rattle.std.specs.declared.cmp.Ordering.TheVariants.{Less, Equal, Greater}
 use Rattle.spec_grammar.specs.declared.key.KeyKind.TheVariants as key
-use Rattle.spec_grammar.proofs.Common.{same_Some, none-some, before_first, after_first, byte_cmp, with_text, key_of, add, set_key, set_variant, set_platform, set_os, set_targets, set_arch, has_variant, Variants, set_at, with_variant, put_all, mark_value, truth, is_dash}
+use Rattle.spec_grammar.proofs.Common.{same_Some, none-some, before_first, after_first, byte_cmp, with_text, key_of, add, set_key, set_variant, set_platform, set_os, set_targets, set_arch, has_variant, PartVariants, set_at, with_variant, put_all, mark_value, truth, is_dash}
 use Rattle.spec_grammar.specs.declared.key.KeyKind.{KeyKind}
-use Rattle.spec_grammar.specs.declared.item.Item.{Item}
+use Rattle.spec_grammar.specs.declared.item.SpecItem.{SpecItem}
 use Rattle.spec_grammar.specs.declared.part.Part.{Part}
-use Rattle.spec_grammar.specs.declared.item.Item.TheVariants.{Name, Versions, Variant, Compiler, Key, Caret}
+use Rattle.spec_grammar.specs.declared.item.SpecItem.TheVariants.{Name, Versions, Variant, Compiler, Key, Caret}
 use Rattle.spec_grammar.specs.Meaning.{first_value}
 use Rattle.spec_grammar.proofs.StepLaws.{some_then}
 use Rattle.file_limits.specs.SpecSizes.{part_values}
@@ -32,13 +32,13 @@ put_few texts (w ∷ values) = omega (arith, length-with_text texts (truth w), p
 
 -- ---- a variant more
 
-abbrev count : Variants → ℕ
+abbrev count : PartVariants → ℕ
 count variants = sum_by (λ v. length v.1) variants
 
-count_first : (v : List ℕ × List (List ℕ)) (variants : Variants) → count (v ∷ variants) ≡ length v.1 + count variants
+count_first : (v : List ℕ × List (List ℕ)) (variants : PartVariants) → count (v ∷ variants) ≡ length v.1 + count variants
 count_first v variants = sum_by-cons (λ (u : List ℕ × List (List ℕ)). length u.1) v variants
 
-count_with : (new : List ℕ × List (List ℕ)) (variants : Variants) → count (with_variant new variants) ≡ length new.1 + count variants
+count_with : (new : List ℕ × List (List ℕ)) (variants : PartVariants) → count (with_variant new variants) ≡ length new.1 + count variants
 unfolding with_variant
 count_with new [] = count_first new []
 count_with new (v ∷ variants) =
@@ -101,7 +101,7 @@ key_few key.Flags w values part next e = absurd (none-some next e)
 key_few key.Variant w values part next e = set_few w (put_all [] values) (length values) part next (omega (arith, put_few [] values)) e
 
 -- an item adds no more values to a part than it has
-pub add_few : (item : Item) (part next : Part) → add item part ≡ Some next → AtMost (item_values item) part next
+pub add_few : (item : SpecItem) (part next : Part) → add item part ≡ Some next → AtMost (item_values item) part next
 add_few (Name w) part next e = absurd (none-some next e)
 add_few (Versions items) part next e = kept _ part next (same_unless _ part _ next e refl)
 add_few (Variant mark w) part next e = set_few w (mark_value mark ∷ []) 1 part next (omega arith) e

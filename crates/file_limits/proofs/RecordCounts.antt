@@ -14,7 +14,7 @@ use Rattle.file_limits.proofs.Readers.{CountsWithin, field-counts, filled-counts
 use Rattle.json_readers.proofs.Steps.{bind_ok, members_ok, ok_same}
 use Rattle.file_limits.proofs.Texts.{texts-bear}
 use Rattle.json_texts.specs.Forms.{name_meaning, value_meaning, version_in}
-use Rattle.record_reader.specs.Records.{back_at, compiler_at, dependency_at, front_at, keys, middle_at, record_at, values_at}
+use Rattle.record_reader.specs.Records.{back_at, compiler_at, dependency_at, front_at, record_keys, middle_at, record_entry_at, variant_values_at}
 use Rattle.record_reader.specs.declared.record.Front.{Front}
 use Rattle.record_reader.specs.declared.record.Middle.{Middle}
 use Rattle.graph_core.specs.declared.node.Kinds.{Kinds}
@@ -33,8 +33,8 @@ length-with_texts texts (word ∷ words) = omega (arith, length-with_text texts 
 
 -- ---- the parts of a record
 
-values-count : CountsWithin length values_at
-unfolding values_at
+values-count : CountsWithin length variant_values_at
+unfolding variant_values_at
 values-count =
     let read = text_of value_meaning in
     let some = λ (texts : List (List ℕ)). length texts + sum_by (λ text. 0) texts in
@@ -72,22 +72,23 @@ unfolding back_at
 back-count front middle odd ms entry e =
     let os = bind_ok (field (text_of value_meaning) odd (codes "os") ms) _ entry e in
     let target = bind_ok (field (text_of value_meaning) odd (codes "target") ms) _ entry os.2 in
-    let variants = bind_ok (field (map_of name_meaning values_at) odd (codes "variants") ms) _ entry target.2 in
+    let variants = bind_ok (field (map_of name_meaning variant_values_at) odd (codes "variants") ms) _ entry target.2 in
     let version = bind_ok (field (text_of version_in) odd (codes "version") ms) _ entry variants.2 in
     let none = bind_ok (none_odd odd) _ entry version.2 in
     let some = λ (xs : List (List ℕ × List (List ℕ))). length xs + sum_by (λ x. length x.1) xs in
-    let within = field-counts some (map_of name_meaning values_at) (map-counts length values_at values-count name_meaning) odd
+    let within = field-counts some (map_of name_meaning variant_values_at)
+    (map-counts length variant_values_at values-count name_meaning) odd
     (codes "variants") ms variants.0 variants.1 in
     let same : length front.dependencies + variant_members variants.0 ≡ record_members entry = ap counted none.2 in
     omega arith
 
 -- ---- records
 
-record-count : CountsWithin record_members record_at
-unfolding record_at
+record-count : CountsWithin record_members record_entry_at
+unfolding record_entry_at
 record-count d entry e =
     let ms = bind_ok (members_of d) _ entry e in
-    let odd = first_odd keys ms.0 in
+    let odd = first_odd record_keys ms.0 in
     let front = bind_ok (front_at odd ms.0) _ entry ms.2 in
     let middle = bind_ok (middle_at odd ms.0) _ entry front.2 in
     let two = keys-share (codes "dependencies" ∷ codes "variants" ∷ []) ms.0 refl in
@@ -101,10 +102,11 @@ records-count d records e =
     let some = λ (entries : List Record). length entries + sum_by record_members entries in
     let ms = bind_ok (members_of d) _ records e in
     let odd = first_odd file_keys ms.0 in
-    let list = bind_ok (field (list_of record_at) odd (codes "records") ms.0) _ records ms.2 in
+    let list = bind_ok (field (list_of record_entry_at) odd (codes "records") ms.0) _ records ms.2 in
     let version = bind_ok (field version_at odd (codes "version") ms.0) _ records list.2 in
     let none = bind_ok (none_odd odd) _ records version.2 in
-    let within = field-counts some (list_of record_at) (list-counts record_members record_at record-count) odd (codes "records") ms.0
+    let within = field-counts some (list_of record_entry_at) (list-counts record_members record_entry_at record-count) odd
+    (codes "records") ms.0
     list.0 list.1 in
     subst (λ v. some records ≤ weight v) (sym (members_ok d ms.0 ms.1))
     (subst (λ (entries : List Record). some entries ≤ 1 + members_weight ms.0) (ok_same list.0 records none.2)

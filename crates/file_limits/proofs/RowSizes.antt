@@ -18,7 +18,7 @@ use Rattle.directive_arguments.specs.declared.directive.Directive.{Directive}
 use Rattle.directive_arguments.specs.declared.directive.Directive.TheVariants as directive
 use Rattle.directive_arguments.specs.declared.given.Given.{Given}
 use Rattle.directive_arguments.specs.declared.given.Options.{Options}
-use Rattle.directive_arguments.specs.declared.variant.Shape.{Shape}
+use Rattle.directive_arguments.specs.declared.variant.VariantShape.{VariantShape}
 use Rattle.directive_arguments.specs.Table.{takes, directives, directive_of}
 use Rattle.directive_arguments.specs.Arguments.{arguments}
 use Rattle.directive_arguments.specs.Variants.{shape}
@@ -26,9 +26,9 @@ use Rattle.directive_arguments.proofs.ListLaws.{ok_then, any_then}
 use Rattle.recipe_reader.specs.declared.fault.RecipeFault.TheVariants as fault
 use Rattle.recipe_reader.specs.declared.state.Head.{Head}
 use Rattle.recipe_reader.specs.declared.state.State.{State}
-use Rattle.recipe_reader.specs.Results.{Step, argument_step, arguments_at}
-use Rattle.recipe_reader.specs.Rows.{add_version, with_variant, add_variant, is_passed_over, add_depends, provided, add_provides, add_conflict, add_requirement, into, add}
-use Rattle.recipe_reader.specs.Recipes.{may_stand, when_of, call}
+use Rattle.recipe_reader.specs.Results.{RecipeStep, argument_step, arguments_at}
+use Rattle.recipe_reader.specs.Rows.{add_version, with_variant_row, add_variant, is_passed_over, add_depends, provided, add_provides, add_conflict, add_requirement, into, add_directive}
+use Rattle.recipe_reader.specs.Recipes.{may_stand_in, when_of, call}
 use Rattle.problem.specs.Limits.{set_members, size_of_recipe}
 use Rattle.recipe_lexer.proofs.Keeping.{cond_all}
 use Rattle.file_limits.proofs.Sizes.{segment_size}
@@ -37,13 +37,13 @@ use Rattle.file_limits.proofs.ArgumentSizes.{options_size, given_size, arguments
 use Rattle.file_limits.proofs.ShapeSizes.{shape-fits}
 
 -- the recipe has so many rows and members more
-abbrev pub GrowsTo : ℕ → Step Recipe → Type 0
+abbrev pub GrowsTo : ℕ → RecipeStep Recipe → Type 0
 GrowsTo n r = IfOk r (λ recipe. size_of_recipe recipe ≤ n)
 
 abbrev pub state_size : State → ℕ
 state_size s = size_of_recipe s.recipe
 
-abbrev pub StateGrowsTo : ℕ → Step State → Type 0
+abbrev pub StateGrowsTo : ℕ → RecipeStep State → Type 0
 StateGrowsTo n r = IfOk r (λ s. state_size s ≤ n)
 
 -- ---- rows
@@ -59,9 +59,9 @@ version-grows place number (Some v) o s =
           (record { version = v; preferred = o.preferred; deprecated = o.deprecated; number = number } ∷ []),
     ))
 
-with-variant : (n place number : ℕ) (name : List ℕ) (o : Option Shape) (when : Condition) (recipe : Recipe)
+with-variant : (n place number : ℕ) (name : List ℕ) (o : Option VariantShape) (when : Condition) (recipe : Recipe)
     → IfSome o (λ made. length made.values + length made.default ≤ n + 3)
-    → GrowsTo (size_of_recipe recipe + (n + 4)) (with_variant place number name o when recipe)
+    → GrowsTo (size_of_recipe recipe + (n + 4)) (with_variant_row place number name o when recipe)
 with-variant n place number name None when recipe h = tt
 with-variant n place number name (Some made) when recipe h =
     let row : VariantRow = record {
@@ -107,13 +107,13 @@ requirement-grows place number specs one_of when recipe =
 
 -- ---- directives
 
-into-grows : (m n : ℕ) (s : State) (r : Step Recipe) → GrowsTo m r → m ≤ n → StateGrowsTo n (into s r)
+into-grows : (m n : ℕ) (s : State) (r : RecipeStep Recipe) → GrowsTo m r → m ≤ n → StateGrowsTo n (into s r)
 into-grows m n s (Ok recipe) h le = omega (arith, h, le)
 into-grows m n s (Err e) h le = tt
 
 add-grows : (d : Directive) (place number : ℕ) (g : Given) (when : Condition) (s : State)
-    → StateGrowsTo (state_size s + (given_size g + 7)) (add d place number g when s)
-unfolding add
+    → StateGrowsTo (state_size s + (given_size g + 7)) (add_directive d place number g when s)
+unfolding add_directive
 add-grows directive.Version place number g when s =
     no-more state_size (state_size s + 1) (state_size s + (given_size g + 7))
     (add_version place number g.positional.version g.options s) (version-grows place number g.positional.version g.options s) (omega arith)
@@ -149,11 +149,11 @@ unfolding call
 call-grows bytes d place number segments around s =
     let n : ℕ = sum_by segment_size segments in
     let P : State → Type 0 = λ t. state_size t ≤ state_size s + (n + 7) in
-    any_then P (may_stand d around place) _ (λ p.
+    any_then P (may_stand_in d around place) _ (λ p.
     ok_then (λ (g : Given). given_size g ≤ n) P (arguments_at bytes d segments) _
     (at-fit n (arguments bytes d segments) (arguments-fit bytes d segments)) (λ g h.
     no-more state_size (state_size s + (given_size g + 7)) (state_size s + (n + 7))
-    (add d place number g (when_of around g) s) (add-grows d place number g (when_of around g) s) (omega (arith, h))))
+    (add_directive d place number g (when_of around g) s) (add-grows d place number g (when_of around g) s) (omega (arith, h))))
 
 -- ---- words of directives
 

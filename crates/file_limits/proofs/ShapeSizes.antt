@@ -13,8 +13,8 @@ use Rattle.recipe_values.specs.declared.value.Scalar.TheVariants as scalar
 use Rattle.recipe_values.specs.declared.value.Value.{Value}
 use Rattle.recipe_values.specs.declared.value.Value.TheVariants.{One, Many}
 use Rattle.directive_arguments.specs.declared.given.Options.{Options}
-use Rattle.directive_arguments.specs.declared.variant.Shape.{Shape}
-use Rattle.directive_arguments.specs.Variants.{switch, bool_shape, kind_of, scalar_texts, element_text, default_texts, is_right_default, shape_by, shape_with, shape}
+use Rattle.directive_arguments.specs.declared.variant.VariantShape.{VariantShape}
+use Rattle.directive_arguments.specs.Variants.{switch, bool_shape, variant_kind_of, scalar_texts, element_text, default_texts, is_right_default, shape_by, shape_with, shape}
 use Rattle.recipe_lexer.proofs.Keeping.{cond_all}
 use Rattle.file_limits.proofs.Sizes.{scalar_size, value_size}
 use Rattle.file_limits.proofs.ArgumentSizes.{values_size, default_size, options_size, set-few}
@@ -61,7 +61,7 @@ default-few false (Many elements) = filter_map-few element_text elements
 
 -- ---- shapes
 
-abbrev Within : ℕ → Option Shape → Type 0
+abbrev Within : ℕ → Option VariantShape → Type 0
 Within n o = IfSome o (λ made. length made.values + length made.default ≤ n + 3)
 
 switch-within : (n : ℕ) (o : Option Bool) → Within n (option_map bool_shape o)
@@ -74,7 +74,7 @@ by-within multi None value = switch-within (0 + value_size value) (switch value)
 by-within multi (Some values) value =
     let default : Texts = with_texts [] (default_texts multi value) in
     cond_all (Within (length values + value_size value)) (is_right_default multi values default)
-    (Some (record { kind = kind_of multi; values = values; default = default })) None
+    (Some (record { kind = variant_kind_of multi; values = values; default = default })) None
     (λ e. omega (arith, default-few multi value, set-few [] (default_texts multi value))) (λ e. tt)
 
 with-within : (default : Option Value) (multi : Bool) (values : Option Texts)

@@ -8,7 +8,7 @@ use Rattle.recipe_values.specs.declared.value.Scalar.{Scalar}
 use Rattle.recipe_values.specs.declared.value.Scalar.TheVariants as scalar
 use Rattle.recipe_values.specs.declared.value.Value.{Value}
 use Rattle.recipe_values.specs.declared.value.Value.TheVariants.{One, Many}
-use Rattle.recipe_values.specs.declared.value.Reading.{Reading}
+use Rattle.recipe_values.specs.declared.value.PlacedValue.{PlacedValue}
 use Rattle.recipe_values.specs.declared.segment.Atom.{Atom}
 use Rattle.recipe_values.specs.declared.segment.Atom.TheVariants.{Plain, Inner}
 use Rattle.recipe_values.specs.declared.segment.Segment.{Segment}
@@ -41,7 +41,7 @@ abbrev pub value_size : Value → ℕ
 value_size (One s) = scalar_size s
 value_size (Many elements) = length elements
 
-abbrev pub read_size : Read Reading → ℕ
+abbrev pub read_size : Read PlacedValue → ℕ
 read_size (Ok r) = value_size r.value
 read_size (Err place) = 0
 

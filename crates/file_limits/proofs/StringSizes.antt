@@ -5,7 +5,7 @@ use Rattle.std.proofs.lemmas.List.{length-take}
 use Rattle.recipe_lexer.specs.Layout.{slice}
 use Rattle.recipe_lexer.specs.Pieces.{marks, opening}
 use Rattle.recipe_lexer.specs.declared.token.Token.{Token}
-use Rattle.recipe_values.specs.Strings.{escaped, escape, byte_text, decoded, prefix, marks_of, inside, string_by, string_in, string}
+use Rattle.recipe_values.specs.Strings.{text_of_escape, escape, byte_text, decoded, prefix, marks_of, inside, string_by, string_in, string}
 use Rattle.recipe_lexer.proofs.Keeping.{cond_all}
 use Rattle.file_limits.proofs.TokenCounts.{Few, few-more, few-join}
 
@@ -14,7 +14,7 @@ use Rattle.file_limits.proofs.TokenCounts.{Few, few-more, few-join}
 abbrev IsFew : Option (List ℕ) → Type 0
 IsFew o = IfSome o (λ w. length w ≤ 1)
 
-escaped-few : (b : ℕ) → IsFew (escaped b)
+escaped-few : (b : ℕ) → IsFew (text_of_escape b)
 escaped-few b =
     cond_all IsFew (b == 92 || b == 34 || b == 39) (Some (b ∷ [])) _ (λ e. omega arith) (λ e.
     cond_all IsFew (b == 110) (Some (10 ∷ [])) _ (λ e. omega arith) (λ e.
@@ -26,7 +26,7 @@ escape-few place None h = tt
 escape-few place (Some w) h = h
 
 byte-few : (place : ℕ) (taken : Bool) (b : ℕ) → Few 1 (byte_text place taken b)
-byte-few place true b = escape-few (place - 1) (escaped b) (escaped-few b)
+byte-few place true b = escape-few (place - 1) (text_of_escape b) (escaped-few b)
 byte-few place false b = cond_all (Few 1) (b == 92) (Ok []) (Ok (b ∷ [])) (λ e. omega arith) (λ e. omega arith)
 
 decoded-few : (place : ℕ) (taken : Bool) (bytes : List ℕ) → Few (length bytes) (decoded place taken bytes)

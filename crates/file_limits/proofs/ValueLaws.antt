@@ -19,7 +19,7 @@ use Rattle.json_readers.specs.Sets.{filled, filled_by, set_of}
 use Rattle.json_readers.specs.Texts.{text_of}
 use Rattle.json_readers.proofs.Steps.{no_ok, bind_ok, below_ok, field_ok, form_ok, ok_same, members_ok, items_ok}
 use Rattle.json_texts.specs.Forms.{name_meaning, value_meaning, version_in}
-use Rattle.record_reader.specs.Records.{back_at, front_at, keys, middle_at, record_at, values_at}
+use Rattle.record_reader.specs.Records.{back_at, front_at, record_keys, middle_at, record_entry_at, variant_values_at}
 use Rattle.record_reader.specs.declared.record.Front.{Front}
 use Rattle.record_reader.specs.declared.record.Middle.{Middle}
 use Rattle.reuse_db.specs.declared.record.Record.{Record}
@@ -50,8 +50,8 @@ set_filled (word ∷ words) texts e =
     subst (λ (l : List (List ℕ)). is_filled (with_texts [] l) ≡ true) (ok_same (word ∷ words) texts e)
     (with_filled (with_text [] word) words (one_filled [] word))
 
-values_filled : (d : Data) (values : List (List ℕ)) → values_at d ≡ Ok values → is_filled values ≡ true
-unfolding values_at
+values_filled : (d : Data) (values : List (List ℕ)) → variant_values_at d ≡ Ok values → is_filled values ≡ true
+unfolding variant_values_at
 values_filled d values e =
     let texts = bind_ok (filled_by (set_of value_meaning None (text_of value_meaning)) d) _ values e in
     let words = bind_ok (set_of value_meaning None (text_of value_meaning) d) filled texts.0 texts.1 in
@@ -63,24 +63,25 @@ values_filled d values e =
 abbrev Variants : Type 0
 Variants = List (List ℕ × List (List ℕ))
 
-entries_keys : (ms : Members) (xs : Variants) → entries_of name_meaning values_at ms ≡ Ok xs → map (λ v. v.0) xs ≡ keys_in ms
+entries_keys : (ms : Members) (xs : Variants) → entries_of name_meaning variant_values_at ms ≡ Ok xs → map (λ v. v.0) xs ≡ keys_in ms
 entries_keys no_members xs e = let same : [] ≡ xs = ok_same [] xs e in subst (λ (l : Variants). map (λ v. v.0) l ≡ []) same refl
 entries_keys (member key d ms) xs e =
-    let first = bind_ok (entry_of name_meaning values_at key d) _ xs e in
-    let rest = bind_ok (entries_of name_meaning values_at ms) _ xs first.2 in
+    let first = bind_ok (entry_of name_meaning variant_values_at key d) _ xs e in
+    let rest = bind_ok (entries_of name_meaning variant_values_at ms) _ xs first.2 in
     subst (λ (l : Variants). map (λ v. v.0) l ≡ key ∷ keys_in ms) (ok_same ((key, first.0) ∷ rest.0) xs rest.2)
     (ap (λ keys. key ∷ keys) (entries_keys ms rest.0 rest.1))
 
-entries_filled : (ms : Members) (xs : Variants) → entries_of name_meaning values_at ms ≡ Ok xs → list_all (λ v. is_filled v.1) xs ≡ true
+entries_filled : (ms : Members) (xs : Variants) → entries_of name_meaning variant_values_at ms ≡ Ok xs
+    → list_all (λ v. is_filled v.1) xs ≡ true
 entries_filled no_members xs e = subst (λ (l : Variants). list_all (λ v. is_filled v.1) l ≡ true) (ok_same [] xs e) refl
 entries_filled (member key d ms) xs e =
-    let first = bind_ok (entry_of name_meaning values_at key d) _ xs e in
-    let rest = bind_ok (entries_of name_meaning values_at ms) _ xs first.2 in
-    let read = form_ok (is_some (name_meaning key)) (values_at d) first.0 (below_ok key _ first.0 first.1) in
+    let first = bind_ok (entry_of name_meaning variant_values_at key d) _ xs e in
+    let rest = bind_ok (entries_of name_meaning variant_values_at ms) _ xs first.2 in
+    let read = form_ok (is_some (name_meaning key)) (variant_values_at d) first.0 (below_ok key _ first.0 first.1) in
     subst (λ (l : Variants). list_all (λ v. is_filled v.1) l ≡ true) (ok_same ((key, first.0) ∷ rest.0) xs rest.2)
     (rw (values_filled d first.0 read, entries_filled ms rest.0 rest.1) refl)
 
-map_valued : (d : Data) (xs : Variants) → IsOrdered d → map_of name_meaning values_at d ≡ Ok xs → are_valued xs ≡ true
+map_valued : (d : Data) (xs : Variants) → IsOrdered d → map_of name_meaning variant_values_at d ≡ Ok xs → are_valued xs ≡ true
 map_valued d xs ordered e =
     let members = bind_ok (members_of d) _ xs e in
     let inside : IsOrdered (object members.0) = subst IsOrdered (members_ok d members.0 members.1) ordered in
@@ -101,37 +102,37 @@ unfolding back_at variants_in
 back_valued front middle odd ms entry ordered e =
     let os = bind_ok (field (text_of value_meaning) odd (codes "os") ms) _ entry e in
     let target = bind_ok (field (text_of value_meaning) odd (codes "target") ms) _ entry os.2 in
-    let variants = bind_ok (field (map_of name_meaning values_at) odd (codes "variants") ms) _ entry target.2 in
+    let variants = bind_ok (field (map_of name_meaning variant_values_at) odd (codes "variants") ms) _ entry target.2 in
     let version = bind_ok (field (text_of version_in) odd (codes "version") ms) _ entry variants.2 in
     let none = bind_ok (none_odd odd) _ entry version.2 in
     let same : variants.0 ≡ entry.variants = ap variants_in none.2 in
-    let read = field_ok (map_of name_meaning values_at) odd (codes "variants") ms variants.0 variants.1 in
+    let read = field_ok (map_of name_meaning variant_values_at) odd (codes "variants") ms variants.0 variants.1 in
     subst (λ (l : Variants). are_valued l ≡ true) same
     (map_valued read.0 variants.0 (member_ordered (codes "variants") ms read.0 ordered read.1) read.2)
 
-record_valued : (d : Data) (entry : Record) → IsOrdered d → record_at d ≡ Ok entry → are_valued entry.variants ≡ true
-unfolding record_at
+record_valued : (d : Data) (entry : Record) → IsOrdered d → record_entry_at d ≡ Ok entry → are_valued entry.variants ≡ true
+unfolding record_entry_at
 record_valued d entry ordered e =
     let ms = bind_ok (members_of d) _ entry e in
-    let odd = first_odd keys ms.0 in
+    let odd = first_odd record_keys ms.0 in
     let front = bind_ok (front_at odd ms.0) _ entry ms.2 in
     let middle = bind_ok (middle_at odd ms.0) _ entry front.2 in
     let inside : IsOrdered (object ms.0) = subst IsOrdered (members_ok d ms.0 ms.1) ordered in
     back_valued front.0 middle.0 odd ms.0 entry inside.1 middle.2
 
-items_valued : (i : ℕ) (ds : Items) (records : List Record) → AreOrderedItems ds → items_from record_at i ds ≡ Ok records
+items_valued : (i : ℕ) (ds : Items) (records : List Record) → AreOrderedItems ds → items_from record_entry_at i ds ≡ Ok records
     → list_all has_values records ≡ true
 items_valued i no_items records ordered e =
     subst (λ (l : List Record). list_all has_values l ≡ true) (ok_same [] records e) refl
 items_valued i (item d ds) records ordered e =
-    let first = bind_ok (below (decimal i) (record_at d)) _ records e in
-    let rest = bind_ok (items_from record_at (i + 1) ds) _ records first.2 in
-    let here = record_valued d first.0 ordered.0 (below_ok (decimal i) (record_at d) first.0 first.1) in
+    let first = bind_ok (below (decimal i) (record_entry_at d)) _ records e in
+    let rest = bind_ok (items_from record_entry_at (i + 1) ds) _ records first.2 in
+    let here = record_valued d first.0 ordered.0 (below_ok (decimal i) (record_entry_at d) first.0 first.1) in
     subst (λ (l : List Record). list_all has_values l ≡ true)
     (ok_same (first.0 ∷ rest.0) records rest.2)
     (rw (here, items_valued (i + 1) ds rest.0 ordered.1 rest.1) refl)
 
-list_valued : (d : Data) (records : List Record) → IsOrdered d → list_of record_at d ≡ Ok records
+list_valued : (d : Data) (records : List Record) → IsOrdered d → list_of record_entry_at d ≡ Ok records
     → list_all has_values records ≡ true
 list_valued d records ordered e =
     let items = bind_ok (given (as_array d)) _ records e in
@@ -143,11 +144,11 @@ unfolding records_at
 value_valued d records ordered e =
     let ms = bind_ok (members_of d) _ records e in
     let odd = first_odd file_keys ms.0 in
-    let list = bind_ok (field (list_of record_at) odd (codes "records") ms.0) _ records ms.2 in
+    let list = bind_ok (field (list_of record_entry_at) odd (codes "records") ms.0) _ records ms.2 in
     let version = bind_ok (field version_at odd (codes "version") ms.0) _ records list.2 in
     let none = bind_ok (none_odd odd) _ records version.2 in
     let inside : IsOrdered (object ms.0) = subst IsOrdered (members_ok d ms.0 ms.1) ordered in
-    let read = field_ok (list_of record_at) odd (codes "records") ms.0 list.0 list.1 in
+    let read = field_ok (list_of record_entry_at) odd (codes "records") ms.0 list.0 list.1 in
     subst (λ (l : List Record). list_all has_values l ≡ true) (ok_same list.0 records none.2)
     (list_valued read.0 list.0 (member_ordered (codes "records") ms.0 read.0 inside.1 read.1) read.2)
 

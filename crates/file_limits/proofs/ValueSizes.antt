@@ -6,25 +6,25 @@ use Rattle.std.proofs.lemmas.List.Sums.{sum_by-cons}
 use Rattle.recipe_lexer.specs.declared.token.Token.{Token}
 use Rattle.recipe_lexer.specs.declared.token.TokenKind.{TokenKind}
 use Rattle.recipe_lexer.specs.declared.token.TokenKind.TheVariants.{Word, Text, Op, NewLine, Indent, Dedent, End}
-use Rattle.recipe_statements.specs.Lines.{word, word_by, is_text}
+use Rattle.recipe_statements.specs.Lines.{word, word_by, is_text_kind}
 use Rattle.recipe_values.specs.declared.value.Scalar.TheVariants as scalar
-use Rattle.recipe_values.specs.declared.value.Reading.{Reading}
+use Rattle.recipe_values.specs.declared.value.PlacedValue.{PlacedValue}
 use Rattle.recipe_values.specs.declared.segment.Atom.{Atom}
 use Rattle.recipe_values.specs.declared.segment.Atom.TheVariants.{Plain, Inner}
 use Rattle.recipe_values.specs.declared.segment.Segment.{Segment}
 use Rattle.recipe_values.specs.Reads.{Read, join}
 use Rattle.recipe_values.specs.Strings.{string, as_text}
-use Rattle.recipe_values.specs.Values.{is_empty, one, is_number, word_value, alone, atom_text, texts, text_value, plain_value, value_by, value_of}
+use Rattle.recipe_values.specs.Values.{is_empty, one, is_digits, word_value, alone, atom_text, texts, text_value, plain_value, value_by, segment_value}
 use Rattle.recipe_lexer.proofs.Keeping.{cond_all}
 use Rattle.file_limits.proofs.Sizes.{size_by, token_size, value_size, read_size, atom_size, segment_size}
 use Rattle.file_limits.proofs.TokenCounts.{Few, few-more, few-join}
 use Rattle.file_limits.proofs.StringSizes.{string-few}
 
 -- the value counts for n at most, and so does a name or a member
-abbrev pub Fits : ℕ → Reading → Type 0
+abbrev pub Fits : ℕ → PlacedValue → Type 0
 Fits n r = (value_size r.value ≤ n) × (1 ≤ n)
 
-abbrev pub ReadFits : ℕ → Read Reading → Type 0
+abbrev pub ReadFits : ℕ → Read PlacedValue → Type 0
 ReadFits n r = IfOk r (Fits n)
 
 -- ---- words
@@ -34,7 +34,7 @@ word-fits place n w some =
     cond_all (ReadFits n) (bytes_eq w (codes "True")) (Ok (one place (scalar.Truth true))) _ (λ e. (some, some)) (λ e.
     cond_all (ReadFits n) (bytes_eq w (codes "False")) (Ok (one place (scalar.Truth false))) _ (λ e. (some, some)) (λ e.
     cond_all (ReadFits n) (bytes_eq w (codes "None")) (Ok (one place scalar.Nothing)) _ (λ e. (some, some)) (λ e.
-    cond_all (ReadFits n) (is_number w) (Ok (one place (scalar.Number w))) (Err place) (λ e. (some, some)) (λ e. tt))))
+    cond_all (ReadFits n) (is_digits w) (Ok (one place (scalar.Number w))) (Err place) (λ e. (some, some)) (λ e. tt))))
 
 -- a token that counts for nothing is no value
 kind-fits : (bytes : List ℕ) (place : ℕ) (k : TokenKind) (from to : ℕ)
@@ -57,7 +57,7 @@ short : (n m : ℕ) (r : Read (List ℕ)) → Few n r → n + 1 ≤ m → IsShor
 short n m (Ok w) h le = omega (arith, h, le)
 short n m (Err place) h le = tt
 
-string-short : (bytes : List ℕ) (t : Token) (k : TokenKind) → is_text k ≡ true → IsShort (size_by k t.start t.end) (string bytes t)
+string-short : (bytes : List ℕ) (t : Token) (k : TokenKind) → is_text_kind k ≡ true → IsShort (size_by k t.start t.end) (string bytes t)
 string-short bytes t Word is = absurd cc
 string-short bytes t Text is =
     short (t.end - (t.start + 1)) (t.end - (t.start + 1) + 1) (string bytes t) (string-few bytes t) (omega arith)
@@ -82,7 +82,7 @@ short-text n place (Err p) h = tt
 
 atom-few : (bytes : List ℕ) (place : ℕ) (a : Atom) → Few (atom_size a) (atom_text bytes place a)
 atom-few bytes place (Plain t) =
-    cond_all (Few (token_size t)) (is_text t.kind) (string bytes t) (Err place)
+    cond_all (Few (token_size t)) (is_text_kind t.kind) (string bytes t) (Err place)
     (λ e. short-few (token_size t) (string bytes t) (string-short bytes t t.kind e)) (λ e. tt)
 atom-few bytes place (Inner start read) = tt
 
@@ -100,15 +100,15 @@ text-fits n place (Err p) h = tt
 
 -- ---- segments
 
-fits-more : (m n : ℕ) (r : Read Reading) → ReadFits m r → m ≤ n → ReadFits n r
+fits-more : (m n : ℕ) (r : Read PlacedValue) → ReadFits m r → m ≤ n → ReadFits n r
 fits-more m n (Ok r) h le = (omega (arith, h.0, le), omega (arith, h.1, le))
 fits-more m n (Err place) h le = tt
 
-alone-fits : (n place : ℕ) (behind : List Atom) (r : Read Reading) → ReadFits n r → ReadFits n (alone place behind r)
+alone-fits : (n place : ℕ) (behind : List Atom) (r : Read PlacedValue) → ReadFits n r → ReadFits n (alone place behind r)
 alone-fits n place behind (Ok r) h = cond_all (ReadFits n) (is_empty behind) (Ok r) (Err place) (λ e. h) (λ e. tt)
 alone-fits n place behind (Err p) h = tt
 
-inner-fits : (n : ℕ) (r : Read Reading) → read_size r + 1 ≤ n → ReadFits n r
+inner-fits : (n : ℕ) (r : Read PlacedValue) → read_size r + 1 ≤ n → ReadFits n r
 inner-fits n (Ok r) le = (omega (arith, le), omega (arith, le))
 inner-fits n (Err place) le = tt
 
@@ -119,7 +119,7 @@ by-fits bytes (Plain t ∷ more) stop =
     let n : ℕ = token_size t in
     let rest : ℕ = sum_by atom_size more in
     fits-more (n + rest) (sum_by atom_size (Plain t ∷ more)) (plain_value bytes t more)
-    (cond_all (ReadFits (n + rest)) (is_text t.kind)
+    (cond_all (ReadFits (n + rest)) (is_text_kind t.kind)
     (text_value t.start (as_text t.start (join (string bytes t) (texts bytes t.start more))))
     (alone t.start more (word_value t.start (word bytes t)))
     (λ e. text-fits (n + rest) t.start (as_text t.start (join (string bytes t) (texts bytes t.start more)))
@@ -133,6 +133,6 @@ by-fits bytes (Inner place read ∷ more) stop =
     (inner-fits (sum_by atom_size (Inner place read ∷ more)) read (omega (arith, sum_by-cons atom_size (Inner place read) more)))
 
 -- a value is no larger than its segment
-pub value-fits : (bytes : List ℕ) (s : Segment) → ReadFits (segment_size s) (value_of bytes s)
-unfolding value_of
+pub value-fits : (bytes : List ℕ) (s : Segment) → ReadFits (segment_size s) (segment_value bytes s)
+unfolding segment_value
 value-fits bytes s = by-fits bytes s.atoms s.stop

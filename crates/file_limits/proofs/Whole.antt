@@ -12,10 +12,10 @@ use Rattle.file_limits.specs.SpecSizes.{TextsBearValues}
 use Rattle.target_table.specs.Faults.{fault_of}
 use Rattle.target_table.specs.declared.entry.TargetEntry.{TargetEntry}
 use Rattle.target_table.specs.declared.fault.TargetFault.{TargetFault}
-use Rattle.settings_reader.specs.Keys.{platform_at, budget_at, os_at, targets_at, compilers_at, providers_at}
+use Rattle.settings_reader.specs.Keys.{platform_at, budget_at, os_at, target_entries_at, compilers_at, provider_entries_at}
 use Rattle.settings_reader.specs.Order.{head_of, tail_of}
 use Rattle.settings_reader.specs.Packages.{ArePackagesAt}
-use Rattle.settings_reader.specs.Settings.{IsSettings, table_or, keys}
+use Rattle.settings_reader.specs.Settings.{IsSettings, table_or, settings_keys}
 use Rattle.site_settings.specs.declared.settings.PackageEntry.{PackageEntry}
 use Rattle.site_settings.specs.declared.settings.Settings.{Settings}
 use Rattle.problem.specs.Limits.{provider_names, size_of_settings}
@@ -45,7 +45,7 @@ head_most ms head e =
     let platform = bind_ok (platform_at ms) _ head e in
     let budget = bind_ok (budget_at ms) _ head platform.2 in
     let os = bind_ok (os_at ms) _ head budget.2 in
-    let targets = bind_ok (targets_at ms) _ head os.2 in
+    let targets = bind_ok (target_entries_at ms) _ head os.2 in
     let same = step.ok_same _ head targets.2 in
     omega (
       arith,
@@ -61,7 +61,7 @@ tail_most : (ms : Members) (tail : Tail) → tail_of ms ≡ Ok tail
 unfolding tail_of
 tail_most ms tail e =
     let compilers = bind_ok (compilers_at ms) _ tail e in
-    let providers = bind_ok (providers_at ms) _ tail compilers.2 in
+    let providers = bind_ok (provider_entries_at ms) _ tail compilers.2 in
     let same = step.ok_same _ tail providers.2 in
     omega (
       arith,
@@ -122,7 +122,7 @@ settings_most bear share d settings h =
     let within = parts_most bear share ms.0 head.0 targets.0 tail.0 packages.0 settings (said_ok (head_of ms.0) head.0 head.1)
     (table_same head.0.targets targets.0 (fault_of head.0.targets) targets.1) (said_ok (tail_of ms.0) tail.0 tail.1) packages.1
     (ok_same settings (settings_with head.0 targets.0 tail.0 packages.0) packages.2) in
-    omega (arith, within, ap weight (known_ok keys d ms.0 (said_ok (known keys d) ms.0 ms.1)))
+    omega (arith, within, ap weight (known_ok settings_keys d ms.0 (said_ok (known settings_keys d) ms.0 ms.1)))
 
 -- a file has two bytes for each thing that is counted in its settings, but for six
 pub files-bear-settings : TextsBearWeight → KeysShareWeight → TextsBearValues → FilesBearSettings

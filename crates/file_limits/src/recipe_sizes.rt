@@ -3,7 +3,7 @@
 ghost use Rattle.std.specs.Prelude.{◌≡◌, ◌≤◌, ◌^◌, ℕ, true, List, length, map, Ok, IfOk};
 ghost use Rattle.std.specs.List.{sum_by};
 ghost use Rattle.recipe_data.specs.declared.recipe.Recipe.{Recipe};
-ghost use Rattle.recipe_reader.specs.Recipes.{recipe_of};
+ghost use Rattle.recipe_reader.specs.Recipes.{recipe_of_file};
 ghost use Rattle.problem.specs.Limits.{are_few_rows, size_of_recipe};
 
 /// A recipe has at most as many rows and members of value and default sets as its file has bytes,
@@ -11,11 +11,11 @@ ghost use Rattle.problem.specs.Limits.{are_few_rows, size_of_recipe};
 /// 2^28 bytes are within the limits of a problem.
 pub fn size_laws()
     ensures file { (name bytes : List ℕ)
-        → IfOk (recipe_of name bytes) (λ recipe. size_of_recipe recipe ≤ length bytes) }
+        → IfOk (recipe_of_file name bytes) (λ recipe. size_of_recipe recipe ≤ length bytes) }
     ensures files { (files : List (List ℕ × List ℕ)) (recipes : List Recipe) →
-        map (λ file. recipe_of file.0 file.1) files ≡ map Ok recipes →
+        map (λ file. recipe_of_file file.0 file.1) files ≡ map Ok recipes →
         sum_by size_of_recipe recipes ≤ sum_by (λ file. length file.1) files }
     ensures within { (files : List (List ℕ × List ℕ)) (recipes : List Recipe) →
-        map (λ file. recipe_of file.0 file.1) files ≡ map Ok recipes →
+        map (λ file. recipe_of_file file.0 file.1) files ≡ map Ok recipes →
         sum_by (λ file. length file.1) files ≤ 2 ^ 28 → are_few_rows recipes ≡ true }
 {}

@@ -5,7 +5,7 @@ use Rattle.clause_store.specs.Lits.{AllBelow}
 use Rattle.clause_store.specs.declared.Label.TheVariants.{Structure}
 use Rattle.clause_store.specs.Clauses.{Clauses}
 use Rattle.clause_formulas.specs.Statements.{Statement, SaidBelow}
-use Rattle.clause_formulas.specs.Drafts.{value_at}
+use Rattle.clause_formulas.specs.Drafts.{statement_at}
 use Rattle.clause_formulas.specs.declared.defined.Defined.{Defined}
 use Rattle.clause_formulas.specs.Values.{DefinesValues}
 use Rattle.clause_formulas.specs.Gated.{Gate, Gated, gated}
@@ -16,10 +16,10 @@ use Rattle.graph_core.specs.Graphs.{Text, Content}
 use Rattle.problem.specs.Problems.{Problem}
 use Rattle.problem.specs.Demands.{demands}
 use Rattle.problem.specs.declared.demand.Demand.{Demand}
-use Rattle.literal_table.specs.Tables.{Table, names_of}
+use Rattle.literal_table.specs.Tables.{Table, table_names}
 use Rattle.graph_levels.specs.Stages.{Decodes}
 use Rattle.graph_levels.specs.Edges.{edges_on}
-use Rattle.graph_levels.specs.Levels.{input_for, root_names, places_of, PathTable, path_table}
+use Rattle.graph_levels.specs.Levels.{input_for, requested_names, places_of, PathTable, path_table}
 use Rattle.graph_encoding.specs.Formulas.{Formulas, PathFormulas, PathsBelow, IsRightTable, AreRightFormulas}
 use Rattle.graph_encoding.specs.Encodings.{base, levels_made, rules_on, encode_on, told_in, IsValid}
 use Rattle.graph_encoding.proofs.Joining.{encoded}
@@ -51,8 +51,8 @@ pub structure_made : (problem : Problem) (t : Table) (n : ℕ) (f : Formulas) (t
     (fs : List Statement) (ls lits : List Lit) (paths : PathTable) → old ≡ record { entries = []; vars = 0 }
     → made ≡ with_vars old (old.vars + n) → shaped ≡ assert_all made fs → fs ≡ f.structure
     → edges_on shaped t.edges ≡ record { list = edged; answer = ls } → lits ≡ ls
-    → new ≡ levels_on (input_for t lits (root_names problem) targets edged.vars) edged
-    → paths ≡ path_table (places_of (names_of t) targets) (paths_of (input_for t lits (root_names problem) targets edged.vars))
+    → new ≡ levels_on (input_for t lits (requested_names problem) targets edged.vars) edged
+    → paths ≡ path_table (places_of (table_names t) targets) (paths_of (input_for t lits (requested_names problem) targets edged.vars))
     → levels_made problem t n f targets ≡ record { list = new; answer = paths.paths }
 structure_made problem t n f targets old made shaped edged new fs ls lits paths o m a b e same c d =
     levels_step problem t n f targets shaped edged new fs lits paths (a ∙ ap (λ s. assert_all s fs) (base_made old made n o m)) b
@@ -62,27 +62,27 @@ structure_made problem t n f targets old made shaped edged new fs ls lits paths 
 pub rules_fit : (t : Table) (n : ℕ) (f : Formulas) (old mid : Gated) (path : PathFormulas) (ds xs : List Defined) (fs : List Statement)
     (rule : Statement)
     → AreInRange t n f → n ≤ old.list.vars → PathsBelow old.list.vars path → DefinesValues old mid ds fs → xs ≡ ds
-    → rule ≡ f.rules path (value_at xs) → SaidBelow mid.list.vars rule
+    → rule ≡ f.rules path (statement_at xs) → SaidBelow mid.list.vars rule
 rules_fit t n f old mid path ds xs fs rule range more paths values same e =
-    rules_range t n f old mid path ds fs rule range more paths values (e ∙ ap (λ zs. f.rules path (value_at zs)) same)
+    rules_range t n f old mid path ds fs rule range more paths values (e ∙ ap (λ zs. f.rules path (statement_at zs)) same)
 
 -- so are those of the demands
 pub demands_fit : (t : Table) (n : ℕ) (f : Formulas) (old mid : Gated) (late : ℕ) (path : PathFormulas) (ds xs : List Defined)
     (fs : List Statement) → AreInRange t n f → n ≤ old.list.vars → PathsBelow old.list.vars path → DefinesValues old mid ds fs
-    → mid.list.vars ≤ late → xs ≡ ds → (d : Demand) → SaidBelow late (f.demand path (value_at xs) d)
+    → mid.list.vars ≤ late → xs ≡ ds → (d : Demand) → SaidBelow late (f.demand path (statement_at xs) d)
 demands_fit t n f old mid late path ds xs fs range more paths values later same =
-    subst (λ zs. (d : Demand) → SaidBelow late (f.demand path (value_at zs) d)) (sym same)
+    subst (λ zs. (d : Demand) → SaidBelow late (f.demand path (statement_at zs) d)) (sym same)
     (demand_range t n f old mid late path ds fs range more paths values later)
 
 -- the clauses of the rules
 pub rules_made : (problem : Problem) (f : Formulas) (path : PathFormulas) (old : Clauses) (none : List Gate) (mid late new : Gated)
     (fs : List Statement) (ds xs ys : List Defined) (rule : Statement) → none ≡ [] → fs ≡ f.conditions path
     → define_all_in (gated old none) fs ≡ record { state = mid; answer = ds }
-    → xs ≡ ds → rule ≡ f.rules path (value_at xs) → assert_in Structure mid true rule ≡ late → ys ≡ ds
-    → demand_all_in late 0 (map (f.demand path (value_at ys)) (demands problem)) ≡ new → rules_on problem f path old ≡ new.list
+    → xs ≡ ds → rule ≡ f.rules path (statement_at xs) → assert_in Structure mid true rule ≡ late → ys ≡ ds
+    → demand_all_in late 0 (map (f.demand path (statement_at ys)) (demands problem)) ≡ new → rules_on problem f path old ≡ new.list
 rules_made problem f path old none mid late new fs ds xs ys rule empty a b same c d same_too e =
-    rules_step problem f path old none mid late new fs ds rule empty a b (c ∙ ap (λ zs. f.rules path (value_at zs)) same) d
-    (ap (λ zs. demand_all_in late 0 (map (f.demand path (value_at zs)) (demands problem))) (sym same_too) ∙ e)
+    rules_step problem f path old none mid late new fs ds rule empty a b (c ∙ ap (λ zs. f.rules path (statement_at zs)) same) d
+    (ap (λ zs. demand_all_in late 0 (map (f.demand path (statement_at zs)) (demands problem))) (sym same_too) ∙ e)
 
 -- what was made decodes to the valid graphs
 pub decodes_step : (problem : Problem) (t : Table) (n : ℕ) (f : Formulas) (targets : List Text) (new : Clauses)

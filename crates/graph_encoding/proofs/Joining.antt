@@ -10,8 +10,8 @@ use Rattle.clause_store.specs.declared.Label.TheVariants.{Structure}
 use Rattle.clause_store.specs.Clauses.{Clauses, Meets}
 use Rattle.clause_circuits.specs.Growth.{Agree, Says as ClausesSay, where_asked}
 use Rattle.clause_formulas.specs.declared.defined.Defined.{Defined}
-use Rattle.clause_formulas.specs.Statements.{Statement, eval, any_of, SaidBelow}
-use Rattle.clause_formulas.specs.Drafts.{value_at, part_at}
+use Rattle.clause_formulas.specs.Statements.{Statement, eval, any_statement, SaidBelow}
+use Rattle.clause_formulas.specs.Drafts.{statement_at, part_at}
 use Rattle.clause_formulas.specs.Values.{DefinesValues}
 use Rattle.clause_formulas.specs.Gated.{Gated, bare}
 use Rattle.clause_formulas.specs.Allowed.{SaysIn}
@@ -20,7 +20,7 @@ use Rattle.clause_formulas.proofs.Laws.{assert_in_is, define_all_is, demand_all_
 use Rattle.clause_formulas.proofs.Words.{value-below}
 use Rattle.clause_formulas.proofs.DraftLaws.{SaidBelow-le}
 use Rattle.level_encoding.specs.Asserted.{assert_all, levels_on}
-use Rattle.level_encoding.specs.Input.{Input, IsRight, literal_at}
+use Rattle.level_encoding.specs.Input.{LevelData, IsRight, literal_at}
 use Rattle.level_encoding.specs.Encoding.{paths_of}
 use Rattle.level_encoding.specs.Laws.{KeepsLevels}
 use Rattle.level_encoding.proofs.AssertedLaws.{assert_all-says}
@@ -33,14 +33,14 @@ use Rattle.problem.specs.declared.demand.Demand.{Demand}
 use Rattle.graph_rules.specs.Valid.{keeps, keeps_all, keeps_demand, structure_rules, valid_for}
 use Rattle.graph_rules.specs.declared.rule.Rule.{Rule}
 use Rattle.graph_rules.specs.declared.rule.Rule.TheVariants as rules
-use Rattle.literal_table.specs.Tables.{Table, IsTable, names_of}
+use Rattle.literal_table.specs.Tables.{Table, IsTable, table_names}
 use Rattle.literal_table.specs.Spells.{Spells}
 use Rattle.graph_levels.specs.Stages.{Nothing, Both, IsLocal, Models, Stage, Decodes}
 use Rattle.graph_levels.specs.Rules.{Says, Holds, FitsGates, ValuesSay, asked_among, KeepsAsked}
 use Rattle.graph_levels.proofs.Growing.{added, joined, restated, named, decodes, local-le, local-both}
 use Rattle.graph_levels.proofs.Adapters.{asserted, defined, demanded, begun}
 use Rattle.graph_levels.specs.Edges.{EdgesSay, EdgesBelow, edges_on}
-use Rattle.graph_levels.specs.Levels.{SpellsEdges, AGraph, KeepsLevelRules, PathsSay, input_for, places_of, path_said, root_names}
+use Rattle.graph_levels.specs.Levels.{SpellsEdges, AGraph, KeepsLevelRules, PathsSay, input_for, places_of, path_said, requested_names}
 use Rattle.graph_levels.proofs.EdgeLaws.{edges-are, edge-stage}
 use Rattle.graph_levels.proofs.InputLaws.{input-right, lits-below}
 use Rattle.graph_levels.proofs.LevelStage.{level-stage, path-below}
@@ -65,7 +65,8 @@ rules-part problem g all =
     (p.0, (q.0, (and_parts (keeps rules.Unreachable problem g) true q.1).0))
 
 -- demands over the variables
-demands-below : (n : ℕ) (f : Demand → Statement) → ((d : Demand) → SaidBelow n (f d)) → (ds : List Demand) → SaidBelow n (any_of (map f ds))
+demands-below : (n : ℕ) (f : Demand → Statement) → ((d : Demand) → SaidBelow n (f d)) → (ds : List Demand)
+    → SaidBelow n (any_statement (map f ds))
 demands-below n f each [] = tt
 demands-below n f each (d ∷ ds) = (each d, demands-below n f each ds)
 
@@ -121,8 +122,8 @@ module _ (problem : Problem) (t : Table) (n : ℕ) (f : Formulas) (decode : (ℕ
   edged-more = omega (arith, shaped-more, edges-stage.grows.more)
 
   module _ (targets : List Text) where
-    abbrev pub level_in : Input
-    level_in = input_for t edged.answer (root_names problem) targets edged.list.vars
+    abbrev pub level_in : LevelData
+    level_in = input_for t edged.answer (requested_names problem) targets edged.list.vars
 
     abbrev pub levelled : Clauses
     levelled = levels_on level_in edged.list
@@ -132,12 +133,12 @@ module _ (problem : Problem) (t : Table) (n : ℕ) (f : Formulas) (decode : (ℕ
 
     levels-kept : KeepsLevels level_in edged.list levelled paths
     levels-kept = levels-keep level_in edged.list paths
-        (input-right t edged.answer (root_names problem) targets edged.list.vars
+        (input-right t edged.answer (requested_names problem) targets edged.list.vars
         (λ k d lt. let h = right.nodes_below k d lt in omega (arith, edged-more, h))
         (lits-below shaped edged.list t.edges edged.answer (edges-are shaped t.edges edges-below).1)) refl refl
 
     abbrev pub P : (ℕ → Bool) → Content → Type 0
-    P = PathsSay (names_of t) (places_of (names_of t) targets) paths
+    P = PathsSay (table_names t) (places_of (table_names t) targets) paths
 
     abbrev pub S2 : (ℕ → Bool) → Content → Type 0
     S2 v g = S1 v g × P v g
@@ -161,7 +162,7 @@ module _ (problem : Problem) (t : Table) (n : ℕ) (f : Formulas) (decode : (ℕ
 
     paths-below : (m : ℕ) → levelled.vars ≤ m → PathsBelow m path
     paths-below m h from to = SaidBelow-le levelled.vars m (path from to) h
-        (path-below levelled.vars paths levels-kept.in_range (names_of t) (places_of (names_of t) targets) from to)
+        (path-below levelled.vars paths levels-kept.in_range (table_names t) (places_of (table_names t) targets) from to)
 
     module _ (holds : ℕ → Content → Bool) (says : AreRightFormulas problem t n f (told_in t targets) holds) where
       -- values of conditions
@@ -172,7 +173,7 @@ module _ (problem : Problem) (t : Table) (n : ℕ) (f : Formulas) (decode : (ℕ
       defined-list = valued.state.list
 
       abbrev pub met : ℕ → Statement
-      met = value_at valued.answer
+      met = statement_at valued.answer
 
       values-are : DefinesValues (bare levelled) valued.state valued.answer (f.conditions path)
       values-are = define_all_is (bare levelled) (f.conditions path) tt

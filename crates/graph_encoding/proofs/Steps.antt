@@ -7,8 +7,8 @@ use Rattle.clause_store.specs.declared.Lit.{Lit}
 use Rattle.clause_store.specs.declared.Label.TheVariants.{Structure}
 use Rattle.clause_store.specs.Lits.{AllBelow}
 use Rattle.clause_store.specs.Clauses.{Clauses}
-use Rattle.clause_formulas.specs.Statements.{Statement, any_of, SaidBelow}
-use Rattle.clause_formulas.specs.Drafts.{value_at}
+use Rattle.clause_formulas.specs.Statements.{Statement, any_statement, SaidBelow}
+use Rattle.clause_formulas.specs.Drafts.{statement_at}
 use Rattle.clause_formulas.specs.declared.defined.Defined.{Defined}
 use Rattle.clause_formulas.specs.Values.{DefinesValues}
 use Rattle.clause_formulas.specs.Gated.{Gate, Gated, gated, bare}
@@ -22,10 +22,10 @@ use Rattle.problem.specs.Problems.{Problem}
 use Rattle.problem.specs.Demands.{demands}
 use Rattle.problem.specs.declared.demand.Demand.{Demand}
 use Rattle.problem.specs.declared.demand.Demand.TheVariants as demand
-use Rattle.literal_table.specs.Tables.{Table, names_of}
+use Rattle.literal_table.specs.Tables.{Table, table_names}
 use Rattle.literal_table.specs.declared.block.EdgeLits.{EdgeLits}
 use Rattle.graph_levels.specs.Edges.{edges_on, EdgesBelow}
-use Rattle.graph_levels.specs.Levels.{input_for, root_names, places_of, PresentBelow, PathTable, path_table}
+use Rattle.graph_levels.specs.Levels.{input_for, requested_names, places_of, PresentBelow, PathTable, path_table}
 use Rattle.graph_levels.proofs.EdgeLaws.{edges-are, Told}
 use Rattle.graph_levels.proofs.InputLaws.{lits-below}
 use Rattle.graph_encoding.specs.Formulas.{Formulas, PathFormulas, PathsBelow}
@@ -68,15 +68,15 @@ pub levels_step : (problem : Problem) (t : Table) (n : ℕ) (f : Formulas) (targ
     (fs : List Statement)
     (ls : List Lit) (made : PathTable) → shaped ≡ assert_all (base n) fs → fs ≡ f.structure
     → edges_on shaped t.edges ≡ record { list = edged; answer = ls }
-    → new ≡ levels_on (input_for t ls (root_names problem) targets edged.vars) edged
-    → made ≡ path_table (places_of (names_of t) targets) (paths_of (input_for t ls (root_names problem) targets edged.vars))
+    → new ≡ levels_on (input_for t ls (requested_names problem) targets edged.vars) edged
+    → made ≡ path_table (places_of (table_names t) targets) (paths_of (input_for t ls (requested_names problem) targets edged.vars))
     → levels_made problem t n f targets ≡ record { list = new; answer = made.paths }
 unfolding levels_made edges_made
 levels_step problem t n f targets shaped edged new fs ls made a b e c d =
-    ap (λ (m : Grown (List Lit)). let s = input_for t m.answer (root_names problem) targets m.list.vars in
+    ap (λ (m : Grown (List Lit)). let s = input_for t m.answer (requested_names problem) targets m.list.vars in
     record { list = levels_on s m.list; answer = paths_of s })
     (ap (λ s. edges_on s t.edges) (ap (assert_all (base n)) (sym b) ∙ sym a) ∙ e)
-    ∙ ap (λ l. record { list = l; answer = paths_of (input_for t ls (root_names problem) targets edged.vars) }) (sym c)
+    ∙ ap (λ l. record { list = l; answer = paths_of (input_for t ls (requested_names problem) targets edged.vars) }) (sym c)
     ∙ ap (λ ps. record { list = new; answer = ps }) (ap (λ (p : PathTable). p.paths) (sym d))
 
 -- ---- the rules
@@ -84,9 +84,9 @@ levels_step problem t n f targets shaped edged new fs ls made a b e c d =
 -- the formulas of conditions are in range
 pub conditions_range : (t : Table) (n : ℕ) (f : Formulas) (old : Clauses) (path : PathFormulas) (fs : List Statement) → AreInRange t n f
     → n ≤ old.vars
-    → PathsBelow old.vars path → fs ≡ f.conditions path → SaidBelow old.vars (any_of fs)
+    → PathsBelow old.vars path → fs ≡ f.conditions path → SaidBelow old.vars (any_statement fs)
 conditions_range t n f old path fs range more paths e =
-    subst (λ gs. SaidBelow old.vars (any_of gs)) (sym e) (range.conditions old.vars path more paths)
+    subst (λ gs. SaidBelow old.vars (any_statement gs)) (sym e) (range.conditions old.vars path more paths)
 
 paths-later : (m n : ℕ) (path : PathFormulas) → m ≤ n → PathsBelow m path → PathsBelow n path
 paths-later m n path h below from to = SaidBelow-le m n (path from to) h (below from to)
@@ -95,34 +95,34 @@ paths-later m n path h below from to = SaidBelow-le m n (path from to) h (below 
 pub rules_range : (t : Table) (n : ℕ) (f : Formulas) (old mid : Gated) (path : PathFormulas) (ds : List Defined) (fs : List Statement)
     (rule : Statement)
     → AreInRange t n f → n ≤ old.list.vars → PathsBelow old.list.vars path → DefinesValues old mid ds fs
-    → rule ≡ f.rules path (value_at ds) → SaidBelow mid.list.vars rule
+    → rule ≡ f.rules path (statement_at ds) → SaidBelow mid.list.vars rule
 rules_range t n f old mid path ds fs rule range more paths values e =
     let later : old.list.vars ≤ mid.list.vars = values.defines.says.grows.more in
-    subst (SaidBelow mid.list.vars) (sym e) (range.rules mid.list.vars path (value_at ds) (omega (arith, more, later))
+    subst (SaidBelow mid.list.vars) (sym e) (range.rules mid.list.vars path (statement_at ds) (omega (arith, more, later))
     (paths-later old.list.vars mid.list.vars path later paths) (λ k. value-below old mid ds fs values.means k))
 
 -- those of the demands
 pub demand_range : (t : Table) (n : ℕ) (f : Formulas) (old mid : Gated) (late : ℕ) (path : PathFormulas) (ds : List Defined)
     (fs : List Statement) → AreInRange t n f → n ≤ old.list.vars → PathsBelow old.list.vars path → DefinesValues old mid ds fs
-    → mid.list.vars ≤ late → (d : Demand) → SaidBelow late (f.demand path (value_at ds) d)
+    → mid.list.vars ≤ late → (d : Demand) → SaidBelow late (f.demand path (statement_at ds) d)
 demand_range t n f old mid late path ds fs range more paths values h d =
     let later : old.list.vars ≤ mid.list.vars = values.defines.says.grows.more in
-    range.demand late path (value_at ds) d (omega (arith, more, later, h))
+    range.demand late path (statement_at ds) d (omega (arith, more, later, h))
     (paths-later old.list.vars late path (omega (arith, later, h)) paths)
-    (λ k. SaidBelow-le mid.list.vars late (value_at ds k) h (value-below old mid ds fs values.means k))
+    (λ k. SaidBelow-le mid.list.vars late (statement_at ds k) h (value-below old mid ds fs values.means k))
 
 -- the rules are those of the definition
 pub rules_step : (problem : Problem) (f : Formulas) (path : PathFormulas) (old : Clauses) (none : List Gate) (mid late new : Gated)
     (fs : List Statement) (ds : List Defined) (rule : Statement) → none ≡ [] → fs ≡ f.conditions path
     → define_all_in (gated old none) fs ≡ record { state = mid; answer = ds }
-    → rule ≡ f.rules path (value_at ds) → assert_in Structure mid true rule ≡ late
-    → demand_all_in late 0 (map (f.demand path (value_at ds)) (demands problem)) ≡ new → rules_on problem f path old ≡ new.list
+    → rule ≡ f.rules path (statement_at ds) → assert_in Structure mid true rule ≡ late
+    → demand_all_in late 0 (map (f.demand path (statement_at ds)) (demands problem)) ≡ new → rules_on problem f path old ≡ new.list
 unfolding rules_on
 rules_step problem f path old none mid late new fs ds rule empty a b c d g =
-    ap (λ (m : Shared (List Defined)). (demand_all_in (assert_in Structure m.state true (f.rules path (value_at m.answer))) 0
-    (map (f.demand path (value_at m.answer)) (demands problem))).list)
+    ap (λ (m : Shared (List Defined)). (demand_all_in (assert_in Structure m.state true (f.rules path (statement_at m.answer))) 0
+    (map (f.demand path (statement_at m.answer)) (demands problem))).list)
     (ap (λ gs. define_all_in (gated old gs) (f.conditions path)) (sym empty) ∙ ap (define_all_in (gated old none)) (sym a) ∙ b)
-    ∙ ap (λ s. (demand_all_in s 0 (map (f.demand path (value_at ds)) (demands problem))).list)
+    ∙ ap (λ s. (demand_all_in s 0 (map (f.demand path (statement_at ds)) (demands problem))).list)
     (ap (assert_in Structure mid true) (sym c) ∙ d)
     ∙ ap (λ (s : Gated). s.list) g
 
@@ -146,7 +146,7 @@ demand_gap ds i h e = none-some (get_or ds i (demand.Root 0)) (sym e ∙ slice_g
 
 -- the whole is that of the definition
 pub encode_step : (problem : Problem) (t : Table) (n : ℕ) (f : Formulas) (targets : List Text) (mid new : Clauses) (made : PathTable)
-    → levels_made problem t n f targets ≡ record { list = mid; answer = made.paths } → made.targets ≡ places_of (names_of t) targets
+    → levels_made problem t n f targets ≡ record { list = mid; answer = made.paths } → made.targets ≡ places_of (table_names t) targets
     → rules_on problem f (path_words t made) mid ≡ new → encode_on problem t n f targets ≡ new
 unfolding encode_on
 encode_step problem t n f targets mid new made a b c =
@@ -156,7 +156,7 @@ encode_step problem t n f targets mid new made a b c =
 -- what is defined for the conditions
 pub values_step : (problem : Problem) (t : Table) (n : ℕ) (f : Formulas) (targets : List Text) (mid : Clauses) (made : PathTable)
     (ds : List Defined)
-    → levels_made problem t n f targets ≡ record { list = mid; answer = made.paths } → made.targets ≡ places_of (names_of t) targets
+    → levels_made problem t n f targets ≡ record { list = mid; answer = made.paths } → made.targets ≡ places_of (table_names t) targets
     → ds ≡ (define_all_in (bare mid) (f.conditions (path_words t made))).answer → ds ≡ values_for problem t n f targets
 values_step problem t n f targets mid made ds a b c = sym (
     ap (λ (m : Grown (List (Option Lit))). (define_all_in (bare m.list) (f.conditions (path_of t targets m.answer))).answer) a

@@ -4,7 +4,7 @@ use Rattle.clause_store.specs.declared.Lit.{Lit}
 use Rattle.clause_store.specs.Clauses.{Clauses, Meets}
 use Rattle.clause_circuits.specs.Growth.{MeetsSince, Defines}
 use Rattle.clause_formulas.specs.Statements.{Statement}
-use Rattle.clause_formulas.specs.Drafts.{value_at}
+use Rattle.clause_formulas.specs.Drafts.{statement_at}
 use Rattle.clause_formulas.specs.declared.defined.Defined.{Defined}
 use Rattle.clause_formulas.specs.Gated.{bare}
 use Rattle.clause_formulas.specs.Built.{define_all_in}
@@ -30,7 +30,7 @@ values_for problem t n f targets =
     (define_all_in (bare (levels_made problem t n f targets).list) (f.conditions (path_for problem t n f targets))).answer
 
 abbrev pub met_for : Problem → Table → ℕ → Formulas → List Text → ℕ → Statement
-met_for problem t n f targets = value_at (values_for problem t n f targets)
+met_for problem t n f targets = statement_at (values_for problem t n f targets)
 
 -- all that an assignment says of a graph where it meets the clauses
 pub record SaysAll (problem : Problem) (t : Table) (n : ℕ) (f : Formulas) (targets : List Text) (holds : ℕ → Content → Bool) (v : ℕ → Bool)

@@ -5,7 +5,7 @@ ghost use Rattle.graph_levels.specs.Stages.{Decodes};
 ghost use Rattle.graph_encoding.specs.Formulas.{IsRightTable, AreRightFormulas, PathsBelow};
 ghost use Rattle.graph_encoding.specs.Encodings.{levels_made, encode_on, told_in, IsValid};
 ghost use Rattle.graph_encoding.specs.Best.{values_for};
-ghost use Rattle.literal_table.specs.Tables.{names_of};
+ghost use Rattle.literal_table.specs.Tables.{table_names};
 ghost use Rattle.graph_levels.specs.Levels.{places_of};
 ghost use Rattle.graph_encoding.specs.Ranges.{AreInRange, path_words};
 
@@ -75,7 +75,7 @@ fn add_structure<F: RuleFormulas>(
         (F.formulas formulas.now table.now)
         targets.now ≡ record { list = clauses.new; answer = paths.paths }) }
     ensures targets { IfOk result (λ paths. paths.targets
-        ≡ places_of (names_of table.now) targets.now) }
+        ≡ places_of (table_names table.now) targets.now) }
     ensures paths { IfOk result (λ paths. PathsBelow clauses.new.vars (path_words table.now paths)) }
     ensures more { IfOk result (λ paths. vars ≤ clauses.new.vars) }
 {

@@ -9,7 +9,7 @@ use std::alloc::{AllocError, Global};
 /// The formulas of a structure, of conditions, of rules and of demands, over a table.
 pub trait RuleFormulas {
     ghost use Rattle.std.specs.Prelude.{◌≡◌, IfOk};
-    ghost use Rattle.clause_formulas.specs.Drafts.{value_at};
+    ghost use Rattle.clause_formulas.specs.Drafts.{statement_at};
     ghost use Rattle.graph_encoding.specs.Formulas.{Formulas};
     ghost use Rattle.literal_table.specs.Tables.{Table};
     ghost use Rattle.graph_encoding.specs.Ranges.{path_words};
@@ -40,7 +40,7 @@ pub trait RuleFormulas {
     ) -> Result<Formula, AllocError>
         ensures { IfOk result (λ formula. formula
             ≡ (formulas self.now table.now).rules (path_words table.now paths.now)
-            (value_at values.now)) };
+            (statement_at values.now)) };
 
     /// The formula of a demand.
     fn demand(
@@ -53,6 +53,6 @@ pub trait RuleFormulas {
     ) -> Result<Formula, AllocError>
         ensures { IfOk result (λ formula. formula
             ≡ (formulas self.now table.now).demand (path_words table.now paths.now)
-            (value_at values.now)
+            (statement_at values.now)
             demand.now) };
 }

@@ -1,7 +1,7 @@
 //! Conditions, rules and demands.
 ghost use Rattle.std.specs.Prelude.{◌≡◌, ℕ, ◌≤◌, map, IfOk, OnOk};
 ghost use Rattle.clause_formulas.specs.Statements.{SaidBelow};
-ghost use Rattle.clause_formulas.specs.Drafts.{value_at};
+ghost use Rattle.clause_formulas.specs.Drafts.{statement_at};
 ghost use Rattle.clause_formulas.specs.Gated.{bare, gated, GatesBelow};
 ghost use Rattle.clause_formulas.specs.Built.{define_all_in, demand_in, demand_all_in};
 ghost use Rattle.problem.specs.Demands.{demands};
@@ -68,10 +68,10 @@ fn add_demands<F: RuleFormulas>(
     requires gates { GatesBelow clauses.old.vars gates.old }
     requires demands { (d : Demand) → SaidBelow clauses.old.vars
         ((F.formulas formulas.now table.now).demand (path_words table.now paths.now)
-        (value_at values.now) d) }
+        (statement_at values.now) d) }
     ensures { OnOk result (demand_all_in (gated clauses.old gates.old) 0
         (map ((F.formulas formulas.now table.now).demand (path_words table.now paths.now)
-        (value_at values.now)) (demands problem.now)) ≡ gated clauses.new gates.new) }
+        (statement_at values.now)) (demands problem.now)) ≡ gated clauses.new gates.new) }
 {
     for id in 0..problem.demands() {
         match problem.demand(id) {
@@ -97,10 +97,10 @@ fn add_demand<F: RuleFormulas>(
 ) -> Result<(), AllocError>
     requires gates { GatesBelow clauses.old.vars gates.old }
     requires demand { SaidBelow clauses.old.vars ((F.formulas formulas.now table.now).demand
-        (path_words table.now paths.now) (value_at values.now) asked.now) }
+        (path_words table.now paths.now) (statement_at values.now) asked.now) }
     ensures built { OnOk result (demand_in (gated clauses.old gates.old)
         ((F.formulas formulas.now table.now).demand (path_words table.now paths.now)
-        (value_at values.now) asked.now) id ≡ gated clauses.new gates.new) }
+        (statement_at values.now) asked.now) id ≡ gated clauses.new gates.new) }
     ensures more { OnOk result (clauses.old.vars ≤ clauses.new.vars) }
     ensures below { OnOk result (GatesBelow clauses.new.vars gates.new) }
 {

@@ -4,17 +4,17 @@ use Rattle.std.specs.Prelude.{is_some}
 use Rattle.std.specs.List.{list_any}
 use Rattle.std.specs.Str.{bytes_eq}
 use Rattle.std.specs.Cmp.Lexicographic.{nat_list_eq_equiv}
-use Rattle.clause_formulas.specs.Rules.{Rule, keeps_rule}
+use Rattle.clause_formulas.specs.Rules.{Proposition, keeps_rule}
 use Rattle.graph_core.specs.Graphs.{Text, Content, node_of}
 use Rattle.graph_core.specs.Paths.{reaches_in}
 use Rattle.graph_core.specs.declared.node.Node.{Node}
-use Rattle.condition_rules.specs.Words.{among, is_some_and}
-use Rattle.problem.specs.Problems.{Problem, world_of, recipe_at, versions_at, entry_of, is_buildable_in, same_compiler}
+use Rattle.condition_rules.specs.Words.{is_one_text, is_some_and}
+use Rattle.problem.specs.Problems.{Problem, world_of, recipe_at, versions_at, package_entry_of, is_buildable_in, same_compiler}
 use Rattle.site_settings.specs.declared.settings.CompilerEntry.{CompilerEntry}
 use Rattle.graph_rules.specs.Built.{keeps_buildable, keeps_version, keeps_compiler, keeps_machine, supports}
 use Rattle.graph_rules.specs.Whole.{keeps_provider, keeps_no_cycle, keeps_reachable}
 use Rattle.literal_table.proofs.Spelling.{named-so}
-use Rattle.graph_formulas.specs.Facts.{Word, Fact, has_version, has_compiler, has_os, has_target, node_has, is_in, is_so}
+use Rattle.graph_formulas.specs.Facts.{GraphWord, Fact, has_version, has_compiler, has_os, has_target, node_has, is_in, is_so}
 use Rattle.graph_formulas.proofs.Rules.{or-false, given-kept, written-kept, named-kept, some-kept}
 use Rattle.graph_formulas.proofs.Kept.{there, provides-kept}
 use Rattle.graph_formulas.specs.Built.{buildable_rule, version_rule, entry_rule, compiler_rule, machine_rule, provider_rule, no_cycle_rule, reachable_rule}
@@ -30,7 +30,7 @@ swapped test None (x ∷ xs) = swapped test None xs
 swapped test (Some y) xs = refl
 
 module _ (problem : Problem) (graph : Content) where
-  abbrev pub in_graph : Rule Word → Bool
+  abbrev pub in_graph : Proposition GraphWord → Bool
   in_graph rule = keeps_rule (is_in graph) rule
 
   module _ (name : Text) (node : Node) (here : node_of graph name ≡ Some node) where
@@ -40,7 +40,8 @@ module _ (problem : Problem) (graph : Content) where
     -- the rule of a buildable name
     pub buildable-kept : in_graph (buildable_rule problem name) ≡ keeps_buildable problem node
     unfolding keeps_buildable
-    buildable-kept = given-kept (is_in graph) _ ∙ ap (λ n. is_some (recipe_at problem n) && is_buildable_in (entry_of problem n)) (sym (named-so graph name node here))
+    buildable-kept = given-kept (is_in graph) _
+        ∙ ap (λ n. is_some (recipe_at problem n) && is_buildable_in (package_entry_of problem n)) (sym (named-so graph name node here))
 
     -- of its version
     pub version-kept : in_graph (version_rule problem name) ≡ keeps_version problem node
@@ -53,7 +54,7 @@ module _ (problem : Problem) (graph : Content) where
     pub machine-kept : in_graph (machine_rule problem name) ≡ keeps_machine problem node
     unfolding keeps_machine
     machine-kept = rw (
-      has (has_os (among problem.settings.os)),
+      has (has_os (is_one_text problem.settings.os)),
       has (has_target (λ target. list_any (λ entry. bytes_eq entry.name target) problem.settings.targets)),
     ) refl
 
@@ -71,8 +72,9 @@ module _ (problem : Problem) (graph : Content) where
         entry-kept : (entry : CompilerEntry) → in_graph (entry_rule problem name entry) ≡ is_some_and node.compiler (λ c. same_compiler entry.compiler c && supports entry node)
         entry-kept entry = rw (
           has (has_compiler (λ c. is_some_and c (same_compiler entry.compiler))),
-          written-kept (is_in graph) _ (λ names. among names node.os) (λ names. has (has_os (among names))) entry.os,
-          written-kept (is_in graph) _ (λ names. among names node.target) (λ names. has (has_target (among names))) entry.targets,
+          written-kept (is_in graph) _ (λ names. is_one_text names node.os) (λ names. has (has_os (is_one_text names))) entry.os,
+          written-kept (is_in graph) _ (λ names. is_one_text names node.target) (λ names. has (has_target (is_one_text names)))
+              entry.targets,
         ) (and-some node.compiler (same_compiler entry.compiler) (supports entry node))
 
     -- no path leads back to the node

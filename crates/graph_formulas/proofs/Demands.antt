@@ -3,9 +3,9 @@ use Rattle.std.proofs.Common.{◌≡◌, refl, sym, ap, ◌∙◌, Bool, true, f
 use Rattle.std.specs.Prelude.{◌==◌, slice_get}
 use Rattle.std.specs.List.{list_all}
 use Rattle.std.proofs.lemmas.Bool.{cases_Bool}
-use Rattle.clause_formulas.specs.Rules.{Rule, keeps_rule}
+use Rattle.clause_formulas.specs.Rules.{Proposition, keeps_rule}
 use Rattle.graph_core.specs.Graphs.{Text}
-use Rattle.condition_rules.specs.Words.{among, implies}
+use Rattle.condition_rules.specs.Words.{is_one_text, implies}
 use Rattle.graph_core.specs.Graphs.{Content, node_of, provider_of}
 use Rattle.graph_core.specs.declared.node.Node.{Node}
 use Rattle.problem.specs.Problems.{Problem, world_of, depends_at, conflicts_at, requirements_at}
@@ -13,7 +13,7 @@ use Rattle.graph_rules.specs.Directives.{keeps_root, keeps_edge, keeps_constrain
 use Rattle.graph_rules.specs.Valid.{keeps_directive, keeps_demand}
 use Rattle.problem.specs.declared.demand.Demand.{Demand}
 use Rattle.problem.specs.declared.demand.Demand.TheVariants as demand
-use Rattle.graph_formulas.specs.Lists.{◌and◌, each}
+use Rattle.graph_formulas.specs.Lists.{◌and◌, each_keeps}
 use Rattle.literal_table.proofs.Spelling.{named-so}
 use Rattle.graph_formulas.proofs.Rules.{written-kept, each-kept}
 use Rattle.graph_formulas.specs.Terms.{Term, is_true, known_rule}
@@ -29,13 +29,15 @@ all-filter test f (x ∷ xs) = elim (cases_Bool (f x)) [
 ]
 
 module _ (problem : Problem) (packages : Text → List Text) (graph : Content)
-    (listed : (virtual p : Text) → provider_of graph virtual ≡ Some p → among (packages virtual) p ≡ true) where
-  abbrev pub holds_here : Rule Term → Bool
+    (listed : (virtual p : Text) → provider_of graph virtual ≡ Some p → is_one_text (packages virtual) p ≡ true) where
+  abbrev pub holds_here : Proposition Term → Bool
   holds_here rule = keeps_rule (is_true (world_of problem) graph) rule
 
   -- the rows with a number
-  numbered : {R : Type 0} (number : ℕ) (number_of : R → ℕ) (rule : R → Rule Term) (test : R → Bool) → ((row : R) → holds_here (rule row) ≡ test row) → (rows : List R)
-      → holds_here (each rule (filter (λ row. number_of row == number) rows)) ≡ list_all (λ row. implies (number_of row == number) (test row)) rows
+  numbered : {R : Type 0} (number : ℕ) (number_of : R → ℕ) (rule : R → Proposition Term) (test : R → Bool)
+      → ((row : R) → holds_here (rule row) ≡ test row) → (rows : List R)
+      → holds_here (each_keeps rule (filter (λ row. number_of row == number) rows))
+      ≡ list_all (λ row. implies (number_of row == number) (test row)) rows
   numbered number number_of rule test same rows =
       each-kept (is_true (world_of problem) graph) rule test same (filter (λ row. number_of row == number) rows)
       ∙ all-filter test (λ row. number_of row == number) rows

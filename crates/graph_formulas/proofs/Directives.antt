@@ -7,9 +7,9 @@ use Rattle.std.proofs.lemmas.Bool.{cases_Bool, eqb-true, eq-eqb, ne_eqb}
 use Rattle.std.proofs.lemmas.List.Sums.{sum_by-cons}
 use Rattle.std.proofs.lemmas.List.Folds.{sum_by-zero}
 use Rattle.spec_grammar.specs.declared.part.Spec.{Spec}
-use Rattle.clause_formulas.specs.Rules.{Rule, keeps_rule, fact}
+use Rattle.clause_formulas.specs.Rules.{Proposition, keeps_rule, fact}
 use Rattle.graph_core.specs.Graphs.{Text}
-use Rattle.condition_rules.specs.Words.{among, implies, if_written, is_some_and}
+use Rattle.condition_rules.specs.Words.{is_one_text, implies, if_written, is_some_and}
 use Rattle.graph_core.specs.Graphs.{Content, node_of, provider_of, edge_of}
 use Rattle.problem.specs.Nodes.{covers, is_built}
 use Rattle.graph_core.specs.declared.node.Node.{Node}
@@ -20,7 +20,7 @@ use Rattle.recipe_data.specs.declared.recipe.ConflictRow.{ConflictRow}
 use Rattle.recipe_data.specs.declared.recipe.RequireRow.{RequireRow}
 use Rattle.problem.specs.Problems.{Problem, world_of}
 use Rattle.graph_rules.specs.Directives.{keeps_root, keeps_edge, keeps_constraint, keeps_conflict, keeps_requirement, has_choice}
-use Rattle.graph_formulas.specs.Facts.{Word, has_edge, is_in}
+use Rattle.graph_formulas.specs.Facts.{GraphWord, has_edge, is_in}
 use Rattle.graph_formulas.specs.Lists.{just_one}
 use Rattle.graph_formulas.specs.Parts.{suits_rule, holds_rule}
 use Rattle.literal_table.proofs.Spelling.{named-so}
@@ -45,11 +45,11 @@ then-and f test None = refl
 then-and f test (Some x) = refl
 
 module _ (problem : Problem) (packages : Text → List Text) (graph : Content)
-    (listed : (virtual p : Text) → provider_of graph virtual ≡ Some p → among (packages virtual) p ≡ true) where
-  abbrev pub holds_true : Rule Term → Bool
+    (listed : (virtual p : Text) → provider_of graph virtual ≡ Some p → is_one_text (packages virtual) p ≡ true) where
+  abbrev pub holds_true : Proposition Term → Bool
   holds_true rule = keeps_rule (is_true (world_of problem) graph) rule
 
-  abbrev pub in_graph : Rule Word → Bool
+  abbrev pub in_graph : Proposition GraphWord → Bool
   in_graph rule = keeps_rule (is_in graph) rule
 
   -- the rule of a root
@@ -105,7 +105,8 @@ module _ (problem : Problem) (packages : Text → List Text) (graph : Content)
       ]
 
   -- a rule of a node to build
-  pub built-kept : (name : Text) (rule : Rule Term) (test : Node → Bool) → ((node : Node) → node_of graph name ≡ Some node → holds_true rule ≡ test node)
+  pub built-kept : (name : Text) (rule : Proposition Term) (test : Node → Bool)
+      → ((node : Node) → node_of graph name ≡ Some node → holds_true rule ≡ test node)
       → holds_true (where_built name rule) ≡ if_written (node_of graph name) (λ node. implies (is_built node) (test node))
   built-kept name rule test same =
       by_node graph name (λ o. (not (is_some_and o is_built) || holds_true rule) ≡ if_written o (λ node. implies (is_built node) (test node)))

@@ -6,9 +6,9 @@ use Rattle.std.specs.Option.{option_and_then}
 use Rattle.std.specs.Str.{bytes_eq}
 use Rattle.std.proofs.lemmas.Bool.{cases_Bool, and_parts}
 use Rattle.virtuals.specs.Virtuals.{is_virtual}
-use Rattle.clause_formulas.specs.Rules.{Rule, keeps_rule}
+use Rattle.clause_formulas.specs.Rules.{Proposition, fact, keeps_rule}
 use Rattle.graph_core.specs.Graphs.{Text}
-use Rattle.condition_rules.specs.Words.{among, implies, if_written, is_some_and}
+use Rattle.condition_rules.specs.Words.{is_one_text, implies, if_written, is_some_and}
 use Rattle.graph_core.specs.Graphs.{Content, node_of, provider_of, edge_of}
 use Rattle.problem.specs.Nodes.{covers, is_built}
 use Rattle.graph_core.specs.declared.node.Node.{Node}
@@ -20,13 +20,13 @@ use Rattle.recipe_data.specs.declared.recipe.DependRow.{DependRow}
 use Rattle.problem.specs.Problems.{Problem, world_of, depends_at}
 use Rattle.graph_rules.specs.Built.{asks, asking, asked_kinds}
 use Rattle.graph_rules.specs.Whole.{uses}
-use Rattle.graph_formulas.specs.Facts.{is_in, has_origin}
-use Rattle.graph_formulas.specs.Lists.{given, some}
+use Rattle.graph_formulas.specs.Facts.{is_in, has_origin, provides_as}
+use Rattle.graph_formulas.specs.Lists.{settled_test, some}
 use Rattle.literal_table.proofs.Spelling.{named-so}
 use Rattle.graph_formulas.proofs.Rules.{given-kept, each-kept, some-kept, named-kept}
-use Rattle.graph_formulas.proofs.Kept.{by_node, there, asked-kept}
-use Rattle.graph_formulas.specs.Terms.{Term, is_true, met_rule, builds}
-use Rattle.graph_formulas.specs.Edges.{no_kinds, of_provider, asks_rule, may_ask, names_virtual, may_use, kind_rule, extra_edge_rule, use_rule}
+use Rattle.graph_formulas.proofs.Kept.{by_node, there}
+use Rattle.graph_formulas.specs.Terms.{Term, is_true, met_rule, builds_node}
+use Rattle.graph_formulas.specs.Edges.{asked_child, empty_kinds, of_provider, asks_rule, may_ask, names_virtual, may_use, kind_rule, extra_edge_rule, use_rule}
 use Rattle.graph_formulas.proofs.Directives.{LeadsToNodes, not-or, then-and}
 
 any-filter : {T : Type 0} (test f : T → Bool) (xs : List T) → list_any test (filter f xs) ≡ list_any (λ x. test x && f x) xs
@@ -58,7 +58,8 @@ any-left f g (x ∷ xs) e = any-left-cases (f x) (g x) (any-left f g xs) e
     any-left-cases false b rest h = rest h
 
 -- what a test passes that a weaker one passes first
-pub any-narrowed : {T : Type 0} (test f : T → Bool) → ((x : T) → test x ≡ true → f x ≡ true) → (xs : List T) → list_any test (filter f xs) ≡ list_any test xs
+pub any-narrowed : {T : Type 0} (test f : T → Bool) → ((x : T) → test x ≡ true → f x ≡ true) → (xs : List T)
+    → list_any test (filter f xs) ≡ list_any test xs
 any-narrowed test f weaker [] = refl
 any-narrowed test f weaker (x ∷ xs) = elim (cases_Bool (f x)) [
   | inl t ↦ rw (t, any-narrowed test f weaker xs) refl
@@ -77,23 +78,25 @@ and-swap false false = refl
 
 -- who is asked may be asked
 module _ (problem : Problem) (packages : Text → List Text) (graph : Content)
-    (listed : (virtual p : Text) → provider_of graph virtual ≡ Some p → among (packages virtual) p ≡ true) (child : Text) where
+    (listed : (virtual p : Text) → provider_of graph virtual ≡ Some p → is_one_text (packages virtual) p ≡ true) (child : Text) where
   node-named : (a : Text) → is_some_and (node_of graph a) (λ asked. bytes_eq asked.name child) ≡ true → bytes_eq a child ≡ true
   node-named a = by_node graph a (λ o. is_some_and o (λ asked. bytes_eq asked.name child) ≡ true → bytes_eq a child ≡ true)
       (λ asked there h. ap (λ m. bytes_eq m child) (sym (named-so graph a asked there)) ∙ h) (λ absent h. cc)
 
-  one-asked : (a : Text) (b : Bool) → is_some_and (option_and_then (node_of graph) (if b then provider_of graph a else Some a)) (λ asked. bytes_eq asked.name child) ≡ true
-      → (if b then among (packages a) child else bytes_eq a child) ≡ true
+  one-asked : (a : Text) (b : Bool) → is_some_and (option_and_then (node_of graph) (if b then provider_of graph a else Some a))
+      (λ asked. bytes_eq asked.name child) ≡ true
+      → (if b then is_one_text (packages a) child else bytes_eq a child) ≡ true
   one-asked a false e = node-named a e
   one-asked a true e = provided (provider_of graph a) (listed a) e
     where
-      provided : (o : Option Text) → ((p : Text) → o ≡ Some p → among (packages a) p ≡ true)
-          → is_some_and (option_and_then (node_of graph) o) (λ asked. bytes_eq asked.name child) ≡ true → among (packages a) child ≡ true
+      provided : (o : Option Text) → ((p : Text) → o ≡ Some p → is_one_text (packages a) p ≡ true)
+          → is_some_and (option_and_then (node_of graph) o) (λ asked. bytes_eq asked.name child) ≡ true → is_one_text (packages a) child ≡ true
       provided None has h = cc
-      provided (Some p) has h = subst (λ n. among (packages a) n ≡ true) (bytes_eq-same p child (node-named p h)) (has p refl)
+      provided (Some p) has h = subst (λ n. is_one_text (packages a) n ≡ true) (bytes_eq-same p child (node-named p h)) (has p refl)
 
-  some-asked : (o : Option Text) → is_some_and (option_and_then (asked_node (world_of problem) graph) o) (λ asked. bytes_eq asked.name child) ≡ true
-      → is_some_and o (λ asked. if is_virtual problem.recipes asked then among (packages asked) child else bytes_eq asked child) ≡ true
+  some-asked : (o : Option Text) → is_some_and (option_and_then (asked_node (world_of problem) graph) o)
+      (λ asked. bytes_eq asked.name child) ≡ true
+      → is_some_and o (λ asked. if is_virtual problem.recipes asked then is_one_text (packages asked) child else bytes_eq asked child) ≡ true
   unfolding asked_node
   some-asked None e = e
   some-asked (Some a) e = one-asked a (is_virtual problem.recipes a) e
@@ -102,35 +105,62 @@ module _ (problem : Problem) (packages : Text → List Text) (graph : Content)
   asks-may node row e = some-asked row.part.name (and_parts _ _ e).1
 
 -- a node that uses a provider has a row that asks for the virtual
-pub user-asks : (problem : Problem) (graph : Content) (p : Text × Text) (name : Text) → is_some_and (node_of graph name) (uses problem graph p) ≡ true
+pub user-asks : (problem : Problem) (graph : Content) (p : Text × Text) (name : Text)
+    → is_some_and (node_of graph name) (uses problem graph p) ≡ true
     → may_use problem p.0 name ≡ true
 user-asks problem graph p name = by_node graph name (λ o. is_some_and o (uses problem graph p) ≡ true → may_use problem p.0 name ≡ true)
     (λ node here h. ap (may_use problem p.0) (sym (named-so graph name node here))
-    ∙ any-left (names_virtual p.0) (λ row. all_hold (world_of problem) row.when graph node.name) (depends_at problem node.name) (and_parts _ _ h).1)
+    ∙ any-left (names_virtual p.0) (λ row. all_hold (world_of problem) row.when graph node.name) (depends_at problem node.name)
+    (and_parts _ _ h).1)
     (λ absent h. cc)
 
 module _ (problem : Problem) (packages : Text → List Text) (graph : Content)
-    (listed : (virtual p : Text) → provider_of graph virtual ≡ Some p → among (packages virtual) p ≡ true)
+    (listed : (virtual p : Text) → provider_of graph virtual ≡ Some p → is_one_text (packages virtual) p ≡ true)
     (name : Text) (node : Node) (here : node_of graph name ≡ Some node) where
-  child-kept : (child : Text) (c : Node) → node_of graph child ≡ Some c → (n : Text) → keeps_rule (is_in graph) (given (bytes_eq n child)) ≡ is_some_and (node_of graph n) (λ asked. bytes_eq asked.name child)
-  child-kept child c child_here n = rw (given-kept (is_in graph) (bytes_eq n child)) (
+  child-named : (child : Text) (c : Node) → node_of graph child ≡ Some c → (n : Text)
+      → bytes_eq n child ≡ is_some_and (node_of graph n) (λ asked. bytes_eq asked.name child)
+  child-named child c child_here n =
       by_node graph n (λ o. bytes_eq n child ≡ is_some_and o (λ asked. bytes_eq asked.name child))
       (λ asked there. ap (λ m. bytes_eq m child) (sym (named-so graph n asked there)))
       (λ absent. elim (cases_Bool (bytes_eq n child)) [
-        | inl same ↦ absurd (let both : Some c ≡ None = sym child_here ∙ ap (node_of graph) (sym (bytes_eq-same n child same)) ∙ absent in cc)
+        | inl same ↦ absurd (let both : Some c ≡ None = sym child_here ∙ ap (node_of graph) (sym (bytes_eq-same n child same))
+            ∙ absent in cc)
         | inr other ↦ other
-      ]))
+      ])
 
-  asks-kept : (child : Text) (c : Node) → node_of graph child ≡ Some c → (row : DependRow) → keeps_rule (is_true (world_of problem) graph) (asks_rule problem packages name child row) ≡ asks problem graph node child row
+  child-kept : (child : Text) (c : Node) → node_of graph child ≡ Some c → (a : Text)
+      → keeps_rule (is_in graph) (asked_child (world_of problem) child a) ≡ is_some_and (asked_node (world_of problem) graph a)
+      (λ asked. bytes_eq asked.name child)
+  unfolding asked_node
+  child-kept child c child_here a = either-way (is_virtual problem.recipes a)
+    where
+      provided : (o : Option Text) → is_some_and o (λ p. bytes_eq p child) ≡ is_some_and (option_and_then (node_of graph) o)
+          (λ asked. bytes_eq asked.name child)
+      provided None = refl
+      provided (Some p) = child-named child c child_here p
+
+      either-way : (b : Bool) → keeps_rule (is_in graph) (if b then fact (provides_as a child) else settled_test (bytes_eq a child))
+          ≡ is_some_and (option_and_then (node_of graph) (if b then provider_of graph a else Some a)) (λ asked. bytes_eq asked.name child)
+      either-way true = provided (provider_of graph a)
+      either-way false = given-kept (is_in graph) (bytes_eq a child) ∙ child-named child c child_here a
+
+  asks-kept : (child : Text) (c : Node) → node_of graph child ≡ Some c → (row : DependRow)
+      → keeps_rule (is_true (world_of problem) graph) (asks_rule problem packages name child row) ≡ asks problem graph node child row
   asks-kept child c child_here row =
       ap (λ b. all_hold (world_of problem) row.when graph name && b) (
-      named-kept (is_in graph) _ _ (λ asked. asked-kept (world_of problem) graph packages listed asked (λ n. given (bytes_eq n child)) _ (child-kept child c child_here)) row.part.name
+      named-kept (is_in graph) (asked_child (world_of problem) child)
+      (λ a. is_some_and (asked_node (world_of problem) graph a) (λ asked. bytes_eq asked.name child))
+      (child-kept child c child_here) row.part.name
       ∙ sym (then-and (asked_node (world_of problem) graph) (λ asked. bytes_eq asked.name child) row.part.name))
-      ∙ ap (λ n. all_hold (world_of problem) row.when graph n && is_some_and (option_and_then (asked_node (world_of problem) graph) row.part.name) (λ asked. bytes_eq asked.name child)) (sym (named-so graph name node here))
+      ∙ ap (λ n. all_hold (world_of problem) row.when graph n
+      && is_some_and (option_and_then (asked_node (world_of problem) graph) row.part.name) (λ asked. bytes_eq asked.name child))
+      (sym (named-so graph name node here))
 
   -- where the edge is there, so is its child
   kind-kept : LeadsToNodes graph → (kinds : Kinds) (has : Kinds → Bool) (child : Text) → ((k : Kinds) → covers k kinds ≡ has k)
-      → keeps_rule (is_true (world_of problem) graph) (kind_rule problem packages kinds has name child) ≡ if_written (edge_of graph name child) (λ e. implies (has e.kinds) (list_any (λ row. has row.kinds) (asking problem graph node child)))
+      → keeps_rule (is_true (world_of problem) graph) (kind_rule problem packages kinds has name child)
+      ≡ if_written (edge_of graph name child) (λ e. implies (has e.kinds)
+      (list_any (λ row. has row.kinds) (asking problem graph node child)))
   kind-kept leads kinds has child same = kind-kept-cases (edge_of graph name child) refl
     where
       ordered : (a h m : Bool) → (a ≡ true → m ≡ true) → (a && (h && m)) ≡ (h && a)
@@ -138,35 +168,50 @@ module _ (problem : Problem) (packages : Text → List Text) (graph : Content)
       ordered false true m may = refl
       ordered false false m may = refl
 
-      asked : (c : Node) → node_of graph child ≡ Some c → keeps_rule (is_true (world_of problem) graph) (some (asks_rule problem packages name child) (filter (λ row. has row.kinds && may_ask problem packages child row) (depends_at problem name)))
+      asked : (c : Node) → node_of graph child ≡ Some c
+          → keeps_rule (is_true (world_of problem) graph)
+          (some (asks_rule problem packages name child)
+          (filter (λ row. has row.kinds && may_ask problem packages child row) (depends_at problem name)))
           ≡ list_any (λ row. has row.kinds) (asking problem graph node child)
       asked c child_here =
-          some-kept (is_true (world_of problem) graph) (asks_rule problem packages name child) (asks problem graph node child) (asks-kept child c child_here)
+          some-kept (is_true (world_of problem) graph) (asks_rule problem packages name child) (asks problem graph node child)
+          (asks-kept child c child_here)
           (filter (λ row. has row.kinds && may_ask problem packages child row) (depends_at problem name))
-          ∙ any-filter (asks problem graph node child) (λ row. has row.kinds && may_ask problem packages child row) (depends_at problem name)
-          ∙ any-same (λ row. asks problem graph node child row && (has row.kinds && may_ask problem packages child row)) (λ row. has row.kinds && asks problem graph node child row)
-          (λ row. ordered (asks problem graph node child row) (has row.kinds) (may_ask problem packages child row) (asks-may problem packages graph listed child node row)) (depends_at problem name)
-          ∙ ap (λ n. list_any (λ row. has row.kinds && asks problem graph node child row) (depends_at problem n)) (sym (named-so graph name node here))
+          ∙ any-filter (asks problem graph node child) (λ row. has row.kinds && may_ask problem packages child row)
+          (depends_at problem name)
+          ∙ any-same (λ row. asks problem graph node child row && (has row.kinds && may_ask problem packages child row))
+          (λ row. has row.kinds && asks problem graph node child row)
+          (λ row. ordered (asks problem graph node child row) (has row.kinds) (may_ask problem packages child row)
+          (asks-may problem packages graph listed child node row)) (depends_at problem name)
+          ∙ ap (λ n. list_any (λ row. has row.kinds && asks problem graph node child row) (depends_at problem n))
+          (sym (named-so graph name node here))
           ∙ sym (any-filter (λ row. has row.kinds) (asks problem graph node child) (depends_at problem node.name))
 
-      child_there : (e : Edge) → edge_of graph name child ≡ Some e → (o : Option Node) → node_of graph child ≡ o → (c : Node) × (node_of graph child ≡ Some c)
+      child_there : (e : Edge) → edge_of graph name child ≡ Some e → (o : Option Node) → node_of graph child ≡ o → (c : Node)
+          × (node_of graph child ≡ Some c)
       child_there e is (Some c) child_here = (c, child_here)
       child_there e is None absent = absurd (let both : Some e ≡ None = sym is ∙ leads name child absent in cc)
 
       kind-kept-cases : (o : Option Edge) → edge_of graph name child ≡ o
-          → (not (is_some_and o (λ e. covers e.kinds kinds)) || keeps_rule (is_true (world_of problem) graph) (some (asks_rule problem packages name child) (filter (λ row. has row.kinds && may_ask problem packages child row) (depends_at problem name))))
+          → (not (is_some_and o (λ e. covers e.kinds kinds))
+          || keeps_rule (is_true (world_of problem) graph)
+          (some (asks_rule problem packages name child)
+          (filter (λ row. has row.kinds && may_ask problem packages child row) (depends_at problem name))))
           ≡ if_written o (λ e. implies (has e.kinds) (list_any (λ row. has row.kinds) (asking problem graph node child)))
       kind-kept-cases None is = refl
       kind-kept-cases (Some e) is =
           let there = child_there e is (node_of graph child) refl in
-          rw (same e.kinds, asked there.0 there.1) (not-or (has e.kinds) (list_any (λ row. has row.kinds) (asking problem graph node child)))
+          rw (same e.kinds, asked there.0 there.1) (not-or (has e.kinds)
+          (list_any (λ row. has row.kinds) (asking problem graph node child)))
 
   -- an edge of the node has no kind that none asks for
-  pub extra_edge-kept : LeadsToNodes graph → (child : Text) → keeps_rule (is_true (world_of problem) graph) (extra_edge_rule problem packages name child) ≡ if_written (edge_of graph name child) (λ e. covers (asked_kinds (asking problem graph node child)) e.kinds)
+  pub extra_edge-kept : LeadsToNodes graph → (child : Text)
+      → keeps_rule (is_true (world_of problem) graph) (extra_edge_rule problem packages name child) ≡ if_written (edge_of graph name child)
+      (λ e. covers (asked_kinds (asking problem graph node child)) e.kinds)
   extra_edge-kept leads child = rw (
-    kind-kept leads (record no_kinds { build = true }) (λ k. k.build) child (λ k. ands k.build),
-    kind-kept leads (record no_kinds { link = true }) (λ k. k.link) child (λ k. and-true k.link),
-    kind-kept leads (record no_kinds { run = true }) (λ k. k.run) child (λ k. refl),
+    kind-kept leads (record empty_kinds { build = true }) (λ k. k.build) child (λ k. ands k.build),
+    kind-kept leads (record empty_kinds { link = true }) (λ k. k.link) child (λ k. and-true k.link),
+    kind-kept leads (record empty_kinds { run = true }) (λ k. k.run) child (λ k. refl),
   ) (extra_edge-kept-cases (edge_of graph name child))
     where
       and-true : (a : Bool) → (a && true) ≡ a
@@ -177,28 +222,36 @@ module _ (problem : Problem) (packages : Text → List Text) (graph : Content)
       ands true = refl
       ands false = refl
 
-      extra_edge-kept-cases : (o : Option Edge) → (if_written o (λ e. implies e.kinds.build (list_any (λ row. row.kinds.build) (asking problem graph node child)))
+      extra_edge-kept-cases : (o : Option Edge)
+          → (if_written o (λ e. implies e.kinds.build (list_any (λ row. row.kinds.build) (asking problem graph node child)))
           && if_written o (λ e. implies e.kinds.link (list_any (λ row. row.kinds.link) (asking problem graph node child)))
-          && if_written o (λ e. implies e.kinds.run (list_any (λ row. row.kinds.run) (asking problem graph node child)))) ≡ if_written o (λ e. covers (asked_kinds (asking problem graph node child)) e.kinds)
+          && if_written o (λ e. implies e.kinds.run (list_any (λ row. row.kinds.run) (asking problem graph node child))))
+          ≡ if_written o (λ e. covers (asked_kinds (asking problem graph node child)) e.kinds)
       extra_edge-kept-cases None = refl
       extra_edge-kept-cases (Some e) = refl
 
   -- the node uses the provider
   pub use-kept : (p : Text × Text) → keeps_rule (is_true (world_of problem) graph) (use_rule problem p name) ≡ uses problem graph p node
   use-kept p = rw (
-    there (world_of problem) graph name node here (has_origin builds),
+    there (world_of problem) graph name node here (has_origin builds_node),
     sym (some-there (edge_of graph name p.1)),
     asking-kept,
   )
-      (ap (λ n. is_built node && is_some (edge_of graph n p.1) && list_any (λ row. is_some_and row.part.name (bytes_eq p.0) && all_hold (world_of problem) row.when graph n) (depends_at problem n)) (sym (named-so graph name node here)))
+      (ap (λ n. is_built node && is_some (edge_of graph n p.1)
+      && list_any (λ row. is_some_and row.part.name (bytes_eq p.0) && all_hold (world_of problem) row.when graph n)
+      (depends_at problem n)) (sym (named-so graph name node here)))
     where
-      asking-kept : keeps_rule (is_true (world_of problem) graph) (some (λ row. met_rule name row.when) (filter (names_virtual p.0) (depends_at problem name)))
-          ≡ list_any (λ row. is_some_and row.part.name (bytes_eq p.0) && all_hold (world_of problem) row.when graph name) (depends_at problem name)
+      asking-kept : keeps_rule (is_true (world_of problem) graph)
+          (some (λ row. met_rule name row.when) (filter (names_virtual p.0) (depends_at problem name)))
+          ≡ list_any (λ row. is_some_and row.part.name (bytes_eq p.0) && all_hold (world_of problem) row.when graph name)
+          (depends_at problem name)
       asking-kept =
-          some-kept (is_true (world_of problem) graph) (λ row. met_rule name row.when) (λ row. all_hold (world_of problem) row.when graph name) (λ row. refl)
+          some-kept (is_true (world_of problem) graph) (λ row. met_rule name row.when)
+          (λ row. all_hold (world_of problem) row.when graph name) (λ row. refl)
           (filter (names_virtual p.0) (depends_at problem name))
           ∙ any-filter (λ row. all_hold (world_of problem) row.when graph name) (names_virtual p.0) (depends_at problem name)
-          ∙ any-same (λ row. all_hold (world_of problem) row.when graph name && names_virtual p.0 row) (λ row. names_virtual p.0 row && all_hold (world_of problem) row.when graph name)
+          ∙ any-same (λ row. all_hold (world_of problem) row.when graph name && names_virtual p.0 row) (λ row. names_virtual p.0 row
+          && all_hold (world_of problem) row.when graph name)
           (λ row. and-swap (all_hold (world_of problem) row.when graph name) (names_virtual p.0 row)) (depends_at problem name)
 
       some-there : (o : Option Edge) → is_some o ≡ is_some_and o (λ e. true)
@@ -206,10 +259,11 @@ module _ (problem : Problem) (packages : Text → List Text) (graph : Content)
       some-there (Some e) = refl
 
 -- of a list of names, the one that is this
-all-picked : (f : Text → Bool) (p : Text) (names : List Text) → list_all (λ n. not (bytes_eq p n) || f n) names ≡ (not (among names p) || f p)
+all-picked : (f : Text → Bool) (p : Text) (names : List Text)
+    → list_all (λ n. not (bytes_eq p n) || f n) names ≡ (not (is_one_text names p) || f p)
 all-picked f p [] = refl
 all-picked f p (n ∷ names) = elim (cases_Bool (bytes_eq p n)) [
-  | inl same ↦ rw (same, all-picked f p names, ← bytes_eq-same p n same) (absorb (f p) (among names p))
+  | inl same ↦ rw (same, all-picked f p names, ← bytes_eq-same p n same) (absorb (f p) (is_one_text names p))
   | inr other ↦ rw (other, all-picked f p names) refl
 ]
   where
@@ -223,20 +277,27 @@ pub all-true : {T : Type 0} (xs : List T) → list_all (λ x. true) xs ≡ true
 all-true [] = refl
 all-true (x ∷ xs) = all-true xs
 
-pub of-provider-kept : (problem : Problem) (packages : Text → List Text) (graph : Content) → ((virtual p : Text) → provider_of graph virtual ≡ Some p → among (packages virtual) p ≡ true)
-    → (rule : Text × Text → Rule Term) (test : Text × Text → Bool) → ((p : Text × Text) → keeps_rule (is_true (world_of problem) graph) (rule p) ≡ test p)
-    → (virtual : Text) → keeps_rule (is_true (world_of problem) graph) (of_provider packages rule virtual) ≡ if_written (provider_of graph virtual) (λ p. test (virtual, p))
+pub of-provider-kept : (problem : Problem) (packages : Text → List Text) (graph : Content)
+    → ((virtual p : Text) → provider_of graph virtual ≡ Some p → is_one_text (packages virtual) p ≡ true)
+    → (rule : Text × Text → Proposition Term) (test : Text × Text → Bool)
+    → ((p : Text × Text) → keeps_rule (is_true (world_of problem) graph) (rule p) ≡ test p)
+    → (virtual : Text) → keeps_rule (is_true (world_of problem) graph) (of_provider packages rule virtual)
+    ≡ if_written (provider_of graph virtual) (λ p. test (virtual, p))
 of-provider-kept problem packages graph listed rule test same virtual =
-    each-kept (is_true (world_of problem) graph) _ (λ p. not (is_some_and (provider_of graph virtual) (λ q. bytes_eq q p)) || test (virtual, p)) (λ p. ap (λ b. not (is_some_and (provider_of graph virtual) (λ q. bytes_eq q p)) || b) (same (virtual, p))) (packages virtual)
+    each-kept (is_true (world_of problem) graph) _ (λ p. not (is_some_and (provider_of graph virtual) (λ q. bytes_eq q p))
+    || test (virtual, p)) (λ p. ap (λ b. not (is_some_and (provider_of graph virtual) (λ q. bytes_eq q p)) || b) (same (virtual, p)))
+    (packages virtual)
     ∙ of-provider-kept-cases (provider_of graph virtual) (listed virtual)
   where
-    of-provider-kept-cases : (o : Option Text) → ((p : Text) → o ≡ Some p → among (packages virtual) p ≡ true)
-        → list_all (λ p. not (is_some_and o (λ q. bytes_eq q p)) || test (virtual, p)) (packages virtual) ≡ if_written o (λ p. test (virtual, p))
+    of-provider-kept-cases : (o : Option Text) → ((p : Text) → o ≡ Some p → is_one_text (packages virtual) p ≡ true)
+        → list_all (λ p. not (is_some_and o (λ q. bytes_eq q p)) || test (virtual, p)) (packages virtual)
+        ≡ if_written o (λ p. test (virtual, p))
     of-provider-kept-cases None has = all-true (packages virtual)
     of-provider-kept-cases (Some q) has = all-picked (λ p. test (virtual, p)) q (packages virtual) ∙ rw (has q refl) refl
 
 -- some node, by names
-pub any-node : (graph : Content) (test : Node → Bool) (names : List Text) → list_all (λ n. not (test n)) graph.nodes ≡ list_all (λ n. if_written (node_of graph n) (λ m. not (test m))) names
+pub any-node : (graph : Content) (test : Node → Bool) (names : List Text)
+    → list_all (λ n. not (test n)) graph.nodes ≡ list_all (λ n. if_written (node_of graph n) (λ m. not (test m))) names
     → list_any test graph.nodes ≡ list_any (λ n. is_some_and (node_of graph n) test) names
 any-node graph test names same = sym (not-all test graph.nodes) ∙ ap not same ∙ by-names names
   where
@@ -252,9 +313,11 @@ any-node graph test names same = sym (not-all test graph.nodes) ∙ ap not same 
         not-not true = refl
         not-not false = refl
 
-    by-names : (ns : List Text) → not (list_all (λ n. if_written (node_of graph n) (λ m. not (test m))) ns) ≡ list_any (λ n. is_some_and (node_of graph n) test) ns
+    by-names : (ns : List Text) → not (list_all (λ n. if_written (node_of graph n) (λ m. not (test m))) ns)
+        ≡ list_any (λ n. is_some_and (node_of graph n) test) ns
     by-names [] = refl
-    by-names (n ∷ ns) = not-and (if_written (node_of graph n) (λ m. not (test m))) (list_all (λ n. if_written (node_of graph n) (λ m. not (test m))) ns) ∙ rw (any-node-cases (node_of graph n), by-names ns) refl
+    by-names (n ∷ ns) = not-and (if_written (node_of graph n) (λ m. not (test m)))
+        (list_all (λ n. if_written (node_of graph n) (λ m. not (test m))) ns) ∙ rw (any-node-cases (node_of graph n), by-names ns) refl
       where
         not-and : (a b : Bool) → not (a && b) ≡ (not a || not b)
         not-and true b = refl

@@ -7,8 +7,8 @@ use Rattle.std.proofs.lemmas.Bool.{cases_Bool, eqb-true, eq-eqb, ne_eqb}
 use Rattle.std.proofs.lemmas.List.{take-append-drop}
 use Rattle.std.proofs.lemmas.List.Sums.{sum_by-cons}
 use Rattle.std.proofs.lemmas.List.Folds.{sum_by-zero, list_all-append}
-use Rattle.clause_formulas.specs.Rules.{Rule, isnt, keeps_rule, any_rule, all_rules}
-use Rattle.graph_formulas.specs.Lists.{some, first_rules, apart_rules, half_of, halves_rule, few_rules, just_one}
+use Rattle.clause_formulas.specs.Rules.{Proposition, isnt, keeps_rule, any_rule, every_rule}
+use Rattle.graph_formulas.specs.Lists.{some, first_rules, apart_rules, half_length, halves_rule, few_rules, just_one}
 use Rattle.graph_formulas.proofs.Rules.{or-false, some-kept}
 
 -- exactly one
@@ -76,11 +76,11 @@ module _ {T : Type 0} (test : T → Bool) where
 
 -- ---- rules that say so
 
-module _ {W T : Type 0} (p : W → Bool) (rule : T → Rule W) (test : T → Bool) (same : (x : T) → keeps_rule p (rule x) ≡ test x) where
-  abbrev all_kept : List (Rule W) → Bool
+module _ {W T : Type 0} (p : W → Bool) (rule : T → Proposition W) (test : T → Bool) (same : (x : T) → keeps_rule p (rule x) ≡ test x) where
+  abbrev all_kept : List (Proposition W) → Bool
   all_kept rs = list_all (keeps_rule p) rs
 
-  all-rules : (rs : List (Rule W)) → keeps_rule p (all_rules rs) ≡ all_kept rs
+  all-rules : (rs : List (Proposition W)) → keeps_rule p (every_rule rs) ≡ all_kept rs
   all-rules [] = refl
   all-rules (r ∷ rs) = step (keeps_rule p r) (keeps_rule p (any_rule (map isnt rs))) (all_kept rs) (all-rules rs)
     where
@@ -111,15 +111,17 @@ module _ {W T : Type 0} (p : W → Bool) (rule : T → Rule W) (test : T → Boo
   unfolding few_rules
   few-kept zero xs = apart-kept xs
   few-kept (suc times) xs =
-      let front = few-kept times (take (half_of xs) xs) in
-      let back = few-kept times (drop (half_of xs) xs) in
-      elim (nat_lt 8 (length xs)) as (λ b. all_kept (if b then halves_rule rule (take (half_of xs) xs) (drop (half_of xs) xs)
-      ∷ (few_rules times rule (take (half_of xs) xs) ++ few_rules times rule (drop (half_of xs) xs)) else apart_rules rule xs) ≡ few test xs) [
-        | true ↦ ap (λ b. keeps_rule p (halves_rule rule (take (half_of xs) xs) (drop (half_of xs) xs)) && b)
-            (list_all-append (keeps_rule p) (few_rules times rule (take (half_of xs) xs)) (few_rules times rule (drop (half_of xs) xs)))
-            ∙ rw (halves-kept (take (half_of xs) xs) (drop (half_of xs) xs), front, back) refl
-            ∙ sym (few-append test (take (half_of xs) xs) (drop (half_of xs) xs))
-            ∙ ap (few test) (take-append-drop (half_of xs) xs)
+      let front = few-kept times (take (half_length xs) xs) in
+      let back = few-kept times (drop (half_length xs) xs) in
+      elim (nat_lt 8 (length xs)) as (λ b. all_kept (if b then halves_rule rule (take (half_length xs) xs) (drop (half_length xs) xs)
+      ∷ (few_rules times rule (take (half_length xs) xs) ++ few_rules times rule (drop (half_length xs) xs)) else apart_rules rule xs)
+      ≡ few test xs) [
+        | true ↦ ap (λ b. keeps_rule p (halves_rule rule (take (half_length xs) xs) (drop (half_length xs) xs)) && b)
+            (list_all-append (keeps_rule p) (few_rules times rule (take (half_length xs) xs))
+            (few_rules times rule (drop (half_length xs) xs)))
+            ∙ rw (halves-kept (take (half_length xs) xs) (drop (half_length xs) xs), front, back) refl
+            ∙ sym (few-append test (take (half_length xs) xs) (drop (half_length xs) xs))
+            ∙ ap (few test) (take-append-drop (half_length xs) xs)
         | false ↦ apart-kept xs
       ]
 

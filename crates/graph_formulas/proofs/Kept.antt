@@ -11,12 +11,12 @@ use Rattle.version_order.specs.declared.item.Item.{Item}
 use Rattle.spec_grammar.specs.declared.part.Part.{Part}
 use Rattle.spec_grammar.specs.declared.part.Spec.{Spec}
 use Rattle.spec_grammar.specs.declared.part.Spec.{Spec}
-use Rattle.clause_formulas.specs.Rules.{Rule, keeps_rule, fact, nowhere}
+use Rattle.clause_formulas.specs.Rules.{Proposition, keeps_rule, fact, nowhere}
 use Rattle.graph_core.specs.Graphs.{Text, Content, node_of, provider_of}
 use Rattle.graph_core.specs.Paths.{reaches_in}
 use Rattle.graph_core.specs.declared.node.Node.{Node}
 use Rattle.virtuals.specs.Virtuals.{is_virtual}
-use Rattle.condition_rules.specs.Words.{among, includes, if_written, is_some_and}
+use Rattle.condition_rules.specs.Words.{is_one_text, includes, if_written, is_some_and}
 use Rattle.condition_rules.specs.Worlds.{World, recipe_of, rows}
 use Rattle.condition_rules.specs.Meets.{meets, meets_rest, meets_platform, provides, row_provides, has_values, is_compiler, is_target, lists_overlap}
 use Rattle.condition_rules.specs.Holds.{asked_node, suits, holds_below, holds, all_hold}
@@ -24,16 +24,16 @@ use Rattle.recipe_data.specs.declared.recipe.Condition.{Condition}
 use Rattle.recipe_data.specs.declared.recipe.ProvideRow.{ProvideRow}
 use Rattle.literal_table.specs.Spells.{values_at, values_or_none}
 use Rattle.literal_table.proofs.Spelling.{named-so}
-use Rattle.graph_formulas.specs.Facts.{Word, Fact, is_there, has_version, has_variant, has_value, has_compiler, has_os, has_target, node_has, provides_as, has_path, is_so, is_in}
-use Rattle.graph_formulas.specs.Lists.{◌and◌, unless, is_filled, written, each, some}
+use Rattle.graph_formulas.specs.Facts.{GraphWord, Fact, is_there, has_version, has_variant, has_value, has_compiler, has_os, has_target, node_has, provides_as, has_path, is_so, is_in}
+use Rattle.graph_formulas.specs.Lists.{◌and◌, asked_unless, is_filled, where_written, each_keeps, some}
 use Rattle.graph_formulas.specs.Parts.{there_rule, values_rule, asks_rest, asks_fact, rest_rule, meets_rule, tops_rule, row_rule, provides_rule, asked_rule, suits_rule, below_rule, holds_rule, condition_rule}
 use Rattle.graph_formulas.proofs.Rules.{given-kept, unless-so, unless-kept, written-kept, named-kept, each-kept, some-kept}
 
 -- one of a list of names, which has it
-picked : (f : Text → Bool) (p : Text) (names : List Text) → list_any (λ n. bytes_eq p n && f n) names ≡ (among names p && f p)
+picked : (f : Text → Bool) (p : Text) (names : List Text) → list_any (λ n. bytes_eq p n && f n) names ≡ (is_one_text names p && f p)
 picked f p [] = refl
 picked f p (n ∷ names) = elim (cases_Bool (bytes_eq p n)) [
-  | inl same ↦ rw (same, picked f p names, ← (bytes_decides p n).0 same) (absorb (f p) (among names p))
+  | inl same ↦ rw (same, picked f p names, ← (bytes_decides p n).0 same) (absorb (f p) (is_one_text names p))
   | inr other ↦ rw (other, picked f p names) refl
 ]
   where
@@ -81,7 +81,7 @@ by_node graph name P some none = by_node-cases (node_of graph name) refl
     by_node-cases (Some node) e = some node e
 
 module _ (world : World) (graph : Content) where
-  abbrev pub keeps : Rule Word → Bool
+  abbrev pub keeps : Proposition GraphWord → Bool
   keeps rule = keeps_rule (is_in graph) rule
 
   module _ (name : Text) where
@@ -94,7 +94,7 @@ module _ (world : World) (graph : Content) where
       values-there wanted = rw (
         unless-kept (is_in graph) (is_filled wanted.1) (fact (node_has name (has_variant wanted.0))),
         there (has_variant wanted.0),
-        each-kept (is_in graph) _ (among (values_at node.variants wanted.0)) (λ x. there (has_value wanted.0 (bytes_eq x))) wanted.1,
+        each-kept (is_in graph) _ (is_one_text (values_at node.variants wanted.0)) (λ x. there (has_value wanted.0 (bytes_eq x))) wanted.1,
       ) (values-there-cases (find (λ w. bytes_eq w.0 wanted.0) node.variants) wanted.1)
         where
           values-there-cases : (o : Option (Text × List Text)) (xs : List Text) → ((is_filled xs || is_some o) && includes (values_or_none o) xs) ≡ is_some_and o (λ v. includes v.1 xs)
@@ -138,7 +138,8 @@ module _ (world : World) (graph : Content) where
           row-there : (row : ProvideRow) → keeps (row_rule world name virtual wanted row) ≡ row_provides world node virtual wanted row
           row-there row = row-there-cases (bytes_eq row.name virtual) (lists_overlap row.versions wanted) (tops_rule world name row.when.specs) _ (tops-there row.when.specs)
             where
-              row-there-cases : (a c : Bool) (rule : Rule Word) (b : Bool) → keeps rule ≡ b → keeps (if a && c then rule else nowhere) ≡ (a && b && c)
+              row-there-cases : (a c : Bool) (rule : Proposition GraphWord) (b : Bool) → keeps rule ≡ b
+                  → keeps (if a && c then rule else nowhere) ≡ (a && b && c)
               row-there-cases true true rule b same = same ∙ sym (and-true b)
               row-there-cases true false rule b same = sym (off-right b false refl)
               row-there-cases false c rule b same = refl
@@ -157,15 +158,18 @@ module _ (world : World) (graph : Content) where
       values-absent : (wanted : Text × List Text) → keeps (values_rule name wanted) ≡ false
       values-absent wanted = values-absent-cases wanted.1
         where
-          values-absent-cases : (xs : List Text) → keeps (unless (is_filled xs) (fact (node_has name (has_variant wanted.0))) and each (λ value. fact (node_has name (has_value wanted.0 (bytes_eq value)))) xs) ≡ false
+          values-absent-cases : (xs : List Text) → keeps
+              (asked_unless (is_filled xs) (fact (node_has name (has_variant wanted.0))) and each_keeps
+              (λ value. fact (node_has name (has_value wanted.0 (bytes_eq value)))) xs) ≡ false
           values-absent-cases [] = rw (none-there (has_variant wanted.0)) refl
           values-absent-cases (x ∷ xs) = rw (none-there (has_value wanted.0 (bytes_eq x))) refl
 
-      each-absent : (xs : List (Text × List Text)) → is_filled xs ≡ true → keeps (each (values_rule name) xs) ≡ false
+      each-absent : (xs : List (Text × List Text)) → is_filled xs ≡ true → keeps (each_keeps (values_rule name) xs) ≡ false
       each-absent [] asks = cc
       each-absent (x ∷ xs) asks = rw (values-absent x) refl
 
-      written-absent : {T : Type 0} (f : T → Fact) (o : Option T) → is_some o ≡ true → keeps (written o (λ x. fact (node_has name (f x)))) ≡ false
+      written-absent : {T : Type 0} (f : T → Fact) (o : Option T) → is_some o ≡ true
+          → keeps (where_written o (λ x. fact (node_has name (f x)))) ≡ false
       written-absent f None asks = cc
       written-absent f (Some x) asks = none-there (f x)
 
@@ -231,9 +235,11 @@ module _ (world : World) (graph : Content) where
 
   -- ---- specs and conditions, where the lists have each provider
 
-  module _ (packages : Text → List Text) (listed : (virtual p : Text) → provider_of graph virtual ≡ Some p → among (packages virtual) p ≡ true) where
+  module _ (packages : Text → List Text) (listed : (virtual p : Text) → provider_of graph virtual ≡ Some p
+      → is_one_text (packages virtual) p ≡ true) where
     -- a rule at the node that a name asks for
-    pub asked-kept : (asked : Text) (rule : Text → Rule Word) (test : Node → Bool) → ((name : Text) → keeps (rule name) ≡ is_some_and (node_of graph name) test)
+    pub asked-kept : (asked : Text) (rule : Text → Proposition GraphWord) (test : Node → Bool)
+        → ((name : Text) → keeps (rule name) ≡ is_some_and (node_of graph name) test)
         → keeps (asked_rule world packages asked rule) ≡ is_some_and (asked_node world graph asked) test
     unfolding asked_node
     asked-kept asked rule test same = elim (cases_Bool (is_virtual world.recipes asked)) [
@@ -243,7 +249,7 @@ module _ (world : World) (graph : Content) where
       | inr plain ↦ rw plain (same asked)
     ]
       where
-        asked-kept-cases : (o : Option Text) → ((p : Text) → o ≡ Some p → among (packages asked) p ≡ true)
+        asked-kept-cases : (o : Option Text) → ((p : Text) → o ≡ Some p → is_one_text (packages asked) p ≡ true)
             → list_any (λ name. is_some_and o (λ p. bytes_eq p name) && is_some_and (node_of graph name) test) (packages asked) ≡ is_some_and (option_and_then (node_of graph) o) test
         asked-kept-cases None has = none-picked (λ name. is_some_and (node_of graph name) test) (packages asked)
         asked-kept-cases (Some p) has = picked (λ name. is_some_and (node_of graph name) test) p (packages asked) ∙ ap (λ b. b && is_some_and (node_of graph p) test) (has p refl)

@@ -5,7 +5,7 @@ use Rattle.std.specs.List.{list_all}
 use Rattle.std.specs.Option.{option_eq}
 use Rattle.std.specs.Str.{bytes_eq}
 use Rattle.std.proofs.lemmas.Bool.{cases_Bool, eqb-true, eq-eqb}
-use Rattle.clause_formulas.specs.Rules.{Rule, keeps_rule, fact, isnt, if_so}
+use Rattle.clause_formulas.specs.Rules.{Proposition, keeps_rule, fact, isnt, if_so}
 use Rattle.graph_core.specs.Graphs.{Text, Content, node_of, edge_of, edges_from}
 use Rattle.graph_core.specs.declared.node.Node.{Node}
 use Rattle.graph_core.specs.declared.node.Edge.{Edge}
@@ -13,18 +13,18 @@ use Rattle.graph_core.specs.declared.node.Kinds.{Kinds}
 use Rattle.graph_core.specs.declared.node.Origin.{Origin}
 use Rattle.graph_core.specs.declared.node.Origin.TheVariants.{Built, External, Installed}
 use Rattle.condition_rules.specs.Words.{if_written, is_some_and, implies}
-use Rattle.problem.specs.Problems.{Problem, world_of, entry_of, externals_in, record_at, same_compiler}
+use Rattle.problem.specs.Problems.{Problem, world_of, package_entry_of, externals_in, record_at, same_compiler}
 use Rattle.problem.specs.Nodes.{covers, is_installed}
 use Rattle.problem.specs.Records.{kept_dependencies}
 use Rattle.reuse_db.specs.declared.record.Record.{Record}
 use Rattle.graph_rules.specs.Kept.{same_attributes, external_node, installed_node, has_kinds, keeps_child, is_child, keeps_origin, keeps_kept}
 use Rattle.graph_rules.proofs.Lists.{In, bytes_eq-same, bytes_eq-itself}
 use Rattle.literal_table.proofs.Spelling.{named-so}
-use Rattle.graph_formulas.specs.Facts.{Word, Fact, same_variants, has_origin, has_version, has_variants, has_compiler, has_os, has_target, has_prefix, has_edge, node_has, is_in, is_so}
-use Rattle.graph_formulas.specs.Lists.{◌and◌, given, named, each}
+use Rattle.graph_formulas.specs.Facts.{GraphWord, Fact, same_variants, has_origin, has_version, has_variants, has_compiler, has_os, has_target, has_prefix, has_edge, node_has, is_in, is_so}
+use Rattle.graph_formulas.specs.Lists.{◌and◌, settled_test, one_keeps, each_keeps}
 use Rattle.graph_formulas.proofs.Rules.{given-kept, named-kept, each-kept}
 use Rattle.graph_formulas.proofs.Kept.{there}
-use Rattle.graph_formulas.specs.Edges.{no_kinds}
+use Rattle.graph_formulas.specs.Edges.{empty_kinds}
 use Rattle.graph_formulas.specs.Kept.{same_origin, installs, same_rule, kinds_rule, is_child_name, child_rule, recorded_rule, origin_rule, kept_rule}
 
 -- ---- origins
@@ -104,7 +104,7 @@ on o wanted = is_some_and o (λ e. covers e.kinds wanted)
 module _ (problem : Problem) (graph : Content) (name : Text) (node : Node) (here : node_of graph name ≡ Some node) (children : List Text)
     (edges : (test : Edge → Bool) → list_all test (edges_from graph name) ≡ list_all (λ child. if_written (edge_of graph name child) test) children)
     (child-named : (child : Text) (e : Edge) → edge_of graph name child ≡ Some e → e.child ≡ child) where
-  abbrev in_graph : Rule Word → Bool
+  abbrev in_graph : Proposition GraphWord → Bool
   in_graph rule = keeps_rule (is_in graph) rule
 
   has : (f : Fact) → is_in graph (node_has name f) ≡ is_so node f
@@ -127,8 +127,9 @@ module _ (problem : Problem) (graph : Content) (name : Text) (node : Node) (here
   kinds-kept : (child : Text) (kinds : Kinds) → in_graph (kinds_rule name child kinds) ≡ is_some_and (edge_of graph name child) (has_kinds kinds)
   kinds-kept child kinds = rw (given-kept (is_in graph) kinds.link, given-kept (is_in graph) kinds.run) (kinds-kept-cases (edge_of graph name child))
     where
-      kinds-kept-cases : (o : Option Edge) → (((on o (record kinds { build = false }) && not (on o (record no_kinds { build = true })))
-          && (not (on o (record no_kinds { link = true })) || kinds.link)) && (not (on o (record no_kinds { run = true })) || kinds.run))
+      kinds-kept-cases : (o : Option Edge) → (((on o (record kinds { build = false }) && not (on o (record empty_kinds { build = true })))
+          && (not (on o (record empty_kinds { link = true })) || kinds.link))
+          && (not (on o (record empty_kinds { run = true })) || kinds.run))
           ≡ is_some_and o (has_kinds kinds)
       kinds-kept-cases None = refl
       kinds-kept-cases (Some e) = kind-tests (covers e.kinds (record kinds { build = false })) e.kinds.build e.kinds.link e.kinds.run kinds.link kinds.run
@@ -138,24 +139,29 @@ module _ (problem : Problem) (graph : Content) (name : Text) (node : Node) (here
       (λ child. is_some_and (node_of graph child.name) (is_installed d.0) && is_some_and (edge_of graph name child.name) (has_kinds d.1))
       (λ child. ap (λ b. is_some_and (node_of graph child.name) (is_installed d.0) && b) (kinds-kept child.name d.1)) (record_at problem d.0)
 
-  recorded-kept : (entry : Record) → in_graph (each (recorded_rule problem children name entry) children) ≡ list_all (is_child problem entry) (edges_from graph name)
+  recorded-kept : (entry : Record) → in_graph (each_keeps (recorded_rule problem children name entry) children)
+      ≡ list_all (is_child problem entry) (edges_from graph name)
   recorded-kept entry =
       each-kept (is_in graph) (recorded_rule problem children name entry) (λ child. if_written (edge_of graph name child) (is_child problem entry))
       (λ child. recorded-kept-cases child (edge_of graph name child) (child-named child)) children
       ∙ sym (edges (is_child problem entry))
     where
       recorded-kept-cases : (child : Text) (o : Option Edge) → ((e : Edge) → o ≡ Some e → e.child ≡ child)
-          → (not (is_some_and o (λ e. covers e.kinds no_kinds)) || in_graph (given (is_child_name problem entry child))) ≡ if_written o (is_child problem entry)
-      recorded-kept-cases child None named = refl
-      recorded-kept-cases child (Some e) named = given-kept (is_in graph) (is_child_name problem entry child) ∙ ap (is_child_name problem entry) (sym (named e refl))
+          → (not (is_some_and o (λ e. covers e.kinds empty_kinds)) || in_graph (settled_test (is_child_name problem entry child)))
+          ≡ if_written o (is_child problem entry)
+      recorded-kept-cases child None one_keeps = refl
+      recorded-kept-cases child (Some e) one_keeps = given-kept (is_in graph) (is_child_name problem entry child)
+          ∙ ap (is_child_name problem entry) (sym (one_keeps e refl))
 
-  no-edge-kept : in_graph (each (λ child. isnt (fact (has_edge name child no_kinds))) children) ≡ list_all (λ e. false) (edges_from graph name)
+  no-edge-kept : in_graph (each_keeps (λ child. isnt (fact (has_edge name child empty_kinds))) children) ≡ list_all (λ e. false)
+      (edges_from graph name)
   no-edge-kept =
-      each-kept (is_in graph) (λ child. isnt (fact (has_edge name child no_kinds))) (λ child. if_written (edge_of graph name child) (λ e. false))
+      each-kept (is_in graph) (λ child. isnt (fact (has_edge name child empty_kinds)))
+      (λ child. if_written (edge_of graph name child) (λ e. false))
       (λ child. none (edge_of graph name child)) children
       ∙ sym (edges (λ e. false))
     where
-      none : (o : Option Edge) → not (is_some_and o (λ e. covers e.kinds no_kinds)) ≡ if_written o (λ e. false)
+      none : (o : Option Edge) → not (is_some_and o (λ e. covers e.kinds empty_kinds)) ≡ if_written o (λ e. false)
       none None = refl
       none (Some e) = refl
 
@@ -163,13 +169,15 @@ module _ (problem : Problem) (graph : Content) (name : Text) (node : Node) (here
   origin-kept Built = has (has_prefix is_none)
   origin-kept (External place) = rw (
     named-kept (is_in graph) (λ entry. same_rule name (external_node problem name place entry)) (λ entry. same_attributes node (external_node problem name place entry))
-        (λ entry. same-kept (external_node problem name place entry)) (slice_get (externals_in (entry_of problem name)) place),
+        (λ entry. same-kept (external_node problem name place entry)) (slice_get (externals_in (package_entry_of problem name)) place),
     no-edge-kept,
-  ) (ap (λ n. is_some_and (slice_get (externals_in (entry_of problem n)) place) (λ entry. same_attributes node (external_node problem n place entry))
+  ) (ap (λ n. is_some_and (slice_get (externals_in (package_entry_of problem n)) place)
+      (λ entry. same_attributes node (external_node problem n place entry))
       && list_all (λ e. false) (edges_from graph n)) (sym (named-so graph name node here)))
   origin-kept (Installed hash) =
       named-kept (is_in graph)
-      (λ entry. same_rule name (installed_node entry) and each (child_rule problem children name) (kept_dependencies entry) and each (recorded_rule problem children name entry) children)
+      (λ entry. same_rule name (installed_node entry) and each_keeps (child_rule problem children name) (kept_dependencies entry) and
+      each_keeps (recorded_rule problem children name entry) children)
       (λ entry. same_attributes node (installed_node entry) && list_all (keeps_child problem graph name) (kept_dependencies entry) && list_all (is_child problem entry) (edges_from graph name))
       (λ entry. rw (
         same-kept (installed_node entry),

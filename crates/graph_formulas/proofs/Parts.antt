@@ -8,29 +8,31 @@ use Rattle.spec_grammar.specs.declared.part.Part.{Part}
 use Rattle.spec_grammar.specs.declared.part.Spec.{Spec}
 use Rattle.clause_store.specs.Lits.{lit_true}
 use Rattle.clause_formulas.specs.Statements.{Statement}
-use Rattle.clause_formulas.specs.Rules.{Rule, keeps_rule}
+use Rattle.clause_formulas.specs.Rules.{Proposition, keeps_rule}
 use Rattle.clause_formulas.proofs.RuleLaws.{rule-said}
 use Rattle.graph_core.specs.Graphs.{Text, Content, node_of, provider_of}
-use Rattle.condition_rules.specs.Words.{among, is_some_and}
+use Rattle.condition_rules.specs.Words.{is_one_text, is_some_and}
 use Rattle.condition_rules.specs.Worlds.{World}
 use Rattle.condition_rules.specs.Meets.{meets, provides}
 use Rattle.condition_rules.specs.Holds.{holds, all_hold}
 use Rattle.recipe_data.specs.declared.recipe.Condition.{Condition}
-use Rattle.literal_table.specs.Choices.{Choices, chosen, offered}
+use Rattle.literal_table.specs.Choices.{Choices, chosen, choice_values}
 use Rattle.literal_table.specs.Tables.{Table, packages_of}
 use Rattle.literal_table.specs.Spells.{Spells}
-use Rattle.graph_formulas.specs.Facts.{Word, word_said, is_in}
+use Rattle.graph_formulas.specs.Facts.{GraphWord, word_said, is_in}
 use Rattle.graph_formulas.specs.Parts.{meets_rule, provides_rule, holds_rule, condition_rule}
 use Rattle.graph_formulas.specs.Words.{SpellsPaths, names_for, says}
 use Rattle.graph_formulas.proofs.WordsSaid.{word-said}
 use Rattle.graph_formulas.proofs.Kept.{meets-kept, provides-kept, holds-kept, condition-kept}
 
 -- what is chosen is one of the choices
-chosen-among : (v : ℕ → Bool) (choices : Choices Text) (x : Text) → among (chosen v choices) x ≡ true → among (offered choices) x ≡ true
+chosen-among : (v : ℕ → Bool) (choices : Choices Text) (x : Text) → is_one_text (chosen v choices) x ≡ true
+    → is_one_text (choice_values choices) x ≡ true
 chosen-among v [] x h = h
 chosen-among v (c ∷ cs) x h = elim (cases_Bool (lit_true v c.1)) [
-  | inl t ↦ chosen-among-cases (bytes_eq x c.0) (among (chosen v cs) x) (among (offered cs) x) (chosen-among v cs x) (rw t at h)
-  | inr f ↦ or_right (bytes_eq x c.0) (among (offered cs) x) (chosen-among v cs x (rw f at h))
+  | inl t ↦ chosen-among-cases (bytes_eq x c.0) (is_one_text (chosen v cs) x) (is_one_text (choice_values cs) x)
+      (chosen-among v cs x) (rw t at h)
+  | inr f ↦ or_right (bytes_eq x c.0) (is_one_text (choice_values cs) x) (chosen-among v cs x (rw f at h))
 ]
   where
     chosen-among-cases : (a b c : Bool) → (b ≡ true → c ≡ true) → (a || b) ≡ true → (a || c) ≡ true
@@ -38,15 +40,16 @@ chosen-among v (c ∷ cs) x h = elim (cases_Bool (lit_true v c.1)) [
     chosen-among-cases false b c f h = f h
 
 -- a provider is among the packages of its virtual
-pub provider-listed : (v : ℕ → Bool) (table : Table) (graph : Content) → Spells v table graph → (virtual p : Text) → provider_of graph virtual ≡ Some p → among (names_for table virtual) p ≡ true
+pub provider-listed : (v : ℕ → Bool) (table : Table) (graph : Content) → Spells v table graph → (virtual p : Text)
+    → provider_of graph virtual ≡ Some p → is_one_text (names_for table virtual) p ≡ true
 provider-listed v table graph s virtual p is =
     chosen-among v (packages_of table virtual) p (rw (s.providers virtual, is, (bytes_decides p p).1 refl) refl)
 
 module _ (world : World) (v : ℕ → Bool) (path : Text → Text → Statement) (table : Table) (graph : Content) (s : SpellsPaths v path table graph) where
-  abbrev kept : Rule Word → Bool
+  abbrev kept : Proposition GraphWord → Bool
   kept rule = keeps_rule (is_in graph) rule
 
-  said : (rule : Rule Word) → says v path table rule ≡ kept rule
+  said : (rule : Proposition GraphWord) → says v path table rule ≡ kept rule
   said rule = rule-said v (word_said path table) (is_in graph) (word-said v path table graph s) rule
 
   -- the formula of a part

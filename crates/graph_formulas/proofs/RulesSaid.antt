@@ -6,7 +6,7 @@ use Rattle.std.specs.Option.{is_some}
 use Rattle.std.proofs.lemmas.Bool.{cases_Bool}
 use Rattle.clause_store.specs.Lits.{lit_true}
 use Rattle.clause_formulas.specs.Statements.{Statement, eval}
-use Rattle.clause_formulas.specs.Rules.{Rule, keeps_rule}
+use Rattle.clause_formulas.specs.Rules.{Proposition, keeps_rule}
 use Rattle.clause_formulas.proofs.RuleLaws.{rule-said}
 use Rattle.spec_grammar.specs.declared.part.Spec.{Spec}
 use Rattle.graph_core.specs.Graphs.{Text, Content, node_of, provider_of, edge_of, edges_from, ends_of, HasNode}
@@ -17,7 +17,7 @@ use Rattle.graph_core.proofs.PairLaws.{pair_total, pair_exact}
 use Rattle.graph_core.specs.declared.node.Node.{Node}
 use Rattle.graph_core.specs.declared.node.Edge.{Edge}
 use Rattle.virtuals.specs.Virtuals.{is_virtual}
-use Rattle.condition_rules.specs.Words.{among, implies, if_written, is_some_and}
+use Rattle.condition_rules.specs.Words.{is_one_text, implies, if_written, is_some_and}
 use Rattle.recipe_data.specs.declared.recipe.Condition.{Condition}
 use Rattle.recipe_data.specs.declared.recipe.DependRow.{DependRow}
 use Rattle.recipe_data.specs.declared.recipe.ConflictRow.{ConflictRow}
@@ -32,8 +32,8 @@ use Rattle.graph_rules.specs.Kept.{keeps_kept}
 use Rattle.graph_rules.specs.Valid.{keeps, each_built, keeps_demand}
 use Rattle.graph_rules.specs.declared.rule.Rule.TheVariants as rules
 use Rattle.graph_rules.proofs.Lists.{In, list_all-from}
-use Rattle.literal_table.specs.Choices.{Choices, chosen, offered}
-use Rattle.literal_table.specs.Tables.{Table, block_of, edge_lits_of, names_of, children_of}
+use Rattle.literal_table.specs.Choices.{Choices, chosen, choice_values}
+use Rattle.literal_table.specs.Tables.{Table, block_of, edge_lits_of, table_names, children_of}
 use Rattle.literal_table.specs.Spells.{SpellsNode, SpellsAt, SpellsEdge, chosen_kinds}
 use Rattle.literal_table.specs.declared.block.Block.{Block}
 use Rattle.literal_table.specs.declared.block.EdgeLits.{EdgeLits}
@@ -78,23 +78,24 @@ edge-child graph parent child e here = ap (λ p. p.1) (found-ends ends_of graph.
 
 -- each of a list is among it
 -- each text of a list is among them
-pub all-among : (xs : List Text) → list_all (among xs) xs ≡ true
-all-among xs = list_all-from (among xs) xs (λ x there. among-In xs x there)
+pub all-among : (xs : List Text) → list_all (is_one_text xs) xs ≡ true
+all-among xs = list_all-from (is_one_text xs) xs (λ x there. among-In xs x there)
 
 one-more : {T : Type 0} (x y : T) (ys zs : List T) → (In x ys → In x zs) → In x (y ∷ ys) → In x (y ∷ zs)
 one-more x y ys zs rest (inl same) = inl same
 one-more x y ys zs rest (inr later) = inr (rest later)
 
 -- what is chosen is offered
-chosen-offered : {T : Type 0} (v : ℕ → Bool) (cs : Choices T) (x : T) → In x (chosen v cs) → In x (offered cs)
+chosen-offered : {T : Type 0} (v : ℕ → Bool) (cs : Choices T) (x : T) → In x (chosen v cs) → In x (choice_values cs)
 chosen-offered v [] x none = none
 chosen-offered v (c ∷ cs) x there = elim (cases_Bool (lit_true v c.1)) [
-  | inl t ↦ let here : In x (c.0 ∷ chosen v cs) = rw t at there in one-more x c.0 (chosen v cs) (offered cs) (chosen-offered v cs x) here
+  | inl t ↦ let here : In x (c.0 ∷ chosen v cs) = rw t at there in
+      one-more x c.0 (chosen v cs) (choice_values cs) (chosen-offered v cs x) here
   | inr f ↦ let here : In x (chosen v cs) = rw f at there in inr (chosen-offered v cs x here)
 ]
 
 module _ (problem : Problem) (v : ℕ → Bool) (path : Text → Text → Statement) (condition : Text → Condition → Statement) (table : Table) (graph : Content) (s : SpellsProblem problem v path condition table graph) where
-  listed : (virtual p : Text) → provider_of graph virtual ≡ Some p → among (names_for table virtual) p ≡ true
+  listed : (virtual p : Text) → provider_of graph virtual ≡ Some p → is_one_text (names_for table virtual) p ≡ true
   listed = provider-listed v table graph s.whole.facts
 
   leads : LeadsToNodes graph
@@ -111,16 +112,18 @@ module _ (problem : Problem) (v : ℕ → Bool) (path : Text → Text → Statem
   term-said (known rule) = rule-said v (word_said path table) (is_in graph) (word-said v path table graph s.whole) rule
   term-said (met name when) = s.conditions name when
 
-  said : (rule : Rule Term) → rule_says v path condition table rule ≡ keeps_rule (is_true (world_of problem) graph) rule
+  said : (rule : Proposition Term) → rule_says v path condition table rule ≡ keeps_rule (is_true (world_of problem) graph) rule
   said rule = rule-said v (term_said path condition table) (is_true (world_of problem) graph) term-said rule
 
   -- a rule that holds where its test does, asked where the node is built
-  where-built : (name : Text) (rule : Rule Term) (test : Node → Bool) → ((node : Node) → node_of graph name ≡ Some node → keeps_rule (is_true (world_of problem) graph) rule ≡ test node)
+  where-built : (name : Text) (rule : Proposition Term) (test : Node → Bool)
+      → ((node : Node) → node_of graph name ≡ Some node → keeps_rule (is_true (world_of problem) graph) rule ≡ test node)
       → rule_says v path condition table (where_built name rule) ≡ if_built graph name test
   where-built name rule test same = said (where_built name rule) ∙ built-kept problem (names_for table) graph listed name rule test same
 
   -- a law said at the node's own name
-  at-name : (name : Text) (rule : Text → Rule Term) (test : Node → Bool) → ((node : Node) → keeps_rule (is_true (world_of problem) graph) (rule node.name) ≡ test node)
+  at-name : (name : Text) (rule : Text → Proposition Term) (test : Node → Bool)
+      → ((node : Node) → keeps_rule (is_true (world_of problem) graph) (rule node.name) ≡ test node)
       → rule_says v path condition table (where_built name (rule name)) ≡ if_built graph name test
   at-name name rule test same =
       where-built name (rule name) test (λ node here. ap (λ n. keeps_rule (is_true (world_of problem) graph) (rule n)) (sym (named-so graph name node here)) ∙ same node)
@@ -157,7 +160,8 @@ module _ (problem : Problem) (v : ℕ → Bool) (path : Text → Text → Statem
   variant-said name variant = where-built name (variant_rule problem name variant) (λ node. keeps_one_variant problem graph node variant) (λ node here. variant-kept problem graph name node here variant)
 
   -- where the node is there
-  where-there : (name : Text) (rule : Rule Term) (test : Node → Bool) → ((node : Node) → node_of graph name ≡ Some node → keeps_rule (is_true (world_of problem) graph) rule ≡ test node)
+  where-there : (name : Text) (rule : Proposition Term) (test : Node → Bool)
+      → ((node : Node) → node_of graph name ≡ Some node → keeps_rule (is_true (world_of problem) graph) rule ≡ test node)
       → rule_says v path condition table (where_there name rule) ≡ if_written (node_of graph name) test
   where-there name rule test same =
       said (where_there name rule)
@@ -207,7 +211,8 @@ module _ (problem : Problem) (v : ℕ → Bool) (path : Text → Text → Statem
 
   -- ---- rules of all nodes, by names
 
-  nodes-said : (test : Node → Bool) → list_all test graph.nodes ≡ list_all (λ name. if_written (node_of graph name) test) (names_of table)
+  nodes-said : (test : Node → Bool) → list_all test graph.nodes ≡ list_all (λ name. if_written (node_of graph name) test)
+      (table_names table)
   nodes-said = each-node-said v table graph s.whole.facts s.is_table s.is_graph
 
   providers-said : (test : Text × Text → Bool) → list_all test graph.providers ≡ list_all (λ w. if_written (provider_of graph w) (λ p. test (w, p))) (virtuals_of table)
@@ -217,40 +222,51 @@ module _ (problem : Problem) (v : ℕ → Bool) (path : Text → Text → Statem
   edges-said = each-edge-said v table graph s.whole.facts s.is_table s.is_graph
 
   -- formulas at all names say the rule of all nodes to build
-  each-built : (rule : Text → Rule Term) (test : Node → Bool) → ((name : Text) → rule_says v path condition table (where_built name (rule name)) ≡ if_built graph name test)
-      → list_all (λ name. rule_says v path condition table (where_built name (rule name))) (names_of table) ≡ each_built test graph
-  each-built rule test same = all-same _ (λ name. if_built graph name test) same (names_of table) ∙ sym (nodes-said (λ node. implies (is_built node) (test node)))
+  each-built : (rule : Text → Proposition Term) (test : Node → Bool)
+      → ((name : Text) → rule_says v path condition table (where_built name (rule name)) ≡ if_built graph name test)
+      → list_all (λ name. rule_says v path condition table (where_built name (rule name))) (table_names table) ≡ each_built test graph
+  each-built rule test same = all-same _ (λ name. if_built graph name test) same (table_names table)
+      ∙ sym (nodes-said (λ node. implies (is_built node) (test node)))
 
-  each-there : (rule : Text → Rule Term) (test : Node → Bool) → ((name : Text) → rule_says v path condition table (where_there name (rule name)) ≡ if_written (node_of graph name) test)
-      → list_all (λ name. rule_says v path condition table (where_there name (rule name))) (names_of table) ≡ list_all test graph.nodes
-  each-there rule test same = all-same _ (λ name. if_written (node_of graph name) test) same (names_of table) ∙ sym (nodes-said test)
+  each-there : (rule : Text → Proposition Term) (test : Node → Bool)
+      → ((name : Text) → rule_says v path condition table (where_there name (rule name)) ≡ if_written (node_of graph name) test)
+      → list_all (λ name. rule_says v path condition table (where_there name (rule name))) (table_names table) ≡ list_all test graph.nodes
+  each-there rule test same = all-same _ (λ name. if_written (node_of graph name) test) same (table_names table) ∙ sym (nodes-said test)
 
   -- the formulas of a rule at all names say whether the graph keeps the rule
-  pub all-buildable : list_all (λ name. rule_says v path condition table (where_built name (known_rule (buildable_rule problem name)))) (names_of table) ≡ keeps rules.Buildable problem graph
+  pub all-buildable : list_all (λ name. rule_says v path condition table (where_built name (known_rule (buildable_rule problem name))))
+      (table_names table) ≡ keeps rules.Buildable problem graph
   unfolding keeps
   all-buildable = each-built (λ name. known_rule (buildable_rule problem name)) (keeps_buildable problem) buildable-said
 
-  pub all-version : list_all (λ name. rule_says v path condition table (where_built name (known_rule (version_rule problem name)))) (names_of table) ≡ keeps rules.Version problem graph
+  pub all-version : list_all (λ name. rule_says v path condition table (where_built name (known_rule (version_rule problem name))))
+      (table_names table) ≡ keeps rules.Version problem graph
   unfolding keeps
   all-version = each-built (λ name. known_rule (version_rule problem name)) (keeps_version problem) version-said
 
-  pub all-compiler : list_all (λ name. rule_says v path condition table (where_built name (known_rule (compiler_rule problem name)))) (names_of table) ≡ keeps rules.Compiler problem graph
+  pub all-compiler : list_all (λ name. rule_says v path condition table (where_built name (known_rule (compiler_rule problem name))))
+      (table_names table) ≡ keeps rules.Compiler problem graph
   unfolding keeps
   all-compiler = each-built (λ name. known_rule (compiler_rule problem name)) (keeps_compiler problem) compiler-said
 
-  pub all-machine : list_all (λ name. rule_says v path condition table (where_built name (known_rule (machine_rule problem name)))) (names_of table) ≡ keeps rules.Machine problem graph
+  pub all-machine : list_all (λ name. rule_says v path condition table (where_built name (known_rule (machine_rule problem name))))
+      (table_names table) ≡ keeps rules.Machine problem graph
   unfolding keeps
   all-machine = each-built (λ name. known_rule (machine_rule problem name)) (keeps_machine problem) machine-said
 
-  pub all-no_cycle : list_all (λ name. rule_says v path condition table (where_there name (known_rule (no_cycle_rule problem name)))) (names_of table) ≡ keeps rules.Cycle problem graph
+  pub all-no_cycle : list_all (λ name. rule_says v path condition table (where_there name (known_rule (no_cycle_rule problem name))))
+      (table_names table) ≡ keeps rules.Cycle problem graph
   unfolding keeps
   all-no_cycle = each-there (λ name. known_rule (no_cycle_rule problem name)) (keeps_no_cycle graph) no_cycle-said
 
-  pub all-reachable : list_all (λ name. rule_says v path condition table (where_there name (known_rule (reachable_rule problem name)))) (names_of table) ≡ keeps rules.Unreachable problem graph
+  pub all-reachable : list_all (λ name. rule_says v path condition table (where_there name (known_rule (reachable_rule problem name))))
+      (table_names table) ≡ keeps rules.Unreachable problem graph
   unfolding keeps
   all-reachable = each-there (λ name. known_rule (reachable_rule problem name)) (keeps_reachable problem graph) reachable-said
 
-  pub all-extra_edge : list_all (λ name. rule_says v path condition table (where_built name (extra_edges_rule problem (names_for table) (children_of table name) name))) (names_of table) ≡ keeps rules.ExtraEdge problem graph
+  pub all-extra_edge : list_all (λ name. rule_says v path condition table
+      (where_built name (extra_edges_rule problem (names_for table) (children_of table name) name))) (table_names table)
+      ≡ keeps rules.ExtraEdge problem graph
   unfolding keeps keeps_extra_edge
   all-extra_edge = each-built (λ name. extra_edges_rule problem (names_for table) (children_of table name) name) (keeps_extra_edge problem graph)
       (λ name. where-built name (extra_edges_rule problem (names_for table) (children_of table name) name) (keeps_extra_edge problem graph) (λ node here.
@@ -260,7 +276,8 @@ module _ (problem : Problem) (v : ℕ → Bool) (path : Text → Text → Statem
       ∙ ap (λ n. list_all (is_asked problem graph node) (edges_from graph n)) (sym (named-so graph name node here))))
 
   -- formulas of all virtuals say the rule of all providers
-  each-by-virtual : (rule : Text × Text → Rule Term) (test : Text × Text → Bool) → ((p : Text × Text) → keeps_rule (is_true (world_of problem) graph) (rule p) ≡ test p)
+  each-by-virtual : (rule : Text × Text → Proposition Term) (test : Text × Text → Bool)
+      → ((p : Text × Text) → keeps_rule (is_true (world_of problem) graph) (rule p) ≡ test p)
       → list_all (λ w. rule_says v path condition table (of_provider (names_for table) rule w)) (virtuals_of table) ≡ list_all test graph.providers
   each-by-virtual rule test same =
       all-same _ (λ w. if_written (provider_of graph w) (λ p. test (w, p))) (λ w. said (of_provider (names_for table) rule w) ∙ of-provider-kept problem (names_for table) graph listed rule test same w) (virtuals_of table)
@@ -270,18 +287,22 @@ module _ (problem : Problem) (v : ℕ → Bool) (path : Text → Text → Statem
   unfolding keeps
   all-provider = each-by-virtual (λ p. known_rule (provider_rule problem p)) (keeps_provider problem graph) (provider-kept problem graph)
 
-  pub all-used : list_all (λ w. rule_says v path condition table (of_provider (names_for table) (used_rule problem (names_of table)) w)) (virtuals_of table) ≡ keeps rules.UnusedProvider problem graph
+  pub all-used : list_all (λ w. rule_says v path condition table (of_provider (names_for table) (used_rule problem (table_names table)) w))
+      (virtuals_of table) ≡ keeps rules.UnusedProvider problem graph
   unfolding keeps keeps_used
-  all-used = each-by-virtual (used_rule problem (names_of table)) (keeps_used problem graph) (λ p.
+  all-used = each-by-virtual (used_rule problem (table_names table)) (keeps_used problem graph) (λ p.
       rw (
         given-kept (is_true (world_of problem) graph) (is_virtual problem.recipes p.0),
-        some-kept (is_true (world_of problem) graph) (use_rule problem p) (λ name. is_some_and (node_of graph name) (uses problem graph p)) (λ name. sym (said (use_rule problem p name)) ∙ use-said p name) (filter (may_use problem p.0) (names_of table)),
-        any-narrowed (λ name. is_some_and (node_of graph name) (uses problem graph p)) (may_use problem p.0) (user-asks problem graph p) (names_of table),
-        any-node graph (uses problem graph p) (names_of table) (nodes-said (λ node. not (uses problem graph p node))),
+        some-kept (is_true (world_of problem) graph) (use_rule problem p) (λ name. is_some_and (node_of graph name) (uses problem graph p))
+            (λ name. sym (said (use_rule problem p name)) ∙ use-said p name) (filter (may_use problem p.0) (table_names table)),
+        any-narrowed (λ name. is_some_and (node_of graph name) (uses problem graph p)) (may_use problem p.0) (user-asks problem graph p)
+            (table_names table),
+        any-node graph (uses problem graph p) (table_names table) (nodes-said (λ node. not (uses problem graph p node))),
       ) refl)
 
   pub all-variant : HasVariants problem table
-      → list_all (λ name. rule_says v path condition table (where_built name (variants_rule problem (variants_of table name) name))) (names_of table) ≡ keeps rules.Variant problem graph
+      → list_all (λ name. rule_says v path condition table (where_built name (variants_rule problem (variants_of table name) name)))
+      (table_names table) ≡ keeps rules.Variant problem graph
   unfolding keeps
   all-variant has = each-built (λ name. variants_rule problem (variants_of table name) name) (keeps_variant problem graph)
       (λ name. where-built name (variants_rule problem (variants_of table name) name) (keeps_variant problem graph) (λ node here.
@@ -293,10 +314,14 @@ module _ (problem : Problem) (v : ℕ → Bool) (path : Text → Text → Statem
       at-block name node here None is spells = absurd (let wrong : Some node ≡ None = sym here ∙ spells in cc)
       at-block name node here (Some b) is spells =
           spelled-variants problem graph v b node (variants_of table name) (subst (SpellsNode v b) here spells)
-          (subst (λ o. list_all (among (variants_in o)) (map (λ u. u.0) b.variants) ≡ true) (sym is) (all-among (map (λ u. u.0) b.variants)))
-          (subst (λ n. list_all (among (variants_of table name)) (map (λ row. row.name) (variants_at problem n)) ≡ true) (sym (named-so graph name node here)) (has name b is))
+          (subst (λ o. list_all (is_one_text (variants_in o)) (map (λ u. u.0) b.variants) ≡ true) (sym is)
+          (all-among (map (λ u. u.0) b.variants)))
+          (subst (λ n. list_all (is_one_text (variants_of table name)) (map (λ row. row.name) (variants_at problem n)) ≡ true)
+          (sym (named-so graph name node here)) (has name b is))
 
-  pub all-kept : list_all (λ name. rule_says v path condition table (where_there name (known_rule (kept_rule problem (children_of table name) (origins_of table name) name)))) (names_of table) ≡ keeps rules.Kept problem graph
+  pub all-kept : list_all (λ name. rule_says v path condition table
+      (where_there name (known_rule (kept_rule problem (children_of table name) (origins_of table name) name)))) (table_names table)
+      ≡ keeps rules.Kept problem graph
   unfolding keeps
   all-kept = each-there (λ name. known_rule (kept_rule problem (children_of table name) (origins_of table name) name)) (keeps_kept problem graph)
       (λ name. where-there name (known_rule (kept_rule problem (children_of table name) (origins_of table name) name)) (keeps_kept problem graph) (λ node here.

@@ -10,7 +10,7 @@ use Rattle.variant_values.specs.declared.kind.VariantKind.TheVariants as kinds
 use Rattle.clause_formulas.specs.Rules.{keeps_rule}
 use Rattle.graph_core.specs.Graphs.{Text, Content, node_of}
 use Rattle.graph_core.specs.declared.node.Node.{Node}
-use Rattle.condition_rules.specs.Words.{among, includes, implies, is_some_and, find_last}
+use Rattle.condition_rules.specs.Words.{is_one_text, includes, implies, is_some_and, find_last}
 use Rattle.condition_rules.specs.Holds.{all_hold, governing}
 use Rattle.recipe_data.specs.declared.recipe.VariantRow.{VariantRow}
 use Rattle.recipe_data.specs.Right.{is_count_of}
@@ -38,9 +38,9 @@ last-filter a b (x ∷ xs) = elim (cases_Bool (a x)) [
   | inr f ↦ rw (f, last-filter a b xs) (sym (or-none (find_last (λ x. a x && b x) xs)))
 ]
 
-only : (values xs : List Text) → not (list_any (λ value. not (among values value)) xs) ≡ includes values xs
+only : (values xs : List Text) → not (list_any (λ value. not (is_one_text values value)) xs) ≡ includes values xs
 only values [] = refl
-only values (x ∷ xs) = elim (cases_Bool (among values x)) [ inl t ↦ rw t (only values xs) | inr f ↦ rw f refl ]
+only values (x ∷ xs) = elim (cases_Bool (is_one_text values x)) [ inl t ↦ rw t (only values xs) | inr f ↦ rw f refl ]
 
 filled : (xs : List Text) → list_any (λ value. true) xs ≡ nat_lt 0 (length xs)
 filled [] = refl
@@ -59,7 +59,7 @@ module _ (problem : Problem) (graph : Content) (name : Text) (node : Node) (here
 
   allows-kept : (row : VariantRow) → keeps_rule (is_in graph) (allows_rule name variant row) ≡ allows (values_at node.variants variant) row
   allows-kept row = rw (
-    there (world_of problem) graph name node here (has_value variant (λ value. not (among row.values value))),
+    there (world_of problem) graph name node here (has_value variant (λ value. not (is_one_text row.values value))),
     only row.values (values_at node.variants variant),
     count-kept row.kind,
   ) refl

@@ -3,23 +3,23 @@ use Rattle.std.specs.Prelude.{Bool, true, false, ◌==◌, List, [], Option, Som
 use Rattle.std.specs.List.{list_any}
 use Rattle.std.specs.Option.{option_eq}
 use Rattle.std.specs.Str.{bytes_eq}
-use Rattle.clause_formulas.specs.Rules.{Rule, fact, isnt, if_so}
+use Rattle.clause_formulas.specs.Rules.{Proposition, fact, isnt, if_so}
 use Rattle.graph_core.specs.Graphs.{Text}
 use Rattle.graph_core.specs.declared.node.Node.{Node}
 use Rattle.graph_core.specs.declared.node.Kinds.{Kinds}
 use Rattle.graph_core.specs.declared.node.Origin.{Origin}
 use Rattle.graph_core.specs.declared.node.Origin.TheVariants.{Built, External, Installed}
 use Rattle.condition_rules.specs.Words.{is_some_and}
-use Rattle.problem.specs.Problems.{Problem, entry_of, externals_in, record_at, same_compiler}
+use Rattle.problem.specs.Problems.{Problem, package_entry_of, externals_in, record_at, same_compiler}
 use Rattle.problem.specs.Records.{kept_dependencies}
 use Rattle.reuse_db.specs.declared.record.Record.{Record}
 use Rattle.graph_rules.specs.Kept.{external_node, installed_node}
-use Rattle.literal_table.specs.Choices.{offered}
+use Rattle.literal_table.specs.Choices.{choice_values}
 use Rattle.literal_table.specs.Tables.{Table, block_of}
 use Rattle.literal_table.specs.declared.block.Block.{Block}
-use Rattle.graph_formulas.specs.Facts.{Word, node_has, has_origin, has_version, has_variants, has_compiler, has_os, has_target, has_prefix, has_edge}
-use Rattle.graph_formulas.specs.Lists.{◌and◌, given, named, each}
-use Rattle.graph_formulas.specs.Edges.{no_kinds}
+use Rattle.graph_formulas.specs.Facts.{GraphWord, node_has, has_origin, has_version, has_variants, has_compiler, has_os, has_target, has_prefix, has_edge}
+use Rattle.graph_formulas.specs.Lists.{◌and◌, settled_test, one_keeps, each_keeps}
+use Rattle.graph_formulas.specs.Edges.{empty_kinds}
 
 -- ---- origins
 
@@ -39,7 +39,7 @@ installs hash origin = elim origin [ Built ↦ false | External place ↦ false 
 
 abbrev pub origins_in : Option Block → List Origin
 origins_in None = []
-origins_in (Some b) = offered b.origins
+origins_in (Some b) = choice_values b.origins
 
 -- the origins that the table offers a name
 abbrev pub origins_of : Table → Text → List Origin
@@ -48,9 +48,9 @@ origins_of table name = origins_in (block_of table name)
 -- ---- attributes
 
 -- the node of the name has all attributes of this one but the origin
-abbrev pub same_rule : Text → Node → Rule Word
+abbrev pub same_rule : Text → Node → Proposition GraphWord
 same_rule name k =
-    given (bytes_eq name k.name)
+    settled_test (bytes_eq name k.name)
     and fact (node_has name (has_version (λ version. bytes_eq version k.version)))
     and fact (node_has name (has_variants k.variants))
     and fact (node_has name (has_compiler (λ compiler. option_eq same_compiler compiler k.compiler)))
@@ -61,12 +61,12 @@ same_rule name k =
 -- ---- edges
 
 -- an edge has the kinds link and run alone, as recorded
-abbrev pub kinds_rule : Text → Text → Kinds → Rule Word
+abbrev pub kinds_rule : Text → Text → Kinds → Proposition GraphWord
 kinds_rule name child kinds =
     fact (has_edge name child (record kinds { build = false }))
-    and isnt (fact (has_edge name child (record no_kinds { build = true })))
-    and if_so (fact (has_edge name child (record no_kinds { link = true }))) (given kinds.link)
-    and if_so (fact (has_edge name child (record no_kinds { run = true }))) (given kinds.run)
+    and isnt (fact (has_edge name child (record empty_kinds { build = true })))
+    and if_so (fact (has_edge name child (record empty_kinds { link = true }))) (settled_test kinds.link)
+    and if_so (fact (has_edge name child (record empty_kinds { run = true }))) (settled_test kinds.run)
 
 abbrev pub is_child_name : Problem → Record → Text → Bool
 is_child_name problem entry name =
@@ -74,27 +74,29 @@ is_child_name problem entry name =
 
 module _ (problem : Problem) (children : List Text) where
   -- the child is there as the installed node of that hash, with its edge
-  abbrev pub child_rule : Text → (Text × Kinds) → Rule Word
+  abbrev pub child_rule : Text → (Text × Kinds) → Proposition GraphWord
   child_rule name d =
-      named (record_at problem d.0) (λ child. fact (node_has child.name (has_origin (installs d.0))) and kinds_rule name child.name d.1)
+      one_keeps (record_at problem d.0) (λ child. fact (node_has child.name (has_origin (installs d.0))) and kinds_rule name child.name d.1)
 
   -- an edge goes to a child of the record
-  abbrev pub recorded_rule : Text → Record → Text → Rule Word
-  recorded_rule name entry child = if_so (fact (has_edge name child no_kinds)) (given (is_child_name problem entry child))
+  abbrev pub recorded_rule : Text → Record → Text → Proposition GraphWord
+  recorded_rule name entry child = if_so (fact (has_edge name child empty_kinds)) (settled_test (is_child_name problem entry child))
 
   -- ---- the rule
 
-  abbrev pub origin_rule : Text → Origin → Rule Word
+  abbrev pub origin_rule : Text → Origin → Proposition GraphWord
   origin_rule name Built = fact (node_has name (has_prefix is_none))
   origin_rule name (External place) =
-      named (slice_get (externals_in (entry_of problem name)) place) (λ entry. same_rule name (external_node problem name place entry))
-      and each (λ child. isnt (fact (has_edge name child no_kinds))) children
+      one_keeps (slice_get (externals_in (package_entry_of problem name)) place)
+      (λ entry. same_rule name (external_node problem name place entry))
+      and each_keeps (λ child. isnt (fact (has_edge name child empty_kinds))) children
   origin_rule name (Installed hash) =
-      named (record_at problem hash) (λ entry.
+      one_keeps (record_at problem hash) (λ entry.
       same_rule name (installed_node entry)
-      and each (child_rule name) (kept_dependencies entry)
-      and each (recorded_rule name entry) children)
+      and each_keeps (child_rule name) (kept_dependencies entry)
+      and each_keeps (recorded_rule name entry) children)
 
   -- where the node has an origin, it is as that origin asks
-  abbrev pub kept_rule : List Origin → Text → Rule Word
-  kept_rule origins name = each (λ origin. if_so (fact (node_has name (has_origin (same_origin origin)))) (origin_rule name origin)) origins
+  abbrev pub kept_rule : List Origin → Text → Proposition GraphWord
+  kept_rule origins name = each_keeps (λ origin. if_so (fact (node_has name (has_origin (same_origin origin)))) (origin_rule name origin))
+      origins

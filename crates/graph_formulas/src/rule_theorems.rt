@@ -12,7 +12,7 @@ ghost use Rattle.problem.specs.declared.demand.Demand.{Demand};
 ghost use Rattle.graph_rules.specs.Directives.{keeps_root, keeps_edge, keeps_constraint, keeps_conflict, keeps_requirement};
 ghost use Rattle.graph_rules.specs.Valid.{keeps, keeps_demand};
 ghost use Rattle.graph_rules.specs.declared.rule.Rule.TheVariants as rules;
-ghost use Rattle.literal_table.specs.Tables.{Table, names_of, children_of};
+ghost use Rattle.literal_table.specs.Tables.{Table, table_names, children_of};
 ghost use Rattle.graph_formulas.specs.Words.{names_for};
 ghost use Rattle.graph_formulas.specs.Terms.{known_rule, where_built, where_there};
 ghost use Rattle.graph_formulas.specs.Directives.{root_rule, edge_rule, constraint_rule, conflict_rule, requirement_rule};
@@ -68,43 +68,43 @@ pub fn structure_laws()
         → SpellsProblem problem v path condition table graph
         → all_say v path condition table
         (λ name. where_built name (known_rule (buildable_rule problem name)))
-        (names_of table) ≡ keeps rules.Buildable problem graph }
+        (table_names table) ≡ keeps rules.Buildable problem graph }
     ensures version { (problem : Problem) (v : ℕ → Bool) (path : Text → Text → Statement)
         (condition : Text → Condition → Statement) (table : Table) (graph : Content)
         → SpellsProblem problem v path condition table graph
         → all_say v path condition table
         (λ name. where_built name (known_rule (version_rule problem name)))
-        (names_of table) ≡ keeps rules.Version problem graph }
+        (table_names table) ≡ keeps rules.Version problem graph }
     ensures variant { (problem : Problem) (v : ℕ → Bool) (path : Text → Text → Statement)
         (condition : Text → Condition → Statement) (table : Table) (graph : Content)
         → SpellsProblem problem v path condition table graph
         → HasVariants problem table → all_say v path condition table
         (λ name. where_built name (variants_rule problem (variants_of table name) name))
-        (names_of table) ≡ keeps rules.Variant problem graph }
+        (table_names table) ≡ keeps rules.Variant problem graph }
     ensures compiler { (problem : Problem) (v : ℕ → Bool) (path : Text → Text → Statement)
         (condition : Text → Condition → Statement) (table : Table) (graph : Content)
         → SpellsProblem problem v path condition table graph
         → all_say v path condition table
         (λ name. where_built name (known_rule (compiler_rule problem name)))
-        (names_of table) ≡ keeps rules.Compiler problem graph }
+        (table_names table) ≡ keeps rules.Compiler problem graph }
     ensures machine { (problem : Problem) (v : ℕ → Bool) (path : Text → Text → Statement)
         (condition : Text → Condition → Statement) (table : Table) (graph : Content)
         → SpellsProblem problem v path condition table graph
         → all_say v path condition table
         (λ name. where_built name (known_rule (machine_rule problem name)))
-        (names_of table) ≡ keeps rules.Machine problem graph }
+        (table_names table) ≡ keeps rules.Machine problem graph }
     ensures extra_edge { (problem : Problem) (v : ℕ → Bool) (path : Text → Text → Statement)
         (condition : Text → Condition → Statement) (table : Table) (graph : Content)
         → SpellsProblem problem v path condition table graph
         → all_say v path condition table
         (λ name. where_built name (extra_edges_rule problem (names_for table) (children_of table name) name))
-        (names_of table) ≡ keeps rules.ExtraEdge problem graph }
+        (table_names table) ≡ keeps rules.ExtraEdge problem graph }
     ensures kept { (problem : Problem) (v : ℕ → Bool) (path : Text → Text → Statement)
         (condition : Text → Condition → Statement) (table : Table) (graph : Content)
         → SpellsProblem problem v path condition table graph
         → all_say v path condition table
         (λ name. where_there name (known_rule (kept_rule problem (children_of table name) (origins_of table name) name)))
-        (names_of table) ≡ keeps rules.Kept problem graph }
+        (table_names table) ≡ keeps rules.Kept problem graph }
     ensures provider { (problem : Problem) (v : ℕ → Bool) (path : Text → Text → Statement)
         (condition : Text → Condition → Statement) (table : Table) (graph : Content)
         → SpellsProblem problem v path condition table graph
@@ -115,18 +115,18 @@ pub fn structure_laws()
         (condition : Text → Condition → Statement) (table : Table) (graph : Content)
         → SpellsProblem problem v path condition table graph
         → all_say v path condition table
-        (λ name. of_provider (names_for table) (used_rule problem (names_of table)) name)
+        (λ name. of_provider (names_for table) (used_rule problem (table_names table)) name)
         (virtuals_of table) ≡ keeps rules.UnusedProvider problem graph }
     ensures no_cycle { (problem : Problem) (v : ℕ → Bool) (path : Text → Text → Statement)
         (condition : Text → Condition → Statement) (table : Table) (graph : Content)
         → SpellsProblem problem v path condition table graph
         → all_say v path condition table
         (λ name. where_there name (known_rule (no_cycle_rule problem name)))
-        (names_of table) ≡ keeps rules.Cycle problem graph }
+        (table_names table) ≡ keeps rules.Cycle problem graph }
     ensures reachable { (problem : Problem) (v : ℕ → Bool) (path : Text → Text → Statement)
         (condition : Text → Condition → Statement) (table : Table) (graph : Content)
         → SpellsProblem problem v path condition table graph
         → all_say v path condition table
         (λ name. where_there name (known_rule (reachable_rule problem name)))
-        (names_of table) ≡ keeps rules.Unreachable problem graph }
+        (table_names table) ≡ keeps rules.Unreachable problem graph }
 {}

@@ -7,9 +7,9 @@ use Rattle.clause_store.specs.declared.Label.TheVariants.{Structure}
 use Rattle.clause_store.specs.Clauses.{Clauses, Meets, AllInRange}
 use Rattle.clause_circuits.specs.Growth.{Agree, Grows, MeetsSince, Says as ClausesSay, where_asked}
 use Rattle.clause_circuits.proofs.Composed.{whole, since, Grows-from}
-use Rattle.clause_formulas.specs.Statements.{Statement, eval, any_of}
+use Rattle.clause_formulas.specs.Statements.{Statement, eval, any_statement}
 use Rattle.clause_formulas.specs.declared.defined.Defined.{Defined}
-use Rattle.clause_formulas.specs.Drafts.{value_at, part_at}
+use Rattle.clause_formulas.specs.Drafts.{statement_at, part_at}
 use Rattle.clause_formulas.specs.Gated.{Gated, Fits}
 use Rattle.clause_formulas.specs.Values.{DefinesValues}
 use Rattle.clause_formulas.specs.Allowed.{SaysIn}
@@ -47,7 +47,7 @@ module _ {X : Type 0} (a b : Gated) (S R : (ℕ → Bool) → X → Type 0) (fit
   defined ds fs test values tells = record {
     grows = values.defines.says.grows;
     local = λ v w x g s. (
-      (λ k. sym (eval-agree b.list.vars v w g (value_at ds k) (value-below a b ds fs values.means k)) ∙ s.0 k),
+      (λ k. sym (eval-agree b.list.vars v w g (statement_at ds k) (value-below a b ds fs values.means k)) ∙ s.0 k),
       Fits-agree b.list.vars v w g b.gates values.keeps.below s.1,
     );
     more = λ asked v x s r m. (

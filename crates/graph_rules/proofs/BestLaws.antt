@@ -6,7 +6,7 @@ use Rattle.std.specs.declared.cmp.Ordering.TheVariants.{Less, Equal, Greater}
 use Rattle.std.specs.Cmp.Lexicographic.{slice_cmp, nat_list_cmp_total, texts_ties, same_text}
 use Rattle.graph_core.specs.Graphs.{Content}
 use Rattle.problem.specs.Nodes.{IsWellFormed}
-use Rattle.problem.specs.Problems.{with_budget, entry_of, Problem}
+use Rattle.problem.specs.Problems.{with_budget, package_entry_of, Problem}
 use Rattle.graph_rules.specs.Weights.{version_weight, is_deprecated}
 use Rattle.graph_rules.specs.Costs.{other_values, unused_defaults, provider_weights, criteria, vector}
 use Rattle.graph_rules.specs.Optimal.{IsOptimal}
@@ -27,5 +27,5 @@ one_vector problem a b g h best other =
 
 -- the budget changes no vector
 pub budget_vector : (problem : Problem) (budget : ℕ) (graph : Content) → vector (with_budget budget problem) graph ≡ vector problem graph
-unfolding vector criteria entry_of version_weight is_deprecated other_values unused_defaults provider_weights
+unfolding vector criteria package_entry_of version_weight is_deprecated other_values unused_defaults provider_weights
 budget_vector problem budget graph = refl

@@ -10,7 +10,7 @@ use Rattle.problem.specs.OfKeyedLists.Keyed.{find_key}
 use Rattle.std.specs.Ordering.{eq_by_cmp}
 use Rattle.std.specs.Cmp.Lexicographic.{bytes_decides}
 use Rattle.std.proofs.lemmas.List.Elements.{All-contains}
-use Rattle.problem.specs.OfConditionRules.Words.{among, if_written, is_some_and}
+use Rattle.problem.specs.OfConditionRules.Words.{is_one_text, if_written, is_some_and}
 use Rattle.reachability.specs.Paths.{JoinsEach}
 use Rattle.reachability.proofs.CountLaws.{image_of}
 use Rattle.reachability.proofs.SpreadLaws.{reaches_decides}
@@ -29,7 +29,7 @@ use Rattle.problem.specs.OfConditionRules.Meets.{provides, row_provides}
 use Rattle.problem.specs.OfConditionRules.Holds.{asked_node}
 use Rattle.problem.specs.OfRecipeData.DependRow.{DependRow}
 use Rattle.problem.specs.OfRecipeData.Recipe.{Recipe}
-use Rattle.problem.specs.Problems.{world_of, recipe_at, depends_at, entry_of, externals_in, is_buildable_in, record_at, asked_by, Problem}
+use Rattle.problem.specs.Problems.{world_of, recipe_at, depends_at, package_entry_of, externals_in, is_buildable_in, record_at, asked_by, Problem}
 use Rattle.graph_rules.specs.Built.{keeps_buildable, keeps_extra_edge, is_asked, asking, asked_kinds}
 use Rattle.graph_rules.specs.Kept.{same_attributes, installed_node, is_child, keeps_origin, keeps_kept}
 use Rattle.problem.specs.Records.{kept_dependencies}
@@ -64,10 +64,10 @@ module _ (problem : Problem) (graph : Content) (g : IsGraph graph) (k : keeps_al
       let buildable = at_built (keeps_buildable problem) graph node
       (rule rules.Buildable (slice_get-in structure_rules 0 rules.Buildable refl)) there (built_origin node e) in
       or_left _ _ (or_left _ _ (and_parts (is_some (recipe_at problem node.name))
-      (is_buildable_in (entry_of problem node.name)) buildable).0)
+      (is_buildable_in (package_entry_of problem node.name)) buildable).0)
   known-by node there (External place) e h =
-      let found = some-and (slice_get (externals_in (entry_of problem node.name)) place) _ (and_parts _ _ h).0 in
-      or_left _ _ (or_right _ _ (is_there (externals_in (entry_of problem node.name)) place found.0 found.1))
+      let found = some-and (slice_get (externals_in (package_entry_of problem node.name)) place) _ (and_parts _ _ h).0 in
+      or_left _ _ (or_right _ _ (is_there (externals_in (package_entry_of problem node.name)) place found.0 found.1))
     where
       is_there : {T : Type 0} (xs : List T) (i : ℕ) (x : T) → slice_get xs i ≡ Some x → is_some_list xs ≡ true
       is_there [] i x none = absurd (let wrong : None ≡ Some x = none in cc)
@@ -201,10 +201,10 @@ module _ (problem : Problem) (graph : Content) (g : IsGraph graph) (k : keeps_al
   path_start (next ∷ over) from to steps = known_start from next steps.0
 
   module _ (names : List Text) (c : is_closed problem names ≡ true) where
-    from_known : (name : Text) → is_known problem name ≡ true → has_known problem names name ≡ true → among names name ≡ true
-    from_known name known h = implied (is_known problem name) (among names name) h known
+    from_known : (name : Text) → is_known problem name ≡ true → has_known problem names name ≡ true → is_one_text names name ≡ true
+    from_known name known h = implied (is_known problem name) (is_one_text names name) h known
 
-    edge_closed : (from to : Text) → JoinedIn graph from to → among names from ≡ true → among names to ≡ true
+    edge_closed : (from to : Text) → JoinedIn graph from to → is_one_text names from ≡ true → is_one_text names to ≡ true
     unfolding is_closed
     edge_closed from to there start =
         let edge = edge_of_arc from to there in
@@ -215,18 +215,18 @@ module _ (problem : Problem) (graph : Content) (g : IsGraph graph) (k : keeps_al
         ∙ bytes_eq-itself edge.0.parent) in
         let next = brings up.0 edge.0 up.1 out up.0.origin refl (kept up.0 up.1) in
         let all = list_all-each (λ name. list_all (has_known problem names) (next_names problem name)) names up.0.name (and_parts _ _ c).1
-        (In-among names up.0.name (ap (among names) is_up ∙ start)) in
+        (In-among names up.0.name (ap (is_one_text names) is_up ∙ start)) in
         let known : is_known problem edge.0.child ≡ true = ap (is_known problem) (sym down.2) ∙ known-node down.0 down.1 in
-        ap (among names) (sym edge.3) ∙ from_known edge.0.child known
+        ap (is_one_text names) (sym edge.3) ∙ from_known edge.0.child known
         (list_all-each (has_known problem names) (next_names problem up.0.name) edge.0.child all next)
 
-    path_closed : (over : List Text) (from to : Text) → among names from ≡ true → JoinsEach (JoinedIn graph) from (over ++ to ∷ [])
-        → among names to ≡ true
+    path_closed : (over : List Text) (from to : Text) → is_one_text names from ≡ true → JoinsEach (JoinedIn graph) from (over ++ to ∷ [])
+        → is_one_text names to ≡ true
     path_closed [] from to start steps = edge_closed from to steps.0 start
     path_closed (next ∷ over) from to start steps = path_closed over next to (edge_closed from next steps.0 start) steps.1
 
     -- the name of each node is one of the closed names
-    pub node-closed : (node : Node) → In node graph.nodes → among names node.name ≡ true
+    pub node-closed : (node : Node) → In node graph.nodes → is_one_text names node.name ≡ true
     unfolding keeps keeps_reachable is_closed
     node-closed node there =
         let needed = any-in _ problem.roots (list_all-each (keeps_reachable problem graph) graph.nodes node
@@ -236,9 +236,10 @@ module _ (problem : Problem) (graph : Content) (g : IsGraph graph) (k : keeps_al
         subst (λ (o : Option Text). if_written o (has_known problem names) ≡ true) root.1
         (list_all-each (λ spec. if_written spec.top.name (has_known problem names)) problem.roots needed.0
         (and_parts _ _ c).0 needed.1) in
-        elim (or_cases (bytes_eq root.0 node.name) (reaches_in graph root.0 node.name) root.2) as (λ _. among names node.name ≡ true) [
+        elim (or_cases (bytes_eq root.0 node.name) (reaches_in graph root.0 node.name) root.2) as
+        (λ _. is_one_text names node.name ≡ true) [
           | inl same ↦ let e = bytes_eq-same root.0 node.name same in
-              subst (λ n. among names n ≡ true) e (from_known root.0 (ap (is_known problem) e ∙ known-node node there) held)
+              subst (λ n. is_one_text names n ≡ true) e (from_known root.0 (ap (is_known problem) e ∙ known-node node there) held)
           | inr led ↦
               let path = (reaches_decides bytes_eq bytes_decides (arcs_of graph) root.0 node.name).0 led in
               path_closed path.0 root.0 node.name (from_known root.0 (path_start path.0 root.0 node.name path.1) held) path.1

@@ -9,7 +9,7 @@ use Rattle.problem.specs.OfGraphCore.Node.{Node}
 use Rattle.problem.specs.OfGraphCore.Compiler.{Compiler}
 use Rattle.problem.specs.OfGraphCore.OriginVariants.{External, Installed}
 use Rattle.graph_rules.proofs.Lists.{some-and, bytes_eq-same}
-use Rattle.problem.specs.Problems.{same_compiler, entry_of, externals_in, record_at, Problem}
+use Rattle.problem.specs.Problems.{same_compiler, package_entry_of, externals_in, record_at, Problem}
 use Rattle.graph_rules.specs.Kept.{Variants, same_variants, same_attributes, installed_node, external_node, keeps_origin, keeps_kept}
 use Rattle.problem.specs.OfSiteSettings.ExternalEntry.{ExternalEntry}
 use Rattle.problem.specs.OfReuseDb.Record.{Record}
@@ -91,10 +91,10 @@ installed-is problem graph node hash h is =
 -- an external node that is kept is its completed entry
 pub external-is : (problem : Problem) (graph : Content) (node : Node) (place : ℕ) → keeps_kept problem graph node ≡ true
     → node.origin ≡ External place
-    → (entry : ExternalEntry) × (slice_get (externals_in (entry_of problem node.name)) place ≡ Some entry)
+    → (entry : ExternalEntry) × (slice_get (externals_in (package_entry_of problem node.name)) place ≡ Some entry)
     × (node ≡ external_node problem node.name place entry)
 unfolding keeps_kept external_node
 external-is problem graph node place h is =
     let kept : keeps_origin problem graph node (External place) ≡ true = ap (keeps_origin problem graph node) (sym is) ∙ h in
-    let found = some-and (slice_get (externals_in (entry_of problem node.name)) place) _ (and_parts _ _ kept).0 in
+    let found = some-and (slice_get (externals_in (package_entry_of problem node.name)) place) _ (and_parts _ _ kept).0 in
     (found.0, found.1, same-node node (external_node problem node.name place found.0) found.2 is)

@@ -11,7 +11,7 @@ use Rattle.reachability.proofs.CountLaws.{has_first, has_later, first_or_later}
 use Rattle.problem.proofs.OfKeyedLists.KeyedLaws.{find_some}
 use Rattle.problem.specs.OfGraphCore.Graphs.{Text, Content, IsGraph, name_of, node_of}
 use Rattle.problem.specs.OfGraphCore.Node.{Node}
-use Rattle.problem.specs.OfConditionRules.Words.{among, is_some_and}
+use Rattle.problem.specs.OfConditionRules.Words.{is_one_text, is_some_and}
 
 abbrev pub In : {X : Type 0} → X → List X → Type 0
 In x [] = ⊥
@@ -152,10 +152,10 @@ pub bytes_eq-itself : (a : List ℕ) → bytes_eq a a ≡ true
 bytes_eq-itself a = (bytes_decides a a).1 refl
 
 -- a text that the test finds among some stands there
-pub In-among : (texts : List Text) (text : Text) → among texts text ≡ true → In text texts
+pub In-among : (texts : List Text) (text : Text) → is_one_text texts text ≡ true → In text texts
 In-among [] text h = absurd cc
 In-among (t ∷ ts) text h =
-    elim (or_cases (bytes_eq text t) (among ts text) h) as (λ _. In text (t ∷ ts)) [
+    elim (or_cases (bytes_eq text t) (is_one_text ts text) h) as (λ _. In text (t ∷ ts)) [
       | inl same ↦
           inl (bytes_eq-same text t same)
       | inr later ↦ inr (In-among ts text later)

@@ -5,7 +5,7 @@ use Rattle.std.specs.Str.{bytes_eq}
 use Rattle.std.specs.Cmp.Lexicographic.{pointwise}
 use Rattle.problem.specs.OfVariantValues.Texts.{with_texts}
 use Rattle.problem.specs.OfGraphCore.Graphs.{Text, Content, edges_from}
-use Rattle.problem.specs.OfConditionRules.Words.{among, includes, if_written, is_some_and}
+use Rattle.problem.specs.OfConditionRules.Words.{is_one_text, includes, if_written, is_some_and}
 use Rattle.problem.specs.Nodes.{has_kind, covers}
 use Rattle.problem.specs.OfGraphCore.Node.{Node}
 use Rattle.problem.specs.OfGraphCore.Edge.{Edge}
@@ -14,12 +14,12 @@ use Rattle.problem.specs.OfConditionRules.Holds.{governing}
 use Rattle.problem.specs.OfRecipeData.VariantRow.{VariantRow}
 use Rattle.problem.specs.OfRecipeData.DependRow.{DependRow}
 use Rattle.problem.specs.OfRecipeData.Right.{is_count_of}
-use Rattle.problem.specs.Problems.{world_of, recipe_at, versions_at, variants_at, depends_at, entry_of, is_buildable_in, same_compiler, applies, asked_by, Problem}
+use Rattle.problem.specs.Problems.{world_of, recipe_at, versions_at, variants_at, depends_at, package_entry_of, is_buildable_in, same_compiler, applies, asked_by, Problem}
 use Rattle.problem.specs.OfSiteSettings.CompilerEntry.{CompilerEntry}
 
 -- Buildable: its package has a recipe, and is buildable by the settings
 unfoldable pub keeps_buildable : Problem → Node → Bool
-keeps_buildable problem node = is_some (recipe_at problem node.name) && is_buildable_in (entry_of problem node.name)
+keeps_buildable problem node = is_some (recipe_at problem node.name) && is_buildable_in (package_entry_of problem node.name)
 
 -- Version: its version is declared
 unfoldable pub keeps_version : Problem → Node → Bool
@@ -51,7 +51,8 @@ keeps_variant problem graph node = has_governed problem graph node && list_all (
 -- ---- Compiler and Machine
 
 abbrev pub supports : CompilerEntry → Node → Bool
-supports entry node = if_written entry.os (λ names. among names node.os) && if_written entry.targets (λ names. among names node.target)
+supports entry node = if_written entry.os (λ names. is_one_text names node.os)
+    && if_written entry.targets (λ names. is_one_text names node.target)
 
 -- Compiler: it has a compiler of the settings, which supports its OS and its target
 unfoldable pub keeps_compiler : Problem → Node → Bool
@@ -62,7 +63,7 @@ keeps_compiler problem node =
 -- Machine: its OS and its target are in the settings
 unfoldable pub keeps_machine : Problem → Node → Bool
 keeps_machine problem node =
-    among problem.settings.os node.os && list_any (λ entry. bytes_eq entry.name node.target) problem.settings.targets
+    is_one_text problem.settings.os node.os && list_any (λ entry. bytes_eq entry.name node.target) problem.settings.targets
 
 -- ---- ExtraEdge
 

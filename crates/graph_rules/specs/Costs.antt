@@ -5,7 +5,7 @@ use Rattle.std.specs.Str.{bytes_eq}
 use Rattle.std.specs.Ordering.{nat_cmp, is_lt}
 use Rattle.std.specs.Cmp.Lexicographic.{slice_cmp}
 use Rattle.graph_core.specs.Graphs.{Text, Content, node_of, edges_from}
-use Rattle.condition_rules.specs.Words.{among, is_some_and}
+use Rattle.condition_rules.specs.Words.{is_one_text, is_some_and}
 use Rattle.problem.specs.Nodes.{is_built}
 use Rattle.graph_core.specs.declared.node.Node.{Node}
 use Rattle.condition_rules.specs.Holds.{governing}
@@ -21,7 +21,7 @@ is_root problem node = list_any (λ spec. is_some_and spec.top.name (bytes_eq no
 
 -- how many of the first texts are none of the second
 abbrev pub missing : List Text → List Text → ℕ
-missing texts others = count_by (λ text. not (among others text)) texts
+missing texts others = count_by (λ text. not (is_one_text others text)) texts
 
 abbrev pub beside_default : (List Text → List Text → ℕ) → List Text → Option VariantRow → ℕ
 beside_default count values None = 0

@@ -14,7 +14,7 @@ use Rattle.problem.specs.OfGraphCore.Kinds.{Kinds}
 use Rattle.problem.specs.OfGraphCore.Origin.{Origin}
 use Rattle.problem.specs.OfGraphCore.OriginVariants.{Built, External, Installed}
 use Rattle.problem.specs.OfRecipeData.VariantRow.{VariantRow}
-use Rattle.problem.specs.Problems.{variants_at, entry_of, externals_in, same_compiler, record_at, Problem}
+use Rattle.problem.specs.Problems.{variants_at, package_entry_of, externals_in, same_compiler, record_at, Problem}
 use Rattle.problem.specs.OfSiteSettings.ExternalEntry.{ExternalEntry}
 use Rattle.problem.specs.OfReuseDb.Record.{Record}
 use Rattle.problem.specs.Records.{kept_dependencies}
@@ -103,7 +103,7 @@ is_child problem entry e = list_any (λ d. is_some_and (record_at problem d.0) (
 abbrev pub keeps_origin : Problem → Content → Node → Origin → Bool
 keeps_origin problem graph node Built = is_none node.prefix
 keeps_origin problem graph node (External place) =
-    is_some_and (slice_get (externals_in (entry_of problem node.name)) place)
+    is_some_and (slice_get (externals_in (package_entry_of problem node.name)) place)
     (λ entry. same_attributes node (external_node problem node.name place entry))
     && list_all (λ e. false) (edges_from graph node.name)
 keeps_origin problem graph node (Installed hash) =

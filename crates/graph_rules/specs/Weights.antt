@@ -11,7 +11,7 @@ use Rattle.version_order.specs.declared.item.Item.{Item as Range}
 use Rattle.graph_core.specs.Graphs.{Text}
 use Rattle.graph_core.specs.declared.node.Compiler.{Compiler}
 use Rattle.recipe_data.specs.declared.recipe.VersionRow.{VersionRow}
-use Rattle.problem.specs.Problems.{versions_at, entry_of, same_compiler, Problem}
+use Rattle.problem.specs.Problems.{versions_at, package_entry_of, same_compiler, Problem}
 use Rattle.site_settings.specs.declared.settings.PackageEntry.{PackageEntry}
 
 -- ---- versions
@@ -46,7 +46,7 @@ place_or_number lists rows (Some row) = place_of lists rows row
 unfoldable pub version_weight : Problem → Text → Text → ℕ
 version_weight problem name version =
     let rows = versions_at problem name in
-    place_or_number (listed_in (entry_of problem name)) rows (find (λ row. bytes_eq row.version version) rows)
+    place_or_number (listed_in (package_entry_of problem name)) rows (find (λ row. bytes_eq row.version version) rows)
 
 unfoldable pub is_deprecated : Problem → Text → Text → Bool
 is_deprecated problem name version = list_any (λ row. bytes_eq row.version version && row.deprecated) (versions_at problem name)

@@ -4,7 +4,7 @@ ghost use Rattle.std.specs.List.Sorted.{IsPermutation, IsStrictlySortedBy};
 ghost use Rattle.std.specs.Str.{bytes_eq};
 ghost use Rattle.graph_core.specs.Graphs.{Text, Content};
 ghost use Rattle.recipe_data.specs.declared.recipe.VersionRow.{VersionRow};
-ghost use Rattle.problem.specs.Problems.{versions_at, entry_of, with_budget, Problem};
+ghost use Rattle.problem.specs.Problems.{versions_at, package_entry_of, with_budget, Problem};
 ghost use Rattle.graph_rules.specs.Costs.{vector};
 ghost use Rattle.graph_rules.specs.Weights.{listed_in, row_cmp, version_weight};
 ghost use Rattle.graph_rules.specs.Optimal.{IsOptimal};
@@ -17,7 +17,7 @@ use version_order::laws;
 pub fn weights_are_places()
     ensures place { (problem : Problem) (name version : Text) (sorted : List VersionRow) (place : ℕ)
         (row : VersionRow) → IsPermutation (versions_at problem name) sorted
-        → IsStrictlySortedBy (row_cmp (listed_in (entry_of problem name))) sorted
+        → IsStrictlySortedBy (row_cmp (listed_in (package_entry_of problem name))) sorted
         → find (λ r. bytes_eq r.version version) (versions_at problem name) ≡ Some row
         → slice_get sorted place ≡ Some row → version_weight problem name version ≡ place }
     ensures not_declared { (problem : Problem) (name version : Text)

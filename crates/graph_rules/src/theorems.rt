@@ -2,8 +2,8 @@
 ghost use Rattle.std.specs.Prelude.{◌≡◌, ◌↔◌, ◌++◌, ℕ, List, [], true, Some, slice_get, is_some};
 ghost use Rattle.std.specs.List.{list_all};
 ghost use Rattle.problem.specs.OfGraphCore.Graphs.{Text, Content, IsGraph, no_content};
-ghost use Rattle.problem.specs.OfConditionRules.Words.{among};
-ghost use Rattle.problem.specs.Problems.{world_of, entry_of, externals_in, record_at, with_budget};
+ghost use Rattle.problem.specs.OfConditionRules.Words.{is_one_text};
+ghost use Rattle.problem.specs.Problems.{world_of, package_entry_of, externals_in, record_at, with_budget};
 ghost use Rattle.problem.specs.Problems.{Problem};
 ghost use Rattle.problem.specs.OfGraphCore.Node.{Node};
 ghost use Rattle.problem.specs.OfConditionRules.Holds.{governing};
@@ -45,7 +45,7 @@ pub fn rule_laws()
 /// The variants that a node to build must have are those with a governing definition.
 pub fn variant_laws()
     ensures { (problem : Problem) (graph : Content) (node : Node) (variant : Text)
-        → among (governed problem graph node) variant
+        → is_one_text (governed problem graph node) variant
         ≡ is_some (governing (world_of problem) graph node.name variant) }
 {}
 
@@ -53,7 +53,7 @@ pub fn variant_laws()
 pub fn closure_laws()
     ensures { (problem : Problem) (graph : Content) (asked : List Demand) (names : List Text)
         → IsGraph graph → valid_for asked problem graph ≡ true → IsClosure problem names
-        → list_all (λ node. among names node.name) graph.nodes ≡ true }
+        → list_all (λ node. is_one_text names node.name) graph.nodes ≡ true }
 {}
 
 /// A kept node is the node of its record or of its entry.
@@ -65,6 +65,6 @@ pub fn kept_laws()
     ensures external { (problem : Problem) (graph : Content) (node : Node) (place : ℕ)
         → keeps_kept problem graph node ≡ true → node.origin ≡ Origin.External place
         → (entry : ExternalEntry)
-        × (slice_get (externals_in (entry_of problem node.name)) place ≡ Some entry)
+        × (slice_get (externals_in (package_entry_of problem node.name)) place ≡ Some entry)
         × (node ≡ external_node problem node.name place entry) }
 {}

@@ -10,40 +10,42 @@ use Rattle.reachability.proofs.PartLaws.{members_alike}
 use Rattle.level_encoding.proofs.Reached.{exact_same}
 use Rattle.clause_formulas.specs.Statements.{eval}
 use Rattle.level_encoding.specs.declared.input.Arc.{Arc}
-use Rattle.level_encoding.specs.Composed.{row}
-use Rattle.level_encoding.specs.Input.{Input, numbers, same, possible}
-use Rattle.level_encoding.specs.Encoding.{below, width, level_width, level_start, level, is_inside, turns, arc_rules, arcs_rules}
+use Rattle.level_encoding.specs.Composed.{digit_row}
+use Rattle.level_encoding.specs.Input.{LevelData, numbers, same, possible}
+use Rattle.level_encoding.specs.Encoding.{numbers_below, width, level_width, level_start, level, is_inside, turns, arc_rules, arcs_rules}
 use Rattle.level_encoding.proofs.Lists.{In}
 
 -- an arc from a number to itself is not inside a component
-pub inside-self : (s : Input) (a : Arc) → a.parent ≡ a.child → is_inside s a ≡ false
+pub inside-self : (s : LevelData) (a : Arc) → a.parent ≡ a.child → is_inside s a ≡ false
 unfolding is_inside
 inside-self s a e = rw (eq-eqb a.parent a.child e) refl
 
 -- another is where its two numbers are joined
-pub inside-joined : (s : Input) (a : Arc) → a.parent ≢ a.child → is_inside s a ≡ joined same (possible s) a.parent a.child
+pub inside-joined : (s : LevelData) (a : Arc) → a.parent ≢ a.child → is_inside s a ≡ joined same (possible s) a.parent a.child
 unfolding is_inside
 inside-joined s a ne = rw (ne_eqb a.parent a.child ne) refl
 
-pub length-row : (x n : ℕ) → length (row x n) ≡ n
+pub length-row : (x n : ℕ) → length (digit_row x n) ≡ n
 length-row x n = length-map (range_with_len x n) _ ∙ length-range_with_len x n
 
 -- numbers of one component have levels of one length
-pub same-width : (s : Input) (p q : ℕ) → joined same (possible s) p q ≡ true → level_width s p ≡ level_width s q
+pub same-width : (s : LevelData) (p q : ℕ) → joined same (possible s) p q ≡ true → level_width s p ≡ level_width s q
 unfolding level_width
-same-width s p q j = ap width (members_alike same exact_same (possible s) (below (numbers s)) p q j)
+same-width s p q j = ap width (members_alike same exact_same (possible s) (numbers_below (numbers s)) p q j)
 
-pub same-length : (s : Input) (p q : ℕ) → joined same (possible s) p q ≡ true → length (level s p) ≡ length (level s q)
+pub same-length : (s : LevelData) (p q : ℕ) → joined same (possible s) p q ≡ true → length (level s p) ≡ length (level s q)
 unfolding level
 same-length s p q j = length-row (level_start s p) (level_width s p) ∙ same-width s p q j
     ∙ sym (length-row (level_start s q) (level_width s q))
 
-pub turn-length : (s : Input) (x : ℕ) (a : Arc) → is_inside s a ≡ true → length (row x (turns s a)) ≡ length (level s a.parent) - 1
+pub turn-length : (s : LevelData) (x : ℕ) (a : Arc) → is_inside s a ≡ true
+    → length (digit_row x (turns s a)) ≡ length (level s a.parent) - 1
 unfolding level turns
 turn-length s x a i = length-row x (turns s a) ∙ rw (i, length-row (level_start s a.parent) (level_width s a.parent)) refl
 
 -- the rules of an arc stand among those of all, with some turns
-pub arcs-at : (s : Input) (v : ℕ → Bool) (a : Arc) (x : ℕ) (arcs : List Arc) → list_all (eval v) (arcs_rules s x arcs) ≡ true → In a arcs
+pub arcs-at : (s : LevelData) (v : ℕ → Bool) (a : Arc) (x : ℕ) (arcs : List Arc)
+    → list_all (eval v) (arcs_rules s x arcs) ≡ true → In a arcs
     → (y : ℕ) × (list_all (eval v) (arc_rules s y a) ≡ true)
 unfolding arcs_rules
 arcs-at s v a x [] m i = absurd i

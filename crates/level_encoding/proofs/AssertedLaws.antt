@@ -6,7 +6,7 @@ use Rattle.clause_store.specs.declared.Label.TheVariants.{Structure}
 use Rattle.clause_store.specs.Clauses.{Clauses}
 use Rattle.clause_circuits.specs.Growth.{Agree, Says}
 use Rattle.clause_circuits.proofs.Composed.{Extends-refl, Says-then}
-use Rattle.clause_formulas.specs.Statements.{Statement, eval, any_of}
+use Rattle.clause_formulas.specs.Statements.{Statement, eval, any_statement}
 use Rattle.clause_formulas.specs.Built.{assert_on}
 use Rattle.clause_formulas.proofs.DraftLaws.{eval-agree, SaidBelow-le}
 use Rattle.clause_formulas.proofs.Laws.{assert_is}
@@ -23,7 +23,7 @@ unfolding assert_all
 assert_all-none s = refl
 
 pub AllSaidBelow-le : (m n : ℕ) (fs : List Statement) → m ≤ n → AllSaidBelow m fs → AllSaidBelow n fs
-AllSaidBelow-le m n fs h b = SaidBelow-le m n (any_of fs) h b
+AllSaidBelow-le m n fs h b = SaidBelow-le m n (any_statement fs) h b
 
 -- formulas rest on the values of their variables alone
 pub all-agree : (n : ℕ) (v w : ℕ → Bool) → Agree n v w → (fs : List Statement) → AllSaidBelow n fs

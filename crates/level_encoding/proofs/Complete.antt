@@ -8,17 +8,17 @@ use Rattle.std.proofs.lemmas.List.Elements.{All-head, All-tail}
 use Rattle.reachability.specs.Paths.{Path, IsAcyclic, IsFounded, HasArc, reaches, joined, members, rank}
 use Rattle.reachability.proofs.PathLaws.{one_arc, arc_before, last_arc, carried}
 use Rattle.reachability.proofs.PartLaws.{rank_rises, rank_below}
-use Rattle.level_encoding.specs.Counts.{total, count}
+use Rattle.level_encoding.specs.Counts.{total_below, count_below}
 use Rattle.level_encoding.proofs.CountLaws.{total-le}
 use Rattle.level_encoding.proofs.Reached.{exact_same, In-has, reaches-sound, reaches-complete, Path-first}
 use Rattle.clause_store.specs.declared.Lit.{Lit}
 use Rattle.level_encoding.specs.declared.input.Arc.{Arc}
 use Rattle.clause_store.specs.Lits.{lit_true, var_of}
 use Rattle.clause_circuits.specs.Gates.{lit_of}
-use Rattle.clause_formulas.specs.Statements.{Statement, atom, or, eval, any_of, opposite}
-use Rattle.level_encoding.specs.Composed.{implies, row}
-use Rattle.level_encoding.specs.Input.{Input, numbers, same, ends_of, possible, chosen, node, literal_at, is_root, is_target, IsRight}
-use Rattle.level_encoding.specs.Encoding.{below, level_width, level_start, level, turns, turn_start, arc_rules, arcs_rules, node_rules, leaving, begins, way_rules, path_rules, way, path, path_start, leads, ways, constraints}
+use Rattle.clause_formulas.specs.Statements.{Statement, atom, or, eval, any_statement, opposite}
+use Rattle.level_encoding.specs.Composed.{implication_clause, digit_row}
+use Rattle.level_encoding.specs.Input.{LevelData, numbers, same, arc_ends, possible, chosen, node, literal_at, is_root_number, is_asked_target, IsRight}
+use Rattle.level_encoding.specs.Encoding.{numbers_below, level_width, level_start, level, turns, turn_start, arc_rules, arcs_rules, node_rules, arcs_leaving, begins_path, way_rules, path_rules, way, path, path_start, leads, ways, constraints}
 use Rattle.level_encoding.specs.Laws.{HasModel}
 use Rattle.level_encoding.proofs.FormulaLaws.{opposite-from, implies-from, first-or, rising-from, turns-from, number, digits_of, length-digits_of, number-digits_of}
 use Rattle.level_encoding.proofs.Lists.{In, all-in, any-from, In-below, all-flat-from, all-map-from, filter-In, any_of-is}
@@ -49,13 +49,13 @@ nodes-agree n v w a [] b i = refl
 nodes-agree n v w a (l ∷ ls) b zero = lit-agree v w l (a (var_of l) (All-head (λ m. var_of m < n) l ls b))
 nodes-agree n v w a (l ∷ ls) b (suc i) = nodes-agree n v w a ls (All-tail (λ m. var_of m < n) l ls b) i
 
-module _ (s : Input) (v : ℕ → Bool) (right : IsRight s) (acyclic : IsAcyclic (HasArc (chosen s v)))
-    (founded : IsFounded (HasArc (chosen s v)) (λ i. eval v (node s i)) (is_root s)) where
+module _ (s : LevelData) (v : ℕ → Bool) (right : IsRight s) (acyclic : IsAcyclic (HasArc (chosen s v)))
+    (founded : IsFounded (HasArc (chosen s v)) (λ i. eval v (node s i)) (is_root_number s)) where
   within : IsWithin (numbers s) (possible s)
   within = within-from s right
 
   rank_of : ℕ → ℕ
-  rank_of i = rank same (possible s) (chosen s v) (below (numbers s)) i
+  rank_of i = rank same (possible s) (chosen s v) (numbers_below (numbers s)) i
 
   digit : ℕ → ℕ → Bool
   digit i k = get_or (digits_of (level_width s i) (rank_of i)) k false
@@ -86,27 +86,27 @@ module _ (s : Input) (v : ℕ → Bool) (right : IsRight s) (acyclic : IsAcyclic
   unfolding extended
   old x h = rw (lt-ltb x s.first h) refl
 
-  number-has : (i : ℕ) → i < numbers s → Contains (below (numbers s)) i
-  number-has i h = In-has i (below (numbers s)) (In-below (numbers s) i h)
+  number-has : (i : ℕ) → i < numbers s → Contains (numbers_below (numbers s)) i
+  number-has i h = In-has i (numbers_below (numbers s)) (In-below (numbers s) i h)
 
   rank-small : (i : ℕ) → i < numbers s → rank_of i < 2 ^ level_width s i
   unfolding rank_of level_width
   rank-small i h =
       omega (
         arith,
-        rank_below same exact_same (possible s) (chosen s v) acyclic (below (numbers s)) i (number-has i h),
+        rank_below same exact_same (possible s) (chosen s v) acyclic (numbers_below (numbers s)) i (number-has i h),
         width-enough
-            (members same (possible s) (below (numbers s)) i),
+            (members same (possible s) (numbers_below (numbers s)) i),
       )
 
   digit-at : (i k : ℕ) → i < numbers s → k < level_width s i → extended (level_start s i + k) ≡ digit i k
-  unfolding extended level_start total
+  unfolding extended level_start total_below
   digit-at i k a b =
-      let x = s.first + total (level_width s) i + k in
-      let d : x - s.first ≡ total (level_width s) i + k = omega arith in
+      let x = s.first + total_below (level_width s) i + k in
+      let d : x - s.first ≡ total_below (level_width s) i + k = omega arith in
       rw (
         le-ltb x s.first (omega arith),
-        lt-ltb x (s.first + total (level_width s) (numbers s))
+        lt-ltb x (s.first + total_below (level_width s) (numbers s))
             (omega (arith, b, total-le (level_width s) (suc i) (numbers s) a)),
         d,
       ) (row_at-is (level_width s) digit (numbers s) i k a b)
@@ -119,13 +119,13 @@ module _ (s : Input) (v : ℕ → Bool) (right : IsRight s) (acyclic : IsAcyclic
   unfolding turn_start path_start
   turns-behind = omega arith
 
-  way-at : (p q : ℕ) → leads s q p ≡ true → extended (path_start s q + count (leads s q) p) ≡ leads_now q p
-  unfolding extended path_start ways count total
+  way-at : (p q : ℕ) → leads s q p ≡ true → extended (path_start s q + count_below (leads s q) p) ≡ leads_now q p
+  unfolding extended path_start ways count_below total_below
   way-at p q h =
       let n = leads-within s within p q h in
-      let x = level_start s (numbers s) + total (ways s) q + count (leads s q) p in
-      let d : x - level_start s (numbers s) ≡ total (ways s) q + count (leads s q) p = omega arith in
-      let l : count (leads s q) p < ways s q = count-up (leads s q) (numbers s) p n.0 h in
+      let x = level_start s (numbers s) + total_below (ways s) q + count_below (leads s q) p in
+      let d : x - level_start s (numbers s) ≡ total_below (ways s) q + count_below (leads s q) p = omega arith in
+      let l : count_below (leads s q) p < ways s q = count-up (leads s q) (numbers s) p n.0 h in
       rw (
         le-ltb x s.first (omega (arith, start-le (numbers s))),
         le-ltb x (level_start s (numbers s)) (omega arith),
@@ -133,7 +133,7 @@ module _ (s : Input) (v : ℕ → Bool) (right : IsRight s) (acyclic : IsAcyclic
             (turn_start s) (path-fits s q p n.1 n.0 h),
         d,
       )
-      (row_at-is (ways s) (λ q. passing_at (leads s q) (leads_now q) (numbers s)) (numbers s) q (count (leads s q) p) n.1 l
+      (row_at-is (ways s) (λ q. passing_at (leads s q) (leads_now q) (numbers s)) (numbers s) q (count_below (leads s q) p) n.1 l
       ∙ passing_at-is (leads s q) (leads_now q) (numbers s) p n.0 h)
 
   turn-at : (k : ℕ) → extended (turn_start s + k) ≡ turn_at s.arcs k
@@ -154,7 +154,7 @@ module _ (s : Input) (v : ℕ → Bool) (right : IsRight s) (acyclic : IsAcyclic
 
   chosen-same : chosen s v ≡ chosen s extended
   unfolding chosen
-  chosen-same = ap (map ends_of) (filter-agree _ _ s.arcs lit-same)
+  chosen-same = ap (map arc_ends) (filter-agree _ _ s.arcs lit-same)
 
   also-chosen : (p q : ℕ) → HasArc (chosen s v) p q → HasArc (chosen s extended) p q
   also-chosen p q h = subst (λ arcs. HasArc arcs p q) chosen-same h
@@ -195,12 +195,12 @@ module _ (s : Input) (v : ℕ → Bool) (right : IsRight s) (acyclic : IsAcyclic
         | inl j ↦
             let d = within a.parent a.child (possible-from s a i) in
             let t = inside-joined s a ne ∙ j in
-            rw (arc_rules, t) (rising-from extended (atom a.lit) (level s a.parent) (level s a.child) (row x (turns s a))
+            rw (arc_rules, t) (rising-from extended (atom a.lit) (level s a.parent) (level s a.child) (digit_row x (turns s a))
             (same-length s a.parent a.child j) (turn-length s x a t)
             (turns-from extended (level s a.parent) (level s a.child) x (turns s a) (λ k l. values k l
             ∙ rw (level-is a.parent d.0, level-is a.child d.1) refl))
             (λ u. rw (level-number a.parent d.0, level-number a.child d.1)
-            (rank_rises same exact_same (possible s) (chosen s v) acyclic (below (numbers s)) a.parent a.child
+            (rank_rises same exact_same (possible s) (chosen s v) acyclic (numbers_below (numbers s)) a.parent a.child
             (number-has a.parent d.0) (took u) j)))
         | inr f ↦ rw (arc_rules, inside-joined s a ne ∙ f, ne_eqb a.parent a.child ne) refl
       ]
@@ -219,7 +219,7 @@ module _ (s : Input) (v : ℕ → Bool) (right : IsRight s) (acyclic : IsAcyclic
       ap extended e ∙ values (turns s a + k) ∙ rw (le-ltb (turns s a + k) (turns s a) (omega arith), d) refl))
 
   -- what founds a node ends in an arc
-  arrives : (i : ℕ) → eval v (node s i) ≡ true → (is_root s i ≡ true) ⊎ ((p : ℕ) × HasArc (chosen s v) p i)
+  arrives : (i : ℕ) → eval v (node s i) ≡ true → (is_root_number s i ≡ true) ⊎ ((p : ℕ) × HasArc (chosen s v) p i)
   arrives i h = elim (founded i h) [
     | inl r ↦ inl r
     | inr r ↦ elim (last_arc (HasArc (chosen s v)) r.0 i r.3) [ inl a ↦ inr (r.0, a) | inr w ↦ inr (w.0, w.2) ]
@@ -227,12 +227,12 @@ module _ (s : Input) (v : ℕ → Bool) (right : IsRight s) (acyclic : IsAcyclic
 
   node-met : (i : ℕ) → list_all (eval extended) (node_rules s i) ≡ true
   unfolding node_rules
-  node-met i = by-bool (is_root s i) refl
+  node-met i = by-bool (is_root_number s i) refl
     where
       ends : Statement
-      ends = any_of (map (λ a. atom a.lit) (filter (λ a. eqb a.child i) s.arcs))
+      ends = any_statement (map (λ a. atom a.lit) (filter (λ a. eqb a.child i) s.arcs))
 
-      met : is_root s i ≡ false → (eval extended (opposite (node s i)) || eval extended ends) ≡ true
+      met : is_root_number s i ≡ false → (eval extended (opposite (node s i)) || eval extended ends) ≡ true
       met e = elim (cases_Bool (eval extended (node s i))) [
         | inl t ↦ elim (arrives i (node-same i ∙ t)) [
           | inl r ↦ absurd (false≢true (sym e ∙ r))
@@ -247,11 +247,11 @@ module _ (s : Input) (v : ℕ → Bool) (right : IsRight s) (acyclic : IsAcyclic
             (opposite-from extended (node s i) (λ t. false≢true (sym f ∙ t)))
       ]
 
-      by-bool : (b : Bool) → is_root s i ≡ b → list_all (eval extended) (node_rules s i) ≡ true
+      by-bool : (b : Bool) → is_root_number s i ≡ b → list_all (eval extended) (node_rules s i) ≡ true
       by-bool true e = rw (node_rules, e) refl
       by-bool false e = rw (node_rules, e) (and_from (eval extended (opposite (node s i)) || eval extended ends) true (met e) refl)
 
-  path-to : (p q : ℕ) → is_target s q ≡ true → Path (HasArc (chosen s v)) p q → eval extended (path s p q) ≡ true
+  path-to : (p q : ℕ) → is_asked_target s q ≡ true → Path (HasArc (chosen s v)) p q → eval extended (path s p q) ≡ true
   unfolding way leads_now
   path-to p q target t =
       let l = leads-from s p q target (carried (HasArc (chosen s v)) (HasArc (possible s)) (λ x. x) (chosen-possible s v) p q t) in
@@ -265,18 +265,18 @@ module _ (s : Input) (v : ℕ → Bool) (right : IsRight s) (acyclic : IsAcyclic
       by-bool true e t = reaches-sound (chosen s v) p q (sym (way-at p q e) ∙ (rw (way, e) at t))
       by-bool false e t = absurd (false≢true (rw (way, e) at t))
 
-  way-met : (p q : ℕ) → is_target s q ≡ true → list_all (eval extended) (way_rules s q p) ≡ true
+  way-met : (p q : ℕ) → is_asked_target s q ≡ true → list_all (eval extended) (way_rules s q p) ≡ true
   unfolding way_rules
   way-met p q target =
       and_from (eval extended (or (opposite (path s p q)) (starts s q p)))
-      (list_all (eval extended) (map (λ a. implies (begins s q a) (path s p q)) (leaving s p)))
+      (list_all (eval extended) (map (λ a. implication_clause (begins_path s q a) (path s p q)) (arcs_leaving s p)))
       (first-or extended (path s p q) (starts s q p) (λ t. begun (path-of p q t)))
-      (all-map-from (eval extended) (λ a. implies (begins s q a) (path s p q)) (leaving s p)
-      (λ a m. implies-from extended (begins s q a) (path s p q) (λ t.
+      (all-map-from (eval extended) (λ a. implication_clause (begins_path s q a) (path s p q)) (arcs_leaving s p)
+      (λ a m. implies-from extended (begins_path s q a) (path s p q) (λ t.
       let d = filter-In (λ a. eqb a.parent p) a s.arcs m in
-      leading (any_of-is extended (begins s q) (λ a. eqb a.parent p) s.arcs
-      ∙ any-from (λ a. eqb a.parent p && eval extended (begins s q a)) a s.arcs d.0
-      (and_from (eqb a.parent p) (eval extended (begins s q a)) d.1 t)))))
+      leading (any_of-is extended (begins_path s q) (λ a. eqb a.parent p) s.arcs
+      ∙ any-from (λ a. eqb a.parent p && eval extended (begins_path s q a)) a s.arcs d.0
+      (and_from (eqb a.parent p) (eval extended (begins_path s q a)) d.1 t)))))
     where
       begun : Path (HasArc (chosen s v)) p q → eval extended (starts s q p) ≡ true
       begun t = let f = Path-first (chosen s v) p q t in
@@ -290,9 +290,9 @@ module _ (s : Input) (v : ℕ → Bool) (right : IsRight s) (acyclic : IsAcyclic
             | inr u ↦ arc_before (HasArc (chosen s v)) p r.0 q (chosen-before p r.0 r.1) (path-of r.0 q u)
           ])
 
-  target-of : (q p : ℕ) → leads s q p ≡ true → is_target s q ≡ true
+  target-of : (q p : ℕ) → leads s q p ≡ true → is_asked_target s q ≡ true
   unfolding leads
-  target-of q p h = (and_parts (is_target s q) (reaches same (possible s) p q) h).0
+  target-of q p h = (and_parts (is_asked_target s q) (reaches same (possible s) p q) h).0
 
   -- a choice without a cycle extends to a model of the constraints
   pub extends : HasModel s (constraints s) v
@@ -303,12 +303,12 @@ module _ (s : Input) (v : ℕ → Bool) (right : IsRight s) (acyclic : IsAcyclic
     meets =
         let f = eval extended in
         let a = arcs_rules s (turn_start s) s.arcs in
-        let b = flat_map (node_rules s) (below (numbers s)) in
-        let c = flat_map (path_rules s) (below (numbers s)) in
+        let b = flat_map (node_rules s) (numbers_below (numbers s)) in
+        let c = flat_map (path_rules s) (numbers_below (numbers s)) in
         list_all-append f (a ++ b) c ∙ and_from (list_all f (a ++ b)) (list_all f c)
         (list_all-append f a b ∙ and_from (list_all f a) (list_all f b) (arcs-met (turn_start s) s.arcs (λ a i. i) turn-at)
-        (all-flat-from f (node_rules s) (below (numbers s)) (λ i m. node-met i)))
-        (all-flat-from f (path_rules s) (below (numbers s))
-        (λ q m. all-flat-from f (way_rules s q) (filter (leads s q) (below (numbers s)))
-        (λ p i. way-met p q (target-of q p (filter-In (leads s q) p (below (numbers s)) i).1))));
+        (all-flat-from f (node_rules s) (numbers_below (numbers s)) (λ i m. node-met i)))
+        (all-flat-from f (path_rules s) (numbers_below (numbers s))
+        (λ q m. all-flat-from f (way_rules s q) (filter (leads s q) (numbers_below (numbers s)))
+        (λ p i. way-met p q (target-of q p (filter-In (leads s q) p (numbers_below (numbers s)) i).1))));
   }

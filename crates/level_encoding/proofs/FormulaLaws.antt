@@ -5,8 +5,8 @@ use Rattle.std.proofs.lemmas.Bool.{cases_Bool, or_cases, or_left, or_right, and_
 use Rattle.std.proofs.Math.Nat.{pow-suc}
 use Rattle.std.proofs.lemmas.List.{length-map}
 use Rattle.clause_store.specs.Lits.{var_of}
-use Rattle.clause_formulas.specs.Statements.{Statement, atom, never, or, no, eval, opposite, any_of}
-use Rattle.level_encoding.specs.Composed.{both, implies, rising, row}
+use Rattle.clause_formulas.specs.Statements.{Statement, atom, never, or, no, eval, opposite, any_statement}
+use Rattle.level_encoding.specs.Composed.{conjunction, implication_clause, rising, digit_row}
 
 not-twice : (b : Bool) → b ≡ not (not b)
 not-twice true = refl
@@ -22,8 +22,8 @@ opposite-is v never = refl
 opposite-is v (or f g) = refl
 opposite-is v (no f) = not-twice (eval v f)
 
-both-is : (v : ℕ → Bool) (f g : Statement) → eval v (both f g) ≡ (eval v f && eval v g)
-unfolding both
+both-is : (v : ℕ → Bool) (f g : Statement) → eval v (conjunction f g) ≡ (eval v f && eval v g)
+unfolding conjunction
 both-is v f g = rw (opposite-is v f, opposite-is v g) (turned (eval v f) (eval v g))
   where
     turned : (a b : Bool) → not (not a || (not b || false)) ≡ (a && b)
@@ -32,11 +32,11 @@ both-is v f g = rw (opposite-is v f, opposite-is v g) (turned (eval v f) (eval v
     turned false b = refl
 
 -- where both are said each is
-pub both-parts : (v : ℕ → Bool) (f g : Statement) → eval v (both f g) ≡ true → (eval v f ≡ true) × (eval v g ≡ true)
+pub both-parts : (v : ℕ → Bool) (f g : Statement) → eval v (conjunction f g) ≡ true → (eval v f ≡ true) × (eval v g ≡ true)
 both-parts v f g h = and_parts (eval v f) (eval v g) (sym (both-is v f g) ∙ h)
 
 -- and the other way round
-pub both-from : (v : ℕ → Bool) (f g : Statement) → eval v f ≡ true → eval v g ≡ true → eval v (both f g) ≡ true
+pub both-from : (v : ℕ → Bool) (f g : Statement) → eval v f ≡ true → eval v g ≡ true → eval v (conjunction f g) ≡ true
 both-from v f g a b = both-is v f g ∙ and_from (eval v f) (eval v g) a b
 
 -- a formula and its opposite are not both true
@@ -52,8 +52,8 @@ opposite-from v f h = opposite-is v f ∙ by-bool (eval v f) refl
     by-bool false e = refl
 
 -- what follows is true
-pub implies-at : (v : ℕ → Bool) (f g : Statement) → eval v (implies f g) ≡ true → eval v f ≡ true → eval v g ≡ true
-unfolding implies
+pub implies-at : (v : ℕ → Bool) (f g : Statement) → eval v (implication_clause f g) ≡ true → eval v f ≡ true → eval v g ≡ true
+unfolding implication_clause
 implies-at v f g h t =
     elim (or_cases (eval v (opposite f)) (eval v g || false) h) [
       | inl a ↦ absurd (opposite-at v f a t)
@@ -61,8 +61,8 @@ implies-at v f g h t =
     ]
 
 -- and the other way round
-pub implies-from : (v : ℕ → Bool) (f g : Statement) → (eval v f ≡ true → eval v g ≡ true) → eval v (implies f g) ≡ true
-unfolding implies
+pub implies-from : (v : ℕ → Bool) (f g : Statement) → (eval v f ≡ true → eval v g ≡ true) → eval v (implication_clause f g) ≡ true
+unfolding implication_clause
 implies-from v f g h =
     elim (cases_Bool (eval v f)) [
       | inl t ↦ or_right (eval v (opposite f)) (eval v g || false) (or_left (eval v g) false (h t))
@@ -118,23 +118,28 @@ number-digits_of (suc w) x h =
     by-bool false e ih = omega (arith, ih (x - 0) (omega (arith, leb-false (2 ^ w) x e)))
 
 -- clauses of two and three formulas whose first one is met
-two-at : (v : ℕ → Bool) (r g : Statement) → eval v (any_of (opposite r ∷ g ∷ [])) ≡ true → eval v r ≡ true → eval v g ≡ true
-two-at v r g h t = elim (or_cases (eval v g) false (first-or-at v r (any_of (g ∷ [])) h t)) [ inl x ↦ x | inr x ↦ absurd (false≢true x) ]
+two-at : (v : ℕ → Bool) (r g : Statement) → eval v (any_statement (opposite r ∷ g ∷ [])) ≡ true → eval v r ≡ true → eval v g ≡ true
+two-at v r g h t = elim (or_cases (eval v g) false (first-or-at v r (any_statement (g ∷ [])) h t)) [
+  | inl x ↦ x
+  | inr x ↦
+      absurd (false≢true x)
+]
 
-two-from : (v : ℕ → Bool) (r g : Statement) → (eval v r ≡ true → eval v g ≡ true) → eval v (any_of (opposite r ∷ g ∷ [])) ≡ true
-two-from v r g h = first-or v r (any_of (g ∷ [])) (λ t. or_left (eval v g) false (h t))
+two-from : (v : ℕ → Bool) (r g : Statement) → (eval v r ≡ true → eval v g ≡ true) → eval v (any_statement (opposite r ∷ g ∷ [])) ≡ true
+two-from v r g h = first-or v r (any_statement (g ∷ [])) (λ t. or_left (eval v g) false (h t))
 
-three-at : (v : ℕ → Bool) (r f g : Statement) → eval v (any_of (opposite r ∷ f ∷ g ∷ [])) ≡ true → eval v r ≡ true → (eval v f ≡ true)
+three-at : (v : ℕ → Bool) (r f g : Statement) → eval v (any_statement (opposite r ∷ f ∷ g ∷ [])) ≡ true → eval v r ≡ true
+    → (eval v f ≡ true)
     ⊎ (eval v g ≡ true)
-three-at v r f g h t = elim (or_cases (eval v f) (eval v g || false) (first-or-at v r (any_of (f ∷ g ∷ [])) h t)) [
+three-at v r f g h t = elim (or_cases (eval v f) (eval v g || false) (first-or-at v r (any_statement (f ∷ g ∷ [])) h t)) [
   | inl x ↦ inl x
   | inr x ↦
       elim (or_cases (eval v g) false x) [ inl y ↦ inr y | inr y ↦ absurd (false≢true y) ]
 ]
 
 three-from : (v : ℕ → Bool) (r f g : Statement) → (eval v r ≡ true → (eval v f ≡ true) ⊎ (eval v g ≡ true))
-    → eval v (any_of (opposite r ∷ f ∷ g ∷ [])) ≡ true
-three-from v r f g h = first-or v r (any_of (f ∷ g ∷ []))
+    → eval v (any_statement (opposite r ∷ f ∷ g ∷ [])) ≡ true
+three-from v r f g h = first-or v r (any_statement (f ∷ g ∷ []))
     (λ t. elim (h t) [
       | inl x ↦ or_left (eval v f) (eval v g || false) x
       | inr x ↦
@@ -176,17 +181,17 @@ unfolding rising number
 rising-at v r [] gs ts e n m h = absurd (opposite-at v r (and_parts (eval v (opposite r)) true m).0 h)
 rising-at v r (f ∷ fs) [] ts e n m h = absurd (omega (arith, e))
 rising-at v r (f ∷ fs) (g ∷ gs) [] e n m h =
-    let p = and_parts (eval v (any_of (opposite r ∷ opposite f ∷ []))) (eval v (any_of (opposite r ∷ g ∷ [])) && true) m in
-    let met = two-at v r g (and_parts (eval v (any_of (opposite r ∷ g ∷ []))) true p.1).0 h in
+    let p = and_parts (eval v (any_statement (opposite r ∷ opposite f ∷ []))) (eval v (any_statement (opposite r ∷ g ∷ [])) && true) m in
+    let met = two-at v r g (and_parts (eval v (any_statement (opposite r ∷ g ∷ []))) true p.1).0 h in
     rw (tails v f g fs gs e) (digit-less (eval v f) (eval v g) (shown v fs) (shown v gs) (2 ^ length (map (eval v) gs))
     (small v f g fs gs e) (number-small (map (eval v) gs))
     (inr met) (inl (opposite-at v f (two-at v r (opposite f) p.0 h))) (inl met))
 rising-at v r (f ∷ fs) (g ∷ gs) (t ∷ ts) e n m h =
-    let p = and_parts (eval v (any_of (opposite r ∷ opposite f ∷ g ∷ []))) (eval v (any_of (opposite r ∷ opposite f ∷ t ∷ []))
-    && (eval v (any_of (opposite r ∷ g ∷ t ∷ [])) && list_all (eval v) (rising t fs gs ts))) m in
-    let q = and_parts (eval v (any_of (opposite r ∷ opposite f ∷ t ∷ []))) (eval v (any_of (opposite r ∷ g ∷ t ∷ []))
+    let p = and_parts (eval v (any_statement (opposite r ∷ opposite f ∷ g ∷ []))) (eval v (any_statement (opposite r ∷ opposite f ∷ t ∷ []))
+    && (eval v (any_statement (opposite r ∷ g ∷ t ∷ [])) && list_all (eval v) (rising t fs gs ts))) m in
+    let q = and_parts (eval v (any_statement (opposite r ∷ opposite f ∷ t ∷ []))) (eval v (any_statement (opposite r ∷ g ∷ t ∷ []))
     && list_all (eval v) (rising t fs gs ts)) p.1 in
-    let u = and_parts (eval v (any_of (opposite r ∷ g ∷ t ∷ []))) (list_all (eval v) (rising t fs gs ts)) q.1 in
+    let u = and_parts (eval v (any_statement (opposite r ∷ g ∷ t ∷ []))) (list_all (eval v) (rising t fs gs ts)) q.1 in
     let others : eval v t ≡ true → shown v fs < shown v gs = rising-at v t fs gs ts (omega (arith, e)) (omega (arith, n)) u.1 in
     rw (tails v f g fs gs e) (digit-less (eval v f) (eval v g) (shown v fs) (shown v gs) (2 ^ length (map (eval v) gs))
     (small v f g fs gs e) (number-small (map (eval v) gs))
@@ -220,26 +225,26 @@ rising-from v r (f ∷ fs) (g ∷ gs) [] e n m h =
     let d = first-digit v r f g fs gs e h in
     let z : length (map (eval v) gs) ≡ 0 = length-map gs (eval v) ∙ omega (arith, e, n) in
     let none : shown v gs < 2 ^ 0 = rw z at (number-small (map (eval v) gs)) in
-    and_from (eval v (any_of (opposite r ∷ opposite f ∷ []))) (eval v (any_of (opposite r ∷ g ∷ [])) && true)
+    and_from (eval v (any_statement (opposite r ∷ opposite f ∷ []))) (eval v (any_statement (opposite r ∷ g ∷ [])) && true)
     (two-from v r (opposite f) (λ t. elim (d t).1 [ inl x ↦ untrue v f x | inr x ↦ absurd (omega (arith, none, x)) ]))
-    (and_from (eval v (any_of (opposite r ∷ g ∷ []))) true
+    (and_from (eval v (any_statement (opposite r ∷ g ∷ []))) true
     (two-from v r g (λ t. elim (d t).2 [ inl x ↦ x | inr x ↦ absurd (omega (arith, none, x)) ])) refl)
 rising-from v r (f ∷ fs) (g ∷ gs) (t ∷ ts) e n m h =
     let d = first-digit v r f g fs gs e h in
-    and_from (eval v (any_of (opposite r ∷ opposite f ∷ g ∷ []))) (eval v (any_of (opposite r ∷ opposite f ∷ t ∷ []))
-    && (eval v (any_of (opposite r ∷ g ∷ t ∷ [])) && list_all (eval v) (rising t fs gs ts)))
+    and_from (eval v (any_statement (opposite r ∷ opposite f ∷ g ∷ []))) (eval v (any_statement (opposite r ∷ opposite f ∷ t ∷ []))
+    && (eval v (any_statement (opposite r ∷ g ∷ t ∷ [])) && list_all (eval v) (rising t fs gs ts)))
     (three-from v r (opposite f) g (λ u. elim (d u).0 [ inl x ↦ inl (untrue v f x) | inr x ↦ inr x ]))
-    (and_from (eval v (any_of (opposite r ∷ opposite f ∷ t ∷ []))) (eval v (any_of (opposite r ∷ g ∷ t ∷ []))
+    (and_from (eval v (any_statement (opposite r ∷ opposite f ∷ t ∷ []))) (eval v (any_statement (opposite r ∷ g ∷ t ∷ []))
     && list_all (eval v) (rising t fs gs ts))
     (three-from v r (opposite f) t (λ u. elim (d u).1 [ inl x ↦ inl (untrue v f x) | inr x ↦ inr (m.0.1 x) ]))
-    (and_from (eval v (any_of (opposite r ∷ g ∷ t ∷ []))) (list_all (eval v) (rising t fs gs ts))
+    (and_from (eval v (any_statement (opposite r ∷ g ∷ t ∷ []))) (list_all (eval v) (rising t fs gs ts))
     (three-from v r g t (λ u. elim (d u).2 [ inl x ↦ inl x | inr x ↦ inr (m.0.1 x) ]))
     (rising-from v t fs gs ts (omega (arith, e)) (omega (arith, n)) m.1 m.0.0)))
 
 -- turns that say whether what follows is smaller
 pub turns-from : (v : ℕ → Bool) (fs gs : List Statement) (x n : ℕ)
     → ((k : ℕ) → k < n → v (x + k) ≡ ltb (number (drop (suc k) (map (eval v) fs))) (number (drop (suc k) (map (eval v) gs))))
-    → Turns v fs gs (row x n)
+    → Turns v fs gs (digit_row x n)
 turns-from v [] gs x n h = tt
 turns-from v (f ∷ fs) [] x n h = tt
 turns-from v (f ∷ fs) (g ∷ gs) x zero h = tt

@@ -4,8 +4,8 @@ use Rattle.std.specs.List.{All, list_any, list_all, flat_map, filter, range_with
 use Rattle.std.proofs.lemmas.Bool.{or_cases, or_left, or_right, and_parts, and_from, false≢true, cases_eq}
 use Rattle.std.proofs.lemmas.List.Elements.{All-head, All-tail}
 use Rattle.std.proofs.lemmas.List.Folds.{list_all-append, list_all-map}
-use Rattle.clause_formulas.specs.Statements.{Statement, eval, any_of}
-use Rattle.level_encoding.specs.Encoding.{below}
+use Rattle.clause_formulas.specs.Statements.{Statement, eval, any_statement}
+use Rattle.level_encoding.specs.Encoding.{numbers_below}
 
 abbrev pub In : {A : Type 0} → A → List A → Type 0
 In x [] = ⊥
@@ -61,12 +61,13 @@ all-flat-from f g (y ∷ ys) h = list_all-append f (g y) (flat_map g ys)
 
 -- some formula of the elements that pass
 pub any_of-is : {A : Type 0} (v : ℕ → Bool) (h : A → Statement) (t : A → Bool) (xs : List A)
-    → eval v (any_of (map h (filter t xs))) ≡ list_any (λ x. t x && eval v (h x)) xs
+    → eval v (any_statement (map h (filter t xs))) ≡ list_any (λ x. t x && eval v (h x)) xs
 any_of-is v h t [] = refl
 any_of-is v h t (x ∷ xs) = by-bool (t x) (any_of-is v h t xs)
   where
-    by-bool : (b : Bool) → eval v (any_of (map h (filter t xs))) ≡ list_any (λ x. t x && eval v (h x)) xs
-        → eval v (any_of (map h (cond b (x ∷ filter t xs) (filter t xs)))) ≡ ((b && eval v (h x)) || list_any (λ x. t x && eval v (h x)) xs)
+    by-bool : (b : Bool) → eval v (any_statement (map h (filter t xs))) ≡ list_any (λ x. t x && eval v (h x)) xs
+        → eval v (any_statement (map h (cond b (x ∷ filter t xs) (filter t xs))))
+        ≡ ((b && eval v (h x)) || list_any (λ x. t x && eval v (h x)) xs)
     by-bool true e = ap (λ r. eval v (h x) || r) e
     by-bool false e = e
 
@@ -80,7 +81,7 @@ In-range a (suc n) k l h = elim (cases_eq k a) [
 ]
 
 -- a number is among those below a bound
-pub In-below : (n k : ℕ) → k < n → In k (below n)
+pub In-below : (n k : ℕ) → k < n → In k (numbers_below n)
 In-below n k h = In-range 0 n k (omega arith) (omega (arith, h))
 
 -- the numbers of a range are below its end

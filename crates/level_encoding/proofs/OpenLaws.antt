@@ -14,8 +14,8 @@ use Rattle.clause_formulas.proofs.AllowLaws.{Rule}
 use Rattle.level_encoding.specs.declared.input.Arc.{Arc}
 use Rattle.level_encoding.specs.Composed.{Meets}
 use Rattle.level_encoding.specs.Asserted.{with_vars}
-use Rattle.level_encoding.specs.Input.{Input, IsRight, numbers}
-use Rattle.level_encoding.specs.Encoding.{below, turns, turn_start, leads, arc_rules, arcs_rules, node_rules, way_rules, path_rules, constraints, end}
+use Rattle.level_encoding.specs.Input.{LevelData, IsRight, numbers}
+use Rattle.level_encoding.specs.Encoding.{numbers_below, turns, turn_start, leads, arc_rules, arcs_rules, node_rules, way_rules, path_rules, constraints, end}
 use Rattle.level_encoding.specs.Laws.{AllSaidBelow, IsSound}
 use Rattle.level_encoding.proofs.Lists.{all-at, all-flat-at, In-at, In-below, In-filter}
 use Rattle.level_encoding.proofs.AssertedLaws.{all-agree, AllSaidBelow-le}
@@ -30,32 +30,33 @@ each-open n fs i f h e b asked v w a m =
     ap (eval w) e ∙ all-at (eval w) (get_or fs i f) fs (sym (all-agree n v w a fs b) ∙ m) (In-at fs i f h)
 
 -- all rules of an input
-abbrev pub keeping : Input → Rule
+abbrev pub keeping : LevelData → Rule
 keeping s = λ asked v. Meets v (constraints s)
 
 -- the choice rests on the old variables alone
-pub same-kept : (s : Input) (n : ℕ) → IsRight s → end s ≤ n → (asked v w : ℕ → Bool) → Agree n v w → keeping s asked v → keeping s asked w
+pub same-kept : (s : LevelData) (n : ℕ) → IsRight s → end s ≤ n → (asked v w : ℕ → Bool) → Agree n v w → keeping s asked v
+    → keeping s asked w
 same-kept s n right h asked v w a m =
     sym (all-agree n v w a (constraints s) (AllSaidBelow-le (end s) n (constraints s) h (constraints-below s right))) ∙ m
 
-rule-parts : (s : Input) (v : ℕ → Bool) → Meets v (constraints s) → Meets v (arcs_rules s (turn_start s) s.arcs)
-    × Meets v (flat_map (node_rules s) (below (numbers s))) × Meets v (flat_map (path_rules s) (below (numbers s)))
+rule-parts : (s : LevelData) (v : ℕ → Bool) → Meets v (constraints s) → Meets v (arcs_rules s (turn_start s) s.arcs)
+    × Meets v (flat_map (node_rules s) (numbers_below (numbers s))) × Meets v (flat_map (path_rules s) (numbers_below (numbers s)))
 unfolding constraints
 rule-parts s v m =
     let a = arcs_rules s (turn_start s) s.arcs in
-    let b = flat_map (node_rules s) (below (numbers s)) in
-    let c = flat_map (path_rules s) (below (numbers s)) in
+    let b = flat_map (node_rules s) (numbers_below (numbers s)) in
+    let c = flat_map (path_rules s) (numbers_below (numbers s)) in
     let x = and_parts (list_all (eval v) (a ++ b)) (list_all (eval v) c) (sym (list_all-append (eval v) (a ++ b) c) ∙ m) in
     let y = and_parts (list_all (eval v) a) (list_all (eval v) b) (sym (list_all-append (eval v) a b) ∙ x.0) in
     (y.0, y.1, x.1)
 
 -- the rules of all arcs are among the constraints
-pub arcs-kept : (s : Input) (x : ℕ) (arcs : List Arc) → x ≡ turn_start s → arcs ≡ s.arcs → (v : ℕ → Bool) → Meets v (constraints s)
+pub arcs-kept : (s : LevelData) (x : ℕ) (arcs : List Arc) → x ≡ turn_start s → arcs ≡ s.arcs → (v : ℕ → Bool) → Meets v (constraints s)
     → Meets v (arcs_rules s x arcs)
 arcs-kept s x arcs e f v m = rw (e, f) ((rule-parts s v m).0)
 
 -- the rules of the arcs that are left are those of the next one and of the others
-arc-parts : (s : Input) (x n : ℕ) (arcs : List Arc) (d : Arc) (v : ℕ → Bool) → n < length arcs → Meets v (arcs_rules s x (drop n arcs))
+arc-parts : (s : LevelData) (x n : ℕ) (arcs : List Arc) (d : Arc) (v : ℕ → Bool) → n < length arcs → Meets v (arcs_rules s x (drop n arcs))
     → Meets v (arc_rules s x (get_or arcs n d)) × Meets v (arcs_rules s (x + turns s (get_or arcs n d)) (drop (n + 1) arcs))
 unfolding arcs_rules
 arc-parts s x n arcs d v h m =
@@ -67,34 +68,34 @@ arc-parts s x n arcs d v h m =
     ∙ sym (ap (λ xs. list_all (eval v) (arcs_rules s x xs)) e) ∙ m)
 
 -- so are those of the arcs that are left
-pub arcs-left : (s : Input) (x t n : ℕ) (arcs : List Arc) (d : Arc) → n < length arcs → t ≡ turns s (get_or arcs n d)
+pub arcs-left : (s : LevelData) (x t n : ℕ) (arcs : List Arc) (d : Arc) → n < length arcs → t ≡ turns s (get_or arcs n d)
     → ((v : ℕ → Bool) → Meets v (constraints s) → Meets v (arcs_rules s x (drop n arcs)))
     → (v : ℕ → Bool) → Meets v (constraints s) → Meets v (arcs_rules s (x + t) (drop (n + 1) arcs))
 arcs-left s x t n arcs d h e left v m = rw e ((arc-parts s x n arcs d v h (left v m)).1)
 
 -- the rules of an arc may still be met
-pub arc-open : (s : Input) (n x i : ℕ) (arcs : List Arc) (d : Arc) → IsRight s → end s ≤ n → i < length arcs
+pub arc-open : (s : LevelData) (n x i : ℕ) (arcs : List Arc) (d : Arc) → IsRight s → end s ≤ n → i < length arcs
     → ((v : ℕ → Bool) → Meets v (constraints s) → Meets v (arcs_rules s x (drop i arcs)))
     → (asked v w : ℕ → Bool) → Agree n v w → keeping s asked v → Meets w (arc_rules s x (get_or arcs i d))
 arc-open s n x i arcs d right h lt left asked v w a m = (arc-parts s x i arcs d w lt (left w (same-kept s n right h asked v w a m))).0
 
 -- so may those of a node
-pub node-open : (s : Input) (n i : ℕ) → IsRight s → end s ≤ n → i < numbers s → (asked v w : ℕ → Bool) → Agree n v w → keeping s asked v
+pub node-open : (s : LevelData) (n i : ℕ) → IsRight s → end s ≤ n → i < numbers s → (asked v w : ℕ → Bool) → Agree n v w → keeping s asked v
     → Meets w (node_rules s i)
 node-open s n i right h lt asked v w a m =
-    all-flat-at (eval w) (node_rules s) i (below (numbers s)) (rule-parts s w (same-kept s n right h asked v w a m)).1
+    all-flat-at (eval w) (node_rules s) i (numbers_below (numbers s)) (rule-parts s w (same-kept s n right h asked v w a m)).1
     (In-below (numbers s) i lt)
 
-way-kept : (s : Input) (q p : ℕ) → IsRight s → (v : ℕ → Bool) → Meets v (constraints s) → leads s q p ≡ true → Meets v (way_rules s q p)
+way-kept : (s : LevelData) (q p : ℕ) → IsRight s → (v : ℕ → Bool) → Meets v (constraints s) → leads s q p ≡ true → Meets v (way_rules s q p)
 unfolding path_rules
 way-kept s q p right v m t =
     let d = leads-within s (within-from s right) p q t in
-    all-flat-at (eval v) (way_rules s q) p (filter (leads s q) (below (numbers s)))
-    (all-flat-at (eval v) (path_rules s) q (below (numbers s)) (rule-parts s v m).2 (In-below (numbers s) q d.1))
-    (In-filter (leads s q) p (below (numbers s)) (In-below (numbers s) p d.0) t)
+    all-flat-at (eval v) (way_rules s q) p (filter (leads s q) (numbers_below (numbers s)))
+    (all-flat-at (eval v) (path_rules s) q (numbers_below (numbers s)) (rule-parts s v m).2 (In-below (numbers s) q d.1))
+    (In-filter (leads s q) p (numbers_below (numbers s)) (In-below (numbers s) p d.0) t)
 
 -- and those of a path
-pub way-open : (s : Input) (n q p : ℕ) → IsRight s → end s ≤ n → (asked v w : ℕ → Bool) → Agree n v w → keeping s asked v
+pub way-open : (s : LevelData) (n q p : ℕ) → IsRight s → end s ≤ n → (asked v w : ℕ → Bool) → Agree n v w → keeping s asked v
     → Meets w (cond (leads s q p) (way_rules s q p) [])
 way-open s n q p right h asked v w a m = by-bool (leads s q p) (way-kept s q p right w (same-kept s n right h asked v w a m))
   where
@@ -112,7 +113,7 @@ more-open old new p e h =
     }
 
 -- each choice that is sound extends over the new variables, and from there over the clauses
-pub input-open : (s : Input) (old made new : Clauses) → IsRight s → s.first ≡ old.vars → made ≡ with_vars old (end s)
+pub input-open : (s : LevelData) (old made new : Clauses) → IsRight s → s.first ≡ old.vars → made ≡ with_vars old (end s)
     → Allows made new (keeping s) → Allows old new (λ asked v. IsSound s v)
 input-open s old made new right first e x =
     let le : old.vars ≤ end s = omega (arith, first, first-le s right) in

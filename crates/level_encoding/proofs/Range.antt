@@ -8,10 +8,10 @@ use Rattle.clause_store.specs.declared.Lit.{Lit}
 use Rattle.level_encoding.specs.declared.input.Arc.{Arc}
 use Rattle.clause_store.specs.Lits.{var_of}
 use Rattle.clause_circuits.specs.Gates.{lit_of}
-use Rattle.clause_formulas.specs.Statements.{Statement, atom, never, or, no, opposite, any_of, SaidBelow}
-use Rattle.level_encoding.specs.Composed.{both, implies, rising, row}
-use Rattle.level_encoding.specs.Input.{Input, numbers, possible, node, literal_at, is_root, IsRight}
-use Rattle.level_encoding.specs.Encoding.{below, level_width, level_start, level, leads, path_start, way, path, turn_start, is_inside, turns, arc_rules, arcs_rules, node_rules, leaving, begins, way_rules, path_rules, constraints, end}
+use Rattle.clause_formulas.specs.Statements.{Statement, atom, never, or, no, opposite, any_statement, SaidBelow}
+use Rattle.level_encoding.specs.Composed.{conjunction, implication_clause, rising, digit_row}
+use Rattle.level_encoding.specs.Input.{LevelData, numbers, possible, node, literal_at, is_root_number, IsRight}
+use Rattle.level_encoding.specs.Encoding.{numbers_below, level_width, level_start, level, leads, path_start, way, path, turn_start, is_inside, turns, arc_rules, arcs_rules, node_rules, arcs_leaving, begins_path, way_rules, path_rules, constraints, end}
 use Rattle.level_encoding.specs.Laws.{AllSaidBelow}
 use Rattle.level_encoding.proofs.Lists.{In, all-in, range-In, filter-In}
 use Rattle.level_encoding.proofs.Room.{level-fits, path-fits, turn_start-le}
@@ -23,12 +23,12 @@ opposite-below n never h = h
 opposite-below n (or f g) h = h
 opposite-below n (no f) h = h
 
-both-below : (n : ℕ) (f g : Statement) → SaidBelow n f → SaidBelow n g → SaidBelow n (both f g)
-unfolding both
+both-below : (n : ℕ) (f g : Statement) → SaidBelow n f → SaidBelow n g → SaidBelow n (conjunction f g)
+unfolding conjunction
 both-below n f g a b = (opposite-below n f a, (opposite-below n g b, tt))
 
-implies-below : (n : ℕ) (f g : Statement) → SaidBelow n f → SaidBelow n g → SaidBelow n (implies f g)
-unfolding implies
+implies-below : (n : ℕ) (f g : Statement) → SaidBelow n f → SaidBelow n g → SaidBelow n (implication_clause f g)
+unfolding implication_clause
 implies-below n f g a b = (opposite-below n f a, (b, tt))
 
 rising-below : (n : ℕ) (r : Statement) (fs gs ts : List Statement) → SaidBelow n r → AllSaidBelow n fs → AllSaidBelow n gs
@@ -59,11 +59,11 @@ all-map : {A : Type 0} (n : ℕ) (h : A → Statement) (xs : List A) → ((x : A
 all-map n h [] s = tt
 all-map n h (x ∷ xs) s = (s x (inl refl), all-map n h xs (λ y i. s y (inr i)))
 
-any-below : (n : ℕ) (fs : List Statement) → AllSaidBelow n fs → SaidBelow n (any_of fs)
+any-below : (n : ℕ) (fs : List Statement) → AllSaidBelow n fs → SaidBelow n (any_statement fs)
 any-below n [] a = tt
 any-below n (f ∷ fs) a = (a.0, any-below n fs a.1)
 
-module _ (s : Input) (right : IsRight s) where
+module _ (s : LevelData) (right : IsRight s) where
   within : IsWithin (numbers s) (possible s)
   within = within-from s right
 
@@ -83,7 +83,7 @@ module _ (s : Input) (right : IsRight s) where
       along (l ∷ ls) zero b = omega (arith, first-le, All-head (λ m. var_of m < s.first) l ls b)
       along (l ∷ ls) (suc i) b = along ls i (All-tail (λ m. var_of m < s.first) l ls b)
 
-  row-below : (x m : ℕ) → x + m ≤ end s → AllSaidBelow (end s) (row x m)
+  row-below : (x m : ℕ) → x + m ≤ end s → AllSaidBelow (end s) (digit_row x m)
   row-below x m h = all-map (end s) (λ y. atom (lit_of y)) (range_with_len x m) (λ y i. let l = range-In x m y i in omega (arith, l, h))
 
   level-below : (i : ℕ) → i < numbers s → AllSaidBelow (end s) (level s i)
@@ -97,18 +97,18 @@ module _ (s : Input) (right : IsRight s) where
     | inr f ↦ rw (way, f) tt
   ]
 
-  step-below : (q : ℕ) (a : Arc) → In a s.arcs → SaidBelow (end s) (begins s q a)
-  unfolding begins
+  step-below : (q : ℕ) (a : Arc) → In a s.arcs → SaidBelow (end s) (begins_path s q a)
+  unfolding begins_path
   step-below q a i = elim (cases_Bool (eqb a.child q)) [
-    | inl t ↦ rw (begins, t) (arc-below a i)
-    | inr f ↦ rw (begins, f) (both-below (end s) (atom a.lit) (path s a.child q) (arc-below a i) (path-below a.child q))
+    | inl t ↦ rw (begins_path, t) (arc-below a i)
+    | inr f ↦ rw (begins_path, f) (both-below (end s) (atom a.lit) (path s a.child q) (arc-below a i) (path-below a.child q))
   ]
 
   pub arc_rules-below : (x : ℕ) (a : Arc) → In a s.arcs → x + turns s a ≤ end s → AllSaidBelow (end s) (arc_rules s x a)
   unfolding arc_rules
   arc_rules-below x a i h = elim (cases_Bool (is_inside s a)) [
     | inl t ↦ let d = within a.parent a.child (possible-from s a i) in
-        rw (arc_rules, t) (rising-below (end s) (atom a.lit) (level s a.parent) (level s a.child) (row x (turns s a)) (arc-below a i)
+        rw (arc_rules, t) (rising-below (end s) (atom a.lit) (level s a.parent) (level s a.child) (digit_row x (turns s a)) (arc-below a i)
         (level-below a.parent d.0) (level-below a.child d.1) (row-below x (turns s a) h))
     | inr f ↦ elim (cases_Bool (eqb a.parent a.child)) [
       | inl e ↦ rw (arc_rules, f, e) (opposite-below (end s) (atom a.lit) (arc-below a i), tt)
@@ -132,7 +132,7 @@ module _ (s : Input) (right : IsRight s) where
 
   pub node_rules-below : (i : ℕ) → AllSaidBelow (end s) (node_rules s i)
   unfolding node_rules
-  node_rules-below i = elim (cases_Bool (is_root s i)) [
+  node_rules-below i = elim (cases_Bool (is_root_number s i)) [
     | inl t ↦ rw (node_rules, t) tt
     | inr f ↦ rw (node_rules, f) (
       (
@@ -148,27 +148,27 @@ module _ (s : Input) (right : IsRight s) where
   pub way_rules-below : (q p : ℕ) → AllSaidBelow (end s) (way_rules s q p)
   unfolding way_rules
   way_rules-below q p =
-      let own : (a : Arc) → In a (leaving s p) → SaidBelow (end s) (begins s q a) =
+      let own : (a : Arc) → In a (arcs_leaving s p) → SaidBelow (end s) (begins_path s q a) =
       λ a i. step-below q a (filter-In (λ a. eqb a.parent p) a s.arcs i).0 in (
         (
           opposite-below (end s) (path s p q) (path-below p q),
-          any-below (end s) (map (begins s q) (leaving s p))
-              (all-map (end s) (begins s q) (leaving s p) own),
+          any-below (end s) (map (begins_path s q) (arcs_leaving s p))
+              (all-map (end s) (begins_path s q) (arcs_leaving s p) own),
         ),
-        all-map (end s) (λ a. implies (begins s q a) (path s p q)) (leaving s p)
-            (λ a i. implies-below (end s) (begins s q a) (path s p q) (own a i) (path-below p q)),
+        all-map (end s) (λ a. implication_clause (begins_path s q a) (path s p q)) (arcs_leaving s p)
+            (λ a i. implies-below (end s) (begins_path s q a) (path s p q) (own a i) (path-below p q)),
       )
 
   path_rules-below : (q : ℕ) → AllSaidBelow (end s) (path_rules s q)
   unfolding path_rules
-  path_rules-below q = all-flat (end s) (way_rules s q) (filter (leads s q) (below (numbers s))) (λ p m. way_rules-below q p)
+  path_rules-below q = all-flat (end s) (way_rules s q) (filter (leads s q) (numbers_below (numbers s))) (λ p m. way_rules-below q p)
 
   pub constraints-below : AllSaidBelow (end s) (constraints s)
   unfolding constraints
   constraints-below =
       let a = arcs_rules s (turn_start s) s.arcs in
-      let b = flat_map (node_rules s) (below (numbers s)) in
-      all-append (end s) (a ++ b) (flat_map (path_rules s) (below (numbers s)))
+      let b = flat_map (node_rules s) (numbers_below (numbers s)) in
+      all-append (end s) (a ++ b) (flat_map (path_rules s) (numbers_below (numbers s)))
       (all-append (end s) a b (arcs_rules-below (turn_start s) s.arcs (λ a i. i) turns-fit)
-      (all-flat (end s) (node_rules s) (below (numbers s)) (λ i m. node_rules-below i)))
-      (all-flat (end s) (path_rules s) (below (numbers s)) (λ q m. path_rules-below q))
+      (all-flat (end s) (node_rules s) (numbers_below (numbers s)) (λ i m. node_rules-below i)))
+      (all-flat (end s) (path_rules s) (numbers_below (numbers s)) (λ q m. path_rules-below q))

@@ -9,17 +9,17 @@ use Rattle.reachability.proofs.ReachLaws.{begins_at_root, told_by_path}
 use Rattle.level_encoding.proofs.Reached.{exact_same, joined-from}
 use Rattle.level_encoding.specs.declared.input.Arc.{Arc}
 use Rattle.clause_store.specs.Lits.{lit_true}
-use Rattle.clause_formulas.specs.Statements.{atom, or, eval, any_of, opposite}
-use Rattle.level_encoding.specs.Composed.{implies, row, Meets}
-use Rattle.level_encoding.specs.Input.{Input, numbers, same, possible, chosen, node, is_root, IsRight}
-use Rattle.level_encoding.specs.Encoding.{below, level, turns, turn_start, arc_rules, arcs_rules, node_rules, leaving, begins, way_rules, path_rules, path, leads, constraints}
+use Rattle.clause_formulas.specs.Statements.{atom, or, eval, any_statement, opposite}
+use Rattle.level_encoding.specs.Composed.{implication_clause, digit_row, Meets}
+use Rattle.level_encoding.specs.Input.{LevelData, numbers, same, possible, chosen, node, is_root_number, IsRight}
+use Rattle.level_encoding.specs.Encoding.{numbers_below, level, turns, turn_start, arc_rules, arcs_rules, node_rules, arcs_leaving, begins_path, way_rules, path_rules, path, leads, constraints}
 use Rattle.level_encoding.specs.Laws.{IsSound, IsExact, StartsChosen}
 use Rattle.level_encoding.proofs.FormulaLaws.{opposite-at, implies-at, first-or-at, rising-at, number}
 use Rattle.level_encoding.proofs.Lists.{In, any-to, all-flat-at, all-map-at, any_of-is, In-below, In-filter}
 use Rattle.level_encoding.proofs.ArcLaws.{inside-self, inside-joined, same-length, turn-length, arcs-at}
 use Rattle.level_encoding.proofs.Choices.{chosen-from, chosen-to, chosen-possible, possible-from, path-leads, IsWithin, leads-within, leads-from, leads-path, starts, starts-to, starts-from, node-within, within-from}
 
-module _ (s : Input) (v : ℕ → Bool) (right : IsRight s) (starts_chosen : StartsChosen s v) (met : Meets v (constraints s)) where
+module _ (s : LevelData) (v : ℕ → Bool) (right : IsRight s) (starts_chosen : StartsChosen s v) (met : Meets v (constraints s)) where
   within : IsWithin (numbers s) (possible s)
   within = within-from s right
 
@@ -27,13 +27,13 @@ module _ (s : Input) (v : ℕ → Bool) (right : IsRight s) (starts_chosen : Sta
   level_value i = number (map (eval v) (level s i))
 
   parts : (list_all (eval v) (arcs_rules s (turn_start s) s.arcs) ≡ true)
-      × (list_all (eval v) (flat_map (node_rules s) (below (numbers s))) ≡ true)
-      × (list_all (eval v) (flat_map (path_rules s) (below (numbers s))) ≡ true)
+      × (list_all (eval v) (flat_map (node_rules s) (numbers_below (numbers s))) ≡ true)
+      × (list_all (eval v) (flat_map (path_rules s) (numbers_below (numbers s))) ≡ true)
   unfolding constraints
   parts =
       let a = arcs_rules s (turn_start s) s.arcs in
-      let b = flat_map (node_rules s) (below (numbers s)) in
-      let c = flat_map (path_rules s) (below (numbers s)) in
+      let b = flat_map (node_rules s) (numbers_below (numbers s)) in
+      let c = flat_map (path_rules s) (numbers_below (numbers s)) in
       let x = and_parts (list_all (eval v) (a ++ b)) (list_all (eval v) c) (sym (list_all-append (eval v) (a ++ b) c) ∙ met) in
       let y = and_parts (list_all (eval v) a) (list_all (eval v) b) (sym (list_all-append (eval v) a b) ∙ x.0) in
       (y.0, y.1, x.1)
@@ -51,7 +51,7 @@ module _ (s : Input) (v : ℕ → Bool) (right : IsRight s) (starts_chosen : Sta
       by-cases (inr ne) x h =
           let j = joined-from (possible s) a.parent a.child (one_arc (HasArc (possible s)) a.parent a.child (possible-from s a i)) back in
           let t = inside-joined s a ne ∙ j in
-          rising-at v (atom a.lit) (level s a.parent) (level s a.child) (row x (turns s a)) (same-length s a.parent a.child j)
+          rising-at v (atom a.lit) (level s a.parent) (level s a.child) (digit_row x (turns s a)) (same-length s a.parent a.child j)
           (turn-length s x a t) (rw (arc_rules, t) at h) l
 
   rises : (p q : ℕ) → HasArc (chosen s v) p q → Path (HasArc (possible s)) q p → level_value p < level_value q
@@ -64,15 +64,16 @@ module _ (s : Input) (v : ℕ → Bool) (right : IsRight s) (starts_chosen : Sta
   acyclic : IsAcyclic (HasArc (chosen s v))
   acyclic = acyclic_by_parts (HasArc (possible s)) (HasArc (chosen s v)) (chosen-possible s v) level_value rises
 
-  back : (i : ℕ) → eval v (node s i) ≡ true → (is_root s i ≡ true) ⊎ ((p : ℕ) × HasArc (chosen s v) p i)
+  back : (i : ℕ) → eval v (node s i) ≡ true → (is_root_number s i ≡ true) ⊎ ((p : ℕ) × HasArc (chosen s v) p i)
   unfolding node_rules
-  back i h = by-bool (is_root s i) refl (all-flat-at (eval v) (node_rules s) i (below (numbers s)) parts.1
+  back i h = by-bool (is_root_number s i) refl (all-flat-at (eval v) (node_rules s) i (numbers_below (numbers s)) parts.1
       (In-below (numbers s) i (node-within s v i h)))
     where
-      by-bool : (b : Bool) → is_root s i ≡ b → list_all (eval v) (node_rules s i) ≡ true → (b ≡ true) ⊎ ((p : ℕ) × HasArc (chosen s v) p i)
+      by-bool : (b : Bool) → is_root_number s i ≡ b → list_all (eval v) (node_rules s i) ≡ true → (b ≡ true)
+          ⊎ ((p : ℕ) × HasArc (chosen s v) p i)
       by-bool true e t = inl refl
       by-bool false e t =
-          let ends = any_of (map (λ a. atom a.lit) (filter (λ a. eqb a.child i) s.arcs)) in
+          let ends = any_statement (map (λ a. atom a.lit) (filter (λ a. eqb a.child i) s.arcs)) in
           let u : ((eval v (opposite (node s i)) || eval v ends) && true) ≡ true = rw (node_rules, e) at t in
           elim (or_cases (eval v (opposite (node s i))) (eval v ends) (and_parts (eval v (opposite (node s i)) || eval v ends) true u).0) [
             | inl x ↦ absurd (opposite-at v (node s i) x h)
@@ -87,7 +88,7 @@ module _ (s : Input) (v : ℕ → Bool) (right : IsRight s) (starts_chosen : Sta
   pub sound : IsSound s v
   sound = record {
     acyclic = acyclic;
-    founded = begins_at_root same exact_same (chosen s v) acyclic (λ i. eval v (node s i) ≡ true) (λ i. is_root s i ≡ true)
+    founded = begins_at_root same exact_same (chosen s v) acyclic (λ i. eval v (node s i) ≡ true) (λ i. is_root_number s i ≡ true)
         (λ i h. elim (back i h) [ inl r ↦ inl r | inr r ↦ inr (r.0, starts_chosen r.0 i r.1, r.1) ]);
   }
 
@@ -95,27 +96,27 @@ module _ (s : Input) (v : ℕ → Bool) (right : IsRight s) (starts_chosen : Sta
   unfolding path_rules
   ways-met p q h =
       let d = leads-within s within p q h in
-      all-flat-at (eval v) (way_rules s q) p (filter (leads s q) (below (numbers s)))
-      (all-flat-at (eval v) (path_rules s) q (below (numbers s)) parts.2 (In-below (numbers s) q d.1))
-      (In-filter (leads s q) p (below (numbers s)) (In-below (numbers s) p d.0) h)
+      all-flat-at (eval v) (way_rules s q) p (filter (leads s q) (numbers_below (numbers s)))
+      (all-flat-at (eval v) (path_rules s) q (numbers_below (numbers s)) parts.2 (In-below (numbers s) q d.1))
+      (In-filter (leads s q) p (numbers_below (numbers s)) (In-below (numbers s) p d.0) h)
 
   way-starts : (p q : ℕ) → eval v (path s p q) ≡ true → eval v (starts s q p) ≡ true
   unfolding way_rules
   way-starts p q t =
       let m = ways-met p q (path-leads s v p q t) in
       first-or-at v (path s p q) (starts s q p) (and_parts (eval v (or (opposite (path s p q)) (starts s q p)))
-      (list_all (eval v) (map (λ a. implies (begins s q a) (path s p q)) (leaving s p))) m).0 t
+      (list_all (eval v) (map (λ a. implication_clause (begins_path s q a) (path s p q)) (arcs_leaving s p))) m).0 t
 
   starts-way : (p q : ℕ) → leads s q p ≡ true → eval v (starts s q p) ≡ true → eval v (path s p q) ≡ true
   unfolding way_rules
   starts-way p q h t =
       let m = and_parts (eval v (or (opposite (path s p q)) (starts s q p)))
-      (list_all (eval v) (map (λ a. implies (begins s q a) (path s p q)) (leaving s p))) (ways-met p q h) in
-      let f = any-to (λ a. eqb a.parent p && eval v (begins s q a)) s.arcs
-      (sym (any_of-is v (begins s q) (λ a. eqb a.parent p) s.arcs) ∙ t) in
-      let y = and_parts (eqb f.0.parent p) (eval v (begins s q f.0)) f.2 in
-      implies-at v (begins s q f.0) (path s p q)
-      (all-map-at (eval v) (λ a. implies (begins s q a) (path s p q)) f.0 (leaving s p) m.1
+      (list_all (eval v) (map (λ a. implication_clause (begins_path s q a) (path s p q)) (arcs_leaving s p))) (ways-met p q h) in
+      let f = any-to (λ a. eqb a.parent p && eval v (begins_path s q a)) s.arcs
+      (sym (any_of-is v (begins_path s q) (λ a. eqb a.parent p) s.arcs) ∙ t) in
+      let y = and_parts (eqb f.0.parent p) (eval v (begins_path s q f.0)) f.2 in
+      implies-at v (begins_path s q f.0) (path s p q)
+      (all-map-at (eval v) (λ a. implication_clause (begins_path s q a) (path s p q)) f.0 (arcs_leaving s p) m.1
       (In-filter (λ a. eqb a.parent p) f.0 s.arcs f.1 y.0)) y.1
 
   -- its path literals are true exactly where chosen arcs lead

@@ -11,7 +11,7 @@ use Rattle.clause_circuits.specs.Growth.{Says}
 use Rattle.clause_formulas.specs.Statements.{eval, SaidBelow}
 use Rattle.clause_formulas.proofs.DraftLaws.{SaidBelow-le}
 use Rattle.level_encoding.specs.Asserted.{assert_all, with_vars, levels_on}
-use Rattle.level_encoding.specs.Input.{Input, IsRight, is_target, literal_at}
+use Rattle.level_encoding.specs.Input.{LevelData, IsRight, is_asked_target, literal_at}
 use Rattle.level_encoding.specs.Encoding.{constraints, way, path, paths_of, end}
 use Rattle.level_encoding.specs.Laws.{StartsChosen, SaysPaths, KeepsLevels}
 use Rattle.level_encoding.proofs.AssertedLaws.{assert_all-says}
@@ -20,13 +20,13 @@ use Rattle.level_encoding.proofs.Sound.{sound, exact}
 use Rattle.level_encoding.proofs.Complete.{extends}
 
 -- an asked pair's second is a target
-asked-target : (s : Input) (k : ℕ) (d : ℕ × ℕ) → k < length s.asked → is_target s (get_or s.asked k d).1 ≡ true
-unfolding is_target
+asked-target : (s : LevelData) (k : ℕ) (d : ℕ × ℕ) → k < length s.asked → is_asked_target s (get_or s.asked k d).1 ≡ true
+unfolding is_asked_target
 asked-target s k d h = list_any_at (λ pair. eqb pair.1 (get_or s.asked k d).1) s.asked k d h
     (eq-eqb (get_or s.asked k d).1 (get_or s.asked k d).1 refl)
 
 -- the literals that are answered say so
-pub says-paths : (s : Input) (paths : List (Option Lit)) → IsRight s → paths ≡ paths_of s → (v : ℕ → Bool) → StartsChosen s v
+pub says-paths : (s : LevelData) (paths : List (Option Lit)) → IsRight s → paths ≡ paths_of s → (v : ℕ → Bool) → StartsChosen s v
     → list_all (eval v) (constraints s) ≡ true → SaysPaths s paths v
 unfolding paths_of
 says-paths s paths right f v starts m = λ k d h.
@@ -36,7 +36,7 @@ says-paths s paths right f v starts m = λ k d h.
     rw w (exact s v right starts m pair.0 pair.1 (asked-target s k d h))
 
 -- the literals of paths are over variables that are there
-paths-below : (s : Input) (n : ℕ) (paths : List (Option Lit)) → IsRight s → end s ≤ n → paths ≡ paths_of s
+paths-below : (s : LevelData) (n : ℕ) (paths : List (Option Lit)) → IsRight s → end s ≤ n → paths ≡ paths_of s
     → All (λ path. SaidBelow n (literal_at path)) paths
 unfolding paths_of
 paths-below s n paths right h f =
@@ -45,7 +45,7 @@ paths-below s n paths right h f =
     SaidBelow-le (end s) n (path s pair.0 pair.1) h (path-below s right pair.0 pair.1)))
 
 -- the longer list keeps the three promises
-pub keeps : (s : Input) (old : Clauses) (paths : List (Option Lit)) → IsRight s → s.first ≡ old.vars → paths ≡ paths_of s
+pub keeps : (s : LevelData) (old : Clauses) (paths : List (Option Lit)) → IsRight s → s.first ≡ old.vars → paths ≡ paths_of s
     → KeepsLevels s old (levels_on s old) paths
 unfolding levels_on
 keeps s old paths right first f =
@@ -64,7 +64,7 @@ keeps s old paths right first f =
     }
 
 -- the same of an equal input
-pub levels-kept : (s t : Input) (old new : Clauses) (paths : List (Option Lit)) → IsRight s → s.first ≡ old.vars → t ≡ s
+pub levels-kept : (s t : LevelData) (old new : Clauses) (paths : List (Option Lit)) → IsRight s → s.first ≡ old.vars → t ≡ s
     → new ≡ levels_on t old → paths ≡ paths_of t → KeepsLevels s old new paths
 levels-kept s t old new paths right first e b p =
     let made : new ≡ levels_on s old = b ∙ ap (λ u. levels_on u old) e in

@@ -4,7 +4,7 @@ use Rattle.clause_store.specs.declared.Label.TheVariants.{Structure}
 use Rattle.clause_store.specs.Clauses.{Clauses}
 use Rattle.clause_formulas.specs.Statements.{Statement}
 use Rattle.clause_formulas.specs.Built.{assert_on}
-use Rattle.level_encoding.specs.Input.{Input}
+use Rattle.level_encoding.specs.Input.{LevelData}
 use Rattle.level_encoding.specs.Encoding.{constraints, end}
 
 unfoldable pub assert_all : Clauses → List Statement → Clauses
@@ -15,5 +15,5 @@ abbrev pub with_vars : Clauses → ℕ → Clauses
 with_vars s n = record s { vars = n }
 
 -- the list with the new variables and the clauses of the formulas
-unfoldable pub levels_on : Input → Clauses → Clauses
+unfoldable pub levels_on : LevelData → Clauses → Clauses
 levels_on s old = assert_all (with_vars old (end s)) (constraints s)

@@ -2,26 +2,26 @@
 use Rattle.std.specs.Prelude.{◌≡◌, ℕ, Bool, true, List, [], ◌∷◌, ◌++◌, map}
 use Rattle.std.specs.List.{list_all, range_with_len}
 use Rattle.clause_circuits.specs.Gates.{lit_of}
-use Rattle.clause_formulas.specs.Statements.{Statement, atom, eval, opposite, any_of, all_of}
+use Rattle.clause_formulas.specs.Statements.{Statement, atom, eval, opposite, any_statement, all_statements}
 
-unfoldable pub both : Statement → Statement → Statement
-both f g = all_of (f ∷ g ∷ [])
+unfoldable pub conjunction : Statement → Statement → Statement
+conjunction f g = all_statements (f ∷ g ∷ [])
 
-unfoldable pub implies : Statement → Statement → Statement
-implies f g = any_of (opposite f ∷ g ∷ [])
+unfoldable pub implication_clause : Statement → Statement → Statement
+implication_clause f g = any_statement (opposite f ∷ g ∷ [])
 
 -- as many variables as digits, in a row
-abbrev pub row : ℕ → ℕ → List Statement
-row x digits = map (λ y. atom (lit_of y)) (range_with_len x digits)
+abbrev pub digit_row : ℕ → ℕ → List Statement
+digit_row x digits = map (λ y. atom (lit_of y)) (range_with_len x digits)
 
 -- Where r holds, no digit decides against the first number, and the digit or the turn t decides for it.
 abbrev pub digit_rules : Statement → Statement → Statement → Statement → List Statement
-digit_rules r f g t = any_of (opposite r ∷ opposite f ∷ g ∷ []) ∷ any_of (opposite r ∷ opposite f ∷ t ∷ [])
-    ∷ any_of (opposite r ∷ g ∷ t ∷ []) ∷ []
+digit_rules r f g t = any_statement (opposite r ∷ opposite f ∷ g ∷ []) ∷ any_statement (opposite r ∷ opposite f ∷ t ∷ [])
+    ∷ any_statement (opposite r ∷ g ∷ t ∷ []) ∷ []
 
 -- the last digit decides
 abbrev pub last_rules : Statement → Statement → Statement → List Statement
-last_rules r f g = any_of (opposite r ∷ opposite f ∷ []) ∷ any_of (opposite r ∷ g ∷ []) ∷ []
+last_rules r f g = any_statement (opposite r ∷ opposite f ∷ []) ∷ any_statement (opposite r ∷ g ∷ []) ∷ []
 
 -- Where r holds, the first number is smaller. Both have as many binary digits, the highest first. A turn
 -- says that the digits behind its place make the first number smaller, so there is one fewer of them.

@@ -8,49 +8,49 @@ use Rattle.clause_formulas.specs.Statements.{Statement, atom, never}
 
 -- the literal of each number, the numbers of the roots, the arcs, the pairs whose paths are asked for,
 -- and the first new variable
-pub record Input : Type 0 where
+pub record LevelData : Type 0 where
   pub nodes : List Lit
   pub roots : List ℕ
   pub arcs : List Arc
   pub asked : List (ℕ × ℕ)
   pub first : ℕ
 
-abbrev pub numbers : Input → ℕ
+abbrev pub numbers : LevelData → ℕ
 numbers s = length s.nodes
 
 -- whether two numbers are one
 abbrev pub same : ℕ → ℕ → Bool
 same p q = p == q
 
-abbrev pub ends_of : Arc → ℕ × ℕ
-ends_of a = (a.parent, a.child)
+abbrev pub arc_ends : Arc → ℕ × ℕ
+arc_ends a = (a.parent, a.child)
 
 -- the arcs as pairs of numbers, and those that an assignment chooses
-unfoldable pub possible : Input → List (ℕ × ℕ)
-possible s = map ends_of s.arcs
+unfoldable pub possible : LevelData → List (ℕ × ℕ)
+possible s = map arc_ends s.arcs
 
-unfoldable pub chosen : Input → (ℕ → Bool) → List (ℕ × ℕ)
-chosen s v = map ends_of (filter (λ a. lit_true v a.lit) s.arcs)
+unfoldable pub chosen : LevelData → (ℕ → Bool) → List (ℕ × ℕ)
+chosen s v = map arc_ends (filter (λ a. lit_true v a.lit) s.arcs)
 
 abbrev pub literal_at : Option Lit → Statement
 literal_at None = never
 literal_at (Some l) = atom l
 
-unfoldable pub node : Input → ℕ → Statement
+unfoldable pub node : LevelData → ℕ → Statement
 node s i = literal_at (slice_get s.nodes i)
 
-unfoldable pub is_root : Input → ℕ → Bool
-is_root s i = list_any (λ r. r == i) s.roots
+unfoldable pub is_root_number : LevelData → ℕ → Bool
+is_root_number s i = list_any (λ r. r == i) s.roots
 
 -- some pair asks for paths to q
-unfoldable pub is_target : Input → ℕ → Bool
-is_target s q = list_any (λ pair. pair.1 == q) s.asked
+unfoldable pub is_asked_target : LevelData → ℕ → Bool
+is_asked_target s q = list_any (λ pair. pair.1 == q) s.asked
 
 -- arcs join numbers, and literals are older than the new variables
-pub record IsRight (s : Input) : Type 0 where
+pub record IsRight (s : LevelData) : Type 0 where
   pub ends : All (λ a. (a.parent < numbers s) × (a.child < numbers s)) s.arcs
   pub nodes_old : All (λ l. var_of l < s.first) s.nodes
   pub arcs_old : All (λ a. var_of a.lit < s.first) s.arcs
 
-abbrev pub input_of : List Lit → List ℕ → List Arc → List (ℕ × ℕ) → ℕ → Input
+abbrev pub input_of : List Lit → List ℕ → List Arc → List (ℕ × ℕ) → ℕ → LevelData
 input_of nodes roots arcs asked first = record { nodes = nodes; roots = roots; arcs = arcs; asked = asked; first = first }

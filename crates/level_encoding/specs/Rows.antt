@@ -3,7 +3,7 @@ use Rattle.std.specs.Prelude.{ℕ, [], ◌∷◌}
 use Rattle.clause_circuits.specs.Gates.{lit_of}
 use Rattle.clause_formulas.specs.Statements.{Statement, atom}
 use Rattle.level_encoding.specs.declared.input.Arc.{Arc}
-use Rattle.level_encoding.specs.Input.{Input}
+use Rattle.level_encoding.specs.Input.{LevelData}
 
 abbrev pub arc : ℕ → ℕ → ℕ → Arc
 arc p q x = record { parent = p; child = q; lit = lit_of x }
@@ -13,7 +13,7 @@ abbrev pub holds : ℕ → Statement
 holds x = atom (lit_of x)
 
 -- three numbers, of which two lead to each other and the second to the third; is the third reached from the first?
-abbrev pub loop_and_tail : Input
+abbrev pub loop_and_tail : LevelData
 loop_and_tail = record {
   nodes = lit_of 0 ∷ lit_of 1 ∷ lit_of 2 ∷ [];
   roots = 0 ∷ [];
@@ -23,5 +23,5 @@ loop_and_tail = record {
 }
 
 -- a number that leads to itself
-abbrev pub own_arc : Input
+abbrev pub own_arc : LevelData
 own_arc = record { nodes = lit_of 0 ∷ []; roots = []; arcs = arc 0 0 1 ∷ []; asked = (0, 0) ∷ []; first = 2 }

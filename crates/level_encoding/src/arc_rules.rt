@@ -3,7 +3,7 @@
 ghost use Rattle.std.specs.Prelude.{◌≡◌, ◌+◌, ◌<◌, ◌≤◌, ◌++◌, ◌^◌, true, OnOk};
 ghost use Rattle.clause_formulas.specs.Statements.{atom};
 ghost use Rattle.clause_formulas.specs.Allowed.{Allows};
-ghost use Rattle.level_encoding.specs.Composed.{rising, row, Meets};
+ghost use Rattle.level_encoding.specs.Composed.{rising, digit_row, Meets};
 ghost use Rattle.level_encoding.specs.Input.{IsRight, numbers};
 ghost use Rattle.level_encoding.specs.Encoding.{level, is_inside, turns, turn_start, arc_rules, arcs_rules, constraints, end};
 ghost use Rattle.level_encoding.specs.Asserted.{assert_all};
@@ -55,7 +55,7 @@ fn add_level_rules(
     requires inside { is_inside input.now arc.now ≡ true }
     ensures { OnOk result (rules.new.items ≡ rules.old.items
         ++ rising (atom arc.now.lit) (level input.now arc.now.parent)
-        (level input.now arc.now.child) (row turn (turns input.now arc.now))) }
+        (level input.now arc.now.child) (digit_row turn (turns input.now arc.now))) }
 {
     let parent = level_start(input, plan, arc.parent as usize);
     let child = level_start(input, plan, arc.child as usize);

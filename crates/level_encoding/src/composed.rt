@@ -3,8 +3,8 @@
 ghost use Rattle.std.specs.Prelude.{◌≡◌, ◌+◌, ◌-◌, ◌<◌, ◌≤◌, ◌++◌, ◌∷◌, ◌^◌, IfOk, OnOk, map};
 ghost use Rattle.std.specs.Option.{option_to_list};
 ghost use Rattle.clause_circuits.specs.Gates.{lit_of};
-ghost use Rattle.clause_formulas.specs.Statements.{atom, never, any_of, opposite};
-ghost use Rattle.level_encoding.specs.Composed.{both, implies, last_rules, digit_rules, rising, row};
+ghost use Rattle.clause_formulas.specs.Statements.{atom, never, any_statement, opposite};
+ghost use Rattle.level_encoding.specs.Composed.{conjunction, implication_clause, last_rules, digit_rules, rising, digit_row};
 
 use clause_formulas::Formula;
 use clause_store::{Lit, Var};
@@ -28,9 +28,9 @@ pub(crate) fn never(alloc: Global) -> Formula
 }
 
 /// True where both formulas are.
-#[tactic(auto, unfolding(crate::specs::Composed::both))]
+#[tactic(auto, unfolding(crate::specs::Composed::conjunction))]
 pub(crate) fn both(alloc: Global, f: Formula, g: Formula) -> Result<Formula, AllocError>
-    ensures { IfOk result (λ h. h ≡ both f g) }
+    ensures { IfOk result (λ h. h ≡ conjunction f g) }
 {
     let mut parts = Vec::new(alloc);
     parts.push(f.negated())?;
@@ -39,9 +39,9 @@ pub(crate) fn both(alloc: Global, f: Formula, g: Formula) -> Result<Formula, All
 }
 
 /// True where the second formula is, or the first is not.
-#[tactic(auto, unfolding(crate::specs::Composed::implies))]
+#[tactic(auto, unfolding(crate::specs::Composed::implication_clause))]
 pub(crate) fn implies(alloc: Global, f: Formula, g: Formula) -> Result<Formula, AllocError>
-    ensures { IfOk result (λ h. h ≡ implies f g) }
+    ensures { IfOk result (λ h. h ≡ implication_clause f g) }
 {
     let mut parts = Vec::new(alloc);
     parts.push(f.negated())?;
@@ -51,7 +51,7 @@ pub(crate) fn implies(alloc: Global, f: Formula, g: Formula) -> Result<Formula, 
 
 /// A formula is false, or one of two variables or their negations is true.
 fn rule(alloc: Global, first: Lit, second: Lit, third: Option<Lit>) -> Result<Formula, AllocError>
-    ensures { IfOk result (λ f. f ≡ any_of
+    ensures { IfOk result (λ f. f ≡ any_statement
         (opposite (atom first) ∷ atom second ∷ map atom (option_to_list third))) }
 {
     let mut cases = Vec::new(alloc);
@@ -111,7 +111,8 @@ pub(crate) fn add_rising(
     requires child { q + digits < 2 ^ 64 }
     requires turns { turn + digits ≤ 2 ^ 64 }
     ensures { OnOk result (rules.new.items ≡ rules.old.items
-        ++ rising (atom first) (row p digits) (row q digits) (row turn (digits - 1))) }
+        ++ rising (atom first) (digit_row p digits) (digit_row q digits)
+        (digit_row turn (digits - 1))) }
 {
     match digits {
         0 => {

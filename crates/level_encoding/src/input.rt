@@ -23,9 +23,9 @@ pub struct LevelInput<'a> {
 }
 
 impl<'a> Model for LevelInput<'a> {
-    ghost use Rattle.level_encoding.specs.Input.{Input};
+    ghost use Rattle.level_encoding.specs.Input.{LevelData};
 
-    ghost Value = { Input };
+    ghost Value = { LevelData };
 
     ghost view = { λ i. record { nodes = i.nodes.now; roots = i.roots.now; arcs = i.arcs.now; asked = i.asked.now; first = i.first } };
 }

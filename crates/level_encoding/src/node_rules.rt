@@ -2,11 +2,11 @@
 
 ghost use Rattle.std.specs.Prelude.{◌≡◌, ◌<◌, ◌≤◌, ◌++◌, ◌∷◌, IfOk, OnOk, map};
 ghost use Rattle.std.specs.List.{flat_map};
-ghost use Rattle.clause_formulas.specs.Statements.{atom, any_of, opposite};
+ghost use Rattle.clause_formulas.specs.Statements.{atom, any_statement, opposite};
 ghost use Rattle.clause_formulas.specs.Allowed.{Allows};
 ghost use Rattle.level_encoding.specs.Composed.{Meets};
-ghost use Rattle.level_encoding.specs.Input.{IsRight, numbers, node, is_root};
-ghost use Rattle.level_encoding.specs.Encoding.{below, node_rules, constraints, end};
+ghost use Rattle.level_encoding.specs.Input.{IsRight, numbers, node, is_root_number};
+ghost use Rattle.level_encoding.specs.Encoding.{numbers_below, node_rules, constraints, end};
 ghost use Rattle.level_encoding.specs.Asserted.{assert_all};
 ghost use Rattle.level_encoding.specs.Plan.{IsPlan};
 
@@ -17,9 +17,9 @@ use clause_formulas::Formula;
 use clause_store::ClauseList;
 use std::alloc::{AllocError, Global};
 
-#[tactic(auto, unfolding(crate::specs::Input::is_root))]
+#[tactic(auto, unfolding(crate::specs::Input::is_root_number))]
 fn is_root(input: &LevelInput, i: u64) -> bool
-    ensures { result ≡ is_root input.now i }
+    ensures { result ≡ is_root_number input.now i }
 {
     input.roots().iter().any(|root| *root == i)
 }
@@ -35,7 +35,8 @@ fn node(input: &LevelInput, i: usize) -> Formula
 
 /// The first formula is false, or some arc is chosen.
 fn unless_chosen(first: Formula, arcs: &[Arc], alloc: Global) -> Result<Formula, AllocError>
-    ensures { IfOk result (λ f. f ≡ any_of (opposite first ∷ map (λ a. atom a.lit) arcs.now)) }
+    ensures { IfOk result (λ f. f ≡ any_statement
+        (opposite first ∷ map (λ a. atom a.lit) arcs.now)) }
 {
     let mut cases = Vec::new(alloc);
     cases.push(first.negated())?;
@@ -97,7 +98,8 @@ pub(crate) fn assert_nodes(
     requires plan { IsPlan input.now plan.now }
     requires made { end input.now ≤ clauses.old.vars }
     ensures built { OnOk result (clauses.new
-        ≡ assert_all clauses.old (flat_map (node_rules input.now) (below (numbers input.now)))) }
+        ≡ assert_all clauses.old (flat_map (node_rules input.now)
+        (numbers_below (numbers input.now)))) }
     ensures more { OnOk result (clauses.old.vars ≤ clauses.new.vars) }
     ensures allows { Allows clauses.old clauses.new
         (λ asked v. Meets v (constraints input.now)) }

@@ -2,11 +2,11 @@
 
 ghost use Rattle.std.specs.Prelude.{◌≡◌, ◌<◌, ◌≤◌, ◌++◌, ◌∷◌, [], IfOk, OnOk, map, if◌then◌else◌};
 ghost use Rattle.std.specs.List.{All, flat_map};
-ghost use Rattle.clause_formulas.specs.Statements.{any_of, opposite};
+ghost use Rattle.clause_formulas.specs.Statements.{any_statement, opposite};
 ghost use Rattle.clause_formulas.specs.Allowed.{Allows};
 ghost use Rattle.level_encoding.specs.Composed.{Meets};
 ghost use Rattle.level_encoding.specs.Input.{IsRight, numbers, literal_at};
-ghost use Rattle.level_encoding.specs.Encoding.{below, leads, leaving, begins, way_rules, path_rules, way, path, constraints, end};
+ghost use Rattle.level_encoding.specs.Encoding.{numbers_below, leads, arcs_leaving, begins_path, way_rules, path_rules, way, path, constraints, end};
 ghost use Rattle.level_encoding.specs.Asserted.{assert_all};
 ghost use Rattle.level_encoding.specs.Plan.{IsPlan};
 
@@ -49,7 +49,7 @@ fn path(alloc: Global, input: &LevelInput, plan: &Plan, p: usize, q: usize) -> F
 }
 
 /// An arc begins a path to `q`.
-#[tactic(auto, unfolding(crate::specs::Encoding::begins))]
+#[tactic(auto, unfolding(crate::specs::Encoding::begins_path))]
 fn begins(
     alloc: Global,
     input: &LevelInput,
@@ -60,7 +60,7 @@ fn begins(
     requires plan { IsPlan input.now plan.now }
     requires target { q < numbers input.now }
     requires child { arc.now.child < numbers input.now }
-    ensures { IfOk result (λ f. f ≡ begins input.now q arc.now) }
+    ensures { IfOk result (λ f. f ≡ begins_path input.now q arc.now) }
 {
     if arc.child == q as u64 {
         Ok(Formula::lit(arc.lit))
@@ -79,7 +79,7 @@ fn arcs_from<'a>(input: &LevelInput, plan: &'a Plan, p: usize) -> &'a [Arc]
     requires right { IsRight input.now }
     requires plan { IsPlan input.now plan.now }
     requires number { p < numbers input.now }
-    ensures arcs { result.now ≡ leaving input.now p }
+    ensures arcs { result.now ≡ arcs_leaving input.now p }
     ensures within { All (λ a. a.child < numbers input.now) result.now }
 {
     plan.leaving[p].arcs()
@@ -97,8 +97,9 @@ fn path_begins(
     requires plan { IsPlan input.now plan.now }
     requires target { q < numbers input.now }
     requires number { p < numbers input.now }
-    ensures { IfOk result (λ f. f ≡ any_of
-        (opposite (path input.now p q) ∷ map (begins input.now q) (leaving input.now p))) }
+    ensures { IfOk result (λ f. f ≡ any_statement
+        (opposite (path input.now p q)
+        ∷ map (begins_path input.now q) (arcs_leaving input.now p))) }
 {
     let mut cases = Vec::new(alloc);
     cases.push(path(alloc, input, plan, p, q).negated())?;
@@ -208,7 +209,8 @@ pub(crate) fn assert_paths(
     requires plan { IsPlan input.now plan.now }
     requires made { end input.now ≤ clauses.old.vars }
     ensures built { OnOk result (clauses.new
-        ≡ assert_all clauses.old (flat_map (path_rules input.now) (below (numbers input.now)))) }
+        ≡ assert_all clauses.old (flat_map (path_rules input.now)
+        (numbers_below (numbers input.now)))) }
     ensures more { OnOk result (clauses.old.vars ≤ clauses.new.vars) }
     ensures allows { Allows clauses.old clauses.new
         (λ asked v. Meets v (constraints input.now)) }

@@ -2,9 +2,9 @@
 //! contracts.
 
 ghost use Rattle.std.specs.Prelude.{◌≡◌, ℕ, ◌+◌, ◌*◌, ◌≤◌, Bool, true, false, length, [], ◌∷◌, ◌==◌, ◌&&◌, not};
-ghost use Rattle.clause_formulas.specs.Statements.{any_of, opposite};
-ghost use Rattle.level_encoding.specs.Composed.{both, implies, Meets};
-ghost use Rattle.level_encoding.specs.Input.{Input, IsRight, numbers};
+ghost use Rattle.clause_formulas.specs.Statements.{any_statement, opposite};
+ghost use Rattle.level_encoding.specs.Composed.{conjunction, implication_clause, Meets};
+ghost use Rattle.level_encoding.specs.Input.{LevelData, IsRight, numbers};
 ghost use Rattle.level_encoding.specs.Encoding.{constraints, end};
 ghost use Rattle.level_encoding.specs.Laws.{IsSound, IsExact, StartsChosen, HasModel, AllSaidBelow};
 ghost use Rattle.level_encoding.specs.Rows.{holds, loop_and_tail, own_arc};
@@ -13,14 +13,14 @@ ghost use Rattle.level_encoding.specs.Rows.{holds, loop_and_tail, own_arc};
 /// path formula true exactly where a path leads. Every choice without cycles, in which each node is
 /// founded, has such an assignment.
 pub fn level_laws()
-    ensures sound { (s : Input) (v : ℕ → Bool) → IsRight s → StartsChosen s v
+    ensures sound { (s : LevelData) (v : ℕ → Bool) → IsRight s → StartsChosen s v
         → Meets v (constraints s) → IsSound s v }
-    ensures exact { (s : Input) (v : ℕ → Bool) → IsRight s → StartsChosen s v
+    ensures exact { (s : LevelData) (v : ℕ → Bool) → IsRight s → StartsChosen s v
         → Meets v (constraints s) → IsExact s v }
-    ensures complete { (s : Input) (v : ℕ → Bool) → IsRight s → IsSound s v
+    ensures complete { (s : LevelData) (v : ℕ → Bool) → IsRight s → IsSound s v
         → HasModel s (constraints s) v }
-    ensures within { (s : Input) → IsRight s → AllSaidBelow (end s) (constraints s) }
-    ensures small { (s : Input) → end s ≤ s.first + 2 * (numbers s * numbers s) + length
+    ensures within { (s : LevelData) → IsRight s → AllSaidBelow (end s) (constraints s) }
+    ensures small { (s : LevelData) → end s ≤ s.first + 2 * (numbers s * numbers s) + length
         s.arcs * numbers s }
 {}
 
@@ -28,17 +28,17 @@ pub fn level_laws()
 pub fn worked_levels()
     // One digit for each number of the loop, none for the tail; two numbers lead to it.
     ensures loop_and_tail { constraints loop_and_tail
-        ≡ any_of (opposite (holds 3) ∷ opposite (holds 6) ∷ [])
-        ∷ any_of (opposite (holds 3) ∷ holds 7 ∷ [])
-        ∷ any_of (opposite (holds 4) ∷ opposite (holds 7) ∷ [])
-        ∷ any_of (opposite (holds 4) ∷ holds 6 ∷ [])
-        ∷ any_of (opposite (holds 1) ∷ holds 3 ∷ [])
-        ∷ any_of (opposite (holds 2) ∷ holds 5 ∷ [])
-        ∷ any_of (opposite (holds 8) ∷ both (holds 3) (holds 9) ∷ [])
-        ∷ implies (both (holds 3) (holds 9)) (holds 8)
-        ∷ any_of (opposite (holds 9) ∷ both (holds 4) (holds 8) ∷ holds 5 ∷ [])
-        ∷ implies (both (holds 4) (holds 8)) (holds 9)
-        ∷ implies (holds 5) (holds 9)
+        ≡ any_statement (opposite (holds 3) ∷ opposite (holds 6) ∷ [])
+        ∷ any_statement (opposite (holds 3) ∷ holds 7 ∷ [])
+        ∷ any_statement (opposite (holds 4) ∷ opposite (holds 7) ∷ [])
+        ∷ any_statement (opposite (holds 4) ∷ holds 6 ∷ [])
+        ∷ any_statement (opposite (holds 1) ∷ holds 3 ∷ [])
+        ∷ any_statement (opposite (holds 2) ∷ holds 5 ∷ [])
+        ∷ any_statement (opposite (holds 8) ∷ conjunction (holds 3) (holds 9) ∷ [])
+        ∷ implication_clause (conjunction (holds 3) (holds 9)) (holds 8)
+        ∷ any_statement (opposite (holds 9) ∷ conjunction (holds 4) (holds 8) ∷ holds 5 ∷ [])
+        ∷ implication_clause (conjunction (holds 4) (holds 8)) (holds 9)
+        ∷ implication_clause (holds 5) (holds 9)
         ∷ [] }
     ensures last { end loop_and_tail ≡ 10 }
     // One of two arcs that lead to each other.
@@ -48,8 +48,8 @@ pub fn worked_levels()
     // No arc leads from a number to itself.
     ensures own { constraints own_arc
         ≡ opposite (holds 1)
-        ∷ any_of (opposite (holds 0) ∷ holds 1 ∷ [])
-        ∷ any_of (opposite (holds 2) ∷ holds 1 ∷ [])
-        ∷ implies (holds 1) (holds 2)
+        ∷ any_statement (opposite (holds 0) ∷ holds 1 ∷ [])
+        ∷ any_statement (opposite (holds 2) ∷ holds 1 ∷ [])
+        ∷ implication_clause (holds 1) (holds 2)
         ∷ [] }
 {}

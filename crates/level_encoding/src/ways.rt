@@ -2,7 +2,7 @@
 
 ghost use Rattle.std.specs.Prelude.{true, false, ◌≡◌, ℕ, ◌<◌, ◌+◌, ◌^◌, Some, None, IfOk, OnOk, slice_index_or, if◌then◌else◌};
 ghost use Rattle.clause_circuits.specs.Gates.{lit_of};
-ghost use Rattle.level_encoding.specs.Input.{is_target, numbers};
+ghost use Rattle.level_encoding.specs.Input.{is_asked_target, numbers};
 ghost use Rattle.level_encoding.specs.Encoding.{end, leads, level_start, path_start, turn_start, way};
 ghost use Rattle.level_encoding.specs.Plan.{IsReached, AreWays};
 
@@ -41,9 +41,9 @@ impl WayRow {
 }
 
 /// Whether some pair asks for paths to `q`.
-#[tactic(auto, unfolding(crate::specs::Input::is_target))]
+#[tactic(auto, unfolding(crate::specs::Input::is_asked_target))]
 fn is_target(input: &LevelInput, q: u64) -> bool
-    ensures { result ≡ is_target input.now q }
+    ensures { result ≡ is_asked_target input.now q }
 {
     input.asked().iter().any(|pair| pair.1 == q)
 }
@@ -66,7 +66,7 @@ fn way_lit(leads: bool, variable: u64) -> Option<Lit>
 #[tactic(auto, using(crate::proofs::Reached::table_tells), unfolding(crate::specs::Encoding::leads))]
 fn leads(input: &LevelInput, reached: &PathTable, q: usize, p: usize) -> bool
     requires reached { IsReached input.now reached.now }
-    requires asked { is_target input.now q ≡ true }
+    requires asked { is_asked_target input.now q ≡ true }
     requires target { q < numbers input.now }
     requires number { p < numbers input.now }
     ensures { result ≡ leads input.now q p }
@@ -77,7 +77,7 @@ fn leads(input: &LevelInput, reached: &PathTable, q: usize, p: usize) -> bool
 /// No way leads to what is no target, and no variable stands for one.
 #[tactic(auto, using(crate::proofs::Room::no_ways))]
 fn no_ways(alloc: Global, input: &LevelInput, q: usize) -> WayRow
-    requires { is_target input.now q ≡ false }
+    requires { is_asked_target input.now q ≡ false }
     ensures row { (p : ℕ) → slice_index_or result p None ≡ way input.now q p }
     ensures next { path_start input.now (q + 1) ≡ path_start input.now q }
 {

@@ -3,7 +3,7 @@
 ghost use Rattle.std.specs.Prelude.{◌≡◌, ℕ, ◌<◌, ◌≤◌, ◌^◌, IfOk, length};
 ghost use Rattle.reachability.specs.Paths.{joined, members};
 ghost use Rattle.level_encoding.specs.Input.{IsRight, numbers, same, possible};
-ghost use Rattle.level_encoding.specs.Encoding.{below, width, level_width, end};
+ghost use Rattle.level_encoding.specs.Encoding.{numbers_below, width, level_width, end};
 ghost use Rattle.level_encoding.specs.Plan.{IsReached, AreWidths, AreStarts};
 
 use crate::input::LevelInput;
@@ -26,7 +26,8 @@ pub(crate) fn is_joined(input: &LevelInput, reached: &PathTable, p: usize, q: us
 fn members(input: &LevelInput, reached: &PathTable, q: usize) -> usize
     requires reached { IsReached input.now reached.now }
     requires number { q < numbers input.now }
-    ensures counted { result ≡ members same (possible input.now) (below (numbers input.now)) q }
+    ensures counted { result ≡ members same (possible input.now)
+        (numbers_below (numbers input.now)) q }
     ensures few { result ≤ numbers input.now }
 {
     let mut count = 0;
@@ -71,7 +72,7 @@ pub(crate) fn widths(
 }
 
 /// The first variable of each number's level, and of what follows them.
-#[tactic(auto, unfolding(crate::specs::Encoding::level_start, crate::specs::Counts::total))]
+#[tactic(auto, unfolding(crate::specs::Encoding::level_start, crate::specs::Counts::total_below))]
 pub(crate) fn starts(
     alloc: Global,
     input: &LevelInput,

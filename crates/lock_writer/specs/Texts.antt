@@ -25,10 +25,10 @@ entry_data Built = null
 entry_data (External entry) = number (unsigned entry)
 entry_data (Installed hash) = null
 
-abbrev pub origin_text : Origin → Text
-origin_text Built = codes "built"
-origin_text (External entry) = codes "external"
-origin_text (Installed hash) = codes "installed"
+abbrev pub origin_word : Origin → Text
+origin_word Built = codes "built"
+origin_word (External entry) = codes "external"
+origin_word (Installed hash) = codes "installed"
 
 -- a node: its record with its hash, and where it comes from
 unfoldable pub node_data : Record → Origin → Data
@@ -39,7 +39,7 @@ node_data entry origin = object
     (member (codes "external") (external_data entry.external)
     (member (codes "hash") (string entry.hash)
     (member (codes "name") (string entry.name)
-    (member (codes "origin") (string (origin_text origin))
+    (member (codes "origin") (string (origin_word origin))
     (member (codes "os") (string entry.os)
     (member (codes "target") (string entry.target)
     (member (codes "variants") (object (variant_members entry.variants))

@@ -1,7 +1,7 @@
 //! Nodes as they are written.
 ghost use Rattle.std.specs.Prelude.{◌≡◌, IfOk};
 ghost use Rattle.serde_json.specs.View.{view};
-ghost use Rattle.lock_writer.specs.Texts.{entry_data, node_data, origin_text};
+ghost use Rattle.lock_writer.specs.Texts.{entry_data, node_data, origin_word};
 
 use graph_core::Origin;
 use reuse_db::{Record, record_value};
@@ -40,7 +40,7 @@ fn entry_value(origin: &Origin) -> Value
 }
 
 fn origin_text(origin: &Origin) -> &'static str
-    ensures { result.now ≡ origin_text origin.now }
+    ensures { result.now ≡ origin_word origin.now }
 {
     match origin {
         Origin::Built => "built",

@@ -21,8 +21,8 @@ use Rattle.graph_core.specs.Graphs.{Text, Content, HasNode, name_of, node_of}
 use Rattle.graph_core.specs.declared.node.Edge.{Edge}
 use Rattle.graph_core.specs.declared.node.Kinds.{Kinds}
 use Rattle.graph_core.proofs.GraphLaws.{has_decides}
-use Rattle.lockfile.specs.Children.{all_edges, children_of, edge_to, edges_of, named_by}
-use Rattle.lockfile.specs.Files.{AreProvided, names_of}
+use Rattle.lockfile.specs.Children.{all_edges, locked_children, locked_edge, edges_of, named_by}
+use Rattle.lockfile.specs.Files.{AreProvided, node_names}
 use Rattle.lockfile.specs.Locks.{graph_nodes}
 use Rattle.lockfile.specs.Named.{AreNames, HasEnds}
 use Rattle.lockfile.specs.declared.file.File.{File}
@@ -31,17 +31,17 @@ use Rattle.lockfile.specs.declared.node.LockedNode.{LockedNode}
 -- ---- names by hashes
 
 -- what is named is one of the names
-pub named_there : (nodes : List LockedNode) (hash name : Text) → named_by nodes hash ≡ Some name → Contains (names_of nodes) name
+pub named_there : (nodes : List LockedNode) (hash name : Text) → named_by nodes hash ≡ Some name → Contains (node_names nodes) name
 named_there [] hash name e = absurd (none-some name e)
 named_there (node ∷ nodes) hash name e = named_there-cases (bytes_eq node.described.hash hash) e (named_there nodes hash name)
   where
     named_there-cases : (b : Bool) → option_map (λ (n : LockedNode). n.described.name)
         (cond b (Some node) (find (λ (n : LockedNode). bytes_eq n.described.hash hash) nodes)) ≡ Some name
-        → (named_by nodes hash ≡ Some name → Contains (names_of nodes) name) → Contains (node.described.name ∷ names_of nodes) name
+        → (named_by nodes hash ≡ Some name → Contains (node_names nodes) name) → Contains (node.described.name ∷ node_names nodes) name
     named_there-cases true e rest =
         let same : node.described.name ≡ name = cc in
-        subst (Contains (node.described.name ∷ names_of nodes)) same (has_first node.described.name (names_of nodes))
-    named_there-cases false e rest = has_later node.described.name (names_of nodes) name (rest e)
+        subst (Contains (node.described.name ∷ node_names nodes)) same (has_first node.described.name (node_names nodes))
+    named_there-cases false e rest = has_later node.described.name (node_names nodes) name (rest e)
 
 -- what is left of a list, one element further on
 pub drop_one : {X : Type 0} (xs : List X) (i : ℕ) (x : X) → i < length xs → x ≡ get_or xs i x → drop i xs ≡ x ∷ drop (i + 1) xs
@@ -67,36 +67,37 @@ names_more nodes i node old new lt is names updates q =
 -- ---- edges
 
 edge_ends : (nodes : List LockedNode) (parent : Text) (d : Text × Kinds) (child : Option Text) (e : Edge)
-    → ((name : Text) → child ≡ Some name → Contains (names_of nodes) name) → edge_to parent d child ≡ Some e
-    → (parent ≡ e.parent) × Contains (names_of nodes) e.child
+    → ((name : Text) → child ≡ Some name → Contains (node_names nodes) name) → locked_edge parent d child ≡ Some e
+    → (parent ≡ e.parent) × Contains (node_names nodes) e.child
 edge_ends nodes parent d None e there is = absurd (none-some e is)
 edge_ends nodes parent d (Some name) e there is =
     let same : record { parent = parent; child = name; kinds = d.1 } ≡ e = cc in
-    (ap (λ (x : Edge). x.parent) same, subst (Contains (names_of nodes)) (ap (λ (x : Edge). x.child) same) (there name refl))
+    (ap (λ (x : Edge). x.parent) same, subst (Contains (node_names nodes)) (ap (λ (x : Edge). x.child) same) (there name refl))
 
 from_node : (nodes : List LockedNode) (node : LockedNode) (e : Edge) → Contains (edges_of nodes node) e → (node.described.name ≡ e.parent)
-    × Contains (names_of nodes) e.child
+    × Contains (node_names nodes) e.child
 from_node nodes node e has =
-    let made = given_at (λ (d : Text × Kinds). edge_to node.described.name d (named_by nodes d.0)) (children_of node) e has in
+    let made = given_at (λ (d : Text × Kinds). locked_edge node.described.name d (named_by nodes d.0)) (locked_children node) e has in
     edge_ends nodes node.described.name made.0 (named_by nodes made.0.0) e (named_there nodes made.0.0) made.2
 
 -- the ends of each edge are names of nodes
-pub ends_named : (nodes from : List LockedNode) (e : Edge) → Contains (all_edges nodes from) e → Contains (names_of from) e.parent
-    × Contains (names_of nodes) e.child
+pub ends_named : (nodes from : List LockedNode) (e : Edge) → Contains (all_edges nodes from) e → Contains (node_names from) e.parent
+    × Contains (node_names nodes) e.child
 ends_named nodes [] e has = absurd (lacks_all e has)
 ends_named nodes (node ∷ from) e has = ⊎_elim
     (λ here. let ends = from_node nodes node e here in
-    (subst (Contains (node.described.name ∷ names_of from)) ends.0 (has_first node.described.name (names_of from)), ends.1))
-    (λ later. let ends = ends_named nodes from e later in (has_later node.described.name (names_of from) e.parent ends.0, ends.1))
+    (subst (Contains (node.described.name ∷ node_names from)) ends.0 (has_first node.described.name (node_names from)), ends.1))
+    (λ later. let ends = ends_named nodes from e later in (has_later node.described.name (node_names from) e.parent ends.0, ends.1))
     (Contains-append_cases (edges_of nodes node) (all_edges nodes from) e has)
 
-names_as_nodes : (nodes : List LockedNode) → names_of nodes ≡ map name_of (graph_nodes nodes)
+names_as_nodes : (nodes : List LockedNode) → node_names nodes ≡ map name_of (graph_nodes nodes)
 names_as_nodes [] = refl
 names_as_nodes (node ∷ nodes) = ap (λ names. node.described.name ∷ names) (names_as_nodes nodes)
 
 -- a graph with these nodes has each of their names
 pub has_name : (nodes : List LockedNode) (g : Content)
-    → ((name : Text) → node_of g name ≡ find_key byte_cmp name_of (graph_nodes nodes) name) → (name : Text) → Contains (names_of nodes) name
+    → ((name : Text) → node_of g name ≡ find_key byte_cmp name_of (graph_nodes nodes) name) → (name : Text)
+    → Contains (node_names nodes) name
     → HasNode g name
 has_name nodes g same name has =
     let known = find_known nat_list_cmp_total ties_are_equal name_of (graph_nodes nodes) name
@@ -124,4 +125,4 @@ provided_there nodes g new file providers is same kept given provided =
     (λ k d lt.
     let name = (get_or file.providers k d).1 in
     subst (λ ns. Contains (map name_of ns) name) (sym kept)
-    (has_name nodes g same name (subst (λ ns. Contains (names_of ns) name) (sym is) (provided k d lt))))
+    (has_name nodes g same name (subst (λ ns. Contains (node_names ns) name) (sym is) (provided k d lt))))

@@ -24,7 +24,7 @@ use Rattle.reuse_db.specs.declared.record.Record.{Record}
 use Rattle.lock_writer.specs.Hashes.{node_record}
 use Rattle.lock_writer.specs.Texts.{data_of_node, lock_data, provider_members, root_data}
 use Rattle.lockfile.specs.Again.{Has}
-use Rattle.lockfile.specs.Files.{among, file_at, names_of, node_at, root_at, roots_at}
+use Rattle.lockfile.specs.Files.{node_among, file_at, node_names, node_at, root_at, roots_at}
 use Rattle.serde_json.specs.Read.{read}
 use Rattle.json_readers.specs.Json.{IsJson}
 use Rattle.lockfile.specs.Locks.{IsLock, IsLockOf}
@@ -51,7 +51,7 @@ nodes_again g records fit = items_mapped node_at (data_of_node g records) (locke
 -- the names in the file are those of the nodes
 pub names_same : (g : Content) (records : List Record) (nodes : List Node)
     → ((node : Node) → Contains nodes node → (node_record g records node).name ≡ node.name)
-    → names_of (map (locked g records) nodes) ≡ map name_of nodes
+    → node_names (map (locked g records) nodes) ≡ map name_of nodes
 names_same g records [] each = refl
 names_same g records (node ∷ nodes) each =
     rw (each node (has_first node nodes), names_same g records nodes (λ n has. each n (has_later node nodes n has))) refl
@@ -66,7 +66,7 @@ in_set kept (word ∷ words) q has = in_set (with_text kept word) words q (⊎_e
     (λ new. ⊎_elim (λ same. inl ((adds_text kept word q).1 (inl (sym same)))) (λ later. inr later) (first_or_later word words q new))
     has)
 
-among_again : (names : List Text) (q : Text) → Contains names q → text_of (among (with_texts [] names)) (string q) ≡ Ok q
+among_again : (names : List Text) (q : Text) → Contains names q → text_of (node_among (with_texts [] names)) (string q) ≡ Ok q
 among_again names q has =
     let there : list_any (bytes_eq q) (with_texts [] names) ≡ true =
     (among_decides bytes_eq bytes_decides (with_texts [] names) q).1 (in_set [] names q (inr has)) in
@@ -74,10 +74,10 @@ among_again names q has =
 
 providers_again : (g : Content) (names : List Text) → IsGraph g → names ≡ map name_of g.nodes
     → All (λ (p : Text × Text). Has name_meaning p.0) g.providers
-    → map_of name_meaning (text_of (among (with_texts [] names))) (object (provider_members g.providers)) ≡ Ok g.providers
+    → map_of name_meaning (text_of (node_among (with_texts [] names))) (object (provider_members g.providers)) ≡ Ok g.providers
 providers_again g names graph is virtuals =
     rw (written virtual_of (λ (p : Text × Text). string p.1) g.providers graph.providers)
-    (entries_again (λ (p : Text × Text). string p.1) name_meaning (text_of (among (with_texts [] names))) g.providers (λ p has. (
+    (entries_again (λ (p : Text × Text). string p.1) name_meaning (text_of (node_among (with_texts [] names))) g.providers (λ p has. (
       All-contains (λ (p : Text × Text). Has name_meaning p.0) g.providers p virtuals has,
       among_again names p.1 (subst (λ ns. Contains ns p.1) (sym is)
           (All-contains (λ (p : Text × Text). HasNode g p.1) g.providers p graph.packages has)),
@@ -105,7 +105,7 @@ file_again g records roots graph fit =
     (All-contains (λ (n : Node). IsFormedNode n (node_record g records n)) g.nodes node fit.nodes has).name) in
     rw (
       nodes_again g records fit.nodes,
-      providers_again g (names_of (map (locked g records) g.nodes)) graph named fit.virtuals,
+      providers_again g (node_names (map (locked g records) g.nodes)) graph named fit.virtuals,
       roots_again
           g roots fit.hashes,
     ) refl

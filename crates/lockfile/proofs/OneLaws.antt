@@ -10,7 +10,7 @@ use Rattle.keyed_lists.specs.Keyed.{IsInOrder, find_key}
 use Rattle.graph_core.specs.Graphs.{Text, Content, IsGraph, node_of, edge_of, provider_of}
 use Rattle.reuse_db.specs.Canonical.{right_hash}
 use Rattle.reuse_db.specs.declared.record.Record.{Record}
-use Rattle.lockfile.specs.Faults.{twice_named, wrongly_hashed, dangling, IsSound, IsFileFault, IsFaultOf, IsLockFault}
+use Rattle.lockfile.specs.Faults.{twice_named, wrongly_hashed, dangling_in_file, IsSoundFile, IsFileFault, IsLockFaultOf, IsLockFault}
 use Rattle.lockfile.specs.Files.{file_at}
 use Rattle.lockfile.specs.Locks.{IsGraphOf, IsLockOf, IsLock}
 use Rattle.lockfile.specs.declared.fault.LockFault.{LockFault}
@@ -73,7 +73,7 @@ name_fault None later = later
 name_fault (Some name) later = Some (TwiceNamed name)
 
 abbrev fault_in : File → Option LockFault
-fault_in file = name_fault (twice_named file.nodes) (hash_fault file (wrongly_hashed file.nodes) (child_fault (dangling file)))
+fault_in file = name_fault (twice_named file.nodes) (hash_fault file (wrongly_hashed file.nodes) (child_fault (dangling_in_file file)))
 
 is_fault_in : (file : File) (f : LockFault) → IsFileFault file f → f ≢ OutOfMemory → fault_in file ≡ Some f
 is_fault_in file NotJson is other = absurd is
@@ -83,19 +83,19 @@ is_fault_in file (HashDiffers written computed) (apart, (entry, differs, w, c)) 
 is_fault_in file (Dangling parent child) (apart, right, lost) other = rw (apart, right, lost) refl
 is_fault_in file OutOfMemory is other = absurd (other refl)
 
-no_fault_in : (file : File) → IsSound file → fault_in file ≡ None
+no_fault_in : (file : File) → IsSoundFile file → fault_in file ≡ None
 no_fault_in file sound = rw (sound.named, sound.hashed, sound.known) refl
 
 abbrev by_value : Result File Misfit → Option LockFault
 by_value (Ok file) = fault_in file
 by_value (Err misfit) = Some (WrongKind misfit.at)
 
-is_by_value : (d : Data) (f : LockFault) → IsFaultOf d f → f ≢ OutOfMemory → by_value (file_at d) ≡ Some f
+is_by_value : (d : Data) (f : LockFault) → IsLockFaultOf d f → f ≢ OutOfMemory → by_value (file_at d) ≡ Some f
 is_by_value d f (inl is) other = absurd (other is)
 is_by_value d f (inr (inl (misfit, is, fault))) other = rw (is, fault) refl
 is_by_value d f (inr (inr (file, is, fault))) other = rw is (is_fault_in file f fault other)
 
-value_one : (d e : Data) (f g : LockFault) → d ≡ e → IsFaultOf d f → IsFaultOf e g → f ≢ OutOfMemory → g ≢ OutOfMemory → f ≡ g
+value_one : (d e : Data) (f g : LockFault) → d ≡ e → IsLockFaultOf d f → IsLockFaultOf e g → f ≢ OutOfMemory → g ≢ OutOfMemory → f ≡ g
 value_one d e f g same p q other not = some_one (by_value (file_at e)) f g (ap (λ v. by_value (file_at v)) (sym same)
     ∙ is_by_value d f p other) (is_by_value e g q not)
 
@@ -111,7 +111,7 @@ fault_one bytes f g (inr (inr (d, json, p))) (inr (inr (e, too, q))) other not =
 
 -- ---- not both
 
-lock_or_fault : (bytes : List ℕ) (d : Data) (file : File) (f : LockFault) → IsJson bytes d → file_at d ≡ Ok file → IsSound file
+lock_or_fault : (bytes : List ℕ) (d : Data) (file : File) (f : LockFault) → IsJson bytes d → file_at d ≡ Ok file → IsSoundFile file
     → f ≢ OutOfMemory → IsLockFault bytes f → ⊥
 lock_or_fault bytes d file f json is sound other (inl h) = other h
 lock_or_fault bytes d file f json is sound other (inr (inl q)) = q.1 d json

@@ -16,7 +16,7 @@ use Rattle.json_readers.specs.Texts.{text_of}
 use Rattle.json_texts.specs.Forms.{name_meaning, value_meaning}
 use Rattle.graph_core.specs.Graphs.{Text}
 use Rattle.graph_core.specs.declared.node.Kinds.{Kinds}
-use Rattle.record_reader.specs.Records.{dependency_at, kinds_at, values_at}
+use Rattle.record_reader.specs.Records.{dependency_at, kinds_at, variant_values_at}
 use Rattle.reuse_db.specs.Canonical.{dependency_data, dependency_members, kind_texts, texts_data, values_of, variant_members}
 use Rattle.lockfile.specs.Again.{Has, IsDependency, IsVariant}
 use Rattle.lockfile.proofs.WrittenLaws.{entries_again, items_again, never_twice, values_written, written}
@@ -36,8 +36,8 @@ last : (texts : List Text) → (texts ≡ [] → ⊥) → with_texts [] texts �
 last [] some is = absurd (some refl)
 last (t ∷ texts) some is = ap Ok is
 
-values_again : (v : Text × List Text) → IsVariant v → values_at (texts_data v.1) ≡ Ok v.1
-unfolding values_at
+values_again : (v : Text × List Text) → IsVariant v → variant_values_at (texts_data v.1) ≡ Ok v.1
+unfolding variant_values_at
 values_again v fit =
     let each : (t : Text) → Contains v.1 t → Has value_meaning t = λ t has. All-contains (Has value_meaning) v.1 t fit.values has in
     rw (
@@ -70,10 +70,10 @@ dependency_again d fit = rw (fit.hash, kinds_again d.1.build d.1.link d.1.run fi
 -- variants are read as they were written
 pub variants_again : (variants : List (Text × List Text)) → All IsVariant variants
     → IsInOrder byte_cmp (λ (v : Text × List Text). v.0) variants
-    → map_of name_meaning values_at (object (variant_members variants)) ≡ Ok variants
+    → map_of name_meaning variant_values_at (object (variant_members variants)) ≡ Ok variants
 variants_again variants fit order =
     rw (written (λ (v : Text × List Text). v.0) (λ (v : Text × List Text). texts_data v.1) variants order)
-    (entries_again (λ (v : Text × List Text). texts_data v.1) name_meaning values_at variants (λ v has. let is =
+    (entries_again (λ (v : Text × List Text). texts_data v.1) name_meaning variant_values_at variants (λ v has. let is =
     All-contains IsVariant variants v fit has in (is.name, values_again v is)))
 
 hashes_read : (dependencies : List (Text × Kinds)) → texts_by Some (Some (codes "hash")) (items_of (map dependency_data dependencies))

@@ -25,9 +25,9 @@ use Rattle.graph_core.specs.Graphs.{Text}
 use Rattle.graph_core.specs.declared.node.Origin.{Origin}
 use Rattle.record_reader.specs.Records.{back_at}
 use Rattle.reuse_db.specs.declared.record.Record.{Record}
-use Rattle.lockfile.specs.Files.{AreProvided, among, body_at, file_at, file_keys, head_at, names_of, node_at, node_keys, origin_by, providers_at, roots_at}
+use Rattle.lockfile.specs.Files.{AreProvided, node_among, body_at, file_at, lock_file_keys, head_at, node_names, node_at, node_keys, origin_by, providers_at, roots_at}
 use Rattle.lockfile.specs.declared.node.Body.{Body}
-use Rattle.lockfile.specs.declared.node.Head.{Head}
+use Rattle.lockfile.specs.declared.node.NodeHead.{NodeHead}
 use Rattle.lockfile.specs.declared.file.File.{File}
 use Rattle.lockfile.specs.declared.node.LockedNode.{LockedNode}
 
@@ -70,12 +70,12 @@ among_test : (b : Bool) (s t : Text) → cond b (Some s) None ≡ Some t → (b 
 among_test true s t e = (refl, cc)
 among_test false s t e = absurd (none-some t e)
 
-among_ok : (names : List Text) (s t : Text) → among names s ≡ Some t → Contains names t
+among_ok : (names : List Text) (s t : Text) → node_among names s ≡ Some t → Contains names t
 among_ok names s t e =
     let told = among_test (list_any (bytes_eq s) names) s t e in
     subst (Contains names) told.1 ((among_decides bytes_eq bytes_decides names s).0 told.0)
 
-text_ok : (names : List Text) (found : Option (List ℕ)) (t : Text) → option_and_then (among names) found ≡ Some t → Contains names t
+text_ok : (names : List Text) (found : Option (List ℕ)) (t : Text) → option_and_then (node_among names) found ≡ Some t → Contains names t
 text_ok names None t e = absurd (none-some t e)
 text_ok names (Some s) t e = among_ok names s t e
 
@@ -97,21 +97,21 @@ of_names names q has = ⊎_elim (λ none. absurd (lacks_all q none)) (λ there. 
 -- ---- the whole
 
 provider_ok : (nodes : List LockedNode) (d : Data) (providers : List (Text × Text))
-    → map_of name_meaning (text_of (among (with_texts [] (names_of nodes)))) d ≡ Ok providers
-    → All (λ provider. Contains (names_of nodes) provider.1) providers
+    → map_of name_meaning (text_of (node_among (with_texts [] (node_names nodes)))) d ≡ Ok providers
+    → All (λ provider. Contains (node_names nodes) provider.1) providers
 provider_ok nodes d providers e =
     let members = bind_ok (members_of d) _ providers e in
-    let names = with_texts [] (names_of nodes) in
-    all_from (λ (provider : Text × Text). Contains (names_of nodes) provider.1) providers (λ provider has.
-    let read = entries_ok name_meaning (text_of (among names)) members.0 providers members.2 provider has in
-    of_names (names_of nodes) provider.1 (text_ok names (as_str read.0) provider.1 (given_ok _ provider.1 read.1)))
+    let names = with_texts [] (node_names nodes) in
+    all_from (λ (provider : Text × Text). Contains (node_names nodes) provider.1) providers (λ provider has.
+    let read = entries_ok name_meaning (text_of (node_among names)) members.0 providers members.2 provider has in
+    of_names (node_names nodes) provider.1 (text_ok names (as_str read.0) provider.1 (given_ok _ provider.1 read.1)))
 
 -- each package that provides in a file that was read is one of its nodes
 pub provided : (d : Data) (file : File) → file_at d ≡ Ok file → AreProvided file
 unfolding file_at
 provided d file e =
     let ms = bind_ok (members_of d) _ file e in
-    let odd = first_odd file_keys ms.0 in
+    let odd = first_odd lock_file_keys ms.0 in
     let nodes = bind_ok (field (list_of node_at) odd (codes "nodes") ms.0) _ file ms.2 in
     let providers = bind_ok (providers_at nodes.0 odd ms.0) _ file nodes.2 in
     let roots = bind_ok (roots_at odd ms.0) _ file providers.2 in
@@ -122,7 +122,7 @@ provided d file e =
 -- ---- nodes
 
 -- what was read of a node, from its three runs of keys
-pub node_read : (d : Data) (ms : Members) (odd : Option Text) (head : Head) (body : Body) (described : Record) (origin : Origin)
+pub node_read : (d : Data) (ms : Members) (odd : Option Text) (head : NodeHead) (body : Body) (described : Record) (origin : Origin)
     → members_of d ≡ Ok ms → odd ≡ first_odd node_keys ms → head_at odd ms ≡ Ok head
     → body_at odd ms ≡ Ok body → back_at head.front body.middle odd ms ≡ Ok described
     → origin ≡ origin_by head.entry body.origin body.middle.hash → node_at d ≡ Ok (record { described = described; origin = origin })

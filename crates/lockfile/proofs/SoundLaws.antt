@@ -20,8 +20,8 @@ use Rattle.reuse_db.specs.Databases.{AreRecords}
 use Rattle.reuse_db.specs.declared.record.Record.{Record}
 use Rattle.lock_writer.specs.Hashes.{child_of, node_hash, node_record}
 use Rattle.lock_writer.specs.Texts.{IsOfNode}
-use Rattle.lockfile.specs.Children.{all_edges, children_by, children_of, edge_to, edges_of, is_needed, named_by, without_build}
-use Rattle.lockfile.specs.Faults.{IsSound, lost_child, lost_from, lost_root, records_of, named_after, wrongly_hashed}
+use Rattle.lockfile.specs.Children.{all_edges, children_by, locked_children, locked_edge, edges_of, is_link_or_run, named_by, without_build}
+use Rattle.lockfile.specs.Faults.{IsSoundFile, lost_child, lost_from, lost_root, records_of, named_after, wrongly_hashed}
 use Rattle.lockfile.specs.declared.node.LockedNode.{LockedNode}
 use Rattle.lockfile.specs.Again.{by_hash, sorted}
 use Rattle.lockfile.specs.Formed.{locked, locked_file, locked_root}
@@ -40,10 +40,10 @@ more_children : (origin : Origin) (ds es : List (Text × Kinds)) → ((d : Text 
 more_children Built ds es more d has = more d has
 more_children (External entry) ds es more d has = more d has
 more_children (Installed hash) ds es more d has =
-    let from = image_of without_build (filter is_needed ds) d has in
-    let kept = from_filter is_needed ds from.0 from.1 in
-    subst (Contains (map without_build (filter is_needed es))) from.2
-    (has_image without_build (filter is_needed es) from.0 (in_filter is_needed es from.0 (more from.0 kept.0) kept.1))
+    let from = image_of without_build (filter is_link_or_run ds) d has in
+    let kept = from_filter is_link_or_run ds from.0 from.1 in
+    subst (Contains (map without_build (filter is_link_or_run es))) from.2
+    (has_image without_build (filter is_link_or_run es) from.0 (in_filter is_link_or_run es from.0 (more from.0 kept.0) kept.1))
 
 no_child_lost : (nodes from : List LockedNode) → ((node : LockedNode) → Contains from node → lost_child nodes node ≡ None)
     → lost_from nodes from ≡ None
@@ -88,7 +88,7 @@ module _ (g : Content) (records : List Record) (graph : IsGraph g) (right : AreR
 
   -- the children that are read of a node are those of its edges
   pub children_again : (node : Node) → Contains g.nodes node → (d : Text × Kinds) → Contains (children_in g node) d
-      ↔ Contains (children_of (locked g records node)) d
+      ↔ Contains (locked_children (locked g records node)) d
   children_again node has d =
       let is = is_written g records graph right fit node has in
       let ds = (node_record g records node).dependencies in
@@ -98,7 +98,7 @@ module _ (g : Content) (records : List Record) (graph : IsGraph g) (right : AreR
       )
 
   edge_again : (node : Node) → Contains g.nodes node → (e : Edge) → Contains (edges_from g node.name) e
-      → edge_to (locked g records node).described.name (child_of (node_hash g) e) (named_by nodes (node_hash g e.child)) ≡ Some e
+      → locked_edge (locked g records node).described.name (child_of (node_hash g) e) (named_by nodes (node_hash g e.child)) ≡ Some e
   edge_again node has e there =
       let from = from_node g node.name e there in
       let child = All-contains (λ (x : Edge). HasNode g x.child) g.edges e graph.children from.0 in
@@ -107,11 +107,13 @@ module _ (g : Content) (records : List Record) (graph : IsGraph g) (right : AreR
 
   -- what is read of the child of an edge is an edge
   edge_kept : (node : Node) → Contains g.nodes node → (e f : Edge) (d : Text × Kinds) → Contains (edges_from g node.name) e
-      → child_of (node_hash g) e ≡ d → edge_to (locked g records node).described.name d (named_by nodes d.0) ≡ Some f → Contains g.edges f
+      → child_of (node_hash g) e ≡ d → locked_edge (locked g records node).described.name d (named_by nodes d.0) ≡ Some f
+      → Contains g.edges f
   edge_kept node has e f d there is made =
-      let one = some_one (edge_to (locked g records node).described.name (child_of (node_hash g) e) (named_by nodes (node_hash g e.child)))
+      let one = some_one (locked_edge (locked g records node).described.name (child_of (node_hash g) e)
+      (named_by nodes (node_hash g e.child)))
       e f
-      (edge_again node has e there) (subst (λ x. edge_to (locked g records node).described.name x (named_by nodes x.0) ≡ Some f)
+      (edge_again node has e there) (subst (λ x. locked_edge (locked g records node).described.name x (named_by nodes x.0) ≡ Some f)
       (sym is) made) in
       subst (Contains g.edges) one (from_node g node.name e there).0
 
@@ -124,8 +126,8 @@ module _ (g : Content) (records : List Record) (graph : IsGraph g) (right : AreR
       let child = (children_again node from.1 (child_of (node_hash g) e)).0
       (has_image (child_of (node_hash g)) (edges_from g node.name) e here) in
       in_flat (edges_of nodes) nodes (locked g records node) e (has_image (locked g records) g.nodes node from.1)
-      (in_given (λ (d : Text × Kinds). edge_to (locked g records node).described.name d (named_by nodes d.0))
-      (children_of (locked g records node)) (child_of (node_hash g) e) e child (edge_again node from.1 e here))
+      (in_given (λ (d : Text × Kinds). locked_edge (locked g records node).described.name d (named_by nodes d.0))
+      (locked_children (locked g records node)) (child_of (node_hash g) e) e child (edge_again node from.1 e here))
 
   -- each edge that is read is one of the graph
   pub edge_of_graph : (e : Edge) → Contains (all_edges nodes nodes) e → Contains g.edges e
@@ -134,8 +136,8 @@ module _ (g : Content) (records : List Record) (graph : IsGraph g) (right : AreR
       let of = image_of (locked g records) g.nodes flat.0 flat.1 in
       let node = of.0 in
       let there = subst (λ n. Contains (edges_of nodes n) e) (sym of.2) flat.2 in
-      let given = given_at (λ (d : Text × Kinds). edge_to (locked g records node).described.name d (named_by nodes d.0))
-      (children_of (locked g records node)) e there in
+      let given = given_at (λ (d : Text × Kinds). locked_edge (locked g records node).described.name d (named_by nodes d.0))
+      (locked_children (locked g records node)) e there in
       let from = image_of (child_of (node_hash g)) (edges_from g node.name) given.0 ((children_again node of.1 given.0).1 given.1) in
       edge_kept node of.1 from.0 e given.0 from.1 from.2 given.2
 
@@ -143,10 +145,10 @@ module _ (g : Content) (records : List Record) (graph : IsGraph g) (right : AreR
 
   child_known : (node : LockedNode) → Contains nodes node → lost_child nodes node ≡ None
   child_known node has = ap (λ o. option_map (λ (d : Text × Kinds). d.0) o)
-      (find_no (λ (d : Text × Kinds). is_none (named_by nodes d.0)) (children_of node) (λ d there.
+      (find_no (λ (d : Text × Kinds). is_none (named_by nodes d.0)) (locked_children node) (λ d there.
       let of = image_of (locked g records) g.nodes node has in
       let from = image_of (child_of (node_hash g)) (edges_from g of.0.name) d
-      ((children_again of.0 of.1 d).1 (subst (λ n. Contains (children_of n) d) (sym of.2) there)) in
+      ((children_again of.0 of.1 d).1 (subst (λ n. Contains (locked_children n) d) (sym of.2) there)) in
       let edge = from_node g of.0.name from.0 from.1 in
       let child = named from.0.child (All-contains (λ (x : Edge). HasNode g x.child) g.edges from.0 graph.children edge.0) in
       ap is_none (ap (λ (x : Text × Kinds). named_by nodes x.0) (sym from.2) ∙ child)))
@@ -162,7 +164,7 @@ module _ (g : Content) (records : List Record) (graph : IsGraph g) (right : AreR
       (rw ((bytes_decides own.hash (right_hash (sorted own))).1 same) refl))
 
   -- the file of a writable graph has no fault
-  pub is_sound : (roots : List Spec) → ((root : Spec) → Contains roots root → IsOfNode g root) → IsSound (locked_file g records roots)
+  pub is_sound : (roots : List Spec) → ((root : Spec) → Contains roots root → IsOfNode g root) → IsSoundFile (locked_file g records roots)
   is_sound roots known = record {
     named = ap (λ names. named_after [] names) (names_same g records g.nodes name_written)
         ∙ never_named_twice [] (map name_of g.nodes) (λ b k none has. absurd (lacks_all b none)) graph.nodes;

@@ -8,8 +8,8 @@ use Rattle.graph_core.specs.declared.node.Origin.{Origin}
 use Rattle.graph_core.specs.declared.node.Origin.TheVariants.{Built, External, Installed}
 use Rattle.lockfile.specs.declared.node.LockedNode.{LockedNode}
 
-abbrev pub is_needed : Text × Kinds → Bool
-is_needed d = d.1.link || d.1.run
+abbrev pub is_link_or_run : Text × Kinds → Bool
+is_link_or_run d = d.1.link || d.1.run
 
 abbrev pub without_build : Text × Kinds → Text × Kinds
 without_build d = (d.0, record { build = false; link = d.1.link; run = d.1.run })
@@ -18,21 +18,21 @@ without_build d = (d.0, record { build = false; link = d.1.link; run = d.1.run }
 abbrev pub children_by : Origin → List (Text × Kinds) → List (Text × Kinds)
 children_by Built dependencies = dependencies
 children_by (External entry) dependencies = dependencies
-children_by (Installed hash) dependencies = map without_build (filter is_needed dependencies)
+children_by (Installed hash) dependencies = map without_build (filter is_link_or_run dependencies)
 
-abbrev pub children_of : LockedNode → List (Text × Kinds)
-children_of node = children_by node.origin node.described.dependencies
+abbrev pub locked_children : LockedNode → List (Text × Kinds)
+locked_children node = children_by node.origin node.described.dependencies
 
 -- a hash names the first node that has it
 abbrev pub named_by : List LockedNode → Text → Option Text
 named_by nodes hash = option_map (λ node. node.described.name) (find (λ node. bytes_eq node.described.hash hash) nodes)
 
 -- the edge to a child, where it is a node
-abbrev pub edge_to : Text → Text × Kinds → Option Text → Option Edge
-edge_to parent d child = option_map (λ name. record { parent = parent; child = name; kinds = d.1 }) child
+abbrev pub locked_edge : Text → Text × Kinds → Option Text → Option Edge
+locked_edge parent d child = option_map (λ name. record { parent = parent; child = name; kinds = d.1 }) child
 
 abbrev pub edges_of : List LockedNode → LockedNode → List Edge
-edges_of nodes node = filter_map (λ d. edge_to node.described.name d (named_by nodes d.0)) (children_of node)
+edges_of nodes node = filter_map (λ d. locked_edge node.described.name d (named_by nodes d.0)) (locked_children node)
 
 abbrev pub all_edges : List LockedNode → List LockedNode → List Edge
 all_edges nodes from = flat_map (edges_of nodes) from

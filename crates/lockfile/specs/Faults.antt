@@ -10,8 +10,8 @@ use Rattle.graph_core.specs.Graphs.{Text}
 use Rattle.reuse_db.specs.Canonical.{right_hash}
 use Rattle.reuse_db.specs.Databases.{differing}
 use Rattle.reuse_db.specs.declared.record.Record.{Record}
-use Rattle.lockfile.specs.Children.{children_of, named_by}
-use Rattle.lockfile.specs.Files.{file_at, names_of}
+use Rattle.lockfile.specs.Children.{locked_children, named_by}
+use Rattle.lockfile.specs.Files.{file_at, node_names}
 use Rattle.lockfile.specs.declared.fault.LockFault.{LockFault}
 use Rattle.lockfile.specs.declared.fault.LockFault.TheVariants.{NotJson, WrongKind, TwiceNamed, HashDiffers, Dangling, OutOfMemory}
 use Rattle.lockfile.specs.declared.file.File.{File}
@@ -25,7 +25,7 @@ named_after before [] = None
 named_after before (name ∷ names) = if list_any (λ b. is_eq (byte_cmp b name)) before then Some name else named_after (name ∷ before) names
 
 abbrev pub twice_named : List LockedNode → Option Text
-twice_named nodes = named_after [] (names_of nodes)
+twice_named nodes = named_after [] (node_names nodes)
 
 -- ---- hashes
 
@@ -40,16 +40,16 @@ wrongly_hashed nodes = differing (records_of nodes)
 
 -- the hash of the first child of a node that is no node
 abbrev pub lost_child : List LockedNode → LockedNode → Option Text
-lost_child nodes node = option_map (λ d. d.0) (find (λ d. is_none (named_by nodes d.0)) (children_of node))
+lost_child nodes node = option_map (λ d. d.0) (find (λ d. is_none (named_by nodes d.0)) (locked_children node))
 
-abbrev pub behind : Text → Option Text → Option (Text × Text) → Option (Text × Text)
-behind parent None later = later
-behind parent (Some child) later = Some (parent, child)
+abbrev pub behind_parent : Text → Option Text → Option (Text × Text) → Option (Text × Text)
+behind_parent parent None later = later
+behind_parent parent (Some child) later = Some (parent, child)
 
 -- the first child of these that is no node, behind its parent
 abbrev pub lost_from : List LockedNode → List LockedNode → Option (Text × Text)
 lost_from nodes [] = None
-lost_from nodes (node ∷ more) = behind node.described.hash (lost_child nodes node) (lost_from nodes more)
+lost_from nodes (node ∷ more) = behind_parent node.described.hash (lost_child nodes node) (lost_from nodes more)
 
 -- the first root that is no node, as parent and child
 abbrev pub lost_root : List LockedNode → List (Text × Text) → Option (Text × Text)
@@ -61,16 +61,16 @@ abbrev pub either_of : Option (Text × Text) → Option (Text × Text) → Optio
 either_of None second = second
 either_of (Some first) second = Some first
 
-abbrev pub dangling : File → Option (Text × Text)
-dangling file = either_of (lost_from file.nodes file.nodes) (lost_root file.nodes file.roots)
+abbrev pub dangling_in_file : File → Option (Text × Text)
+dangling_in_file file = either_of (lost_from file.nodes file.nodes) (lost_root file.nodes file.roots)
 
 -- ---- faults
 
 -- a file without a fault
-pub record IsSound (file : File) : Type 0 where
+pub record IsSoundFile (file : File) : Type 0 where
   pub named : twice_named file.nodes ≡ None
   pub hashed : wrongly_hashed file.nodes ≡ None
-  pub known : dangling file ≡ None
+  pub known : dangling_in_file file ≡ None
 
 -- what a search for names that stand twice finds, and one for hashes that differ
 abbrev pub IsTwiceFault : List LockedNode → LockFault → Type 0
@@ -98,17 +98,18 @@ IsFileFault file (TwiceNamed name) = twice_named file.nodes ≡ Some name
 IsFileFault file (HashDiffers written computed) = (twice_named file.nodes ≡ None)
     × ((entry : Record) × (wrongly_hashed file.nodes ≡ Some entry) × (written ≡ entry.hash) × (computed ≡ right_hash entry))
 IsFileFault file (Dangling parent child) = (twice_named file.nodes ≡ None) × (wrongly_hashed file.nodes ≡ None)
-    × (dangling file ≡ Some (parent, child))
+    × (dangling_in_file file ≡ Some (parent, child))
 IsFileFault file OutOfMemory = Unit {0}
 
 -- the first value that has not its form
-abbrev pub IsMisfit : Data → LockFault → Type 0
-IsMisfit d fault = (misfit : Misfit) × (file_at d ≡ Err misfit) × (fault ≡ WrongKind misfit.at)
+abbrev pub IsLockMisfit : Data → LockFault → Type 0
+IsLockMisfit d fault = (misfit : Misfit) × (file_at d ≡ Err misfit) × (fault ≡ WrongKind misfit.at)
 
 -- the fault of a value: the first that has not its form, or else a fault of the file
-abbrev pub IsFaultOf : Data → LockFault → Type 0
-IsFaultOf d fault = (fault ≡ OutOfMemory) ⊎ IsMisfit d fault ⊎ ((file : File) × (file_at d ≡ Ok file) × IsFileFault file fault)
+abbrev pub IsLockFaultOf : Data → LockFault → Type 0
+IsLockFaultOf d fault = (fault ≡ OutOfMemory) ⊎ IsLockMisfit d fault ⊎ ((file : File) × (file_at d ≡ Ok file) × IsFileFault file fault)
 
 -- the bytes are no JSON text, or that of a value with this fault; want of memory may come instead
 abbrev pub IsLockFault : List ℕ → LockFault → Type 0
-IsLockFault bytes fault = (fault ≡ OutOfMemory) ⊎ ((fault ≡ NotJson) × IsNoJson bytes) ⊎ ((d : Data) × IsJson bytes d × IsFaultOf d fault)
+IsLockFault bytes fault = (fault ≡ OutOfMemory) ⊎ ((fault ≡ NotJson) × IsNoJson bytes)
+    ⊎ ((d : Data) × IsJson bytes d × IsLockFaultOf d fault)

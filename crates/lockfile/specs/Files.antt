@@ -19,18 +19,18 @@ use Rattle.record_reader.specs.Files.{version_at}
 use Rattle.record_reader.specs.Records.{front_at, middle_at, back_at}
 use Rattle.lockfile.specs.declared.file.File.{File}
 use Rattle.lockfile.specs.declared.node.Body.{Body}
-use Rattle.lockfile.specs.declared.node.Head.{Head}
+use Rattle.lockfile.specs.declared.node.NodeHead.{NodeHead}
 use Rattle.lockfile.specs.declared.node.LockedNode.{LockedNode}
 
 -- ---- nodes
 
-abbrev pub is_text : Option Text → Text → Bool
-is_text None text = false
-is_text (Some other) text = bytes_eq other text
+abbrev pub is_that_text : Option Text → Text → Bool
+is_that_text None text = false
+is_that_text (Some other) text = bytes_eq other text
 
 -- whether the member at `origin` is `external`
 abbrev pub is_external : Members → Bool
-is_external ms = is_text (option_and_then as_str (get_member (codes "origin") ms)) (codes "external")
+is_external ms = is_that_text (option_and_then as_str (get_member (codes "origin") ms)) (codes "external")
 
 -- the place of the entry of an external, and null for any other node
 abbrev pub entry_at : Bool → Data → Reading (Option ℕ)
@@ -50,7 +50,7 @@ node_keys = codes "compiler" ∷ codes "dependencies" ∷ codes "entry" ∷ code
     ∷ codes "os" ∷ codes "target" ∷ codes "variants" ∷ codes "version" ∷ []
 
 -- its keys up to `entry`
-unfoldable pub head_at : Option Text → Members → Reading Head
+unfoldable pub head_at : Option Text → Members → Reading NodeHead
 head_at odd ms = do
   front ← front_at odd ms
   entry ← field (entry_at (is_external ms)) odd (codes "entry") ms
@@ -75,12 +75,12 @@ node_at d = do
 
 -- ---- the whole
 
-abbrev pub names_of : List LockedNode → List Text
-names_of nodes = map (λ node. node.described.name) nodes
+abbrev pub node_names : List LockedNode → List Text
+node_names nodes = map (λ node. node.described.name) nodes
 
 -- a package that provides is one of the nodes
-abbrev pub among : List Text → Text → Option Text
-among names text = if list_any (bytes_eq text) names then Some text else None
+abbrev pub node_among : List Text → Text → Option Text
+node_among names text = if list_any (bytes_eq text) names then Some text else None
 
 unfoldable pub root_at : Data → Reading (Text × Text)
 root_at d = do
@@ -91,12 +91,12 @@ root_at d = do
     _ ← none_odd odd
     Ok (spec, hash)
 
-abbrev pub file_keys : List Text
-file_keys = codes "nodes" ∷ codes "providers" ∷ codes "roots" ∷ codes "version" ∷ []
+abbrev pub lock_file_keys : List Text
+lock_file_keys = codes "nodes" ∷ codes "providers" ∷ codes "roots" ∷ codes "version" ∷ []
 
 -- each virtual with the node that provides it
 abbrev pub providers_at : List LockedNode → Option Text → Members → Reading (List (Text × Text))
-providers_at nodes odd ms = field (map_of name_meaning (text_of (among (with_texts [] (names_of nodes))))) odd (codes "providers") ms
+providers_at nodes odd ms = field (map_of name_meaning (text_of (node_among (with_texts [] (node_names nodes))))) odd (codes "providers") ms
 
 -- the roots, and the keys behind them
 unfoldable pub roots_at : Option Text → Members → Reading (List (Text × Text))
@@ -109,7 +109,7 @@ roots_at odd ms = do
 unfoldable pub file_at : Data → Reading File
 file_at d = do
   ms ← members_of d
-  let odd = first_odd file_keys ms in do
+  let odd = first_odd lock_file_keys ms in do
     nodes ← field (list_of node_at) odd (codes "nodes") ms
     providers ← providers_at nodes odd ms
     roots ← roots_at odd ms
@@ -117,4 +117,4 @@ file_at d = do
 
 -- each package that provides is one of the nodes
 abbrev pub AreProvided : File → Type 0
-AreProvided file = All (λ provider. Contains (names_of file.nodes) provider.1) file.providers
+AreProvided file = All (λ provider. Contains (node_names file.nodes) provider.1) file.providers

@@ -7,7 +7,7 @@ use Rattle.keyed_lists.specs.Keyed.{IsInOrder, find_key}
 use Rattle.graph_core.specs.Graphs.{Text, Content, IsGraph, node_of, name_of, ends_of, virtual_of, pair_cmp}
 use Rattle.graph_core.specs.declared.node.Node.{Node}
 use Rattle.lockfile.specs.Children.{all_edges}
-use Rattle.lockfile.specs.Faults.{IsSound}
+use Rattle.lockfile.specs.Faults.{IsSoundFile}
 use Rattle.lockfile.specs.Files.{file_at}
 use Rattle.lockfile.specs.declared.file.File.{File}
 use Rattle.lockfile.specs.declared.lock.Lock.{Lock}
@@ -50,7 +50,7 @@ pub record AreHashesOf (nodes : List LockedNode) (hashes : List (Text × Text)) 
   pub found : (name : Text) → find_key byte_cmp (λ h. h.0) hashes name ≡ find_key byte_cmp (λ h. h.0) (named_hashes nodes) name
 
 pub record IsLockOf (file : File) (lock : Lock) : Type 0 where
-  pub sound : IsSound file
+  pub sound : IsSoundFile file
   pub graph : IsGraphOf file lock.graph
   pub roots : lock.roots ≡ file.roots
   pub hashes : AreHashesOf file.nodes lock.hashes

@@ -14,7 +14,7 @@ use Rattle.graph_core.specs.declared.node.Origin.TheVariants.{Built, External, I
 use Rattle.reuse_db.specs.Databases.{record_of}
 use Rattle.reuse_db.specs.declared.record.Record.{Record}
 use Rattle.lock_writer.specs.Hashes.{child_of, node_hash}
-use Rattle.lockfile.specs.Children.{is_needed, without_build}
+use Rattle.lockfile.specs.Children.{is_link_or_run, without_build}
 use Rattle.lockfile.specs.Locks.{graph_node}
 use Rattle.lockfile.specs.declared.lock.Lock.{Lock}
 use Rattle.lockfile.specs.Again.{Has, HasKind, IsCompiler, IsDependency, IsVariant}
@@ -49,7 +49,7 @@ pub record IsOfRecord (g : Content) (node : Node) (entry : Record) : Type 0 wher
   pub same : graph_node (record { described = entry; origin = node.origin }) ≡ node
   -- its edges are those of the record, to its link and run children, and each goes to the node with the child's hash
   pub edges : (child : Text × Kinds) → Contains (children_in g node) child
-      ↔ Contains (map without_build (filter is_needed entry.dependencies)) child
+      ↔ Contains (map without_build (filter is_link_or_run entry.dependencies)) child
   -- the record has its form, as each of a database, where children for building alone have a part too
   pub form : AreDependencies entry.dependencies
 

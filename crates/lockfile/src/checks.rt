@@ -1,7 +1,7 @@
 //! What is looked for over a whole file, one kind of fault after another.
 ghost use Rattle.std.specs.Prelude.{◌≡◌, [], None, IfOk, IfErr, OnOk, is_none};
 ghost use Rattle.lockfile.specs.Children.{named_by};
-ghost use Rattle.lockfile.specs.Faults.{IsFileFault, IsHashFault, IsSound, IsTwiceFault, dangling};
+ghost use Rattle.lockfile.specs.Faults.{IsFileFault, IsHashFault, IsSoundFile, IsTwiceFault, dangling_in_file};
 ghost use Rattle.lockfile.specs.Faults.{lost_child, lost_from, lost_root, named_after, twice_named};
 ghost use Rattle.lockfile.specs.Faults.{wrongly_hashed};
 ghost use Rattle.lockfile.specs.Named.{AreNames};
@@ -24,7 +24,7 @@ pub(crate) fn check_file(
     names: &BTreeMap<String, Word>,
 ) -> Result<(), LockFault>
     requires { AreNames file.now.nodes names.now }
-    ensures sound { OnOk result (IsSound file.now) }
+    ensures sound { OnOk result (IsSoundFile file.now) }
     ensures fault { IfErr result (IsFileFault file.now) }
 {
     let nodes = file.nodes.as_slice();
@@ -83,7 +83,7 @@ fn first_dangling(
     names: &BTreeMap<String, Word>,
 ) -> Result<Option<(Hash, Hash)>, AllocError>
     requires { AreNames file.now.nodes names.now }
-    ensures { IfOk result (λ pair. pair ≡ dangling file.now) }
+    ensures { IfOk result (λ pair. pair ≡ dangling_in_file file.now) }
 {
     let nodes = file.nodes.as_slice();
     match lost_from(alloc, nodes, names)? {

@@ -1,6 +1,6 @@
 //! The children of nodes.
 ghost use Rattle.std.specs.Prelude.{◌≡◌, ◌++◌, Some, map, filter, IfOk, OnOk};
-ghost use Rattle.lockfile.specs.Children.{all_edges, children_of, edge_to, edges_of, is_needed};
+ghost use Rattle.lockfile.specs.Children.{all_edges, locked_children, locked_edge, edges_of, is_link_or_run};
 ghost use Rattle.lockfile.specs.Children.{named_by, without_build};
 ghost use Rattle.lockfile.specs.Named.{AreNames};
 
@@ -17,7 +17,7 @@ pub(crate) fn children_of(
     alloc: Global,
     node: &LockedNode,
 ) -> Result<List<(Hash, Kinds)>, AllocError>
-    ensures { IfOk result (λ list. list ≡ children_of node.now) }
+    ensures { IfOk result (λ list. list ≡ locked_children node.now) }
 {
     let dependencies = node.described.dependencies.as_slice();
     match node.origin {
@@ -38,7 +38,8 @@ fn all(alloc: Global, dependencies: &[(Hash, Kinds)]) -> Result<List<(Hash, Kind
 
 /// The children that an installed node has edges to, without `build`.
 fn needed(alloc: Global, dependencies: &[(Hash, Kinds)]) -> Result<List<(Hash, Kinds)>, AllocError>
-    ensures { IfOk result (λ list. list ≡ map without_build (filter is_needed dependencies.now)) }
+    ensures { IfOk result (λ list. list
+        ≡ map without_build (filter is_link_or_run dependencies.now)) }
 {
     let mut list = List::new(alloc);
     for dependency in dependencies {
@@ -50,7 +51,7 @@ fn needed(alloc: Global, dependencies: &[(Hash, Kinds)]) -> Result<List<(Hash, K
 }
 
 fn is_needed(dependency: &(Hash, Kinds)) -> bool
-    ensures { result ≡ is_needed dependency.now }
+    ensures { result ≡ is_link_or_run dependency.now }
 {
     dependency.1.link || dependency.1.run
 }
@@ -109,7 +110,7 @@ fn edge_to(
     child: &(Hash, Kinds),
     name: &Word,
 ) -> Result<Edge, AllocError>
-    ensures { IfOk result (λ edge. Some edge ≡ edge_to node.now.described.name child.now
+    ensures { IfOk result (λ edge. Some edge ≡ locked_edge node.now.described.name child.now
         (Some name.now)) }
 {
     Ok(Edge {

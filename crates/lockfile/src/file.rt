@@ -5,7 +5,7 @@ ghost use Rattle.std.specs.Str.{bytes_eq};
 ghost use Rattle.variant_values.specs.Texts.{with_texts};
 ghost use Rattle.serde_json.specs.View.{members_view};
 ghost use Rattle.json_readers.specs.Faults.{Gives};
-ghost use Rattle.lockfile.specs.Files.{among, file_at, names_of, providers_at, root_at, roots_at};
+ghost use Rattle.lockfile.specs.Files.{node_among, file_at, node_names, providers_at, root_at, roots_at};
 
 use crate::node::{LockedNode, NodeForm};
 use json_readers::{
@@ -86,14 +86,14 @@ fn read_roots(
 }
 
 fn names_in(alloc: Global, nodes: &[LockedNode]) -> Result<ValueSet, AllocError>
-    ensures { IfOk result (λ set. set ≡ with_texts [] (names_of nodes.now)) }
+    ensures { IfOk result (λ set. set ≡ with_texts [] (node_names nodes.now)) }
 {
     Ok(ValueSet::from_words(names_of(alloc, nodes)?))
 }
 
 /// The names of the nodes, in their order.
 pub(crate) fn names_of(alloc: Global, nodes: &[LockedNode]) -> Result<Vec<Word>, AllocError>
-    ensures { IfOk result (λ names. names.items ≡ names_of nodes.now) }
+    ensures { IfOk result (λ names. names.items ≡ node_names nodes.now) }
 {
     let mut names = Vec::new(alloc);
     for node in nodes {
@@ -109,7 +109,7 @@ struct Among<'a> {
 }
 
 impl<'a> TextForm for Among<'a> {
-    ghost means = { λ form. among form.names.now };
+    ghost means = { λ form. node_among form.names.now };
 
     fn meaning<'t>(&self, text: &'t str) -> Option<&'t str> {
         if is_among(self.names, text) {

@@ -27,6 +27,6 @@ pub use fault::LockFault;
 pub use file::File;
 pub use lock::{Lock, read_lock};
 pub use lock_writer::{can_be_written, node_hashes, write_lock};
-pub use node::{Body, Head, LockedNode};
+pub use node::{Body, LockedNode, NodeHead};
 pub use theorems::lock_laws;
 pub use written_again::{again_laws, file_laws, graph_laws, node_laws, written_laws};

@@ -1,7 +1,7 @@
 //! Reading a lock file.
 ghost use Rattle.std.specs.Prelude.{◌≡◌, Ok, IfOk, IfErr};
 ghost use Rattle.serde_json.specs.View.{view};
-ghost use Rattle.lockfile.specs.Faults.{IsFaultOf, IsLockFault, IsFileFault};
+ghost use Rattle.lockfile.specs.Faults.{IsLockFaultOf, IsLockFault, IsFileFault};
 ghost use Rattle.lockfile.specs.Files.{AreProvided, file_at};
 ghost use Rattle.lockfile.specs.Locks.{IsLock, IsLockOf};
 
@@ -51,7 +51,7 @@ pub fn read_lock(alloc: Global, bytes: &[u8]) -> Result<Lock, LockFault>
 fn read_value(alloc: Global, value: &Value) -> Result<Lock, LockFault>
     ensures found { IfOk result (λ lock. (file : File) × (file_at (view value.now) ≡ Ok file)
         × IsLockOf file lock) }
-    ensures fault { IfErr result (IsFaultOf (view value.now)) }
+    ensures fault { IfErr result (IsLockFaultOf (view value.now)) }
 {
     match FileForm.read(alloc, value) {
         Ok(file) => lock_of(alloc, file),

@@ -59,7 +59,7 @@ impl Reader<LockedNode> for NodeForm {
 
 /// The keys up to `entry`.
 #[derive(Drop)]
-pub struct Head {
+pub struct NodeHead {
     pub front: Front,
     pub entry: Option<u64>,
 }
@@ -77,7 +77,7 @@ fn read_head(
     alloc: Global,
     members: &Map<String, Value>,
     odd: Option<&str>,
-) -> Result<Head, JsonFault>
+) -> Result<NodeHead, JsonFault>
     ensures { Gives result (head_at (option_map (λ k. k.now) odd.entry)
         (members_view members.now.entries)) }
 {
@@ -86,7 +86,7 @@ fn read_head(
         external: is_external(members),
     };
     let entry = field(alloc, members, odd, "entry", &form)?;
-    Ok(Head { front, entry })
+    Ok(NodeHead { front, entry })
 }
 
 #[tactic(auto, unfolding(crate::specs::Files::body_at))]

@@ -11,7 +11,7 @@ ghost use Rattle.spec_grammar.specs.declared.part.Spec.{Spec};
 ghost use Rattle.graph_core.specs.Graphs.{Text, Content, IsGraph, node_of, provider_of};
 ghost use Rattle.graph_core.specs.declared.node.Node.{Node};
 ghost use Rattle.graph_core.specs.declared.node.Kinds.{Kinds};
-ghost use Rattle.record_reader.specs.Records.{dependency_at, values_at};
+ghost use Rattle.record_reader.specs.Records.{dependency_at, variant_values_at};
 ghost use Rattle.reuse_db.specs.Canonical.{dependency_data, dependency_members, texts_data};
 ghost use Rattle.reuse_db.specs.Canonical.{values_of, variant_members};
 ghost use Rattle.graph_core.specs.declared.node.Origin.{Origin};
@@ -31,7 +31,7 @@ ghost use Rattle.lockfile.specs.Writable.{IsWritable, lock_of};
 pub fn written_laws()
     ensures variants { (variants : List (Text × List Text)) → All IsVariant variants
         → IsInOrder byte_cmp (λ v. v.0) variants
-        → map_of name_meaning values_at (object (variant_members variants)) ≡ Ok variants }
+        → map_of name_meaning variant_values_at (object (variant_members variants)) ≡ Ok variants }
     ensures dependencies { (dependencies : List (Text × Kinds)) → All IsDependency dependencies
         → IsInOrder byte_cmp (λ d. d.0) dependencies
         → set_of Some (Some (codes "hash")) dependency_at

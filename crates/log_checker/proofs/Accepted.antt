@@ -16,7 +16,7 @@ use Rattle.log_checker.specs.declared.step.Why.{Why}
 use Rattle.log_checker.specs.declared.step.Why.TheVariants.{WrongCounts, OutOfOrder, Unfinished}
 use Rattle.log_checker.specs.declared.step.Step.TheVariants.{Accepted, Refused}
 use Rattle.log_checker.specs.Known.{clauses_in, rivals_in}
-use Rattle.log_checker.specs.Steps.{State, Progress, Going, Stopped, start, unless, begins, fault, or_else, derivation_fault, own_fault, accept, after_fault, next, run, told, finish_on}
+use Rattle.log_checker.specs.Steps.{CheckerState, Progress, Going, Stopped, starting_state, unless, is_first_line, fault, or_else, derivation_fault, own_line_fault, accept, after_fault, next_progress, run_lines, told, finish_on}
 use Rattle.log_checker.specs.Kinds.{AllSuit, IsSoFar}
 use Rattle.log_checker.proofs.Faults.{IsTyped, Keeps, fault-keeps, keeps-fault}
 use Rattle.log_checker.proofs.Ids.{clauses-noted, rivals-noted, clauses-known, rivals-known}
@@ -38,15 +38,17 @@ HasEnd (l ∷ ls) = ends l ≡ false → HasEnd ls
 abbrev pub AllTyped : List Line → Type 0
 AllTyped ls = AllLines IsTyped ls
 
-pub stopped-stays : (n : ℕ) (w : Why) (ls : List Line) → run (Stopped n w) ls ≡ Stopped n w
+pub stopped-stays : (n : ℕ) (w : Why) (ls : List Line) → run_lines (Stopped n w) ls ≡ Stopped n w
 stopped-stays n w [] = refl
 stopped-stays n w (l ∷ ls) = stopped-stays n w ls
 
-pub run-accept : (s : State) (l : Line) (ls : List Line) → fault s l ≡ None → run (Going s) (l ∷ ls) ≡ run (Going (accept s l)) ls
-run-accept s l ls e = ap (λ o. run (after_fault s l o) ls) e
+pub run-accept : (s : CheckerState) (l : Line) (ls : List Line) → fault s l ≡ None
+    → run_lines (Going s) (l ∷ ls) ≡ run_lines (Going (accept s l)) ls
+run-accept s l ls e = ap (λ o. run_lines (after_fault s l o) ls) e
 
-pub run-refuse : (s : State) (l : Line) (ls : List Line) (w : Why) → fault s l ≡ Some w → run (Going s) (l ∷ ls) ≡ Stopped (s.lines + 1) w
-run-refuse s l ls w e = ap (λ o. run (after_fault s l o) ls) e ∙ stopped-stays (s.lines + 1) w ls
+pub run-refuse : (s : CheckerState) (l : Line) (ls : List Line) (w : Why) → fault s l ≡ Some w
+    → run_lines (Going s) (l ∷ ls) ≡ Stopped (s.lines + 1) w
+run-refuse s l ls w e = ap (λ o. run_lines (after_fault s l o) ls) e ∙ stopped-stays (s.lines + 1) w ls
 
 AllClauses-push : (cs : List (List Lit)) (o : Option (List Lit)) → AllClauses cs → ((c : List Lit) → o ≡ Some c → IsClause c)
     → AllClauses (with_added cs o)
@@ -88,27 +90,27 @@ pub record RestOf (bits : List Lit) (values : Option (List Bool)) (known rivals 
   pub distinct : AreDistinct rivals ls
   pub suit : AllSuit values ls
 
-abbrev pub Rest : State → List Line → Type 0
+abbrev pub Rest : CheckerState → List Line → Type 0
 Rest s ls = RestOf s.bits s.values (clauses_in s.known) (rivals_in s.known) s.settled ls
 
 -- the rest after a line, in the words of the clauses that the line adds
-abbrev pub After : State → Line → List Line → Type 0
+abbrev pub After : CheckerState → Line → List Line → Type 0
 After s l ls = RestOf s.bits s.values (with_added (clauses_in s.known) (added s.bits l)) (with_added (rivals_in s.known) (learnt l))
     (accept s l).settled ls
 
-after-is : (s : State) (l : Line) (ls : List Line) → Rest (accept s l) ls → After s l ls
+after-is : (s : CheckerState) (l : Line) (ls : List Line) → Rest (accept s l) ls → After s l ls
 after-is s l ls r = subst (λ cs. RestOf s.bits s.values cs (with_added (rivals_in s.known) (learnt l)) (accept s l).settled ls)
     (clauses-noted s.bits s.known l)
     (subst (λ rs. RestOf s.bits s.values (clauses_in (accept s l).known) rs (accept s l).settled ls) (rivals-noted s.bits s.known l) r)
 
-is-after : (s : State) (l : Line) (ls : List Line) → After s l ls → Rest (accept s l) ls
+is-after : (s : CheckerState) (l : Line) (ls : List Line) → After s l ls → Rest (accept s l) ls
 is-after s l ls r = subst (λ rs. RestOf s.bits s.values (clauses_in (accept s l).known) rs (accept s l).settled ls)
     (sym (rivals-noted s.bits s.known l))
     (subst (λ cs. RestOf s.bits s.values cs (with_added (rivals_in s.known) (learnt l)) (accept s l).settled ls)
     (sym (clauses-noted s.bits s.known l)) r)
 
 -- a log that has begun, and whose clauses are in order
-pub record IsUnderWay (s : State) : Type 0 where
+pub record IsUnderWay (s : CheckerState) : Type 0 where
   pub begun : eqb s.lines 0 ≡ false
   pub known : AllClauses (clauses_in s.known)
   pub rivals : AllClauses (rivals_in s.known)
@@ -116,7 +118,7 @@ pub record IsUnderWay (s : State) : Type 0 where
 begun_later : (n : ℕ) → eqb (n + 1) 0 ≡ false
 begun_later n = elim (eqb_tells (n + 1) 0) [ inl h ↦ absurd (omega (arith, h.1)) | inr h ↦ h.0 ]
 
-later : (s : State) (l : Line) → IsUnderWay s → IsTyped l → IsUnderWay (accept s l)
+later : (s : CheckerState) (l : Line) → IsUnderWay s → IsTyped l → IsUnderWay (accept s l)
 later s l g t = record {
   begun = begun_later s.lines;
   known = subst AllClauses (sym (clauses-noted s.bits s.known l))
@@ -126,32 +128,34 @@ later s l g t = record {
 }
 
 -- after the end each line is refused
-over : (s : State) (l : Line) → eqb s.lines 0 ≡ false → s.ended ≡ true → fault s l ≡ Some OutOfOrder
+over : (s : CheckerState) (l : Line) → eqb s.lines 0 ≡ false → s.ended ≡ true → fault s l ≡ Some OutOfOrder
 over s l b e = rw (b, e) refl
 
-stuck : (s : State) (l : Line) (ls : List Line) (w : Why) → fault s l ≡ Some w → goes_on (run (Going s) (l ∷ ls)) ≡ true → ⊥
+stuck : (s : CheckerState) (l : Line) (ls : List Line) (w : Why) → fault s l ≡ Some w → goes_on (run_lines (Going s) (l ∷ ls)) ≡ true → ⊥
 stuck s l ls w e f = false≢true (sym (ap goes_on (run-refuse s l ls w e)) ∙ f)
 
-over-empty : (s : State) (ls : List Line) → eqb s.lines 0 ≡ false → s.ended ≡ true → goes_on (run (Going s) ls) ≡ true → ls ≡ []
+over-empty : (s : CheckerState) (ls : List Line) → eqb s.lines 0 ≡ false → s.ended ≡ true
+    → goes_on (run_lines (Going s) ls) ≡ true → ls ≡ []
 over-empty s [] b e f = refl
 over-empty s (l ∷ ls) b e f = absurd (stuck s l ls OutOfOrder (over s l b e) f)
 
-nothing-left : (s : State) (ls : List Line) → ls ≡ [] → Rest s ls
+nothing-left : (s : CheckerState) (ls : List Line) → ls ≡ [] → Rest s ls
 nothing-left s ls q = subst (Rest s) (sym q) (record { each = tt; last = tt; distinct = tt; suit = tt })
 
-pub fine-rest : (s : State) (ls : List Line) → s.ended ≡ false → IsUnderWay s → AllTyped ls → goes_on (run (Going s) ls) ≡ true → Rest s ls
+pub fine-rest : (s : CheckerState) (ls : List Line) → s.ended ≡ false → IsUnderWay s → AllTyped ls
+    → goes_on (run_lines (Going s) ls) ≡ true → Rest s ls
 fine-rest s [] o g t f = record { each = tt; last = tt; distinct = tt; suit = tt }
 fine-rest s (l ∷ ls) o g t f = go (fault s l) refl (λ e h. fine-rest (accept s l) ls e (later s l g t.0) t.1 h)
   where
     join : Keeps s l → (ends l ≡ true → ls ≡ []) → After s l ls → Rest s (l ∷ ls)
     join k e h = record { each = (k.0, h.each); last = (e, h.last); distinct = (k.1, h.distinct); suit = (k.2, h.suit) }
 
-    go : (w : Option Why) → fault s l ≡ w → (ends l ≡ false → goes_on (run (Going (accept s l)) ls) ≡ true → Rest (accept s l) ls)
+    go : (w : Option Why) → fault s l ≡ w → (ends l ≡ false → goes_on (run_lines (Going (accept s l)) ls) ≡ true → Rest (accept s l) ls)
         → Rest s (l ∷ ls)
     go (Some w) e ih = absurd (stuck s l ls w e f)
     go None e ih = by (ends l) refl
       where
-        after : goes_on (run (Going (accept s l)) ls) ≡ true
+        after : goes_on (run_lines (Going (accept s l)) ls) ≡ true
         after = ap goes_on (sym (run-accept s l ls e)) ∙ f
 
         last : ends l ≡ true → ls ≡ []
@@ -161,20 +165,21 @@ fine-rest s (l ∷ ls) o g t f = go (fault s l) refl (λ e h. fine-rest (accept 
         by true x = join (fault-keeps s l g.known g.rivals t.0 g.begun o e) last (after-is s l ls (nothing-left (accept s l) ls (last x)))
         by false x = join (fault-keeps s l g.known g.rivals t.0 g.begun o e) last (after-is s l ls (ih x after))
 
-pub rest-fine : (s : State) (ls : List Line) → s.ended ≡ false → IsUnderWay s → AllTyped ls → Rest s ls → goes_on (run (Going s) ls) ≡ true
+pub rest-fine : (s : CheckerState) (ls : List Line) → s.ended ≡ false → IsUnderWay s → AllTyped ls → Rest s ls
+    → goes_on (run_lines (Going s) ls) ≡ true
 rest-fine s [] o g t h = refl
 rest-fine s (l ∷ ls) o g t h = ap goes_on (run-accept s l ls (keeps-fault s l g.known g.begun o (h.each.0, h.distinct.0, h.suit.0)))
     ∙ by (ends l) refl (λ e. rest-fine (accept s l) ls e (later s l g t.0) t.1
     (is-after s l ls (record { each = h.each.1; last = h.last.1; distinct = h.distinct.1; suit = h.suit.1 })))
   where
-    by : (b : Bool) → ends l ≡ b → (ends l ≡ false → goes_on (run (Going (accept s l)) ls) ≡ true)
-        → goes_on (run (Going (accept s l)) ls) ≡ true
-    by true x ih = subst (λ xs. goes_on (run (Going (accept s l)) xs) ≡ true) (sym (h.last.0 x)) refl
+    by : (b : Bool) → ends l ≡ b → (ends l ≡ false → goes_on (run_lines (Going (accept s l)) ls) ≡ true)
+        → goes_on (run_lines (Going (accept s l)) ls) ≡ true
+    by true x ih = subst (λ xs. goes_on (run_lines (Going (accept s l)) xs) ≡ true) (sym (h.last.0 x)) refl
     by false x ih = ih x
 
 -- the first line
 first : (vars : ℕ) (input : List (List Lit)) (bits : List Lit) (values : Option (List Bool)) (l : Line)
-    → begins (start vars input bits values) l ≡ true → l ≡ Header vars (length input) (length bits)
+    → is_first_line (starting_state vars input bits values) l ≡ true → l ≡ Header vars (length input) (length bits)
 first vars input bits values (Header v c b) e =
     let p = and_parts (eqb v vars) (eqb c (length input) && eqb b (length bits)) e in
     let q = and_parts (eqb c (length input)) (eqb b (length bits)) p.1 in
@@ -187,19 +192,20 @@ first vars input bits values Spent e = absurd (false≢true e)
 first vars input bits values End e = absurd (false≢true e)
 
 opens : (vars : ℕ) (input : List (List Lit)) (bits : List Lit) (values : Option (List Bool))
-    → begins (start vars input bits values) (Header vars (length input) (length bits)) ≡ true
+    → is_first_line (starting_state vars input bits values) (Header vars (length input) (length bits)) ≡ true
 opens vars input bits values = and_from (eqb vars vars) (eqb (length input) (length input) && eqb (length bits) (length bits))
     (eq-eqb vars vars refl) (and_from (eqb (length input) (length input)) (eqb (length bits) (length bits))
     (eq-eqb (length input) (length input) refl) (eq-eqb (length bits) (length bits) refl))
 
 -- nothing was refused exactly where the lines so far are a sound log of the kind, or none at all
 pub accepted-so_far : (vars : ℕ) (input : List (List Lit)) (bits : List Lit) (values : Option (List Bool)) (ls : List Line)
-    → AllClauses input → AllTyped ls → (goes_on (run (Going (start vars input bits values)) ls) ≡ true) ↔ IsSoFar vars input bits values ls
+    → AllClauses input → AllTyped ls → (goes_on (run_lines (Going (starting_state vars input bits values)) ls) ≡ true)
+    ↔ IsSoFar vars input bits values ls
 accepted-so_far vars input bits values [] a t = ((λ e. tt), (λ h. refl))
 accepted-so_far vars input bits values (l ∷ ls) a t = (to, from)
   where
-    s : State
-    s = start vars input bits values
+    s : CheckerState
+    s = starting_state vars input bits values
 
     head : Line
     head = Header vars (length input) (length bits)
@@ -225,49 +231,50 @@ accepted-so_far vars input bits values (l ∷ ls) a t = (to, from)
     clear : fault s head ≡ None
     clear = ap (λ b. or_else (unless b WrongCounts) None) (opens vars input bits values)
 
-    wrong : begins s l ≡ false → fault s l ≡ Some WrongCounts
-    wrong e = ap (λ b. or_else (unless b WrongCounts) (or_else (derivation_fault bits s.known l) (own_fault s l))) e
+    wrong : is_first_line s l ≡ false → fault s l ≡ Some WrongCounts
+    wrong e = ap (λ b. or_else (unless b WrongCounts) (or_else (derivation_fault bits s.known l) (own_line_fault s l))) e
 
-    to : goes_on (run (Going s) (l ∷ ls)) ≡ true → IsSoFar vars input bits values (l ∷ ls)
-    to f = go (begins s l) refl
+    to : goes_on (run_lines (Going s) (l ∷ ls)) ≡ true → IsSoFar vars input bits values (l ∷ ls)
+    to f = go (is_first_line s l) refl
       where
-        go : (b : Bool) → begins s l ≡ b → IsSoFar vars input bits values (l ∷ ls)
+        go : (b : Bool) → is_first_line s l ≡ b → IsSoFar vars input bits values (l ∷ ls)
         go false e = absurd (stuck s l ls WrongCounts (wrong e) f)
         go true e =
             let q : l ≡ head = first vars input bits values l e in
-            let g : goes_on (run (Going s) (head ∷ ls)) ≡ true = subst (λ x. goes_on (run (Going s) (x ∷ ls)) ≡ true) q f in
+            let g : goes_on (run_lines (Going s) (head ∷ ls)) ≡ true = subst (λ x. goes_on (run_lines (Going s) (x ∷ ls)) ≡ true) q f in
             let r = of_start (fine-rest (accept s head) ls refl going t.1 (sym (ap goes_on (run-accept s head ls clear)) ∙ g)) in
             subst (λ x. IsSoFar vars input bits values (x ∷ ls)) (sym q) ((refl, r.each, r.last), (tt, r.distinct), (tt, r.suit))
 
-    from : IsSoFar vars input bits values (l ∷ ls) → goes_on (run (Going s) (l ∷ ls)) ≡ true
-    from h = subst (λ x. IsSoFar vars input bits values (x ∷ ls) → goes_on (run (Going s) (x ∷ ls)) ≡ true) (sym h.0.0) held h
+    from : IsSoFar vars input bits values (l ∷ ls) → goes_on (run_lines (Going s) (l ∷ ls)) ≡ true
+    from h = subst (λ x. IsSoFar vars input bits values (x ∷ ls) → goes_on (run_lines (Going s) (x ∷ ls)) ≡ true) (sym h.0.0) held h
       where
-        held : IsSoFar vars input bits values (head ∷ ls) → goes_on (run (Going s) (head ∷ ls)) ≡ true
+        held : IsSoFar vars input bits values (head ∷ ls) → goes_on (run_lines (Going s) (head ∷ ls)) ≡ true
         held k = ap goes_on (run-accept s head ls clear)
             ∙ rest-fine (accept s head) ls refl going t.1 (to_start (record { each = k.0.1; last = k.0.2; distinct = k.1.1; suit = k.2.1 }))
 
 -- what was not refused has ended exactly where some line ends it
-pub ended-is : (s : State) (ls : List Line) → goes_on (run (Going s) ls) ≡ true → s.ended ≡ false
-    → (has_ended (run (Going s) ls) ≡ true) ↔ HasEnd ls
+pub ended-is : (s : CheckerState) (ls : List Line) → goes_on (run_lines (Going s) ls) ≡ true → s.ended ≡ false
+    → (has_ended (run_lines (Going s) ls) ≡ true) ↔ HasEnd ls
 ended-is s [] f o = ((λ e. absurd (false≢true (sym o ∙ e))), (λ h. absurd h))
 ended-is s (l ∷ ls) f o = go (fault s l) refl (λ h e. ended-is (accept s l) ls h e)
   where
     go : (w : Option Why) → fault s l ≡ w
-        → (goes_on (run (Going (accept s l)) ls) ≡ true → ends l ≡ false → (has_ended (run (Going (accept s l)) ls) ≡ true) ↔ HasEnd ls)
-        → (has_ended (run (Going s) (l ∷ ls)) ≡ true) ↔ HasEnd (l ∷ ls)
+        → (goes_on (run_lines (Going (accept s l)) ls) ≡ true → ends l ≡ false
+        → (has_ended (run_lines (Going (accept s l)) ls) ≡ true) ↔ HasEnd ls)
+        → (has_ended (run_lines (Going s) (l ∷ ls)) ≡ true) ↔ HasEnd (l ∷ ls)
     go (Some w) e ih = absurd (stuck s l ls w e f)
     go None e ih = by (ends l) refl
       where
-        same : run (Going s) (l ∷ ls) ≡ run (Going (accept s l)) ls
+        same : run_lines (Going s) (l ∷ ls) ≡ run_lines (Going (accept s l)) ls
         same = run-accept s l ls e
 
-        after : goes_on (run (Going (accept s l)) ls) ≡ true
+        after : goes_on (run_lines (Going (accept s l)) ls) ≡ true
         after = ap goes_on (sym same) ∙ f
 
-        by : (b : Bool) → ends l ≡ b → (has_ended (run (Going s) (l ∷ ls)) ≡ true) ↔ HasEnd (l ∷ ls)
+        by : (b : Bool) → ends l ≡ b → (has_ended (run_lines (Going s) (l ∷ ls)) ≡ true) ↔ HasEnd (l ∷ ls)
         by true x = (
           (λ d z. absurd (false≢true (sym z ∙ x))),
-          (λ d. ap has_ended same ∙ subst (λ xs. has_ended (run (Going (accept s l)) xs) ≡ true)
+          (λ d. ap has_ended same ∙ subst (λ xs. has_ended (run_lines (Going (accept s l)) xs) ≡ true)
               (sym (over-empty (accept s l) ls (begun_later s.lines) x after)) x),
         )
         by false x = let h = ih after x in ((λ d z. h.0 (ap has_ended (sym same) ∙ d)), (λ d. ap has_ended same ∙ h.1 (d x)))
@@ -287,6 +294,6 @@ pub told-is : (p : Progress) → (told p ≡ Accepted) ↔ (goes_on p ≡ true)
 told-is (Going s) = ((λ e. refl), (λ e. refl))
 told-is (Stopped n w) = ((λ e. absurd (differ n w e)), (λ e. absurd (false≢true e)))
 
-pub run-append : (p : Progress) (ls ms : List Line) → run p (ls ++ ms) ≡ run (run p ls) ms
+pub run-append : (p : Progress) (ls ms : List Line) → run_lines p (ls ++ ms) ≡ run_lines (run_lines p ls) ms
 run-append p [] ms = refl
-run-append p (l ∷ ls) ms = run-append (next p l) ls ms
+run-append p (l ∷ ls) ms = run-append (next_progress p l) ls ms

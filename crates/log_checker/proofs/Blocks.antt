@@ -12,7 +12,7 @@ use Rattle.log_checker.specs.declared.known.Known.{Known}
 use Rattle.log_checker.specs.declared.step.Why.{Why}
 use Rattle.log_checker.specs.declared.step.Why.TheVariants.{WrongCounts, OutOfOrder, UnknownId, WrongBit, NotNew}
 use Rattle.log_checker.specs.Known.{rivals_in}
-use Rattle.log_checker.specs.Steps.{State, Going, Stopped, or_else, unless, begins, may_stand, ids_known, is_among, has_value, ids_fault, derivation_fault, own_fault, place_fault, plain_fault, fault, noted, accept, run}
+use Rattle.log_checker.specs.Steps.{CheckerState, Going, Stopped, or_else, unless, is_first_line, may_stand_later, ids_known, is_among, has_value, ids_fault, derivation_fault, own_line_fault, place_fault, plain_fault, fault, noted, accept, run_lines}
 use Rattle.log_checker.specs.Blocks.{taken, take_in, own_chain, found, first_bad, either, is_late, verdict, one_more, progress_of, Grows}
 use Rattle.log_checker.proofs.Faults.{or_else-parts, unless-true}
 use Rattle.log_checker.proofs.Accepted.{stopped-stays, run-accept, run-refuse}
@@ -32,20 +32,23 @@ ids-why n (Zero id b) w e = absurd (none-some w e)
 ids-why n Spent w e = absurd (none-some w e)
 ids-why n End w e = absurd (none-some w e)
 
-place-early : (s : State) (l : Line) (w : Why) → place_fault s l ≡ Some w → is_late w ≡ false
+place-early : (s : CheckerState) (l : Line) (w : Why) → place_fault s l ≡ Some w → is_late w ≡ false
 place-early s l w e = by (eqb s.lines 0) e
   where
-    behind : (o : Option Why) → unless (not s.ended && may_stand s l) OutOfOrder ≡ o → or_else o (ids_fault (length s.known) l) ≡ Some w
+    behind : (o : Option Why) → unless (not s.ended && may_stand_later s l) OutOfOrder ≡ o
+        → or_else o (ids_fault (length s.known) l) ≡ Some w
         → is_late w ≡ false
     behind None q f = subst (λ v. is_late v ≡ false) (ids-why (length s.known) l w f) refl
-    behind (Some v) q f = subst (λ v. is_late v ≡ false) (unless-why (not s.ended && may_stand s l) OutOfOrder v q ∙ same_Some v w f) refl
+    behind (Some v) q f = subst (λ v. is_late v ≡ false) (unless-why (not s.ended && may_stand_later s l) OutOfOrder v q
+        ∙ same_Some v w f) refl
 
-    by : (b : Bool) → (if b then unless (begins s l) WrongCounts else or_else (unless (not s.ended && may_stand s l) OutOfOrder)
+    by : (b : Bool)
+        → (if b then unless (is_first_line s l) WrongCounts else or_else (unless (not s.ended && may_stand_later s l) OutOfOrder)
         (ids_fault (length s.known) l)) ≡ Some w → is_late w ≡ false
-    by true f = subst (λ v. is_late v ≡ false) (unless-why (begins s l) WrongCounts w f) refl
-    by false f = behind (unless (not s.ended && may_stand s l) OutOfOrder) refl f
+    by true f = subst (λ v. is_late v ≡ false) (unless-why (is_first_line s l) WrongCounts w f) refl
+    by false f = behind (unless (not s.ended && may_stand_later s l) OutOfOrder) refl f
 
-own-late : (s : State) (l : Line) (w : Why) → own_fault s l ≡ Some w → is_late w ≡ true
+own-late : (s : CheckerState) (l : Line) (w : Why) → own_line_fault s l ≡ Some w → is_late w ≡ true
 own-late s (Learnt id c chain) w e = subst (λ v. is_late v ≡ true) (unless-why (not (is_among (rivals_in s.known) c)) NotNew w e) refl
 own-late s (Zero id b) w e = subst (λ v. is_late v ≡ true) (unless-why (has_value s b false) WrongBit w e) refl
 own-late s (One id b chain) w e = subst (λ v. is_late v ≡ true) (unless-why (has_value s b true) WrongBit w e) refl
@@ -54,7 +57,7 @@ own-late s (Unsat chain) w e = absurd (none-some w e)
 own-late s Spent w e = absurd (none-some w e)
 own-late s End w e = absurd (none-some w e)
 
-begun-ids : (s : State) (l : Line) → begins s l ≡ true → ids_fault (length s.known) l ≡ None
+begun-ids : (s : CheckerState) (l : Line) → is_first_line s l ≡ true → ids_fault (length s.known) l ≡ None
 begun-ids s (Header vars clauses bits) e = refl
 begun-ids s (Learnt id c chain) e = absurd (false≢true e)
 begun-ids s (Zero id b) e = absurd (false≢true e)
@@ -63,19 +66,21 @@ begun-ids s (Unsat chain) e = absurd (false≢true e)
 begun-ids s Spent e = absurd (false≢true e)
 begun-ids s End e = absurd (false≢true e)
 
-pub place-ids : (s : State) (l : Line) → place_fault s l ≡ None → ids_fault (length s.known) l ≡ None
+pub place-ids : (s : CheckerState) (l : Line) → place_fault s l ≡ None → ids_fault (length s.known) l ≡ None
 place-ids s l e = by (eqb s.lines 0) e
   where
-    by : (b : Bool) → (if b then unless (begins s l) WrongCounts else or_else (unless (not s.ended && may_stand s l) OutOfOrder)
+    by : (b : Bool)
+        → (if b then unless (is_first_line s l) WrongCounts else or_else (unless (not s.ended && may_stand_later s l) OutOfOrder)
         (ids_fault (length s.known) l)) ≡ None → ids_fault (length s.known) l ≡ None
-    by true f = begun-ids s l (unless-true (begins s l) WrongCounts f)
-    by false f = (or_else-parts (unless (not s.ended && may_stand s l) OutOfOrder) (ids_fault (length s.known) l) f).1
+    by true f = begun-ids s l (unless-true (is_first_line s l) WrongCounts f)
+    by false f = (or_else-parts (unless (not s.ended && may_stand_later s l) OutOfOrder) (ids_fault (length s.known) l) f).1
 
 -- the faults of a line, apart
-faults : (s : State) (l : Line) → (p d o : Option Why) → place_fault s l ≡ p → derivation_fault s.bits s.known l ≡ d → own_fault s l ≡ o
+faults : (s : CheckerState) (l : Line) → (p d o : Option Why) → place_fault s l ≡ p → derivation_fault s.bits s.known l ≡ d
+    → own_line_fault s l ≡ o
     → fault s l ≡ or_else p (or_else d o)
-faults s l p d o e f g = ap (λ x. or_else x (or_else (derivation_fault s.bits s.known l) (own_fault s l))) e
-    ∙ ap (λ x. or_else p (or_else x (own_fault s l))) f ∙ ap (λ x. or_else p (or_else d x)) g
+faults s l p d o e f g = ap (λ x. or_else x (or_else (derivation_fault s.bits s.known l) (own_line_fault s l))) e
+    ∙ ap (λ x. or_else p (or_else x (own_line_fault s l))) f ∙ ap (λ x. or_else p (or_else d x)) g
 
 not-above : (n : ℕ) → leb (n + 1) n ≡ false
 not-above n = go (leb (n + 1) n) refl
@@ -84,21 +89,22 @@ not-above n = go (leb (n + 1) n) refl
     go false e = e
     go true e = absurd (omega (arith, leb-true (n + 1) n e))
 
-pub record IsTaken (s : State) (ls : List Line) (t : State) (w : Option Why) : Type 0 where
+pub record IsTaken (s : CheckerState) (ls : List Line) (t : CheckerState) (w : Option Why) : Type 0 where
   pub count : ℕ
   pub lines : t.lines ≡ s.lines + count
   pub within : count + one_more w ≤ length ls
   pub grows : Grows s t
-  pub same : run (Going s) ls ≡ progress_of t (verdict t.lines w (first_bad t.bits t.known (s.lines + 1) (take (count + one_more w) ls)))
+  pub same : run_lines (Going s) ls ≡ progress_of t
+      (verdict t.lines w (first_bad t.bits t.known (s.lines + 1) (take (count + one_more w) ls)))
 
-grows-self : (s : State) → Grows s s
+grows-self : (s : CheckerState) → Grows s s
 grows-self s = ([], ap (λ ks. record s { known = ks }) (sym (append-nil s.known)))
 
 noted-more : (ks : List Known) (o : Option Known) → (more : List Known) × (with_added ks o ≡ ks ++ more)
 noted-more ks None = ([], sym (append-nil ks))
 noted-more ks (Some k) = (k ∷ [], refl)
 
-grows-accept : (s : State) (l : Line) (t : State) → Grows (accept s l) t → Grows s t
+grows-accept : (s : CheckerState) (l : Line) (t : CheckerState) → Grows (accept s l) t → Grows s t
 grows-accept s l t g =
     let m = noted-more s.known (noted s.bits l) in (
       m.0 ++ g.0,
@@ -107,11 +113,11 @@ grows-accept s l t g =
     )
 
 -- a line that was taken: the rest, and what its own chain says
-chain-later : (s t : State) (l : Line) → Grows s t → ids_fault (length s.known) l ≡ None
+chain-later : (s t : CheckerState) (l : Line) → Grows s t → ids_fault (length s.known) l ≡ None
     → own_chain t.bits t.known l ≡ derivation_fault s.bits s.known l
-chain-later s t l g u = ap (λ (x : State). own_chain x.bits x.known l) g.1 ∙ own-later s.bits s.known g.0 l u
+chain-later s t l g u = ap (λ (x : CheckerState). own_chain x.bits x.known l) g.1 ∙ own-later s.bits s.known g.0 l u
 
-pub taken-in : (s : State) (ls : List Line) → IsTaken s ls (take_in s ls).0 (take_in s ls).1
+pub taken-in : (s : CheckerState) (ls : List Line) → IsTaken s ls (take_in s ls).0 (take_in s ls).1
 taken-in s [] = record { count = 0; lines = omega arith; within = omega arith; grows = grows-self s; same = refl }
 taken-in s (l ∷ ls) = go (plain_fault s l) refl (taken-in (accept s l) ls)
   where
@@ -119,20 +125,20 @@ taken-in s (l ∷ ls) = go (plain_fault s l) refl (taken-in (accept s l) ls)
     n = s.lines + 1
 
     -- what is found where the line is the last to be checked
-    last : (w : Why) → or_else (place_fault s l) (own_fault s l) ≡ Some w
-        → run (Going s) (l ∷ ls) ≡ progress_of s (verdict s.lines (Some w) (found n (own_chain s.bits s.known l) None))
-    last w e = by (place_fault s l) refl (derivation_fault s.bits s.known l) refl (own_fault s l) refl
+    last : (w : Why) → or_else (place_fault s l) (own_line_fault s l) ≡ Some w
+        → run_lines (Going s) (l ∷ ls) ≡ progress_of s (verdict s.lines (Some w) (found n (own_chain s.bits s.known l) None))
+    last w e = by (place_fault s l) refl (derivation_fault s.bits s.known l) refl (own_line_fault s l) refl
       where
         early : is_late w ≡ false → (o : Option Why) → progress_of s (verdict s.lines (Some w) (found n o None)) ≡ Stopped n w
         early q None = refl
         early q (Some v) = ap (λ b. progress_of s (if b || is_late w then Some (n, v) else Some (n, w))) (not-above s.lines)
             ∙ ap (λ b. progress_of s (if b then Some (n, v) else Some (n, w))) q
 
-        whole : (p o : Option Why) → place_fault s l ≡ p → own_fault s l ≡ o → or_else p o ≡ Some w
+        whole : (p o : Option Why) → place_fault s l ≡ p → own_line_fault s l ≡ o → or_else p o ≡ Some w
         whole p o f g = ap (λ x. or_else x o) (sym f) ∙ ap (or_else (place_fault s l)) (sym g) ∙ e
 
         by : (p : Option Why) → place_fault s l ≡ p → (d : Option Why) → derivation_fault s.bits s.known l ≡ d → (o : Option Why)
-            → own_fault s l ≡ o → run (Going s) (l ∷ ls) ≡ progress_of s
+            → own_line_fault s l ≡ o → run_lines (Going s) (l ∷ ls) ≡ progress_of s
             (verdict s.lines (Some w) (found n (own_chain s.bits s.known l) None))
         by (Some v) f d g o h =
             let same : v ≡ w = same_Some v w (whole (Some v) o f h) in
@@ -158,14 +164,14 @@ taken-in s (l ∷ ls) = go (plain_fault s l) refl (taken-in (accept s l) ls)
       same = by (derivation_fault s.bits s.known l) refl;
     }
       where
-        t : State
+        t : CheckerState
         t = (take_in (accept s l) ls).0
 
         w : Option Why
         w = (take_in (accept s l) ls).1
 
-        p : (place_fault s l ≡ None) × (own_fault s l ≡ None)
-        p = or_else-parts (place_fault s l) (own_fault s l) e
+        p : (place_fault s l ≡ None) × (own_line_fault s l ≡ None)
+        p = or_else-parts (place_fault s l) (own_line_fault s l) e
 
         rest : Option (ℕ × Why)
         rest = first_bad t.bits t.known (n + 1) (take (ih.count + one_more w) ls)
@@ -189,15 +195,15 @@ taken-in s (l ∷ ls) = go (plain_fault s l) refl (taken-in (accept s l) ls)
         refused v (Some u) = ap (λ b. progress_of t (if b || is_late u then Some (n, v) else Some (t.lines + 1, u))) low
 
         by : (d : Option Why) → derivation_fault s.bits s.known l ≡ d
-            → run (Going s) (l ∷ ls) ≡ progress_of t
+            → run_lines (Going s) (l ∷ ls) ≡ progress_of t
             (verdict t.lines w (first_bad t.bits t.known n (take (suc ih.count + one_more w) (l ∷ ls))))
         by (Some v) f = run-refuse s l ls v (faults s l None (Some v) None p.0 f p.1)
             ∙ sym (ap (λ x. progress_of t (verdict t.lines w x)) (at (Some v) f) ∙ refused v w)
         by None f = run-accept s l ls (faults s l None None None p.0 f p.1) ∙ ih.same
             ∙ sym (ap (λ x. progress_of t (verdict t.lines w x)) (at None f))
 
-pub checked : (s t : State) (w : Option Why) (ls : List Line) → (t, w) ≡ take_in s ls → IsTaken s ls t w
-checked s t w ls e = subst (λ (p : State × Option Why). IsTaken s ls p.0 p.1) (sym e) (taken-in s ls)
+pub checked : (s t : CheckerState) (w : Option Why) (ls : List Line) → (t, w) ≡ take_in s ls → IsTaken s ls t w
+checked s t w ls e = subst (λ (p : CheckerState × Option Why). IsTaken s ls p.0 p.1) (sym e) (taken-in s ls)
 
 -- two parts of the lines are searched apart
 pub bad-append : (bits : List Lit) (known : List Known) (n : ℕ) (xs ys : List Line)
@@ -228,9 +234,9 @@ halves bits known n k ls front back one other e f h p q =
     ∙ sym (bad-append bits known n (take k ls) (drop k ls)) ∙ ap (first_bad bits known n) (take-append-drop k ls)
 
 -- a stopped checker stays
-pub stopped-run : (s : State) (o : Option (ℕ × Why)) (p : ℕ × Why) (ls : List Line) → o ≡ Some p
-    → run (progress_of s o) ls ≡ progress_of s o
-stopped-run s o p ls e = ap (λ o. run (progress_of s o) ls) e ∙ stopped-stays p.0 p.1 ls ∙ sym (ap (progress_of s) e)
+pub stopped-run : (s : CheckerState) (o : Option (ℕ × Why)) (p : ℕ × Why) (ls : List Line) → o ≡ Some p
+    → run_lines (progress_of s o) ls ≡ progress_of s o
+stopped-run s o p ls e = ap (λ o. run_lines (progress_of s o) ls) e ∙ stopped-stays p.0 p.1 ls ∙ sym (ap (progress_of s) e)
 
 pub ok-is : {T E : Type 0} (r : Result T E) (x : T) (P : T → Type 0) → r ≡ Ok x → IfOk r P → P x
 ok-is r x P e h = subst (λ r. IfOk r P) e h

@@ -13,7 +13,7 @@ use Rattle.clause_store.proofs.Sets.{negation-twice, one_sign, same_lit, lit_eq-
 use Rattle.proof_log.proofs.Chains.{contained-has, has-contained}
 use Rattle.proof_log.proofs.Counting.{lit}
 use Rattle.proof_log.proofs.Resolvents.{resolved-result, resolved-no_pivot, resolved-two_pivots}
-use Rattle.log_checker.specs.Steps.{is_value}
+use Rattle.log_checker.specs.Steps.{is_bit_value}
 use Rattle.log_checker.specs.Signs.{sign_in, with_sign, opposed, clashes, overlay, strip}
 use Rattle.log_checker.proofs.Values.{value-is, is-value, beq-refl}
 
@@ -25,16 +25,16 @@ not-above n (l ∷ ls) x a h = elim (eqb_tells (var_of l) x) [
   | inr q ↦ ap (λ b. if b then Some l.positive else sign_in ls x) q.0 ∙ not-above n ls x a.1 h
 ]
 
-pub sign-has : (a : List Lit) (l : Lit) → IsClause a → has a l ≡ is_value (sign_in a (var_of l)) l.positive
+pub sign-has : (a : List Lit) (l : Lit) → IsClause a → has a l ≡ is_bit_value (sign_in a (var_of l)) l.positive
 sign-has [] l i = refl
 sign-has (k ∷ ks) l i = elim (eqb_tells (var_of k) (var_of l)) [
   | inl q ↦ ap (λ b. (b && beq k.positive l.positive) || has ks l) q.0
       ∙ ap (λ b. beq k.positive l.positive || b)
-      (sign-has ks l i.1 ∙ ap (λ o. is_value o l.positive) (not-above (var_of k) ks (var_of l) i.0 (omega (arith, q.1))))
+      (sign-has ks l i.1 ∙ ap (λ o. is_bit_value o l.positive) (not-above (var_of k) ks (var_of l) i.0 (omega (arith, q.1))))
       ∙ or-false (beq k.positive l.positive)
-      ∙ sym (ap (λ b. is_value (if b then Some k.positive else sign_in ks (var_of l)) l.positive) q.0)
+      ∙ sym (ap (λ b. is_bit_value (if b then Some k.positive else sign_in ks (var_of l)) l.positive) q.0)
   | inr q ↦ ap (λ b. (b && beq k.positive l.positive) || has ks l) q.0 ∙ sign-has ks l i.1
-      ∙ sym (ap (λ b. is_value (if b then Some k.positive else sign_in ks (var_of l)) l.positive) q.0)
+      ∙ sym (ap (λ b. is_bit_value (if b then Some k.positive else sign_in ks (var_of l)) l.positive) q.0)
 ]
   where
     or-false : (b : Bool) → (b || false) ≡ b
@@ -54,7 +54,7 @@ overlay-sign (l ∷ ls) f x i = overlay-sign ls (with_sign f (var_of l) (Some l.
       ∙ sym (ap (λ b. over (if b then Some l.positive else sign_in ls x) (f x)) q.0)
 ]
 
-same-signs : (o p : Option Bool) → ((v : Bool) → is_value o v ≡ is_value p v) → o ≡ p
+same-signs : (o p : Option Bool) → ((v : Bool) → is_bit_value o v ≡ is_bit_value p v) → o ≡ p
 same-signs None None e = refl
 same-signs None (Some w) e = absurd (false≢true (e w ∙ beq-refl w))
 same-signs (Some v) p e = sym (value-is p v (sym (e v) ∙ beq-refl v))
@@ -69,7 +69,7 @@ abbrev pub AreSigns : (ℕ → Option Bool) → List Lit → Type 0
 AreSigns f a = (x : ℕ) → f x ≡ sign_in a x
 
 opposed-is : (f : ℕ → Option Bool) (a : List Lit) (l : Lit) → IsClause a → AreSigns f a → opposed f l ≡ has a (negation l)
-opposed-is f a l i e = ap (λ o. is_value o (not l.positive)) (e (var_of l)) ∙ sym (sign-has a (negation l) i)
+opposed-is f a l i e = ap (λ o. is_bit_value o (not l.positive)) (e (var_of l)) ∙ sym (sign-has a (negation l) i)
 
 clash-has : (f : ℕ → Option Bool) (a b : List Lit) (l : Lit) → IsClause a → AreSigns f a → has b l ≡ true → has a (negation l) ≡ true
     → has (clashes f b) l ≡ true
@@ -186,11 +186,11 @@ resolved-one f a b l i j e n = go (resolved a b) refl
         (r, q, t.2, (λ x. sym (same-signs (sign_in r x) (if eqb (var_of l) x then None else over (sign_in b x) (f x)) (each t.0 t.1 t.2 x))))
       where
         each : (p : Lit) → IsResolvent a b r p → IsClause r → (x : ℕ) (v : Bool)
-            → is_value (sign_in r x) v ≡ is_value (if eqb (var_of l) x then None else over (sign_in b x) (f x)) v
+            → is_bit_value (sign_in r x) v ≡ is_bit_value (if eqb (var_of l) x then None else over (sign_in b x) (f x)) v
         each p d k x v = sym (sign-has r (lit x v) k) ∙ elim (eqb_tells (var_of l) x) [
-          | inl h ↦ none (has r (lit x v)) refl h.1 ∙ sym (ap (λ t. is_value (if t then None else over (sign_in b x) (f x)) v) h.0)
-          | inr h ↦ same-bools (has r (lit x v)) (is_value (over (sign_in b x) (f x)) v) (to h.1) (from h.1)
-              ∙ sym (ap (λ t. is_value (if t then None else over (sign_in b x) (f x)) v) h.0)
+          | inl h ↦ none (has r (lit x v)) refl h.1 ∙ sym (ap (λ t. is_bit_value (if t then None else over (sign_in b x) (f x)) v) h.0)
+          | inr h ↦ same-bools (has r (lit x v)) (is_bit_value (over (sign_in b x) (f x)) v) (to h.1) (from h.1)
+              ∙ sym (ap (λ t. is_bit_value (if t then None else over (sign_in b x) (f x)) v) h.0)
         ]
           where
             pivot : var_of l ≡ var_of p
@@ -200,17 +200,17 @@ resolved-one f a b l i j e n = go (resolved a b) refl
             none true g h = absurd (((d.union (lit x v)).0 g).1 (sym h ∙ pivot))
             none false g h = g
 
-            to : var_of l ≢ x → has r (lit x v) ≡ true → is_value (over (sign_in b x) (f x)) v ≡ true
+            to : var_of l ≢ x → has r (lit x v) ≡ true → is_bit_value (over (sign_in b x) (f x)) v ≡ true
             to h g = let u = (d.union (lit x v)).0 g in by (sign_in b x) refl u.0
               where
                 by : (o : Option Bool) → sign_in b x ≡ o → ((has a (lit x v) ≡ true) ⊎ (has b (lit x v) ≡ true))
-                    → is_value (over o (f x)) v ≡ true
-                by None s (inl y) = ap (λ o. is_value o v) (e x) ∙ sym (sign-has a (lit x v) i) ∙ y
-                by None s (inr y) = absurd (false≢true (sym (sign-has b (lit x v) j ∙ ap (λ o. is_value o v) s) ∙ y))
+                    → is_bit_value (over o (f x)) v ≡ true
+                by None s (inl y) = ap (λ o. is_bit_value o v) (e x) ∙ sym (sign-has a (lit x v) i) ∙ y
+                by None s (inr y) = absurd (false≢true (sym (sign-has b (lit x v) j ∙ ap (λ o. is_bit_value o v) s) ∙ y))
                 by (Some w) s (inl y) = elim (cases_Bool (beq w v)) [
                   | inl t ↦ t
                   | inr t ↦ absurd (h (sym (only (lit x v)
-                      (y, sign-has b (negation (lit x v)) j ∙ ap (λ o. is_value o (not v)) s ∙ flip w v t))))
+                      (y, sign-has b (negation (lit x v)) j ∙ ap (λ o. is_bit_value o (not v)) s ∙ flip w v t))))
                 ]
                   where
                     flip : (w v : Bool) → beq w v ≡ false → beq w (not v) ≡ true
@@ -218,15 +218,15 @@ resolved-one f a b l i j e n = go (resolved a b) refl
                     flip true false q = refl
                     flip false true q = refl
                     flip false false q = sym q
-                by (Some w) s (inr y) = sym (sign-has b (lit x v) j ∙ ap (λ o. is_value o v) s) ∙ y
+                by (Some w) s (inr y) = sym (sign-has b (lit x v) j ∙ ap (λ o. is_bit_value o v) s) ∙ y
 
-            from : var_of l ≢ x → is_value (over (sign_in b x) (f x)) v ≡ true → has r (lit x v) ≡ true
+            from : var_of l ≢ x → is_bit_value (over (sign_in b x) (f x)) v ≡ true → has r (lit x v) ≡ true
             from h g = (d.union (lit x v)).1 (by (sign_in b x) refl g, (λ y. h (pivot ∙ sym y)))
               where
-                by : (o : Option Bool) → sign_in b x ≡ o → is_value (over o (f x)) v ≡ true
+                by : (o : Option Bool) → sign_in b x ≡ o → is_bit_value (over o (f x)) v ≡ true
                     → (has a (lit x v) ≡ true) ⊎ (has b (lit x v) ≡ true)
-                by None s y = inl (sign-has a (lit x v) i ∙ ap (λ o. is_value o v) (sym (e x)) ∙ y)
-                by (Some w) s y = inr (sign-has b (lit x v) j ∙ ap (λ o. is_value o v) s ∙ y)
+                by None s y = inl (sign-has a (lit x v) i ∙ ap (λ o. is_bit_value o v) (sym (e x)) ∙ y)
+                by (Some w) s y = inr (sign-has b (lit x v) j ∙ ap (λ o. is_bit_value o v) s ∙ y)
 
 -- containment
 abbrev pub gone : Option Bool → List Lit → ℕ → Option Bool
@@ -239,7 +239,7 @@ strip-gone [] f x = none (f x)
     none : (o : Option Bool) → o ≡ gone o [] x
     none None = refl
     none (Some v) = refl
-strip-gone (l ∷ ls) f x = strip-gone ls (λ y. if eqb (var_of l) y && is_value (f y) l.positive then None else f y) x ∙ by (f x)
+strip-gone (l ∷ ls) f x = strip-gone ls (λ y. if eqb (var_of l) y && is_bit_value (f y) l.positive then None else f y) x ∙ by (f x)
   where
     none : (t : Bool) → gone (if t && false then None else None) ls x ≡ None
     none true = refl
@@ -256,7 +256,7 @@ strip-gone (l ∷ ls) f x = strip-gone ls (λ y. if eqb (var_of l) y && is_value
     some v true = sign v l.positive
     some v false = refl
 
-    by : (o : Option Bool) → gone (if eqb (var_of l) x && is_value o l.positive then None else o) ls x ≡ gone o (l ∷ ls) x
+    by : (o : Option Bool) → gone (if eqb (var_of l) x && is_bit_value o l.positive then None else o) ls x ≡ gone o (l ∷ ls) x
     by None = none (eqb (var_of l) x)
     by (Some v) = some v (eqb (var_of l) x)
 

@@ -16,11 +16,11 @@ use Rattle.proof_log.specs.Lines.{with_added, ends}
 use Rattle.log_checker.specs.declared.known.Known.{Known}
 use Rattle.log_checker.specs.declared.step.Why.TheVariants.{WrongCounts, OutOfOrder}
 use Rattle.log_checker.specs.Known.{rival, of_bit, as_known}
-use Rattle.log_checker.specs.Steps.{State, or_else, unless, begins, next_id, next_bit, may_stand, ids_fault, own_fault, place_fault, plain_fault, noted}
+use Rattle.log_checker.specs.Steps.{CheckerState, or_else, unless, is_first_line, next_id, next_bit, may_stand_later, ids_fault, own_line_fault, place_fault, plain_fault, noted}
 use Rattle.clause_store.specs.Lits.{IsClause}
 use Rattle.proof_log.specs.Known.{AllClauses}
 use Rattle.log_checker.specs.Known.{clauses_in}
-use Rattle.log_checker.specs.Steps.{start}
+use Rattle.log_checker.specs.Steps.{starting_state}
 use Rattle.proof_log.specs.Lines.{settles}
 use Rattle.log_checker.proofs.Faults.{or_else-parts, unless-true, bit-next}
 use Rattle.log_checker.proofs.Ids.{clauses-append, clauses-known}
@@ -86,7 +86,7 @@ length-more : (ks : List Known) (k : Known) → length (ks ++ k ∷ []) ≡ leng
 length-more [] k = omega arith
 length-more (j ∷ ks) k = ap suc (length-more ks k) ∙ omega arith
 
-room-open : (s : State) (l : Line) → s.lines ≤ length s.known + 1 → may_stand s l ≡ true
+room-open : (s : CheckerState) (l : Line) → s.lines ≤ length s.known + 1 → may_stand_later s l ≡ true
     → s.lines + 1 ≤ length (with_added s.known (noted s.bits l)) + slack (ends l)
 room-open s (Header vars clauses bits) h m = absurd (false≢true m)
 room-open s (Learnt id c chain) h m = omega (arith, h, length-more s.known (rival c))
@@ -104,24 +104,26 @@ room-open s (Unsat chain) h m = omega (arith, h)
 room-open s Spent h m = absurd (false≢true m)
 room-open s End h m = omega (arith, h)
 
-pub room : (s : State) (l : Line) → plain_fault s l ≡ None → s.lines ≤ length s.known + slack s.ended
+pub room : (s : CheckerState) (l : Line) → plain_fault s l ≡ None → s.lines ≤ length s.known + slack s.ended
     → s.lines + 1 ≤ length (with_added s.known (noted s.bits l)) + slack (ends l)
-room s l e h = by (eqb s.lines 0) refl (or_else-parts (place_fault s l) (own_fault s l) e).0
+room s l e h = by (eqb s.lines 0) refl (or_else-parts (place_fault s l) (own_line_fault s l) e).0
   where
     none : eqb s.lines 0 ≡ true → s.lines + 1 ≤ length (with_added s.known (noted s.bits l)) + slack (ends l)
     none q = let z = eqb-true s.lines 0 q in omega (arith, z, slack-least (ends l))
 
-    more : (b : Bool) → s.ended ≡ b → unless (not s.ended && may_stand s l) OutOfOrder ≡ None
+    more : (b : Bool) → s.ended ≡ b → unless (not s.ended && may_stand_later s l) OutOfOrder ≡ None
         → s.lines + 1 ≤ length (with_added s.known (noted s.bits l)) + slack (ends l)
-    more true q f = absurd (false≢true (sym (ap (λ b. not b && may_stand s l) q) ∙ unless-true (not s.ended && may_stand s l) OutOfOrder f))
+    more true q f =
+        absurd (false≢true (sym (ap (λ b. not b && may_stand_later s l) q) ∙ unless-true (not s.ended && may_stand_later s l) OutOfOrder f))
     more false q f = room-open s l (subst (λ b. s.lines ≤ length s.known + slack b) q h)
-        (sym (ap (λ b. not b && may_stand s l) q) ∙ unless-true (not s.ended && may_stand s l) OutOfOrder f)
+        (sym (ap (λ b. not b && may_stand_later s l) q) ∙ unless-true (not s.ended && may_stand_later s l) OutOfOrder f)
 
     by : (b : Bool) → eqb s.lines 0 ≡ b
-        → (if b then unless (begins s l) WrongCounts else or_else (unless (not s.ended && may_stand s l) OutOfOrder)
+        → (if b then unless (is_first_line s l) WrongCounts else or_else (unless (not s.ended && may_stand_later s l) OutOfOrder)
         (ids_fault (length s.known) l)) ≡ None → s.lines + 1 ≤ length (with_added s.known (noted s.bits l)) + slack (ends l)
     by true q f = none q
-    by false q f = more s.ended refl (or_else-parts (unless (not s.ended && may_stand s l) OutOfOrder) (ids_fault (length s.known) l) f).0
+    by false q f =
+        more s.ended refl (or_else-parts (unless (not s.ended && may_stand_later s l) OutOfOrder) (ids_fault (length s.known) l) f).0
 
 -- the copied clauses are in order
 each-push : (cs : List (List Lit)) (c : List Lit) → AllClauses cs → IsClause c → AllClauses (cs ++ c ∷ [])
@@ -148,7 +150,7 @@ pub made : (vars : ℕ) (input : List (List Lit)) (bits : List Lit) (values : Op
       settled = 0;
       ended =
           false;
-    } ≡ start vars input bits values
+    } ≡ starting_state vars input bits values
 made vars input bits values v n bs vals ks e f g h i =
     ap (λ x. record { vars = x; inputs = n; bits = bs; values = vals; known = ks; lines = 0; settled = 0; ended = false }) e
     ∙ ap (λ x. record { vars = vars; inputs = x; bits = bs; values = vals; known = ks; lines = 0; settled = 0; ended = false })

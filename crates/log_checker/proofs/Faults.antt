@@ -22,7 +22,7 @@ use Rattle.log_checker.specs.declared.step.Why.{Why}
 use Rattle.log_checker.specs.declared.step.Why.TheVariants.{WrongCounts, OutOfOrder, UnknownId, WrongBit, NotNew}
 use Rattle.log_checker.specs.declared.known.Known.{Known}
 use Rattle.log_checker.specs.Known.{clauses_in, rivals_in}
-use Rattle.log_checker.specs.Steps.{State, or_else, unless, same_lits, is_among, next_id, next_bit, may_stand, ids_known, why_of, unknown_id, chain_why, bit_clause, value_at, has_value, begins, ids_fault, derivation_fault, own_fault, place_fault, fault}
+use Rattle.log_checker.specs.Steps.{CheckerState, or_else, unless, same_lits, is_among, next_id, next_bit, may_stand_later, ids_known, why_of, unknown_id, chain_why, bit_clause, bit_value_at, has_value, is_first_line, ids_fault, derivation_fault, own_line_fault, place_fault, fault}
 use Rattle.log_checker.proofs.Values.{value-is, is-value}
 use Rattle.log_checker.proofs.Buckets.{same_lits-is, same_lits-refl}
 use Rattle.log_checker.proofs.Ids.{clauses-length}
@@ -115,10 +115,10 @@ derived-chain ks ids c a d =
           (option_map why_of) ((chain_fault-is (clauses_in ks) ids c a i).1 d),
     )
 
-next-id : (s : State) (id : ℕ) → next_id s id ≡ true → id ≡ length (clauses_in s.known) + 1
+next-id : (s : CheckerState) (id : ℕ) → next_id s id ≡ true → id ≡ length (clauses_in s.known) + 1
 next-id s id e = eqb-true id (length s.known + 1) e ∙ ap (λ n. n + 1) (sym (clauses-length s.known))
 
-id-next : (s : State) (id : ℕ) → id ≡ length (clauses_in s.known) + 1 → next_id s id ≡ true
+id-next : (s : CheckerState) (id : ℕ) → id ≡ length (clauses_in s.known) + 1 → next_id s id ≡ true
 id-next s id e = eq-eqb id (length s.known + 1) (e ∙ ap (λ n. n + 1) (clauses-length s.known))
 
 -- bits
@@ -132,7 +132,7 @@ some-get [] k x e = absurd (none-some x e)
 some-get (y ∷ xs) zero x e = omega arith
 some-get (y ∷ xs) (suc k) x e = let h = some-get xs k x e in omega (arith, h)
 
-valued : (values : Option (List Bool)) (b : ℕ) (v : Bool) → value_at values b ≡ Some v → is_some values ≡ true
+valued : (values : Option (List Bool)) (b : ℕ) (v : Bool) → bit_value_at values b ≡ Some v → is_some values ≡ true
 valued None b v e = absurd (none-some v e)
 valued (Some vs) b v e = refl
 
@@ -144,7 +144,7 @@ some-valued : (values : Option (List Bool)) → is_some values ≡ true → (vs 
 some-valued None e = absurd (false≢true e)
 some-valued (Some vs) e = (vs, refl)
 
-pub bit-next : (s : State) (b : ℕ) → next_bit s b ≡ true → (b ≡ s.settled) × (l : Lit) × (slice_get s.bits s.settled ≡ Some l)
+pub bit-next : (s : CheckerState) (b : ℕ) → next_bit s b ≡ true → (b ≡ s.settled) × (l : Lit) × (slice_get s.bits s.settled ≡ Some l)
 bit-next s b e =
     let p = and_parts (eqb b s.settled) (ltb b (length s.bits)) e in
     let q = eqb-true b s.settled p.0 in
@@ -152,19 +152,19 @@ bit-next s b e =
     let g = get-some s.bits s.settled h in
     (q, g.0, g.1)
 
-next-bit : (s : State) (b : ℕ) (l : Lit) → b ≡ s.settled → slice_get s.bits s.settled ≡ Some l → next_bit s b ≡ true
+next-bit : (s : CheckerState) (b : ℕ) (l : Lit) → b ≡ s.settled → slice_get s.bits s.settled ≡ Some l → next_bit s b ≡ true
 next-bit s b l e g = and_from (eqb b s.settled) (ltb b (length s.bits)) (eq-eqb b s.settled e)
     (lt-ltb b (length s.bits) (rw e (some-get s.bits s.settled l g)))
 
 -- a line that may stand and has no fault keeps the rules, and the other way round
-abbrev pub Keeps : State → Line → Type 0
+abbrev pub Keeps : CheckerState → Line → Type 0
 Keeps s l = LineHolds s.bits (clauses_in s.known) s.settled l × IsDistinct (rivals_in s.known) (learnt l) × Suits s.values l
 
-abbrev pub IsClear : State → Line → Type 0
-IsClear s l = (ids_fault (length s.known) l ≡ None) × (derivation_fault s.bits s.known l ≡ None) × (own_fault s l ≡ None)
+abbrev pub IsClear : CheckerState → Line → Type 0
+IsClear s l = (ids_fault (length s.known) l ≡ None) × (derivation_fault s.bits s.known l ≡ None) × (own_line_fault s l ≡ None)
 
-pub keeps-from : (s : State) (l : Line) → AllClauses (clauses_in s.known) → AllClauses (rivals_in s.known) → IsTyped l
-    → may_stand s l ≡ true → IsClear s l → Keeps s l
+pub keeps-from : (s : CheckerState) (l : Line) → AllClauses (clauses_in s.known) → AllClauses (rivals_in s.known) → IsTyped l
+    → may_stand_later s l ≡ true → IsClear s l → Keeps s l
 keeps-from s (Header vars clauses bits) a r t m e = absurd (false≢true m)
 keeps-from s (Learnt id c chain) a r t m e = (
   (next-id s id m, t, chain-derived s.known chain c a e.0 e.1),
@@ -176,7 +176,7 @@ keeps-from s (Zero id b) a r t m e =
     let p = and_parts (is_some s.values) (next_id s id && next_bit s b) m in
     let q = and_parts (next_id s id) (next_bit s b) p.1 in
     let n = bit-next s b q.1 in
-    ((next-id s id q.0, n.0, n.1, n.2), tt, value-is (value_at s.values b) false (unless-true (has_value s b false) WrongBit e.2))
+    ((next-id s id q.0, n.0, n.1, n.2), tt, value-is (bit_value_at s.values b) false (unless-true (has_value s b false) WrongBit e.2))
 keeps-from s (One id b chain) a r t m e =
     let p = and_parts (is_some s.values) (next_id s id && next_bit s b) m in
     let q = and_parts (next_id s id) (next_bit s b) p.1 in
@@ -185,14 +185,14 @@ keeps-from s (One id b chain) a r t m e =
     let same : c ≡ n.1 ∷ [] = ap bit_clause (ap (slice_get s.bits) n.0 ∙ n.2) in (
       (next-id s id q.0, n.0, n.1, n.2, subst (λ x. IsDerived (clauses_in s.known) chain x) same (chain-derived s.known chain c a e.0 e.1)),
       tt,
-      value-is (value_at s.values b) true (unless-true (has_value s b true) WrongBit e.2),
+      value-is (bit_value_at s.values b) true (unless-true (has_value s b true) WrongBit e.2),
     )
 keeps-from s (Unsat chain) a r t m e = (chain-derived s.known chain [] a e.0 e.1, tt, not-valued s.values m)
 keeps-from s Spent a r t m e = absurd (false≢true m)
 keeps-from s End a r t m e = let p = and_parts (is_some s.values) (eqb s.settled (length s.bits)) m in
     (eqb-true s.settled (length s.bits) p.1, tt, some-valued s.values p.0)
 
-pub from-keeps : (s : State) (l : Line) → AllClauses (clauses_in s.known) → Keeps s l → (may_stand s l ≡ true) × IsClear s l
+pub from-keeps : (s : CheckerState) (l : Line) → AllClauses (clauses_in s.known) → Keeps s l → (may_stand_later s l ≡ true) × IsClear s l
 from-keeps s (Header vars clauses bits) a k = absurd k.0
 from-keeps s (Learnt id c chain) a k =
     let d = derived-chain s.known chain c a k.0.2 in
@@ -200,7 +200,7 @@ from-keeps s (Learnt id c chain) a k =
 from-keeps s (Zero id b) a k = (
   and_from (is_some s.values) (next_id s id && next_bit s b) (valued s.values b false k.2)
       (and_from (next_id s id) (next_bit s b) (id-next s id k.0.0) (next-bit s b k.0.2 k.0.1 k.0.3)),
-  (refl, refl, unless-from (has_value s b false) WrongBit (is-value (value_at s.values b) false k.2)),
+  (refl, refl, unless-from (has_value s b false) WrongBit (is-value (bit_value_at s.values b) false k.2)),
 )
 from-keeps s (One id b chain) a k =
     let c = bit_clause (slice_get s.bits b) in
@@ -208,7 +208,7 @@ from-keeps s (One id b chain) a k =
     let d = derived-chain s.known chain c a (subst (λ x. IsDerived (clauses_in s.known) chain x) same k.0.4) in (
       and_from (is_some s.values) (next_id s id && next_bit s b) (valued s.values b true k.2)
           (and_from (next_id s id) (next_bit s b) (id-next s id k.0.0) (next-bit s b k.0.2 k.0.1 k.0.3)),
-      (d.0, d.1, unless-from (has_value s b true) WrongBit (is-value (value_at s.values b) true k.2)),
+      (d.0, d.1, unless-from (has_value s b true) WrongBit (is-value (bit_value_at s.values b) true k.2)),
     )
 from-keeps s (Unsat chain) a k = let d = derived-chain s.known chain [] a k.0 in (ap (λ o. not (is_some o)) k.2, (d.0, d.1, refl))
 from-keeps s Spent a k = absurd k.2
@@ -219,26 +219,26 @@ from-keeps s End a k = (
 )
 
 -- a line over a log that goes on
-place-open : (s : State) (l : Line) → eqb s.lines 0 ≡ false → s.ended ≡ false
-    → place_fault s l ≡ or_else (unless (may_stand s l) OutOfOrder) (ids_fault (length s.known) l)
+place-open : (s : CheckerState) (l : Line) → eqb s.lines 0 ≡ false → s.ended ≡ false
+    → place_fault s l ≡ or_else (unless (may_stand_later s l) OutOfOrder) (ids_fault (length s.known) l)
 place-open s l n o =
-    ap (λ b. if b then unless (begins s l) WrongCounts else or_else (unless (not s.ended && may_stand s l) OutOfOrder)
+    ap (λ b. if b then unless (is_first_line s l) WrongCounts else or_else (unless (not s.ended && may_stand_later s l) OutOfOrder)
     (ids_fault (length s.known) l)) n
-    ∙ ap (λ b. or_else (unless (not b && may_stand s l) OutOfOrder) (ids_fault (length s.known) l)) o
+    ∙ ap (λ b. or_else (unless (not b && may_stand_later s l) OutOfOrder) (ids_fault (length s.known) l)) o
 
-pub fault-keeps : (s : State) (l : Line) → AllClauses (clauses_in s.known) → AllClauses (rivals_in s.known) → IsTyped l
+pub fault-keeps : (s : CheckerState) (l : Line) → AllClauses (clauses_in s.known) → AllClauses (rivals_in s.known) → IsTyped l
     → eqb s.lines 0 ≡ false → s.ended ≡ false → fault s l ≡ None → Keeps s l
 fault-keeps s l a r t n o e =
-    let p = or_else-parts (place_fault s l) (or_else (derivation_fault s.bits s.known l) (own_fault s l)) e in
-    let q = or_else-parts (derivation_fault s.bits s.known l) (own_fault s l) p.1 in
-    let m = or_else-parts (unless (may_stand s l) OutOfOrder) (ids_fault (length s.known) l) (sym (place-open s l n o) ∙ p.0) in
-    keeps-from s l a r t (unless-true (may_stand s l) OutOfOrder m.0) (m.1, q.0, q.1)
+    let p = or_else-parts (place_fault s l) (or_else (derivation_fault s.bits s.known l) (own_line_fault s l)) e in
+    let q = or_else-parts (derivation_fault s.bits s.known l) (own_line_fault s l) p.1 in
+    let m = or_else-parts (unless (may_stand_later s l) OutOfOrder) (ids_fault (length s.known) l) (sym (place-open s l n o) ∙ p.0) in
+    keeps-from s l a r t (unless-true (may_stand_later s l) OutOfOrder m.0) (m.1, q.0, q.1)
 
-pub keeps-fault : (s : State) (l : Line) → AllClauses (clauses_in s.known) → eqb s.lines 0 ≡ false → s.ended ≡ false → Keeps s l
+pub keeps-fault : (s : CheckerState) (l : Line) → AllClauses (clauses_in s.known) → eqb s.lines 0 ≡ false → s.ended ≡ false → Keeps s l
     → fault s l ≡ None
 keeps-fault s l a n o k =
     let p = from-keeps s l a k in
-    or_else-both (place_fault s l) (or_else (derivation_fault s.bits s.known l) (own_fault s l))
-    (place-open s l n o ∙ or_else-both (unless (may_stand s l) OutOfOrder) (ids_fault (length s.known) l)
-    (unless-from (may_stand s l) OutOfOrder p.0) p.1.0)
-    (or_else-both (derivation_fault s.bits s.known l) (own_fault s l) p.1.1 p.1.2)
+    or_else-both (place_fault s l) (or_else (derivation_fault s.bits s.known l) (own_line_fault s l))
+    (place-open s l n o ∙ or_else-both (unless (may_stand_later s l) OutOfOrder) (ids_fault (length s.known) l)
+    (unless-from (may_stand_later s l) OutOfOrder p.0) p.1.0)
+    (or_else-both (derivation_fault s.bits s.known l) (own_line_fault s l) p.1.1 p.1.2)

@@ -10,7 +10,7 @@ use Rattle.proof_log.specs.Lines.{ends, AllLines, LastIs, EndsLast, SettlesNone}
 use Rattle.proof_log.specs.Logs.{IsSound}
 use Rattle.proof_log.specs.Certificates.{HasValue, IsUnsat}
 use Rattle.log_checker.specs.declared.step.Step.TheVariants.{Accepted}
-use Rattle.log_checker.specs.Steps.{Going, start, run, told, finish_on}
+use Rattle.log_checker.specs.Steps.{Going, starting_state, run_lines, told, finish_on}
 use Rattle.log_checker.specs.Kinds.{IsLogOf, Suits, AllSuit, IsSoFar}
 use Rattle.log_checker.proofs.Accepted.{AllTyped, HasEnd, goes_on, accepted-so_far, ended-is, finish-is, told-is}
 
@@ -169,27 +169,28 @@ log-so_far vars input bits None (l ∷ ls) h = (
 
 pub so_far-is : (vars : ℕ) (input : List (List Lit)) (bits : List Lit) (values : Option (List Bool)) (ls : List Line) → AllClauses input
     → AllTyped ls
-    → (told (run (Going (start vars input bits values)) ls) ≡ Accepted) ↔ IsSoFar vars input bits values ls
+    → (told (run_lines (Going (starting_state vars input bits values)) ls) ≡ Accepted) ↔ IsSoFar vars input bits values ls
 so_far-is vars input bits values ls a t =
-    let p = run (Going (start vars input bits values)) ls in
+    let p = run_lines (Going (starting_state vars input bits values)) ls in
     let h = accepted-so_far vars input bits values ls a t in
     ((λ e. h.0 ((told-is p).0 e)), (λ s. (told-is p).1 (h.1 s)))
 
 pub accepted-is : (vars : ℕ) (input : List (List Lit)) (bits : List Lit) (values : Option (List Bool)) (ls : List Line) → AllClauses input
     → AllTyped ls
-    → (finish_on (run (Going (start vars input bits values)) ls) ≡ Accepted) ↔ IsLogOf vars input bits values ls
+    → (finish_on (run_lines (Going (starting_state vars input bits values)) ls) ≡ Accepted) ↔ IsLogOf vars input bits values ls
 accepted-is vars input bits values ls a t = (to, from)
   where
-    h : (goes_on (run (Going (start vars input bits values)) ls) ≡ true) ↔ IsSoFar vars input bits values ls
+    h : (goes_on (run_lines (Going (starting_state vars input bits values)) ls) ≡ true) ↔ IsSoFar vars input bits values ls
     h = accepted-so_far vars input bits values ls a t
 
-    to : finish_on (run (Going (start vars input bits values)) ls) ≡ Accepted → IsLogOf vars input bits values ls
+    to : finish_on (run_lines (Going (starting_state vars input bits values)) ls) ≡ Accepted → IsLogOf vars input bits values ls
     to e =
-        let p = (finish-is (run (Going (start vars input bits values)) ls)).0 e in
-        so_far-log vars input bits values ls (h.0 p.0) ((ended-is (start vars input bits values) ls p.0 refl).0 p.1)
+        let p = (finish-is (run_lines (Going (starting_state vars input bits values)) ls)).0 e in
+        so_far-log vars input bits values ls (h.0 p.0) ((ended-is (starting_state vars input bits values) ls p.0 refl).0 p.1)
 
-    from : IsLogOf vars input bits values ls → finish_on (run (Going (start vars input bits values)) ls) ≡ Accepted
+    from : IsLogOf vars input bits values ls → finish_on (run_lines (Going (starting_state vars input bits values)) ls) ≡ Accepted
     from g =
         let p = log-so_far vars input bits values ls g in
         let f = h.1 p.0 in
-        (finish-is (run (Going (start vars input bits values)) ls)).1 (f, (ended-is (start vars input bits values) ls f refl).1 p.1)
+        (finish-is (run_lines (Going (starting_state vars input bits values)) ls)).1
+        (f, (ended-is (starting_state vars input bits values) ls f refl).1 p.1)

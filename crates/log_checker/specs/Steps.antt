@@ -18,7 +18,7 @@ use Rattle.log_checker.specs.declared.step.Step.TheVariants.{Accepted, Refused}
 use Rattle.log_checker.specs.Known.{rival, of_bit, clauses_in, rivals_in, as_known}
 
 -- where a checker stands after lines that it accepted
-pub record State : Type 0 where
+pub record CheckerState : Type 0 where
   pub vars : ℕ
   pub inputs : ℕ
   pub bits : List Lit
@@ -32,11 +32,11 @@ pub record State : Type 0 where
 
 -- a checker goes on, or stays with the first line that it refused
 pub data Progress : Type 0 where
-  Going : State → Progress
+  Going : CheckerState → Progress
   Stopped : ℕ → Why → Progress
 
-abbrev pub start : ℕ → List (List Lit) → List Lit → Option (List Bool) → State
-start vars input bits values =
+abbrev pub starting_state : ℕ → List (List Lit) → List Lit → Option (List Bool) → CheckerState
+starting_state vars input bits values =
     record {
       vars = vars;
       inputs = length input;
@@ -49,8 +49,8 @@ start vars input bits values =
     }
 
 -- the same over the clauses of a list, whatever their labels
-abbrev pub begun : Clauses → List Lit → Option (List Bool) → State
-begun s bits values = start s.vars (clauses_of s.entries) bits values
+abbrev pub begun : Clauses → List Lit → Option (List Bool) → CheckerState
+begun s bits values = starting_state s.vars (clauses_of s.entries) bits values
 
 -- the first of two faults
 abbrev pub or_else : Option Why → Option Why → Option Why
@@ -73,26 +73,26 @@ is_among [] c = false
 is_among (d ∷ ds) c = same_lits d c || is_among ds c
 
 -- the first line has the numbers of the input
-abbrev pub begins : State → Line → Bool
-begins s (Header vars clauses bits) = (vars == s.vars) && ((clauses == s.inputs) && (bits == length s.bits))
-begins s _ = false
+abbrev pub is_first_line : CheckerState → Line → Bool
+is_first_line s (Header vars clauses bits) = (vars == s.vars) && ((clauses == s.inputs) && (bits == length s.bits))
+is_first_line s _ = false
 
 -- a line's id and bit are the next ones
-abbrev pub next_id : State → ℕ → Bool
+abbrev pub next_id : CheckerState → ℕ → Bool
 next_id s id = id == length s.known + 1
 
-abbrev pub next_bit : State → ℕ → Bool
+abbrev pub next_bit : CheckerState → ℕ → Bool
 next_bit s b = (b == s.settled) && nat_lt b (length s.bits)
 
 -- a later line may stand here
-abbrev pub may_stand : State → Line → Bool
-may_stand s (Header vars clauses bits) = false
-may_stand s (Learnt id c chain) = next_id s id
-may_stand s (Zero id b) = is_some s.values && (next_id s id && next_bit s b)
-may_stand s (One id b chain) = is_some s.values && (next_id s id && next_bit s b)
-may_stand s (Unsat chain) = not (is_some s.values)
-may_stand s Spent = false
-may_stand s End = is_some s.values && (s.settled == length s.bits)
+abbrev pub may_stand_later : CheckerState → Line → Bool
+may_stand_later s (Header vars clauses bits) = false
+may_stand_later s (Learnt id c chain) = next_id s id
+may_stand_later s (Zero id b) = is_some s.values && (next_id s id && next_bit s b)
+may_stand_later s (One id b chain) = is_some s.values && (next_id s id && next_bit s b)
+may_stand_later s (Unsat chain) = not (is_some s.values)
+may_stand_later s Spent = false
+may_stand_later s End = is_some s.values && (s.settled == length s.bits)
 
 -- each id of a chain is a known clause's
 abbrev pub ids_known : ℕ → List ℕ → Bool
@@ -117,16 +117,16 @@ bit_clause None = []
 bit_clause (Some l) = l ∷ []
 
 -- the graph's bit has this value
-abbrev pub value_at : Option (List Bool) → ℕ → Option Bool
-value_at None b = None
-value_at (Some values) b = slice_get values b
+abbrev pub bit_value_at : Option (List Bool) → ℕ → Option Bool
+bit_value_at None b = None
+bit_value_at (Some values) b = slice_get values b
 
-abbrev pub is_value : Option Bool → Bool → Bool
-is_value None v = false
-is_value (Some w) v = beq w v
+abbrev pub is_bit_value : Option Bool → Bool → Bool
+is_bit_value None v = false
+is_bit_value (Some w) v = beq w v
 
-abbrev pub has_value : State → ℕ → Bool → Bool
-has_value s b v = is_value (value_at s.values b) v
+abbrev pub has_value : CheckerState → ℕ → Bool → Bool
+has_value s b v = is_bit_value (bit_value_at s.values b) v
 
 -- where so many clauses are known, an id of a line's chain is none of theirs
 abbrev pub ids_fault : ℕ → Line → Option Why
@@ -143,25 +143,25 @@ derivation_fault bits known (Unsat chain) = chain_why known chain []
 derivation_fault bits known _ = None
 
 -- a bit has the wrong value, or a learnt clause is not new
-abbrev pub own_fault : State → Line → Option Why
-own_fault s (Learnt id c chain) = unless (not (is_among (rivals_in s.known) c)) NotNew
-own_fault s (Zero id b) = unless (has_value s b false) WrongBit
-own_fault s (One id b chain) = unless (has_value s b true) WrongBit
-own_fault s _ = None
+abbrev pub own_line_fault : CheckerState → Line → Option Why
+own_line_fault s (Learnt id c chain) = unless (not (is_among (rivals_in s.known) c)) NotNew
+own_line_fault s (Zero id b) = unless (has_value s b false) WrongBit
+own_line_fault s (One id b chain) = unless (has_value s b true) WrongBit
+own_line_fault s _ = None
 
 -- a line may not stand here, or its chain has an unknown id
-abbrev pub place_fault : State → Line → Option Why
+abbrev pub place_fault : CheckerState → Line → Option Why
 place_fault s l =
-    if s.lines == 0 then unless (begins s l) WrongCounts
-    else or_else (unless (not s.ended && may_stand s l) OutOfOrder) (ids_fault (length s.known) l)
+    if s.lines == 0 then unless (is_first_line s l) WrongCounts
+    else or_else (unless (not s.ended && may_stand_later s l) OutOfOrder) (ids_fault (length s.known) l)
 
 -- which rule a line breaks first
-abbrev pub fault : State → Line → Option Why
-fault s l = or_else (place_fault s l) (or_else (derivation_fault s.bits s.known l) (own_fault s l))
+abbrev pub fault : CheckerState → Line → Option Why
+fault s l = or_else (place_fault s l) (or_else (derivation_fault s.bits s.known l) (own_line_fault s l))
 
 -- the same without the check of the chain
-abbrev pub plain_fault : State → Line → Option Why
-plain_fault s l = or_else (place_fault s l) (own_fault s l)
+abbrev pub plain_fault : CheckerState → Line → Option Why
+plain_fault s l = or_else (place_fault s l) (own_line_fault s l)
 
 -- the known clause that a line makes
 abbrev pub noted : List Lit → Line → Option Known
@@ -170,26 +170,26 @@ noted bits (Zero id b) = option_map (λ l. of_bit (negation l ∷ [])) (slice_ge
 noted bits (One id b chain) = option_map (λ l. of_bit (l ∷ [])) (slice_get bits b)
 noted bits _ = None
 
-abbrev pub accept : State → Line → State
+abbrev pub accept : CheckerState → Line → CheckerState
 accept s l = record s { known = with_added s.known (noted s.bits l); lines = s.lines + 1; settled = s.settled + settles l; ended = ends l }
 
 -- what a line makes of a checker, and what it then answers
-abbrev pub after_fault : State → Line → Option Why → Progress
+abbrev pub after_fault : CheckerState → Line → Option Why → Progress
 after_fault s l None = Going (accept s l)
 after_fault s l (Some w) = Stopped (s.lines + 1) w
 
-abbrev pub next : Progress → Line → Progress
-next (Going s) l = after_fault s l (fault s l)
-next (Stopped n w) l = Stopped n w
+abbrev pub next_progress : Progress → Line → Progress
+next_progress (Going s) l = after_fault s l (fault s l)
+next_progress (Stopped n w) l = Stopped n w
 
 abbrev pub told : Progress → Step
 told (Going s) = Accepted
 told (Stopped n w) = Refused n w
 
 -- what lines make of a checker, one after the other
-abbrev pub run : Progress → List Line → Progress
-run p [] = p
-run p (l ∷ ls) = run (next p l) ls
+abbrev pub run_lines : Progress → List Line → Progress
+run_lines p [] = p
+run_lines p (l ∷ ls) = run_lines (next_progress p l) ls
 
 -- the number of the next line, or of the one that was refused
 abbrev pub line_of : Progress → ℕ

@@ -2,7 +2,7 @@
 //! beside each other.
 
 ghost use Rattle.std.specs.Prelude.{◌≡◌, ◌+◌, ◌-◌, ◌<◌, ◌≤◌, ◌^◌, None, IfOk, OnOk, length};
-ghost use Rattle.log_checker.specs.Steps.{run, Going};
+ghost use Rattle.log_checker.specs.Steps.{run_lines, Going};
 ghost use Rattle.log_checker.specs.Blocks.{take_in, first_bad, either, is_late, verdict, one_more, progress_of, Grows};
 
 use crate::gate::Gate;
@@ -198,7 +198,8 @@ pub fn check_block<R: Threads + Sync, G: Gate>(
     position: &mut Position,
     lines: &[Line],
 ) -> Result<Option<(u64, Why)>, AllocError>
-    ensures ok { IfOk result (λ bad. progress_of position.new bad ≡ run (Going position.old) lines.now) }
+    ensures ok { IfOk result (λ bad. progress_of position.new bad
+        ≡ run_lines (Going position.old) lines.now) }
     ensures grown { Grows position.old position.new }
 {
     let before = position.lines();

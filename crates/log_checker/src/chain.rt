@@ -3,7 +3,7 @@ ghost use Rattle.std.specs.Prelude.{◌≡◌, ◌↔◌, ℕ, length, IfOk, OnO
 ghost use Rattle.std.specs.Option.{option_map};
 ghost use Rattle.proof_log.specs.Resolution.{IdsIn};
 ghost use Rattle.clause_store.specs.Lits.{var_of};
-ghost use Rattle.log_checker.specs.Steps.{chain_why, is_value};
+ghost use Rattle.log_checker.specs.Steps.{chain_why, is_bit_value};
 ghost use Rattle.log_checker.specs.Signs.{sign_of, opposed, clashes, only_one, overlay, strip};
 
 use crate::known::{Known, lits_of};
@@ -24,7 +24,7 @@ fn is_opposed(signs: &Signs, lit: Lit) -> bool
 
 /// Whether a literal's variable has its sign.
 fn is_met(signs: &Signs, lit: Lit) -> bool
-    ensures { result ≡ is_value (sign_of signs.now (var_of lit)) lit.positive }
+    ensures { result ≡ is_bit_value (sign_of signs.now (var_of lit)) lit.positive }
 {
     match signs.get(lit.var.0) {
         Some(sign) => sign == lit.positive,

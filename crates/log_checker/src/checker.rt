@@ -3,7 +3,7 @@ ghost use Rattle.std.specs.Prelude.{◌≡◌, IfOk, OnOk, OnErr};
 ghost use Rattle.std.specs.Option.{option_map};
 ghost use Rattle.clause_store.specs.Clauses.{clauses_of};
 ghost use Rattle.proof_log.specs.Known.{AllClauses};
-ghost use Rattle.log_checker.specs.Steps.{Going, begun, next, run, told, line_of, finish_on};
+ghost use Rattle.log_checker.specs.Steps.{Going, begun, next_progress, run_lines, told, line_of, finish_on};
 
 use crate::block::check_block;
 use crate::gate::Gate;
@@ -60,7 +60,7 @@ impl Checker {
 
     /// Checks the next line. After an error the checker is as it was.
     pub fn step(&mut self, line: &Line) -> Result<Step, AllocError>
-        ensures next { OnOk result (self.new ≡ next self.old line.now) }
+        ensures next { OnOk result (self.new ≡ next_progress self.old line.now) }
         ensures answer { IfOk result (λ step. step ≡ told self.new) }
         ensures err { OnErr result (self.new ≡ self.old) }
     {
@@ -89,7 +89,7 @@ impl Checker {
         gate: &G,
         lines: &[Line],
     ) -> Result<Step, AllocError>
-        ensures next { OnOk result (self.new ≡ run self.old lines.now) }
+        ensures next { OnOk result (self.new ≡ run_lines self.old lines.now) }
         ensures answer { IfOk result (λ step. step ≡ told self.new) }
         ensures err { OnErr result (self.new ≡ self.old) }
     {

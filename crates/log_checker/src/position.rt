@@ -3,7 +3,7 @@ ghost use Rattle.std.specs.Prelude.{◌≡◌, ◌<◌, ◌≤◌, ◌+◌, ◌^
 ghost use Rattle.std.specs.Option.{option_map};
 ghost use Rattle.clause_store.specs.Clauses.{clauses_of};
 ghost use Rattle.proof_log.specs.Known.{AllClauses};
-ghost use Rattle.log_checker.specs.Steps.{unless, begun, begins, may_stand, next_id, next_bit, has_value, own_fault, place_fault, plain_fault, fault, noted, accept};
+ghost use Rattle.log_checker.specs.Steps.{unless, begun, is_first_line, may_stand_later, next_id, next_bit, has_value, own_line_fault, place_fault, plain_fault, fault, noted, accept};
 ghost use Rattle.log_checker.specs.Known.{as_known};
 ghost use Rattle.log_checker.specs.Blocks.{Fits, mark_of, back_to};
 
@@ -36,9 +36,9 @@ pub struct Position {
 impl Model for Position {
     ghost use Rattle.std.specs.Prelude.{◌+◌, ◌≤◌, ◌<◌, ◌^◌, length, if◌then◌else◌};
     ghost use Rattle.std.specs.Option.{option_map};
-    ghost use Rattle.log_checker.specs.Steps.{State};
+    ghost use Rattle.log_checker.specs.Steps.{CheckerState};
 
-    ghost Value = { State };
+    ghost Value = { CheckerState };
 
     ghost view = { λ p. record {
       vars = p.vars;
@@ -143,7 +143,7 @@ impl Position {
 
     /// Whether the first line has the numbers of the input.
     fn begins(&self, line: &Line) -> bool
-        ensures { result ≡ begins self.now line.now }
+        ensures { result ≡ is_first_line self.now line.now }
     {
         match line {
             Line::Header {
@@ -169,7 +169,7 @@ impl Position {
 
     /// Whether a later line may stand here.
     fn may_stand(&self, line: &Line) -> bool
-        ensures { result ≡ may_stand self.now line.now }
+        ensures { result ≡ may_stand_later self.now line.now }
     {
         match line {
             Line::Learnt { id, .. } => self.is_next_id(*id),
@@ -212,7 +212,7 @@ impl Position {
 
     /// The fault of a bit's value or of a learnt clause.
     fn own_fault(&self, line: &Line) -> Option<Why>
-        ensures { result ≡ own_fault self.now line.now }
+        ensures { result ≡ own_line_fault self.now line.now }
     {
         match line {
             Line::Learnt { clause, .. } => unless(

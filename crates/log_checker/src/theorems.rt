@@ -9,7 +9,7 @@ ghost use Rattle.proof_log.specs.declared.line.Line.TheVariants.{Header, Learnt,
 ghost use Rattle.proof_log.specs.Worked.{pos, neg};
 ghost use Rattle.log_checker.specs.declared.step.Why.TheVariants.{WrongCounts, OutOfOrder, UnknownId, NoPivot, TwoPivots, NotContained, WrongBit, NotNew, Unfinished};
 ghost use Rattle.log_checker.specs.declared.step.Step.TheVariants.{Accepted, Refused};
-ghost use Rattle.log_checker.specs.Steps.{Progress, Going, start, run, told, finish_on};
+ghost use Rattle.log_checker.specs.Steps.{Progress, Going, starting_state, run_lines, told, finish_on};
 ghost use Rattle.log_checker.specs.Kinds.{IsLogOf, IsSoFar};
 ghost use Rattle.log_checker.specs.Worked.{refutes, certifies, head, one};
 
@@ -20,15 +20,15 @@ pub fn checker_laws()
     ensures accepted { (vars : ℕ) (input : List (List Lit)) (bits : List Lit)
         (values : Option (List Bool)) (lines : List Line)
         → AllClauses input → AllLines (λ l. OfLearnt IsClause l) lines
-        → (finish_on (run (Going (start vars input bits values)) lines) ≡ Accepted)
+        → (finish_on (run_lines (Going (starting_state vars input bits values)) lines) ≡ Accepted)
         ↔ IsLogOf vars input bits values lines }
     ensures so_far { (vars : ℕ) (input : List (List Lit)) (bits : List Lit)
         (values : Option (List Bool)) (lines : List Line)
         → AllClauses input → AllLines (λ l. OfLearnt IsClause l) lines
-        → (told (run (Going (start vars input bits values)) lines) ≡ Accepted)
+        → (told (run_lines (Going (starting_state vars input bits values)) lines) ≡ Accepted)
         ↔ IsSoFar vars input bits values lines }
     ensures in_blocks { (p : Progress) (lines more : List Line)
-        → run p (lines ++ more) ≡ run (run p lines) more }
+        → run_lines p (lines ++ more) ≡ run_lines (run_lines p lines) more }
 {}
 
 /// Each answer of a checker, computed.

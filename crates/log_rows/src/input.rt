@@ -29,6 +29,17 @@ pub fn lit_of(word: &str, vars: u64) -> Option<Lit>
 /// from 0.
 /// A clause with a literal out of range or with both signs of a variable is left out.
 pub fn clauses_of(alloc: Global, vars: u64, words: &[&str]) -> Result<ClauseList, AllocError> {
+    labelled_clauses(alloc, vars, 0, words)
+}
+
+/// The same, but that so many first clauses are of the structure, and the demands are numbered
+/// behind them.
+pub fn labelled_clauses(
+    alloc: Global,
+    vars: u64,
+    structure: u64,
+    words: &[&str],
+) -> Result<ClauseList, AllocError> {
     let mut clauses = ClauseList::new(alloc);
     for _i in 0..vars {
         clauses.new_var()?;
@@ -38,7 +49,8 @@ pub fn clauses_of(alloc: Global, vars: u64, words: &[&str]) -> Result<ClauseList
         match lit_of(word, clauses.vars()) {
             Some(lit) => lits.push(lit)?,
             None => {
-                add(alloc, &mut clauses, &lits)?;
+                let label = label_at(clauses.len(), structure);
+                add_labelled(alloc, &mut clauses, &lits, label)?;
                 lits.clear();
             }
         }
@@ -48,10 +60,28 @@ pub fn clauses_of(alloc: Global, vars: u64, words: &[&str]) -> Result<ClauseList
 
 /// One more clause, if its literals are in range and of no variable twice with both signs.
 pub fn add(alloc: Global, clauses: &mut ClauseList, lits: &[Lit]) -> Result<(), AllocError> {
+    let label = Label::Demand(clauses.len());
+    add_labelled(alloc, clauses, lits, label)
+}
+
+/// The label of the clause at a place, where so many first ones are of the structure.
+fn label_at(place: u64, structure: u64) -> Label {
+    if place < structure {
+        Label::Structure
+    } else {
+        Label::Demand(place - structure)
+    }
+}
+
+fn add_labelled(
+    alloc: Global,
+    clauses: &mut ClauseList,
+    lits: &[Lit],
+    label: Label,
+) -> Result<(), AllocError> {
     if let Some(clause) = Clause::new(alloc, lits)? {
         if are_below(clause.lits(), clauses.vars()) {
-            let demand = clauses.len();
-            clauses.add(clause, Label::Demand(demand))?;
+            clauses.add(clause, label)?;
         }
     }
     Ok(())

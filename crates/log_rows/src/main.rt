@@ -11,6 +11,7 @@ mod answers;
 mod halves;
 mod input;
 mod least;
+mod least_reasons;
 mod log_row;
 mod logs;
 mod output;
@@ -47,7 +48,7 @@ fn answer<R: Threads + Sync>(rt: &R, alloc: Global, line: &str) -> Result<Vec<u8
     }
 }
 
-/// What the checkers answer.
+/// What the checkers and the explanations answer.
 fn checked<R: Threads + Sync>(
     rt: &R,
     alloc: Global,
@@ -57,6 +58,12 @@ fn checked<R: Threads + Sync>(
         ["check_log", values, vars, rest @ ..] => log_row::answer(rt, alloc, values, vars, rest)?,
         ["check_search", budget, vars, rest @ ..] => {
             search_row::answer(rt, alloc, budget, vars, rest)?
+        }
+        ["reasons", budget, vars, structure, rest @ ..] => {
+            least_reasons::answer(alloc, budget, vars, structure, rest)?
+        }
+        ["is_least", budget, vars, structure, rest @ ..] => {
+            least_reasons::answer_least(alloc, budget, vars, structure, rest)?
         }
         ["halves"] => halves::answer(rt, alloc)?,
         _ => return Ok(Vec::new(alloc)),

@@ -4,31 +4,31 @@ use Rattle.std.specs.Prelude.{slice_get}
 use Rattle.std.specs.Str.{bytes_eq}
 use Rattle.clause_formulas.specs.Statements.{Statement}
 use Rattle.clause_formulas.specs.Rules.{fact, isnt, if_so}
-use Rattle.condition_rules.specs.Words.{among}
+use Rattle.condition_rules.specs.Words.{is_one_text}
 use Rattle.graph_core.specs.Graphs.{Text}
 use Rattle.graph_core.specs.declared.node.Node.{Node}
 use Rattle.graph_core.specs.declared.node.Kinds.{Kinds}
 use Rattle.graph_core.specs.declared.node.Origin.{Origin}
 use Rattle.graph_core.specs.declared.node.Origin.TheVariants.{Built, External, Installed}
-use Rattle.problem.specs.Problems.{Problem, entry_of, externals_in, record_at}
+use Rattle.problem.specs.Problems.{Problem, package_entry_of, externals_in, record_at}
 use Rattle.problem.specs.Records.{kept_dependencies}
 use Rattle.graph_rules.specs.Kept.{external_node, installed_node}
 use Rattle.reuse_db.specs.declared.record.Record.{Record}
 use Rattle.literal_table.specs.Tables.{Table}
-use Rattle.graph_formulas.specs.Facts.{Word, word_said, has_origin, has_os, has_target, has_edge, node_has}
-use Rattle.graph_formulas.specs.Lists.{◌and◌, each}
+use Rattle.graph_formulas.specs.Facts.{GraphWord, word_said, has_origin, has_os, has_target, has_edge, node_has}
+use Rattle.graph_formulas.specs.Lists.{◌and◌, each_keeps}
 use Rattle.graph_formulas.specs.Words.{rule_said}
 use Rattle.graph_formulas.specs.Built.{entry_rule, compiler_rule}
-use Rattle.graph_formulas.specs.Edges.{no_kinds}
+use Rattle.graph_formulas.specs.Edges.{empty_kinds}
 use Rattle.graph_formulas.specs.Kept.{same_origin, installs, same_rule, kinds_rule, is_child_name, child_rule, recorded_rule, origin_rule, kept_rule}
 use Rattle.word_formulas.specs.Builders.{no_paths, plain_said}
 use Rattle.node_formulas.proofs.Alike.{Alike, same-words, given-alike, written-alike, named-alike, each-alike, some-alike}
 
 module _ (path : Text → Text → Statement) (t : Table) where
-  abbrev f : Word → Statement
+  abbrev f : GraphWord → Statement
   f = word_said path t
 
-  abbrev g : Word → Statement
+  abbrev g : GraphWord → Statement
   g = word_said no_paths t
 
   module _ (problem : Problem) where
@@ -37,8 +37,8 @@ module _ (path : Text → Text → Statement) (t : Table) where
         (λ entry. (
           refl,
           (
-            written-alike f g (λ names. fact (node_has name (has_os (among names)))) (λ names. refl) entry.os,
-            written-alike f g (λ names. fact (node_has name (has_target (among names)))) (λ names. refl) entry.targets,
+            written-alike f g (λ names. fact (node_has name (has_os (is_one_text names)))) (λ names. refl) entry.os,
+            written-alike f g (λ names. fact (node_has name (has_target (is_one_text names)))) (λ names. refl) entry.targets,
           ),
         ))
         problem.settings.compilers)
@@ -58,11 +58,12 @@ module _ (path : Text → Text → Statement) (t : Table) where
       origin-alike name Built = refl
       origin-alike name (External place) = (
         named-alike f g (λ entry. same_rule name (external_node problem name place entry)) (λ entry. same-alike name (external_node problem name place entry))
-            (slice_get (externals_in (entry_of problem name)) place),
-        each-alike f g (λ child. isnt (fact (has_edge name child no_kinds))) (λ child. refl) children,
+            (slice_get (externals_in (package_entry_of problem name)) place),
+        each-alike f g (λ child. isnt (fact (has_edge name child empty_kinds))) (λ child. refl) children,
       )
       origin-alike name (Installed hash) = named-alike f g
-          (λ entry. same_rule name (installed_node entry) and each (child_rule problem children name) (kept_dependencies entry) and each (recorded_rule problem children name entry) children)
+          (λ entry. same_rule name (installed_node entry) and each_keeps (child_rule problem children name) (kept_dependencies entry) and
+          each_keeps (recorded_rule problem children name entry) children)
           (λ entry. (
             (same-alike name (installed_node entry), each-alike f g (child_rule problem children name) (child-alike name) (kept_dependencies entry)),
             each-alike f g (recorded_rule problem children name entry) (λ child. (refl, given-alike f g (is_child_name problem entry child))) children,

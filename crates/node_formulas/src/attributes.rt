@@ -2,7 +2,7 @@
 ghost use Rattle.std.specs.Prelude.{◌≡◌, IfOk};
 ghost use Rattle.std.specs.Option.{option_eq};
 ghost use Rattle.std.specs.Str.{bytes_eq};
-ghost use Rattle.clause_formulas.specs.Statements.{both};
+ghost use Rattle.clause_formulas.specs.Statements.{both_statements};
 ghost use Rattle.problem.specs.Problems.{same_compiler};
 ghost use Rattle.graph_rules.specs.Kept.{installed_node};
 ghost use Rattle.graph_formulas.specs.Facts.{has_version, has_compiler, has_os, has_target, has_prefix};
@@ -126,7 +126,7 @@ fn system_is(
     compiler: &Option<Compiler>,
     os: &str,
 ) -> Result<Formula, AllocError>
-    ensures { IfOk result (λ formula. formula ≡ both (both software
+    ensures { IfOk result (λ formula. formula ≡ both_statements (both_statements software
         (node_said table.now name.now
         (has_compiler (λ own. option_eq same_compiler own compiler.now))))
         (node_said table.now name.now (has_os (λ own. bytes_eq own os.now)))) }
@@ -146,7 +146,7 @@ fn place_is(
     target: &str,
     prefix: &Option<Word>,
 ) -> Result<Formula, AllocError>
-    ensures { IfOk result (λ formula. formula ≡ both (both system
+    ensures { IfOk result (λ formula. formula ≡ both_statements (both_statements system
         (node_said table.now name.now (has_target (λ own. bytes_eq own target.now))))
         (node_said table.now name.now (has_prefix (λ own. option_eq bytes_eq own prefix.now)))) }
 {

@@ -17,6 +17,7 @@ use reuse_db::Record;
 use spec_hash::Hash;
 use std::alloc::{AllocError, Global};
 
+/// The child of an edge that leaves the name.
 fn push_child(
     alloc: Global,
     names: &mut Vec<Word>,
@@ -33,6 +34,7 @@ fn push_child(
     Ok(())
 }
 
+/// The children of the edges that leave the name.
 fn children_in(alloc: Global, edges: &[EdgeLits], name: &str) -> Result<Vec<Word>, AllocError>
     ensures { IfOk result (λ names. names.items
         ≡ map (λ e. e.child) (filter (λ e. bytes_eq e.parent name.now) edges.now)) }
@@ -80,6 +82,7 @@ fn is_named(problem: &Problem, hash: &Hash, name: &str) -> bool
     }
 }
 
+/// A dependency that is kept is a record of this name.
 fn some_named(problem: &Problem, dependencies: &[(Hash, Kinds)], name: &str) -> bool
     ensures { result ≡ list_any (λ d. (d.1.link || d.1.run)
         && is_some_and (record_at problem.now d.0) (λ child. bytes_eq child.name name.now))

@@ -1,9 +1,9 @@
 // Formulas of the externals of the settings.
 ghost use Rattle.std.specs.Prelude.{◌≡◌, IfOk, slice_get};
 ghost use Rattle.std.specs.Option.{option_copied};
-ghost use Rattle.problem.specs.Problems.{entry_of, externals_in};
+ghost use Rattle.problem.specs.Problems.{package_entry_of, externals_in};
 ghost use Rattle.graph_rules.specs.Kept.{external_node};
-ghost use Rattle.graph_formulas.specs.Lists.{named};
+ghost use Rattle.graph_formulas.specs.Lists.{one_keeps};
 ghost use Rattle.graph_formulas.specs.Kept.{same_rule};
 ghost use Rattle.word_formulas.specs.Builders.{plain_said};
 
@@ -17,9 +17,10 @@ use site_settings::ExternalEntry;
 use std::alloc::{AllocError, Global};
 use word_formulas::given;
 
+/// The external of the name at a place of the settings.
 fn external_at<'a>(problem: &'a Problem, name: &str, place: u64) -> Option<&'a ExternalEntry>
     ensures { option_copied result
-        ≡ slice_get (externals_in (entry_of problem.now name.now)) place }
+        ≡ slice_get (externals_in (package_entry_of problem.now name.now)) place }
 {
     match entry_of(problem, name) {
         Some(entry) => entry.externals.as_slice().get(place as usize),
@@ -51,7 +52,7 @@ pub(crate) fn listed_external(
     place: u64,
 ) -> Result<Formula, AllocError>
     ensures { IfOk result (λ formula. formula ≡ plain_said table.now
-        (named (slice_get (externals_in (entry_of problem.now name.now)) place)
+        (one_keeps (slice_get (externals_in (package_entry_of problem.now name.now)) place)
         (λ entry. same_rule name.now (external_node problem.now name.now place entry)))) }
 {
     match external_at(problem, name.as_str(), place) {

@@ -4,8 +4,8 @@ ghost use Rattle.clause_formulas.specs.Rules.{fact, isnt};
 ghost use Rattle.graph_core.specs.declared.node.Origin.TheVariants.{External, Installed};
 ghost use Rattle.problem.specs.Records.{kept_dependencies};
 ghost use Rattle.graph_formulas.specs.Facts.{has_edge, has_prefix};
-ghost use Rattle.graph_formulas.specs.Lists.{each};
-ghost use Rattle.graph_formulas.specs.Edges.{no_kinds};
+ghost use Rattle.graph_formulas.specs.Lists.{each_keeps};
+ghost use Rattle.graph_formulas.specs.Edges.{empty_kinds};
 ghost use Rattle.graph_formulas.specs.Kept.{origin_rule};
 ghost use Rattle.node_formulas.specs.Rows.{only_if};
 ghost use Rattle.node_formulas.specs.Attributes.{joined_rule, dependency_rule, edge_rule, record_rule};
@@ -45,6 +45,7 @@ fn installed_child(
     Formula::both(alloc, installed, kinds)
 }
 
+/// The record of the hash is there as a child, and there is such a record.
 fn child_formula(
     alloc: Global,
     problem: &Problem,
@@ -61,6 +62,7 @@ fn child_formula(
     }
 }
 
+/// What a dependency asks, where it is kept.
 fn push_dependency(
     alloc: Global,
     parts: &mut Vec<Formula>,
@@ -80,6 +82,7 @@ fn push_dependency(
     Ok(())
 }
 
+/// What each dependency asks that is kept.
 fn dependency_parts(
     alloc: Global,
     problem: &Problem,
@@ -106,7 +109,7 @@ fn dependencies_formula(
     entry: &Record,
 ) -> Result<Formula, AllocError>
     ensures { IfOk result (λ formula. formula ≡ plain_said table.now
-        (each (dependency_rule problem.now name.now) (kept_dependencies entry.now))) }
+        (each_keeps (dependency_rule problem.now name.now) (kept_dependencies entry.now))) }
 {
     let dependencies = entry.dependencies.as_slice();
     let parts = dependency_parts(alloc, problem, table, name, dependencies)?;
@@ -139,13 +142,14 @@ fn recorded_edges(
     entry: &Record,
 ) -> Result<Formula, AllocError>
     ensures { IfOk result (λ formula. formula ≡ plain_said table.now
-        (each (edge_rule problem.now name.now entry.now) children.now)) }
+        (each_keeps (edge_rule problem.now name.now entry.now) children.now)) }
 {
     each(alloc, children, |child| {
         recorded_formula(alloc, problem, table, name, entry, child)
     })
 }
 
+/// The node is that of the record, with its dependencies and no other edge.
 fn record_formula(
     alloc: Global,
     problem: &Problem,
@@ -190,7 +194,7 @@ fn no_edge(
     child: &Word,
 ) -> Result<Formula, AllocError>
     ensures { IfOk result (λ formula. formula
-        ≡ plain_said table.now (isnt (fact (has_edge name.now child.now no_kinds)))) }
+        ≡ plain_said table.now (isnt (fact (has_edge name.now child.now empty_kinds)))) }
 {
     let edge = has_edge(alloc, table, name, child.as_str(), &no_kinds())?;
     Ok(edge.negated())
@@ -203,11 +207,12 @@ fn no_edges(
     name: &str,
 ) -> Result<Formula, AllocError>
     ensures { IfOk result (λ formula. formula ≡ plain_said table.now
-        (each (λ child. isnt (fact (has_edge name.now child no_kinds))) children.now)) }
+        (each_keeps (λ child. isnt (fact (has_edge name.now child empty_kinds))) children.now)) }
 {
     each(alloc, children, |child| no_edge(alloc, table, name, child))
 }
 
+/// The node is that of the external, and no edge leaves it.
 fn external_formula(
     alloc: Global,
     problem: &Problem,

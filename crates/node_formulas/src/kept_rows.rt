@@ -1,9 +1,9 @@
 // The row of the rule of kept nodes.
 ghost use Rattle.std.specs.Prelude.{◌≡◌, IfOk, map};
 ghost use Rattle.clause_formulas.specs.Rules.{fact, if_so};
-ghost use Rattle.clause_formulas.specs.Statements.{all_of};
+ghost use Rattle.clause_formulas.specs.Statements.{all_statements};
 ghost use Rattle.graph_formulas.specs.Facts.{has_origin, node_has};
-ghost use Rattle.literal_table.specs.Choices.{offered};
+ghost use Rattle.literal_table.specs.Choices.{choice_values};
 ghost use Rattle.graph_formulas.specs.Kept.{same_origin, origin_rule, kept_rule, origins_of};
 ghost use Rattle.graph_formulas.specs.Laws.{children_of};
 ghost use Rattle.node_formulas.specs.Rows.{there_said, there_row};
@@ -54,7 +54,7 @@ fn origins_formula(
     name: &Word,
     origins: &[(Origin, Lit)],
 ) -> Result<Formula, AllocError>
-    ensures { IfOk result (λ formula. formula ≡ all_of (map (λ c. plain_said table.now
+    ensures { IfOk result (λ formula. formula ≡ all_statements (map (λ c. plain_said table.now
         (if_so (fact (node_has name.now (has_origin (same_origin c.0))))
         (origin_rule problem.now children.now name.now c.0))) origins.now)) }
 {
@@ -63,6 +63,7 @@ fn origins_formula(
     })
 }
 
+/// The same of a name that the table has.
 fn kept_in(
     alloc: Global,
     problem: &Problem,
@@ -71,7 +72,7 @@ fn kept_in(
     block: &Block,
 ) -> Result<Formula, AllocError>
     ensures { IfOk result (λ formula. formula ≡ plain_said table.now
-        (kept_rule problem.now (children_of table.now name.now) (offered block.now.origins)
+        (kept_rule problem.now (children_of table.now name.now) (choice_values block.now.origins)
         name.now)) }
 {
     let children = children_of(alloc, table, name.as_str())?;

@@ -1,8 +1,8 @@
 // Formulas at each name of a table, and at each virtual.
 ghost use Rattle.std.specs.Prelude.{◌≡◌, map, IfOk};
-ghost use Rattle.clause_formulas.specs.Statements.{Statement, all_of};
+ghost use Rattle.clause_formulas.specs.Statements.{Statement, all_statements};
 ghost use Rattle.graph_core.specs.Graphs.{Text};
-ghost use Rattle.graph_formulas.specs.Laws.{names_of, virtuals_of};
+ghost use Rattle.graph_formulas.specs.Laws.{table_names, virtuals_of};
 ghost use Rattle.word_formulas.specs.Builders.{Builds};
 
 use clause_formulas::Formula;
@@ -10,6 +10,7 @@ use literal_table::{Block, LiteralTable, ProviderLits};
 use plain_data::Word;
 use std::alloc::{AllocError, Global};
 
+/// The formulas of all names.
 fn name_parts<F: Fn(&Word) -> Result<Formula, AllocError>>(
     alloc: Global,
     blocks: &[Block],
@@ -35,12 +36,13 @@ pub fn each_name<F: Fn(&Word) -> Result<Formula, AllocError>>(
 ) -> Result<Formula, AllocError>
     requires { F.IsAlwaysCallable part }
     ensures { (formula : Text → Statement) → Builds F.Fn formula part
-        → IfOk result (λ whole. whole ≡ all_of (map formula (names_of table.now))) }
+        → IfOk result (λ whole. whole ≡ all_statements (map formula (table_names table.now))) }
 {
     let parts = name_parts(alloc, table.blocks(), part)?;
     Formula::all(alloc, parts)
 }
 
+/// The formulas of all virtuals.
 fn virtual_parts<F: Fn(&Word) -> Result<Formula, AllocError>>(
     alloc: Global,
     providers: &[ProviderLits],
@@ -66,7 +68,7 @@ pub fn each_virtual<F: Fn(&Word) -> Result<Formula, AllocError>>(
 ) -> Result<Formula, AllocError>
     requires { F.IsAlwaysCallable part }
     ensures { (formula : Text → Statement) → Builds F.Fn formula part
-        → IfOk result (λ whole. whole ≡ all_of (map formula (virtuals_of table.now))) }
+        → IfOk result (λ whole. whole ≡ all_statements (map formula (virtuals_of table.now))) }
 {
     let parts = virtual_parts(alloc, table.providers(), part)?;
     Formula::all(alloc, parts)

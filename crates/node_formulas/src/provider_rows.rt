@@ -1,8 +1,6 @@
 // The row of the rule of providers.
 ghost use Rattle.std.specs.Prelude.{◌≡◌, IfOk, map};
-ghost use Rattle.clause_formulas.specs.Rules.{fact};
-ghost use Rattle.clause_formulas.specs.Statements.{all_of};
-ghost use Rattle.graph_formulas.specs.Facts.{provides_as};
+ghost use Rattle.clause_formulas.specs.Statements.{all_statements};
 ghost use Rattle.graph_formulas.specs.Built.{provider_rule};
 ghost use Rattle.node_formulas.specs.Rows.{provided_said, providers_said, provided_row};
 ghost use Rattle.word_formulas.specs.Builders.{plain_said};
@@ -10,26 +8,11 @@ ghost use Rattle.word_formulas.specs.Builders.{plain_said};
 use crate::names::each_virtual;
 use clause_formulas::Formula;
 use clause_store::Lit;
-use literal_table::{LiteralTable, any_choice};
+use literal_table::LiteralTable;
 use plain_data::Word;
 use problem::Problem;
 use std::alloc::{AllocError, Global};
-use word_formulas::{each, provides_formula};
-
-// The package provides the virtual.
-fn provides(
-    alloc: Global,
-    table: &LiteralTable,
-    virtual_name: &str,
-    name: &str,
-) -> Result<Formula, AllocError>
-    ensures { IfOk result (λ formula. formula
-        ≡ plain_said table.now (fact (provides_as virtual_name.now name.now))) }
-{
-    any_choice(alloc, table.packages(virtual_name), |package| {
-        package.as_str() == name
-    })
-}
+use word_formulas::{each, provides_as, provides_formula};
 
 // The node of the package is there, and may provide the virtual.
 fn provider_formula(
@@ -54,10 +37,11 @@ fn provider_at(
     choice: &(Word, Lit),
 ) -> Result<Formula, AllocError>
     ensures { IfOk result (λ formula. formula
-        ≡ provided_said table.now virtual_name.now choice.now.0 (plain_said table.now (provider_rule problem.now (virtual_name.now, choice.now.0)))) }
+        ≡ provided_said table.now virtual_name.now choice.now.0
+        (plain_said table.now (provider_rule problem.now (virtual_name.now, choice.now.0)))) }
 {
     let name = choice.0.as_str();
-    let chosen = provides(alloc, table, virtual_name, name)?;
+    let chosen = provides_as(alloc, table, virtual_name, name)?;
     let kept = provider_formula(alloc, problem, table, virtual_name, name)?;
     Formula::implies(alloc, chosen, kept)
 }
@@ -69,7 +53,7 @@ fn providers_in(
     virtual_name: &str,
     packages: &[(Word, Lit)],
 ) -> Result<Formula, AllocError>
-    ensures { IfOk result (λ formula. formula ≡ all_of (map
+    ensures { IfOk result (λ formula. formula ≡ all_statements (map
         (λ c. provided_said table.now virtual_name.now c.0
         (plain_said table.now (provider_rule problem.now (virtual_name.now, c.0)))) packages.now)) }
 {

@@ -4,7 +4,7 @@ ghost use Rattle.std.specs.List.{list_any};
 ghost use Rattle.std.specs.Option.{option_copied};
 ghost use Rattle.std.specs.Str.{bytes_eq};
 ghost use Rattle.problem.specs.Closure.{is_known, is_some_list};
-ghost use Rattle.problem.specs.Problems.{entry_of, externals_in};
+ghost use Rattle.problem.specs.Problems.{package_entry_of, externals_in};
 ghost use Rattle.keyed_lists.specs.Lent.{lent, IsIndexOf};
 
 use keyed_lists::TextIndex;
@@ -65,9 +65,9 @@ impl<'a> IndexedProblem<'a> {
     }
 
     // What the settings say of a package.
-    #[tactic(auto, unfolding(problem::specs::Problems::entry_of))]
+    #[tactic(auto, unfolding(problem::specs::Problems::package_entry_of))]
     fn entry_of(&self, name: &str) -> Option<&'a PackageEntry>
-        ensures { option_copied result ≡ entry_of self.now name.now }
+        ensures { option_copied result ≡ package_entry_of self.now name.now }
     {
         match self.packages.of(name) {
             [] => None,

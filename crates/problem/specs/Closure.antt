@@ -4,10 +4,10 @@ use Rattle.std.specs.List.{list_any, list_all}
 use Rattle.std.specs.Str.{bytes_eq}
 use Rattle.condition_rules.specs.OfVariantValues.Texts.{byte_cmp}
 use Rattle.condition_rules.specs.OfGraphCore.Graphs.{Text}
-use Rattle.condition_rules.specs.Words.{among, includes, if_written, implies}
+use Rattle.condition_rules.specs.Words.{is_one_text, includes, if_written, implies}
 use Rattle.condition_rules.specs.OfKeyedLists.Keyed.{rises}
 use Rattle.condition_rules.specs.OfVirtuals.Virtuals.{is_virtual}
-use Rattle.problem.specs.Problems.{recipe_at, depends_at, entry_of, externals_in, record_at, Problem}
+use Rattle.problem.specs.Problems.{recipe_at, depends_at, package_entry_of, externals_in, record_at, Problem}
 use Rattle.problem.specs.Records.{kept_dependencies}
 use Rattle.reuse_db.specs.declared.record.Record.{Record}
 
@@ -18,7 +18,7 @@ is_some_list (x ∷ xs) = true
 -- a recipe, an external or a record has the name
 unfoldable pub is_known : Problem → Text → Bool
 is_known problem name =
-    is_some (recipe_at problem name) || is_some_list (externals_in (entry_of problem name))
+    is_some (recipe_at problem name) || is_some_list (externals_in (package_entry_of problem name))
     || list_any (λ entry. bytes_eq entry.name name) problem.database
 
 -- the packages whose recipe provides the virtual
@@ -43,7 +43,7 @@ next_names problem name =
 
 -- a name that is known is among these
 abbrev pub has_known : Problem → List Text → Text → Bool
-has_known problem names name = implies (is_known problem name) (among names name)
+has_known problem names name = implies (is_known problem name) (is_one_text names name)
 
 -- the roots' names are there, and with each name those that it brings, as far as they are known
 unfoldable pub is_closed : Problem → List Text → Bool

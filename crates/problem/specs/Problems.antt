@@ -57,8 +57,8 @@ requirements_at problem name = rows (λ recipe. recipe.requirements) (recipe_at 
 
 -- ---- settings
 
-unfoldable pub entry_of : Problem → Text → Option PackageEntry
-entry_of problem name = find (λ entry. bytes_eq entry.name name) problem.settings.packages
+unfoldable pub package_entry_of : Problem → Text → Option PackageEntry
+package_entry_of problem name = find (λ entry. bytes_eq entry.name name) problem.settings.packages
 
 abbrev pub externals_in : Option PackageEntry → List ExternalEntry
 externals_in None = []

@@ -3,7 +3,7 @@ ghost use Rattle.std.specs.Prelude.{◌≡◌};
 ghost use Rattle.std.specs.List.{list_any};
 ghost use Rattle.std.specs.Str.{bytes_eq};
 ghost use Rattle.problem.specs.Closure.{is_known, is_some_list};
-ghost use Rattle.problem.specs.Problems.{entry_of, externals_in};
+ghost use Rattle.problem.specs.Problems.{package_entry_of, externals_in};
 
 use crate::Problem;
 use crate::lookup::entry_of;
@@ -20,7 +20,7 @@ fn is_some_list(entries: &[ExternalEntry]) -> bool
 }
 
 fn has_external(problem: &Problem, name: &str) -> bool
-    ensures { result ≡ is_some_list (externals_in (entry_of problem.now name.now)) }
+    ensures { result ≡ is_some_list (externals_in (package_entry_of problem.now name.now)) }
 {
     match entry_of(problem, name) {
         Some(entry) => is_some_list(entry.externals.as_slice()),

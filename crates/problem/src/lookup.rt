@@ -3,7 +3,7 @@ ghost use Rattle.std.specs.Prelude.{◌≡◌, IfOk, map};
 ghost use Rattle.std.specs.Option.{option_copied};
 ghost use Rattle.problem.specs.Nodes.{is_built, covers};
 ghost use Rattle.problem.specs.Problems.{recipe_at, versions_at, variants_at, depends_at};
-ghost use Rattle.problem.specs.Problems.{conflicts_at, requirements_at, entry_of, is_buildable_in};
+ghost use Rattle.problem.specs.Problems.{conflicts_at, requirements_at, package_entry_of, is_buildable_in};
 ghost use Rattle.problem.specs.Problems.{same_compiler, applies, asked_by};
 
 use crate::{Explored, Problem};
@@ -74,9 +74,9 @@ pub fn requirements_at<'a>(problem: &'a Problem, name: &str) -> &'a [RequireRow]
 }
 
 /// What the settings say of a package.
-#[tactic(auto, unfolding(crate::specs::Problems::entry_of))]
+#[tactic(auto, unfolding(crate::specs::Problems::package_entry_of))]
 pub fn entry_of<'a>(problem: &'a Problem, name: &str) -> Option<&'a PackageEntry>
-    ensures { option_copied result ≡ entry_of problem.now name.now }
+    ensures { option_copied result ≡ package_entry_of problem.now name.now }
 {
     let settings = problem.settings();
     settings
@@ -88,7 +88,7 @@ pub fn entry_of<'a>(problem: &'a Problem, name: &str) -> Option<&'a PackageEntry
 
 /// Whether the settings let a package be built.
 pub fn is_buildable(problem: &Problem, name: &str) -> bool
-    ensures { result ≡ is_buildable_in (entry_of problem.now name.now) }
+    ensures { result ≡ is_buildable_in (package_entry_of problem.now name.now) }
 {
     match entry_of(problem, name) {
         Some(entry) => entry.buildable,

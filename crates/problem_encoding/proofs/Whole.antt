@@ -7,7 +7,7 @@ use Rattle.graph_core.specs.Graphs.{Text}
 use Rattle.problem.specs.Problems.{Problem}
 use Rattle.problem.specs.Closure.{IsClosure}
 use Rattle.criteria_totals.specs.Totals.{Spelling}
-use Rattle.literal_table.specs.Tables.{Table, name_of}
+use Rattle.literal_table.specs.Tables.{Table, block_name}
 use Rattle.graph_levels.proofs.Growing.{meets-parts}
 use Rattle.ranked_costs.specs.OfTablePlan.Kept.{have_values}
 use Rattle.ranked_costs.specs.OfValidModels.Tables.{table_for}
@@ -17,7 +17,7 @@ use Rattle.ranked_costs.specs.OfValidModels.Closures.{closure_clauses, ClosureSt
 use Rattle.ranked_costs.specs.CostBits.{AreCostBits}
 use Rattle.ranked_costs.specs.OfTermBuilder.Held.{held_in}
 use Rattle.ranked_costs.specs.Given.{held_for}
-use Rattle.clause_formulas.specs.Drafts.{value_at}
+use Rattle.clause_formulas.specs.Drafts.{statement_at}
 use Rattle.problem_formulas.specs.OfGraphEncoding.Formulas.{MetBelow}
 use Rattle.ranked_costs.specs.OfCostTerms.Ranges.{IsTableBelow}
 use Rattle.ranked_costs.specs.Ranked.{closure_values, ClosureInRange, ClosureCosts, ClosureSpells}
@@ -25,7 +25,7 @@ use Rattle.problem_encoding.specs.Encodings.{AreCosted}
 
 -- from the bits of costs behind these clauses
 abbrev pub FromBits : Problem → Table → Clauses → List Defined → Type 0
-FromBits problem t old values = (new : Clauses) (bits : Spelling) (order : List Text) → IsPermutation (map name_of t.blocks) order
+FromBits problem t old values = (new : Clauses) (bits : Spelling) (order : List Text) → IsPermutation (map block_name t.blocks) order
     → AreCostBits old new bits.lits bits.tops problem t (held_in (held_for problem t values)) order → AreCosted problem t new bits
 
 module _ (problem : Problem) (names : List Text) (place : Places) (closure : IsClosure problem names)
@@ -53,7 +53,7 @@ module _ (problem : Problem) (names : List Text) (place : Places) (closure : IsC
     (has : have_values problem names ≡ true)
     (placed : IsPlaced (conditions_of problem (table_for problem names)) place) (range : ClosureInRange) where
   abbrev InRange : Table → Clauses → List Defined → Type 0
-  InRange t old values = IsTableBelow old.vars t × MetBelow old.vars (value_at values)
+  InRange t old values = IsTableBelow old.vars t × MetBelow old.vars (statement_at values)
 
   -- the table and the values of the conditions are over the variables of the clauses
   pub in-range : (t : Table) (old : Clauses) (values : List Defined) → t ≡ table_for problem names

@@ -10,7 +10,7 @@ use Rattle.spec_grammar.specs.declared.part.Spec.{Spec}
 use Rattle.graph_core.specs.Graphs.{Text}
 use Rattle.recipe_data.specs.declared.recipe.Condition.{Condition}
 use Rattle.problem.specs.Problems.{Problem, world_of, variants_at, depends_at, conflicts_at, requirements_at}
-use Rattle.literal_table.specs.Tables.{Table, name_of}
+use Rattle.literal_table.specs.Tables.{Table, block_name}
 use Rattle.literal_table.specs.declared.block.Block.{Block}
 use Rattle.graph_formulas.specs.Words.{names_for}
 use Rattle.graph_encoding.specs.Formulas.{PathFormulas}
@@ -71,12 +71,12 @@ module _ (problem : Problem) (t : Table) (path : PathFormulas) where
   -- of all
   pub all-formulas : (blocks : List Block) → flat_map (λ (block : Block). formulas_at problem t path block.name) blocks
       ≡ map (λ (c : Text × Condition). condition_said problem t path c.0 c.1)
-      (flat_map (λ name. map (λ when. (name, when)) (conditions_at problem name)) (map name_of blocks))
+      (flat_map (λ name. map (λ when. (name, when)) (conditions_at problem name)) (map block_name blocks))
   all-formulas [] = refl
   all-formulas (b ∷ bs) =
       ap (λ zs. formulas_at problem t path b.name ++ zs) (all-formulas bs)
       ∙ ap (λ zs. zs ++ map (λ (c : Text × Condition). condition_said problem t path c.0 c.1)
-      (flat_map (λ name. map (λ when. (name, when)) (conditions_at problem name)) (map name_of bs)))
+      (flat_map (λ name. map (λ when. (name, when)) (conditions_at problem name)) (map block_name bs)))
       (sym (map-map (λ (c : Text × Condition). condition_said problem t path c.0 c.1) (λ when. (b.name, when))
       (conditions_at problem b.name)))
       ∙ sym (map-append (λ (c : Text × Condition). condition_said problem t path c.0 c.1)
@@ -143,4 +143,4 @@ module _ (problem : Problem) (t : Table) where
   -- of all
   pub all-targets : flat_map (λ (block : Block). targets_at problem t block.name) t.blocks
       ++ flat_map specs problem.roots ≡ asked_targets problem t
-  all-targets = ap (λ zs. zs ++ flat_map specs problem.roots) (sym (flat_map-map (targets_at problem t) name_of t.blocks))
+  all-targets = ap (λ zs. zs ++ flat_map specs problem.roots) (sym (flat_map-map (targets_at problem t) block_name t.blocks))

@@ -1,14 +1,14 @@
 -- The rows that are built are those of the rules.
 use Rattle.std.proofs.Common.{◌≡◌, refl, ap, ◌∙◌, List, [], ◌∷◌, ◌++◌, map}
 use Rattle.std.proofs.lemmas.List.{append_assoc}
-use Rattle.clause_formulas.specs.Statements.{Statement, all_of, implies}
+use Rattle.clause_formulas.specs.Statements.{Statement, all_statements, implication_of}
 use Rattle.graph_core.specs.Graphs.{Text}
 use Rattle.recipe_data.specs.declared.recipe.Condition.{Condition}
 use Rattle.problem.specs.Problems.{Problem}
-use Rattle.literal_table.specs.Tables.{Table, names_of, children_of}
+use Rattle.literal_table.specs.Tables.{Table, table_names, children_of}
 use Rattle.graph_formulas.specs.Facts.{has_origin}
 use Rattle.graph_formulas.specs.Words.{names_for}
-use Rattle.graph_formulas.specs.Terms.{builds, known_rule, where_built}
+use Rattle.graph_formulas.specs.Terms.{builds_node, known_rule, where_built}
 use Rattle.graph_formulas.specs.Built.{version_rule, machine_rule}
 use Rattle.graph_formulas.specs.Edges.{extra_edges_rule, used_rule, of_provider}
 use Rattle.graph_formulas.specs.Variants.{variants_rule}
@@ -41,29 +41,31 @@ no-more : ◌≡◌ {A = List Statement} [] []
 no-more = refl
 
 module _ (path : Text → Text → Statement) (condition : Text → Condition → Statement) (t : Table) (problem : Problem) where
-  variants-same : all_of (map (λ name. term_formula path condition t (where_built name (variants_rule problem (variants_of t name) name)))
-      (names_of t)) ≡ variant_row problem t condition
+  variants-same : all_statements
+      (map (λ name. term_formula path condition t (where_built name (variants_rule problem (variants_of t name) name)))
+      (table_names t)) ≡ variant_row problem t condition
   variants-same =
-      ap all_of (map-agree _ _ (λ name. ap (λ s. implies (node_said t name (has_origin builds)) s)
-      (variants-agree path condition t problem (variants_of t name) name)) (names_of t))
+      ap all_statements (map-agree _ _ (λ name. ap (λ s. implication_of (node_said t name (has_origin builds_node)) s)
+      (variants-agree path condition t problem (variants_of t name) name)) (table_names t))
 
-  extra-same : all_of
+  extra-same : all_statements
       (map (λ name. term_formula path condition t (where_built name (extra_edges_rule problem (names_for t) (children_of t name) name)))
-      (names_of t)) ≡ extra_row problem t condition
-  extra-same = ap all_of
-      (map-agree _ _ (λ name. ap (λ s. implies (node_said t name (has_origin builds)) s)
-      (extras-agree path condition t problem (children_of t name) name)) (names_of t))
+      (table_names t)) ≡ extra_row problem t condition
+  extra-same = ap all_statements
+      (map-agree _ _ (λ name. ap (λ s. implication_of (node_said t name (has_origin builds_node)) s)
+      (extras-agree path condition t problem (children_of t name) name)) (table_names t))
 
-  used-same : all_of (map (λ name. term_formula path condition t (of_provider (names_for t) (used_rule problem (names_of t)) name))
+  used-same : all_statements
+      (map (λ name. term_formula path condition t (of_provider (names_for t) (used_rule problem (table_names t)) name))
       (virtuals_of t)) ≡ used_row problem t condition
-  used-same = ap all_of (map-agree _ _ (provider-agree path condition t problem (names_of t)) (virtuals_of t))
+  used-same = ap all_statements (map-agree _ _ (provider-agree path condition t problem (table_names t)) (virtuals_of t))
 
-  version-same : all_of (map (λ name. term_formula path condition t (where_built name (known_rule (version_rule problem name))))
-      (names_of t)) ≡ built_row t (λ name. plain_said t (version_rule problem name))
+  version-same : all_statements (map (λ name. term_formula path condition t (where_built name (known_rule (version_rule problem name))))
+      (table_names t)) ≡ built_row t (λ name. plain_said t (version_rule problem name))
   version-same = refl
 
-  machine-same : all_of (map (λ name. term_formula path condition t (where_built name (known_rule (machine_rule problem name))))
-      (names_of t)) ≡ built_row t (λ name. plain_said t (machine_rule problem name))
+  machine-same : all_statements (map (λ name. term_formula path condition t (where_built name (known_rule (machine_rule problem name))))
+      (table_names t)) ≡ built_row t (λ name. plain_said t (machine_rule problem name))
   machine-same = refl
 
   -- the rows that are built are those of the rules

@@ -1,10 +1,10 @@
 -- The rows of rules, as they are built.
 use Rattle.std.specs.Prelude.{List, [], ◌∷◌, ◌++◌, map}
-use Rattle.clause_formulas.specs.Statements.{Statement, all_of}
+use Rattle.clause_formulas.specs.Statements.{Statement, all_statements}
 use Rattle.graph_core.specs.Graphs.{Text}
 use Rattle.recipe_data.specs.declared.recipe.Condition.{Condition}
 use Rattle.problem.specs.Problems.{Problem}
-use Rattle.literal_table.specs.Tables.{Table, names_of, children_of}
+use Rattle.literal_table.specs.Tables.{Table, table_names, children_of}
 use Rattle.graph_formulas.specs.Words.{names_for}
 use Rattle.graph_formulas.specs.Terms.{where_built}
 use Rattle.graph_formulas.specs.Built.{buildable_rule, version_rule, compiler_rule, machine_rule, provider_rule}
@@ -19,15 +19,17 @@ use Rattle.rule_formulas.specs.Terms.{plain_term}
 module _ (problem : Problem) (t : Table) (condition : Text → Condition → Statement) where
   abbrev pub variant_row : Statement
   variant_row =
-      all_of (map (λ name. plain_term t condition (where_built name (variants_rule problem (variants_of t name) name))) (names_of t))
+      all_statements (map (λ name. plain_term t condition (where_built name (variants_rule problem (variants_of t name) name)))
+      (table_names t))
 
   abbrev pub extra_row : Statement
-  extra_row = all_of
+  extra_row = all_statements
       (map (λ name. plain_term t condition (where_built name (extra_edges_rule problem (names_for t) (children_of t name) name)))
-      (names_of t))
+      (table_names t))
 
   abbrev pub used_row : Statement
-  used_row = all_of (map (λ name. plain_term t condition (of_provider (names_for t) (used_rule problem (names_of t)) name)) (virtuals_of t))
+  used_row = all_statements (map (λ name. plain_term t condition (of_provider (names_for t) (used_rule problem (table_names t)) name))
+      (virtuals_of t))
 
   abbrev pub first_rows : List Statement
   first_rows = built_row t (λ name. plain_said t (buildable_rule problem name))

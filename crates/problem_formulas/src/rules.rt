@@ -1,6 +1,6 @@
 //! The rules that are always asked.
 ghost use Rattle.std.specs.Prelude.{◌≡◌, ◌++◌, IfOk, OnOk};
-ghost use Rattle.clause_formulas.specs.Statements.{all_of};
+ghost use Rattle.clause_formulas.specs.Statements.{all_statements};
 ghost use Rattle.problem_formulas.specs.Rows.{first_rows, more_rows, last_rows, rows_said};
 
 use crate::rows::{extra_row, used_row, variant_row};
@@ -81,7 +81,7 @@ pub(crate) fn all_rules<C: MetConditions>(
     conditions: &C,
 ) -> Result<Formula, AllocError>
     ensures { IfOk result (λ formula. formula
-        ≡ all_of (rows_said problem.now table.now (C.condition_of conditions.now))) }
+        ≡ all_statements (rows_said problem.now table.now (C.condition_of conditions.now))) }
 {
     let mut parts = Vec::new(alloc);
     push_first(alloc, &mut parts, problem, table, conditions)?;

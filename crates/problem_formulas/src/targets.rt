@@ -2,7 +2,7 @@
 ghost use Rattle.std.specs.Prelude.{◌≡◌, ◌++◌, ◌∷◌, [], map, if◌then◌else◌, IfOk, OnOk};
 ghost use Rattle.std.specs.List.{flat_map};
 ghost use Rattle.virtuals.specs.Virtuals.{is_virtual};
-ghost use Rattle.literal_table.specs.Choices.{offered};
+ghost use Rattle.literal_table.specs.Choices.{choice_values};
 ghost use Rattle.problem.specs.Problems.{world_of};
 ghost use Rattle.graph_formulas.specs.Words.{names_for};
 ghost use Rattle.valid_models.specs.Targets.{asked_names, spec_names, condition_names, targets_at, asked_targets, targets_of};
@@ -24,7 +24,7 @@ fn push_packages(
     packages: &[(Word, Lit)],
     names: &mut Vec<Word>,
 ) -> Result<(), AllocError>
-    ensures { OnOk result (names.new.items ≡ names.old.items ++ offered packages.now) }
+    ensures { OnOk result (names.new.items ≡ names.old.items ++ choice_values packages.now) }
 {
     for choice in packages {
         names.push(choice.0.duplicate(alloc)?)?;

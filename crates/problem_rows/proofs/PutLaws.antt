@@ -11,10 +11,10 @@ use Rattle.keyed_lists.specs.Keyed.{with_one}
 use Rattle.keyed_lists.proofs.KeyedLaws.{in_order-with_one}
 use Rattle.recipe_data.specs.Right.{is_right_recipe}
 use Rattle.recipe_data.specs.declared.recipe.Recipe.{Recipe}
-use Rattle.virtuals.specs.Virtuals.{AreInOrder, name_of}
+use Rattle.virtuals.specs.Virtuals.{AreInOrder, recipe_name}
 
 abbrev pub with_recipe : List Recipe → Recipe → List Recipe
-with_recipe = with_one byte_cmp name_of
+with_recipe = with_one byte_cmp recipe_name
 
 one_right : (xs : List Recipe) (x : Recipe) → list_all is_right_recipe xs ≡ true → is_right_recipe x ≡ true
     → list_all is_right_recipe (with_recipe xs x) ≡ true
@@ -34,5 +34,5 @@ put_right true xs x all this = one_right xs x all this
 put_right false xs x all this = all
 
 pub put_order : (added : Bool) (xs : List Recipe) (x : Recipe) → AreInOrder xs → AreInOrder (cond added (with_recipe xs x) xs)
-put_order true xs x order = in_order-with_one nat_list_cmp_total ties_are_equal name_of xs x order
+put_order true xs x order = in_order-with_one nat_list_cmp_total ties_are_equal recipe_name xs x order
 put_order false xs x order = order

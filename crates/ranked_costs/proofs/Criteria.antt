@@ -11,7 +11,7 @@ use Rattle.clause_store.specs.declared.Lit.{Lit}
 use Rattle.clause_formulas.specs.Statements.{Statement, atom}
 use Rattle.graph_core.specs.Graphs.{Text}
 use Rattle.recipe_data.specs.declared.recipe.VariantRow.{VariantRow}
-use Rattle.condition_rules.specs.Words.{among}
+use Rattle.condition_rules.specs.Words.{is_one_text}
 use Rattle.problem.specs.Problems.{Problem, variants_at}
 use Rattle.problem.specs.Closure.{possible_providers}
 use Rattle.graph_rules.specs.Weights.{version_weight, is_deprecated, os_weight, target_weight, compiler_weight, provider_weight}
@@ -19,10 +19,10 @@ use Rattle.possible_closure.proofs.Lists.{none_in_order, texts_in_order}
 use Rattle.table_plan.specs.Plans.{variant_names, variant_values, possible_at, asked_virtuals, possible_packages, plan_of}
 use Rattle.literal_table.specs.Choices.{Choices, passing}
 use Rattle.literal_table.specs.declared.block.Block.{Block}
-use Rattle.table_plan.specs.Numbers.{lit_of, width_of, widths, numbered, variants_from, block_from, provider_from, providers_from, table_from}
+use Rattle.table_plan.specs.Numbers.{positive_lit, width_of, widths, numbered, variants_from, block_from, provider_from, providers_from, table_from}
 use Rattle.cost_terms.specs.declared.weighted.Weighted.{Weighted}
 use Rattle.cost_terms.specs.Weighed.{top_said}
-use Rattle.cost_terms.specs.Differ.{is_text, is_some_compiler, same_compilers}
+use Rattle.cost_terms.specs.Differ.{is_any_text, is_some_compiler, same_compilers}
 use Rattle.cost_terms.specs.Governing.{Row, of_variant, other_terms, unused_terms, variant_terms}
 use Rattle.cost_terms.specs.Terms.{Held, is_root_name, at_root_terms, off_root_terms, presence_terms, deprecated_terms, version_terms, os_terms, target_terms, compiler_terms, rows_at, over_variants_terms, other_values_terms, unused_defaults_terms, virtual_terms, provider_terms, edges_terms, compilers_differ, os_differ, targets_differ, criteria_terms}
 use Rattle.cost_terms.proofs.Lists.{sum-map, sum-flat}
@@ -105,7 +105,7 @@ module _ (problem : Problem) (limits : IsWithin problem) (names : List Text) (ri
           arith,
           same,
           values-few problem limits name from.0,
-          run-length (λ (m : ℕ) (x : Text). let c : Text × Lit = (x, lit_of m) in
+          run-length (λ (m : ℕ) (x : Text). let c : Text × Lit = (x, positive_lit m) in
               c) (λ x. 1) m w.1,
         ) in
         governing-top terms f (numbered m w.1) (λ r. le r (numbered m w.1) short) (of_variant w.0 (rows_at problem held name))
@@ -164,7 +164,7 @@ module _ (problem : Problem) (limits : IsWithin problem) (names : List Text) (ri
 
   packages-rise : (virtual : Text) → IsInByteOrder (possible_packages problem names virtual)
   unfolding possible_packages
-  packages-rise virtual = IsStrictlySortedBy-filter byte_cmp (among (possible_providers problem virtual)) names rising
+  packages-rise virtual = IsStrictlySortedBy-filter byte_cmp (is_one_text (possible_providers problem virtual)) names rising
 
   abbrev Provided : Text → Text × List Text
   Provided virtual = (virtual, possible_packages problem names virtual)
@@ -248,7 +248,7 @@ module _ (problem : Problem) (limits : IsWithin problem) (names : List Text) (ri
                     (
                       edges compilers_differ (λ there a b. differ-top is_some_compiler same_compilers there a.compilers b.compilers),
                       (
-                        edges os_differ (λ there a b. differ-top is_text bytes_eq there a.os b.os),
+                        edges os_differ (λ there a b. differ-top is_any_text bytes_eq there a.os b.os),
                         (
                           systems,
                           (
@@ -257,7 +257,10 @@ module _ (problem : Problem) (limits : IsWithin problem) (names : List Text) (ri
                               off-root (unused_defaults_terms problem held) unused,
                               (
                                 compilers,
-                                (edges targets_differ (λ there a b. differ-top is_text bytes_eq there a.targets b.targets), (targets, tt)),
+                                (
+                                  edges targets_differ (λ there a b. differ-top is_any_text bytes_eq there a.targets b.targets),
+                                  (targets, tt),
+                                ),
                               ),
                             ),
                           ),

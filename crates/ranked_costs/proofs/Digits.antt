@@ -9,7 +9,7 @@ use Rattle.graph_core.specs.declared.node.Origin.{Origin}
 use Rattle.literal_table.specs.Choices.{Choices, any_choice}
 use Rattle.cost_terms.specs.declared.weighted.Weighted.{Weighted}
 use Rattle.cost_terms.specs.Weighed.{top_said}
-use Rattle.cost_terms.specs.Spread.{weighed, is_odd, half_of, digit_terms, greatest, spread}
+use Rattle.cost_terms.specs.Spread.{weighed_choices, is_odd, half_of, digit_terms, greatest, spread_terms}
 use Rattle.cost_terms.specs.Parts.{part_said, only_where, is_of, in_part}
 use Rattle.cost_terms.specs.Terms.{weight_terms}
 use Rattle.cost_terms.proofs.Lists.{sum-map}
@@ -24,9 +24,9 @@ digits-top (suc k) unit choices =
     omega (
       arith,
       doubled unit k,
-      digits-top k (2 * unit) (weighed half_of choices),
+      digits-top k (2 * unit) (weighed_choices half_of choices),
       sum_by-cons (λ (t : Weighted). t.weight) (record { weight = unit; formula = any_choice is_odd choices })
-          (digit_terms k (2 * unit) (weighed half_of choices)),
+          (digit_terms k (2 * unit) (weighed_choices half_of choices)),
     )
 
 -- a number has no more digits than it needs
@@ -50,8 +50,8 @@ unfolding size
 size-is n = size-top 63 n
 
 -- the terms of choices add up to twice the greatest weight at most
-spread-top : (choices : Choices ℕ) → greatest choices < 2 ^ 63 → top_said (spread choices) ≤ 2 * greatest choices
-unfolding spread
+spread-top : (choices : Choices ℕ) → greatest choices < 2 ^ 63 → top_said (spread_terms choices) ≤ 2 * greatest choices
+unfolding spread_terms
 spread-top choices small = rw (lt-ltb (greatest choices) (2 ^ 63) small) (⊎_elim
     (λ none. let one : 2 ^ size (greatest choices) ≡ 1 = ap (λ j. 2 ^ j) none.1 in
     omega (arith, digits-top (size (greatest choices)) 1 choices))
@@ -59,7 +59,7 @@ spread-top choices small = rw (lt-ltb (greatest choices) (2 ^ 63) small) (⊎_el
     (size-is (greatest choices)))
 
 greatest-top : {T : Type 0} (weight : T → ℕ) (most : ℕ) → ((x : T) → weight x ≤ most) → (choices : Choices T)
-    → greatest (weighed weight choices) ≤ most
+    → greatest (weighed_choices weight choices) ≤ most
 greatest-top weight most le [] = omega arith
 greatest-top weight most le (c ∷ cs) = omega (arith, le c.0, greatest-top weight most le cs)
 
@@ -68,7 +68,7 @@ pub weights-top : {T : Type 0} (weight : T → ℕ) (most : ℕ) → ((x : T) �
     → top_said (weight_terms weight choices) ≤ 2 * most
 weights-top weight most le small choices =
     let below = greatest-top weight most le choices in
-    omega (arith, below, spread-top (weighed weight choices) (omega arith))
+    omega (arith, below, spread-top (weighed_choices weight choices) (omega arith))
 
 -- ---- parts
 

@@ -9,7 +9,7 @@ use Rattle.problem.specs.Problems.{Problem}
 use Rattle.graph_rules.specs.Costs.{vector}
 use Rattle.criteria_totals.specs.Spellings.{bits_for}
 use Rattle.criteria_totals.specs.Totals.{values_at}
-use Rattle.literal_table.specs.Tables.{Table, IsTable, name_of}
+use Rattle.literal_table.specs.Tables.{Table, IsTable, block_name}
 use Rattle.graph_levels.proofs.Growing.{meets-parts}
 use Rattle.graph_encoding.proofs.Ranking.{all-said}
 use Rattle.graph_encoding.specs.Formulas.{Formulas, IsRightTable, AreRightFormulas}
@@ -54,7 +54,7 @@ module _ (problem : Problem) (names : List Text) (place : Places) (order : List 
       → (new : Clauses) (bits : List Lit) (tops : List ℕ)
       → AreCostBits (closure_clauses problem names place) new bits tops problem t
       (held_in (held_for problem t (closure_values problem names place))) order
-      → IsTable t → IsPermutation (map name_of t.blocks) order → (v : ℕ → Bool) → Meets all v new.entries
+      → IsTable t → IsPermutation (map block_name t.blocks) order → (v : ℕ → Bool) → Meets all v new.entries
       → bits_for tops (vector problem (decode v t)) ≡ Some (values_at v bits)
   found right says new bits tops costs table ordered v meets =
       let p = meets-parts (closure_clauses problem names place) new all v costs.totals.defines.says.grows meets in

@@ -11,12 +11,12 @@ use Rattle.std.proofs.lemmas.Simd.{map-map}
 use Rattle.clause_store.specs.Clauses.{Clauses}
 use Rattle.clause_formulas.specs.Statements.{Statement, eval}
 use Rattle.clause_formulas.specs.declared.defined.Defined.{Defined}
-use Rattle.clause_formulas.specs.Drafts.{said_of, value_at}
+use Rattle.clause_formulas.specs.Drafts.{statement_of, statement_at}
 use Rattle.clause_formulas.specs.Gated.{Gated}
 use Rattle.clause_formulas.specs.Built.{define_in, define_all_in}
 use Rattle.graph_core.specs.Graphs.{Text, Content}
 use Rattle.recipe_data.specs.declared.recipe.Condition.{Condition}
-use Rattle.condition_rules.specs.Words.{among}
+use Rattle.condition_rules.specs.Words.{is_one_text}
 use Rattle.condition_rules.specs.Holds.{all_hold}
 use Rattle.problem.specs.Problems.{Problem, world_of, variants_at, depends_at, conflicts_at, requirements_at}
 use Rattle.graph_rules.proofs.Lists.{bytes_eq-same}
@@ -38,7 +38,7 @@ seam-drop k xs ys e = ap (λ j. drop j (xs ++ ys)) (sym e) ∙ drop-append_seam 
 
 module _ (v : ℕ → Bool) (problem : Problem) (graph : Content) where
   abbrev said : Defined → Bool
-  said d = eval v (said_of d)
+  said d = eval v (statement_of d)
 
   -- where conditions hold at a name
   abbrev tests : Text → List Condition → List Bool
@@ -52,7 +52,7 @@ module _ (v : ℕ → Bool) (problem : Problem) (graph : Content) where
 
   -- values of conditions say where these hold
   pub told : (values : List Defined) (cs : List (Text × Condition)) → length values ≡ length cs
-      → ((k : ℕ) → eval v (value_at values k) ≡ holds_at problem cs k graph) → map said values ≡ map tested cs
+      → ((k : ℕ) → eval v (statement_at values k) ≡ holds_at problem cs k graph) → map said values ≡ map tested cs
   told [] [] e h = refl
   told [] (c ∷ cs) e h = absurd (omega (arith, e))
   told (d ∷ ds) [] e h = absurd (omega (arith, e))
@@ -109,7 +109,7 @@ module _ (v : ℕ → Bool) (problem : Problem) (graph : Content) where
 
   -- what is given for a name says where its definitions' conditions hold
   pub held-says : (names : List Text) (values : List Defined) (name : Text) → map said values ≡ map tested (listed names)
-      → among names name ≡ true
+      → is_one_text names name ≡ true
       → map (eval v) (held_in (held_from problem names values) name)
       ≡ map (λ row. all_hold (world_of problem) row.when graph name) (variants_at problem name)
   held-says [] values name e there = absurd (false≢true there)
@@ -122,20 +122,20 @@ module _ (v : ℕ → Bool) (problem : Problem) (graph : Content) where
       (held-says ns (passed problem n values) name (rest-is n values (map tested (listed ns)) split))
     where
       held-says-cases : (b : Bool) → bytes_eq name n ≡ b → map said values ≡ tests n (conditions_at problem n) ++ map tested (listed ns)
-          → (bytes_eq name n || among ns name) ≡ true
-          → (among ns name ≡ true → map (eval v) (held_in (held_from problem ns (passed problem n values)) name)
+          → (bytes_eq name n || is_one_text ns name) ≡ true
+          → (is_one_text ns name ≡ true → map (eval v) (held_in (held_from problem ns (passed problem n values)) name)
           ≡ map (λ row. all_hold (world_of problem) row.when graph name) (variants_at problem name))
           → map (eval v) (held_in (held_from problem (n ∷ ns) values) name)
           ≡ map (λ row. all_hold (world_of problem) row.when graph name) (variants_at problem name)
       held-says-cases true is split there later =
           let shape : Bool → List Bool =
-          λ b. map (eval v) (map said_of (defined_in (cond b (Some (n, take (length (variants_at problem n)) values))
+          λ b. map (eval v) (map statement_of (defined_in (cond b (Some (n, take (length (variants_at problem n)) values))
           (find (λ h. bytes_eq name h.0) (held_from problem ns (passed problem n values)))))) in
-          ap shape is ∙ subst (λ m. map (eval v) (map said_of (take (length (variants_at problem n)) values))
+          ap shape is ∙ subst (λ m. map (eval v) (map statement_of (take (length (variants_at problem n)) values))
           ≡ map (λ row. all_hold (world_of problem) row.when graph m) (variants_at problem m)) (sym (bytes_eq-same name n is))
-          (map-map (eval v) said_of (take (length (variants_at problem n)) values) ∙ first-are n values (map tested (listed ns)) split)
+          (map-map (eval v) statement_of (take (length (variants_at problem n)) values) ∙ first-are n values (map tested (listed ns)) split)
       held-says-cases false is split there later =
           let shape : Bool → List Bool =
-          λ b. map (eval v) (map said_of (defined_in (cond b (Some (n, take (length (variants_at problem n)) values))
+          λ b. map (eval v) (map statement_of (defined_in (cond b (Some (n, take (length (variants_at problem n)) values))
           (find (λ h. bytes_eq name h.0) (held_from problem ns (passed problem n values)))))) in
-          ap shape is ∙ later (sym (ap (λ b. b || among ns name) is) ∙ there)
+          ap shape is ∙ later (sym (ap (λ b. b || is_one_text ns name) is) ∙ there)

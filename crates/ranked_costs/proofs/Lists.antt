@@ -3,7 +3,7 @@ use Rattle.std.proofs.Common.{◌≡◌, sym, ap, subst, ◌∙◌, ℕ, true, L
 use Rattle.clause_store.specs.declared.Lit.{Lit}
 use Rattle.clause_store.specs.Clauses.{Clauses}
 use Rattle.clause_formulas.specs.declared.defined.Defined.{Defined}
-use Rattle.clause_formulas.specs.Drafts.{value_at}
+use Rattle.clause_formulas.specs.Drafts.{statement_at}
 use Rattle.graph_core.specs.Graphs.{Text}
 use Rattle.problem.specs.Problems.{Problem}
 use Rattle.literal_table.specs.Tables.{Table}
@@ -32,7 +32,7 @@ module _ (problem : Problem) (t : Table) (values : List Defined) (order : List T
   items-are = taken ∙ built ∙ ap (λ held. cost_terms problem t (held_in held) order) (seen ∙ made)
 
   -- the lists are over the variables
-  pub items-below : (n : ℕ) → IsTableBelow n t → MetBelow n (value_at values) → AllWeighedBelow n items
+  pub items-below : (n : ℕ) → IsTableBelow n t → MetBelow n (statement_at values) → AllWeighedBelow n items
   items-below n table below =
       subst (AllWeighedBelow n) (sym items-are)
       (costs-below n problem t (held_in (held_for problem t values)) table (held-below n problem t values below) order)

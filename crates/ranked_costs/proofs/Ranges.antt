@@ -7,13 +7,13 @@ use Rattle.std.proofs.lemmas.List.Concat.{flat_map-cons}
 use Rattle.clause_store.specs.declared.Lit.{Lit}
 use Rattle.clause_store.specs.Lits.{AllBelow}
 use Rattle.clause_store.proofs.Range.{AllBelow-le}
-use Rattle.clause_formulas.specs.Statements.{any_of, SaidBelow}
+use Rattle.clause_formulas.specs.Statements.{any_statement, SaidBelow}
 use Rattle.clause_formulas.specs.declared.defined.Defined.{Defined}
-use Rattle.clause_formulas.specs.Drafts.{said_of, value_at}
+use Rattle.clause_formulas.specs.Drafts.{statement_of, statement_at}
 use Rattle.graph_core.specs.Graphs.{Text}
 use Rattle.problem.specs.Problems.{Problem, variants_at, depends_at, conflicts_at, requirements_at}
-use Rattle.literal_table.specs.Choices.{Choices, lits_of}
-use Rattle.literal_table.specs.Tables.{Table, name_of}
+use Rattle.literal_table.specs.Choices.{Choices, choice_lits}
+use Rattle.literal_table.specs.Tables.{Table, block_name}
 use Rattle.graph_encoding.specs.Formulas.{MetBelow}
 use Rattle.literal_table.specs.Ranges as numbers
 use Rattle.cost_terms.specs.Ranges.{IsTableBelow, AreHeldBelow}
@@ -30,14 +30,14 @@ right-below : (n : ℕ) (ks ls : List Lit) → AllBelow n (ks ++ ls) → AllBelo
 right-below n [] ls b = b
 right-below n (k ∷ ks) ls b = right-below n ks ls b.1
 
-values-below : (n : ℕ) (ws : List (Text × Choices Text)) → AllBelow n (flat_map (λ w. lits_of w.1) ws)
-    → All (λ (w : Text × Choices Text). AllBelow n (lits_of w.1)) ws
+values-below : (n : ℕ) (ws : List (Text × Choices Text)) → AllBelow n (flat_map (λ w. choice_lits w.1) ws)
+    → All (λ (w : Text × Choices Text). AllBelow n (choice_lits w.1)) ws
 values-below n [] b k d lt = absurd (omega (arith, lt))
-values-below n (w ∷ ws) b zero d lt = left-below n (lits_of w.1) (flat_map (λ w. lits_of w.1) ws)
-    (subst (AllBelow n) (flat_map-cons (λ w. lits_of w.1) w ws) b)
+values-below n (w ∷ ws) b zero d lt = left-below n (choice_lits w.1) (flat_map (λ w. choice_lits w.1) ws)
+    (subst (AllBelow n) (flat_map-cons (λ w. choice_lits w.1) w ws) b)
 values-below n (w ∷ ws) b (suc k) d lt =
-    values-below n ws (right-below n (lits_of w.1) (flat_map (λ w. lits_of w.1) ws)
-    (subst (AllBelow n) (flat_map-cons (λ w. lits_of w.1) w ws) b)) k d (omega (arith, lt))
+    values-below n ws (right-below n (choice_lits w.1) (flat_map (λ w. choice_lits w.1) ws)
+    (subst (AllBelow n) (flat_map-cons (λ w. choice_lits w.1) w ws) b)) k d (omega (arith, lt))
 
 -- a table below a number is below a greater one
 pub table-below : (m n : ℕ) (t : Table) → m ≤ n → numbers.IsTableBelow m t → IsTableBelow n t
@@ -58,9 +58,9 @@ table-below m n t h below = record {
 -- ---- values of conditions
 
 abbrev ValuesBelow : ℕ → List Defined → Type 0
-ValuesBelow n ds = SaidBelow n (any_of (map said_of ds))
+ValuesBelow n ds = SaidBelow n (any_statement (map statement_of ds))
 
-all-below : (n : ℕ) (ds : List Defined) → MetBelow n (value_at ds) → ValuesBelow n ds
+all-below : (n : ℕ) (ds : List Defined) → MetBelow n (statement_at ds) → ValuesBelow n ds
 all-below n [] h = tt
 all-below n (d ∷ ds) h = (h zero, all-below n ds (λ k. h (suc k)))
 
@@ -86,20 +86,20 @@ from-below n problem (x ∷ names) values b name =
     from-below-cases (bytes_eq name x) refl (from-below n problem names (passed problem x values) (passed-below n problem x values b) name)
   where
     from-below-cases : (same : Bool) → bytes_eq name x ≡ same
-        → SaidBelow n (any_of (held_in (held_from problem names (passed problem x values)) name))
-        → SaidBelow n (any_of (held_in (held_from problem (x ∷ names) values) name))
+        → SaidBelow n (any_statement (held_in (held_from problem names (passed problem x values)) name))
+        → SaidBelow n (any_statement (held_in (held_from problem (x ∷ names) values) name))
     from-below-cases true is later =
         let there : Bool → Type 0 =
-        λ same. SaidBelow n (any_of (map said_of (defined_in (cond same (Some (x, take (length (variants_at problem x)) values))
+        λ same. SaidBelow n (any_statement (map statement_of (defined_in (cond same (Some (x, take (length (variants_at problem x)) values))
         (find (λ h. bytes_eq name h.0) (held_from problem names (passed problem x values))))))) in
         subst there (sym is) (take-below n (length (variants_at problem x)) values b)
     from-below-cases false is later =
         let there : Bool → Type 0 =
-        λ same. SaidBelow n (any_of (map said_of (defined_in (cond same (Some (x, take (length (variants_at problem x)) values))
+        λ same. SaidBelow n (any_statement (map statement_of (defined_in (cond same (Some (x, take (length (variants_at problem x)) values))
         (find (λ h. bytes_eq name h.0) (held_from problem names (passed problem x values))))))) in
         subst there (sym is) later
 
 -- so are the formulas of conditions
-pub held-below : (n : ℕ) (problem : Problem) (t : Table) (values : List Defined) → MetBelow n (value_at values)
+pub held-below : (n : ℕ) (problem : Problem) (t : Table) (values : List Defined) → MetBelow n (statement_at values)
     → AreHeldBelow n (held_in (held_for problem t values))
-held-below n problem t values b = from-below n problem (map name_of t.blocks) values (all-below n values b)
+held-below n problem t values b = from-below n problem (map block_name t.blocks) values (all-below n values b)

@@ -7,12 +7,12 @@ use Rattle.clause_store.specs.Clauses.{Clauses}
 use Rattle.clause_formulas.specs.Statements.{eval}
 use Rattle.clause_formulas.specs.declared.defined.Defined.{Defined}
 use Rattle.graph_core.specs.Graphs.{Text, Content}
-use Rattle.condition_rules.specs.Words.{among}
+use Rattle.condition_rules.specs.Words.{is_one_text}
 use Rattle.problem.specs.Nodes.{IsWellFormed}
 use Rattle.problem.specs.Problems.{Problem}
 use Rattle.graph_rules.proofs.Lists.{list_all-from}
 use Rattle.graph_rules.specs.Costs.{vector}
-use Rattle.literal_table.specs.Tables.{Table, IsTable, name_of, block_of}
+use Rattle.literal_table.specs.Tables.{Table, IsTable, block_name, block_of}
 use Rattle.literal_table.specs.declared.block.Block.{Block}
 use Rattle.valid_models.proofs.OfGraphFormulas.AllVariants.{among-In}
 use Rattle.valid_models.proofs.Found.{found-passes}
@@ -33,10 +33,11 @@ use Rattle.ranked_costs.proofs.HeldLaws.{as-many, told, held-says}
 use Rattle.ranked_costs.proofs.VectorSums.{holding, sums-are}
 
 -- a name that is found is among the names
-found-among : (t : Table) (name : Text) (b : Block) → block_of t name ≡ Some b → among (map name_of t.blocks) name ≡ true
+found-among : (t : Table) (name : Text) (b : Block) → block_of t name ≡ Some b → is_one_text (map block_name t.blocks) name ≡ true
 found-among t name b found =
-    found-passes (among (map name_of t.blocks)) t.blocks name b
-    (list_all-from (among (map name_of t.blocks)) (map name_of t.blocks) (λ x there. among-In (map name_of t.blocks) x there)) found
+    found-passes (is_one_text (map block_name t.blocks)) t.blocks name b
+    (list_all-from (is_one_text (map block_name t.blocks)) (map block_name t.blocks)
+    (λ x there. among-In (map block_name t.blocks) x there)) found
 
 module _ (problem : Problem) (names : List Text) (place : Places) (order : List Text) where
   abbrev t : Table
@@ -58,7 +59,7 @@ module _ (problem : Problem) (names : List Text) (place : Places) (order : List 
   given-says : (v : ℕ → Bool) (g : Content) → Says v g → (name : Text) (b : Block) → block_of t name ≡ Some b
       → map (eval v) (held name) ≡ holding problem t held order v g name
   given-says v g all name b found =
-      held-says v problem g (map name_of t.blocks) values name
+      held-says v problem g (map block_name t.blocks) values name
       (told v problem g values (conditions_of problem t) (as-many _ _ ∙ length-map (conditions_of problem t) _) all.conditions)
       (found-among t name b found)
 
@@ -72,7 +73,7 @@ module _ (problem : Problem) (names : List Text) (place : Places) (order : List 
     orders = record { defines = costs.totals.defines; order = costs.totals.order; equal = costs.totals.equal }
 
     -- which are the cost vector
-    pub same : IsTable t → IsPermutation (map name_of t.blocks) order → (v : ℕ → Bool) (g : Content) → Says v g → IsWellFormed g
+    pub same : IsTable t → IsPermutation (map block_name t.blocks) order → (v : ℕ → Bool) (g : Content) → Says v g → IsWellFormed g
         → sums v ≡ vector problem g
     same table ordered v g all formed =
         sums-are problem t held order v g (given-says v g all) table formed.is_graph all.spells ordered costs.small

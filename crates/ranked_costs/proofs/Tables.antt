@@ -16,8 +16,8 @@ use Rattle.graph_core.specs.Given.{pairs_of}
 use Rattle.graph_core.proofs.PairLaws.{tells_alike}
 use Rattle.recipe_data.specs.declared.recipe.DependRow.{DependRow}
 use Rattle.recipe_data.specs.declared.recipe.Recipe.{Recipe}
-use Rattle.virtuals.specs.Virtuals.{name_of, is_virtual}
-use Rattle.condition_rules.specs.Words.{among}
+use Rattle.virtuals.specs.Virtuals.{recipe_name, is_virtual}
+use Rattle.condition_rules.specs.Words.{is_one_text}
 use Rattle.condition_rules.specs.Worlds.{recipe_of, rows}
 use Rattle.problem.specs.Problems.{Problem, recipe_at, depends_at}
 use Rattle.problem.specs.Closure.{next_names}
@@ -25,7 +25,7 @@ use Rattle.table_plan.specs.Plans.{possible_at, possible_edges, asked_virtuals, 
 use Rattle.literal_table.specs.Tables as tables
 use Rattle.literal_table.specs.Tables.{Table}
 use Rattle.literal_table.specs.declared.block.Block.{Block}
-use Rattle.table_plan.specs.Numbers.{run, width, widths, block_from, blocks_from, edge_from, table_from}
+use Rattle.table_plan.specs.Numbers.{numbered_run, block_width, widths, block_from, blocks_from, edge_from, table_from}
 use Rattle.problem.specs.Limits.{size_of_recipe, most_names}
 use Rattle.ranked_costs.proofs.Sums.{sum-le-in, sum-same, found}
 use Rattle.ranked_costs.proofs.Weights.{IsWithin}
@@ -35,26 +35,27 @@ use Rattle.ranked_costs.proofs.Values.{texts-few}
 
 module _ {X Y : Type 0} (make : ℕ → X → Y) (wide : X → ℕ) where
   -- an element of a run is made of one of the list
-  pub run-from : (n : ℕ) (xs : List X) (y : Y) → Contains (run make wide n xs) y → (m : ℕ) × (x : X) × Contains xs x × (make m x ≡ y)
+  pub run-from : (n : ℕ) (xs : List X) (y : Y) → Contains (numbered_run make wide n xs) y → (m : ℕ) × (x : X) × Contains xs x
+      × (make m x ≡ y)
   run-from n [] y there = absurd (omega (arith, there.1))
   run-from n (x ∷ xs) y there = ⊎_elim
       (λ same. (n, x, has_first x xs, same))
       (λ later. let rest = run-from (n + wide x) xs y later in (rest.0, rest.1, has_later x xs rest.1 rest.2, rest.3))
-      (first_or_later (make n x) (run make wide (n + wide x) xs) y there)
+      (first_or_later (make n x) (numbered_run make wide (n + wide x) xs) y there)
 
   -- a run is as long as its list
-  pub run-length : (n : ℕ) (xs : List X) → length (run make wide n xs) ≡ length xs
+  pub run-length : (n : ℕ) (xs : List X) → length (numbered_run make wide n xs) ≡ length xs
   run-length n [] = refl
   run-length n (x ∷ xs) = omega (arith, run-length (n + wide x) xs)
 
   -- a bound for the sum over a run
   pub run-sum : (f : Y → ℕ) (g : X → ℕ) (n : ℕ) (xs : List X) → ((m : ℕ) (x : X) → Contains xs x → f (make m x) ≤ g x)
-      → sum_by f (run make wide n xs) ≤ sum_by g xs
+      → sum_by f (numbered_run make wide n xs) ≤ sum_by g xs
   run-sum f g n [] le = omega arith
   run-sum f g n (x ∷ xs) le =
       let here = le n x (has_first x xs) in
       let rest = run-sum f g (n + wide x) xs (λ m y there. le m y (has_later x xs y there)) in
-      omega (arith, here, rest, sum_by-cons f (make n x) (run make wide (n + wide x) xs), sum_by-cons g x xs)
+      omega (arith, here, rest, sum_by-cons f (make n x) (numbered_run make wide (n + wide x) xs), sum_by-cons g x xs)
 
 filter_map-le : {X Y : Type 0} (f : X → Option Y) (xs : List X) → length (filter_map f xs) ≤ length xs
 filter_map-le f [] = omega arith
@@ -84,10 +85,11 @@ module _ (problem : Problem) (limits : IsWithin problem) (names : List Text) (ri
       → sum_by (λ name. length (rows field (recipe_at problem name))) names ≤ 2 ^ 28
   unfolding recipe_of
   rows-shared field le =
-      let each = sum-le-in (λ name. length (rows field (find_key byte_cmp name_of problem.recipes name)))
-      (λ name. adds_or_none (λ recipe. length (field recipe)) (find_key byte_cmp name_of problem.recipes name)) names
-      (λ name there. omega (arith, rows-found field length refl (find_key byte_cmp name_of problem.recipes name))) in
-      let once = found (eq_by_cmp byte_cmp) cmp-same (λ (recipe : Recipe). length (field recipe)) name_of names rising problem.recipes in
+      let each = sum-le-in (λ name. length (rows field (find_key byte_cmp recipe_name problem.recipes name)))
+      (λ name. adds_or_none (λ recipe. length (field recipe)) (find_key byte_cmp recipe_name problem.recipes name)) names
+      (λ name there. omega (arith, rows-found field length refl (find_key byte_cmp recipe_name problem.recipes name))) in
+      let once = found (eq_by_cmp byte_cmp) cmp-same (λ (recipe : Recipe). length (field recipe)) recipe_name names rising
+      problem.recipes in
       let all = sum-le-in (λ (recipe : Recipe). length (field recipe)) size_of_recipe problem.recipes (λ recipe there. le recipe) in
       omega (arith, limits.recipes, each, once, all)
 
@@ -135,17 +137,17 @@ module _ (problem : Problem) (names : List Text) (n : ℕ) where
   pub own-block : (b : Block) → Contains Own.blocks b → (m : ℕ) × (name : Text) × (block_from m (possible_at problem name) ≡ b)
   unfolding table_from plan_of
   own-block b there =
-      let at = run-from block_from width n (map (possible_at problem) names) b there in
+      let at = run-from block_from block_width n (map (possible_at problem) names) b there in
       let from = image_of (possible_at problem) names at.1 at.2 in
       (at.0, from.0, ap (block_from at.0) from.2 ∙ at.3)
 
-  names-in : (m : ℕ) (rest : List Text) → map tables.name_of (blocks_from m (map (possible_at problem) rest)) ≡ rest
+  names-in : (m : ℕ) (rest : List Text) → map tables.block_name (blocks_from m (map (possible_at problem) rest)) ≡ rest
   unfolding block_from possible_at
   names-in m [] = refl
-  names-in m (name ∷ rest) = ap (λ more. name ∷ more) (names-in (m + width (possible_at problem name)) rest)
+  names-in m (name ∷ rest) = ap (λ more. name ∷ more) (names-in (m + block_width (possible_at problem name)) rest)
 
   -- its names are those of the closure
-  pub own-names : map tables.name_of Own.blocks ≡ names
+  pub own-names : map tables.block_name Own.blocks ≡ names
   unfolding table_from plan_of
   own-names = names-in n names
 
@@ -153,7 +155,7 @@ module _ (problem : Problem) (names : List Text) (n : ℕ) where
   pub own-edges : length names ≤ most_names → length Own.edges ≤ 2 ^ 20
   unfolding table_from plan_of possible_edges
   own-edges few =
-      let test = λ (pair : Text × Text). among (next_names problem pair.0) pair.1 in
+      let test = λ (pair : Text × Text). is_one_text (next_names problem pair.0) pair.1 in
       omega (
         arith,
         pairs-few names few,

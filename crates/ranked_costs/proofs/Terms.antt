@@ -4,19 +4,20 @@ use Rattle.std.specs.List.{filter, flat_map, sum_by}
 use Rattle.std.specs.Str.{bytes_eq}
 use Rattle.std.proofs.lemmas.List.Sums.{sum_by-cons, length-filter, count_by-le-length}
 use Rattle.clause_store.specs.declared.Lit.{Lit}
-use Rattle.clause_formulas.specs.Statements.{Statement, atom, no, both, any_of, all_of}
+use Rattle.clause_formulas.specs.Statements.{Statement, atom, no, both_statements, any_statement, all_statements}
 use Rattle.graph_core.specs.Graphs.{Text}
 use Rattle.recipe_data.specs.declared.recipe.VariantRow.{VariantRow}
-use Rattle.condition_rules.specs.Words.{among}
+use Rattle.condition_rules.specs.Words.{is_one_text}
 use Rattle.literal_table.specs.Choices.{Choices, passing, any_choice}
 use Rattle.literal_table.specs.Tables.{Table, block_of}
 use Rattle.literal_table.specs.declared.block.Block.{Block}
 use Rattle.literal_table.specs.declared.block.EdgeLits.{EdgeLits}
-use Rattle.table_plan.specs.Numbers.{lit_of, numbered}
+use Rattle.table_plan.specs.Numbers.{positive_lit, numbered}
 use Rattle.cost_terms.specs.declared.weighted.Weighted.{Weighted}
 use Rattle.cost_terms.specs.Weighed.{top_said}
 use Rattle.cost_terms.specs.Differ.{differ_said, differ_terms, can_differ}
-use Rattle.cost_terms.specs.Governing.{Row, with_formulas, formulas_of, governing_rows, once as once_term, other_terms, unused_terms}
+use Rattle.cost_terms.specs.Blocks.{none_among}
+use Rattle.cost_terms.specs.Governing.{Row, with_formulas, formulas_of, governing_rows, weighed_once as once_term, other_terms, unused_terms}
 use Rattle.literal_table.specs.Edges.{edge_there}
 use Rattle.cost_terms.specs.Terms.{child_terms, edge_terms, edges_terms}
 use Rattle.cost_terms.proofs.Lists.{sum-map, sum-flat}
@@ -31,10 +32,10 @@ ones-top said xs = sum-map (λ (t : Weighted). t.weight) (λ x. once_term (said 
 -- values that are no defaults
 pub other-top : (r : Row) (values : Choices Text) → top_said (other_terms r values) ≤ length values
 other-top r values =
-    let test = λ (c : Text × Lit). not (among r.0.default c.0) in
+    let test = λ (c : Text × Lit). not (is_one_text r.0.default c.0) in
     omega (
       arith,
-      ones-top (λ (c : Text × Lit). both (atom c.1) r.1) (filter test values),
+      ones-top (λ (c : Text × Lit). both_statements (atom c.1) r.1) (filter test values),
       length-filter test values,
       count_by-le-length test values,
     )
@@ -44,7 +45,7 @@ pub unused-top : (r : Row) (values : Choices Text) → top_said (unused_terms r 
 unused-top r values =
     omega (
       arith,
-      ones-top (λ (text : Text). all_of (any_choice (λ value. true) values ∷ r.1 ∷ no (any_choice (bytes_eq text) values) ∷ []))
+      ones-top (λ (text : Text). all_statements (any_choice (λ value. true) values ∷ r.1 ∷ no (any_choice (bytes_eq text) values) ∷ []))
           r.0.default,
     )
 
@@ -53,7 +54,7 @@ module _ (terms : Row → Choices Text → List Weighted) (f : VariantRow → �
       → sum_by (λ r. top_said (terms r values)) (governing_rows rs) ≤ sum_by (λ (r : Row). f r.0) rs
   governing-sum values le [] = omega arith
   governing-sum values le (r ∷ rs) =
-      let governs : Row = (r.0, both r.1 (no (any_of (formulas_of rs)))) in
+      let governs : Row = (r.0, both_statements r.1 (none_among (formulas_of rs))) in
       let here = le governs in
       let rest = governing-sum values le rs in
       omega (
@@ -115,7 +116,7 @@ passing-numbered test m [] = refl
 passing-numbered test m (x ∷ xs) = passing-numbered-cases (passing-numbered test (m + 1) xs) (test x)
   where
     passing-numbered-cases : length (passing test (numbered (m + 1) xs)) ≡ length (filter test xs) → (b : Bool)
-        → length (cond b ((x, lit_of m) ∷ passing test (numbered (m + 1) xs)) (passing test (numbered (m + 1) xs)))
+        → length (cond b ((x, positive_lit m) ∷ passing test (numbered (m + 1) xs)) (passing test (numbered (m + 1) xs)))
         ≡ length (cond b (x ∷ filter test xs) (filter test xs))
     passing-numbered-cases rest true = omega arith
     passing-numbered-cases rest false = rest

@@ -17,7 +17,7 @@ use Rattle.condition_rules.specs.Words.{find_last}
 use Rattle.site_settings.specs.declared.settings.ExternalEntry.{ExternalEntry}
 use Rattle.site_settings.specs.declared.settings.PackageEntry.{PackageEntry}
 use Rattle.reuse_db.specs.declared.record.Record.{Record}
-use Rattle.problem.specs.Problems.{Problem, variants_at, entry_of, externals_in}
+use Rattle.problem.specs.Problems.{Problem, variants_at, package_entry_of, externals_in}
 use Rattle.graph_rules.specs.Kept.{external_node, installed_node, completed, written_or, default_in}
 use Rattle.possible_closure.proofs.Lists.{nothing, found-there, in_flat_map, from_flat_map, from_texts, in_texts, none_in_order, texts_in_order, no_more}
 use Rattle.table_plan.specs.Gathering.{listed}
@@ -66,7 +66,7 @@ module _ (problem : Problem) where
   Defaults name = flat_map (λ row. row.default) (variants_at problem name)
 
   abbrev Written : Text → List Text
-  Written name = flat_map (λ entry. values_of entry.variants) (externals_in (entry_of problem name))
+  Written name = flat_map (λ entry. values_of entry.variants) (externals_in (package_entry_of problem name))
 
   abbrev Recorded : List Text
   Recorded = flat_map (λ entry. values_of entry.variants) problem.database
@@ -112,18 +112,19 @@ module _ (problem : Problem) where
       in_flat_map (λ (r : VariantRow). r.default) (variants_at problem name) row q
       (find_last-in (λ (r : VariantRow). bytes_eq r.name v) (variants_at problem name) row is).0 there
 
-  in-completed : (name v q : Text) (entry : ExternalEntry) → Contains (externals_in (entry_of problem name)) entry
+  in-completed : (name v q : Text) (entry : ExternalEntry) → Contains (externals_in (package_entry_of problem name)) entry
       → (o : Option (Text × List Text)) → find (λ u. bytes_eq u.0 v) entry.variants ≡ o
       → Contains (written_or o (default_in (find_last (λ row. bytes_eq row.name v) (variants_at problem name)))) q
       → Contains (Sources name) q
   in-completed name v q entry of None is there =
       default-there name q (in-defaults name v q (find_last (λ row. bytes_eq row.name v) (variants_at problem name)) refl there)
   in-completed name v q entry of (Some u) is there =
-      written-there name q (in_flat_map (λ (e : ExternalEntry). values_of e.variants) (externals_in (entry_of problem name)) entry q of
+      written-there name q (in_flat_map (λ (e : ExternalEntry). values_of e.variants)
+      (externals_in (package_entry_of problem name)) entry q of
       (in_flat_map (λ (w : Text × List Text). w.1) entry.variants u q
       (found-there (λ (w : Text × List Text). bytes_eq w.0 v) entry.variants u is).0 there))
 
-  of-external : (name q : Text) (place : ℕ) (entry : ExternalEntry) → Contains (externals_in (entry_of problem name)) entry
+  of-external : (name q : Text) (place : ℕ) (entry : ExternalEntry) → Contains (externals_in (package_entry_of problem name)) entry
       → (w : Text × List Text) → Contains (external_node problem name place entry).variants w → Contains w.1 q → Contains (Sources name) q
   unfolding external_node
   of-external name q place entry of w there within =
@@ -145,13 +146,13 @@ module _ (problem : Problem) where
   unfolding kept_nodes
   of-kept name q node there w has within = ⊎_elim
       (λ external.
-      let from = from-externals name 0 (externals_in (entry_of problem name)) node external in
+      let from = from-externals name 0 (externals_in (package_entry_of problem name)) node external in
       of-external name q from.1 from.0 from.2 w (subst (λ (n : Node). Contains n.variants w) (sym from.3) has) within)
       (λ installed.
       let from = image_of installed_node (filter (λ (entry : Record). bytes_eq entry.name name) problem.database) node installed in
       of-record name q from.0 (from_filter (λ (entry : Record). bytes_eq entry.name name) problem.database from.0 from.1).0 w
       (subst (λ (n : Node). Contains n.variants w) (sym from.2) has) within)
-      (Contains-append_cases (external_nodes problem name 0 (externals_in (entry_of problem name)))
+      (Contains-append_cases (external_nodes problem name 0 (externals_in (package_entry_of problem name)))
       (map installed_node (filter (λ entry. bytes_eq entry.name name) problem.database)) node there)
 
   -- ---- all of them
@@ -220,13 +221,14 @@ module _ (problem : Problem) (limits : IsWithin problem) where
             (found-there (λ (e : PackageEntry). bytes_eq e.name name) problem.settings.packages entry is).0,
       )
 
-  written-in : (name : Text) → sum_by external_members (externals_in (entry_of problem name)) ≤ size_of_settings problem.settings
-  unfolding entry_of
+  written-in : (name : Text) → sum_by external_members (externals_in (package_entry_of problem name)) ≤ size_of_settings problem.settings
+  unfolding package_entry_of
   written-in name = written-of name (find (λ entry. bytes_eq entry.name name) problem.settings.packages) refl
 
   written-few : (name : Text) → length (Written problem name) ≤ 2 ^ 24
   written-few name =
-      let each = sum-le-in (λ (e : ExternalEntry). length (values_of e.variants)) external_members (externals_in (entry_of problem name))
+      let each = sum-le-in (λ (e : ExternalEntry). length (values_of e.variants)) external_members
+      (externals_in (package_entry_of problem name))
       (λ e there. omega (arith, length-values e.variants)) in
       omega (
         arith,
@@ -234,7 +236,7 @@ module _ (problem : Problem) (limits : IsWithin problem) where
         limits.settings,
         written-in name,
         length-flat_map (λ (e : ExternalEntry). values_of e.variants)
-            (externals_in (entry_of problem name)),
+            (externals_in (package_entry_of problem name)),
       )
 
   recorded-few : length (Recorded problem) ≤ 2 ^ 26

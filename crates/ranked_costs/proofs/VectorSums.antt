@@ -11,7 +11,7 @@ use Rattle.condition_rules.specs.Holds.{all_hold}
 use Rattle.problem.specs.Problems.{Problem, world_of, variants_at}
 use Rattle.graph_rules.specs.Costs.{vector, stopped}
 use Rattle.criteria_totals.specs.Spellings.{AllSmall}
-use Rattle.literal_table.specs.Tables.{Table, IsTable, name_of, block_of}
+use Rattle.literal_table.specs.Tables.{Table, IsTable, block_name, block_of}
 use Rattle.literal_table.specs.Spells.{Spells}
 use Rattle.literal_table.specs.declared.block.Block.{Block}
 use Rattle.literal_table.proofs.Spelling.{found-named}
@@ -87,11 +87,11 @@ module _ (problem : Problem) (t : Table) (held : Held) (order : List Text) (v : 
 
     agree : (name : Text) (b : Block) → block_of t name ≡ Some b → held b.name ≡ filled b.name
     agree name b e =
-        let here : block_of t b.name ≡ Some b = ap (block_of t) (found-named name_of t.blocks name b e) ∙ e in
+        let here : block_of t b.name ≡ Some b = ap (block_of t) (found-named block_name t.blocks name b e) ∙ e in
         sym (ap (fill b.name) here)
 
     -- the sums are the cost vector
-    pub sums-are : IsTable t → IsGraph g → Spells v t g → IsPermutation (map name_of t.blocks) order
+    pub sums-are : IsTable t → IsGraph g → Spells v t g → IsPermutation (map block_name t.blocks) order
         → AllSmall (tops_said (cost_terms problem t held order)) → sums_said v (cost_terms problem t held order) ≡ vector problem g
     sums-are table graph spells ordered small =
         sym (unstopped v (cost_terms problem t held order) small)

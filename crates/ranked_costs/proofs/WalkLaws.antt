@@ -8,19 +8,20 @@ use Rattle.std.specs.Cmp.Lexicographic.{bytes_decides}
 use Rattle.std.proofs.lemmas.Bool.{cases_Bool}
 use Rattle.std.proofs.lemmas.List.Sorted.{IsPermutation-refl, IsPermutation-sym, IsPermutation-trans, IsPermutation-cons, IsPermutation-middle, IsPermutation-append_right}
 use Rattle.graph_core.specs.Graphs.{Text}
-use Rattle.condition_rules.specs.Words.{among}
+use Rattle.condition_rules.specs.Words.{is_one_text}
 use Rattle.literal_table.specs.Tables.{Table, children_of}
-use Rattle.ranked_costs.specs.Walks.{Walk, without, entered, leaving, visit, all_names, start, post_order}
+use Rattle.ranked_costs.specs.Walks.{Walk, without_name, entered, leaving, visit, walked_names, first_walk, post_order}
 
 -- what is taken out stood there
-taken : (name : Text) (names : List Text) → among names name ≡ true → IsPermutation names (name ∷ without name names)
+taken : (name : Text) (names : List Text) → is_one_text names name ≡ true → IsPermutation names (name ∷ without_name name names)
 taken name [] there = absurd (cc)
 taken name (n ∷ ns) there = elim (cases_Bool (bytes_eq name n)) [
   | inl same ↦ (let is : name ≡ n = (bytes_decides name n).0 same in rw same (rw is (IsPermutation-refl (n ∷ ns))))
   | inr other ↦
-      let later : among ns name ≡ true = rw other at there in
-      rw other (IsPermutation-trans (n ∷ ns) (n ∷ name ∷ without name ns) (name ∷ n ∷ without name ns)
-      (IsPermutation-cons n ns (name ∷ without name ns) (taken name ns later)) (IsPermutation-middle (n ∷ []) name (without name ns)))
+      let later : is_one_text ns name ≡ true = rw other at there in
+      rw other (IsPermutation-trans (n ∷ ns) (n ∷ name ∷ without_name name ns) (name ∷ n ∷ without_name name ns)
+      (IsPermutation-cons n ns (name ∷ without_name name ns) (taken name ns later))
+      (IsPermutation-middle (n ∷ []) name (without_name name ns)))
 ]
 
 -- the names that were left and those that were not entered are the same in another order
@@ -36,9 +37,9 @@ fold-keeps f each w (n ∷ ns) =
     IsPermutation-trans (w.left ++ w.rest) (one.left ++ one.rest) (all.left ++ all.rest) (each w n) (fold-keeps f each one ns)
 
 -- in at the front, and out behind what was left
-entered-left : (name : Text) (w u : Walk) → among w.rest name ≡ true → Keeps (entered name w) u → Keeps w (leaving name u)
+entered-left : (name : Text) (w u : Walk) → is_one_text w.rest name ≡ true → Keeps (entered name w) u → Keeps w (leaving name u)
 entered-left name w u there inside =
-    let out : List Text = without name w.rest in
+    let out : List Text = without_name name w.rest in
     let first : IsPermutation (w.left ++ w.rest) (w.left ++ name ∷ out) =
     IsPermutation-append_right w.left w.rest (name ∷ out) (taken name w.rest there) in
     let front : IsPermutation (w.left ++ name ∷ out) (name ∷ (w.left ++ out)) = IsPermutation-middle w.left name out in
@@ -53,14 +54,14 @@ entered-left name w u there inside =
 
 visit-keeps : (fuel : ℕ) (table : Table) (w : Walk) (name : Text) → Keeps w (visit fuel table w name)
 visit-keeps zero table w name = IsPermutation-refl (w.left ++ w.rest)
-visit-keeps (suc fuel) table w name = elim (cases_Bool (among w.rest name)) [
+visit-keeps (suc fuel) table w name = elim (cases_Bool (is_one_text w.rest name)) [
   | inl there ↦ rw there (entered-left name w (fold (visit fuel table) (entered name w) (children_of table name)) there
       (fold-keeps (visit fuel table) (visit-keeps fuel table) (entered name w) (children_of table name)))
   | inr gone ↦ rw gone (IsPermutation-refl (w.left ++ w.rest))
 ]
 
 -- each name of the table stands in the order once
-pub each-name : (table : Table) (roots : List Text) → IsPermutation (all_names table) (post_order table roots)
+pub each-name : (table : Table) (roots : List Text) → IsPermutation (walked_names table) (post_order table roots)
 unfolding post_order
 each-name table roots =
-    fold-keeps (visit (length table.blocks + 1) table) (visit-keeps (length table.blocks + 1) table) (start table) roots
+    fold-keeps (visit (length table.blocks + 1) table) (visit-keeps (length table.blocks + 1) table) (first_walk table) roots

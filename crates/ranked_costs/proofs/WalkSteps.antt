@@ -6,11 +6,11 @@ use Rattle.std.specs.Str.{bytes_eq}
 use Rattle.std.specs.Cmp.Lexicographic.{bytes_decides}
 use Rattle.std.proofs.lemmas.Bool.{cases_Bool}
 use Rattle.graph_core.specs.Graphs.{Text}
-use Rattle.condition_rules.specs.Words.{among}
-use Rattle.literal_table.specs.Tables.{Table, name_of}
+use Rattle.condition_rules.specs.Words.{is_one_text}
+use Rattle.literal_table.specs.Tables.{Table, block_name}
 use Rattle.literal_table.specs.declared.block.Block.{Block}
 use Rattle.literal_table.specs.declared.block.EdgeLits.{EdgeLits}
-use Rattle.ranked_costs.specs.Walks.{Walk, without, entered, leaving, visit, all_names, post_order}
+use Rattle.ranked_costs.specs.Walks.{Walk, without_name, entered, leaving, visit, walked_names, post_order}
 use Rattle.ranked_costs.specs.Steps.{walk_at, visit_all}
 
 next : (name n : Text) (ns : List Text) → bytes_eq name n ≡ false
@@ -18,7 +18,7 @@ next : (name n : Text) (ns : List Text) → bytes_eq name n ≡ false
 next name n ns other = rw other (omega arith)
 
 -- what stands nowhere has no place
-absent : (name : Text) (names : List Text) → length names ≤ position_or_len (bytes_eq name) names → among names name ≡ false
+absent : (name : Text) (names : List Text) → length names ≤ position_or_len (bytes_eq name) names → is_one_text names name ≡ false
 absent name [] h = refl
 absent name (n ∷ ns) h = elim (cases_Bool (bytes_eq name n)) [
   | inl same ↦ (let less : suc (length ns) ≤ 0 = rw same at h in absurd (omega (arith, less)))
@@ -33,7 +33,7 @@ later-place name n ns other h =
     let less : suc (position_or_len (bytes_eq name) ns) < suc (length ns) = subst (λ p. p < suc (length ns)) (next name n ns other) h in
     omega (arith, less)
 
-present : (name : Text) (names : List Text) → position_or_len (bytes_eq name) names < length names → among names name ≡ true
+present : (name : Text) (names : List Text) → position_or_len (bytes_eq name) names < length names → is_one_text names name ≡ true
 present name [] h = absurd (omega (arith, h))
 present name (n ∷ ns) h = elim (cases_Bool (bytes_eq name n)) [
   | inl same ↦ rw same refl
@@ -41,7 +41,7 @@ present name (n ∷ ns) h = elim (cases_Bool (bytes_eq name n)) [
 ]
 
 -- what is taken out at its place
-removed : (name : Text) (names : List Text) → remove names (position_or_len (bytes_eq name) names) ≡ without name names
+removed : (name : Text) (names : List Text) → remove names (position_or_len (bytes_eq name) names) ≡ without_name name names
 removed name [] = refl
 removed name (n ∷ ns) = elim (cases_Bool (bytes_eq name n)) [
   | inl same ↦ rw same refl
@@ -65,11 +65,11 @@ all-edges more table parent w (e ∷ es) = elim (cases_Bool (bytes_eq e.parent p
   | inr other ↦ rw other (all-edges more table parent w es)
 ]
 
-visit-none : (fuel : ℕ) (table : Table) (w : Walk) (name : Text) → among w.rest name ≡ false → w ≡ visit fuel table w name
+visit-none : (fuel : ℕ) (table : Table) (w : Walk) (name : Text) → is_one_text w.rest name ≡ false → w ≡ visit fuel table w name
 visit-none zero table w name gone = refl
 visit-none (suc fuel) table w name gone = rw gone refl
 
-visit-some : (fuel : ℕ) (table : Table) (w : Walk) (name : Text) → (fuel ≡ 0 → ⊥) → among w.rest name ≡ true
+visit-some : (fuel : ℕ) (table : Table) (w : Walk) (name : Text) → (fuel ≡ 0 → ⊥) → is_one_text w.rest name ≡ true
     → leaving name (visit_all (fuel - 1) table name (entered name w) table.edges) ≡ visit fuel table w name
 visit-some zero table w name some there = absurd (some refl)
 visit-some (suc fuel) table w name some there =
@@ -97,7 +97,7 @@ module _ (table : Table) (name : Text) (rest left slice : List Text) (at len : �
   pub entering : (more : ℕ) (out : List Text) (edges : List EdgeLits) → out ≡ remove rest at
       → visit_all more table name (walk_at out left) edges ≡ visit_all more table name (entered name (walk_at rest left)) edges
   entering more out edges gone =
-      let same : out ≡ without name rest = gone ∙ ap (remove rest) here ∙ removed name rest in
+      let same : out ≡ without_name name rest = gone ∙ ap (remove rest) here ∙ removed name rest in
       ap (λ names. visit_all more table name (walk_at names left) edges) same
 
   -- and comes behind its children
@@ -118,11 +118,11 @@ module _ (table : Table) (name : Text) (rest left slice : List Text) (at len : �
 -- what the roots do not reach comes last
 pub ordered : (table : Table) (roots rest left rest2 left2 new : List Text) (blocks blocks2 : List Block) → blocks ≡ table.blocks
     → blocks2 ≡ table.blocks
-    → rest ≡ map name_of blocks → left ≡ []
+    → rest ≡ map block_name blocks → left ≡ []
     → walk_at rest2 left2 ≡ fold (visit (length blocks2 + 1) table) (walk_at rest left) roots → new ≡ left2 ++ rest2
     → new ≡ post_order table roots
 unfolding post_order
 ordered table roots rest left rest2 left2 new blocks blocks2 b b2 r l walked n =
-    let from : rest ≡ all_names table = r ∙ ap (map name_of) b in
+    let from : rest ≡ walked_names table = r ∙ ap (map block_name) b in
     n ∙ ap (λ w. w.left ++ w.rest) walked ∙ λ i. (fold (visit (length (b2 i) + 1) table) (walk_at (from i) (l i)) roots).left
     ++ (fold (visit (length (b2 i) + 1) table) (walk_at (from i) (l i)) roots).rest

@@ -13,9 +13,9 @@ use Rattle.recipe_data.specs.declared.recipe.Recipe.{Recipe}
 use Rattle.recipe_data.specs.declared.recipe.VersionRow.{VersionRow}
 use Rattle.keyed_lists.specs.Keyed.{find_key}
 use Rattle.variant_values.specs.Texts.{byte_cmp}
-use Rattle.virtuals.specs.Virtuals.{name_of}
+use Rattle.virtuals.specs.Virtuals.{recipe_name}
 use Rattle.condition_rules.specs.Worlds.{recipe_of, rows}
-use Rattle.problem.specs.Problems.{Problem, recipe_at, versions_at, entry_of, same_compiler}
+use Rattle.problem.specs.Problems.{Problem, recipe_at, versions_at, package_entry_of, same_compiler}
 use Rattle.graph_rules.specs.Weights.{row_cmp, place_or_number, listed_in, version_weight, is_deprecated, os_weight, target_weight, compiler_weight, packages_in, provider_weight}
 use Rattle.possible_closure.proofs.Lists.{found-there}
 use Rattle.problem.specs.Limits.{is_within_limits, size_of_recipes, size_of_settings, size_of_database, size_of_recipe, provider_names}
@@ -51,7 +51,7 @@ module _ (problem : Problem) (limits : IsWithin problem) where
 
   rows-of : {R : Type 0} (field : Recipe → List R) (measure : List R → ℕ) → measure [] ≡ 0
       → ((recipe : Recipe) → measure (field recipe) ≤ size_of_recipe recipe)
-      → (name : Text) (o : Option Recipe) → find_key byte_cmp name_of problem.recipes name ≡ o
+      → (name : Text) (o : Option Recipe) → find_key byte_cmp recipe_name problem.recipes name ≡ o
       → measure (rows field o) ≤ size_of_recipes problem.recipes
   rows-of field measure none le name None is = omega arith
   rows-of field measure none le name (Some recipe) is =
@@ -68,7 +68,7 @@ module _ (problem : Problem) (limits : IsWithin problem) where
       → measure (rows field (recipe_at problem name)) ≤ 2 ^ 28
   unfolding recipe_of
   rows-in field measure none le name =
-      omega (arith, limits.recipes, rows-of field measure none le name (find_key byte_cmp name_of problem.recipes name) refl)
+      omega (arith, limits.recipes, rows-of field measure none le name (find_key byte_cmp recipe_name problem.recipes name) refl)
 
   versions-few : (name : Text) → length (versions_at problem name) ≤ 2 ^ 28
   versions-few name = rows-in (λ recipe. recipe.versions) length refl (λ recipe. omega arith) name
@@ -85,7 +85,7 @@ module _ (problem : Problem) (limits : IsWithin problem) where
 
   pub version-few : (name version : Text) → version_weight problem name version ≤ 2 ^ 28
   unfolding version_weight
-  version-few name version = version-few-cases (listed_in (entry_of problem name))
+  version-few name version = version-few-cases (listed_in (package_entry_of problem name))
       (find (λ row. bytes_eq row.version version) (versions_at problem name))
     where
       version-few-cases : (lists : List (List Range)) (o : Option VersionRow) → place_or_number lists (versions_at problem name) o ≤ 2 ^ 28

@@ -13,7 +13,7 @@ use Rattle.graph_core.specs.Graphs.{Text}
 use Rattle.problem.specs.Problems.{Problem, variants_at}
 use Rattle.problem.specs.Limits.{most_names}
 use Rattle.possible_closure.proofs.Lists.{found-there}
-use Rattle.literal_table.specs.Tables.{name_of, block_of}
+use Rattle.literal_table.specs.Tables.{block_name, block_of}
 use Rattle.literal_table.specs.declared.block.Block.{Block}
 use Rattle.literal_table.proofs.Spelling.{found-named}
 use Rattle.cost_terms.specs.declared.weighted.Weighted.{Weighted}
@@ -40,13 +40,14 @@ is_small terms = ltb (top_said terms) (2 ^ 63)
 module _ (problem : Problem) (limits : IsWithin problem) (names : List Text) (rising : IsInByteOrder names)
     (few : length names ≤ most_names)
     (n : ℕ) (held : Held)
-    (order : List Text) (ordered : IsPermutation (map name_of (Own problem names n).blocks) order) where
+    (order : List Text) (ordered : IsPermutation (map block_name (Own problem names n).blocks) order) where
   abbrev Rows : Text → ℕ
   Rows name = length (variants_at problem name)
 
   -- a sum over the order is one over the names
   in-order : (f : Text → ℕ) → sum_by f order ≡ sum_by f names
-  in-order f = sum_by-IsPermutation f (map name_of (Own problem names n).blocks) order ordered ∙ ap (sum_by f) (own-names problem names n)
+  in-order f = sum_by-IsPermutation f (map block_name (Own problem names n).blocks) order ordered
+      ∙ ap (sum_by f) (own-names problem names n)
 
   part-bounded : (built : Bool) (terms : Block → List Weighted) → Bounded problem limits names rising few n held terms → (name : Text)
       → top_said (part_terms built terms (block_of (Own problem names n) name)) ≤ Rows name * 2 ^ 29 + 2 ^ 52
@@ -58,7 +59,7 @@ module _ (problem : Problem) (limits : IsWithin problem) (names : List Text) (ri
       part-bounded-cases (Some b) is =
           let there = (found-there (λ (c : Block). eq_by_cmp byte_cmp c.name name) (Own problem names n).blocks b is).0 in
           let here = subst (λ key. top_said (terms b) ≤ Rows key * 2 ^ 29 + 2 ^ 52)
-          (found-named name_of (Own problem names n).blocks name b is) (le b there) in
+          (found-named block_name (Own problem names n).blocks name b is) (le b there) in
           omega (arith, here, part-top built b.origins (terms b))
 
   number-top : (built : Bool) (terms : Block → List Weighted) → Bounded problem limits names rising few n held terms

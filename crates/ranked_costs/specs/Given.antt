@@ -3,7 +3,7 @@ use Rattle.std.specs.Prelude.{List, [], ◌∷◌, length, take, drop}
 use Rattle.clause_formulas.specs.declared.defined.Defined.{Defined}
 use Rattle.graph_core.specs.Graphs.{Text}
 use Rattle.problem.specs.Problems.{Problem, variants_at, depends_at, conflicts_at, requirements_at}
-use Rattle.literal_table.specs.Tables.{Table, name_of}
+use Rattle.literal_table.specs.Tables.{Table, block_name}
 use Rattle.std.specs.Prelude.{map}
 use Rattle.term_builder.specs.Held.{HeldRow}
 
@@ -20,4 +20,4 @@ held_from problem (name ∷ names) values =
     (name, take (length (variants_at problem name)) values) ∷ held_from problem names (passed problem name values)
 
 abbrev pub held_for : Problem → Table → List Defined → List HeldRow
-held_for problem t values = held_from problem (map name_of t.blocks) values
+held_for problem t values = held_from problem (map block_name t.blocks) values

@@ -4,12 +4,12 @@ use Rattle.std.specs.List.Sorted.{IsPermutation}
 use Rattle.clause_store.specs.declared.Lit.{Lit}
 use Rattle.clause_store.specs.Clauses.{Clauses, Meets}
 use Rattle.clause_formulas.specs.declared.defined.Defined.{Defined}
-use Rattle.clause_formulas.specs.Drafts.{value_at}
+use Rattle.clause_formulas.specs.Drafts.{statement_at}
 use Rattle.graph_core.specs.Graphs.{Text}
 use Rattle.problem.specs.Problems.{Problem}
 use Rattle.problem.specs.Closure.{IsClosure}
 use Rattle.graph_rules.specs.Costs.{vector}
-use Rattle.literal_table.specs.Tables.{name_of}
+use Rattle.literal_table.specs.Tables.{block_name}
 use Rattle.criteria_totals.specs.Spellings.{bits_for}
 use Rattle.criteria_totals.specs.Totals.{values_at}
 use Rattle.table_plan.specs.Kept.{have_values}
@@ -40,12 +40,12 @@ abbrev pub ClosureInRange : Type 0
 ClosureInRange = (problem : Problem) (names : List Text) (place : Places) → IsClosure problem names → have_values problem names ≡ true
     → IsPlaced (conditions_of problem (table_for problem names)) place
     → IsTableBelow (closure_clauses problem names place).vars (table_for problem names)
-    × MetBelow (closure_clauses problem names place).vars (value_at (closure_values problem names place))
+    × MetBelow (closure_clauses problem names place).vars (statement_at (closure_values problem names place))
 
 -- within the limits the weights of each of the 31 lists of terms add up to less than 2^63
 abbrev pub ClosureSmall : Type 0
 ClosureSmall = (problem : Problem) (names : List Text) (values : List Defined) (order : List Text) → is_within_limits problem ≡ true
-    → IsClosure problem names → length names ≤ most_names → IsPermutation (map name_of (table_for problem names).blocks) order
+    → IsClosure problem names → length names ≤ most_names → IsPermutation (map block_name (table_for problem names).blocks) order
     → are_small (terms_for problem (table_for problem names) values order) ≡ true
 
 -- the bits of costs rank the valid graphs by their cost vectors, whatever the order of the names
@@ -53,7 +53,7 @@ abbrev pub ClosureCosts : Type 0
 ClosureCosts = (problem : Problem) (names : List Text) (place : Places) (new : Clauses) (bits : List Lit) (tops : List ℕ)
     (order : List Text)
     → IsClosure problem names → have_values problem names ≡ true → IsPlaced (conditions_of problem (table_for problem names)) place
-    → IsPermutation (map name_of (table_for problem names).blocks) order
+    → IsPermutation (map block_name (table_for problem names).blocks) order
     → AreCostBits (closure_clauses problem names place) new bits tops problem (table_for problem names)
     (held_in (held_for problem (table_for problem names) (closure_values problem names place))) order
     → RanksGraphs new (λ v. decode v (table_for problem names)) (IsValid problem) bits (vector problem)
@@ -63,7 +63,7 @@ abbrev pub ClosureSpells : Type 0
 ClosureSpells = (problem : Problem) (names : List Text) (place : Places) (new : Clauses) (bits : List Lit) (tops : List ℕ)
     (order : List Text)
     → IsClosure problem names → have_values problem names ≡ true → IsPlaced (conditions_of problem (table_for problem names)) place
-    → IsPermutation (map name_of (table_for problem names).blocks) order
+    → IsPermutation (map block_name (table_for problem names).blocks) order
     → AreCostBits (closure_clauses problem names place) new bits tops problem (table_for problem names)
     (held_in (held_for problem (table_for problem names) (closure_values problem names place))) order
     → (v : ℕ → Bool) → Meets (λ d. true) v new.entries

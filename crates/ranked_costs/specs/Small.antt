@@ -7,7 +7,7 @@ use Rattle.problem.specs.Problems.{Problem}
 use Rattle.problem.specs.Closure.{IsClosure}
 use Rattle.problem.specs.Limits.{is_within_limits, most_names}
 use Rattle.table_plan.specs.Plans.{plan_of}
-use Rattle.literal_table.specs.Tables.{name_of}
+use Rattle.literal_table.specs.Tables.{block_name}
 use Rattle.table_plan.specs.Numbers.{table_from}
 use Rattle.cost_terms.specs.declared.weighted.Weighted.{Weighted}
 use Rattle.cost_terms.specs.Weighed.{top_said}
@@ -22,5 +22,5 @@ are_small lists = list_all (λ terms. nat_lt (top_said terms) (2 ^ 63)) lists
 abbrev pub LimitsKeepSmall : Type 0
 LimitsKeepSmall = (problem : Problem) (names : List Text) (n : ℕ) (held : Held) (order : List Text)
     → is_within_limits problem ≡ true → IsClosure problem names → length names ≤ most_names
-    → IsPermutation (map name_of (table_from n (plan_of problem names)).blocks) order
+    → IsPermutation (map block_name (table_from n (plan_of problem names)).blocks) order
     → are_small (cost_terms problem (table_from n (plan_of problem names)) held order) ≡ true

@@ -1,6 +1,6 @@
 //! The totals of the costs.
 ghost use Rattle.std.specs.Prelude.{◌≡◌, true, IfOk};
-ghost use Rattle.clause_formulas.specs.Drafts.{value_at};
+ghost use Rattle.clause_formulas.specs.Drafts.{statement_at};
 ghost use Rattle.clause_circuits.specs.Growth.{Extends};
 ghost use Rattle.cost_terms.specs.Ranges.{IsTableBelow};
 ghost use Rattle.ranked_costs.specs.CostBits.{AreCostBits};
@@ -35,7 +35,7 @@ pub fn rank_costs(
     order: &[Word],
 ) -> Result<Bits, AllocError>
     requires table { IsTableBelow clauses.old.vars table.now }
-    requires values { MetBelow clauses.old.vars (value_at values.now) }
+    requires values { MetBelow clauses.old.vars (statement_at values.now) }
     requires small { are_small (terms_for problem.now table.now values.now order.now) ≡ true }
     ensures built { IfOk result (λ bits. rank_costs_on clauses.old problem.now table.now values.now order.now
         ≡ record { list = clauses.new; answer = bits }) }

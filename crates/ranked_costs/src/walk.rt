@@ -2,9 +2,9 @@
 ghost use Rattle.std.specs.Prelude.{◌≡◌, ◌++◌, ◌-◌, ◌+◌, map, not, IfOk, OnOk, if◌then◌else◌};
 ghost use Rattle.std.specs.List.{fold, position_or_len};
 ghost use Rattle.std.specs.Str.{bytes_eq};
-ghost use Rattle.condition_rules.specs.Words.{among};
-ghost use Rattle.literal_table.specs.Tables.{name_of};
-ghost use Rattle.ranked_costs.specs.Walks.{without, visit, all_names, start, post_order};
+ghost use Rattle.condition_rules.specs.Words.{is_one_text};
+ghost use Rattle.literal_table.specs.Tables.{block_name};
+ghost use Rattle.ranked_costs.specs.Walks.{without_name, visit, walked_names, first_walk, post_order};
 ghost use Rattle.ranked_costs.specs.Steps.{walk_at, visit_all};
 
 use literal_table::{Block, EdgeLits, LiteralTable};
@@ -68,7 +68,7 @@ fn visit(
 }
 
 fn names(alloc: Global, blocks: &[Block]) -> Result<Vec<Word>, AllocError>
-    ensures { IfOk result (λ names. names.items ≡ map name_of blocks.now) }
+    ensures { IfOk result (λ names. names.items ≡ map block_name blocks.now) }
 {
     let mut names = Vec::new(alloc);
     for block in blocks {

@@ -2,9 +2,9 @@
 
 ghost use Rattle.std.specs.Prelude.{◌≡◌, length, Ok, IfOk, IfErr};
 ghost use Rattle.std.specs.Str.{is_utf8};
-ghost use Rattle.recipe_lexer.specs.Layout.{then_do, view, Gives, Fails, put_solid, closing, close, bracket, step, pieces, lay, finish, tokens};
+ghost use Rattle.recipe_lexer.specs.Layout.{then_lex, view, Gives, Fails, put_solid, closing, close, bracket, step, text_pieces, lay, finish, tokens};
 
-use crate::line::{Lexer, Line, Opened, begin, dedents, line_end, put};
+use crate::line::{Lexer, LineState, Opened, begin, dedents, line_end, put};
 use crate::piece::{Piece, Shape, first_piece};
 use crate::{LexFault, Token, TokenKind};
 use plain_data::List;
@@ -64,7 +64,7 @@ fn step(lexer: &mut Lexer, bytes: &[u8], piece: Piece) -> Result<(), LexFault>
     match piece.shape {
         Shape::White => {
             match lexer.line {
-                Line::Blank(from, to) if to == piece.start => lexer.line = Line::Blank(
+                LineState::Blank(from, to) if to == piece.start => lexer.line = LineState::Blank(
                     from, piece.end,
                 ),
                 _ => {}
@@ -95,7 +95,7 @@ fn step(lexer: &mut Lexer, bytes: &[u8], piece: Piece) -> Result<(), LexFault>
 
 /// The pieces, one after the other.
 fn lay(lexer: &mut Lexer, bytes: &[u8]) -> Result<(), LexFault>
-    ensures { Gives result lexer.new (lay bytes.now (pieces 0 0 bytes.now) (view lexer.old)) }
+    ensures { Gives result lexer.new (lay bytes.now (text_pieces 0 0 bytes.now) (view lexer.old)) }
 {
     let mut next = 0;
     for place in 0..bytes.len() {
@@ -120,7 +120,7 @@ fn finish(lexer: &mut Lexer, end: u64) -> Result<(), LexFault>
     if let Some(inner) = lexer.brackets.last().copied() {
         return Err(LexFault::OpenBracket(inner.place));
     }
-    if let Line::Begun = lexer.line {
+    if let LineState::Begun = lexer.line {
         put(lexer, TokenKind::NewLine, end, end)?;
     }
     dedents(lexer, end, end, 0)?;
@@ -130,7 +130,7 @@ fn finish(lexer: &mut Lexer, end: u64) -> Result<(), LexFault>
 /// The whole text.
 fn read(lexer: &mut Lexer, bytes: &[u8]) -> Result<(), LexFault>
     ensures { Gives result lexer.new
-        (then_do (lay bytes.now (pieces 0 0 bytes.now) (view lexer.old))
+        (then_lex (lay bytes.now (text_pieces 0 0 bytes.now) (view lexer.old))
         (finish (length bytes.now))) }
 {
     match lay(lexer, bytes) {
@@ -165,7 +165,7 @@ pub fn lex(alloc: Global, bytes: &[u8]) -> Result<List<Token>, LexFault>
         return Err(LexFault::NotUtf8);
     }
     let mut lexer = Lexer {
-        line: Line::Blank(0, 0),
+        line: LineState::Blank(0, 0),
         brackets: Vec::new(alloc),
         indents: Vec::new(alloc),
         colon: false,

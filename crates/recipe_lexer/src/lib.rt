@@ -17,7 +17,7 @@ mod theorems;
 mod token;
 
 pub use layout::lex;
-pub use line::{Line, Opened};
+pub use line::{LineState, Opened};
 pub use piece::{Piece, Shape};
 pub use theorems::{laws, worked_tokens};
 pub use token::{LexFault, Token, TokenKind};

@@ -2,13 +2,13 @@
 
 ghost use Rattle.std.specs.Prelude.{◌≡◌, ◌<◌, ◌≤◌, ◌+◌, ◌^◌, length, Ok};
 ghost use Rattle.std.specs.List.{prefix_len};
-ghost use Rattle.recipe_lexer.specs.Layout.{view, Gives, put, slice, is_no_tab, spaces, dedents, indent, indented, begin, line_end_by};
+ghost use Rattle.recipe_lexer.specs.Layout.{view, Gives, put_token, slice, is_no_tab, spaces, dedents, indent, indented, begin, line_end_by};
 
 use crate::{LexFault, Token, TokenKind};
 
 /// Where a line stands, in the definition of a file's tokens.
 #[derive(Clone, Copy, Debug)]
-pub enum Line {
+pub enum LineState {
     /// It has a token.
     Begun,
     /// It has none yet; its indentation is the slice from the first place to the second.
@@ -28,7 +28,7 @@ pub struct Opened {
 #[derive(Debug, Drop)]
 pub(crate) struct Lexer {
     /// The line so far.
-    pub line: Line,
+    pub line: LineState,
     /// The open brackets, the innermost last.
     pub brackets: Vec<Opened>,
     /// The indentations of the open blocks, the innermost last.
@@ -41,7 +41,7 @@ pub(crate) struct Lexer {
 
 /// Adds a token.
 pub(crate) fn put(lexer: &mut Lexer, kind: TokenKind, start: u64, end: u64) -> Result<(), LexFault>
-    ensures { Gives result lexer.new (Ok (put kind start end (view lexer.old))) }
+    ensures { Gives result lexer.new (Ok (put_token kind start end (view lexer.old))) }
 {
     lexer.tokens.push(Token { kind, start, end })?;
     Ok(())
@@ -146,9 +146,9 @@ pub(crate) fn begin(lexer: &mut Lexer, bytes: &[u8]) -> Result<(), LexFault>
     ensures { Gives result lexer.new (begin bytes.now (view lexer.old)) }
 {
     match lexer.line {
-        Line::Begun => Ok(()),
-        Line::Blank(start, end) => {
-            lexer.line = Line::Begun;
+        LineState::Begun => Ok(()),
+        LineState::Blank(start, end) => {
+            lexer.line = LineState::Begun;
             indented(lexer, start, end, slice(bytes, start, end))
         }
     }
@@ -163,9 +163,9 @@ pub(crate) fn line_end(lexer: &mut Lexer, start: u64, end: u64) -> Result<(), Le
         return Ok(());
     }
     let line = lexer.line;
-    lexer.line = Line::Blank(end, end);
+    lexer.line = LineState::Blank(end, end);
     match line {
-        Line::Begun => put(lexer, TokenKind::NewLine, start, end),
-        Line::Blank(_, _) => Ok(()),
+        LineState::Begun => put(lexer, TokenKind::NewLine, start, end),
+        LineState::Blank(_, _) => Ok(()),
     }
 }

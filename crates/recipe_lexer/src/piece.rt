@@ -2,7 +2,7 @@
 
 ghost use Rattle.std.specs.Prelude.{◌≡◌, ◌<◌, ◌≤◌, ◌+◌, ◌^◌, length, true, false, IfSome, IsTrue};
 ghost use Rattle.std.specs.List.{prefix_len};
-ghost use Rattle.recipe_lexer.specs.Pieces.{is_white, is_word_byte, is_inside, is_prefix_letter, is_prefix, starts_with_mark, ends_line, marks, closes, breaks, opening, text_end, text_by, string, solid, first_piece};
+ghost use Rattle.recipe_lexer.specs.Pieces.{is_line_white, is_word_byte, is_line_byte, is_prefix_letter, is_string_prefix, starts_with_mark, ends_line, marks, closes, breaks, opening, text_end, text_piece_by, string_piece, solid, first_piece};
 
 /// What a piece is, in the definition of a file's tokens.
 #[derive(Clone, Copy, Debug)]
@@ -33,7 +33,7 @@ pub struct Piece {
 
 /// Space, tab, form feed and carriage return.
 fn is_white(b: u8) -> bool
-    ensures { result ≡ is_white b }
+    ensures { result ≡ is_line_white b }
 {
     b == b' ' || b == b'\t' || b == 12 || b == b'\r'
 }
@@ -55,7 +55,7 @@ fn is_prefix_letter(b: u8) -> bool
 /// How long the white space at the front is.
 fn white_len(text: &[u8]) -> usize
     ensures bound { result ≤ length text.now }
-    ensures value { result ≡ prefix_len is_white text.now }
+    ensures value { result ≡ prefix_len is_line_white text.now }
 {
     text.iter().take_while(|b| is_white(**b)).count()
 }
@@ -63,7 +63,7 @@ fn white_len(text: &[u8]) -> usize
 /// How long the rest of the line is.
 fn line_len(text: &[u8]) -> usize
     ensures bound { result ≤ length text.now }
-    ensures value { result ≡ prefix_len is_inside text.now }
+    ensures value { result ≡ prefix_len is_line_byte text.now }
 {
     text.iter().take_while(|b| **b != b'\n').count()
 }
@@ -78,7 +78,7 @@ fn word_len(text: &[u8]) -> usize
 
 /// Whether a word, or none, is a string's prefix.
 fn is_prefix(word: &[u8]) -> bool
-    ensures { result ≡ is_prefix word.now }
+    ensures { result ≡ is_string_prefix word.now }
 {
     match word {
         [] => true,
@@ -168,7 +168,7 @@ fn opening(q: u8, text: &[u8]) -> usize
 /// A string that ends at `end`, or does not.
 fn text_by(start: usize, mark: usize, end: Option<usize>) -> Piece
     requires { mark + 1 < 2 ^ 64 }
-    ensures { result ≡ text_by start mark end }
+    ensures { result ≡ text_piece_by start mark end }
 {
     match end {
         None => Piece {
@@ -185,10 +185,10 @@ fn text_by(start: usize, mark: usize, end: Option<usize>) -> Piece
 }
 
 /// A string that starts at `start`; `text` begins at its first mark, at `mark`.
-#[tactic(auto, unfolding(crate::specs::Pieces::string))]
+#[tactic(auto, unfolding(crate::specs::Pieces::string_piece))]
 fn string(start: usize, mark: usize, text: &[u8]) -> Piece
     requires room { mark + length text.now + 1 < 2 ^ 64 }
-    ensures { result ≡ string start mark text.now }
+    ensures { result ≡ string_piece start mark text.now }
 {
     match text {
         [] => text_by(start, mark, None),

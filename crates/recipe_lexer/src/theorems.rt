@@ -2,7 +2,7 @@
 //! contracts.
 
 ghost use Rattle.std.specs.Prelude.{◌≡◌, ◌≢◌, ℕ, List, [], ◌∷◌, ◌++◌, length, codes, Ok, Err, IfOk};
-ghost use Rattle.recipe_lexer.specs.Layout.{pieces, token, text_tokens, tokens};
+ghost use Rattle.recipe_lexer.specs.Layout.{text_pieces, token, text_tokens, tokens};
 ghost use Rattle.recipe_lexer.specs.Order.{InOrder, IsCut, AreWhole};
 ghost use Rattle.recipe_lexer.specs.declared.token.Token.{Token};
 ghost use Rattle.recipe_lexer.specs.declared.token.LexFault.{LexFault};
@@ -10,7 +10,7 @@ ghost use Rattle.recipe_lexer.specs.declared.token.TokenKind.TheVariants.{Word, 
 ghost use Rattle.recipe_lexer.specs.declared.token.LexFault.TheVariants.{NotUtf8, OpenString, OpenBracket, BadIndent};
 
 /// The tokens of some files, or their faults, by computation.
-#[tactic(auto, unfolding(crate::specs::Layout::text_tokens, crate::specs::Layout::pieces, crate::specs::Layout::lay, crate::specs::Layout::step, crate::specs::Layout::begin, crate::specs::Layout::indented, crate::specs::Layout::indent, crate::specs::Layout::bracket, crate::specs::Layout::finish, crate::specs::Pieces::first_piece, crate::specs::Pieces::solid, crate::specs::Pieces::string, crate::specs::Pieces::text_end, crate::specs::Pieces::closes, crate::specs::Pieces::breaks))]
+#[tactic(auto, unfolding(crate::specs::Layout::text_tokens, crate::specs::Layout::text_pieces, crate::specs::Layout::lay, crate::specs::Layout::step, crate::specs::Layout::begin, crate::specs::Layout::indented, crate::specs::Layout::indent, crate::specs::Layout::bracket, crate::specs::Layout::finish, crate::specs::Pieces::first_piece, crate::specs::Pieces::solid, crate::specs::Pieces::string_piece, crate::specs::Pieces::text_end, crate::specs::Pieces::closes, crate::specs::Pieces::breaks))]
 pub fn worked_tokens()
     // A string that its line does not end.
     ensures unclosed { text_tokens (codes "class X(Package):\n    version(\"1.0)\n")
@@ -75,5 +75,5 @@ pub fn laws()
     // a closing bracket fits the innermost open one, and all that begins ends.
     ensures whole { (bytes : List ℕ) → IfOk (tokens bytes) (λ found. AreWhole found) }
     // The pieces cover the file.
-    ensures cut { (bytes : List ℕ) → IsCut 0 (length bytes) (pieces 0 0 bytes) }
+    ensures cut { (bytes : List ℕ) → IsCut 0 (length bytes) (text_pieces 0 0 bytes) }
 {}

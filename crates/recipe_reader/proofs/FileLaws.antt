@@ -8,7 +8,7 @@ use Rattle.recipe_data.specs.declared.recipe.Recipe.{Recipe}
 use Rattle.recipe_reader.specs.declared.fault.RecipeFault.{RecipeFault}
 use Rattle.recipe_reader.specs.declared.fault.RecipeFault.TheVariants as fault
 use Rattle.recipe_reader.specs.declared.files.RecipeFile.{RecipeFile}
-use Rattle.recipe_reader.specs.Results.{Step, Fails}
+use Rattle.recipe_reader.specs.Results.{RecipeStep, Fails}
 use Rattle.recipe_reader.specs.Files.{recipe_in_file, FailsAt}
 use Rattle.recipe_reader.proofs.KeptLaws.{named, right}
 
@@ -41,7 +41,7 @@ all_right (file ∷ files) (recipe ∷ recipes) are =
     (all_right files recipes both.1)
 
 file_named : (file : RecipeFile) (recipe : Recipe) → recipe_in_file file ≡ Ok recipe → recipe.name ≡ file.name
-file_named file recipe is = subst (λ (a : Step Recipe). IfOk a (λ r. r.name ≡ file.name)) is (named file.name file.bytes.items)
+file_named file recipe is = subst (λ (a : RecipeStep Recipe). IfOk a (λ r. r.name ≡ file.name)) is (named file.name file.bytes.items)
 
 -- recipes have the names of their files
 pub all_named : (files : List RecipeFile) (recipes : List Recipe) → map recipe_in_file files ≡ map Ok recipes

@@ -1,7 +1,7 @@
 -- Parts of files, and what they are answered by together.
 use Rattle.std.proofs.Common.{◌≡◌, ℕ, ◌+◌, ◌<◌, ◌≤◌, ◌^◌, min, List, [], ◌∷◌, ◌++◌, length, take, map, flat_map, get_or, refl, sym, ap, ◌∙◌, subst, zero, suc, arith, length-append, append-nil}
 use Rattle.std.specs.Prelude.{Some, Ok, Err}
-use Rattle.recipe_reader.specs.Results.{Step}
+use Rattle.recipe_reader.specs.Results.{RecipeStep}
 use Rattle.std.specs.List.{AllZip, slice_get}
 use Rattle.std.proofs.Math.Seq.{take-append-add}
 use Rattle.std.proofs.lemmas.List.{length-map, map-append, take-append-le}
@@ -28,7 +28,7 @@ get_before (y ∷ files) more zero x is = is
 get_before (y ∷ files) more (suc place) x is = get_before files more place x is
 
 count_front : (front : List RecipeFile) (recipes : List Recipe) → map recipe_in_file front ≡ map Ok recipes → length front ≡ length recipes
-count_front front recipes are = sym (length-map front recipe_in_file) ∙ ap length are ∙ length-map {B = Step Recipe} recipes Ok
+count_front front recipes are = sym (length-map front recipe_in_file) ∙ ap length are ∙ length-map {B = RecipeStep Recipe} recipes Ok
 
 first_behind : (place : ℕ) (e : RecipeFault) (front files more : List RecipeFile) (recipes : List Recipe)
     → map recipe_in_file front ≡ map Ok recipes → IsFirstFault place e files
@@ -42,8 +42,8 @@ first_behind place e front files more recipes are first =
           rw (
             take-append-add front (files ++ more) place,
             take-append-le place files more some,
-            map-append {B = Step Recipe} recipe_in_file front (take place files),
-            map-append {B = Step Recipe} Ok recipes first.recipes,
+            map-append {B = RecipeStep Recipe} recipe_in_file front (take place files),
+            map-append {B = RecipeStep Recipe} Ok recipes first.recipes,
             are,
             first.before,
           ) refl;
@@ -129,8 +129,8 @@ one_more before recipes more so_far parts all =
       flat_split parts before (Ok more) [] at,
       last,
       append-nil at.part,
-      map-append {B = Step Recipe} recipe_in_file (flat at.front) at.part,
-      map-append {B = Step Recipe} Ok recipes more,
+      map-append {B = RecipeStep Recipe} recipe_in_file (flat at.front) at.part,
+      map-append {B = RecipeStep Recipe} Ok recipes more,
       so_far at.front at.answered,
       at.is.found,
     ) refl

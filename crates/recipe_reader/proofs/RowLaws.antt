@@ -22,10 +22,10 @@ use Rattle.recipe_reader.specs.declared.fault.RecipeFault.{RecipeFault}
 use Rattle.recipe_reader.specs.declared.fault.RecipeFault.TheVariants as fault
 use Rattle.directive_arguments.specs.declared.given.Options.{Options}
 use Rattle.recipe_reader.specs.declared.state.State.{State}
-use Rattle.directive_arguments.specs.declared.variant.Shape.{Shape}
-use Rattle.recipe_reader.specs.Results.{Step}
+use Rattle.directive_arguments.specs.declared.variant.VariantShape.{VariantShape}
+use Rattle.recipe_reader.specs.Results.{RecipeStep}
 use Rattle.directive_arguments.specs.Variants.{shape}
-use Rattle.recipe_reader.specs.Rows.{add_version, with_variant, add_variant, is_passed_over, add_depends, name_in, provided, add_provides, add_conflict, add_requirement, into}
+use Rattle.recipe_reader.specs.Rows.{add_version, with_variant_row, add_variant, is_passed_over, add_depends, name_in, provided, add_provides, add_conflict, add_requirement, into}
 use Rattle.recipe_reader.specs.Recipes.{empty_recipe}
 use Rattle.directive_arguments.proofs.ListLaws.{all_append, all_push, all_map}
 use Rattle.directive_arguments.specs.Said.{IsLocal, IsNamed, IsShape}
@@ -65,7 +65,7 @@ pub record AreProvides (next : ℕ) (rows : List ProvideRow) : Type 0 where
 
 -- ---- rows of one directive
 
-abbrev ok : Recipe → Step Recipe
+abbrev ok : Recipe → RecipeStep Recipe
 ok recipe = Ok recipe
 
 name_in_is : (o : Option (List ℕ)) → IsSome o → IfSome o IsName → IsName (name_in o)
@@ -176,8 +176,8 @@ module _ (owner : List ℕ) where
   abbrev pub KeepsWith : ℕ → State → Recipe → Type 0
   KeepsWith next s recipe = KeepsRows next s.declared recipe
 
-  with_variant_keeps : (place number : ℕ) (name : List ℕ) (shape : Option Shape) (when : Condition) (s : State) → IsName name
-      → IfSome shape IsShape → Keeps number s → IfOk (with_variant place number name shape when s.recipe) (KeepsWith (number + 1) s)
+  with_variant_keeps : (place number : ℕ) (name : List ℕ) (shape : Option VariantShape) (when : Condition) (s : State) → IsName name
+      → IfSome shape IsShape → Keeps number s → IfOk (with_variant_row place number name shape when s.recipe) (KeepsWith (number + 1) s)
   with_variant_keeps place number name None when s named is k = tt
   with_variant_keeps place number name (Some shape) when s named is k =
       let more = rows_more number s.declared s.recipe k.rows in
@@ -324,7 +324,7 @@ module _ (owner : List ℕ) where
   -- ---- the state
 
   -- a right recipe in a right state is a right state
-  pub into_keeps : (next : ℕ) (s : State) (step : Step Recipe) → AllByRecursion IsHead s.heads → IfOk step (KeepsWith next s)
+  pub into_keeps : (next : ℕ) (s : State) (step : RecipeStep Recipe) → AllByRecursion IsHead s.heads → IfOk step (KeepsWith next s)
       → IfOk (into s step) (Keeps next)
   into_keeps next s (Ok recipe) heads k = record { rows = k; heads = heads }
   into_keeps next s (Err e) heads k = tt

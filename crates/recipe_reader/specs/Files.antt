@@ -5,11 +5,11 @@ use Rattle.recipe_data.specs.declared.recipe.Recipe.{Recipe}
 use Rattle.recipe_reader.specs.declared.fault.RecipeFault.{RecipeFault}
 use Rattle.recipe_reader.specs.declared.fault.RecipeFault.TheVariants as fault
 use Rattle.recipe_reader.specs.declared.files.RecipeFile.{RecipeFile}
-use Rattle.recipe_reader.specs.Results.{Step}
-use Rattle.recipe_reader.specs.Recipes.{recipe_of}
+use Rattle.recipe_reader.specs.Results.{RecipeStep}
+use Rattle.recipe_reader.specs.Recipes.{recipe_of_file}
 
-abbrev pub recipe_in_file : RecipeFile → Step Recipe
-recipe_in_file file = recipe_of file.name file.bytes.items
+abbrev pub recipe_in_file : RecipeFile → RecipeStep Recipe
+recipe_in_file file = recipe_of_file file.name file.bytes.items
 
 -- the file at this place has the fault, and each file before it has a recipe
 pub record IsFirstFault (place : ℕ) (e : RecipeFault) (files : List RecipeFile) : Type 0 where

@@ -3,10 +3,10 @@
 ghost use Rattle.std.specs.Prelude.{◌≡◌, ◌++◌, [], ◌∷◌, true, take, drop, IfOk, OnOk};
 ghost use Rattle.std.specs.Option.{option_copied, option_to_list};
 ghost use Rattle.directive_arguments.specs.Results.{then_do};
-ghost use Rattle.recipe_reader.specs.Results.{Is, Gives, as_step};
-ghost use Rattle.recipe_values.specs.Strings.{text_of, start_of};
-ghost use Rattle.recipe_reader.specs.Rows.{add};
-ghost use Rattle.recipe_reader.specs.Recipes.{innermost, when_in, nested_in, own_fault, first_fault, head, enter, with_head, when_of, unless, may_stand, call, call_by, item};
+ghost use Rattle.recipe_reader.specs.Results.{Is, Gives, as_recipe_step};
+ghost use Rattle.recipe_values.specs.Strings.{strings_text, first_start};
+ghost use Rattle.recipe_reader.specs.Rows.{add_directive};
+ghost use Rattle.recipe_reader.specs.Recipes.{innermost, when_of_head, nested_in, own_when_fault, outermost_fault, head, enter_head, with_head, when_of, unless_fault, may_stand_in, call, call_by, item};
 
 use crate::row::add;
 use crate::stage::{arguments, condition};
@@ -16,7 +16,7 @@ use directive_arguments::{Directive, Given, directive_of};
 use plain_data::{Duplicate, List};
 use recipe_data::Condition;
 use recipe_lexer::Token;
-use recipe_statements::Item;
+use recipe_statements::ClassItem;
 use recipe_values::{Pile, Segment, ValueFault, read_text};
 use spec_grammar::Spec;
 use std::alloc::{AllocError, Global};
@@ -42,7 +42,7 @@ fn with_room(alloc: Global, most: usize) -> Result<List<Spec>, AllocError>
 
 /// The conditions of a head, and one more where there is one.
 fn when_of(alloc: Global, around: Option<&Head>, own: Option<Spec>) -> Result<Condition, AllocError>
-    ensures { IfOk result (λ when. when.specs ≡ when_in (option_copied around.entry)
+    ensures { IfOk result (λ when. when.specs ≡ when_of_head (option_copied around.entry)
         ++ option_to_list own) }
 {
     let mut when = match around {
@@ -73,7 +73,7 @@ fn own_fault(
     place: u64,
     text: &[u8],
 ) -> Result<Option<RecipeFault>, AllocError>
-    ensures { IfOk result (λ fault. fault ≡ own_fault spec.now place text.now) }
+    ensures { IfOk result (λ fault. fault ≡ own_when_fault spec.now place text.now) }
 {
     if spec.below.is_empty() {
         return Ok(None);
@@ -87,7 +87,7 @@ fn own_fault(
 
 /// The outermost fault counts.
 fn first_fault(outer: Option<RecipeFault>, own: Option<RecipeFault>) -> Option<RecipeFault>
-    ensures { result ≡ first_fault outer own }
+    ensures { result ≡ outermost_fault outer own }
 {
     match outer {
         None => own,
@@ -119,7 +119,7 @@ fn entered(heads: List<Head>, depth: u64, head: Head) -> Result<List<Head>, Allo
 
 /// A block begins.
 fn enter(alloc: Global, depth: u64, state: &mut State, head: Head) -> Result<(), AllocError>
-    ensures { OnOk result (state.new ≡ enter depth state.old head) }
+    ensures { OnOk result (state.new ≡ enter_head depth state.old head) }
 {
     let heads = mem::replace(&mut state.heads, List::new(alloc));
     state.heads = entered(heads, depth, head)?;
@@ -133,8 +133,8 @@ fn read_head(
     texts: &[Token],
     around: Option<&Head>,
 ) -> Result<Head, RecipeFault>
-    ensures { Is result (then_do (as_step (text_of bytes.now texts.now))
-        (head (option_copied around.entry) (start_of texts.now))) }
+    ensures { Is result (then_do (as_recipe_step (strings_text bytes.now texts.now))
+        (head (option_copied around.entry) (first_start texts.now))) }
 {
     match read_text(alloc, bytes, texts) {
         Ok(text) => head(alloc, around, start_of(texts), text.as_str().as_bytes()),
@@ -161,7 +161,7 @@ fn with_head(
 
 /// A `version` stands in no block, and a `provides` in none whose condition has `^`.
 fn may_stand(directive: Directive, around: Option<&Head>, place: u64) -> Result<u64, RecipeFault>
-    ensures { Is result (may_stand directive (option_copied around.entry) place) }
+    ensures { Is result (may_stand_in directive (option_copied around.entry) place) }
 {
     match directive {
         Directive::Version if around.is_some() => Err(RecipeFault::Unsupported(place)),
@@ -184,7 +184,7 @@ fn add_given(
     state: &mut State,
 ) -> Result<(), RecipeFault>
     ensures { Gives result state.new
-        (add directive place number given.old
+        (add_directive directive place number given.old
         (when_of (innermost state.old.heads depth) given.old) state.old) }
 {
     let own = given.options.when.take();
@@ -219,17 +219,17 @@ pub(crate) fn item(
     bytes: &[u8],
     tokens: &[Token],
     number: u64,
-    one: Item,
+    one: ClassItem,
     state: &mut State,
 ) -> Result<(), RecipeFault>
     ensures { Gives result state.new (item bytes.now tokens.now number one state.old) }
 {
     match one {
-        Item::With { first, last, depth } => {
+        ClassItem::With { first, last, depth } => {
             let head = from(up_to(tokens, last.saturating_sub(1)), first);
             with_head(alloc, bytes, from(head, 3), depth, state)
         }
-        Item::Call { first, last, depth } => {
+        ClassItem::Call { first, last, depth } => {
             let inner = from(from(up_to(tokens, last), first), 2);
             let behind = from(tokens, first);
             let Some(directive) = directive_of(first_word(bytes, behind)) else {

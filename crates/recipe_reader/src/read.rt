@@ -3,7 +3,7 @@
 ghost use Rattle.std.specs.Prelude.{◌≡◌, true, ◌<◌, ◌≤◌, ◌+◌, ◌^◌, Ok, IfOk, IfErr};
 ghost use Rattle.recipe_data.specs.Right.{is_right_recipe};
 ghost use Rattle.recipe_reader.specs.Results.{Is, Gives, Fails};
-ghost use Rattle.recipe_reader.specs.Recipes.{count, read_items, start, recipe_of};
+ghost use Rattle.recipe_reader.specs.Recipes.{count_call, read_items, start_recipe, recipe_of_file};
 
 use crate::item::item;
 use crate::stage::{items_of, tokens_of};
@@ -12,12 +12,12 @@ use directive_arguments::Names;
 use plain_data::{List, Word};
 use recipe_data::Recipe;
 use recipe_lexer::Token;
-use recipe_statements::Item;
+use recipe_statements::ClassItem;
 use std::alloc::{AllocError, Global};
 
 /// Nothing was read yet.
 fn start(alloc: Global, name: &str) -> Result<State, AllocError>
-    ensures { IfOk result (λ state. state ≡ start name.now) }
+    ensures { IfOk result (λ state. state ≡ start_recipe name.now) }
 {
     Ok(State {
         heads: List::new(alloc),
@@ -69,14 +69,14 @@ fn kept(recipe: Recipe) -> Recipe
 }
 
 /// Counts the calls.
-fn count(one: Item, number: u64) -> u64
+fn count(one: ClassItem, number: u64) -> u64
     requires { number + 1 < 2 ^ 64 }
-    ensures value { result ≡ count one number }
+    ensures value { result ≡ count_call one number }
     ensures room { result ≤ number + 1 }
 {
     match one {
-        Item::With { .. } => number,
-        Item::Call { .. } => number + 1,
+        ClassItem::With { .. } => number,
+        ClassItem::Call { .. } => number + 1,
     }
 }
 
@@ -85,7 +85,7 @@ fn read_items(
     alloc: Global,
     bytes: &[u8],
     tokens: &[Token],
-    items: &[Item],
+    items: &[ClassItem],
     state: &mut State,
 ) -> Result<(), RecipeFault>
     ensures { Gives result state.new (read_items bytes.now tokens.now 0 items.now state.old) }
@@ -101,9 +101,9 @@ fn read_items(
 }
 
 /// What a file is read as.
-#[tactic(auto, unfolding(crate::specs::Recipes::recipe_of))]
+#[tactic(auto, unfolding(crate::specs::Recipes::recipe_of_file))]
 fn read_file(alloc: Global, name: &str, bytes: &[u8]) -> Result<Recipe, RecipeFault>
-    ensures { Is result (recipe_of name.now bytes.now) }
+    ensures { Is result (recipe_of_file name.now bytes.now) }
 {
     let tokens = tokens_of(alloc, bytes)?;
     let items = items_of(alloc, bytes, tokens.as_slice())?;
@@ -124,9 +124,9 @@ fn read_file(alloc: Global, name: &str, bytes: &[u8]) -> Result<Recipe, RecipeFa
 ///
 /// The first fault of the tokens, else of the statements, else of the arguments and directives in their order.
 pub fn read_recipe(alloc: Global, name: &str, bytes: &[u8]) -> Result<Recipe, RecipeFault>
-    ensures found { IfOk result (λ recipe. recipe_of name.now bytes.now ≡ Ok recipe) }
+    ensures found { IfOk result (λ recipe. recipe_of_file name.now bytes.now ≡ Ok recipe) }
     ensures right { IfOk result (λ recipe. is_right_recipe recipe ≡ true) }
-    ensures fault { IfErr result (λ fault. Fails fault (recipe_of name.now bytes.now)) }
+    ensures fault { IfErr result (λ fault. Fails fault (recipe_of_file name.now bytes.now)) }
 {
     match read_file(alloc, name, bytes) {
         Ok(recipe) => Ok(recipe),

@@ -2,11 +2,11 @@
 
 ghost use Rattle.std.specs.Prelude.{◌≡◌, ◌++◌, map, [], ◌∷◌, IfOk, OnOk};
 ghost use Rattle.recipe_reader.specs.Results.{Gives};
-ghost use Rattle.recipe_reader.specs.Rows.{add_version, with_variant, add_variant, name_in, provided, add_provides, add_conflict, add_requirement, add};
+ghost use Rattle.recipe_reader.specs.Rows.{add_version, with_variant_row, add_variant, name_in, provided, add_provides, add_conflict, add_requirement, add_directive};
 
 use crate::depends::add_depends;
 use crate::{RecipeFault, State};
-use directive_arguments::{Directive, Given, Options, Shape, shape_with};
+use directive_arguments::{Directive, Given, Options, VariantShape, shape_with};
 use plain_data::{Duplicate, List, Word};
 use recipe_data::{Condition, ConflictRow, ProvideRow, Recipe, RequireRow, VariantRow, VersionRow};
 use spec_grammar::{Part, Spec};
@@ -45,11 +45,11 @@ fn with_variant(
     place: u64,
     number: u64,
     name: Word,
-    shape: Option<Shape>,
+    shape: Option<VariantShape>,
     when: Condition,
     recipe: &mut Recipe,
 ) -> Result<(), RecipeFault>
-    ensures { Gives result recipe.new (with_variant place number name shape when recipe.old) }
+    ensures { Gives result recipe.new (with_variant_row place number name shape when recipe.old) }
 {
     let Some(shape) = shape else {
         return Err(RecipeFault::BadDefault(place));
@@ -183,7 +183,7 @@ fn add_requirement(
 }
 
 /// The rows of the directive at a place, or the fault that its first value is missing.
-#[tactic(auto, unfolding(crate::specs::Rows::add))]
+#[tactic(auto, unfolding(crate::specs::Rows::add_directive))]
 pub(crate) fn add(
     alloc: Global,
     directive: Directive,
@@ -193,7 +193,8 @@ pub(crate) fn add(
     when: Condition,
     state: &mut State,
 ) -> Result<(), RecipeFault>
-    ensures { Gives result state.new (add directive place number given.old when state.old) }
+    ensures { Gives result state.new
+        (add_directive directive place number given.old when state.old) }
 {
     match directive {
         Directive::Version => {

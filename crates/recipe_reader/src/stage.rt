@@ -9,7 +9,7 @@ use crate::fault::{argument_fault, lex_fault, statement_fault};
 use directive_arguments::{Directive, Given};
 use plain_data::List;
 use recipe_lexer::{Token, lex};
-use recipe_statements::{Item, statements};
+use recipe_statements::{ClassItem, statements};
 use recipe_values::{Pile, Segment};
 use spec_grammar::Spec;
 use std::alloc::Global;
@@ -29,7 +29,7 @@ pub(crate) fn items_of(
     alloc: Global,
     bytes: &[u8],
     tokens: &[Token],
-) -> Result<List<Item>, RecipeFault>
+) -> Result<List<ClassItem>, RecipeFault>
     ensures { Is result (statement_step (items bytes.now tokens.now)) }
 {
     match statements(alloc, bytes, tokens) {

@@ -2,8 +2,8 @@
 
 ghost use Rattle.std.specs.Prelude.{◌≡◌, take, drop};
 ghost use Rattle.recipe_statements.specs.Lines.{word};
-ghost use Rattle.recipe_values.specs.Strings.{start_of};
-ghost use Rattle.recipe_reader.specs.Recipes.{first_word};
+ghost use Rattle.recipe_values.specs.Strings.{first_start};
+ghost use Rattle.recipe_reader.specs.Recipes.{first_token_word};
 
 use recipe_lexer::{Token, TokenKind};
 
@@ -33,7 +33,7 @@ pub(crate) fn up_to(tokens: &[Token], stop: u64) -> &[Token]
 
 /// The byte at which the first of some tokens starts.
 pub(crate) fn start_of(tokens: &[Token]) -> u64
-    ensures { result ≡ start_of tokens.now }
+    ensures { result ≡ first_start tokens.now }
 {
     match tokens {
         [] => 0,
@@ -53,7 +53,7 @@ fn word(bytes: &[u8], token: Token) -> &[u8]
 
 /// The text of the word that the first token is, none for another one.
 pub(crate) fn first_word<'a>(bytes: &'a [u8], tokens: &[Token]) -> &'a [u8]
-    ensures { result.now ≡ first_word bytes.now tokens.now }
+    ensures { result.now ≡ first_token_word bytes.now tokens.now }
 {
     match tokens {
         [] => &[],

@@ -1,7 +1,7 @@
 //! What the stages answer, as texts.
 
 use recipe_lexer::{LexFault, Token, TokenKind};
-use recipe_statements::{Item, StatementFault};
+use recipe_statements::{ClassItem, StatementFault};
 use spec_grammar::{Form, SpecFault};
 use std::alloc::{AllocError, Global};
 
@@ -50,19 +50,19 @@ pub(crate) fn tokens_text(alloc: Global, tokens: &[Token]) -> Result<String, All
     Ok(out)
 }
 
-fn push_item(alloc: Global, out: &mut String, item: Item) -> Result<(), AllocError> {
+fn push_item(alloc: Global, out: &mut String, item: ClassItem) -> Result<(), AllocError> {
     match item {
-        Item::With { first, last, depth } => {
+        ClassItem::With { first, last, depth } => {
             out.push_str(format!(in alloc; "With@{first}-{last}/{depth} ")?.as_str())
         }
-        Item::Call { first, last, depth } => {
+        ClassItem::Call { first, last, depth } => {
             out.push_str(format!(in alloc; "Call@{first}-{last}/{depth} ")?.as_str())
         }
     }
 }
 
 /// Items, as `With@8-13/0 Call@16-19/1`.
-pub(crate) fn items_text(alloc: Global, items: &[Item]) -> Result<String, AllocError> {
+pub(crate) fn items_text(alloc: Global, items: &[ClassItem]) -> Result<String, AllocError> {
     if items.is_empty() {
         return String::from_str(alloc, "none");
     }

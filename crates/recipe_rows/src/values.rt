@@ -3,8 +3,8 @@
 use plain_data::Word;
 use recipe_lexer::Token;
 use recipe_values::{
-    Element, Pile, Reading, Scalar, Segment, Value, ValueFault, arguments, keyword_of, read_value,
-    without_keyword,
+    Element, Pile, PlacedValue, Scalar, Segment, Value, ValueFault, arguments, keyword_of,
+    read_value, without_keyword,
 };
 use std::alloc::{AllocError, Global};
 
@@ -59,7 +59,7 @@ fn push_value(alloc: Global, out: &mut String, value: &Value) -> Result<(), Allo
     }
 }
 
-fn push_places(alloc: Global, out: &mut String, reading: &Reading) -> Result<(), AllocError> {
+fn push_places(alloc: Global, out: &mut String, reading: &PlacedValue) -> Result<(), AllocError> {
     let (place, token) = (reading.place, reading.token);
     if place == token {
         return out.push_str(format!(in alloc; "@{place}")?.as_str());

@@ -3,24 +3,24 @@ use Rattle.std.proofs.Common.{◌≡◌, ℕ, ◌+◌, ◌<◌, ◌≤◌, Bool,
 use Rattle.std.specs.Prelude.{Ok, Err, IfOk, nat_lt, ◌||◌}
 use Rattle.recipe_lexer.specs.declared.token.Token.{Token}
 use Rattle.recipe_statements.specs.Lines.{plain_form, head_form, are_texts, is_definition, is_passed_by_start, call_form, called}
-use Rattle.recipe_statements.specs.Blocks.{Line, Block, Empty, Plain, Headed, file_of}
-use Rattle.recipe_statements.specs.Statements.{Items, join, deepest, place, call, with_head, plain_items, headed_items, body, outer_plain, outer_headed, is_class, at_end, outer, items}
+use Rattle.recipe_statements.specs.Blocks.{LogicalLine, StatementBlock, Empty, Plain, Headed, file_of}
+use Rattle.recipe_statements.specs.Statements.{Items, join_items, deepest, place, call_item, when_item, plain_items, headed_items, body, outer_plain, outer_headed, is_class, at_end, outer, items}
 use Rattle.recipe_statements.specs.Order.{last_of, AreInOrder}
 use Rattle.recipe_statements.specs.declared.form.PlainForm.{PlainForm}
 use Rattle.recipe_statements.specs.declared.form.PlainForm.TheVariants as plain
 use Rattle.recipe_statements.specs.declared.form.HeadForm.{HeadForm}
 use Rattle.recipe_statements.specs.declared.form.HeadForm.TheVariants as head
-use Rattle.recipe_statements.specs.declared.item.Item.{Item}
+use Rattle.recipe_statements.specs.declared.item.ClassItem.{ClassItem}
 use Rattle.recipe_statements.specs.declared.item.StatementFault.TheVariants as fault
 use Rattle.recipe_statements.proofs.LineLaws.{line_end, LinesFit, file_fits}
 
 -- ---- lists
 
-order_earlier : (from later to : ℕ) (found : List Item) → from ≤ later → AreInOrder later to found → AreInOrder from to found
+order_earlier : (from later to : ℕ) (found : List ClassItem) → from ≤ later → AreInOrder later to found → AreInOrder from to found
 order_earlier from later to [] le ordered = omega (arith, le, ordered)
 order_earlier from later to (item ∷ others) le (start, long, more) = (omega (arith, le, start), long, more)
 
-order_append : (from m to : ℕ) (xs ys : List Item) → AreInOrder from m xs → AreInOrder m to ys → AreInOrder from to (xs ++ ys)
+order_append : (from m to : ℕ) (xs ys : List ClassItem) → AreInOrder from m xs → AreInOrder m to ys → AreInOrder from to (xs ++ ys)
 order_append from m to [] ys x y = order_earlier from m to ys x y
 order_append from m to (item ∷ xs) ys (start, long, more) y = (start, long, order_append (last_of item + 1) m to xs ys more y)
 
@@ -28,7 +28,8 @@ ok_earlier : (from later to : ℕ) (found : Items) → from ≤ later → IfOk f
 ok_earlier from later to (Ok xs) le ordered = order_earlier from later to xs le ordered
 ok_earlier from later to (Err e) le ordered = tt
 
-join_order : (from m to : ℕ) (a b : Items) → IfOk a (AreInOrder from m) → IfOk b (AreInOrder m to) → IfOk (join a b) (AreInOrder from to)
+join_order : (from m to : ℕ) (a b : Items) → IfOk a (AreInOrder from m) → IfOk b (AreInOrder m to)
+    → IfOk (join_items a b) (AreInOrder from to)
 join_order from m to (Ok xs) (Ok ys) x y = order_append from m to xs ys x y
 join_order from m to (Ok xs) (Err e) x y = tt
 join_order from m to (Err e) b x y = tt
@@ -59,27 +60,30 @@ when_long bytes (t ∷ u ∷ rest) is = omega arith
 
 -- ---- blocks
 
-plain_order : (form : PlainForm) (line : Line) (depth from to : ℕ) (rest : Items) → (form ≡ plain.Directive → 1 < length line.tokens)
+plain_order : (form : PlainForm) (line : LogicalLine) (depth from to : ℕ) (rest : Items) → (form ≡ plain.Directive → 1 < length line.tokens)
     → from ≤ line.first → IfOk rest (AreInOrder (line_end line) to) → IfOk (plain_items form line depth rest) (AreInOrder from to)
 plain_order plain.Passed line depth from to rest long start ordered = ok_earlier from (line_end line) to rest (omega (arith, start)) ordered
 plain_order plain.Directive line depth from to rest long start ordered =
-    join_order from (line_end line) to (Ok (call line depth ∷ [])) rest (start, omega (arith, long refl), omega (arith, long refl)) ordered
+    join_order from (line_end line) to (Ok (call_item line depth ∷ [])) rest
+    (start, omega (arith, long refl), omega (arith, long refl)) ordered
 plain_order plain.Other line depth from to rest long start ordered = tt
 
-with_order : (line : Line) (depth from m to : ℕ) (inner rest : Items) → 1 < length line.tokens → from ≤ line.first
+with_order : (line : LogicalLine) (depth from m to : ℕ) (inner rest : Items) → 1 < length line.tokens → from ≤ line.first
     → IfOk inner (AreInOrder (line_end line) m) → IfOk rest (AreInOrder m to)
-    → IfOk (join (Ok (with_head line depth ∷ [])) (join inner rest)) (AreInOrder from to)
+    → IfOk (join_items (Ok (when_item line depth ∷ [])) (join_items inner rest)) (AreInOrder from to)
 with_order line depth from m to inner rest long start inside ordered =
-    join_order from (line_end line) to (Ok (with_head line depth ∷ [])) (join inner rest) (start, omega (arith, long), omega (arith, long))
+    join_order from (line_end line) to (Ok (when_item line depth ∷ [])) (join_items inner rest)
+    (start, omega (arith, long), omega (arith, long))
     (join_order (line_end line) m to inner rest inside ordered)
 
-order_le : (from to : ℕ) (b : Block) → LinesFit from to b → from ≤ to
+order_le : (from to : ℕ) (b : StatementBlock) → LinesFit from to b → from ≤ to
 order_le from to Empty fits = fits
 order_le from to (Plain line rest) fits = omega (arith, fits.0, order_le (line_end line) to rest fits.1)
 order_le from to (Headed line inner rest) (start, (m, inside, behind)) =
     omega (arith, start, order_le (line_end line) m inner inside, order_le m to rest behind)
 
-headed_order : (form : HeadForm) (line : Line) (depth from m to : ℕ) (inner rest : Items) → (form ≡ head.When → 1 < length line.tokens)
+headed_order : (form : HeadForm) (line : LogicalLine) (depth from m to : ℕ) (inner rest : Items)
+    → (form ≡ head.When → 1 < length line.tokens)
     → from ≤ line.first → line_end line ≤ m → IfOk inner (AreInOrder (line_end line) m) → IfOk rest (AreInOrder m to)
     → IfOk (headed_items form line depth inner rest) (AreInOrder from to)
 headed_order head.Passed line depth from m to inner rest long start le inside ordered =
@@ -88,11 +92,11 @@ headed_order head.Class line depth from m to inner rest long start le inside ord
 headed_order head.When line depth from m to inner rest long start le inside ordered =
     let more = with_order line depth from m to inner rest (long refl) start inside ordered in
     elim (nat_lt depth deepest) as
-    (λ c. IfOk (cond c (join (Ok (with_head line depth ∷ [])) (join inner rest)) (Err (fault.TooDeep (place line))))
+    (λ c. IfOk (cond c (join_items (Ok (when_item line depth ∷ [])) (join_items inner rest)) (Err (fault.TooDeep (place line))))
     (AreInOrder from to)) [ true ↦ more | false ↦ tt ]
 headed_order head.Other line depth from m to inner rest long start le inside ordered = tt
 
-body_order : (bytes : List ℕ) (depth from to : ℕ) (b : Block) → LinesFit from to b → IfOk (body bytes depth b) (AreInOrder from to)
+body_order : (bytes : List ℕ) (depth from to : ℕ) (b : StatementBlock) → LinesFit from to b → IfOk (body bytes depth b) (AreInOrder from to)
 unfolding body
 body_order bytes depth from to Empty fits = fits
 body_order bytes depth from to (Plain line rest) fits =
@@ -105,13 +109,13 @@ body_order bytes depth from to (Headed line inner rest) (start, (m, inside, behi
 
 -- ---- the outer level
 
-outer_plain_order : (form : PlainForm) (line : Line) (from to : ℕ) (rest : Items) → from ≤ line.first
+outer_plain_order : (form : PlainForm) (line : LogicalLine) (from to : ℕ) (rest : Items) → from ≤ line.first
     → IfOk rest (AreInOrder (line_end line) to) → IfOk (outer_plain form line rest) (AreInOrder from to)
 outer_plain_order plain.Passed line from to rest start ordered = ok_earlier from (line_end line) to rest (omega (arith, start)) ordered
 outer_plain_order plain.Directive line from to rest start ordered = tt
 outer_plain_order plain.Other line from to rest start ordered = tt
 
-outer_headed_order : (form : HeadForm) (line : Line) (seen : Bool) (from m to : ℕ) (inner rest : Items) → from ≤ line.first
+outer_headed_order : (form : HeadForm) (line : LogicalLine) (seen : Bool) (from m to : ℕ) (inner rest : Items) → from ≤ line.first
     → line_end line ≤ m → IfOk inner (AreInOrder (line_end line) m) → IfOk rest (AreInOrder m to)
     → IfOk (outer_headed form line seen inner rest) (AreInOrder from to)
 outer_headed_order head.Passed line seen from m to inner rest start le inside ordered =
@@ -126,7 +130,8 @@ end_order : (seen : Bool) (from to : ℕ) → from ≤ to → IfOk (at_end seen)
 end_order true from to le = le
 end_order false from to le = tt
 
-outer_order : (bytes : List ℕ) (seen : Bool) (from to : ℕ) (b : Block) → LinesFit from to b → IfOk (outer bytes seen b) (AreInOrder from to)
+outer_order : (bytes : List ℕ) (seen : Bool) (from to : ℕ) (b : StatementBlock) → LinesFit from to b
+    → IfOk (outer bytes seen b) (AreInOrder from to)
 unfolding outer
 outer_order bytes seen from to Empty fits = end_order seen from to fits
 outer_order bytes seen from to (Plain line rest) fits =

@@ -6,11 +6,11 @@ use Rattle.std.proofs.Math.Seq.{drop-nil}
 use Rattle.recipe_lexer.specs.declared.token.Token.{Token}
 use Rattle.recipe_lexer.specs.declared.token.TokenKind.{TokenKind}
 use Rattle.recipe_lexer.specs.declared.token.TokenKind.TheVariants as kind
-use Rattle.recipe_statements.specs.Lines.{turned, behind}
-use Rattle.recipe_statements.specs.Blocks.{Line, Block, Empty, add, begins, is_between, ended, blocks, all_of}
-use Rattle.recipe_statements.specs.Statements.{Items, join, at_end, body, outer, items, Fails}
+use Rattle.recipe_statements.specs.Lines.{turned, behind_bracket}
+use Rattle.recipe_statements.specs.Blocks.{LogicalLine, StatementBlock, Empty, line_in_front, begins_block, is_between, ended_by, blocks, all_blocks}
+use Rattle.recipe_statements.specs.Statements.{Items, join_items, at_end, body, outer, items, Fails}
 use Rattle.recipe_statements.specs.Inside.{State, Step, view, Gives, took, closed, between, then_first, stepped, rest_of, remaining, whole, finished}
-use Rattle.recipe_statements.specs.declared.item.Item.{Item}
+use Rattle.recipe_statements.specs.declared.item.ClassItem.{ClassItem}
 use Rattle.recipe_statements.specs.declared.item.StatementFault.{StatementFault}
 use Rattle.recipe_statements.specs.declared.item.StatementFault.TheVariants as fault
 use Rattle.recipe_statements.specs.declared.reader.Reader.{Reader}
@@ -71,15 +71,16 @@ more bytes tokens i s t le e = ap (λ (front : List Token). remaining bytes s (b
 by_kind : (bytes : List ℕ) (tokens : List Token) (i : ℕ) (s : State) (t : Token) (k : TokenKind) → s.first ≤ i → i < length tokens
     → drop i tokens ≡ t ∷ drop (i + 1) tokens → let front : List Token = between tokens s.first i in
     Keeps bytes tokens (i + 1) (remaining bytes s
-    (ended k (record { first = s.first; tokens = front }) (drop (i + 1) tokens)
+    (ended_by k (record { first = s.first; tokens = front }) (drop (i + 1) tokens)
     (blocks (cond (is_between k) (s.first + length front + 1) s.first) (cond (is_between k) [] (front ++ t ∷ [])) (drop (i + 1) tokens))))
     (stepped bytes tokens i k s)
 by_kind bytes tokens i s t kind.NewLine le lt e =
-    let line : Line = record { first = s.first; tokens = between tokens s.first i } in
+    let line : LogicalLine = record { first = s.first; tokens = between tokens s.first i } in
     let rest : List Token = drop (i + 1) tokens in
     rw (length_between tokens s.first i le (omega arith))
-    (keeps_first bytes tokens i (remaining bytes s (add line (begins rest) (blocks (i + 1) [] rest))) (took bytes line (begins rest) s)
-    (took_law bytes line (begins rest) s (blocks (i + 1) [] rest)))
+    (keeps_first bytes tokens i (remaining bytes s (line_in_front line (begins_block rest) (blocks (i + 1) [] rest)))
+    (took bytes line (begins_block rest) s)
+    (took_law bytes line (begins_block rest) s (blocks (i + 1) [] rest)))
 by_kind bytes tokens i s t kind.Indent le lt e =
     rw (length_between tokens s.first i le (omega arith))
     (keeps_first bytes tokens i (remaining bytes s (blocks (i + 1) [] (drop (i + 1) tokens))) (Ok s) refl)
@@ -119,8 +120,8 @@ unfolding rest_of outer body
 rest_end bytes seen zero = refl
 rest_end bytes seen (suc d) = join_none (rest_of bytes seen d []) ∙ rest_end bytes seen d
 
-finished_by : (found : List Item) (seen : Bool) → join (Ok found) (at_end seen) ≡ finished found seen
-finished_by found true = ap (λ (xs : List Item). let r : Items = Ok xs in r) (append-nil found)
+finished_by : (found : List ClassItem) (seen : Bool) → join_items (Ok found) (at_end seen) ≡ finished found seen
+finished_by found true = ap (λ (xs : List ClassItem). let r : Items = Ok xs in r) (append-nil found)
 finished_by found false = refl
 
 -- behind the last token the file is finished
@@ -128,30 +129,30 @@ pub whole_end : (bytes : List ℕ) (tokens : List Token) (i : ℕ) (s : State) �
     → whole bytes tokens i s ≡ finished s.items s.seen
 unfolding whole blocks remaining
 whole_end bytes tokens i s le =
-    rw (drop_all i tokens le, drop-nil {A = Block} s.passed) (ap (join (Ok s.items)) (rest_end bytes s.seen s.level)
+    rw (drop_all i tokens le, drop-nil {A = StatementBlock} s.passed) (ap (join_items (Ok s.items)) (rest_end bytes s.seen s.level)
     ∙ finished_by s.items s.seen)
 
 -- before the first token the whole file is left
-pub whole_start : (bytes : List ℕ) (tokens : List Token) (found : List Item) → found ≡ []
+pub whole_start : (bytes : List ℕ) (tokens : List Token) (found : List ClassItem) → found ≡ []
     → whole bytes tokens 0 (record { seen = false; level = 0; passed = 0; first = 0; items = found }) ≡ items bytes tokens
 unfolding whole remaining rest_of items
-whole_start bytes tokens found e = rw e (join_none (outer bytes false (all_of (blocks 0 [] tokens))))
+whole_start bytes tokens found e = rw e (join_none (outer bytes false (all_blocks (blocks 0 [] tokens))))
 
 -- ---- brackets
 
 -- a token inside of brackets is passed over
 pub behind_more : (inner now i : ℕ) (tokens : List Token) (t : Token) → drop i tokens ≡ t ∷ drop (i + 1) tokens
-    → turned inner t.kind ≡ Some now → behind inner (drop i tokens) ≡ behind now (drop (i + 1) tokens)
-unfolding behind
+    → turned inner t.kind ≡ Some now → behind_bracket inner (drop i tokens) ≡ behind_bracket now (drop (i + 1) tokens)
+unfolding behind_bracket
 behind_more inner now i tokens t e turns = rw (e, turns) refl
 
 -- the bracket that closes ends the search
 pub behind_closed : (inner i : ℕ) (tokens : List Token) (t : Token) → drop i tokens ≡ t ∷ drop (i + 1) tokens → turned inner t.kind ≡ None
-    → behind inner (drop i tokens) ≡ Some (drop (i + 1) tokens)
-unfolding behind
+    → behind_bracket inner (drop i tokens) ≡ Some (drop (i + 1) tokens)
+unfolding behind_bracket
 behind_closed inner i tokens t e turns = rw (e, turns) refl
 
 -- brackets that nothing closes have no end
-pub behind_none : (inner i : ℕ) (tokens : List Token) → length tokens ≤ i → behind inner (drop i tokens) ≡ None
-unfolding behind
+pub behind_none : (inner i : ℕ) (tokens : List Token) → length tokens ≤ i → behind_bracket inner (drop i tokens) ≡ None
+unfolding behind_bracket
 behind_none inner i tokens le = rw (drop_all i tokens le) refl

@@ -22,13 +22,13 @@ word_by bytes kind start end = []
 abbrev pub word : List ℕ → Token → List ℕ
 word bytes t = word_by bytes t.kind t.start t.end
 
-abbrev pub is_word : TokenKind → Bool
-is_word Word = true
-is_word kind = false
+abbrev pub is_word_kind : TokenKind → Bool
+is_word_kind Word = true
+is_word_kind kind = false
 
-abbrev pub is_text : TokenKind → Bool
-is_text Text = true
-is_text kind = false
+abbrev pub is_text_kind : TokenKind → Bool
+is_text_kind Text = true
+is_text_kind kind = false
 
 abbrev pub is_sign : ℕ → TokenKind → Bool
 is_sign sign (Op b) = b == sign
@@ -45,14 +45,14 @@ turned inner (Op b) =
 turned inner kind = Some inner
 
 -- what stands behind the partner of an open bracket, inside which so many are open
-unfoldable pub behind : ℕ → List Token → Option (List Token)
-behind inner [] = None
-behind inner (t ∷ rest) = option_map_or (λ now. behind now rest) (turned inner t.kind) (Some rest)
+unfoldable pub behind_bracket : ℕ → List Token → Option (List Token)
+behind_bracket inner [] = None
+behind_bracket inner (t ∷ rest) = option_map_or (λ now. behind_bracket now rest) (turned inner t.kind) (Some rest)
 
 -- ---- lines without a block
 
 abbrev pub are_texts : List Token → Bool
-are_texts tokens = prefix_len (λ t. is_text t.kind) tokens == length tokens
+are_texts tokens = prefix_len (λ t. is_text_kind t.kind) tokens == length tokens
 
 abbrev pub is_import_word : List ℕ → Bool
 is_import_word w = bytes_eq w (codes "import") || bytes_eq w (codes "from")
@@ -62,7 +62,7 @@ abbrev pub is_passed_by_start : List ℕ → List Token → Bool
 is_passed_by_start bytes [] = false
 is_passed_by_start bytes (t ∷ []) = is_import_word (word bytes t) || is_sign 64 t.kind || bytes_eq (word bytes t) (codes "pass")
 is_passed_by_start bytes (t ∷ u ∷ rest) =
-    is_import_word (word bytes t) || is_sign 64 t.kind || (is_word t.kind && is_sign 61 u.kind)
+    is_import_word (word bytes t) || is_sign 64 t.kind || (is_word_kind t.kind && is_sign 61 u.kind)
 
 abbrev pub is_directive : List ℕ → Bool
 is_directive w =
@@ -80,7 +80,7 @@ is_end rest = false
 
 -- the name of the call that a line is, none where it is no call
 abbrev pub called : List ℕ → List Token → List ℕ
-called bytes (t ∷ u ∷ rest) = if is_sign 40 u.kind && is_end (behind 0 rest) then word bytes t else []
+called bytes (t ∷ u ∷ rest) = if is_sign 40 u.kind && is_end (behind_bracket 0 rest) then word bytes t else []
 called bytes tokens = []
 
 abbrev pub call_form : List ℕ → PlainForm
@@ -102,18 +102,18 @@ plain_form bytes tokens =
 
 -- ---- heads of blocks
 
-abbrev pub is_colon : List Token → Bool
-is_colon (t ∷ []) = is_sign 58 t.kind
-is_colon tokens = false
+abbrev pub is_lone_colon : List Token → Bool
+is_lone_colon (t ∷ []) = is_sign 58 t.kind
+is_lone_colon tokens = false
 
 abbrev pub is_colon_behind : Option (List Token) → Bool
-is_colon_behind (Some rest) = is_colon rest
+is_colon_behind (Some rest) = is_lone_colon rest
 is_colon_behind None = false
 
 -- `:`, or `(..):`
 abbrev pub ends_class_head : List Token → Bool
 ends_class_head [] = false
-ends_class_head (t ∷ rest) = if is_sign 40 t.kind then is_colon_behind (behind 0 rest) else is_colon (t ∷ rest)
+ends_class_head (t ∷ rest) = if is_sign 40 t.kind then is_colon_behind (behind_bracket 0 rest) else is_lone_colon (t ∷ rest)
 
 -- the name of the class whose head a line is, none where it is no such head
 abbrev pub class_name : List ℕ → List Token → List ℕ
@@ -121,13 +121,13 @@ class_name bytes (t ∷ u ∷ rest) = if bytes_eq (word bytes t) (codes "class")
 class_name bytes tokens = []
 
 abbrev pub closes_head : List Token → Bool
-closes_head (t ∷ rest) = is_sign 41 t.kind && is_colon rest
+closes_head (t ∷ rest) = is_sign 41 t.kind && is_lone_colon rest
 closes_head tokens = false
 
 -- strings beside each other, at least one, and `):`
 abbrev pub ends_when_head : List Token → Bool
 ends_when_head tokens =
-    nat_lt 0 (prefix_len (λ t. is_text t.kind) tokens) && closes_head (drop (prefix_len (λ t. is_text t.kind) tokens) tokens)
+    nat_lt 0 (prefix_len (λ t. is_text_kind t.kind) tokens) && closes_head (drop (prefix_len (λ t. is_text_kind t.kind) tokens) tokens)
 
 -- `with when(TEXT):`
 abbrev pub is_when_head : List ℕ → List Token → Bool

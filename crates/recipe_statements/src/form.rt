@@ -2,7 +2,7 @@
 
 ghost use Rattle.std.specs.Prelude.{◌≡◌};
 ghost use Rattle.std.specs.Str.{bytes_eq};
-ghost use Rattle.recipe_statements.specs.Lines.{word, is_passed_by_start, is_import_word, is_directive, is_passed_call, called, is_end, behind, call_form, is_definition, first_word, plain_form, class_name, ends_class_head, is_when_head, ends_when_head, closes_head, class_form, head_form};
+ghost use Rattle.recipe_statements.specs.Lines.{word, is_passed_by_start, is_import_word, is_directive, is_passed_call, called, is_end, behind_bracket, call_form, is_definition, first_word, plain_form, class_name, ends_class_head, is_when_head, ends_when_head, closes_head, class_form, head_form};
 
 use crate::token::{are_texts, behind, is, is_colon, is_sign, is_word, texts_len, word};
 use recipe_lexer::Token;
@@ -96,7 +96,7 @@ fn called<'a>(bytes: &'a [u8], tokens: &[Token]) -> &'a [u8]
 
 /// Whether the partner of an open bracket is the last token.
 fn ends_call(rest: &[Token]) -> bool
-    ensures { result ≡ is_end (behind 0 rest.now) }
+    ensures { result ≡ is_end (behind_bracket 0 rest.now) }
 {
     match behind(rest) {
         Some([]) => true,

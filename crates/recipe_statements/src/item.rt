@@ -9,7 +9,7 @@ use thiserror::Error;
 /// What stands in the class of a recipe and is read: the calls of directives, and the heads of
 /// `with when` blocks. The numbers are places in the list of tokens.
 #[derive(Clone, Copy, Debug, PartialEq, Eq)]
-pub enum Item {
+pub enum ClassItem {
     /// `with when(TEXT):`, from the word `with` to the `:`; the strings stand in between, from the third
     /// token behind the first to the second before the last.
     With {

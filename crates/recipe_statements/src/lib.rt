@@ -15,6 +15,6 @@ mod theorems;
 mod token;
 
 pub use form::{HeadForm, PlainForm};
-pub use item::{Item, StatementFault};
+pub use item::{ClassItem, StatementFault};
 pub use read::statements;
 pub use theorems::laws;

@@ -4,7 +4,7 @@ ghost use Rattle.std.specs.Prelude.{◌≡◌, Ok, IfOk, IfErr};
 ghost use Rattle.recipe_statements.specs.Statements.{items, Fails};
 
 use crate::reader::{Reader, read};
-use crate::{Item, StatementFault};
+use crate::{ClassItem, StatementFault};
 use plain_data::List;
 use recipe_lexer::Token;
 use std::alloc::Global;
@@ -22,7 +22,7 @@ pub fn statements(
     alloc: Global,
     bytes: &[u8],
     tokens: &[Token],
-) -> Result<List<Item>, StatementFault>
+) -> Result<List<ClassItem>, StatementFault>
     ensures found { IfOk result (λ found. items bytes.now tokens.now ≡ Ok found) }
     ensures fault { IfErr result (λ fault. Fails fault (items bytes.now tokens.now)) }
 {

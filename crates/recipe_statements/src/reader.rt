@@ -1,12 +1,12 @@
 //! The lines of a file, one after the other.
 
 ghost use Rattle.std.specs.Prelude.{◌≡◌, ℕ, ◌<◌, ◌≤◌, ◌+◌, ◌^◌, length, if◌then◌else◌, OnOk};
-ghost use Rattle.recipe_statements.specs.Blocks.{begins};
+ghost use Rattle.recipe_statements.specs.Blocks.{begins_block};
 ghost use Rattle.recipe_statements.specs.Statements.{start_of, last};
 ghost use Rattle.recipe_statements.specs.Inside.{view, Gives, Ends, took_plain, took_class, took_when, took_headed, took, closed, stepped, whole};
 
 use crate::form::{HeadForm, PlainForm, head_form, plain_form};
-use crate::{Item, StatementFault};
+use crate::{ClassItem, StatementFault};
 use recipe_lexer::{Token, TokenKind};
 
 /// How many `with when` heads may stand inside each other.
@@ -24,7 +24,7 @@ pub(crate) struct Reader {
     /// The place of the line's first token.
     pub first: usize,
     /// The items so far.
-    pub items: Vec<Item>,
+    pub items: Vec<ClassItem>,
 }
 
 /// The byte at which a line starts.
@@ -60,7 +60,7 @@ fn take_plain(
     match form {
         PlainForm::Passed => Ok(()),
         PlainForm::Directive if reader.level > 0 => {
-            reader.items.push(Item::Call {
+            reader.items.push(ClassItem::Call {
                 first: first as u64,
                 last: last(first, line),
                 depth: reader.level - 1,
@@ -97,7 +97,7 @@ fn take_when(reader: &mut Reader, first: usize, line: &[Token]) -> Result<(), St
         return Err(StatementFault::TooDeep(start_of(line)));
     }
     reader.level = depth + 2;
-    reader.items.push(Item::With {
+    reader.items.push(ClassItem::With {
         first: first as u64,
         last: last(first, line),
         depth,
@@ -181,7 +181,7 @@ fn close(reader: &mut Reader)
 
 /// Whether a block begins here.
 fn begins(tokens: &[Token]) -> bool
-    ensures { result ≡ begins tokens.now }
+    ensures { result ≡ begins_block tokens.now }
 {
     match tokens {
         [] => false,

@@ -4,7 +4,7 @@ ghost use Rattle.std.specs.Prelude.{◌≡◌, ◌<◌, ◌≤◌, ◌+◌, ◌^
 ghost use Rattle.std.specs.List.{prefix_len};
 ghost use Rattle.std.specs.Option.{option_copied};
 ghost use Rattle.std.specs.Str.{bytes_eq};
-ghost use Rattle.recipe_statements.specs.Lines.{word, is_word, is_text, is_sign, turned, behind, are_texts, is_colon};
+ghost use Rattle.recipe_statements.specs.Lines.{word, is_word_kind, is_text_kind, is_sign, turned, behind_bracket, are_texts, is_lone_colon};
 
 use recipe_lexer::{Token, TokenKind};
 
@@ -26,13 +26,13 @@ pub(crate) fn word(bytes: &[u8], token: Token) -> &[u8]
 }
 
 pub(crate) fn is_word(kind: TokenKind) -> bool
-    ensures { result ≡ is_word kind }
+    ensures { result ≡ is_word_kind kind }
 {
     matches!(kind, TokenKind::Word)
 }
 
 fn is_text(kind: TokenKind) -> bool
-    ensures { result ≡ is_text kind }
+    ensures { result ≡ is_text_kind kind }
 {
     matches!(kind, TokenKind::Text)
 }
@@ -49,7 +49,7 @@ pub(crate) fn is_sign(sign: u8, kind: TokenKind) -> bool
 
 /// Whether a line is `:` alone.
 pub(crate) fn is_colon(tokens: &[Token]) -> bool
-    ensures { result ≡ is_colon tokens.now }
+    ensures { result ≡ is_lone_colon tokens.now }
 {
     match tokens {
         [t] => is_sign(b':', t.kind),
@@ -67,7 +67,7 @@ pub(crate) fn are_texts(tokens: &[Token]) -> bool
 /// How many strings stand beside each other at the front.
 pub(crate) fn texts_len(tokens: &[Token]) -> usize
     ensures bound { result ≤ length tokens.now }
-    ensures value { result ≡ prefix_len (λ t. is_text t.kind) tokens.now }
+    ensures value { result ≡ prefix_len (λ t. is_text_kind t.kind) tokens.now }
 {
     tokens.iter().take_while(|t| is_text(t.kind)).count()
 }
@@ -92,7 +92,7 @@ fn turned(inner: usize, kind: TokenKind) -> Option<usize>
 
 /// What stands behind the partner of an open bracket, where the tokens begin behind that one.
 pub(crate) fn behind(tokens: &[Token]) -> Option<&[Token]>
-    ensures { behind 0 tokens.now ≡ option_copied result }
+    ensures { behind_bracket 0 tokens.now ≡ option_copied result }
 {
     let mut inner = 0usize;
     for (i, token) in tokens.iter().enumerate() {

@@ -7,7 +7,7 @@ use Rattle.std.specs.Str.{IsAscii, IsUtf8, is_utf8}
 use Rattle.std.proofs.lemmas.Bool.{and_parts}
 use Rattle.std.proofs.lemmas.Bool.Decides.{nat_tests}
 use Rattle.std.proofs.lemmas.Str.{IsUtf8-from_ascii, is_utf8-from_IsUtf8}
-use Rattle.recipe_values.specs.Values.{is_number}
+use Rattle.recipe_values.specs.Values.{is_digits}
 
 digit_small : (b : ℕ) → is_ascii_digit b ≡ true → b < 128
 digit_small b e = grind (arith, nat_tests)
@@ -18,7 +18,7 @@ digits_ascii (b ∷ w) e zero = digit_small b (and_parts _ _ e).0
 digits_ascii (b ∷ w) e (suc i) = digits_ascii w (and_parts _ _ e).1 i
 
 -- a number is UTF-8
-pub number_utf8 : (w : List ℕ) → is_number w ≡ true → IsUtf8 w
+pub number_utf8 : (w : List ℕ) → is_digits w ≡ true → IsUtf8 w
 number_utf8 w e = IsUtf8-from_ascii w (digits_ascii w (and_parts _ _ e).1)
 
 small_by : (b : ℕ) → nat_lt b 128 ≡ true → b < 128

@@ -2,10 +2,10 @@
 use Rattle.std.proofs.Common.{◌≡◌, ◌∙◌, ℕ, Bool, true, false, cond, List, [], ◌∷◌, ◌++◌, append-nil, refl, ap}
 use Rattle.std.specs.Prelude.{Ok, Err}
 use Rattle.recipe_values.specs.declared.value.Element.{Element}
-use Rattle.recipe_values.specs.declared.value.Reading.{Reading}
+use Rattle.recipe_values.specs.declared.value.PlacedValue.{PlacedValue}
 use Rattle.recipe_values.specs.declared.segment.Segment.{Segment}
 use Rattle.recipe_values.specs.Reads.{join}
-use Rattle.recipe_values.specs.Values.{is_empty, value_of}
+use Rattle.recipe_values.specs.Values.{is_empty, segment_value}
 use Rattle.recipe_values.specs.Brackets.{without_last, element, elements}
 use Rattle.recipe_values.proofs.Joins.{join_nil, more_read, not_read}
 
@@ -27,15 +27,16 @@ last_left all xs s is e = rw is (last_of xs s ∙ ap (λ (b : Bool). xs ++ cond 
 -- ---- members
 
 -- a value more behind the elements so far
-pub elements_more : (found : List Element) (bytes : List ℕ) (segments more : List Segment) (s : Segment) (r : Reading) → segments ≡ s ∷ more
-    → value_of bytes s ≡ Ok r → join (Ok found) (elements bytes segments) ≡ join (Ok (found ++ element r ∷ [])) (elements bytes more)
+pub elements_more : (found : List Element) (bytes : List ℕ) (segments more : List Segment) (s : Segment) (r : PlacedValue)
+    → segments ≡ s ∷ more
+    → segment_value bytes s ≡ Ok r → join (Ok found) (elements bytes segments) ≡ join (Ok (found ++ element r ∷ [])) (elements bytes more)
 unfolding elements
 elements_more found bytes segments more s r is e =
     rw (is, e) (more_read found (found ++ element r ∷ []) (Ok (element r ∷ [])) (elements bytes more) refl)
 
 -- a segment that is no value is the fault of all
 pub elements_fail : (found : List Element) (place : ℕ) (bytes : List ℕ) (segments more : List Segment) (s : Segment) → segments ≡ s ∷ more
-    → value_of bytes s ≡ Err place → join (Ok found) (elements bytes segments) ≡ Err place
+    → segment_value bytes s ≡ Err place → join (Ok found) (elements bytes segments) ≡ Err place
 unfolding elements
 elements_fail found place bytes segments more s is e = rw (is, e) (not_read found place (Err place) (elements bytes more) refl)
 

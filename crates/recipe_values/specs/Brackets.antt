@@ -8,14 +8,14 @@ use Rattle.recipe_values.specs.declared.value.Scalar.TheVariants.{Nested}
 use Rattle.recipe_values.specs.declared.value.Element.{Element}
 use Rattle.recipe_values.specs.declared.value.Value.{Value}
 use Rattle.recipe_values.specs.declared.value.Value.TheVariants.{One, Many}
-use Rattle.recipe_values.specs.declared.value.Reading.{Reading}
+use Rattle.recipe_values.specs.declared.value.PlacedValue.{PlacedValue}
 use Rattle.recipe_values.specs.declared.segment.Atom.{Atom}
 use Rattle.recipe_values.specs.declared.segment.Atom.TheVariants.{Plain, Inner}
 use Rattle.recipe_values.specs.declared.segment.Segment.{Segment}
 use Rattle.recipe_values.specs.declared.levels.Level.{Level}
 use Rattle.recipe_values.specs.declared.levels.Levels.{Levels}
-use Rattle.recipe_values.specs.Reads.{Read, then_do, join}
-use Rattle.recipe_values.specs.Values.{is_empty, value_of}
+use Rattle.recipe_values.specs.Reads.{Read, then_read, join}
+use Rattle.recipe_values.specs.Values.{is_empty, segment_value}
 
 -- ---- segments of a bracket
 
@@ -35,31 +35,31 @@ abbrev pub scalar_of : Value → Scalar
 scalar_of (One scalar) = scalar
 scalar_of (Many elements) = Nested
 
-abbrev pub element : Reading → Element
+abbrev pub element : PlacedValue → Element
 element r = record { scalar = scalar_of r.value; place = r.place }
 
 unfoldable pub elements : List ℕ → List Segment → Read (List Element)
 elements bytes [] = Ok []
-elements bytes (s ∷ more) = join (then_do (value_of bytes s) (λ r. Ok (element r ∷ []))) (elements bytes more)
+elements bytes (s ∷ more) = join (then_read (segment_value bytes s) (λ r. Ok (element r ∷ []))) (elements bytes more)
 
-abbrev pub collection : ℕ → List Element → Reading
+abbrev pub collection : ℕ → List Element → PlacedValue
 collection place found = record { value = Many found; place = place; token = place }
 
-abbrev pub many : List ℕ → ℕ → List Segment → Read Reading
-many bytes place segments = then_do (elements bytes segments) (λ found. Ok (collection place found))
+abbrev pub many : List ℕ → ℕ → List Segment → Read PlacedValue
+many bytes place segments = then_read (elements bytes segments) (λ found. Ok (collection place found))
 
 -- a value in brackets has its first byte at the bracket
-abbrev pub bracketed : ℕ → Read Reading → Read Reading
-bracketed place read = then_do read (λ r. Ok (record r { place = place }))
+abbrev pub bracketed : ℕ → Read PlacedValue → Read PlacedValue
+bracketed place read = then_read read (λ r. Ok (record r { place = place }))
 
 -- where no comma stands in them, round brackets with something in them stand around a value
 abbrev pub is_around : ℕ → Level → Bool
 is_around sign level = sign == 40 && not (is_empty level.here.atoms) && length level.behind == 0
 
 -- what brackets stand for that begin with this sign
-unfoldable pub group : List ℕ → ℕ → ℕ → Level → Read Reading
+unfoldable pub group : List ℕ → ℕ → ℕ → Level → Read PlacedValue
 group bytes sign place level =
-    if is_around sign level then bracketed place (value_of bytes level.here)
+    if is_around sign level then bracketed place (segment_value bytes level.here)
     else if sign == 40 || sign == 91 then many bytes place (segments_of level)
     else Err place
 
@@ -72,8 +72,8 @@ nothing_before stop = record { atoms = []; stop = stop }
 abbrev pub ending : ℕ → Level
 ending stop = record { here = nothing_before stop; behind = [] }
 
-abbrev pub put : Atom → Levels → Levels
-put a levels =
+abbrev pub put_atom : Atom → Levels → Levels
+put_atom a levels =
     record levels { inner = record levels.inner { here = record levels.inner.here { atoms = a ∷ levels.inner.here.atoms } } }
 
 abbrev pub cut : ℕ → Levels → Levels
@@ -87,7 +87,7 @@ enter place levels = record { inner = ending place; around = levels.inner ∷ le
 abbrev pub leave_by : List ℕ → ℕ → ℕ → Level → List Level → Levels
 leave_by bytes sign place level [] = record { inner = level; around = [] }
 leave_by bytes sign place level (outer ∷ around) =
-    put (Inner place (group bytes sign place level)) (record { inner = outer; around = around })
+    put_atom (Inner place (group bytes sign place level)) (record { inner = outer; around = around })
 
 abbrev pub leave : List ℕ → ℕ → ℕ → Levels → Levels
 leave bytes sign place levels = leave_by bytes sign place levels.inner levels.around
@@ -103,11 +103,11 @@ with_sign bytes b t levels =
     if ends_bracket b then enter t.start levels
     else if begins_bracket b then leave bytes b t.start levels
     else if b == 44 then cut t.start levels
-    else put (Plain t) levels
+    else put_atom (Plain t) levels
 
 abbrev pub with_kind : List ℕ → TokenKind → Token → Levels → Levels
 with_kind bytes (Op b) t levels = with_sign bytes b t levels
-with_kind bytes kind t levels = put (Plain t) levels
+with_kind bytes kind t levels = put_atom (Plain t) levels
 
 -- the brackets that a list of tokens stands in, which ends in front of `stop`
 unfoldable pub levels_of : List ℕ → ℕ → List Token → Levels

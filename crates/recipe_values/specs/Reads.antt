@@ -6,9 +6,9 @@ use Rattle.recipe_values.specs.declared.fault.ValueFault.TheVariants.{Unsupporte
 abbrev pub Read : Type 0 → Type 0
 Read A = Result A ℕ
 
-abbrev pub then_do : {A B : Type 0} → Read A → (A → Read B) → Read B
-then_do (Ok a) f = f a
-then_do (Err place) f = Err place
+abbrev pub then_read : {A B : Type 0} → Read A → (A → Read B) → Read B
+then_read (Ok a) f = f a
+then_read (Err place) f = Err place
 
 -- one list behind another; the first fault counts
 abbrev pub join : {A : Type 0} → Read (List A) → Read (List A) → Read (List A)

@@ -10,8 +10,8 @@ use Rattle.recipe_values.specs.Reads.{Read, join}
 -- ---- escapes
 
 -- what a backslash and this byte stand for: the byte itself, a line feed, a tab, nothing at a line's end
-abbrev pub escaped : ℕ → Option (List ℕ)
-escaped b =
+abbrev pub text_of_escape : ℕ → Option (List ℕ)
+text_of_escape b =
     if b == 92 || b == 34 || b == 39 then Some (b ∷ [])
     else if b == 110 then Some (10 ∷ [])
     else if b == 116 then Some (9 ∷ [])
@@ -25,7 +25,7 @@ escape place (Some text) = Ok text
 
 -- what a byte at `place` stands for; `taken`: a backslash before it takes it
 abbrev pub byte_text : ℕ → Bool → ℕ → Read (List ℕ)
-byte_text place true b = escape (place - 1) (escaped b)
+byte_text place true b = escape (place - 1) (text_of_escape b)
 byte_text place false b = if b == 92 then Ok [] else Ok (b ∷ [])
 
 -- the text of bytes that stand at `place`
@@ -71,10 +71,10 @@ abbrev pub as_text : ℕ → Read (List ℕ) → Read (List ℕ)
 as_text place (Ok w) = if is_utf8 w then Ok w else Err place
 as_text place (Err p) = Err p
 
-abbrev pub start_of : List Token → ℕ
-start_of [] = 0
-start_of (t ∷ more) = t.start
+abbrev pub first_start : List Token → ℕ
+first_start [] = 0
+first_start (t ∷ more) = t.start
 
 -- the text of all these strings
-unfoldable pub text_of : List ℕ → List Token → Read (List ℕ)
-text_of bytes tokens = as_text (start_of tokens) (strings bytes tokens)
+unfoldable pub strings_text : List ℕ → List Token → Read (List ℕ)
+strings_text bytes tokens = as_text (first_start tokens) (strings bytes tokens)

@@ -2,12 +2,12 @@
 
 ghost use Rattle.std.specs.Prelude.{◌≡◌, ◌==◌, ◌||◌, Ok, IfOk};
 ghost use Rattle.recipe_values.specs.Reads.{join};
-ghost use Rattle.recipe_values.specs.Values.{is_empty, value_of};
+ghost use Rattle.recipe_values.specs.Values.{is_empty, segment_value};
 ghost use Rattle.recipe_values.specs.Brackets.{segments_of, scalar_of, element, elements, collection, many, bracketed, is_around, group};
 
 use crate::text::Read;
 use crate::values::value_of;
-use crate::{Element, Level, Pile, Reading, Scalar, Segment, Value};
+use crate::{Element, Level, Pile, PlacedValue, Scalar, Segment, Value};
 use plain_data::List;
 use std::alloc::{AllocError, Global};
 
@@ -41,10 +41,10 @@ fn scalar_of(value: Value) -> Scalar
 }
 
 /// A member of a tuple or a list.
-fn element(reading: Reading) -> Element
+fn element(reading: PlacedValue) -> Element
     ensures { result ≡ element reading }
 {
-    let Reading { value, place, .. } = reading;
+    let PlacedValue { value, place, .. } = reading;
     Element {
         scalar: scalar_of(value),
         place,
@@ -76,11 +76,11 @@ fn many(
     bytes: &[u8],
     place: u64,
     segments: Pile<Segment>,
-) -> Result<Read<Reading>, AllocError>
+) -> Result<Read<PlacedValue>, AllocError>
     ensures { IfOk result (λ read. read ≡ many bytes.now place segments) }
 {
     match elements(alloc, bytes, segments)? {
-        Ok(found) => Ok(Ok(Reading {
+        Ok(found) => Ok(Ok(PlacedValue {
             value: Value::Many(found),
             place,
             token: place,
@@ -90,13 +90,13 @@ fn many(
 }
 
 /// A value in brackets, the first of which is at `place`.
-fn bracketed(place: u64, read: Read<Reading>) -> Read<Reading>
+fn bracketed(place: u64, read: Read<PlacedValue>) -> Read<PlacedValue>
     ensures { result ≡ bracketed place read }
 {
     match read {
         Ok(reading) => {
-            let Reading { value, token, .. } = reading;
-            Ok(Reading {
+            let PlacedValue { value, token, .. } = reading;
+            Ok(PlacedValue {
                 value,
                 place,
                 token,
@@ -121,7 +121,7 @@ pub(crate) fn group(
     sign: u8,
     place: u64,
     level: Level,
-) -> Result<Read<Reading>, AllocError>
+) -> Result<Read<PlacedValue>, AllocError>
     ensures { IfOk result (λ read. read ≡ group bytes.now sign place level) }
 {
     if is_around(sign, &level) {

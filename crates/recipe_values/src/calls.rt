@@ -3,15 +3,15 @@
 ghost use Rattle.std.specs.Prelude.{◌≡◌, ◌&&◌, ◌==◌, not, Ok, IfOk, IfErr};
 ghost use Rattle.std.specs.List.{slice_get};
 ghost use Rattle.recipe_values.specs.Reads.{Fails};
-ghost use Rattle.recipe_values.specs.Strings.{start_of, text_of};
-ghost use Rattle.recipe_values.specs.Values.{atom_place, place_of, value_of};
+ghost use Rattle.recipe_values.specs.Strings.{first_start, strings_text};
+ghost use Rattle.recipe_values.specs.Values.{atom_place, place_of, segment_value};
 ghost use Rattle.recipe_values.specs.Brackets.{arguments_of};
-ghost use Rattle.recipe_values.specs.Arguments.{is_equals, is_equals_at, word_by, keyword_of, without_keyword};
+ghost use Rattle.recipe_values.specs.Arguments.{is_equals, is_equals_at, word_token_by, keyword_of, without_keyword};
 
 use crate::brackets::segments;
 use crate::levels::levels_of;
 use crate::text::{Read, add_strings, kept};
-use crate::{Atom, Pile, Reading, Segment, ValueFault, values};
+use crate::{Atom, Pile, PlacedValue, Segment, ValueFault, values};
 use plain_data::Word;
 use recipe_lexer::{Token, TokenKind};
 use std::alloc::{AllocError, Global};
@@ -35,9 +35,9 @@ pub fn arguments(
 
 /// The value that a segment is: strings beside each other, `True`, `False`, `None`, a whole number, a tuple
 /// or list of values, or a value in brackets.
-pub fn read_value(alloc: Global, bytes: &[u8], segment: Segment) -> Result<Reading, ValueFault>
-    ensures found { IfOk result (λ reading. value_of bytes.now segment ≡ Ok reading) }
-    ensures fault { IfErr result (λ fault. Fails fault (value_of bytes.now segment)) }
+pub fn read_value(alloc: Global, bytes: &[u8], segment: Segment) -> Result<PlacedValue, ValueFault>
+    ensures found { IfOk result (λ reading. segment_value bytes.now segment ≡ Ok reading) }
+    ensures fault { IfErr result (λ fault. Fails fault (segment_value bytes.now segment)) }
 {
     match values::value_of(alloc, bytes, segment)? {
         Ok(reading) => Ok(reading),
@@ -46,9 +46,9 @@ pub fn read_value(alloc: Global, bytes: &[u8], segment: Segment) -> Result<Readi
 }
 
 /// The text of strings beside each other, or the place of what is not read in them.
-#[tactic(auto, unfolding(crate::specs::Strings::text_of))]
+#[tactic(auto, unfolding(crate::specs::Strings::strings_text))]
 fn joined(alloc: Global, bytes: &[u8], tokens: &[Token]) -> Result<Read<Word>, AllocError>
-    ensures { IfOk result (λ read. read ≡ text_of bytes.now tokens.now) }
+    ensures { IfOk result (λ read. read ≡ strings_text bytes.now tokens.now) }
 {
     let mut text = Vec::new(alloc);
     match add_strings(&mut text, bytes, tokens)? {
@@ -59,8 +59,8 @@ fn joined(alloc: Global, bytes: &[u8], tokens: &[Token]) -> Result<Read<Word>, A
 
 /// The text of strings beside each other.
 pub fn read_text(alloc: Global, bytes: &[u8], tokens: &[Token]) -> Result<Word, ValueFault>
-    ensures found { IfOk result (λ text. text_of bytes.now tokens.now ≡ Ok text) }
-    ensures fault { IfErr result (λ fault. Fails fault (text_of bytes.now tokens.now)) }
+    ensures found { IfOk result (λ text. strings_text bytes.now tokens.now ≡ Ok text) }
+    ensures fault { IfErr result (λ fault. Fails fault (strings_text bytes.now tokens.now)) }
 {
     match joined(alloc, bytes, tokens)? {
         Ok(text) => Ok(text),
@@ -70,7 +70,7 @@ pub fn read_text(alloc: Global, bytes: &[u8], tokens: &[Token]) -> Result<Word, 
 
 /// The byte at which tokens start.
 fn start_of(tokens: &[Token]) -> u64
-    ensures { result ≡ start_of tokens.now }
+    ensures { result ≡ first_start tokens.now }
 {
     match tokens {
         [] => 0,
@@ -117,7 +117,7 @@ fn is_equals_at(atoms: &Pile<Atom>, index: usize) -> bool
 
 /// The word at the front.
 fn first_word(atoms: &Pile<Atom>) -> Option<Token>
-    ensures { result ≡ word_by (slice_get atoms.now 0) }
+    ensures { result ≡ word_token_by (slice_get atoms.now 0) }
 {
     match atoms.get(0) {
         Some(Atom::Plain(token)) if matches!(token.kind, TokenKind::Word) => Some(*token),

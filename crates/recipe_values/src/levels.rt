@@ -1,7 +1,7 @@
 //! The brackets that a token stands in.
 
 ghost use Rattle.std.specs.Prelude.{◌≡◌, ◌==◌, ◌||◌, drop, OnOk, IfOk};
-ghost use Rattle.recipe_values.specs.Brackets.{nothing_before, ending, put, cut, enter, leave, ends_bracket, begins_bracket, with_sign, with_kind, levels_of};
+ghost use Rattle.recipe_values.specs.Brackets.{nothing_before, ending, put_atom, cut, enter, leave, ends_bracket, begins_bracket, with_sign, with_kind, levels_of};
 
 use crate::brackets::group;
 use crate::{Atom, Pile, Segment};
@@ -49,7 +49,7 @@ fn ending(alloc: Global, stop: u64) -> Level
 
 /// Adds an atom in front.
 fn put(levels: &mut Levels, atom: Atom) -> Result<(), AllocError>
-    ensures { OnOk result (levels.new ≡ put atom levels.old) }
+    ensures { OnOk result (levels.new ≡ put_atom atom levels.old) }
 {
     levels.inner.here.atoms.push(atom)?;
     Ok(())

@@ -24,4 +24,4 @@ pub use levels::{Level, Levels};
 pub use pile::Pile;
 pub use segment::{Atom, Segment};
 pub use theorems::{worked_faults, worked_keywords, worked_strings, worked_values};
-pub use value::{Element, Reading, Scalar, Value};
+pub use value::{Element, PlacedValue, Scalar, Value};

@@ -1,6 +1,6 @@
 //! Segments: what stands between two commas of a call or a bracket.
 
-use crate::{Pile, Reading};
+use crate::{Pile, PlacedValue};
 use recipe_lexer::Token;
 
 /// A part of a segment.
@@ -9,7 +9,7 @@ pub enum Atom {
     /// A token outside of all brackets.
     Plain(Token),
     /// The brackets that open at this place: what they stand for, or the place of what is no value in them.
-    Inner(u64, Result<Reading, u64>),
+    Inner(u64, Result<PlacedValue, u64>),
 }
 
 /// What stands between two commas.

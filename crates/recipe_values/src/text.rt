@@ -4,7 +4,7 @@ ghost use Rattle.std.specs.Prelude.{◌≡◌, ◌==◌, ◌&&◌, not, ◌<◌,
 ghost use Rattle.std.specs.List.{prefix_len};
 ghost use Rattle.recipe_lexer.specs.Pieces.{is_mark, marks, opening};
 ghost use Rattle.recipe_values.specs.Reads.{Adds};
-ghost use Rattle.recipe_values.specs.Strings.{escaped, escape, byte_text, decoded, prefix, marks_of, inside, string_by, string_in, string, strings, as_text};
+ghost use Rattle.recipe_values.specs.Strings.{text_of_escape, escape, byte_text, decoded, prefix, marks_of, inside, string_by, string_in, string, strings, as_text};
 
 use plain_data::Word;
 use recipe_lexer::Token;
@@ -16,7 +16,7 @@ pub(crate) type Read<T> = Result<T, u64>;
 /// Adds what a backslash at `place` and this byte stand for.
 fn add_escape(text: &mut Vec<u8>, place: u64, b: u8) -> Result<Read<()>, AllocError>
     ensures { IfOk result (λ read.
-        Adds read text.old.items text.new.items (escape place (escaped b))) }
+        Adds read text.old.items text.new.items (escape place (text_of_escape b))) }
 {
     match b {
         b'\\' | b'"' | b'\'' => text.push(b)?,

@@ -35,7 +35,7 @@ pub enum Value {
 
 /// A value with its places.
 #[derive(Debug, Drop)]
-pub struct Reading {
+pub struct PlacedValue {
     pub value: Value,
     /// Its first byte, that of a bracket around it.
     pub place: u64,

@@ -4,13 +4,13 @@ ghost use Rattle.std.specs.Prelude.{◌≡◌, ◌==◌, ◌&&◌, nat_lt, lengt
 ghost use Rattle.std.specs.Char.{is_ascii_digit};
 ghost use Rattle.std.specs.List.{list_all};
 ghost use Rattle.std.specs.Str.{bytes_eq};
-ghost use Rattle.recipe_statements.specs.Lines.{word, is_text};
+ghost use Rattle.recipe_statements.specs.Lines.{word, is_text_kind};
 ghost use Rattle.recipe_values.specs.Reads.{Adds, join};
 ghost use Rattle.recipe_values.specs.Strings.{string, as_text};
-ghost use Rattle.recipe_values.specs.Values.{one, is_number, word_value, alone, atom_text, texts, text_value, plain_value, value_of};
+ghost use Rattle.recipe_values.specs.Values.{one, is_digits, word_value, alone, atom_text, texts, text_value, plain_value, segment_value};
 
 use crate::text::{Read, add_string, kept};
-use crate::{Atom, Pile, Reading, Scalar, Segment, Value};
+use crate::{Atom, Pile, PlacedValue, Scalar, Segment, Value};
 use plain_data::Word;
 use recipe_lexer::{Token, TokenKind};
 use std::alloc::{AllocError, Global};
@@ -23,7 +23,7 @@ fn is(text: &[u8], wanted: &[u8]) -> bool
 }
 
 fn is_text(kind: TokenKind) -> bool
-    ensures { result ≡ is_text kind }
+    ensures { result ≡ is_text_kind kind }
 {
     matches!(kind, TokenKind::Text)
 }
@@ -39,10 +39,10 @@ fn word(bytes: &[u8], token: Token) -> &[u8]
 }
 
 /// A value that is no tuple and no list, and in no bracket.
-fn one(place: u64, scalar: Scalar) -> Reading
+fn one(place: u64, scalar: Scalar) -> PlacedValue
     ensures { result ≡ one place scalar }
 {
-    Reading {
+    PlacedValue {
         value: Value::One(scalar),
         place,
         token: place,
@@ -56,14 +56,14 @@ fn are_digits(w: &[u8]) -> bool
 }
 
 fn is_number(w: &[u8]) -> bool
-    ensures { result ≡ is_number w.now }
+    ensures { result ≡ is_digits w.now }
 {
     0 < w.len() && are_digits(w)
 }
 
 /// A whole number, as it is written.
 fn number(alloc: Global, w: &[u8]) -> Result<Word, AllocError>
-    requires { is_number w.now ≡ true }
+    requires { is_digits w.now ≡ true }
     ensures { IfOk result (λ number. number ≡ w.now) }
 {
     let digits = String::from_utf8_lossy(alloc, w)?;
@@ -71,7 +71,7 @@ fn number(alloc: Global, w: &[u8]) -> Result<Word, AllocError>
 }
 
 /// The value that a word is.
-fn word_value(alloc: Global, place: u64, w: &[u8]) -> Result<Read<Reading>, AllocError>
+fn word_value(alloc: Global, place: u64, w: &[u8]) -> Result<Read<PlacedValue>, AllocError>
     ensures { IfOk result (λ read. read ≡ word_value place w.now) }
 {
     if is(w, b"True") {
@@ -90,7 +90,7 @@ fn word_value(alloc: Global, place: u64, w: &[u8]) -> Result<Read<Reading>, Allo
 }
 
 /// A value at `place`, which has been read, with what stands behind it.
-fn alone(place: u64, behind: &Pile<Atom>, read: Read<Reading>) -> Read<Reading>
+fn alone(place: u64, behind: &Pile<Atom>, read: Read<PlacedValue>) -> Read<PlacedValue>
     ensures { result ≡ alone place behind.now read }
 {
     match read {
@@ -174,7 +174,7 @@ fn joined(
 }
 
 /// A text as a value.
-fn text_value(place: u64, text: Read<Word>) -> Read<Reading>
+fn text_value(place: u64, text: Read<Word>) -> Read<PlacedValue>
     ensures { result ≡ text_value place text }
 {
     match text {
@@ -189,7 +189,7 @@ fn plain_value(
     bytes: &[u8],
     token: Token,
     behind: Pile<Atom>,
-) -> Result<Read<Reading>, AllocError>
+) -> Result<Read<PlacedValue>, AllocError>
     ensures { IfOk result (λ read. read ≡ plain_value bytes.now token behind) }
 {
     if is_text(token.kind) {
@@ -201,13 +201,13 @@ fn plain_value(
 }
 
 /// The value that a segment is.
-#[tactic(auto, unfolding(crate::specs::Values::value_of))]
+#[tactic(auto, unfolding(crate::specs::Values::segment_value))]
 pub(crate) fn value_of(
     alloc: Global,
     bytes: &[u8],
     segment: Segment,
-) -> Result<Read<Reading>, AllocError>
-    ensures { IfOk result (λ read. read ≡ value_of bytes.now segment) }
+) -> Result<Read<PlacedValue>, AllocError>
+    ensures { IfOk result (λ read. read ≡ segment_value bytes.now segment) }
 {
     let Segment { atoms, stop } = segment;
     let mut atoms = atoms;

@@ -64,7 +64,8 @@ behind_lost records parent child NotJson right once lost is other = absurd is
 behind_lost records parent child (WrongKind at) right once lost is other = absurd is
 behind_lost records parent child (HashDiffers written computed) right once lost (entry, differs, w, c) other =
     none_or_some (differing records) entry right differs
-behind_lost records parent child (TwiceHash hash) right once lost (apart, (place, is_twice, first, has)) other = absurd (once place is_twice)
+behind_lost records parent child (TwiceHash hash) right once lost (apart, (place, is_twice, first, has)) other =
+    absurd (once place is_twice)
 behind_lost records parent child (Dangling p c) right once lost (apart, too, is) other =
     ap (λ (ends : List ℕ × List ℕ). Dangling ends.0 ends.1) (some_one (dangling (hashes_of records) records) (parent, child) (p, c) lost is)
 behind_lost records parent child OutOfMemory right once lost is other = absurd (other refl)
@@ -96,7 +97,8 @@ ok_or_err {T = T} {E = E} r x m p q = absurd (let is : (let R : Type 0 = Result 
     sym p ∙ q in cc)
 
 err_one : {T E : Type 0} (r : Result T E) (m n : E) → r ≡ Err m → r ≡ Err n → m ≡ n
-err_one {T = T} {E = E} r m n p q = let is : (let R : Type 0 = Result T E in let l : R = Err m in let s : R = Err n in l ≡ s) = sym p ∙ q in cc
+err_one {T = T} {E = E} r m n p q = let is : (let R : Type 0 = Result T E in let l : R = Err m in let s : R = Err n in l ≡ s) =
+    sym p ∙ q in cc
 
 value_one : (d : Data) (f g : DbFault) → IsFaultOf d f → IsFaultOf d g → f ≢ OutOfMemory → g ≢ OutOfMemory → f ≡ g
 value_one d f g (inl is) q other not = absurd (other is)

@@ -4,8 +4,8 @@ use Rattle.reuse_db.specs.declared.fault.DbFault.{DbFault}
 use Rattle.reuse_db.specs.declared.fault.DbFault.TheVariants.{NotJson, WrongKind, HashDiffers, TwiceHash, Dangling, OutOfMemory}
 
 -- a name with a text
-abbrev pub one_text : List ℕ → List ℕ → List ℕ
-one_text name text = name ++ (codes " " ++ text)
+abbrev pub name_and_text : List ℕ → List ℕ → List ℕ
+name_and_text name text = name ++ (codes " " ++ text)
 
 -- a name with two texts
 abbrev pub two_texts : List ℕ → List ℕ → List ℕ → List ℕ
@@ -13,8 +13,8 @@ two_texts name first second = name ++ (codes " " ++ (first ++ (codes " " ++ seco
 
 unfoldable pub fault_text : DbFault → List ℕ
 fault_text NotJson = codes "NotJson"
-fault_text (WrongKind at) = one_text (codes "WrongKind") at
+fault_text (WrongKind at) = name_and_text (codes "WrongKind") at
 fault_text (HashDiffers written computed) = two_texts (codes "HashDiffers") written computed
-fault_text (TwiceHash hash) = one_text (codes "TwiceHash") hash
+fault_text (TwiceHash hash) = name_and_text (codes "TwiceHash") hash
 fault_text (Dangling parent child) = two_texts (codes "Dangling") parent child
 fault_text OutOfMemory = codes "OutOfMemory"

@@ -6,7 +6,7 @@ use Rattle.json_readers.specs.Json.{IsJson}
 use Rattle.json_readers.specs.Lists.{list_of}
 use Rattle.json_readers.specs.Objects.{members_of, first_odd, field, none_odd}
 use Rattle.json_readers.specs.Texts.{whole_number}
-use Rattle.record_reader.specs.Records.{record_at}
+use Rattle.record_reader.specs.Records.{record_entry_at}
 use Rattle.reuse_db.specs.Databases.{AreRecords}
 use Rattle.reuse_db.specs.declared.record.Record.{Record}
 
@@ -21,7 +21,7 @@ unfoldable pub records_at : Data → Reading (List Record)
 records_at d = do
   ms ← members_of d
   let odd = first_odd file_keys ms in do
-    records ← field (list_of record_at) odd (codes "records") ms
+    records ← field (list_of record_entry_at) odd (codes "records") ms
     version ← field version_at odd (codes "version") ms
     _ ← none_odd odd
     Ok records

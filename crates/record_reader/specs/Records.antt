@@ -25,8 +25,8 @@ kinds_at d = do
   Ok (kinds_by texts)
 
 -- a non-empty list of values without repeats, as a set
-unfoldable pub values_at : Data → Reading (List Text)
-values_at d = do
+unfoldable pub variant_values_at : Data → Reading (List Text)
+variant_values_at d = do
   texts ← filled_by (set_of value_meaning None (text_of value_meaning)) d
   Ok (with_texts [] texts)
 
@@ -67,7 +67,7 @@ unfoldable pub back_at : Front → Middle → Option Text → Members → Readin
 back_at front middle odd ms = do
   os ← field (text_of value_meaning) odd (codes "os") ms
   target ← field (text_of value_meaning) odd (codes "target") ms
-  variants ← field (map_of name_meaning values_at) odd (codes "variants") ms
+  variants ← field (map_of name_meaning variant_values_at) odd (codes "variants") ms
   version ← field (text_of version_in) odd (codes "version") ms
   _ ← none_odd odd
   Ok (record {
@@ -84,15 +84,15 @@ back_at front middle odd ms = do
 
 -- ---- the whole
 
-abbrev pub keys : List Text
-keys = codes "compiler" ∷ codes "dependencies" ∷ codes "external" ∷ codes "hash" ∷ codes "name" ∷ codes "os" ∷ codes "target"
+abbrev pub record_keys : List Text
+record_keys = codes "compiler" ∷ codes "dependencies" ∷ codes "external" ∷ codes "hash" ∷ codes "name" ∷ codes "os" ∷ codes "target"
     ∷ codes "variants" ∷ codes "version" ∷ []
 
 -- an object with just these keys
-unfoldable pub record_at : Data → Reading Record
-record_at d = do
+unfoldable pub record_entry_at : Data → Reading Record
+record_entry_at d = do
   ms ← members_of d
-  let odd = first_odd keys ms in do
+  let odd = first_odd record_keys ms in do
     front ← front_at odd ms
     middle ← middle_at odd ms
     back_at front middle odd ms

@@ -3,7 +3,7 @@
 ghost use Rattle.std.specs.Prelude.{option_map};
 ghost use Rattle.serde_json.specs.View.{members_view};
 ghost use Rattle.json_readers.specs.Faults.{Gives};
-ghost use Rattle.record_reader.specs.Records.{front_at, middle_at, back_at, record_at};
+ghost use Rattle.record_reader.specs.Records.{front_at, middle_at, back_at, record_entry_at};
 
 use crate::{CompilerForm, DependencyForm, HashText, ValuesForm};
 use graph_core::{Compiler, Kinds};
@@ -38,9 +38,9 @@ pub struct Middle {
 pub struct RecordForm;
 
 impl Reader<Record> for RecordForm {
-    ghost reads = { λ _. record_at };
+    ghost reads = { λ _. record_entry_at };
 
-    #[tactic(auto, unfolding(crate::specs::Records::record_at))]
+    #[tactic(auto, unfolding(crate::specs::Records::record_entry_at))]
     fn read(&self, alloc: Global, value: &Value) -> Result<Record, JsonFault> {
         let members = members_of(alloc, value)?;
         let keys = [

@@ -7,7 +7,7 @@ use reuse_db::DbFault;
 use std::alloc::{AllocError, Global};
 
 fn one_text(alloc: Global, name: &str, text: &str) -> Result<String, AllocError>
-    ensures { IfOk result (λ whole. string_bytes whole ≡ texts.one_text name.now text.now) }
+    ensures { IfOk result (λ whole. string_bytes whole ≡ texts.name_and_text name.now text.now) }
 {
     format!(in alloc; "{name} {text}")
 }

@@ -1,6 +1,6 @@
 //! The values of a variant.
 
-ghost use Rattle.record_reader.specs.Records.{values_at};
+ghost use Rattle.record_reader.specs.Records.{variant_values_at};
 
 use json_readers::{Filled, JsonFault, Reader, SetOf, Text};
 use json_texts::Value as ValueText;
@@ -13,9 +13,9 @@ use variant_values::ValueSet;
 pub struct ValuesForm;
 
 impl Reader<ValueSet> for ValuesForm {
-    ghost reads = { λ _. values_at };
+    ghost reads = { λ _. variant_values_at };
 
-    #[tactic(auto, unfolding(crate::specs::Records::values_at))]
+    #[tactic(auto, unfolding(crate::specs::Records::variant_values_at))]
     fn read(&self, alloc: Global, value: &Value) -> Result<ValueSet, JsonFault> {
         let form = Filled(SetOf {
             texts: ValueText,

@@ -2,7 +2,7 @@
 ghost use Rattle.std.specs.Prelude.{◌≡◌, ◌&&◌};
 ghost use Rattle.std.specs.Str.{bytes_eq};
 ghost use Rattle.std.specs.List.{list_any};
-ghost use Rattle.condition_rules.specs.Words.{among, if_written};
+ghost use Rattle.condition_rules.specs.Words.{is_one_text, if_written};
 ghost use Rattle.problem.specs.Problems.{same_compiler};
 ghost use Rattle.graph_rules.specs.Built.{keeps_buildable, keeps_version, keeps_compiler};
 ghost use Rattle.graph_rules.specs.Built.{keeps_machine, supports};
@@ -40,13 +40,13 @@ pub fn keeps_version(problem: &Problem, node: &Node) -> bool
 }
 
 fn among(texts: &[Word], text: &str) -> bool
-    ensures { result ≡ among texts.now text.now }
+    ensures { result ≡ is_one_text texts.now text.now }
 {
     texts.iter().any(|t| text == t.as_str())
 }
 
 fn lists(texts: &Option<List<Word>>, text: &str) -> bool
-    ensures { result ≡ if_written texts.now (λ names. among names text.now) }
+    ensures { result ≡ if_written texts.now (λ names. is_one_text names text.now) }
 {
     match texts {
         Some(texts) => among(texts.as_slice(), text),

@@ -8,7 +8,7 @@ ghost use Rattle.condition_rules.specs.Words.{implies, is_some_and};
 ghost use Rattle.problem.specs.Nodes.{is_installed};
 ghost use Rattle.graph_core.specs.declared.node.Origin.TheVariants.{External, Installed};
 ghost use Rattle.rule_checks.specs.Records.{keeps_record};
-ghost use Rattle.problem.specs.Problems.{entry_of, externals_in, record_at};
+ghost use Rattle.problem.specs.Problems.{package_entry_of, externals_in, record_at};
 ghost use Rattle.graph_rules.specs.Kept.{same_attributes, external_node, has_kinds, keeps_child};
 ghost use Rattle.graph_rules.specs.Kept.{is_child, keeps_origin, keeps_kept};
 
@@ -27,7 +27,7 @@ use std::alloc::{AllocError, Global};
 
 fn external_at<'a>(problem: &'a Problem, name: &str, place: u64) -> Option<&'a ExternalEntry>
     ensures { option_copied result
-        ≡ slice_get (externals_in (entry_of problem.now name.now)) place }
+        ≡ slice_get (externals_in (package_entry_of problem.now name.now)) place }
 {
     match entry_of(problem, name) {
         Some(entry) => entry.externals.as_slice().get(place as usize),
@@ -56,7 +56,7 @@ fn is_external(
     place: u64,
 ) -> Result<bool, AllocError>
     ensures { IfOk result (λ answer. answer
-        ≡ is_some_and (slice_get (externals_in (entry_of problem.now node.now.name)) place)
+        ≡ is_some_and (slice_get (externals_in (package_entry_of problem.now node.now.name)) place)
         (λ entry. same_attributes node.now (external_node problem.now node.now.name place entry))) }
 {
     match external_at(problem, node.name.as_str(), place) {

@@ -1,7 +1,7 @@
 -- The formulas of the node that a name asks for, where rules speak of paths.
 use Rattle.std.proofs.Common.{◌≡◌, refl, sym, ap, ◌∙◌, true, false, map}
 use Rattle.clause_store.specs.declared.Lit.{Lit}
-use Rattle.clause_formulas.specs.Statements.{Statement, any_of}
+use Rattle.clause_formulas.specs.Statements.{Statement, any_statement}
 use Rattle.clause_formulas.specs.Rules.{fact, both_of}
 use Rattle.condition_rules.specs.Worlds.{World}
 use Rattle.graph_core.specs.Graphs.{Text}
@@ -20,8 +20,9 @@ module _ (path : Text → Text → Statement) (table : Table) (world : World) (a
 
   -- where a virtual is asked for
   pub path-virtual : is_virtual world.recipes asked ≡ true
-      → any_of (map (λ (c : Text × Lit). provided c.0) (packages_of table asked)) ≡ rule_said path table (asked_rule world (names_for table) asked keeps)
-  path-virtual is = rw is (ap any_of (over-offered provided (packages_of table asked))
+      → any_statement (map (λ (c : Text × Lit). provided c.0) (packages_of table asked)) ≡ rule_said path table
+      (asked_rule world (names_for table) asked keeps)
+  path-virtual is = rw is (ap any_statement (over-offered provided (packages_of table asked))
       ∙ sym (some-said (word_said path table) (λ name. both_of (fact (provides_as asked name)) (keeps name)) (names_for table asked)))
 
   -- where a package is

@@ -3,5 +3,6 @@ mod Few
 pub mod Lists
 pub mod Plain
 pub mod Where
+mod Halves
 pub mod Governing
 pub mod OfWordFormulas

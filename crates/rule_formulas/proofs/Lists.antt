@@ -6,19 +6,19 @@ use Rattle.std.specs.List.{list_any}
 use Rattle.std.specs.Str.{bytes_eq}
 use Rattle.std.specs.Prelude.{if◌then◌else◌}
 use Rattle.clause_store.specs.declared.Lit.{Lit}
-use Rattle.clause_formulas.specs.Statements.{Statement, or, all_of}
+use Rattle.clause_formulas.specs.Statements.{Statement, or, all_statements}
 use Rattle.clause_formulas.proofs.RuleLaws.{all_rules-said}
-use Rattle.clause_formulas.specs.Rules.{Rule, in_words}
+use Rattle.clause_formulas.specs.Rules.{Proposition, in_words}
 use Rattle.condition_rules.specs.Worlds.{World}
 use Rattle.recipe_data.specs.declared.recipe.Condition.{Condition}
 use Rattle.recipe_data.specs.declared.recipe.RequireRow.{RequireRow}
 use Rattle.graph_core.specs.Graphs.{Text}
-use Rattle.literal_table.specs.Choices.{Choices, offered}
+use Rattle.literal_table.specs.Choices.{Choices, choice_values}
 use Rattle.literal_table.specs.Tables.{Table, packages_of}
 use Rattle.problem.specs.Problems.{Problem, world_of}
 use Rattle.virtuals.specs.Virtuals.{is_virtual}
-use Rattle.graph_formulas.specs.Facts.{Word, word_said}
-use Rattle.graph_formulas.specs.Lists.{some, first_rules, apart_rules, half_of, halves_rule, few_rules, just_one}
+use Rattle.graph_formulas.specs.Facts.{GraphWord, word_said}
+use Rattle.graph_formulas.specs.Lists.{some, first_rules, apart_rules, half_length, halves_rule, few_rules, just_one}
 use Rattle.graph_formulas.specs.Parts.{holds_rule}
 use Rattle.graph_formulas.specs.Words.{names_for, rule_said}
 use Rattle.graph_formulas.specs.Terms.{Term, term_said, known_rule}
@@ -27,7 +27,8 @@ use Rattle.graph_formulas.specs.Directives.{choice_rule}
 use Rattle.word_formulas.proofs.Steps.{both-same}
 use Rattle.rule_formulas.specs.Terms.{is_asked, choice_said}
 
-any-offered : (child : Text) (cs : Choices Text) → list_any (λ (c : Text × Lit). bytes_eq child c.0) cs ≡ list_any (bytes_eq child) (offered cs)
+any-offered : (child : Text) (cs : Choices Text)
+    → list_any (λ (c : Text × Lit). bytes_eq child c.0) cs ≡ list_any (bytes_eq child) (choice_values cs)
 any-offered child [] = refl
 any-offered child (c ∷ cs) = rw (any-offered child cs) refl
 
@@ -60,22 +61,23 @@ filter-mapped f g p (x ∷ xs) = filter-mapped-cases (p (g x)) (filter-mapped f 
 
 -- rules of what is known
 module _ (path : Text → Text → Statement) (condition : Text → Condition → Statement) (table : Table) where
-  module _ {T : Type 0} (rule : T → Rule Word) where
+  module _ {T : Type 0} (rule : T → Proposition GraphWord) where
     -- a rule over facts is one over terms: some of a list
     pub some-known : (xs : List T) → rule_said path table (some rule xs) ≡ term_formula path condition table (some (λ x. known_rule (rule x)) xs)
     some-known [] = refl
     some-known (x ∷ xs) = ap (λ f. or (rule_said path table (rule x)) f) (some-known xs)
 
-    abbrev words : List (Rule Word) → List Statement
+    abbrev words : List (Proposition GraphWord) → List Statement
     words rs = map (rule_said path table) rs
 
-    abbrev terms : List (Rule Term) → List Statement
+    abbrev terms : List (Proposition Term) → List Statement
     terms rs = map (term_formula path condition table) rs
 
-    abbrev known : T → Rule Term
+    abbrev known : T → Proposition Term
     known x = known_rule (rule x)
 
-    both-append : (rs qs : List (Rule Word)) (ts us : List (Rule Term)) → words rs ≡ terms ts → words qs ≡ terms us → words (rs ++ qs) ≡ terms (ts ++ us)
+    both-append : (rs qs : List (Proposition GraphWord)) (ts us : List (Proposition Term)) → words rs ≡ terms ts → words qs ≡ terms us
+        → words (rs ++ qs) ≡ terms (ts ++ us)
     both-append rs qs ts us first second = map-append (rule_said path table) rs qs
         ∙ ap (λ fs. fs ++ words qs) first ∙ ap (λ fs. terms ts ++ fs) second ∙ sym (map-append (term_formula path condition table) ts us)
 
@@ -94,8 +96,8 @@ module _ (path : Text → Text → Statement) (condition : Text → Condition �
     unfolding few_rules
     few-known zero xs = apart-known xs
     few-known (suc times) xs =
-        let front = take (half_of xs) xs in
-        let back = drop (half_of xs) xs in
+        let front = take (half_length xs) xs in
+        let back = drop (half_length xs) xs in
         elim (nat_lt 8 (length xs)) as (λ b. words (if b then halves_rule rule front back ∷ (few_rules times rule front ++ few_rules times rule back) else apart_rules rule xs)
         ≡ terms (if b then halves_rule known front back ∷ (few_rules times known front ++ few_rules times known back) else apart_rules known xs)) [
           | true ↦ ap (λ f. f ∷ words (few_rules times rule front ++ few_rules times rule back)) (halves-known front back)
@@ -109,7 +111,7 @@ module _ (path : Text → Text → Statement) (condition : Text → Condition �
     one-known xs =
         let times = length xs / 8 in
         both-same _ _ _ _ (some-known xs) (all_rules-said (word_said path table) (few_rules times rule xs)
-        ∙ ap all_of (few-known times xs) ∙ sym (all_rules-said (term_said path condition table) (few_rules times known xs)))
+        ∙ ap all_statements (few-known times xs) ∙ sym (all_rules-said (term_said path condition table) (few_rules times known xs)))
 
   -- and for a requirement's specs
   pub choice-known : (problem : Problem) (name : Text) (row : RequireRow)

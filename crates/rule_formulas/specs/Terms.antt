@@ -1,12 +1,12 @@
 -- Formulas of rules over the conditions of a problem.
 use Rattle.std.specs.Prelude.{ℕ, Bool, true, List, [], ◌∷◌, Option, if◌then◌else◌}
 use Rattle.std.specs.Str.{bytes_eq}
-use Rattle.clause_formulas.specs.Statements.{Statement, any_of, opposite}
-use Rattle.clause_formulas.specs.Rules.{Rule}
+use Rattle.clause_formulas.specs.Statements.{Statement, any_statement, opposite}
+use Rattle.clause_formulas.specs.Rules.{Proposition}
 use Rattle.spec_grammar.specs.declared.part.Spec.{Spec}
 use Rattle.graph_core.specs.Graphs.{Text}
 use Rattle.graph_core.specs.declared.node.Kinds.{Kinds}
-use Rattle.condition_rules.specs.Words.{among}
+use Rattle.condition_rules.specs.Words.{is_one_text}
 use Rattle.condition_rules.specs.Worlds.{World}
 use Rattle.virtuals.specs.Virtuals.{is_virtual}
 use Rattle.recipe_data.specs.declared.recipe.Condition.{Condition}
@@ -14,13 +14,13 @@ use Rattle.recipe_data.specs.declared.recipe.RequireRow.{RequireRow}
 use Rattle.literal_table.specs.Tables.{Table}
 use Rattle.problem.specs.Problems.{Problem}
 use Rattle.problem.specs.declared.demand.Demand.TheVariants as demand
-use Rattle.graph_formulas.specs.Facts.{Word}
-use Rattle.graph_formulas.specs.Lists.{written, some, just_one}
+use Rattle.graph_formulas.specs.Facts.{GraphWord}
+use Rattle.graph_formulas.specs.Lists.{where_written, some, just_one}
 use Rattle.graph_formulas.specs.Parts.{holds_rule}
 use Rattle.graph_formulas.specs.Words.{names_for, rule_said}
 use Rattle.graph_formulas.specs.Terms.{Term}
 use Rattle.graph_formulas.specs.Directives.{root_rule}
-use Rattle.graph_formulas.specs.Edges.{no_kinds}
+use Rattle.graph_formulas.specs.Edges.{empty_kinds}
 use Rattle.graph_formulas.specs.Demands.{demand_rule}
 use Rattle.graph_formulas.specs.Laws.{has_name, term_formula}
 use Rattle.word_formulas.specs.Builders.{no_paths}
@@ -28,15 +28,15 @@ use Rattle.rule_formulas.specs.declared.extra_edges.EdgeKind.{EdgeKind}
 use Rattle.rule_formulas.specs.declared.extra_edges.EdgeKind.TheVariants as kind
 
 -- the formula of a rule that speaks of no path but by conditions
-abbrev pub plain_term : Table → (Text → Condition → Statement) → Rule Term → Statement
+abbrev pub plain_term : Table → (Text → Condition → Statement) → Proposition Term → Statement
 plain_term table condition rule = term_formula no_paths condition table rule
 
 -- ---- kinds of edges
 
 abbrev pub kinds_of : EdgeKind → Kinds
-kinds_of kind.Build = record no_kinds { build = true }
-kinds_of kind.Link = record no_kinds { link = true }
-kinds_of kind.Run = record no_kinds { run = true }
+kinds_of kind.Build = record empty_kinds { build = true }
+kinds_of kind.Link = record empty_kinds { link = true }
+kinds_of kind.Run = record empty_kinds { run = true }
 
 abbrev pub has_of : EdgeKind → Kinds → Bool
 has_of kind.Build = λ kinds. kinds.build
@@ -45,7 +45,7 @@ has_of kind.Run = λ kinds. kinds.run
 
 -- the name is that of the child, or a virtual that it may provide
 abbrev pub is_asked : World → (Text → List Text) → Text → Text → Bool
-is_asked world packages child asked = if is_virtual world.recipes asked then among (packages asked) child else bytes_eq asked child
+is_asked world packages child asked = if is_virtual world.recipes asked then is_one_text (packages asked) child else bytes_eq asked child
 
 -- ---- specs
 
@@ -57,12 +57,12 @@ module _ (path : Text → Text → Statement) (table : Table) where
       else rule_said path table (some (holds_rule world (names_for table) name) row.specs)
 
   -- a thing does not keep the rule, or none of the others does
-  abbrev pub apart_said : {T : Type 0} → (T → Rule Word) → T → List T → Statement
-  apart_said rule x rest = any_of (opposite (rule_said path table (rule x)) ∷ opposite (rule_said path table (some rule rest)) ∷ [])
+  abbrev pub apart_said : {T : Type 0} → (T → Proposition GraphWord) → T → List T → Statement
+  apart_said rule x rest = any_statement (opposite (rule_said path table (rule x)) ∷ opposite (rule_said path table (some rule rest)) ∷ [])
 
   -- a root, where there is one
   abbrev pub root_said : Problem → Option Spec → Statement
-  root_said problem o = rule_said path table (written o (root_rule problem (names_for table)))
+  root_said problem o = rule_said path table (where_written o (root_rule problem (names_for table)))
 
 -- the directives of a package with a number
 abbrev pub directives_said : (Text → Text → Statement) → (Text → Condition → Statement) → Problem → Table → Text → ℕ → Statement

@@ -1,6 +1,6 @@
 //! Formulas of the specs of a requirement.
 ghost use Rattle.std.specs.Prelude.{◌≡◌, ◌++◌, ◌∷◌, ◌/◌, [], length, map, IfOk, OnOk};
-ghost use Rattle.clause_formulas.specs.Statements.{any_of, all_of};
+ghost use Rattle.clause_formulas.specs.Statements.{any_statement, all_statements};
 ghost use Rattle.graph_formulas.specs.Lists.{some, first_rules, apart_rules, halves_rule, few_rules, just_one};
 ghost use Rattle.graph_formulas.specs.Parts.{holds_rule};
 ghost use Rattle.graph_formulas.specs.Words.{names_for, rule_said};
@@ -39,7 +39,7 @@ pub(crate) fn some_formula(
 }
 
 fn either(alloc: Global, first: Formula, second: Formula) -> Result<Formula, AllocError>
-    ensures { IfOk result (λ formula. formula ≡ any_of (first ∷ second ∷ [])) }
+    ensures { IfOk result (λ formula. formula ≡ any_statement (first ∷ second ∷ [])) }
 {
     let mut parts = Vec::new(alloc);
     parts.push(first)?;
@@ -198,7 +198,7 @@ fn few_formula(
     name: &str,
     specs: &[Spec],
 ) -> Result<Formula, AllocError>
-    ensures { IfOk result (λ formula. formula ≡ all_of
+    ensures { IfOk result (λ formula. formula ≡ all_statements
         (map (rule_said (path_by table.now paths.now) table.now)
         (few_rules (length specs.now / 8) (holds_rule world.now (names_for table.now) name.now) specs.now))) }
 {

@@ -2,7 +2,7 @@
 ghost use Rattle.std.specs.Prelude.{◌≡◌, ◌==◌, filter, IfOk};
 ghost use Rattle.clause_formulas.specs.Rules.{both_of};
 ghost use Rattle.problem.specs.Problems.{world_of, depends_at, conflicts_at, requirements_at};
-ghost use Rattle.graph_formulas.specs.Lists.{each};
+ghost use Rattle.graph_formulas.specs.Lists.{each_keeps};
 ghost use Rattle.graph_formulas.specs.Words.{names_for};
 ghost use Rattle.graph_formulas.specs.Directives.{edge_rule, constraint_rule, conflict_rule, requirement_rule};
 ghost use Rattle.graph_formulas.specs.Demands.{directive_rule};
@@ -116,7 +116,7 @@ fn depends_formula<C: MetConditions>(
 ) -> Result<Formula, AllocError>
     ensures { IfOk result (λ formula. formula
         ≡ term_formula (path_by table.now paths.now) (C.condition_of conditions.now) table.now
-        (each (λ row. both_of (edge_rule problem.now (names_for table.now) name.now row)
+        (each_keeps (λ row. both_of (edge_rule problem.now (names_for table.now) name.now row)
         (constraint_rule problem.now (names_for table.now) name.now row))
         (filter (λ row. row.number == number) (depends_at problem.now name.now)))) }
 {
@@ -140,7 +140,7 @@ fn conflicts_formula<C: MetConditions>(
 ) -> Result<Formula, AllocError>
     ensures { IfOk result (λ formula. formula
         ≡ term_formula (path_by table.now paths.now) (C.condition_of conditions.now) table.now
-        (each (conflict_rule problem.now (names_for table.now) name.now)
+        (each_keeps (conflict_rule problem.now (names_for table.now) name.now)
         (filter (λ row. row.number == number) (conflicts_at problem.now name.now)))) }
 {
     each_where(
@@ -163,7 +163,7 @@ fn requirements_formula<C: MetConditions>(
 ) -> Result<Formula, AllocError>
     ensures { IfOk result (λ formula. formula
         ≡ term_formula (path_by table.now paths.now) (C.condition_of conditions.now) table.now
-        (each (requirement_rule problem.now (names_for table.now) name.now)
+        (each_keeps (requirement_rule problem.now (names_for table.now) name.now)
         (filter (λ row. row.number == number) (requirements_at problem.now name.now)))) }
 {
     each_where(

@@ -1,6 +1,6 @@
 //! Formulas of specs and conditions at the node of a name.
 ghost use Rattle.std.specs.Prelude.{◌≡◌, IfOk};
-ghost use Rattle.graph_formulas.specs.Lists.{each};
+ghost use Rattle.graph_formulas.specs.Lists.{each_keeps};
 ghost use Rattle.graph_formulas.specs.Parts.{below_rule, holds_rule, condition_rule};
 ghost use Rattle.graph_formulas.specs.Words.{names_for, rule_said};
 ghost use Rattle.rule_formulas.specs.Paths.{path_by};
@@ -25,7 +25,7 @@ fn parts_formula(
     parts: &[Part],
 ) -> Result<Formula, AllocError>
     ensures { IfOk result (λ formula. formula ≡ rule_said (path_by table.now paths.now) table.now
-        (each (below_rule world.now (names_for table.now) from.now) parts.now)) }
+        (each_keeps (below_rule world.now (names_for table.now) from.now) parts.now)) }
 {
     each(
         alloc,

@@ -1,6 +1,6 @@
 //! Formulas of each, and of some element of a list that passes a test.
 ghost use Rattle.std.specs.Prelude.{◌≡◌, Bool, map, filter, IfOk};
-ghost use Rattle.clause_formulas.specs.Statements.{Statement, any_of, all_of};
+ghost use Rattle.clause_formulas.specs.Statements.{Statement, any_statement, all_statements};
 ghost use Rattle.literal_table.specs.Choices.{IsTest};
 ghost use Rattle.word_formulas.specs.Builders.{Builds};
 
@@ -39,7 +39,7 @@ pub(crate) fn each_where<T, P: Fn(&T) -> bool, F: Fn(&T) -> Result<Formula, Allo
     requires part { F.IsAlwaysCallable part }
     ensures { (p : T → Bool) (formula : T → Statement) → IsTest P.Fn p test
         → Builds F.Fn formula part
-        → IfOk result (λ whole. whole ≡ all_of (map formula (filter p items.now))) }
+        → IfOk result (λ whole. whole ≡ all_statements (map formula (filter p items.now))) }
 {
     let parts = parts_where(alloc, items, test, part)?;
     Formula::all(alloc, parts)
@@ -56,7 +56,7 @@ pub(crate) fn some_where<T, P: Fn(&T) -> bool, F: Fn(&T) -> Result<Formula, Allo
     requires part { F.IsAlwaysCallable part }
     ensures { (p : T → Bool) (formula : T → Statement) → IsTest P.Fn p test
         → Builds F.Fn formula part
-        → IfOk result (λ whole. whole ≡ any_of (map formula (filter p items.now))) }
+        → IfOk result (λ whole. whole ≡ any_statement (map formula (filter p items.now))) }
 {
     let parts = parts_where(alloc, items, test, part)?;
     Ok(Formula::any(parts))

@@ -4,9 +4,9 @@ ghost use Rattle.problem.specs.Problems.{depends_at};
 ghost use Rattle.graph_formulas.specs.Facts.{has_origin};
 ghost use Rattle.graph_formulas.specs.Lists.{some};
 ghost use Rattle.graph_formulas.specs.Words.{names_for};
-ghost use Rattle.graph_formulas.specs.Terms.{builds, met_rule};
-ghost use Rattle.graph_formulas.specs.Edges.{names_virtual, may_use, no_kinds, use_rule, used_rule, of_provider};
-ghost use Rattle.literal_table.specs.Tables.{names_of};
+ghost use Rattle.graph_formulas.specs.Terms.{builds_node, met_rule};
+ghost use Rattle.graph_formulas.specs.Edges.{names_virtual, may_use, empty_kinds, use_rule, used_rule, of_provider};
+ghost use Rattle.literal_table.specs.Tables.{table_names};
 ghost use Rattle.graph_formulas.specs.Terms.{known_rule};
 ghost use Rattle.clause_formulas.specs.Rules.{fact, if_so};
 ghost use Rattle.graph_formulas.specs.Facts.{provides_as};
@@ -25,14 +25,15 @@ use std::alloc::{AllocError, Global};
 use word_formulas::{MetConditions, each, given, has_edge, origin_passes, provider_formula};
 
 fn builds(origin: &Origin) -> bool
-    ensures { result ≡ builds origin.now }
+    ensures { result ≡ builds_node origin.now }
 {
     matches!(origin, Origin::Built)
 }
 
 /// The node of the name is to be built.
 fn built_formula(alloc: Global, table: &LiteralTable, name: &str) -> Result<Formula, AllocError>
-    ensures { IfOk result (λ formula. formula ≡ node_said table.now name.now (has_origin builds)) }
+    ensures { IfOk result (λ formula. formula ≡ node_said table.now name.now
+        (has_origin builds_node)) }
 {
     origin_passes(alloc, table, name, |origin| builds(origin))
 }
@@ -113,7 +114,7 @@ fn some_use<C: MetConditions>(
 ) -> Result<Formula, AllocError>
     ensures { IfOk result (λ formula. formula ≡ plain_term table.now (C.condition_of conditions.now)
         (some (use_rule problem.now (virtual_name.now, provider.now))
-        (filter (may_use problem.now virtual_name.now) (names_of table.now)))) }
+        (filter (may_use problem.now virtual_name.now) (table_names table.now)))) }
 {
     some_where(
         alloc,
@@ -142,7 +143,7 @@ fn used_by_some<C: MetConditions>(
     provider: &Word,
 ) -> Result<Formula, AllocError>
     ensures { IfOk result (λ formula. formula ≡ plain_term table.now (C.condition_of conditions.now)
-        (used_rule problem.now (names_of table.now) (virtual_name.now, provider.now))) }
+        (used_rule problem.now (table_names table.now) (virtual_name.now, provider.now))) }
 {
     let world = problem.world();
     let is_virtual = given(alloc, world.is_virtual(virtual_name.as_str()));
@@ -161,7 +162,7 @@ fn choice_formula<C: MetConditions>(
 ) -> Result<Formula, AllocError>
     ensures { IfOk result (λ formula. formula ≡ plain_term table.now (C.condition_of conditions.now)
         (if_so (known_rule (fact (provides_as virtual_name.now choice.now.0)))
-        (used_rule problem.now (names_of table.now) (virtual_name.now, choice.now.0)))) }
+        (used_rule problem.now (table_names table.now) (virtual_name.now, choice.now.0)))) }
 {
     let provides = provider_formula(alloc, table, virtual_name, &choice.0)?;
     let used = used_by_some(alloc, problem, table, conditions, virtual_name, &choice.0)?;
@@ -177,7 +178,7 @@ pub fn used_formula<C: MetConditions>(
     virtual_name: &Word,
 ) -> Result<Formula, AllocError>
     ensures { IfOk result (λ formula. formula ≡ plain_term table.now (C.condition_of conditions.now)
-        (of_provider (names_for table.now) (used_rule problem.now (names_of table.now))
+        (of_provider (names_for table.now) (used_rule problem.now (table_names table.now))
         virtual_name.now)) }
 {
     each(alloc, table.packages(virtual_name.as_str()), |choice| {

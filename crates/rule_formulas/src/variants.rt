@@ -1,13 +1,12 @@
 //! Formulas of the variants of a node to build.
-ghost use Rattle.std.specs.Prelude.{◌≡◌, ◌++◌, map, IfOk, OnOk};
+ghost use Rattle.std.specs.Prelude.{◌≡◌, ◌++◌, ◌∷◌, [], map, filter, IfOk, OnOk};
 ghost use Rattle.std.specs.Str.{bytes_eq};
-ghost use Rattle.clause_formulas.specs.Statements.{any_of};
+ghost use Rattle.clause_formulas.specs.Statements.{any_statement, both_statements, opposite};
 ghost use Rattle.graph_formulas.specs.Variants.{variant_rule, variants_rule};
 ghost use Rattle.graph_formulas.specs.Laws.{variants_of};
 ghost use Rattle.rule_formulas.specs.Terms.{plain_term};
-ghost use Rattle.rule_formulas.specs.Governing.{met_said, governs_said, governed, last_parts};
+ghost use Rattle.rule_formulas.specs.Governing.{met_said, governs_said, last_parts, last_said};
 
-use crate::loops::some_where;
 use clause_formulas::Formula;
 use clause_store::Lit;
 use literal_table::LiteralTable;
@@ -15,7 +14,10 @@ use plain_data::{List, Word};
 use problem::{Problem, variants_at};
 use recipe_data::VariantRow;
 use std::alloc::{AllocError, Global};
-use word_formulas::{MetConditions, allows_formula, each, has_variant};
+use word_formulas::{MetConditions, allows_formula, each, has_variant, some};
+
+/// How many definitions are kept apart one by one.
+const SHORT: usize = 8;
 
 fn defines(row: &VariantRow, variant: &str) -> bool
     ensures { result ≡ bytes_eq row.now.name variant.now }
@@ -23,27 +25,38 @@ fn defines(row: &VariantRow, variant: &str) -> bool
     row.name.as_str() == variant
 }
 
-/// The condition of some definition of the variant is met.
+/// The definitions of the variant, in the order of the recipe.
+fn definitions_of<'a>(
+    alloc: Global,
+    rows: &'a [VariantRow],
+    variant: &str,
+) -> Result<Vec<&'a VariantRow>, AllocError>
+    ensures { IfOk result (λ found. map (λ row. row.now) found.items
+        ≡ filter (λ row. bytes_eq row.name variant.now) rows.now) }
+{
+    let mut found = Vec::new(alloc);
+    for row in rows {
+        if defines(row, variant) {
+            found.push(row)?;
+        }
+    }
+    Ok(found)
+}
+
+/// The condition of some of these definitions is met.
 fn met_formula<C: MetConditions>(
     alloc: Global,
     conditions: &C,
     name: &str,
-    variant: &str,
-    rows: &[VariantRow],
+    rows: &[&VariantRow],
 ) -> Result<Formula, AllocError>
     ensures { IfOk result (λ formula. formula
-        ≡ met_said (C.condition_of conditions.now) name.now variant.now rows.now) }
+        ≡ met_said (C.condition_of conditions.now) name.now rows.now) }
 {
-    some_where(
-        alloc,
-        rows,
-        |row| defines(row, variant),
-        |row| conditions.met(alloc, name, &row.when),
-    )
+    some(alloc, rows, |row| conditions.met(alloc, name, &row.when))
 }
 
-/// The condition is met, and none of the variant's later definitions; and the definition allows the
-/// values.
+/// The condition is met, and none of the later definitions; and the definition allows the values.
 fn governs_formula<C: MetConditions>(
     alloc: Global,
     table: &LiteralTable,
@@ -51,39 +64,20 @@ fn governs_formula<C: MetConditions>(
     name: &str,
     variant: &str,
     row: &VariantRow,
-    rest: &[VariantRow],
+    rest: &[&VariantRow],
 ) -> Result<Formula, AllocError>
     ensures { IfOk result (λ formula. formula
-        ≡ governs_said table.now (C.condition_of conditions.now) name.now variant.now row.now rest.now) }
+        ≡ governs_said table.now (C.condition_of conditions.now) name.now variant.now
+        row.now rest.now) }
 {
-    let later = met_formula(alloc, conditions, name, variant, rest)?;
+    let later = met_formula(alloc, conditions, name, rest)?;
     let met = conditions.met(alloc, name, &row.when)?;
     let last = Formula::both(alloc, later.negated(), met)?;
     let allowed = allows_formula(alloc, table, name, variant, row)?;
     Formula::both(alloc, last, allowed)
 }
 
-fn push_governed<C: MetConditions>(
-    alloc: Global,
-    parts: &mut Vec<Formula>,
-    table: &LiteralTable,
-    conditions: &C,
-    name: &str,
-    variant: &str,
-    row: &VariantRow,
-    rest: &[VariantRow],
-) -> Result<(), AllocError>
-    ensures { OnOk result (parts.new.items ≡ parts.old.items
-        ++ governed table.now (C.condition_of conditions.now) name.now variant.now row.now rest.now) }
-{
-    if defines(row, variant) {
-        let formula = governs_formula(alloc, table, conditions, name, variant, row, rest)?;
-        parts.push(formula)?;
-    }
-    Ok(())
-}
-
-/// Of each definition of the variant: it governs, and allows the values.
+/// Of each of these definitions: it governs, and allows the values.
 fn push_last<C: MetConditions>(
     alloc: Global,
     parts: &mut Vec<Formula>,
@@ -91,15 +85,14 @@ fn push_last<C: MetConditions>(
     conditions: &C,
     name: &str,
     variant: &str,
-    rows: &[VariantRow],
+    rows: &[&VariantRow],
 ) -> Result<(), AllocError>
     ensures { OnOk result (parts.new.items ≡ parts.old.items
         ++ last_parts table.now (C.condition_of conditions.now) name.now variant.now rows.now) }
 {
     for (i, row) in rows.iter().enumerate() {
-        push_governed(
+        let governs = governs_formula(
             alloc,
-            parts,
             table,
             conditions,
             name,
@@ -107,25 +100,72 @@ fn push_last<C: MetConditions>(
             row,
             &rows[i + 1..],
         )?;
+        parts.push(governs)?;
     }
     Ok(())
 }
 
-/// Some definition of the variant governs, and allows the values.
+/// Some definition of a short list governs, and allows the values.
+fn last_in_turn<C: MetConditions>(
+    alloc: Global,
+    table: &LiteralTable,
+    conditions: &C,
+    name: &str,
+    variant: &str,
+    rows: &[&VariantRow],
+) -> Result<Formula, AllocError>
+    ensures { IfOk result (λ formula. formula ≡ any_statement
+        (last_parts table.now (C.condition_of conditions.now) name.now variant.now rows.now)) }
+{
+    let mut parts = Vec::new(alloc);
+    push_last(alloc, &mut parts, table, conditions, name, variant, rows)?;
+    Ok(Formula::any(parts))
+}
+
+/// The front's formula is true, and the condition of none of the back is met; or the back's is true.
+fn join_halves<C: MetConditions>(
+    alloc: Global,
+    conditions: &C,
+    name: &str,
+    rows: &[&VariantRow],
+    front: Formula,
+    back: Formula,
+) -> Result<Formula, AllocError>
+    ensures { IfOk result (λ formula. formula ≡ any_statement (both_statements (opposite
+        (met_said (C.condition_of conditions.now) name.now rows.now)) front ∷ back ∷ [])) }
+{
+    let later = met_formula(alloc, conditions, name, rows)?;
+    let mut parts = Vec::new(alloc);
+    parts.push(Formula::both(alloc, later.negated(), front)?)?;
+    parts.push(back)?;
+    Ok(Formula::any(parts))
+}
+
+/// Some definition governs, and allows the values. A long list is halved, and none of the back's
+/// conditions is met where one of the front governs: so n definitions take some n log n literals.
+/// It calls itself for each half, so as deep as the logarithm of the list's length.
 fn last_formula<C: MetConditions>(
     alloc: Global,
     table: &LiteralTable,
     conditions: &C,
     name: &str,
     variant: &str,
-    rows: &[VariantRow],
+    rows: &[&VariantRow],
+    times: usize,
 ) -> Result<Formula, AllocError>
-    ensures { IfOk result (λ formula. formula ≡ any_of
-        (last_parts table.now (C.condition_of conditions.now) name.now variant.now rows.now)) }
+    ensures { IfOk result (λ formula. formula
+        ≡ last_said table.now (C.condition_of conditions.now) name.now variant.now times rows.now) }
 {
-    let mut parts = Vec::new(alloc);
-    push_last(alloc, &mut parts, table, conditions, name, variant, rows)?;
-    Ok(Formula::any(parts))
+    if times == 0 {
+        return last_in_turn(alloc, table, conditions, name, variant, rows);
+    }
+    if rows.len() <= SHORT {
+        return last_in_turn(alloc, table, conditions, name, variant, rows);
+    }
+    let (first, second) = rows.split_at(rows.len() / 2);
+    let front = last_formula(alloc, table, conditions, name, variant, first, times - 1)?;
+    let back = last_formula(alloc, table, conditions, name, variant, second, times - 1)?;
+    join_halves(alloc, conditions, name, second, front, back)
 }
 
 /// The variant is there just where it has a governing definition, which allows its values.
@@ -140,12 +180,14 @@ fn variant_formula<C: MetConditions>(
     ensures { IfOk result (λ formula. formula ≡ plain_term table.now (C.condition_of conditions.now)
         (variant_rule problem.now name.now variant.now)) }
 {
-    let rows = variants_at(problem, name);
-    let met = met_formula(alloc, conditions, name, variant, rows)?;
+    let found = definitions_of(alloc, variants_at(problem, name), variant)?;
+    let rows = found.as_slice();
+    let met = met_formula(alloc, conditions, name, rows)?;
     let there = has_variant(alloc, table, name, variant)?;
     let where_met = Formula::implies(alloc, met, there)?;
     let again = has_variant(alloc, table, name, variant)?;
-    let last = last_formula(alloc, table, conditions, name, variant, rows)?;
+    let times = rows.len() / SHORT;
+    let last = last_formula(alloc, table, conditions, name, variant, rows, times)?;
     let where_there = Formula::implies(alloc, again, last)?;
     Formula::both(alloc, where_met, where_there)
 }

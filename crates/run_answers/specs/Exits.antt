@@ -3,7 +3,7 @@ use Rattle.std.specs.Prelude.{◌≡◌, ◌⊎◌, ℕ, List, Option}
 use Rattle.run_answers.specs.declared.status.Status.{Status}
 use Rattle.run_answers.specs.declared.status.Status.TheVariants as statuses
 
--- the exit status of each answer: its place in the list of answers
+-- the exit status of each answer: 10 is that of the program where it is handed no words
 abbrev pub number_of : Status → ℕ
 number_of statuses.Done = 0
 number_of statuses.Unsatisfiable = 1
@@ -15,6 +15,7 @@ number_of statuses.WriteFault = 6
 number_of statuses.TooLarge = 7
 number_of statuses.Refused = 8
 number_of statuses.NoMemory = 9
+number_of statuses.Stale = 11
 
 -- the answers that a refusal has
 abbrev pub IsRefusalStatus : Status → Type 0

@@ -16,7 +16,7 @@ use Rattle.lockfile.specs.declared.fault.LockFault.{LockFault}
 use Rattle.lockfile.specs.declared.fault.LockFault.TheVariants as lock
 use Rattle.graph_rules.specs.declared.rule.Rule.{Rule}
 use Rattle.graph_rules.specs.declared.rule.Rule.TheVariants as rules
-use Rattle.run_answers.specs.Lines.{joined}
+use Rattle.run_answers.specs.Lines.{joined_texts}
 
 -- ---- specs
 
@@ -34,11 +34,11 @@ form_name ProvidesForm = codes "ProvidesForm"
 
 -- a name with a place
 abbrev pub at_place : List ℕ → ℕ → List ℕ
-at_place name place = joined (name ∷ codes " " ∷ decimal place ∷ [])
+at_place name place = joined_texts (name ∷ codes " " ∷ decimal place ∷ [])
 
 unfoldable pub spec_fault_text : SpecFault → List ℕ
 spec_fault_text (spec.Expected place) = at_place (codes "Expected") place
-spec_fault_text (spec.Unsupported place form) = joined (codes "Unsupported " ∷ decimal place ∷ codes " " ∷ form_name form ∷ [])
+spec_fault_text (spec.Unsupported place form) = joined_texts (codes "Unsupported " ∷ decimal place ∷ codes " " ∷ form_name form ∷ [])
 spec_fault_text (spec.BadVersion place) = at_place (codes "BadVersion") place
 spec_fault_text (spec.TwiceSet place) = at_place (codes "TwiceSet") place
 spec_fault_text spec.OutOfMemory = codes "OutOfMemory"
@@ -86,8 +86,8 @@ abbrev pub in_tokens : LexFault → List ℕ
 in_tokens fault = codes "Lex " ++ lex_fault_text fault
 
 -- the text whose first string is at a place has the fault
-abbrev pub in_text : ℕ → SpecFault → List ℕ
-in_text place fault = codes "Spec " ++ (decimal place ++ (codes " " ++ spec_fault_text fault))
+abbrev pub placed_fault_text : ℕ → SpecFault → List ℕ
+placed_fault_text place fault = codes "Spec " ++ (decimal place ++ (codes " " ++ spec_fault_text fault))
 
 unfoldable pub recipe_fault_text : RecipeFault → List ℕ
 recipe_fault_text (recipe.Lex fault) = in_tokens fault
@@ -95,7 +95,7 @@ recipe_fault_text (recipe.Unsupported place) = at_place (codes "Unsupported") pl
 recipe_fault_text recipe.NoClass = codes "NoClass"
 recipe_fault_text (recipe.TwoClasses place) = at_place (codes "TwoClasses") place
 recipe_fault_text (recipe.TooDeep place) = at_place (codes "TooDeep") place
-recipe_fault_text (recipe.Spec place fault) = in_text place fault
+recipe_fault_text (recipe.Spec place fault) = placed_fault_text place fault
 recipe_fault_text (recipe.BadArgument place) = at_place (codes "BadArgument") place
 recipe_fault_text (recipe.BadDefault place) = at_place (codes "BadDefault") place
 recipe_fault_text (recipe.TwiceVersion place) = at_place (codes "TwiceVersion") place

@@ -112,27 +112,27 @@ bad_certificate_line number fault =
     line (codes "refused: certificate line " ∷ decimal number ∷ codes " " ∷ line_fault_name fault ∷ [])
 
 -- the line that is said
-unfoldable pub line_of : Refusal → List ℕ
-line_of refusals.DatabaseTooLarge = line (codes "too large: database" ∷ [])
-line_of (refusals.BadDatabase fault) = bad_database_line fault
-line_of (refusals.MissingInput path) = missing_line path
-line_of refusals.SettingsTooLarge = line (codes "too large: settings" ∷ [])
-line_of (refusals.BadSettings fault) = bad_settings_line fault
-line_of refusals.TooManyRecipes = line (codes "too large: recipes" ∷ [])
-line_of (refusals.RecipeTooLarge name) = too_large_line name
-line_of refusals.RecipesTooLarge = line (codes "too large: recipe bytes" ∷ [])
-line_of (refusals.BadRecipe name fault) = bad_recipe_line name fault
-line_of (refusals.NameClash name) = clash_line name
-line_of refusals.SpecsTooLarge = line (codes "too large: specs" ∷ [])
-line_of (refusals.BadSpecs fault) = bad_specs_line fault
-line_of refusals.TooManyRoots = line (codes "too large: roots" ∷ [])
-line_of (refusals.UnknownRoot name) = unknown_line name
-line_of (refusals.VirtualRoot name) = virtual_line name
-line_of (refusals.WrongPlatform platform) = platform_line platform
-line_of refusals.TooManyPackages = line (codes "too large: packages" ∷ [])
-line_of refusals.LockTooLarge = line (codes "too large: lock" ∷ [])
-line_of (refusals.BadLock fault) = bad_lock_line fault
-line_of refusals.OtherRoots = line (codes "refused: roots" ∷ [])
-line_of (refusals.BrokenRule rule node number) = broken_line rule node number
-line_of refusals.CertificateTooLarge = line (codes "too large: certificate" ∷ [])
-line_of (refusals.BadCertificate number fault) = bad_certificate_line number fault
+unfoldable pub line_of_refusal : Refusal → List ℕ
+line_of_refusal refusals.DatabaseTooLarge = line (codes "too large: database" ∷ [])
+line_of_refusal (refusals.BadDatabase fault) = bad_database_line fault
+line_of_refusal (refusals.MissingInput path) = missing_line path
+line_of_refusal refusals.SettingsTooLarge = line (codes "too large: settings" ∷ [])
+line_of_refusal (refusals.BadSettings fault) = bad_settings_line fault
+line_of_refusal refusals.TooManyRecipes = line (codes "too large: recipes" ∷ [])
+line_of_refusal (refusals.RecipeTooLarge name) = too_large_line name
+line_of_refusal refusals.RecipesTooLarge = line (codes "too large: recipe bytes" ∷ [])
+line_of_refusal (refusals.BadRecipe name fault) = bad_recipe_line name fault
+line_of_refusal (refusals.NameClash name) = clash_line name
+line_of_refusal refusals.SpecsTooLarge = line (codes "too large: specs" ∷ [])
+line_of_refusal (refusals.BadSpecs fault) = bad_specs_line fault
+line_of_refusal refusals.TooManyRoots = line (codes "too large: roots" ∷ [])
+line_of_refusal (refusals.UnknownRoot name) = unknown_line name
+line_of_refusal (refusals.VirtualRoot name) = virtual_line name
+line_of_refusal (refusals.WrongPlatform platform) = platform_line platform
+line_of_refusal refusals.TooManyPackages = line (codes "too large: packages" ∷ [])
+line_of_refusal refusals.LockTooLarge = line (codes "too large: lock" ∷ [])
+line_of_refusal (refusals.BadLock fault) = bad_lock_line fault
+line_of_refusal refusals.OtherRoots = line (codes "refused: roots" ∷ [])
+line_of_refusal (refusals.BrokenRule rule node number) = broken_line rule node number
+line_of_refusal refusals.CertificateTooLarge = line (codes "too large: certificate" ∷ [])
+line_of_refusal (refusals.BadCertificate number fault) = bad_certificate_line number fault

@@ -1,7 +1,7 @@
 -- How a reading and a writing end.
 use Rattle.std.specs.Prelude.{ℕ, List, [], ◌∷◌, Result, Ok, Err, codes}
 use Rattle.run_answers.specs.Lines.{line}
-use Rattle.run_answers.specs.Refusals.{status_of, line_of}
+use Rattle.run_answers.specs.Refusals.{status_of, line_of_refusal}
 use Rattle.run_answers.specs.declared.refusal.Refusal.{Refusal}
 use Rattle.run_answers.specs.declared.stop.ReadStop.{ReadStop}
 use Rattle.run_answers.specs.declared.stop.ReadStop.TheVariants as reads
@@ -67,7 +67,7 @@ stop_status (Write writes.NoMemory) = statuses.NoMemory
 
 abbrev pub stop_line : Stop → List ℕ
 stop_line Usage = usage_line
-stop_line (Read (reads.Refused refusal)) = line_of refusal
+stop_line (Read (reads.Refused refusal)) = line_of_refusal refusal
 stop_line (Read (reads.Fault path)) = read_fault_line path
 stop_line (Read reads.NoMemory) = no_memory_line
 stop_line (Write (writes.Put path)) = write_fault_line path

@@ -10,13 +10,13 @@ use Rattle.problem.specs.declared.demand.Demand.{Demand}
 use Rattle.problem.specs.declared.demand.Demand.TheVariants as demand
 
 -- the canonical text of a root
-abbrev pub text_of : Option Spec → List ℕ
-text_of None = []
-text_of (Some spec) = spec_text spec
+abbrev pub text_of_root : Option Spec → List ℕ
+text_of_root None = []
+text_of_root (Some spec) = spec_text spec
 
 -- a root by its place and its canonical text
 unfoldable pub root_line : Problem → ℕ → List ℕ
-root_line problem place = codes "root " ++ (decimal place ++ (codes " " ++ (text_of (slice_get problem.roots place) ++ codes "\n")))
+root_line problem place = codes "root " ++ (decimal place ++ (codes " " ++ (text_of_root (slice_get problem.roots place) ++ codes "\n")))
 
 -- which directive of the owner has the number
 unfoldable pub directive_word : Problem → Text → ℕ → List ℕ
@@ -30,13 +30,13 @@ unfoldable pub directive_line : Problem → Text → ℕ → List ℕ
 directive_line problem owner number =
     owner ++ (codes " " ++ (directive_word problem owner number ++ (codes " " ++ (decimal number ++ codes "\n"))))
 
-abbrev pub line_of : Problem → Demand → List ℕ
-line_of problem (demand.Root place) = root_line problem place
-line_of problem (demand.Directive owner number) = directive_line problem owner number
+abbrev pub line_of_demand : Problem → Demand → List ℕ
+line_of_demand problem (demand.Root place) = root_line problem place
+line_of_demand problem (demand.Directive owner number) = directive_line problem owner number
 
 abbrev pub line_for : Problem → Option Demand → List ℕ
 line_for problem None = []
-line_for problem (Some asked) = line_of problem asked
+line_for problem (Some asked) = line_of_demand problem asked
 
 -- a line for each demand, by its number among those of the problem
 abbrev pub reasons_text : Problem → List ℕ → List ℕ

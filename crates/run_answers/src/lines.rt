@@ -21,7 +21,8 @@ fn write_number(alloc: Global, number: u64, out: &mut Vec<u8>) -> Result<(), All
 
 /// The canonical text of a root, where there is one.
 fn write_text_of(alloc: Global, spec: Option<&Spec>, out: &mut Vec<u8>) -> Result<(), AllocError>
-    ensures { OnOk result (out.new.items ≡ out.old.items ++ texts.text_of (option_copied spec.entry)) }
+    ensures { OnOk result (out.new.items ≡ out.old.items
+        ++ texts.text_of_root (option_copied spec.entry)) }
 {
     match spec {
         Some(spec) => {

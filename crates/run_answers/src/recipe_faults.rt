@@ -32,7 +32,7 @@ fn in_tokens(alloc: Global, fault: LexFault) -> Result<String, AllocError>
 }
 
 fn in_text(alloc: Global, place: u64, fault: SpecFault) -> Result<String, AllocError>
-    ensures { IfOk result (λ text. string_bytes text ≡ texts.in_text place fault) }
+    ensures { IfOk result (λ text. string_bytes text ≡ texts.placed_fault_text place fault) }
 {
     let inner = spec_fault_text(alloc, fault)?;
     format!(in alloc; "Spec {place} {inner}")

@@ -97,9 +97,9 @@ impl Refusal {
     }
 
     /// The line that is said of it.
-    #[tactic(auto, unfolding(crate::specs::Refusals::line_of))]
+    #[tactic(auto, unfolding(crate::specs::Refusals::line_of_refusal))]
     pub fn line(&self, alloc: Global) -> Result<String, AllocError>
-        ensures { IfOk result (λ line. string_bytes line ≡ lines.line_of self.now) }
+        ensures { IfOk result (λ line. string_bytes line ≡ lines.line_of_refusal self.now) }
     {
         match self {
             Refusal::DatabaseTooLarge => format!(in alloc; "too large: database\n"),

@@ -30,6 +30,13 @@ of_database A B told command (Refused refusal) there = tt
 of_database A B told command (Fault path) there = inr (inr there)
 of_database A B told command NoMemory there = tt
 
+-- over any of these
+pub of_stock : (A B : Type 0) (told : Option Files) (command : Command) (stop : ReadStop) → FailsAtInput {A = A} told command (Err stop)
+    → FailsAtInput {A = B} told command (Err stop)
+of_stock A B told command (Refused refusal) there = tt
+of_stock A B told command (Fault path) there = there
+of_stock A B told command NoMemory there = tt
+
 -- nothing was written in between
 pub later : {A : Type 0} (before between : Option Files) (command : Command) (result : Result A ReadStop) → between ≡ before
     → FailsAtInput between command result → FailsAtInput before command result

@@ -6,7 +6,7 @@ use Rattle.std.proofs.lemmas.Option.{get_or_from_slice_get}
 use Rattle.recipe_data.specs.declared.recipe.Recipe.{Recipe}
 use Rattle.problem.specs.Limits.{are_few_rows}
 use Rattle.recipe_reader.specs.Files.{recipe_in_file, IsFirstFault}
-use Rattle.recipe_reader.specs.Recipes.{recipe_of}
+use Rattle.recipe_reader.specs.Recipes.{recipe_of_file}
 use Rattle.recipe_reader.specs.declared.fault.RecipeFault.{RecipeFault}
 use Rattle.recipe_reader.specs.declared.files.RecipeFile.{RecipeFile}
 use Rattle.run_answers.specs.declared.refusal.Refusal.TheVariants as refusals
@@ -64,13 +64,13 @@ first_bad place e files file first is =
     rw same (bad_at place files first.recipes first.file e first.before first.is first.faulty)
 
 -- the recipes of files within the limit are within theirs
-pub few_read : ((sources : List Source) (recipes : List Recipe) → map (λ (s : Source). recipe_of s.0 s.1) sources ≡ map Ok recipes
+pub few_read : ((sources : List Source) (recipes : List Recipe) → map (λ (s : Source). recipe_of_file s.0 s.1) sources ≡ map Ok recipes
     → bytes_in sources ≤ 2 ^ 28 → are_few_rows recipes ≡ true)
     → (files : List RecipeFile) (recipes : List Recipe) → bytes_in (map source_of files) ≤ 2 ^ 28
     → map recipe_in_file files ≡ map Ok recipes → are_few_rows recipes ≡ true
 few_read law files recipes short read = law (map source_of files) recipes (read_as files ∙ read) short
   where
-    read_as : (files : List RecipeFile) → map (λ (s : Source). recipe_of s.0 s.1) (map source_of files) ≡ map recipe_in_file files
+    read_as : (files : List RecipeFile) → map (λ (s : Source). recipe_of_file s.0 s.1) (map source_of files) ≡ map recipe_in_file files
     read_as [] = refl
     read_as (f ∷ files) = ap (λ (rs : List Read). recipe_in_file f ∷ rs) (read_as files)
 

@@ -17,7 +17,7 @@ use Rattle.run_answers.specs.declared.refusal.Refusal.TheVariants as refusals
 use Rattle.run_answers.specs.declared.stop.ReadStop.{ReadStop}
 use Rattle.run_answers.proofs.StageLaws.{ok_same, ok_not_err, then_ok}
 use Rattle.run_input.specs.Paths.{packages_path}
-use Rattle.run_input.specs.Sources.{Source, Pile, Leaves, names_of, no_files, with_file, recipe_at, with_entry, with_entries, pile_by, pile_of}
+use Rattle.run_input.specs.Sources.{Source, SourcePile, Leaves, names_of, no_files, with_source, recipe_file_at, with_entry, with_entries, pile_by, pile_of}
 
 abbrev Names : Type 0
 Names = List (List ℕ)
@@ -54,27 +54,27 @@ chosen false true c e f g x y is = ok_not_err y f (sym is)
 chosen false false true e f g x y is = ok_not_err y g (sym is)
 chosen false false false e f g x y is = ok_same x y is
 
-with_file_names : (pile : Pile) (name bytes : List ℕ) (next : Pile) → with_file pile name bytes ≡ Ok next
+with_file_names : (pile : SourcePile) (name bytes : List ℕ) (next : SourcePile) → with_source pile name bytes ≡ Ok next
     → names_of next ≡ names_of pile ++ name ∷ []
-unfolding with_file
+unfolding with_source
 with_file_names pile name bytes next is =
-    let more : Pile = record { files = pile.files ++ (name, bytes) ∷ []; total = pile.total + length bytes } in
+    let more : SourcePile = record { files = pile.files ++ (name, bytes) ∷ []; total = pile.total + length bytes } in
     let same : more ≡ next = chosen (nat_le (2 ^ 14) (length pile.files)) (nat_lt (2 ^ 20) (length bytes))
     (nat_lt (2 ^ 28) (pile.total + length bytes))
     refusals.TooManyRecipes (refusals.RecipeTooLarge name) refusals.RecipesTooLarge more next is in
     ap names_of (sym same) ∙ map-append (λ (source : Source). source.0) pile.files ((name, bytes) ∷ [])
 
 -- an entry more, of which the name comes next
-entry_rises : (pile : Pile) (name : List ℕ) (names : Names) (found : Option (List ℕ)) (next : Pile)
+entry_rises : (pile : SourcePile) (name : List ℕ) (names : Names) (found : Option (List ℕ)) (next : SourcePile)
     → with_entry pile name found ≡ Ok next → IsInByteOrder (names_of pile ++ name ∷ names) → IsInByteOrder (names_of next ++ names)
 entry_rises pile name names None next is ordered =
-    subst (λ (p : Pile). IsInByteOrder (names_of p ++ names)) (ok_same pile next is) (without (names_of pile) name names ordered)
+    subst (λ (p : SourcePile). IsInByteOrder (names_of p ++ names)) (ok_same pile next is) (without (names_of pile) name names ordered)
 entry_rises pile name names (Some bytes) next is ordered =
     rw (with_file_names pile name bytes next is) (rw (append_assoc (names_of pile) (name ∷ []) names) ordered)
 
 -- a file more
-pub file_rises : (pile : Pile) (name bytes : List ℕ) (names : Names) (after : Pile) (result : Result (Unit {0}) ReadStop)
-    → Leaves (with_file pile name bytes) after result → IsInByteOrder (names_of pile ++ name ∷ names)
+pub file_rises : (pile : SourcePile) (name bytes : List ℕ) (names : Names) (after : SourcePile) (result : Result (Unit {0}) ReadStop)
+    → Leaves (with_source pile name bytes) after result → IsInByteOrder (names_of pile ++ name ∷ names)
     → OnOk result (IsInByteOrder (names_of after ++ names))
 file_rises pile name bytes names after (Ok done) left ordered = entry_rises pile name names (Some bytes) after left ordered
 file_rises pile name bytes names after (Err stop) left ordered = tt
@@ -84,20 +84,20 @@ pub never : {A : Type 0} (P : Type 0) (result : Result A ReadStop) → OnOk resu
 never P (Ok x) none = absurd none
 never P (Err stop) none = tt
 
-entries_rise : (files : Files) (repo : List ℕ) (pile : Pile) (names : Names) (last : Pile)
+entries_rise : (files : Files) (repo : List ℕ) (pile : SourcePile) (names : Names) (last : SourcePile)
     → with_entries files repo pile names ≡ Ok last → IsInByteOrder (names_of pile ++ names) → IsInByteOrder (names_of last)
 entries_rise files repo pile [] last is ordered =
-    subst (λ (p : Pile). IsInByteOrder (names_of p)) (ok_same pile last is) (subst IsInByteOrder (append-nil (names_of pile)) ordered)
+    subst (λ (p : SourcePile). IsInByteOrder (names_of p)) (ok_same pile last is) (subst IsInByteOrder (append-nil (names_of pile)) ordered)
 entries_rise files repo pile (name ∷ names) last is ordered =
-    let step = then_ok (with_entry pile name (recipe_at files repo name)) (λ next. with_entries files repo next names) last is in
-    entries_rise files repo step.0 names last step.2 (entry_rises pile name names (recipe_at files repo name) step.0 step.1 ordered)
+    let step = then_ok (with_entry pile name (recipe_file_at files repo name)) (λ next. with_entries files repo next names) last is in
+    entries_rise files repo step.0 names last step.2 (entry_rises pile name names (recipe_file_at files repo name) step.0 step.1 ordered)
 
-pile_rises : (files : Files) (repo : List ℕ) (names : Names) (pile : Pile) → pile_by files repo names ≡ Ok pile → IsInByteOrder names
+pile_rises : (files : Files) (repo : List ℕ) (names : Names) (pile : SourcePile) → pile_by files repo names ≡ Ok pile → IsInByteOrder names
     → IsInByteOrder (names_of pile)
 pile_rises files repo [] pile is ordered = ok_not_err pile _ (sym is)
 pile_rises files repo (name ∷ names) pile is ordered = entries_rise files repo no_files (name ∷ names) pile is ordered
 
 -- the files of a repository
-pub in_order : (files : Files) (repo : List ℕ) (pile : Pile) → pile_of files repo ≡ Ok pile → IsInByteOrder (names_of pile)
+pub in_order : (files : Files) (repo : List ℕ) (pile : SourcePile) → pile_of files repo ≡ Ok pile → IsInByteOrder (names_of pile)
 unfolding pile_of
 in_order files repo pile is = pile_rises files repo (names_in files (packages_path repo)) pile is (names_rise files (packages_path repo))

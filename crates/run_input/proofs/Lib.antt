@@ -7,6 +7,7 @@ pub mod Counted
 pub mod Files
 pub mod Named
 pub mod Once
+pub mod Queries
 pub mod Failing
 pub mod Staged
 pub mod Values

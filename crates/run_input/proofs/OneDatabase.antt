@@ -9,7 +9,7 @@ use Rattle.reuse_db.specs.declared.fault.DbFault.TheVariants.{OutOfMemory}
 use Rattle.run_answers.specs.Stages.{Is}
 use Rattle.run_answers.specs.declared.refusal.Refusal.TheVariants.{BadDatabase}
 use Rattle.run_answers.proofs.StageLaws.{IsOne, one_is, one_then}
-use Rattle.run_words.specs.Words.{is_dash}
+use Rattle.run_words.specs.Words.{is_dash_path}
 use Rattle.run_input.specs.Installed.{database_bytes, DatabaseIn, DatabaseBy, DatabaseAt}
 
 -- what holds of reading databases
@@ -31,4 +31,4 @@ one_by laws false files path = one_then (Is (database_bytes files path)) Databas
 
 -- by what reading databases gives
 pub one_database : ReadsOnce → (files : Files) (path : List ℕ) → IsOne (DatabaseAt files path)
-one_database laws files path = one_by laws (is_dash path) files path
+one_database laws files path = one_by laws (is_dash_path path) files path

@@ -3,20 +3,22 @@ use Rattle.std.proofs.Common.{◌≡◌, ◌≢◌, ℕ, List, Bool, true, false
 use Rattle.outside_desk.specs.Files.{Files}
 use Rattle.site_settings.specs.Standard.{standard}
 use Rattle.site_settings.specs.declared.settings.Settings.{Settings}
-use Rattle.settings_reader.specs.Files.{IsOfFile, IsFileFault}
+use Rattle.settings_reader.specs.Files.{IsOfFile, IsSettingsFileFault}
 use Rattle.settings_reader.specs.declared.fault.SettingsFault.{SettingsFault}
 use Rattle.settings_reader.specs.declared.fault.SettingsFault.TheVariants.{OutOfMemory}
 use Rattle.run_answers.specs.Stages.{Is}
 use Rattle.run_answers.specs.declared.refusal.Refusal.TheVariants.{BadSettings}
 use Rattle.run_answers.proofs.StageLaws.{IsOne, one_is, one_then}
-use Rattle.run_words.specs.Words.{is_dash}
+use Rattle.run_words.specs.Words.{is_dash_path}
 use Rattle.run_input.specs.Sites.{settings_bytes, SettingsIn, SettingsBy, SettingsAt}
 
 -- what holds of reading settings
 pub record ReadsOnce : Type 0 where
   pub reading : (bytes : List ℕ) (a b : Settings) → IsOfFile bytes a → IsOfFile bytes b → a ≡ b
-  pub fault : (bytes : List ℕ) (f g : SettingsFault) → IsFileFault bytes f → IsFileFault bytes g → f ≢ OutOfMemory → g ≢ OutOfMemory → f ≡ g
-  pub right : (bytes : List ℕ) (settings : Settings) (f : SettingsFault) → IsOfFile bytes settings → IsFileFault bytes f → f ≡ OutOfMemory
+  pub fault : (bytes : List ℕ) (f g : SettingsFault) → IsSettingsFileFault bytes f → IsSettingsFileFault bytes g → f ≢ OutOfMemory
+      → g ≢ OutOfMemory → f ≡ g
+  pub right : (bytes : List ℕ) (settings : Settings) (f : SettingsFault) → IsOfFile bytes settings → IsSettingsFileFault bytes f
+      → f ≡ OutOfMemory
 
 one_in : ReadsOnce → (bytes : List ℕ) → IsOne (SettingsIn bytes)
 one_in laws bytes (Ok a) (Ok b) p q = ap Ok (laws.reading bytes a b p q)
@@ -31,4 +33,4 @@ one_by laws false files path = one_then (Is (settings_bytes files path)) Setting
 
 -- by what reading settings gives
 pub one_site : ReadsOnce → (files : Files) (path : List ℕ) → IsOne (SettingsAt files path)
-one_site laws files path = one_by laws (is_dash path) files path
+one_site laws files path = one_by laws (is_dash_path path) files path

@@ -1,5 +1,5 @@
 -- What a run reads before the command's own work, or the first refusal.
-use Rattle.std.specs.Prelude.{◌≡◌, ◌⊎◌, ℕ, ◌≤◌, true, nat_le, List, length, Option, Some, None, Result, Ok, Err}
+use Rattle.std.specs.Prelude.{◌≡◌, ◌⊎◌, ℕ, ◌≤◌, true, nat_le, List, [], length, Option, Some, None, Result, Ok, Err}
 use Rattle.outside_desk.specs.Files.{Files}
 use Rattle.spec_grammar.specs.declared.part.Spec.{Spec}
 use Rattle.site_settings.specs.declared.settings.Settings.{Settings}
@@ -24,8 +24,10 @@ use Rattle.run_input.specs.Sites.{SettingsAt, IsSettingsPath}
 use Rattle.run_input.specs.Paths.{IsReadPath}
 use Rattle.run_input.specs.Sources.{Source, pile_of}
 use Rattle.run_input.specs.Recipes.{recipes_of}
-use Rattle.run_input.specs.Roots.{RootsOf}
+use Rattle.run_input.specs.Roots.{RootsOf, ConditionOf}
 use Rattle.run_input.specs.declared.input.Input.{Input}
+use Rattle.run_input.specs.declared.query.Query.{Query}
+use Rattle.run_input.specs.declared.stock.Stock.{Stock}
 
 -- ---- the stages, the last one first
 
@@ -34,12 +36,12 @@ unfoldable pub apart_of : List Recipe → Result (Unit {0}) Refusal
 apart_of recipes = refuse_some (λ recipe. refusals.NameClash recipe.name) (clash recipes)
 
 -- the parsing of all files, and then the clash of names
-abbrev pub Over : List Source → Result (List Recipe) Refusal → Type 0
-Over sources = Then (Is (recipes_of sources)) (λ recipes. Then (Is (apart_of recipes)) (λ done. Is (Ok recipes)))
+abbrev pub OverSources : List Source → Result (List Recipe) Refusal → Type 0
+OverSources sources = Then (Is (recipes_of sources)) (λ recipes. Then (Is (apart_of recipes)) (λ done. Is (Ok recipes)))
 
 -- the reading of all files of the repository, and then their parsing
 abbrev pub InRepository : Files → List ℕ → Result (List Recipe) Refusal → Type 0
-InRepository files repo = Then (Is (pile_of files repo)) (λ pile. Over pile.files)
+InRepository files repo = Then (Is (pile_of files repo)) (λ pile. OverSources pile.files)
 
 -- a problem of which no root is refused; no definition gives want of memory
 abbrev pub unless_refused : Problem → Option ProblemFault → Result Problem Refusal
@@ -75,21 +77,44 @@ closed_of problem = do
 abbrev pub InputBy : List Recipe → Settings → List Record → List Spec → Result Input Refusal → Type 0
 InputBy recipes settings records roots = Then (Is (posed_by recipes settings records roots)) (λ problem. Is (closed_of problem))
 
--- the specs, and then the problem
-abbrev pub Asked : List Recipe → Settings → List ℕ → List Record → Result Input Refusal → Type 0
-Asked recipes settings spec records = Then (RootsOf spec) (λ roots. InputBy recipes settings records roots)
+-- what settings, recipes and records are together
+abbrev pub stock_of : Settings → List Recipe → List Record → Stock
+stock_of settings recipes records = record { settings = settings; recipes = recipes; records = records }
 
--- the database, and then what is behind it
-abbrev pub Behind : Files → Command → Settings → List Recipe → Result Input Refusal → Type 0
-Behind files command settings recipes = Then (DatabaseAt files command.database) (Asked recipes settings command.spec)
+-- the database, and then all three
+abbrev pub Behind : Files → Command → Settings → List Recipe → Result Stock Refusal → Type 0
+Behind files command settings recipes =
+    Then (DatabaseAt files command.database) (λ records. Is (Ok (stock_of settings recipes records)))
 
 -- the repository, and then what is behind it
-abbrev pub OverSettings : Files → Command → Settings → Result Input Refusal → Type 0
+abbrev pub OverSettings : Files → Command → Settings → Result Stock Refusal → Type 0
 OverSettings files command settings = Then (InRepository files command.repo) (Behind files command settings)
 
--- what a command names over the files: the settings are read first, and the names are found last
-abbrev pub Reads : Files → Command → Result Input Refusal → Type 0
-Reads files command = Then (SettingsAt files command.settings) (OverSettings files command)
+-- what a command names over the files besides its specs: the settings are read first
+abbrev pub StockAt : Files → Command → Result Stock Refusal → Type 0
+StockAt files command = Then (SettingsAt files command.settings) (OverSettings files command)
+
+-- the specs, and then the problem
+abbrev pub OverSpecs : List ℕ → Stock → Result Input Refusal → Type 0
+OverSpecs spec stock = Then (RootsOf spec) (λ roots. InputBy stock.recipes stock.settings stock.records roots)
+
+-- what a command names over the files: the names are found last
+abbrev pub ReadsInput : Files → Command → Result Input Refusal → Type 0
+ReadsInput files command = Then (StockAt files command) (OverSpecs command.spec)
+
+-- ---- what is looked for among installed packages
+
+-- the problem of a stock without roots, of which none is refused, and the condition
+abbrev pub query_of : Stock → Spec → Query
+query_of stock spec = record { problem = problem_of stock.recipes stock.settings stock.records []; spec = spec }
+
+-- the text as a condition
+abbrev pub Sought : List ℕ → Stock → Result Query Refusal → Type 0
+Sought text stock = Then (ConditionOf text) (λ spec. Is (Ok (query_of stock spec)))
+
+-- what a command looks for over the files: no root is read, and no name that nodes may have is found
+abbrev pub Seeks : Files → Command → Result Query Refusal → Type 0
+Seeks files command = Then (StockAt files command) (Sought command.spec)
 
 -- ---- faults of devices
 

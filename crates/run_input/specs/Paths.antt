@@ -3,17 +3,17 @@ use Rattle.std.specs.Prelude.{◌≡◌, ◌⊎◌, ℕ, List, [], ◌∷◌, co
 use Rattle.outside_desk.specs.Files.{Files}
 use Rattle.outside_desk.specs.Listing.{names_in}
 use Rattle.spec_grammar.specs.Signs.{IsName}
-use Rattle.run_answers.specs.Lines.{joined}
+use Rattle.run_answers.specs.Lines.{joined_texts}
 use Rattle.run_answers.specs.declared.stop.ReadStop.{ReadStop}
 use Rattle.run_answers.specs.declared.stop.ReadStop.TheVariants as reads
 
 -- the folder with the packages
 unfoldable pub packages_path : List ℕ → List ℕ
-packages_path repo = joined (repo ∷ codes "/packages" ∷ [])
+packages_path repo = joined_texts (repo ∷ codes "/packages" ∷ [])
 
 -- the recipe of a package
 unfoldable pub recipe_path : List ℕ → List ℕ → List ℕ
-recipe_path repo name = joined (repo ∷ codes "/packages/" ∷ name ∷ codes "/package.py" ∷ [])
+recipe_path repo name = joined_texts (repo ∷ codes "/packages/" ∷ name ∷ codes "/package.py" ∷ [])
 
 -- the name stands in that folder, where the desk tells its files
 abbrev pub IsListed : Option Files → List ℕ → List ℕ → Type 0

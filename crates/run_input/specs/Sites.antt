@@ -3,7 +3,7 @@ use Rattle.std.specs.Prelude.{◌≡◌, ◌≢◌, ℕ, List, Bool, true, false
 use Rattle.outside_desk.specs.Files.{Files}
 use Rattle.site_settings.specs.Standard.{standard}
 use Rattle.site_settings.specs.declared.settings.Settings.{Settings}
-use Rattle.settings_reader.specs.Files.{IsOfFile, IsFileFault}
+use Rattle.settings_reader.specs.Files.{IsOfFile, IsSettingsFileFault}
 use Rattle.settings_reader.specs.declared.fault.SettingsFault.{SettingsFault}
 use Rattle.settings_reader.specs.declared.fault.SettingsFault.TheVariants.{OutOfMemory}
 use Rattle.run_answers.specs.Stages.{Is, Then}
@@ -13,7 +13,7 @@ use Rattle.run_answers.specs.declared.stop.ReadStop.{ReadStop}
 use Rattle.run_answers.specs.declared.stop.ReadStop.TheVariants as reads
 use Rattle.run_input.specs.Bytes.{bytes_at}
 use Rattle.run_input.specs.declared.file.WholeFile.TheVariants as kinds
-use Rattle.run_words.specs.Words.{is_dash}
+use Rattle.run_words.specs.Words.{is_dash_path}
 
 -- the bytes of the file at the path
 abbrev pub settings_bytes : Files → List ℕ → Result (List ℕ) Refusal
@@ -22,7 +22,7 @@ settings_bytes files path = bytes_at files path kinds.Settings
 -- the settings that a file says, or its fault
 abbrev pub SettingsIn : List ℕ → Result Settings Refusal → Type 0
 SettingsIn bytes (Ok settings) = IsOfFile bytes settings
-SettingsIn bytes (Err refusal) = (f : SettingsFault) × IsFileFault bytes f × (f ≢ OutOfMemory) × (refusal ≡ refusals.BadSettings f)
+SettingsIn bytes (Err refusal) = (f : SettingsFault) × IsSettingsFileFault bytes f × (f ≢ OutOfMemory) × (refusal ≡ refusals.BadSettings f)
 
 -- `-` is the standard, and no file
 abbrev pub SettingsBy : Bool → Files → List ℕ → Result Settings Refusal → Type 0
@@ -31,11 +31,11 @@ SettingsBy false files path = Then (Is (settings_bytes files path)) SettingsIn
 
 -- the settings that a path names
 abbrev pub SettingsAt : Files → List ℕ → Result Settings Refusal → Type 0
-SettingsAt files path = SettingsBy (is_dash path) files path
+SettingsAt files path = SettingsBy (is_dash_path path) files path
 
 -- a device fails only while such a file is read
 abbrev pub IsSettingsPath : List ℕ → List ℕ → Type 0
-IsSettingsPath settings path = (path ≡ settings) × (is_dash settings ≡ false)
+IsSettingsPath settings path = (path ≡ settings) × (is_dash_path settings ≡ false)
 
 abbrev pub FailsThere : {A : Type 0} → List ℕ → Result A ReadStop → Type 0
 FailsThere settings (Err (reads.Fault path)) = IsSettingsPath settings path

@@ -12,14 +12,11 @@ ghost use Rattle.run_answers.specs.Stages.{Is};
 ghost use Rattle.run_answers.specs.Reads.{OnlyReads};
 ghost use Rattle.run_answers.specs.Stops.{Gives, EndsInReadFault};
 ghost use Rattle.run_input.specs.Roots.{RootsOf, are_named};
-ghost use Rattle.run_input.specs.Inputs.{posed_by, closed_of, InputBy, Asked, Behind, IsPosed, OverSettings, Reads, FailsAtInput};
+ghost use Rattle.run_input.specs.Inputs.{posed_by, closed_of, InputBy, OverSpecs, IsPosed, ReadsInput, FailsAtInput};
 
-use crate::repository::read_repository;
 use crate::roots::read_roots;
-use crate::{
-    Command, ReadRecipes, ReadRecords, ReadRoots, ReadSettings, ReadStop, Refusal, read_installed,
-    read_site,
-};
+use crate::stock::read_stock;
+use crate::{Command, ReadRoots, ReadStop, Refusal, Stock};
 use outside_desk::Desk;
 use plain_data::List;
 use possible_closure::{Closure, ClosureFault, closure};
@@ -42,7 +39,7 @@ pub struct Input {
 
 /// The problem of recipes, settings, records and roots.
 #[tactic(auto, unfolding(crate::specs::Inputs::posed_by))]
-fn posed(
+pub(crate) fn posed(
     alloc: Global,
     recipes: List<Recipe>,
     settings: Settings,
@@ -92,82 +89,31 @@ fn closed(alloc: Global, problem: Problem) -> Result<Input, ReadStop>
 }
 
 /// The problem, and then its names.
-fn put_together(
-    alloc: Global,
-    recipes: ReadRecipes,
-    settings: ReadSettings,
-    records: ReadRecords,
-    roots: ReadRoots,
-) -> Result<Input, ReadStop>
-    ensures read { Gives result (InputBy recipes settings records roots) }
+fn put_together(alloc: Global, stock: Stock, roots: ReadRoots) -> Result<Input, ReadStop>
+    ensures read { Gives result (InputBy stock.recipes stock.settings stock.records roots) }
     ensures roots { IfOk result (λ input. input.problem.roots ≡ roots) }
     ensures posed { IfOk result IsPosed }
     ensures no_fault { EndsInReadFault result → ⊥ }
 {
+    let Stock {
+        settings,
+        recipes,
+        records,
+    } = stock;
     let (recipes, settings) = (recipes.recipes(), settings.settings());
     let problem = posed(alloc, recipes, settings, records.records(), roots.roots())?;
     closed(alloc, problem)
 }
 
 /// The specs, and then the problem.
-fn read_asked(
-    alloc: Global,
-    recipes: ReadRecipes,
-    settings: ReadSettings,
-    records: ReadRecords,
-    spec: &str,
-) -> Result<Input, ReadStop>
-    ensures read { Gives result (Asked recipes settings spec.now records) }
+fn read_asked(alloc: Global, stock: Stock, spec: &str) -> Result<Input, ReadStop>
+    ensures read { Gives result (OverSpecs spec.now stock) }
     ensures roots { IfOk result (λ input. RootsOf spec.now (Ok input.problem.roots)) }
     ensures posed { IfOk result IsPosed }
     ensures no_fault { EndsInReadFault result → ⊥ }
 {
     match read_roots(alloc, spec) {
-        Ok(roots) => put_together(alloc, recipes, settings, records, roots),
-        Err(stop) => Err(stop),
-    }
-}
-
-/// The database, and then what is behind it.
-#[tactic(auto, using(crate::proofs::Failing::of_database))]
-fn read_behind<D: Desk>(
-    alloc: Global,
-    desk: &mut D,
-    command: &Command<'_>,
-    settings: ReadSettings,
-    recipes: ReadRecipes,
-) -> Result<Input, ReadStop>
-    ensures read { IfSome (D.files desk.old)
-        (λ files. Gives result (Behind files command.now settings recipes)) }
-    ensures roots { IfOk result (λ input. RootsOf command.now.spec (Ok input.problem.roots)) }
-    ensures posed { IfOk result IsPosed }
-    ensures path { FailsAtInput (D.files desk.old) command.now result }
-    ensures only_reads { OnlyReads D.files D.faults D.put_faults desk.old desk.new result }
-{
-    match read_installed(alloc, desk, command.database) {
-        Ok(records) => read_asked(alloc, recipes, settings, records, command.spec.as_str()),
-        Err(stop) => Err(stop),
-    }
-}
-
-/// The repository, and then what is behind it.
-#[tactic(auto, using(crate::proofs::Failing::of_repository))]
-fn read_over<R: Threads + Sync, D: Desk>(
-    rt: &R,
-    alloc: Global,
-    desk: &mut D,
-    command: &Command<'_>,
-    settings: ReadSettings,
-) -> Result<Input, ReadStop>
-    ensures read { IfSome (D.files desk.old)
-        (λ files. Gives result (OverSettings files command.now settings)) }
-    ensures roots { IfOk result (λ input. RootsOf command.now.spec (Ok input.problem.roots)) }
-    ensures posed { IfOk result IsPosed }
-    ensures path { FailsAtInput (D.files desk.old) command.now result }
-    ensures only_reads { OnlyReads D.files D.faults D.put_faults desk.old desk.new result }
-{
-    match read_repository(rt, alloc, desk, command.repo) {
-        Ok(recipes) => read_behind(alloc, desk, command, settings, recipes),
+        Ok(roots) => put_together(alloc, stock, roots),
         Err(stop) => Err(stop),
     }
 }
@@ -178,19 +124,21 @@ fn read_over<R: Threads + Sync, D: Desk>(
 ///
 /// The first refusal that is due, in the order of work: the settings, the listing and the reading of all recipe files,
 /// their parsing, the clash of names, the database, the specs, the roots, the closure. `Fault` where the desk failed.
-#[tactic(auto, using(crate::proofs::Failing::of_settings))]
+#[tactic(auto, using(crate::proofs::Failing::of_stock))]
 pub fn read_input<R: Threads + Sync, D: Desk>(
     rt: &R,
     alloc: Global,
     desk: &mut D,
     command: &Command<'_>,
 ) -> Result<Input, ReadStop>
-    ensures read { IfSome (D.files desk.old) (λ files. Gives result (Reads files command.now)) }
+    ensures read { IfSome (D.files desk.old) (λ files. Gives result (ReadsInput files command.now)) }
     ensures roots { IfOk result (λ input. RootsOf command.now.spec (Ok input.problem.roots)) }
     ensures posed { IfOk result IsPosed }
     ensures path { FailsAtInput (D.files desk.old) command.now result }
     ensures only_reads { OnlyReads D.files D.faults D.put_faults desk.old desk.new result }
 {
-    let settings = read_site(alloc, desk, command.settings)?;
-    read_over(rt, alloc, desk, command, settings)
+    match read_stock(rt, alloc, desk, command) {
+        Ok(stock) => read_asked(alloc, stock, command.spec.as_str()),
+        Err(stop) => Err(stop),
+    }
 }

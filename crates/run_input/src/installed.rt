@@ -6,7 +6,7 @@ ghost use Rattle.file_limits.specs.Values.{has_values};
 ghost use Rattle.problem.specs.Limits.{are_few_records};
 ghost use Rattle.run_answers.specs.Reads.{OnlyReads};
 ghost use Rattle.run_answers.specs.Stops.{Gives, EndsInReadFault};
-ghost use Rattle.run_words.specs.Words.{is_dash};
+ghost use Rattle.run_words.specs.Words.{is_dash_path};
 ghost use Rattle.run_input.specs.Installed.{DatabaseIn, DatabaseAt, FailsThere};
 
 use crate::{ReadRecords, WholeFile, read_bytes};

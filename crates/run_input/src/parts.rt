@@ -8,7 +8,7 @@ ghost use Rattle.problem.specs.Limits.{are_few_records, are_few_rows, are_small}
 ghost use Rattle.recipe_data.specs.Right.{is_right_recipe};
 ghost use Rattle.settings_reader.specs.Values.{are_valued};
 ghost use Rattle.variant_values.specs.Texts.{byte_cmp};
-ghost use Rattle.virtuals.specs.Virtuals.{AreInOrder, name_of};
+ghost use Rattle.virtuals.specs.Virtuals.{AreInOrder, recipe_name};
 ghost use Rattle.run_input.specs.Roots.{are_named};
 
 use plain_data::List;

@@ -8,7 +8,7 @@ ghost use Rattle.run_answers.specs.Stages.{Is};
 ghost use Rattle.run_answers.specs.Reads.{OnlyReads};
 ghost use Rattle.run_answers.specs.Stops.{Gives};
 ghost use Rattle.run_input.specs.Paths.{FailsAmong, FailsAtEntry, FailsInside};
-ghost use Rattle.run_input.specs.Sources.{Leaves, names_of, no_files, recipe_at, with_entry, with_entries, pile_of};
+ghost use Rattle.run_input.specs.Sources.{Leaves, names_of, no_files, recipe_file_at, with_entry, with_entries, pile_of};
 
 use crate::paths::{packages_path, recipe_path};
 use crate::sources::{FILE_LIMIT, Sources};
@@ -19,7 +19,7 @@ use spec_grammar::is_name;
 use std::alloc::Global;
 
 /// Reads an entry of the folder: it is a recipe where its name is a NAME and its file is there.
-#[tactic(auto, unfolding(crate::specs::Sources::recipe_at), using(crate::proofs::Ends::at_entry, crate::proofs::Ends::counts))]
+#[tactic(auto, unfolding(crate::specs::Sources::recipe_file_at), using(crate::proofs::Ends::at_entry, crate::proofs::Ends::counts))]
 fn read_entry<D: Desk>(
     alloc: Global,
     desk: &mut D,
@@ -28,7 +28,7 @@ fn read_entry<D: Desk>(
     sources: &mut Sources,
 ) -> Result<(), ReadStop>
     ensures left { IfSome (D.files desk.old)
-        (λ files. Leaves (with_entry sources.old name.now (recipe_at files repo.now name.now))
+        (λ files. Leaves (with_entry sources.old name.now (recipe_file_at files repo.now name.now))
         sources.new result) }
     ensures order { (names : List (List ℕ))
         → IsInByteOrder (names_of sources.old ++ name.now ∷ names)

@@ -4,7 +4,7 @@ ghost use Rattle.std.specs.Prelude.{◌≡◌, ◌≤◌, ◌^◌, true, map, Er
 ghost use Rattle.std.specs.List.{list_all};
 ghost use Rattle.recipe_data.specs.Right.{is_right_recipe};
 ghost use Rattle.problem.specs.Limits.{are_few_rows};
-ghost use Rattle.virtuals.specs.Virtuals.{name_of};
+ghost use Rattle.virtuals.specs.Virtuals.{recipe_name};
 ghost use Rattle.recipe_reader.specs.Files.{FailsAt, IsFirstFault};
 ghost use Rattle.run_answers.specs.Stages.{Is};
 ghost use Rattle.run_answers.specs.Stops.{Gives, EndsInReadFault};
@@ -67,7 +67,7 @@ pub fn recipes_of<R: Threads + Sync>(
     ensures read { Gives result (Is (recipes_of (map source_of files.now))) }
     ensures right { IfOk result (λ recipes. list_all is_right_recipe recipes ≡ true) }
     ensures few_rows { IfOk result (λ recipes. are_few_rows recipes ≡ true) }
-    ensures names { IfOk result (λ recipes. map name_of recipes ≡ map (λ source. source.0)
+    ensures names { IfOk result (λ recipes. map recipe_name recipes ≡ map (λ source. source.0)
         (map source_of files.now)) }
     ensures no_fault { EndsInReadFault result → ⊥ }
 {

@@ -10,7 +10,7 @@ ghost use Rattle.run_answers.specs.Stops.{Gives, EndsInReadFault};
 ghost use Rattle.run_input.specs.Paths.{FailsInside};
 ghost use Rattle.variant_values.specs.Texts.{IsInByteOrder};
 ghost use Rattle.run_input.specs.Sources.{bytes_in, names_of, source_of};
-ghost use Rattle.run_input.specs.Inputs.{Over, InRepository};
+ghost use Rattle.run_input.specs.Inputs.{OverSources, InRepository};
 
 use crate::recipes::{check_apart, recipes_of};
 use crate::{ReadRecipes, ReadStop, Sources, read_sources};
@@ -28,10 +28,10 @@ fn read_over<R: Threads + Sync>(
     files: &[RecipeFile],
 ) -> Result<List<Recipe>, ReadStop>
     requires { bytes_in (map source_of files.now) ≤ 2 ^ 28 }
-    ensures read { Gives result (Over (map source_of files.now)) }
+    ensures read { Gives result (OverSources (map source_of files.now)) }
     ensures right { IfOk result (λ recipes. list_all is_right_recipe recipes ≡ true) }
     ensures few_rows { IfOk result (λ recipes. are_few_rows recipes ≡ true) }
-    ensures names { IfOk result (λ recipes. map virtuals.name_of recipes ≡ map (λ source. source.0)
+    ensures names { IfOk result (λ recipes. map virtuals.recipe_name recipes ≡ map (λ source. source.0)
         (map source_of files.now)) }
     ensures no_fault { EndsInReadFault result → ⊥ }
 {
@@ -49,7 +49,7 @@ fn read_pile<R: Threads + Sync>(
     sources: &Sources,
 ) -> Result<ReadRecipes, ReadStop>
     requires { IsInByteOrder (names_of sources.now) }
-    ensures read { Gives result (Over sources.now.files) }
+    ensures read { Gives result (OverSources sources.now.files) }
     ensures no_fault { EndsInReadFault result → ⊥ }
 {
     match read_over(rt, alloc, sources.as_slice()) {

@@ -11,7 +11,7 @@ use spec_grammar::{Spec, SpecFault, read_specs, writing_laws};
 use std::alloc::Global;
 
 /// The most bytes that the text of the specs has: 64 KiB.
-const SPECS_LIMIT: usize = 1 << 16;
+pub(crate) const SPECS_LIMIT: usize = 1 << 16;
 
 /// The most specs.
 const ROOTS_LIMIT: usize = 64;

@@ -5,7 +5,7 @@ ghost use Rattle.settings_reader.specs.Values.{are_valued};
 ghost use Rattle.problem.specs.Limits.{are_small};
 ghost use Rattle.run_answers.specs.Reads.{OnlyReads};
 ghost use Rattle.run_answers.specs.Stops.{Gives, EndsInReadFault};
-ghost use Rattle.run_words.specs.Words.{is_dash};
+ghost use Rattle.run_words.specs.Words.{is_dash_path};
 ghost use Rattle.run_input.specs.Sites.{SettingsIn, SettingsAt, FailsThere};
 
 use crate::{ReadSettings, WholeFile, read_bytes};

@@ -2,7 +2,7 @@
 
 ghost use Rattle.std.specs.Prelude.{◌≡◌, ◌≤◌, ◌<◌, ◌^◌, ◌∷◌, ◌++◌, [], ℕ, List, map, length, OnErr, OnOk};
 ghost use Rattle.run_answers.specs.Stops.{EndsInReadFault};
-ghost use Rattle.run_input.specs.Sources.{Leaves, bytes_in, no_files, source_of, with_file};
+ghost use Rattle.run_input.specs.Sources.{Leaves, bytes_in, no_files, source_of, with_source};
 
 use plain_data::{List, Word};
 use recipe_reader::RecipeFile;
@@ -30,9 +30,9 @@ pub struct Sources {
 
 impl Model for Sources {
     ghost use Rattle.std.specs.Prelude.{map};
-    ghost use Rattle.run_input.specs.Sources.{Pile, source_of};
+    ghost use Rattle.run_input.specs.Sources.{SourcePile, source_of};
 
-    ghost Value = { Pile };
+    ghost Value = { SourcePile };
 
     ghost view = { λ s. record { files = map source_of s.files; total = s.total } };
 }
@@ -64,9 +64,9 @@ impl Sources {
     }
 
     /// One file more.
-    #[tactic(auto, unfolding(crate::specs::Sources::with_file), using(crate::proofs::Counted::counted))]
+    #[tactic(auto, unfolding(crate::specs::Sources::with_source), using(crate::proofs::Counted::counted))]
     pub(crate) fn add(&mut self, alloc: Global, name: &str, bytes: Vec<u8>) -> Result<(), ReadStop>
-        ensures left { Leaves (with_file self.old name.now bytes.items) self.new result }
+        ensures left { Leaves (with_source self.old name.now bytes.items) self.new result }
         ensures no_fault { EndsInReadFault result → ⊥ }
     {
         if self.files.as_slice().len() >= FILES_LIMIT {
@@ -85,10 +85,10 @@ impl Sources {
     }
 
     /// What one more file is answered by that has more than 1 MiB.
-    #[tactic(auto, unfolding(crate::specs::Sources::with_file))]
+    #[tactic(auto, unfolding(crate::specs::Sources::with_source))]
     pub(crate) fn refuse(&self, alloc: Global, name: &str) -> Result<(), ReadStop>
         ensures left { (bytes : List ℕ) → 2 ^ 20 < length bytes
-            → Leaves (with_file self.now name.now bytes) self.now result }
+            → Leaves (with_source self.now name.now bytes) self.now result }
         ensures stops { OnOk result ⊥ }
         ensures no_fault { EndsInReadFault result → ⊥ }
     {

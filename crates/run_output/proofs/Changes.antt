@@ -13,7 +13,7 @@ use Rattle.run_task.specs.Answers.{log_of}
 use Rattle.run_task.specs.Answer.{Answer}
 use Rattle.run_task.specs.Answer.TheVariants as answers
 use Rattle.run_output.specs.Locks.{lock_of}
-use Rattle.run_task.specs.Words.{is_dash}
+use Rattle.run_task.specs.Words.{is_dash_path}
 use Rattle.run_task.specs.Problems.{Problem}
 use Rattle.run_task.specs.declared.task.Task.{Task}
 use Rattle.run_task.specs.declared.task.Task.TheVariants as tasks
@@ -70,8 +70,8 @@ module _ (lock cert : List ℕ) where
   keeps_whole problem answer before after (inl (dash, held)) =
       keeps_part before after cert (log_text (log_of answer)) (λ path other. other.no_cert dash) held
   keeps_whole problem answer before after (inr held) =
-      keeps_lock problem answer before (with_cert_by (is_dash cert) cert (log_of answer) before) after
-      (keeps_cert (log_of answer) before (is_dash cert) (λ dash path other. other.no_cert dash)) held
+      keeps_lock problem answer before (with_cert_by (is_dash_path cert) cert (log_of answer) before) after
+      (keeps_cert (log_of answer) before (is_dash_path cert) (λ dash path other. other.no_cert dash)) held
 
   -- what any end of writing keeps
   pub keeps : (task : Task) (before after : Option Files) → (after ≡ before) ⊎ KeepsWhole evidence lock cert task before after
@@ -79,10 +79,7 @@ module _ (lock cert : List ℕ) where
   keeps task None after kept = tt
   keeps task (Some m) after (inl same) = keeps_none (Some m) after same
   keeps (tasks.Solve input) (Some m) after (inr kept) = keeps_whole input.problem kept.answer (Some m) after kept.held
-  keeps (tasks.Report numbers) (Some m) after (inr kept) = absurd kept
-  keeps tasks.Accepted (Some m) after (inr kept) = absurd kept
-  keeps (tasks.Explain input) (Some m) after (inr kept) = absurd kept
-  keeps (tasks.Try input) (Some m) after (inr kept) = absurd kept
+  keeps other (Some m) after (inr kept) = absurd kept
 
   -- files that are as they were
   pub unchanged : (before : Files) (after : Option Files) → after ≡ Some before → ChangesOnly lock cert before after

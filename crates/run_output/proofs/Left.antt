@@ -10,7 +10,7 @@ use Rattle.run_task.specs.declared.task.Task.TheVariants as tasks
 use Rattle.run_output.specs.Answers.{HoldsWhole, KeepsWhole, Leaves, Writes}
 use Rattle.run_output.specs.Evidence.{IsFor, evidence}
 use Rattle.run_output.specs.declared.answer.Outcome.{Outcome}
-use Rattle.run_output.specs.declared.answer.Outcome.TheVariants.{Solved, Unsolved, Undecided}
+use Rattle.run_output.specs.declared.answer.Outcome.TheVariants.{Solved, Unsolved, Undecided, Stale}
 
 module _ (lock cert : List ℕ) (input : Input) (before after : Option Files) (said more : Option (List ℕ)) where
   solved : (answer : Answer) → IsFor input.problem answer
@@ -34,6 +34,12 @@ module _ (lock cert : List ℕ) (input : Input) (before after : Option Files) (s
   undecided (answers.Nothing log) found (is, files, out) = absurd (let no : Undecided ≡ Unsolved = is in cc)
   undecided (answers.Undecided log) found (is, files, out) = record { log = log; spent = found; files = files; out = out }
 
+  -- no answer is a better one than a lock file
+  never_stale : (answer : Answer) → Leaves lock cert input.problem answer before after said more (Ok Stale) → ⊥
+  never_stale (answers.Best graph log) (is, files, out) = let no : Stale ≡ Solved = is in cc
+  never_stale (answers.Nothing log) (is, files, out) = let no : Stale ≡ Unsolved = is in cc
+  never_stale (answers.Undecided log) (is, files, out) = let no : Stale ≡ Undecided = is in cc
+
   -- an answer that was found, and written
   pub written : (answer : Answer) (result : Result Outcome WriteStop) → IsFor input.problem answer
       → Leaves lock cert input.problem answer before after said more result
@@ -41,6 +47,7 @@ module _ (lock cert : List ℕ) (input : Input) (before after : Option Files) (s
   written answer (Ok Solved) found left = solved answer found left
   written answer (Ok Unsolved) found left = unsolved answer found left
   written answer (Ok Undecided) found left = undecided answer found left
+  written answer (Ok Stale) found left = absurd (never_stale answer left)
   written answer (Err (Put at)) found left = (record { answer = answer; found = found; half = left.0 }, left.1)
   written answer (Err Output) found left = record { answer = answer; found = found; files = left.0; out = left.1 }
   written answer (Err NoMemory) found left = left

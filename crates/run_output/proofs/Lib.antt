@@ -1,5 +1,6 @@
 pub mod Written
 pub mod Changes
+pub mod Comparisons
 pub mod Puts
 pub mod Kept
 pub mod Left

@@ -8,12 +8,22 @@ use Rattle.run_task.specs.WriteStop.TheVariants.{Put, Output, NoMemory}
 use Rattle.run_task.specs.declared.task.Task.{Task}
 use Rattle.run_task.specs.declared.task.Task.TheVariants as tasks
 use Rattle.std.specs.Prelude.{Result}
-use Rattle.run_output.specs.Answers.{IsFinished, HasNone, HasSpent, IsHalfDone, IsUntold, KeepsWhole, Writes}
+use Rattle.run_output.specs.Answers.{IsFinished, HasBetter, HasNone, HasSpent, IsHalfDone, IsUntold, KeepsWhole, Writes}
 use Rattle.run_output.specs.Evidence.{evidence}
 use Rattle.run_output.specs.Senses.{meaning}
-use Rattle.run_output.specs.Told.{Tells, IsTold, IsHalfTold}
+use Rattle.run_output.specs.Told.{Tells, IsCompared, IsTold, IsHalfTold}
 use Rattle.run_output.specs.declared.answer.Outcome.{Outcome}
-use Rattle.run_output.specs.declared.answer.Outcome.TheVariants.{Solved, Unsolved, Undecided}
+use Rattle.run_output.specs.declared.answer.Outcome.TheVariants.{Solved, Unsolved, Undecided, Stale}
+
+-- what is told of a comparison
+compared_meant : (problem : Problem) (numbers : List ℕ) (outcome : Outcome) (text : List ℕ) → IsCompared evidence problem numbers outcome text
+    → IsCompared meaning problem numbers outcome text
+compared_meant problem numbers Solved text t =
+    record { graph = t.graph; log = t.log; best = t.best.means; same = t.same; is_text = t.is_text }
+compared_meant problem numbers Stale text t =
+    record { graph = t.graph; log = t.log; best = t.best.means; less = t.less; is_text = t.is_text }
+compared_meant problem numbers Undecided text t = record { log = t.log; spent = t.spent.means; is_text = t.is_text }
+compared_meant problem numbers Unsolved text t = t
 
 -- what is told
 pub tells_meant : (task : Task) (outcome : Outcome) (text : List ℕ) → Tells evidence task outcome text → Tells meaning task outcome text
@@ -24,6 +34,9 @@ tells_meant (tasks.Explain input) outcome text t =
     record { explanation = t.explanation; explains = t.explains.means; is_outcome = t.is_outcome; is_text = t.is_text }
 tells_meant (tasks.Try input) outcome text t =
     record { answer = t.answer; found = t.found.means; is_outcome = t.is_outcome; is_text = t.is_text }
+tells_meant (tasks.Compare input numbers) outcome text t = compared_meant input.problem numbers outcome text t
+tells_meant (tasks.Find query) outcome text t = t
+tells_meant (tasks.Plan graph) outcome text t = t
 
 module _ (before after : Option Files) (said more : Option (List ℕ)) where
   told_meant : (task : Task) (outcome : Outcome) → IsTold evidence task outcome before after said more
@@ -39,45 +52,35 @@ module _ (before after : Option Files) (said more : Option (List ℕ)) where
       → IsFinished meaning lock cert task before after said more
   finished_meant lock cert (tasks.Solve input) s =
       record { graph = s.graph; log = s.log; best = s.best.means; files = s.files; out = s.out }
-  finished_meant lock cert (tasks.Report numbers) t = told_meant (tasks.Report numbers) Solved t
-  finished_meant lock cert tasks.Accepted t = told_meant tasks.Accepted Solved t
-  finished_meant lock cert (tasks.Explain input) t = told_meant (tasks.Explain input) Solved t
-  finished_meant lock cert (tasks.Try input) t = told_meant (tasks.Try input) Solved t
+  finished_meant lock cert other t = told_meant other Solved t
 
   -- Unsatisfiable
   pub none_meant : (cert : List ℕ) (task : Task) → HasNone evidence cert task before after said more
       → HasNone meaning cert task before after said more
   none_meant cert (tasks.Solve input) s = record { log = s.log; none = s.none.means; files = s.files; out = s.out }
-  none_meant cert (tasks.Report numbers) t = told_meant (tasks.Report numbers) Unsolved t
-  none_meant cert tasks.Accepted t = told_meant tasks.Accepted Unsolved t
-  none_meant cert (tasks.Explain input) t = told_meant (tasks.Explain input) Unsolved t
-  none_meant cert (tasks.Try input) t = told_meant (tasks.Try input) Unsolved t
+  none_meant cert other t = told_meant other Unsolved t
 
   -- Undecided
   pub spent_meant : (cert : List ℕ) (task : Task) → HasSpent evidence cert task before after said more
       → HasSpent meaning cert task before after said more
   spent_meant cert (tasks.Solve input) s = record { log = s.log; spent = s.spent.means; files = s.files; out = s.out }
-  spent_meant cert (tasks.Report numbers) t = told_meant (tasks.Report numbers) Undecided t
-  spent_meant cert tasks.Accepted t = told_meant tasks.Accepted Undecided t
-  spent_meant cert (tasks.Explain input) t = told_meant (tasks.Explain input) Undecided t
-  spent_meant cert (tasks.Try input) t = told_meant (tasks.Try input) Undecided t
+  spent_meant cert other t = told_meant other Undecided t
+
+  -- Stale
+  pub better_meant : (task : Task) → HasBetter evidence task before after said more → HasBetter meaning task before after said more
+  better_meant (tasks.Solve input) t = t
+  better_meant other t = told_meant other Stale t
 
   half_meant : (lock cert : List ℕ) (task : Task) (path : List ℕ) → IsHalfDone evidence lock cert task path before after
       → IsHalfDone meaning lock cert task path before after
   half_meant lock cert (tasks.Solve input) path h = record { answer = h.answer; found = h.found.means; half = h.half }
-  half_meant lock cert (tasks.Report numbers) path h = absurd h
-  half_meant lock cert tasks.Accepted path h = absurd h
-  half_meant lock cert (tasks.Explain input) path h = absurd h
-  half_meant lock cert (tasks.Try input) path h = absurd h
+  half_meant lock cert other path h = absurd h
 
   untold_meant : (lock cert : List ℕ) (task : Task) → IsUntold evidence lock cert task before after said more
       → IsUntold meaning lock cert task before after said more
   untold_meant lock cert (tasks.Solve input) u =
       record { answer = u.answer; found = u.found.means; files = u.files; out = u.out }
-  untold_meant lock cert (tasks.Report numbers) t = half_told_meant (tasks.Report numbers) t
-  untold_meant lock cert tasks.Accepted t = half_told_meant tasks.Accepted t
-  untold_meant lock cert (tasks.Explain input) t = half_told_meant (tasks.Explain input) t
-  untold_meant lock cert (tasks.Try input) t = half_told_meant (tasks.Try input) t
+  untold_meant lock cert other t = half_told_meant other t
 
   -- what writing leaves
   pub writes_meant : (lock cert : List ℕ) (task : Task) (result : Result Outcome WriteStop)
@@ -85,6 +88,7 @@ module _ (before after : Option Files) (said more : Option (List ℕ)) where
   writes_meant lock cert task (Ok Solved) left = finished_meant lock cert task left
   writes_meant lock cert task (Ok Unsolved) left = none_meant cert task left
   writes_meant lock cert task (Ok Undecided) left = spent_meant cert task left
+  writes_meant lock cert task (Ok Stale) left = better_meant task left
   writes_meant lock cert task (Err (Put at)) left = (half_meant lock cert task at left.0, left.1)
   writes_meant lock cert task (Err Output) left = untold_meant lock cert task left
   writes_meant lock cert task (Err NoMemory) left = left
@@ -93,7 +97,4 @@ module _ (before after : Option Files) (said more : Option (List ℕ)) where
 pub whole_meant : (lock cert : List ℕ) (task : Task) (before after : Option Files) → KeepsWhole evidence lock cert task before after
     → KeepsWhole meaning lock cert task before after
 whole_meant lock cert (tasks.Solve input) before after w = record { answer = w.answer; found = w.found.means; held = w.held }
-whole_meant lock cert (tasks.Report numbers) before after w = absurd w
-whole_meant lock cert tasks.Accepted before after w = absurd w
-whole_meant lock cert (tasks.Explain input) before after w = absurd w
-whole_meant lock cert (tasks.Try input) before after w = absurd w
+whole_meant lock cert other before after w = absurd w

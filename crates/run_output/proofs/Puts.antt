@@ -9,7 +9,7 @@ use Rattle.run_task.specs.Answers.{log_of}
 use Rattle.run_task.specs.Answer.{Answer}
 use Rattle.run_task.specs.Answer.TheVariants as answers
 use Rattle.run_output.specs.Locks.{lock_of}
-use Rattle.run_task.specs.Words.{is_dash}
+use Rattle.run_task.specs.Words.{is_dash_path}
 use Rattle.run_task.specs.Problems.{Problem}
 use Rattle.run_task.specs.WriteStop.{WriteStop}
 use Rattle.run_task.specs.WriteStop.TheVariants.{Put, Output, NoMemory}
@@ -23,13 +23,13 @@ carried stop (Err given) h = ap Err h
 -- ---- the certificate
 
 -- none is put
-pub no_cert : (cert : List ℕ) (log : List Line) (before after : Option Files) → is_dash cert ≡ true → after ≡ before
+pub no_cert : (cert : List ℕ) (log : List Line) (before after : Option Files) → is_dash_path cert ≡ true → after ≡ before
     → after ≡ with_cert cert log before
 no_cert cert log before after dash same = same ∙ sym (ap (λ b. with_cert_by b cert log before) dash)
 
 -- one is put
 pub cert_put : (cert : List ℕ) (log : List Line) (text : List ℕ) (before after : Option Files) (result : Result (Unit {0}) WriteStop)
-    → is_dash cert ≡ false → text ≡ log_text log → Puts cert text before after result → PutsCert cert log before after result
+    → is_dash_path cert ≡ false → text ≡ log_text log → Puts cert text before after result → PutsCert cert log before after result
 cert_put cert log text before after (Ok done) dash is left =
     left ∙ ap (with_file before cert) is ∙ sym (ap (λ b. with_cert_by b cert log before) dash)
 cert_put cert log text before after (Err (Put at)) dash is (same, held) =
@@ -39,7 +39,7 @@ cert_put cert log text before after (Err NoMemory) dash is left = tt
 
 -- the certificate alone was put
 pub cert_held : (cert : List ℕ) (log : List Line) (text : List ℕ) (before after : Option Files)
-    → is_dash cert ≡ false → text ≡ log_text log → MayHold before after cert text → (after ≡ before) ⊎ MayCert cert log before after
+    → is_dash_path cert ≡ false → text ≡ log_text log → MayHold before after cert text → (after ≡ before) ⊎ MayCert cert log before after
 cert_held cert log text before after dash is held = inr (dash, subst (λ (t : List ℕ). MayHold before after cert t) is held)
 
 -- ---- the certificate, and then the lock file

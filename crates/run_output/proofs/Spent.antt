@@ -37,3 +37,6 @@ spent_below cert (tasks.Explain input) before after said more spent =
     let t = spent.tells in of_explanation input.problem t.explanation t.explains t.is_outcome
 spent_below cert (tasks.Try input) before after said more spent =
     let t = spent.tells in of_answer input.problem t.answer t.found t.is_outcome
+spent_below cert (tasks.Compare input numbers) before after said more spent = spent.tells.spent.1
+spent_below cert (tasks.Find query) before after said more spent = absurd (let e = spent.tells.is_outcome in cc)
+spent_below cert (tasks.Plan graph) before after said more spent = absurd (let e = spent.tells.is_outcome in cc)

@@ -15,25 +15,17 @@ use Rattle.run_output.specs.Evidence.{evidence}
 use Rattle.run_output.specs.Texts.{is_learnt}
 use Rattle.run_output.specs.Told.{Tells, IsHalfTold}
 use Rattle.run_output.specs.declared.answer.Outcome.{Outcome}
-use Rattle.run_output.specs.declared.answer.Outcome.TheVariants.{Solved, Unsolved, Undecided}
+use Rattle.run_output.specs.declared.answer.Outcome.TheVariants.{Solved, Unsolved, Undecided, Stale}
 
 module _ (lock cert : List ℕ) (files : Option Files) (said more : Option (List ℕ)) (text : List ℕ) where
   -- what was said whole
   pub told_writes : (task : Task) (outcome : Outcome) → Tells evidence task outcome text → more ≡ and_said said text
       → Writes evidence lock cert task files files said more (Ok outcome)
   told_writes (tasks.Solve input) outcome tells out = absurd tells
-  told_writes (tasks.Report numbers) Solved tells out = record { text = text; tells = tells; files = refl; out = out }
-  told_writes (tasks.Report numbers) Unsolved tells out = record { text = text; tells = tells; files = refl; out = out }
-  told_writes (tasks.Report numbers) Undecided tells out = record { text = text; tells = tells; files = refl; out = out }
-  told_writes tasks.Accepted Solved tells out = record { text = text; tells = tells; files = refl; out = out }
-  told_writes tasks.Accepted Unsolved tells out = record { text = text; tells = tells; files = refl; out = out }
-  told_writes tasks.Accepted Undecided tells out = record { text = text; tells = tells; files = refl; out = out }
-  told_writes (tasks.Explain input) Solved tells out = record { text = text; tells = tells; files = refl; out = out }
-  told_writes (tasks.Explain input) Unsolved tells out = record { text = text; tells = tells; files = refl; out = out }
-  told_writes (tasks.Explain input) Undecided tells out = record { text = text; tells = tells; files = refl; out = out }
-  told_writes (tasks.Try input) Solved tells out = record { text = text; tells = tells; files = refl; out = out }
-  told_writes (tasks.Try input) Unsolved tells out = record { text = text; tells = tells; files = refl; out = out }
-  told_writes (tasks.Try input) Undecided tells out = record { text = text; tells = tells; files = refl; out = out }
+  told_writes other Solved tells out = record { text = text; tells = tells; files = refl; out = out }
+  told_writes other Unsolved tells out = record { text = text; tells = tells; files = refl; out = out }
+  told_writes other Undecided tells out = record { text = text; tells = tells; files = refl; out = out }
+  told_writes other Stale tells out = record { text = text; tells = tells; files = refl; out = out }
 
   half_told : (task : Task) (outcome : Outcome) → Tells evidence task outcome text → SaysPart said more text → IsHalfTold evidence task files files said more
   half_told task outcome tells part = record { outcome = outcome; text = text; tells = tells; files = refl; out = part }
@@ -43,10 +35,7 @@ module _ (lock cert : List ℕ) (files : Option Files) (said more : Option (List
       → Writes evidence lock cert task files files said more (Err stop)
   told_stops task outcome (Put at) tells says = absurd says
   told_stops (tasks.Solve input) outcome Output tells says = absurd tells
-  told_stops (tasks.Report numbers) outcome Output tells says = half_told (tasks.Report numbers) outcome tells says
-  told_stops tasks.Accepted outcome Output tells says = half_told tasks.Accepted outcome tells says
-  told_stops (tasks.Explain input) outcome Output tells says = half_told (tasks.Explain input) outcome tells says
-  told_stops (tasks.Try input) outcome Output tells says = half_told (tasks.Try input) outcome tells says
+  told_stops other outcome Output tells says = half_told other outcome tells says
   told_stops task outcome NoMemory tells says = says
 
 -- ---- trials

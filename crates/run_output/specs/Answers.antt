@@ -9,13 +9,13 @@ use Rattle.run_task.specs.Answers.{log_of}
 use Rattle.run_task.specs.Answer.{Answer}
 use Rattle.run_task.specs.Answer.TheVariants as answers
 use Rattle.run_output.specs.Locks.{lock_of}
-use Rattle.run_task.specs.Words.{is_dash}
+use Rattle.run_task.specs.Words.{is_dash_path}
 use Rattle.run_task.specs.WriteStop.{WriteStop}
 use Rattle.run_task.specs.WriteStop.TheVariants as writes
 use Rattle.run_task.specs.declared.task.Task.{Task}
 use Rattle.run_task.specs.declared.task.Task.TheVariants as tasks
 use Rattle.run_output.specs.Senses.{Sense}
-use Rattle.run_output.specs.Texts.{graph_text, text_of, outcome_of, unsatisfiable_line, undecided_line}
+use Rattle.run_output.specs.Texts.{graph_text, text_of_answer, outcome_of, unsatisfiable_line, undecided_line}
 use Rattle.run_output.specs.Told.{IsTold, IsHalfTold}
 use Rattle.run_output.specs.declared.answer.Outcome.{Outcome}
 use Rattle.run_output.specs.declared.answer.Outcome.TheVariants as outcomes
@@ -28,7 +28,7 @@ with_cert_by false cert log files = with_file files cert (log_text log)
 
 -- the certificate is put, unless its path is `-`
 abbrev pub with_cert : List ℕ → List Line → Option Files → Option Files
-with_cert cert log files = with_cert_by (is_dash cert) cert log files
+with_cert cert log files = with_cert_by (is_dash_path cert) cert log files
 
 -- the certificate, and then the lock file of the graph
 abbrev pub with_both : List ℕ → List ℕ → Problem → Content → List Line → Option Files → Option Files
@@ -42,7 +42,7 @@ files_with lock cert problem (answers.Undecided log) files = with_cert cert log 
 
 -- the certificate is as it was, or holds its text
 abbrev pub MayCert : List ℕ → List Line → Option Files → Option Files → Type 0
-MayCert cert log before after = (is_dash cert ≡ false) × MayHold before after cert (log_text log)
+MayCert cert log before after = (is_dash_path cert ≡ false) × MayHold before after cert (log_text log)
 
 -- the lock file is as it was, or holds its text
 abbrev pub MayLock : List ℕ → Problem → Answer → Option Files → Option Files → Type 0
@@ -96,11 +96,11 @@ abbrev pub Leaves : List ℕ → List ℕ → Problem → Answer → Option File
     → Result Outcome WriteStop → Type 0
 Leaves lock cert problem answer before after out_before out_after (Ok outcome) =
     (outcome ≡ outcome_of answer) × (after ≡ files_with lock cert problem answer before)
-    × (out_after ≡ and_said out_before (text_of problem answer))
+    × (out_after ≡ and_said out_before (text_of_answer problem answer))
 Leaves lock cert problem answer before after out_before out_after (Err (writes.Put at)) =
     IsHalfPut lock cert problem answer at before after × (out_after ≡ out_before)
 Leaves lock cert problem answer before after out_before out_after (Err writes.Output) =
-    (after ≡ files_with lock cert problem answer before) × SaysPart out_before out_after (text_of problem answer)
+    (after ≡ files_with lock cert problem answer before) × SaysPart out_before out_after (text_of_answer problem answer)
 Leaves lock cert problem answer before after out_before out_after (Err writes.NoMemory) = out_after ≡ out_before
 
 -- ---- answers of `concretize`
@@ -124,7 +124,7 @@ pub record IsUnsolved (sense : Sense) (cert : List ℕ) (problem : Problem) (bef
   pub out : out_after ≡ and_said out_before unsatisfiable_line
 
 -- The budget of the settings was spent (`spent`; as evidence, the log shows it); CERT holds the log
-pub record IsUndecided (sense : Sense) (cert : List ℕ) (problem : Problem) (before after : Option Files)
+pub record IsBudgetSpent (sense : Sense) (cert : List ℕ) (problem : Problem) (before after : Option Files)
     (out_before out_after : Option (List ℕ)) : Type 0 where
   pub log : List Line
   pub spent : sense.answers problem (answers.Undecided log)
@@ -143,7 +143,7 @@ pub record IsUnsaid (sense : Sense) (lock cert : List ℕ) (problem : Problem) (
   pub answer : Answer
   pub found : sense.answers problem answer
   pub files : after ≡ files_with lock cert problem answer before
-  pub out : SaysPart out_before out_after (text_of problem answer)
+  pub out : SaysPart out_before out_after (text_of_answer problem answer)
 
 -- at any end, each file is as it was, or holds its text
 pub record HasWhole (sense : Sense) (lock cert : List ℕ) (problem : Problem) (before after : Option Files) : Type 0 where
@@ -166,8 +166,13 @@ HasNone sense cert task before after out_before out_after = IsTold sense task ou
 
 -- the budget was spent
 abbrev pub HasSpent : Sense → List ℕ → Task → Option Files → Option Files → Option (List ℕ) → Option (List ℕ) → Type 0
-HasSpent sense cert (tasks.Solve input) before after out_before out_after = IsUndecided sense cert input.problem before after out_before out_after
+HasSpent sense cert (tasks.Solve input) before after out_before out_after = IsBudgetSpent sense cert input.problem before after out_before out_after
 HasSpent sense cert task before after out_before out_after = IsTold sense task outcomes.Undecided before after out_before out_after
+
+-- the lock file is right, and a better graph was found: `fresh` alone says so
+abbrev pub HasBetter : Sense → Task → Option Files → Option Files → Option (List ℕ) → Option (List ℕ) → Type 0
+HasBetter sense (tasks.Solve input) before after out_before out_after = ⊥
+HasBetter sense task before after out_before out_after = IsTold sense task outcomes.Stale before after out_before out_after
 
 -- a put at the path failed
 abbrev pub IsHalfDone : Sense → List ℕ → List ℕ → Task → List ℕ → Option Files → Option Files → Type 0
@@ -186,6 +191,7 @@ abbrev pub Writes : Sense → List ℕ → List ℕ → Task → Option Files �
 Writes sense lock cert task before after out_before out_after (Ok outcomes.Solved) = IsFinished sense lock cert task before after out_before out_after
 Writes sense lock cert task before after out_before out_after (Ok outcomes.Unsolved) = HasNone sense cert task before after out_before out_after
 Writes sense lock cert task before after out_before out_after (Ok outcomes.Undecided) = HasSpent sense cert task before after out_before out_after
+Writes sense lock cert task before after out_before out_after (Ok outcomes.Stale) = HasBetter sense task before after out_before out_after
 Writes sense lock cert task before after out_before out_after (Err (writes.Put at)) =
     IsHalfDone sense lock cert task at before after × (out_after ≡ out_before)
 Writes sense lock cert task before after out_before out_after (Err writes.Output) = IsUntold sense lock cert task before after out_before out_after

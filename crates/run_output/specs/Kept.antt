@@ -20,7 +20,7 @@ pub record IsLogOf (problem : Problem) (kept : List Line) : Type 0 where
   pub found : IsFor problem answer
   pub lines : kept ≡ log_of answer
 
--- the log of what was searched for the task; of a task that has no search, and of one that explains, no line
+-- the log of what was searched for the task; of a task that has no search, and of one that explains or compares, no line
 abbrev pub HoldsLog : Task → List Line → Type 0
 HoldsLog (tasks.Solve input) kept = IsLogOf input.problem kept
 HoldsLog (tasks.Try input) kept = IsLogOf input.problem kept

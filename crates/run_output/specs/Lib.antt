@@ -24,6 +24,7 @@ pub use Rattle.run_task.specs.Words
 pub use Rattle.run_task.specs.Reading
 pub use Rattle.run_task.specs.Work
 pub use Rattle.run_task.specs.Input
+pub use Rattle.run_task.specs.Query
 pub use Rattle.run_task.specs.Roots
 pub use Rattle.run_task.specs.CertificateVerdicts
 pub use Rattle.run_task.specs.Certificates
@@ -31,4 +32,6 @@ pub use Rattle.run_task.specs.Tasks
 pub use Rattle.run_task.specs.Shown
 pub use Rattle.run_task.specs.declared.task.Task
 pub use Rattle.run_task.specs.Answer
+pub use Rattle.run_task.specs.Explanation
+pub use Rattle.run_task.specs.Problems
 pub use Rattle.proof_log.specs.declared.line.Line

@@ -27,10 +27,10 @@ undecided_line budget = codes "undecided " ++ (decimal budget ++ 10 ∷ [])
 abbrev pub graph_text : Problem → Content → List ℕ
 graph_text problem graph = report_text graph.nodes (vector problem graph)
 
-abbrev pub text_of : Problem → Answer → List ℕ
-text_of problem (answers.Best graph log) = graph_text problem graph
-text_of problem (answers.Nothing log) = unsatisfiable_line
-text_of problem (answers.Undecided log) = undecided_line problem.settings.conflict_budget
+abbrev pub text_of_answer : Problem → Answer → List ℕ
+text_of_answer problem (answers.Best graph log) = graph_text problem graph
+text_of_answer problem (answers.Nothing log) = unsatisfiable_line
+text_of_answer problem (answers.Undecided log) = undecided_line problem.settings.conflict_budget
 
 abbrev pub outcome_of : Answer → Outcome
 outcome_of (answers.Best graph log) = outcomes.Solved
@@ -42,6 +42,14 @@ outcome_of (answers.Undecided log) = outcomes.Undecided
 -- what is said of a lock file whose graph is valid
 unfoldable pub verdict_text : List ℕ → List ℕ
 verdict_text numbers = codes "valid\n" ++ vector_line numbers
+
+-- of one that is still the best
+unfoldable pub fresh_text : List ℕ → List ℕ
+fresh_text numbers = codes "fresh\n" ++ vector_line numbers
+
+-- of one that is not: the costs of a better graph
+unfoldable pub stale_text : List ℕ → List ℕ
+stale_text numbers = codes "stale\n" ++ vector_line numbers
 
 -- and of a certificate that is right
 unfoldable pub accepted_line : List ℕ

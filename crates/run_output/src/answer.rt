@@ -11,8 +11,11 @@ ghost use Rattle.run_output.specs.Evidence.{evidence};
 ghost use Rattle.run_output.specs.Kept.{KeepsAny};
 ghost use Rattle.run_output.specs.Told.{Tells};
 
+use crate::comparison::of_comparison;
 use crate::find::{find, log_of};
 use crate::found::write_found;
+use crate::order::of_graph;
+use crate::packages::of_query;
 use crate::said::{Said, of_certificate, of_reasons, of_trial, of_verdict};
 use crate::told::say;
 use outside_desk::{Desk, Sink};
@@ -29,6 +32,8 @@ pub enum Outcome {
     Unsolved,
     /// The budget was spent.
     Undecided,
+    /// The lock file is right, and a better graph was found.
+    Stale,
 }
 
 /// Finds and writes the answer of a problem.
@@ -121,6 +126,18 @@ pub fn write_answer<D: Desk, O: Sink, P: Progress>(
         }
         Task::Try(input) => {
             let said = of_trial(alloc, input, kept, progress)?;
+            tell(alloc, task, said, out)
+        }
+        Task::Compare(input, numbers) => {
+            let said = of_comparison(alloc, input, numbers, progress)?;
+            tell(alloc, task, said, out)
+        }
+        Task::Find(query) => {
+            let said = of_query(alloc, query)?;
+            tell(alloc, task, said, out)
+        }
+        Task::Plan(graph) => {
+            let said = of_graph(alloc, graph)?;
             tell(alloc, task, said, out)
         }
     }

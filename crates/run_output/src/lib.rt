@@ -4,14 +4,18 @@
 //! a valid graph.
 //! What it promises: the files and the lines are those of an answer of the problem; what stands after a fault. A valid graph can be
 //! written, since the rules demand it.
-//! What it stands on: `run_task` for what is asked and for the answer, `graph_rules` for validity, `lock_writer` for the lock file.
+//! What it stands on: `run_task` for what is asked and for the answer, `graph_rules` for validity, `lock_writer` for the lock file,
+//! `spec_find` for installed packages that are looked for, `install_plan` for the order of a build.
 //! What it must not know: words, and how the problem was read.
 #![tactic(auto)]
 
 mod answer;
+mod comparison;
 mod find;
 mod found;
 mod lock;
+mod order;
+mod packages;
 mod put;
 mod report;
 mod said;

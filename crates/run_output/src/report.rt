@@ -2,9 +2,11 @@
 
 ghost use Rattle.std.specs.Prelude.{◌≡◌, ◌++◌, ◌∷◌, [], None, IfOk, OnOk, codes, decimal};
 ghost use Rattle.graph_core.specs.declared.node.Origin.TheVariants.{External, Installed};
-ghost use Rattle.run_output.specs.Report.{compiler_text, label_text, machine_text, node_line, origin_text, report_text, vector_line, worked_node};
+ghost use Rattle.run_output.specs.Report.{compiler_text, label_text, machine_text, node_line, origin_text, place_text, record_line, report_text, vector_line, worked_node};
 
 use graph_core::{Compiler, Node, Origin};
+use reuse_db::Record;
+use spec_find::installed_node;
 use spec_grammar::write_variants;
 use std::alloc::{AllocError, Global};
 
@@ -60,15 +62,23 @@ fn write_origin(alloc: Global, origin: &Origin, out: &mut Vec<u8>) -> Result<(),
     }
 }
 
-/// The machine of a node, and the end of its line.
-#[tactic(auto, unfolding(crate::specs::Report::machine_text))]
-fn write_machine(alloc: Global, node: &Node, out: &mut Vec<u8>) -> Result<(), AllocError>
-    ensures { OnOk result (out.new.items ≡ out.old.items ++ machine_text node.now) }
+/// The OS and the target of a node.
+#[tactic(auto, unfolding(crate::specs::Report::place_text))]
+fn write_place(node: &Node, out: &mut Vec<u8>) -> Result<(), AllocError>
+    ensures { OnOk result (out.new.items ≡ out.old.items ++ place_text node.now) }
 {
     out.extend_from_slice(b" os=")?;
     out.extend_from_slice(node.os.as_str().as_bytes())?;
     out.extend_from_slice(b" target=")?;
-    out.extend_from_slice(node.target.as_str().as_bytes())?;
+    out.extend_from_slice(node.target.as_str().as_bytes())
+}
+
+/// The machine of a node, where it comes from, and the end of its line.
+#[tactic(auto, unfolding(crate::specs::Report::machine_text))]
+fn write_machine(alloc: Global, node: &Node, out: &mut Vec<u8>) -> Result<(), AllocError>
+    ensures { OnOk result (out.new.items ≡ out.old.items ++ machine_text node.now) }
+{
+    write_place(node, out)?;
     write_origin(alloc, &node.origin, out)?;
     out.extend_from_slice(b"\n")
 }
@@ -81,6 +91,25 @@ fn write_node(alloc: Global, node: &Node, out: &mut Vec<u8>) -> Result<(), Alloc
     write_variants(node.variants.as_slice(), out)?;
     write_compiler(&node.compiler, out)?;
     write_machine(alloc, node, out)
+}
+
+/// The line of an installed package: its hash, and its node.
+#[tactic(auto, unfolding(crate::specs::Report::record_line))]
+pub(crate) fn write_record(
+    alloc: Global,
+    entry: &Record,
+    out: &mut Vec<u8>,
+) -> Result<(), AllocError>
+    ensures { OnOk result (out.new.items ≡ out.old.items ++ record_line entry.now) }
+{
+    let node = installed_node(alloc, entry)?;
+    out.extend_from_slice(entry.hash.as_str().as_bytes())?;
+    out.extend_from_slice(b" ")?;
+    write_label(&node, out)?;
+    write_variants(node.variants.as_slice(), out)?;
+    write_compiler(&node.compiler, out)?;
+    write_place(&node, out)?;
+    out.extend_from_slice(b" installed\n")
 }
 
 #[tactic(auto, unfolding(crate::specs::Report::vector_line))]

@@ -4,7 +4,7 @@ ghost use Rattle.std.specs.Prelude.{◌≡◌, IfOk, OnOk};
 ghost use Rattle.outside_desk.specs.Causes.{Counts};
 ghost use Rattle.run_task.specs.Stops.{EndsInPutFault, EndsInOutputFault};
 ghost use Rattle.run_output.specs.Answers.{SaysText};
-ghost use Rattle.run_output.specs.Texts.{graph_text, text_of, undecided_line, unsatisfiable_line, verdict_text};
+ghost use Rattle.run_output.specs.Texts.{graph_text, text_of_answer, undecided_line, unsatisfiable_line, verdict_text};
 
 use crate::report::{report_text, write_vector};
 use graph_core::Graph;
@@ -59,7 +59,7 @@ pub fn budget_of(problem: &Problem) -> u64
 
 /// What is said of an answer.
 pub fn answer_text(alloc: Global, problem: &Problem, answer: &Answer) -> Result<Vec<u8>, AllocError>
-    ensures { IfOk result (λ text. text.items ≡ text_of problem.now answer.now) }
+    ensures { IfOk result (λ text. text.items ≡ text_of_answer problem.now answer.now) }
 {
     match answer {
         Answer::Best { graph, .. } => graph_text(alloc, problem, graph),

@@ -15,7 +15,7 @@ use Rattle.proof_log.specs.Texts.{IsLine, may_write}
 use Rattle.proof_log.specs.Readings.{log_text, AreWritable}
 use Rattle.log_checker.specs.declared.step.Step.TheVariants.{Accepted}
 use Rattle.log_checker.specs.Kinds.{IsLogOf}
-use Rattle.log_checker.specs.Steps.{State, Going, start, begun, run, finish_on}
+use Rattle.log_checker.specs.Steps.{CheckerState, Going, starting_state, begun, run_lines, finish_on}
 use Rattle.certified.specs.Texts.{answer_of}
 use Rattle.certified.specs.declared.text.TextAnswer.TheVariants.{Checked}
 use Rattle.problem.specs.Problems.{Problem}
@@ -27,7 +27,7 @@ use Rattle.run_answers.specs.declared.line_fault.LineFault.TheVariants as faults
 use Rattle.best_graph.specs.Answers.{IsAnswer}
 use Rattle.best_graph.specs.OfProblemEncoding.Built.{encoding_of, rule_clauses}
 use Rattle.best_graph.specs.Verdicts.{BestIsCertified, NothingIsRefuted}
-use Rattle.run_task.specs.Certificates.{begun_for, said_at, said_of, certified_at, verdict_of, most}
+use Rattle.run_task.specs.Certificates.{begun_for, said_at, said_of_text, certified_at, verdict_on_text, most}
 use Rattle.run_task.proofs.Reading.{said_short}
 use Rattle.run_task.specs.Again.{AreKept, HoldsLog, BestIsAccepted, NothingIsAccepted}
 
@@ -35,11 +35,12 @@ use Rattle.run_task.specs.Again.{AreKept, HoldsLog, BestIsAccepted, NothingIsAcc
 abbrev pub AcceptsLines : Type 0
 AcceptsLines = (vars : ℕ) (input : List (List Lit)) (bits : List Lit) (values : Option (List Bool)) (lines : List Line) → AllClauses input
     → AllLines (λ l. OfLearnt IsClause l) lines
-    → (finish_on (run (Going (start vars input bits values)) lines) ≡ Accepted) ↔ IsLogOf vars input bits values lines
+    → (finish_on (run_lines (Going (starting_state vars input bits values)) lines) ≡ Accepted) ↔ IsLogOf vars input bits values lines
 
 -- what answers say of their logs
 abbrev pub AnswersWritten : Type 0
-AnswersWritten = (s : State) (lines : List Line) → AreWritable lines → answer_of s (log_text lines) ≡ Checked (finish_on (run (Going s) lines))
+AnswersWritten = (s : CheckerState) (lines : List Line) → AreWritable lines
+    → answer_of s (log_text lines) ≡ Checked (finish_on (run_lines (Going s) lines))
 
 learnt_of : (line : Line) → IsLine line → OfLearnt IsClause line
 learnt_of (Header vars clauses bits) is = tt
@@ -61,16 +62,16 @@ writable (l ∷ ls) are may = ((are.0, may.0), writable ls are.1 may.1)
 module _ (accepts : AcceptsLines) (written : AnswersWritten) (s : Clauses) (bits : List Lit) (log : List Line)
     (kept : AreKept s log) (may : AllLines (λ l. may_write l ≡ true) log) (values : Option (List Bool))
     (is : IsLogOf s.vars (clauses_of s.entries) bits values log) where
-  said_text : length (log_text log) ≤ most → said_of (begun s bits values) (log_text log) ≡ Ok tt
+  said_text : length (log_text log) ≤ most → said_of_text (begun s bits values) (log_text log) ≡ Ok tt
   said_text short =
       said_short (begun s bits values) (log_text log) short
-      ∙ ap verdict_of (written (begun s bits values) log (writable log kept.lines may)
+      ∙ ap verdict_on_text (written (begun s bits values) log (writable log kept.lines may)
       ∙ ap Checked ((accepts s.vars (clauses_of s.entries) bits values log kept.ordered (all_learnt log kept.lines)).1 is))
 
   said_file : (files : Files) (path : List ℕ) → HoldsLog files path log → said_at files path (begun s bits values) ≡ Ok tt
   unfolding said_at
   said_file files path holds =
-      ap (λ (o : Option (List ℕ)). or_refuse (refusals.MissingInput path) o >>= λ text. said_of (begun s bits values) text) holds.there
+      ap (λ (o : Option (List ℕ)). or_refuse (refusals.MissingInput path) o >>= λ text. said_of_text (begun s bits values) text) holds.there
       ∙ said_text holds.short
 
   -- the file is a right certificate of the costs that begin such a checker
@@ -79,7 +80,7 @@ module _ (accepts : AcceptsLines) (written : AnswersWritten) (s : Clauses) (bits
       → certified_at files path problem numbers ≡ Ok tt
   unfolding certified_at
   accepted_by problem files path holds numbers begin =
-      ap (λ (o : Option State). or_refuse (refusals.BadCertificate 1 faults.WrongBit) o >>= λ s. said_at files path s) begin
+      ap (λ (o : Option CheckerState). or_refuse (refusals.BadCertificate 1 faults.WrongBit) o >>= λ s. said_at files path s) begin
       ∙ said_file files path holds
 
 pub best_accepted : AcceptsLines → AnswersWritten → BestIsCertified → BestIsAccepted

@@ -1,6 +1,7 @@
 pub mod One
 pub mod Elements
 pub mod ValidLocks
+pub mod Acyclic
 pub mod Reading
 pub mod Next
 pub mod Shown

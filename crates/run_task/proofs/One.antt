@@ -7,11 +7,11 @@ use Rattle.lockfile.specs.declared.fault.LockFault.{LockFault}
 use Rattle.lockfile.specs.declared.fault.LockFault.TheVariants.{OutOfMemory}
 use Rattle.lockfile.specs.declared.lock.Lock.{Lock}
 use Rattle.problem.specs.Problems.{Problem}
-use Rattle.run_input.specs.Stages.{Is}
+use Rattle.run_input.specs.Stages.{Is, Then}
 use Rattle.run_input.specs.Refusal.TheVariants.{BadLock}
 use Rattle.run_input.proofs.StageLaws.{IsOne, one_is, one_then}
 use Rattle.run_task.specs.Locks.{lock_bytes, LockIn, LockAt}
-use Rattle.run_task.specs.Verdicts.{judged, Judges}
+use Rattle.run_task.specs.Verdicts.{judged, GraphAt, Judges}
 
 -- what holds of reading lock files
 pub record ReadsOnce : Type 0 where
@@ -33,3 +33,9 @@ one_lock laws files path = one_then (Is (lock_bytes files path)) LockIn (one_is 
 pub one_verdict : ReadsOnce → (files : Files) (path : List ℕ) (problem : Problem) → IsOne (Judges files path problem)
 one_verdict laws files path problem =
     one_then (LockAt files path) (λ lock. Is (judged problem lock)) (one_lock laws files path) (λ lock. one_is (judged problem lock))
+
+-- and of its graph
+pub one_graph : ReadsOnce → (files : Files) (path : List ℕ) (problem : Problem) → IsOne (GraphAt files path problem)
+one_graph laws files path problem =
+    one_then (LockAt files path) (λ lock. Then (Is (judged problem lock)) (λ numbers. Is (Ok lock.graph))) (one_lock laws files path)
+    (λ lock. one_then (Is (judged problem lock)) (λ numbers. Is (Ok lock.graph)) (one_is (judged problem lock)) (λ numbers. one_is (Ok lock.graph)))

@@ -8,7 +8,7 @@ use Rattle.clause_store.specs.Clauses.{Clauses, clauses_of}
 use Rattle.proof_log.specs.declared.line.Line.{Line}
 use Rattle.proof_log.specs.Known.{AllClauses}
 use Rattle.proof_log.specs.Readings.{reading, AtLineStart}
-use Rattle.log_checker.specs.Steps.{State, begun}
+use Rattle.log_checker.specs.Steps.{CheckerState, begun}
 use Rattle.log_checker.specs.Kinds.{IsLogOf}
 use Rattle.log_checker.specs.declared.step.Step.TheVariants as steps
 use Rattle.log_checker.specs.declared.step.Step.TheVariants.{Accepted}
@@ -29,7 +29,7 @@ use Rattle.best_graph.specs.OfProblemEncoding.Built.{encoding_of, rule_clauses}
 use Rattle.best_graph.specs.OfProblemEncoding.Encodings.{IsEncoded, RulesDecode}
 use Rattle.best_graph.specs.OfProblemEncoding.Encoded.{Encoded}
 use Rattle.best_graph.specs.Verdicts.{CertifiedIsOptimal, RefutedHasNoGraph}
-use Rattle.run_task.specs.Certificates.{said_of, said_at, certified_at, begun_for, verdict_of, most, ShowsOf}
+use Rattle.run_task.specs.Certificates.{said_of_text, said_at, certified_at, begun_for, verdict_on_text, most, ShowsOf}
 
 -- what an accepted text says
 abbrev pub TellsLog : Type 0
@@ -37,21 +37,22 @@ TellsLog = (s : Clauses) (bits : List Lit) (values : Option (List Bool)) (text :
     → (answer_of (begun s bits values) text ≡ Checked Accepted)
     ↔ ((reading text).failed ≡ false × AtLineStart text × IsLogOf s.vars (clauses_of s.entries) bits values (reading text).lines)
 
-accepted : (answer : TextAnswer) → verdict_of answer ≡ Ok tt → answer ≡ Checked Accepted
+accepted : (answer : TextAnswer) → verdict_on_text answer ≡ Ok tt → answer ≡ Checked Accepted
 accepted (Checked Accepted) e = refl
 accepted (Checked (steps.Refused line why)) e = absurd (cc)
 accepted (BadLine line) e = absurd (cc)
 
-accepted_by : (b : Bool) (answer : TextAnswer) → cond b (verdict_of answer) (Err refusals.CertificateTooLarge) ≡ Ok tt
+accepted_by : (b : Bool) (answer : TextAnswer) → cond b (verdict_on_text answer) (Err refusals.CertificateTooLarge) ≡ Ok tt
     → answer ≡ Checked Accepted
 accepted_by true answer e = accepted answer e
 accepted_by false answer e = absurd (cc)
 
-said_accepted : (s : State) (text : List ℕ) → said_of s text ≡ Ok tt → answer_of s (take most text) ≡ Checked Accepted
-unfolding said_of
+said_accepted : (s : CheckerState) (text : List ℕ) → said_of_text s text ≡ Ok tt → answer_of s (take most text) ≡ Checked Accepted
+unfolding said_of_text
 said_accepted s text e = accepted_by (nat_le (length text) most || is_settled_by s (take most text)) (answer_of s (take most text)) e
 
-found_accepted : (s : State) (missing : Refusal) (file : Option (List ℕ)) → (or_refuse missing file >>= λ text. said_of s text) ≡ Ok tt
+found_accepted : (s : CheckerState) (missing : Refusal) (file : Option (List ℕ))
+    → (or_refuse missing file >>= λ text. said_of_text s text) ≡ Ok tt
     → (text : List ℕ) × (answer_of s text ≡ Checked Accepted)
 found_accepted s missing None e = absurd (cc)
 found_accepted s missing (Some text) e = (take most text, said_accepted s text e)
@@ -82,13 +83,14 @@ shown_some problem e numbers values law encoded spelled ordered (lines, log) = �
 -- ---- the answer of a check, by what it began with
 
 module _ (path : List ℕ) (problem : Problem) (numbers : Option (List ℕ)) (before : Option Files) where
-  begun_as : (files : Files) (o : Option State) → begun_for problem numbers ≡ o
+  begun_as : (files : Files) (o : Option CheckerState) → begun_for problem numbers ≡ o
       → (or_refuse (refusals.BadCertificate 1 faults.WrongBit) o >>= λ s. said_at files path s) ≡ certified_at files path problem numbers
   unfolding certified_at
-  begun_as files o is = ap (λ (o : Option State). or_refuse (refusals.BadCertificate 1 faults.WrongBit) o >>= λ s. said_at files path s) (sym is)
+  begun_as files o is =
+      ap (λ (o : Option CheckerState). or_refuse (refusals.BadCertificate 1 faults.WrongBit) o >>= λ s. said_at files path s) (sym is)
 
   -- what is said of the log is what is said of the certificate
-  pub certificate_read : (s : State) (result : Result (Unit {0}) ReadStop) → begun_for problem numbers ≡ Some s
+  pub certificate_read : (s : CheckerState) (result : Result (Unit {0}) ReadStop) → begun_for problem numbers ≡ Some s
       → IfSome before (λ files. Gives result (Is (said_at files path s)))
       → IfSome before (λ files. Gives result (Is (certified_at files path problem numbers)))
   certificate_read s result is read = read_over before read

@@ -11,14 +11,15 @@ use Rattle.graph_rules.specs.Verdict.{verdict}
 use Rattle.graph_rules.specs.declared.rule.Verdict.{Verdict}
 use Rattle.graph_rules.specs.declared.rule.Verdict.TheVariants as verdicts
 use Rattle.graph_rules.specs.Costs.{vector}
-use Rattle.run_input.specs.Stages.{Is, ◌>>=◌, check}
+use Rattle.run_input.specs.Stages.{Is, Then, ◌>>=◌, check}
+use Rattle.run_input.proofs.StageLaws.{then_gives, then_stop}
 use Rattle.run_input.specs.Stops.{Gives}
 use Rattle.run_input.specs.Refusal.{Refusal}
 use Rattle.run_input.specs.Refusal.TheVariants as refusals
 use Rattle.run_input.specs.ReadStop.{ReadStop}
 use Rattle.run_task.specs.Locks.{LockAt}
 use Rattle.run_task.specs.LockRoots.{are_roots_of}
-use Rattle.run_task.specs.Verdicts.{unless_broken, weighed, judged, IsRight, IsValidLock}
+use Rattle.run_task.specs.Verdicts.{unless_broken, weighed, judged, GraphAt, HasCosts, IsRight, IsValidLock}
 
 -- no rule is broken, and these are the costs
 abbrev IsWeighed : Problem → Content → List ℕ → Type 0
@@ -73,3 +74,28 @@ pub valid_lock : (before : Option Files) (path : List ℕ) (problem : Problem) (
     → IfOk result (λ numbers. IfSome before (λ files. IsValidLock files path problem numbers))
 valid_lock before path problem lock (Ok numbers) at is = by_files before path problem lock numbers at is
 valid_lock before path problem lock (Err stop) at is = tt
+
+-- some valid graph has the costs: that of the lock file
+pub has_costs : (problem : Problem) (lock : Lock) (result : Result (List ℕ) ReadStop) → IfOk result (λ numbers. IsRight problem lock numbers)
+    → IfOk result (λ numbers. HasCosts problem numbers)
+has_costs problem lock (Ok numbers) is =
+    record { graph = lock.graph; well_formed = is.well_formed; is_valid = is.is_valid; costs = is.costs }
+has_costs problem lock (Err stop) is = tt
+
+-- ---- its graph
+
+-- where it is judged right
+pub graph_read : (before : Option Files) (path : List ℕ) (problem : Problem) (lock : Lock) (numbers : List ℕ)
+    → IfSome before (λ files. Gives {T = Lock} (Ok lock) (LockAt files path)) → Gives {T = List ℕ} (Ok numbers) (Is (judged problem lock))
+    → IfSome before (λ files. Gives {T = Content} (Ok lock.graph) (GraphAt files path problem))
+graph_read None path problem lock numbers at is = tt
+graph_read (Some files) path problem lock numbers at is = (lock, at, (numbers, is, refl))
+
+-- where it is refused
+pub graph_stopped : (before : Option Files) (path : List ℕ) (problem : Problem) (lock : Lock) (stop : ReadStop)
+    → IfSome before (λ files. Gives {T = Lock} (Ok lock) (LockAt files path)) → Gives {T = List ℕ} (Err stop) (Is (judged problem lock))
+    → IfSome before (λ files. Gives {T = Content} (Err stop) (GraphAt files path problem))
+graph_stopped None path problem lock stop at is = tt
+graph_stopped (Some files) path problem lock stop at is =
+    then_gives (LockAt files path) (λ lock. Then (Is (judged problem lock)) (λ numbers. Is (Ok lock.graph))) lock (Err stop) at
+    (then_stop (Is (judged problem lock)) (λ numbers. Is (Ok lock.graph)) stop is)

@@ -1,18 +1,18 @@
 -- What is posed by some verdicts on certificates is posed by others that allow more.
-use Rattle.std.proofs.Common.{sym, subst, ℕ, List, Option, Some, None, Result, Ok, Err, inl, inr}
+use Rattle.std.proofs.Common.{sym, subst, ℕ, Bool, true, false, List, Option, Some, None, Result, Ok, Err, inl, inr}
 use Rattle.outside_desk.specs.Files.{Files}
 use Rattle.run_input.specs.Stages.{Is, Then}
 use Rattle.run_input.specs.Refusal.{Refusal}
 use Rattle.run_input.specs.Words.{Command}
 use Rattle.run_input.specs.Work.{Work}
 use Rattle.run_input.specs.Work.TheVariants as works
-use Rattle.run_input.specs.Inputs.{Reads}
+use Rattle.run_input.specs.Inputs.{ReadsInput}
 use Rattle.run_input.specs.declared.input.Input.{Input}
 use Rattle.run_task.specs.Problems.{Problem}
 use Rattle.run_task.specs.Verdicts.{Judges}
 use Rattle.run_task.specs.CertificateVerdicts.{CertificateVerdicts, MayBeSaid, any_verdict, no_verdict}
 use Rattle.run_task.specs.Certificates.{certified_at, log_verdict}
-use Rattle.run_task.specs.Tasks.{AcceptanceOf, Poses, TaskBy, files_for}
+use Rattle.run_task.specs.Tasks.{AcceptanceOf, OverUnless, Poses, TaskBy, files_for, is_search}
 use Rattle.run_task.specs.declared.task.Task.{Task}
 use Rattle.run_task.specs.declared.task.Task.TheVariants as tasks
 
@@ -46,16 +46,21 @@ module _ (some more : CertificateVerdicts) (allows : Allows some more) where
       (λ s judged. judged) (λ numbers. accepts files command.cert input.problem (Some numbers)) r is
   by_work works.Refute files command input r is = accepts files command.cert input.problem None r is
   by_work works.Explain files command input r is = is
+  by_work works.Fresh files command input r is = is
+  by_work works.Find files command input r is = is
+  by_work works.Plan files command input r is = is
   by_work (works.Trial packages seed) files command input r is = is
+
+  over : (search : Bool) (files : Files) (command : Command) (r : Result Task Refusal) → OverUnless some search files command r
+      → OverUnless more search files command r
+  over true files command r is = is
+  over false files command r is =
+      then_more (ReadsInput files command) (ReadsInput files command) (TaskBy some command.work files command) (TaskBy more command.work files command)
+      (λ s read. read) (by_work command.work files command) r is
 
   poses : (files : Files) (words : List (List ℕ)) (r : Result Task Refusal) → Poses some files words r → Poses more files words r
   poses files words r (command, is, named) =
-      let over = files_for command.work files in (
-        command,
-        is,
-        then_more (Reads over command) (Reads over command) (TaskBy some command.work over command)
-            (TaskBy more command.work over command) (λ s read. read) (by_work command.work over command) r named,
-      )
+      (command, is, over (is_search command.work) (files_for command.work files) command r named)
 
 -- each verdict of a log is some verdict
 pub any_posed : ((files : Files) (path : List ℕ) (problem : Problem) (numbers : Option (List ℕ))

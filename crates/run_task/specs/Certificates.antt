@@ -4,7 +4,7 @@ use Rattle.std.specs.Option.{option_map}
 use Rattle.std.specs.FinMap.{get}
 use Rattle.outside_desk.specs.Files.{Files}
 use Rattle.criteria_totals.specs.Spellings.{bits_for}
-use Rattle.log_checker.specs.Steps.{State, begun}
+use Rattle.log_checker.specs.Steps.{CheckerState, begun}
 use Rattle.log_checker.specs.declared.step.Step.TheVariants.{Accepted, Refused}
 use Rattle.log_checker.specs.declared.step.Why.{Why}
 use Rattle.log_checker.specs.declared.step.Why.TheVariants as whys
@@ -26,42 +26,42 @@ use Rattle.run_answers.specs.declared.line_fault.LineFault.TheVariants as faults
 use Rattle.run_task.specs.CertificateVerdicts.{CertificateVerdicts}
 
 -- why the checker refuses a line, as a fault of the line
-abbrev pub fault_of : Why → LineFault
-fault_of whys.WrongCounts = faults.WrongCounts
-fault_of whys.OutOfOrder = faults.OutOfOrder
-fault_of whys.UnknownId = faults.UnknownId
-fault_of whys.NoPivot = faults.NoPivot
-fault_of whys.TwoPivots = faults.TwoPivots
-fault_of whys.NotContained = faults.NotContained
-fault_of whys.WrongBit = faults.WrongBit
-fault_of whys.NotNew = faults.NotNew
-fault_of whys.Unfinished = faults.Unfinished
+abbrev pub line_fault_of : Why → LineFault
+line_fault_of whys.WrongCounts = faults.WrongCounts
+line_fault_of whys.OutOfOrder = faults.OutOfOrder
+line_fault_of whys.UnknownId = faults.UnknownId
+line_fault_of whys.NoPivot = faults.NoPivot
+line_fault_of whys.TwoPivots = faults.TwoPivots
+line_fault_of whys.NotContained = faults.NotContained
+line_fault_of whys.WrongBit = faults.WrongBit
+line_fault_of whys.NotNew = faults.NotNew
+line_fault_of whys.Unfinished = faults.Unfinished
 
 -- what the answer to a text comes to
-abbrev pub verdict_of : TextAnswer → Result (Unit {0}) Refusal
-verdict_of (Checked Accepted) = Ok tt
-verdict_of (Checked (Refused line why)) = Err (refusals.BadCertificate line (fault_of why))
-verdict_of (BadLine line) = Err (refusals.BadCertificate line faults.BadLine)
+abbrev pub verdict_on_text : TextAnswer → Result (Unit {0}) Refusal
+verdict_on_text (Checked Accepted) = Ok tt
+verdict_on_text (Checked (Refused line why)) = Err (refusals.BadCertificate line (line_fault_of why))
+verdict_on_text (BadLine line) = Err (refusals.BadCertificate line faults.BadLine)
 
 -- the most bytes of a certificate
 abbrev pub most : ℕ
 most = 2 ^ 63 - 1
 
 -- what is said of a text: its first 2^63 - 1 bytes count, and there may be more only where these decide already
-unfoldable pub said_of : State → List ℕ → Result (Unit {0}) Refusal
-said_of s text =
-    if nat_le (length text) most || is_settled_by s (take most text) then verdict_of (answer_of s (take most text))
+unfoldable pub said_of_text : CheckerState → List ℕ → Result (Unit {0}) Refusal
+said_of_text s text =
+    if nat_le (length text) most || is_settled_by s (take most text) then verdict_on_text (answer_of s (take most text))
     else Err refusals.CertificateTooLarge
 
 -- what is said of the file at the path
-unfoldable pub said_at : Files → List ℕ → State → Result (Unit {0}) Refusal
+unfoldable pub said_at : Files → List ℕ → CheckerState → Result (Unit {0}) Refusal
 said_at files path s = do
   text ← or_refuse (refusals.MissingInput path) (get files path)
-  said_of s text
+  said_of_text s text
 
 -- a checker of logs that are to show that these costs of a graph are the least, over the encoding of the problem; of costs that no
 -- bits spell, which no valid graph has, there is none. Without costs it is one of refutations of the rules
-abbrev pub begun_for : Problem → Option (List ℕ) → Option State
+abbrev pub begun_for : Problem → Option (List ℕ) → Option CheckerState
 begun_for problem None = Some (begun (rule_clauses problem) [] None)
 begun_for problem (Some numbers) =
     let e = encoding_of problem in option_map (λ values. begun e.clauses e.bits.lits (Some values)) (bits_for e.bits.tops numbers)

@@ -36,4 +36,5 @@ pub use Rattle.run_input.specs.Work
 pub use Rattle.run_input.specs.Inputs
 pub use Rattle.run_input.specs.Roots
 pub use Rattle.run_input.specs.declared.input.Input
+pub use Rattle.run_input.specs.declared.query.Query
 pub use Rattle.run_input.specs.Closures

@@ -1,8 +1,11 @@
 -- What a run is to answer, or the refusal that is due first.
-use Rattle.std.specs.Prelude.{◌≡◌, ◌⊎◌, ℕ, List, All, Option, Some, None, Result, Ok, Err}
+use Rattle.std.specs.Prelude.{◌≡◌, ◌⊎◌, ℕ, Bool, true, false, List, All, Option, Some, None, Result, Ok, Err}
 use Rattle.std.specs.Str.{IsUtf8}
 use Rattle.outside_desk.specs.Files.{Files}
+use Rattle.graph_core.specs.OfReachability.Paths.{IsAcyclic}
+use Rattle.graph_core.specs.Paths.{JoinedIn}
 use Rattle.spec_grammar.specs.Canonical.{spec_text}
+use Rattle.spec_grammar.specs.declared.part.Spec.{Spec}
 use Rattle.run_input.specs.Stages.{Is, Then}
 use Rattle.run_input.specs.Refusal.{Refusal}
 use Rattle.run_input.specs.ReadStop.{ReadStop}
@@ -10,10 +13,11 @@ use Rattle.run_input.specs.ReadStop.TheVariants as reads
 use Rattle.run_input.specs.Words.{Command, command_of}
 use Rattle.run_input.specs.Work.{Work}
 use Rattle.run_input.specs.Work.TheVariants as works
-use Rattle.run_input.specs.Inputs.{Reads, IsInputPath, IsPosed}
+use Rattle.run_input.specs.Inputs.{ReadsInput, Seeks, IsInputPath, IsPosed}
+use Rattle.run_input.specs.Roots.{RootsOf, ConditionOf}
 use Rattle.run_input.specs.declared.input.Input.{Input}
 use Rattle.run_task.specs.Problems.{Problem}
-use Rattle.run_task.specs.Verdicts.{Judges}
+use Rattle.run_task.specs.Verdicts.{GraphAt, HasCosts, Judges}
 use Rattle.run_task.specs.CertificateVerdicts.{CertificateVerdicts}
 use Rattle.trial_input.specs.Inputs.{input_files}
 use Rattle.run_task.specs.declared.task.Task.{Task}
@@ -26,6 +30,9 @@ made_for works.Judge = None
 made_for works.Check = None
 made_for works.Refute = None
 made_for works.Explain = None
+made_for works.Fresh = None
+made_for works.Find = None
+made_for works.Plan = None
 made_for (works.Trial packages seed) = Some (packages, seed)
 
 abbrev pub files_by : Option (ℕ × ℕ) → Files → Files
@@ -36,9 +43,22 @@ files_by (Some made) files = input_files made.0 made.1
 abbrev pub files_for : Work → Files → Files
 files_for work files = files_by (made_for work) files
 
+-- whether installed packages are looked for: then the specs are one condition, and pose no problem
+abbrev pub is_search : Work → Bool
+is_search works.Find = true
+is_search other = false
+
 -- what is said of the lock file at the path, as a task
 abbrev pub ReportOf : Files → List ℕ → Problem → Result Task Refusal → Type 0
 ReportOf files lock problem = Then (Judges files lock problem) (λ numbers. Is (Ok (tasks.Report numbers)))
+
+-- what is said of it, and then the best graph is to be found, and compared with its costs
+abbrev pub ComparisonOf : Files → List ℕ → Input → Result Task Refusal → Type 0
+ComparisonOf files lock input = Then (Judges files lock input.problem) (λ numbers. Is (Ok (tasks.Compare input numbers)))
+
+-- what is said of it, and then its graph is to be put in order
+abbrev pub PlanOf : Files → List ℕ → Problem → Result Task Refusal → Type 0
+PlanOf files lock problem = Then (GraphAt files lock problem) (λ graph. Is (Ok (tasks.Plan graph)))
 
 module _ (verdicts : CertificateVerdicts) where
   -- what is said of the certificate at the path, as a task: of a graph with these costs, or of none
@@ -50,18 +70,25 @@ module _ (verdicts : CertificateVerdicts) where
   CheckOf files lock cert problem = Then (Judges files lock problem) (λ numbers. AcceptanceOf files cert problem (Some numbers))
 
   -- a command's own work over what was read: `concretize`, `explain` and `trial` have a problem to solve, `judge` says what is
-  -- said of the lock file, `check` and `refute` of the certificate
+  -- said of the lock file, `check` and `refute` of the certificate; `fresh` and `plan` do as `judge` first
   abbrev pub TaskBy : Work → Files → Command → Input → Result Task Refusal → Type 0
   TaskBy works.Concretize files command input = Is (Ok (tasks.Solve input))
   TaskBy works.Judge files command input = ReportOf files command.lock input.problem
   TaskBy works.Check files command input = CheckOf files command.lock command.cert input.problem
+  TaskBy works.Fresh files command input = ComparisonOf files command.lock input
+  TaskBy works.Plan files command input = PlanOf files command.lock input.problem
   TaskBy works.Refute files command input = AcceptanceOf files command.cert input.problem None
   TaskBy works.Explain files command input = Is (Ok (tasks.Explain input))
+  TaskBy works.Find files command input = λ posed. ⊥
   TaskBy (works.Trial packages seed) files command input = Is (Ok (tasks.Try input))
 
-  -- what is read over these files is one for all commands, and then comes the command's own work
+  -- what is read over these files is one for all commands that pose a problem, and then comes the command's own work
+  abbrev pub OverUnless : Bool → Files → Command → Result Task Refusal → Type 0
+  OverUnless true files command = Then (Seeks files command) (λ query. Is (Ok (tasks.Find query)))
+  OverUnless false files command = Then (ReadsInput files command) (TaskBy command.work files command)
+
   abbrev pub Over : Files → Command → Result Task Refusal → Type 0
-  Over files command = Then (Reads files command) (TaskBy command.work files command)
+  Over files command = OverUnless (is_search command.work) files command
 
   -- the task of a command over the files
   abbrev pub Named : Files → Command → Result Task Refusal → Type 0
@@ -78,6 +105,9 @@ IsOf works.Judge (tasks.Report numbers) = Unit {0}
 IsOf works.Check tasks.Accepted = Unit {0}
 IsOf works.Refute tasks.Accepted = Unit {0}
 IsOf works.Explain (tasks.Explain input) = Unit {0}
+IsOf works.Fresh (tasks.Compare input numbers) = Unit {0}
+IsOf works.Find (tasks.Find query) = Unit {0}
+IsOf works.Plan (tasks.Plan graph) = Unit {0}
 IsOf (works.Trial packages seed) (tasks.Try input) = Unit {0}
 IsOf other task = ⊥
 
@@ -86,12 +116,17 @@ IsOf other task = ⊥
 abbrev pub IsReadyInput : Input → Type 0
 IsReadyInput input = All (λ spec. IsUtf8 (spec_text spec)) input.problem.roots × IsPosed input
 
+-- what each task is: a problem that is searched is ready, some valid graph has the costs that are compared, and a graph that is put in
+-- order has no cycle
 abbrev pub IsReady : Task → Type 0
 IsReady (tasks.Solve input) = IsReadyInput input
 IsReady (tasks.Explain input) = IsReadyInput input
 IsReady (tasks.Try input) = IsReadyInput input
 IsReady (tasks.Report numbers) = Unit {0}
 IsReady tasks.Accepted = Unit {0}
+IsReady (tasks.Compare input numbers) = IsReadyInput input × HasCosts input.problem numbers
+IsReady (tasks.Find query) = Unit {0}
+IsReady (tasks.Plan graph) = IsAcyclic (JoinedIn graph)
 
 -- ---- what the looks at files give
 
@@ -99,16 +134,37 @@ abbrev pub IsReportTask : Task → Type 0
 IsReportTask (tasks.Report numbers) = Unit {0}
 IsReportTask other = ⊥
 
+abbrev pub IsComparisonTask : Task → Type 0
+IsComparisonTask (tasks.Compare input numbers) = Unit {0}
+IsComparisonTask other = ⊥
+
+abbrev pub IsPlanTask : Task → Type 0
+IsPlanTask (tasks.Plan graph) = Unit {0}
+IsPlanTask other = ⊥
+
 abbrev pub IsYes : Task → Type 0
 IsYes tasks.Accepted = Unit {0}
 IsYes other = ⊥
 
+-- ---- what is read of the words
+
+-- the text of the specs as a condition, or as roots
+abbrev pub HasSpecsBy : Bool → List ℕ → Type 0
+HasSpecsBy true text = (spec : Spec) × ConditionOf text (Ok spec)
+HasSpecsBy false text = (roots : List Spec) × RootsOf text (Ok roots)
+
+-- a command whose specs were read
+abbrev pub HasSpecs : Command → Type 0
+HasSpecs command = HasSpecsBy (is_search command.work) command.spec
+
 -- ---- faults of devices
 
--- the lock file is read by `judge` and `check`, the certificate by `check` and `refute`
+-- the lock file is read by `judge`, `check`, `fresh` and `plan`, the certificate by `check` and `refute`
 abbrev pub IsKeptPath : Work → Command → List ℕ → Type 0
 IsKeptPath works.Judge command path = path ≡ command.lock
 IsKeptPath works.Check command path = (path ≡ command.lock) ⊎ (path ≡ command.cert)
+IsKeptPath works.Fresh command path = path ≡ command.lock
+IsKeptPath works.Plan command path = path ≡ command.lock
 IsKeptPath works.Refute command path = path ≡ command.cert
 IsKeptPath other command path = ⊥
 

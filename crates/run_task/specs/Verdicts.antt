@@ -49,3 +49,14 @@ pub record IsValidLock (files : Files) (path : List ℕ) (problem : Problem) (nu
   pub lock : Lock
   pub at : LockAt files path (Ok lock)
   pub right : IsRight problem lock numbers
+
+-- some valid graph has these costs
+pub record HasCosts (problem : Problem) (numbers : List ℕ) : Type 0 where
+  pub graph : Content
+  pub well_formed : IsWellFormed graph
+  pub is_valid : valid problem graph ≡ true
+  pub costs : vector problem graph ≡ numbers
+
+-- what is said of the lock file at the path, and then its graph
+abbrev pub GraphAt : Files → List ℕ → Problem → Result Content Refusal → Type 0
+GraphAt files path problem = Then (LockAt files path) (λ lock. Then (Is (judged problem lock)) (λ numbers. Is (Ok lock.graph)))

@@ -4,7 +4,7 @@ ghost use Rattle.std.specs.Prelude.{◌≡◌, ◌<◌, ◌≤◌, true, [], len
 ghost use Rattle.std.specs.Option.{option_map};
 ghost use Rattle.clause_store.specs.Clauses.{clauses_of};
 ghost use Rattle.proof_log.specs.Known.{AllClauses};
-ghost use Rattle.log_checker.specs.Steps.{State, begun};
+ghost use Rattle.log_checker.specs.Steps.{CheckerState, begun};
 ghost use Rattle.certified.specs.Texts.{IsAfter};
 ghost use Rattle.possible_closure.specs.Closures.{closure_of};
 ghost use Rattle.best_graph.specs.OfProblemEncoding.Built.{encoding_of};
@@ -48,7 +48,7 @@ fn check_text<R: Threads + Sync, D: Desk>(
     path: &str,
     checker: &mut TextChecker,
 ) -> Result<(), ReadStop>
-    ensures read { (s : State) → IsAfter s [] checker.old
+    ensures read { (s : CheckerState) → IsAfter s [] checker.old
         → IfSome (D.files desk.old) (λ files. Gives result (Is (said_at files path.now s))) }
     ensures path { FailsAt path.now result }
     ensures only_reads { OnlyReads D.files D.faults D.put_faults desk.old desk.new result }

@@ -33,7 +33,7 @@ pub use cost_vector::vector;
 pub use one_verdict::verdict_laws;
 pub use posed_tasks::task_laws;
 pub use run_input::{
-    Command, Input, ReadStop, Refusal, Status, Stop, Work, WriteStop, is_dash, read_command,
+    Command, Input, Query, ReadStop, Refusal, Status, Stop, Work, WriteStop, is_dash, read_command,
 };
 pub use task::{Task, read_task};
-pub use verdict::read_verdict;
+pub use verdict::{read_valid_graph, read_verdict};

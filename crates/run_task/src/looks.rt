@@ -6,11 +6,11 @@ ghost use Rattle.run_input.specs.Inputs.{IsPosed};
 ghost use Rattle.run_input.specs.Reads.{OnlyReads};
 ghost use Rattle.run_input.specs.Stops.{Gives};
 ghost use Rattle.run_task.specs.Certificates.{ShowsOf, log_verdict};
-ghost use Rattle.run_task.specs.Shown.{IsBestLock};
-ghost use Rattle.run_task.specs.Tasks.{AcceptanceOf, CheckOf, ReportOf, IsReportTask, IsYes, FailsAtEither};
+ghost use Rattle.run_task.specs.Shown.{ComparesLock, IsBestLock};
+ghost use Rattle.run_task.specs.Tasks.{AcceptanceOf, CheckOf, ComparisonOf, PlanOf, ReportOf, IsComparisonTask, IsPlanTask, IsReportTask, IsReady, IsReadyInput, IsYes, FailsAtEither};
 
 use crate::task::Task;
-use crate::{read_certificate, read_verdict};
+use crate::{read_certificate, read_valid_graph, read_verdict};
 use outside_desk::Desk;
 use run_input::{Input, ReadStop};
 use std::alloc::Global;
@@ -32,6 +32,49 @@ pub(crate) fn read_report<D: Desk>(
 {
     match read_verdict(alloc, desk, lock, &input.problem) {
         Ok(numbers) => Ok(Task::Report(numbers)),
+        Err(stop) => Err(stop),
+    }
+}
+
+/// What is said of the lock file at a path, and then the comparison of its costs, as a task.
+pub(crate) fn read_comparison<D: Desk>(
+    alloc: Global,
+    desk: &mut D,
+    lock: &str,
+    input: Input,
+) -> Result<Task, ReadStop>
+    requires { IsReadyInput input }
+    ensures read { IfSome (D.files desk.old)
+        (λ files. Gives result (ComparisonOf files lock.now input)) }
+    ensures seen { IfOk result (λ task. IfSome (D.files desk.old)
+        (λ files. ComparesLock files lock.now input.problem task)) }
+    ensures comparison { IfOk result IsComparisonTask }
+    ensures ready { IfOk result (λ task. IsReady task) }
+    ensures path { FailsAtEither lock.now lock.now result }
+    ensures only_reads { OnlyReads D.files D.faults D.put_faults desk.old desk.new result }
+{
+    match read_verdict(alloc, desk, lock, &input.problem) {
+        Ok(numbers) => Ok(Task::Compare(input, numbers)),
+        Err(stop) => Err(stop),
+    }
+}
+
+/// What is said of the lock file at a path, and then the order in which its graph can be built, as a task.
+pub(crate) fn read_plan<D: Desk>(
+    alloc: Global,
+    desk: &mut D,
+    lock: &str,
+    input: &Input,
+) -> Result<Task, ReadStop>
+    ensures read { IfSome (D.files desk.old)
+        (λ files. Gives result (PlanOf files lock.now input.now.problem)) }
+    ensures plan { IfOk result IsPlanTask }
+    ensures ready { IfOk result (λ task. IsReady task) }
+    ensures path { FailsAtEither lock.now lock.now result }
+    ensures only_reads { OnlyReads D.files D.faults D.put_faults desk.old desk.new result }
+{
+    match read_valid_graph(alloc, desk, lock, &input.problem) {
+        Ok(graph) => Ok(Task::Plan(graph)),
         Err(stop) => Err(stop),
     }
 }

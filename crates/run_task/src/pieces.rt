@@ -2,7 +2,7 @@
 
 ghost use Rattle.std.specs.Prelude.{◌≡◌, ◌≤◌, ◌<◌, ◌-◌, min, length, IfOk, IfSome};
 ghost use Rattle.std.specs.FinMap.{get};
-ghost use Rattle.log_checker.specs.Steps.{State};
+ghost use Rattle.log_checker.specs.Steps.{CheckerState};
 ghost use Rattle.run_answers.specs.Reads.{OnlyReads};
 ghost use Rattle.run_task.specs.Certificates.{most};
 ghost use Rattle.run_input.specs.Bytes.{FailsAt};
@@ -79,7 +79,7 @@ pub(crate) fn take_next<R: Threads + Sync, D: Desk>(
     requires within { from ≤ most }
     requires room { 0 < length piece.old }
     ensures moves { IfOk result (λ next. Moves from next) }
-    ensures taken { IfSome (D.files desk.old) (λ files. (s : State)
+    ensures taken { IfSome (D.files desk.old) (λ files. (s : CheckerState)
         → TakesNext s (get files path.now) from path.now checker.old checker.new result) }
     ensures path { FailsAt path.now result }
     ensures only_reads { OnlyReads D.files D.faults D.put_faults desk.old desk.new result }
@@ -109,7 +109,7 @@ pub(crate) fn take_all<R: Threads + Sync, D: Desk>(
     piece: &mut [u8],
 ) -> Result<bool, ReadStop>
     requires { 0 < length piece.old }
-    ensures taken { IfSome (D.files desk.old) (λ files. (s : State)
+    ensures taken { IfSome (D.files desk.old) (λ files. (s : CheckerState)
         → TakesAll s (get files path.now) path.now checker.old checker.new result) }
     ensures path { FailsAt path.now result }
     ensures only_reads { OnlyReads D.files D.faults D.put_faults desk.old desk.new result }

@@ -1,21 +1,20 @@
 //! The reading of a task.
 
-ghost use Rattle.std.specs.Prelude.{◌≡◌, All, Some, None, Ok, IfOk, IfSome, OnOk, List};
+ghost use Rattle.std.specs.Prelude.{◌≡◌, true, false, All, Some, None, IfOk, IfSome};
 ghost use Rattle.std.specs.Str.{IsUtf8};
 ghost use Rattle.run_input.specs.Inputs.{IsPosed};
 ghost use Rattle.spec_grammar.specs.Canonical.{spec_text};
-ghost use Rattle.spec_grammar.specs.declared.part.Spec.{Spec};
 ghost use Rattle.run_input.specs.Reads.{OnlyReads};
 ghost use Rattle.run_input.specs.Stops.{Gives, EndsInReadFault};
-ghost use Rattle.run_input.specs.Roots.{RootsOf};
 ghost use Rattle.run_task.specs.Certificates.{log_verdict};
 ghost use Rattle.trial_input.specs.Inputs.{input_files};
-ghost use Rattle.run_task.specs.Shown.{IsShown, IsShownOver, ShownBy};
-ghost use Rattle.run_task.specs.Tasks.{TaskBy, Over, Named, IsOf, IsReady, FailsAtTask, made_for};
+ghost use Rattle.run_task.specs.Shown.{IsSeen, IsSeenOver, IsShownOver, SeenBy};
+ghost use Rattle.run_task.specs.Tasks.{TaskBy, Over, OverUnless, Named, IsOf, IsReady, HasSpecs, HasSpecsBy, FailsAtTask, is_search, made_for};
 
-use crate::looks::{read_acceptance, read_check, read_report};
+use crate::looks::{read_acceptance, read_check, read_comparison, read_plan, read_report};
+use graph_core::Graph;
 use outside_desk::Desk;
-use run_input::{Command, Input, ReadStop, Work, read_input};
+use run_input::{Command, Input, Query, ReadStop, Work, read_input, read_query};
 use spec_grammar::{reading_laws, writing_laws};
 use std::alloc::Global;
 use std::thread::Threads;
@@ -34,6 +33,12 @@ pub enum Task {
     Explain(Input),
     /// The best graph of a made input is to be found.
     Try(Input),
+    /// The lock file's graph is valid and has this cost vector: it is to be said whether a valid graph costs less.
+    Compare(Input, [u64; 31]),
+    /// The installed packages that meet a condition are to be found.
+    Find(Query),
+    /// The graph is that of the lock file, and valid: it is to be said in which order it can be built.
+    Plan(Graph),
 }
 
 /// A command's own work over what was read.
@@ -46,10 +51,11 @@ fn task_by<R: Threads + Sync, D: Desk>(
 ) -> Result<Task, ReadStop>
     requires texts { All (λ spec. IsUtf8 (spec_text spec)) input.problem.roots }
     requires posed { IsPosed input }
+    requires no_search { is_search command.now.work ≡ false }
     ensures read { IfSome (D.files desk.old)
         (λ files. Gives result (TaskBy log_verdict command.now.work files command.now input)) }
-    ensures shown { OnOk result (IfSome (D.files desk.old)
-        (λ files. ShownBy command.now.work files command.now input.problem)) }
+    ensures seen { IfOk result (λ task. IfSome (D.files desk.old)
+        (λ files. SeenBy command.now.work task files command.now input.problem)) }
     ensures work { IfOk result (λ task. IsOf command.now.work task) }
     ensures ready { IfOk result (λ task. IsReady task) }
     ensures path { FailsAtTask (D.files desk.old) command.now result }
@@ -69,29 +75,36 @@ fn task_by<R: Threads + Sync, D: Desk>(
             drop(input);
             task
         }
+        Work::Fresh => read_comparison(alloc, desk, command.lock, input),
+        Work::Plan => {
+            let task = read_plan(alloc, desk, command.lock, &input);
+            drop(input);
+            task
+        }
         Work::Refute => {
             let task = read_acceptance(rt, alloc, desk, command.cert, &input, None);
             drop(input);
             task
         }
+        Work::Find => unreachable!(),
     }
 }
 
-/// The task of a command over the files of a desk.
+/// The task of a command that poses a problem, over the files of a desk.
 #[tactic(auto, using(crate::proofs::Paths::of_input))]
-fn read_over<R: Threads + Sync, D: Desk>(
+fn read_posed<R: Threads + Sync, D: Desk>(
     rt: &R,
     alloc: Global,
     desk: &mut D,
     command: &Command<'_>,
 ) -> Result<Task, ReadStop>
-    ensures read { IfSome (D.files desk.old) (λ files. Gives result (Over log_verdict files command.now)) }
-    ensures shown { OnOk result (IfSome (D.files desk.old)
-        (λ files. IsShownOver files command.now)) }
+    requires { is_search command.now.work ≡ false }
+    ensures read { IfSome (D.files desk.old) (λ files. Gives result (OverUnless log_verdict false files command.now)) }
+    ensures seen { IfOk result (λ task. IfSome (D.files desk.old)
+        (λ files. IsShownOver (SeenBy command.now.work task) files command.now)) }
     ensures work { IfOk result (λ task. IsOf command.now.work task) }
     ensures ready { IfOk result (λ task. IsReady task) }
-    ensures roots { IfOk result (λ task. (roots : List Spec)
-        × RootsOf command.now.spec (Ok roots)) }
+    ensures specs { IfOk result (λ task. HasSpecsBy false command.now.spec) }
     ensures path { FailsAtTask (D.files desk.old) command.now result }
     ensures only_reads { OnlyReads D.files D.faults D.put_faults desk.old desk.new result }
 {
@@ -101,13 +114,81 @@ fn read_over<R: Threads + Sync, D: Desk>(
     task_by(rt, alloc, desk, command, input)
 }
 
+/// The task of a command that looks for installed packages, over the files of a desk.
+#[tactic(auto, using(crate::proofs::Paths::of_input))]
+fn read_search<R: Threads + Sync, D: Desk>(
+    rt: &R,
+    alloc: Global,
+    desk: &mut D,
+    command: &Command<'_>,
+) -> Result<Task, ReadStop>
+    ensures read { IfSome (D.files desk.old) (λ files. Gives result (OverUnless log_verdict true files command.now)) }
+    ensures work { IfOk result (λ task. IsOf Work.Find task) }
+    ensures ready { IfOk result (λ task. IsReady task) }
+    ensures specs { IfOk result (λ task. HasSpecsBy true command.now.spec) }
+    ensures path { FailsAtTask (D.files desk.old) command.now result }
+    ensures only_reads { OnlyReads D.files D.faults D.put_faults desk.old desk.new result }
+{
+    match read_query(rt, alloc, desk, command) {
+        Ok(query) => Ok(Task::Find(query)),
+        Err(stop) => Err(stop),
+    }
+}
+
+/// Whether installed packages are looked for.
+fn is_search(work: Work) -> bool
+    ensures { result ≡ is_search work }
+{
+    match work {
+        Work::Find => true,
+        Work::Concretize
+        | Work::Judge
+        | Work::Check
+        | Work::Fresh
+        | Work::Refute
+        | Work::Explain
+        | Work::Plan
+        | Work::Trial { .. } => false,
+    }
+}
+
+/// The task of a command over the files of a desk.
+fn read_over<R: Threads + Sync, D: Desk>(
+    rt: &R,
+    alloc: Global,
+    desk: &mut D,
+    command: &Command<'_>,
+) -> Result<Task, ReadStop>
+    ensures read { IfSome (D.files desk.old) (λ files. Gives result (Over log_verdict files command.now)) }
+    ensures seen { IfOk result (λ task. IfSome (D.files desk.old)
+        (λ files. IsSeenOver files command.now task)) }
+    ensures work { IfOk result (λ task. IsOf command.now.work task) }
+    ensures ready { IfOk result (λ task. IsReady task) }
+    ensures specs { IfOk result (λ task. HasSpecs command.now) }
+    ensures path { FailsAtTask (D.files desk.old) command.now result }
+    ensures only_reads { OnlyReads D.files D.faults D.put_faults desk.old desk.new result }
+{
+    if is_search(command.work) {
+        read_search(rt, alloc, desk, command)
+    } else {
+        read_posed(rt, alloc, desk, command)
+    }
+}
+
 /// The number of packages and the seed of a trial.
 fn made_for(work: Work) -> Option<(u64, u64)>
     ensures { result ≡ made_for work }
 {
     match work {
         Work::Trial { packages, seed } => Some((packages, seed)),
-        Work::Concretize | Work::Judge | Work::Check | Work::Refute | Work::Explain => None,
+        Work::Concretize
+        | Work::Judge
+        | Work::Check
+        | Work::Fresh
+        | Work::Refute
+        | Work::Explain
+        | Work::Find
+        | Work::Plan => None,
     }
 }
 
@@ -120,11 +201,10 @@ fn read_made<R: Threads + Sync>(
     seed: u64,
 ) -> Result<Task, ReadStop>
     ensures read { Gives result (Over log_verdict (input_files packages seed) command.now) }
-    ensures shown { OnOk result (IsShownOver (input_files packages seed) command.now) }
+    ensures seen { IfOk result (λ task. IsSeenOver (input_files packages seed) command.now task) }
     ensures work { IfOk result (λ task. IsOf command.now.work task) }
     ensures ready { IfOk result (λ task. IsReady task) }
-    ensures roots { IfOk result (λ task. (roots : List Spec)
-        × RootsOf command.now.spec (Ok roots)) }
+    ensures specs { IfOk result (λ task. HasSpecs command.now) }
     ensures no_fault { EndsInReadFault result → ⊥ }
 {
     let mut made = make(alloc, packages, seed)?;
@@ -138,7 +218,7 @@ fn read_made<R: Threads + Sync>(
 /// # Errors
 ///
 /// The first refusal that is due, in the order of work: those of `read_input`, and then those of the command's own
-/// work. `Fault` where the desk failed.
+/// work; of a command that looks for installed packages those of `read_query`. `Fault` where the desk failed.
 pub fn read_task<R: Threads + Sync, D: Desk>(
     rt: &R,
     alloc: Global,
@@ -146,12 +226,11 @@ pub fn read_task<R: Threads + Sync, D: Desk>(
     command: &Command<'_>,
 ) -> Result<Task, ReadStop>
     ensures read { IfSome (D.files desk.old) (λ files. Gives result (Named log_verdict files command.now)) }
-    ensures shown { OnOk result (IfSome (D.files desk.old)
-        (λ files. IsShown files command.now)) }
+    ensures seen { IfOk result (λ task. IfSome (D.files desk.old)
+        (λ files. IsSeen files command.now task)) }
     ensures work { IfOk result (λ task. IsOf command.now.work task) }
     ensures ready { IfOk result (λ task. IsReady task) }
-    ensures roots { IfOk result (λ task. (roots : List Spec)
-        × RootsOf command.now.spec (Ok roots)) }
+    ensures specs { IfOk result (λ task. HasSpecs command.now) }
     ensures path { FailsAtTask (D.files desk.old) command.now result }
     ensures only_reads { OnlyReads D.files D.faults D.put_faults desk.old desk.new result }
 {

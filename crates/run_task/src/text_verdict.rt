@@ -4,7 +4,7 @@ ghost use Rattle.std.specs.Prelude.{◌≡◌};
 ghost use Rattle.certified.specs.Texts.{answer_at};
 ghost use Rattle.run_answers.specs.Stages.{Is};
 ghost use Rattle.run_answers.specs.Stops.{Gives, EndsInReadFault};
-ghost use Rattle.run_task.specs.Certificates.{fault_of, verdict_of};
+ghost use Rattle.run_task.specs.Certificates.{line_fault_of, verdict_on_text};
 
 use certified::{TextAnswer, TextChecker};
 use log_checker::{Step, Why};
@@ -12,7 +12,7 @@ use run_answers::{LineFault, ReadStop, Refusal};
 
 /// Why the checker refuses a line, as a fault of the line.
 fn fault_of(why: Why) -> LineFault
-    ensures { result ≡ fault_of why }
+    ensures { result ≡ line_fault_of why }
 {
     match why {
         Why::WrongCounts => LineFault::WrongCounts,
@@ -29,7 +29,7 @@ fn fault_of(why: Why) -> LineFault
 
 /// What the checker's answer to a text comes to.
 fn verdict_of(answer: TextAnswer) -> Result<(), ReadStop>
-    ensures read { Gives result (Is (verdict_of answer)) }
+    ensures read { Gives result (Is (verdict_on_text answer)) }
     ensures no_fault { EndsInReadFault result → ⊥ }
 {
     match answer {
@@ -45,7 +45,7 @@ fn verdict_of(answer: TextAnswer) -> Result<(), ReadStop>
 
 /// What is said of the bytes so far, if no more come.
 pub(crate) fn verdict(checker: &TextChecker) -> Result<(), ReadStop>
-    ensures read { Gives result (Is (verdict_of (answer_at checker.now.progress
+    ensures read { Gives result (Is (verdict_on_text (answer_at checker.now.progress
         checker.now.failed checker.now.place.rest))) }
     ensures no_fault { EndsInReadFault result → ⊥ }
 {

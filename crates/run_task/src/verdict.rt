@@ -1,12 +1,14 @@
 //! The verdict on a lock file.
 
 ghost use Rattle.std.specs.Prelude.{IfOk, IfSome};
+ghost use Rattle.graph_core.specs.OfReachability.Paths.{IsAcyclic};
+ghost use Rattle.graph_core.specs.Paths.{JoinedIn};
 ghost use Rattle.graph_rules.specs.Verdict.{verdict};
 ghost use Rattle.run_input.specs.Stages.{Is};
 ghost use Rattle.run_input.specs.Reads.{OnlyReads};
 ghost use Rattle.run_input.specs.Stops.{Gives, EndsInReadFault};
 ghost use Rattle.run_input.specs.Bytes.{FailsAt};
-ghost use Rattle.run_task.specs.Verdicts.{unless_broken, weighed, judged, Judges, IsRight, IsValidLock};
+ghost use Rattle.run_task.specs.Verdicts.{unless_broken, weighed, judged, GraphAt, HasCosts, Judges, IsRight, IsValidLock};
 
 use crate::lock::read_lock_at;
 use crate::roots::are_roots_of;
@@ -86,6 +88,7 @@ pub fn read_verdict<D: Desk>(
         (λ files. Gives result (Judges files path.now problem.now)) }
     ensures lock { IfOk result (λ numbers. IfSome (D.files desk.old)
         (λ files. IsValidLock files path.now problem.now numbers)) }
+    ensures costs { IfOk result (λ numbers. HasCosts problem.now numbers) }
     ensures path { FailsAt path.now result }
     ensures only_reads { OnlyReads D.files D.faults D.put_faults desk.old desk.new result }
 {
@@ -93,4 +96,28 @@ pub fn read_verdict<D: Desk>(
     let said = judge_lock(alloc, problem, &lock);
     drop(lock);
     said
+}
+
+/// The graph of the lock file at a path, of which is said what `read_verdict` says.
+///
+/// # Errors
+///
+/// Those of `read_verdict`.
+pub fn read_valid_graph<D: Desk>(
+    alloc: Global,
+    desk: &mut D,
+    path: &str,
+    problem: &Problem,
+) -> Result<Graph, ReadStop>
+    ensures read { IfSome (D.files desk.old)
+        (λ files. Gives result (GraphAt files path.now problem.now)) }
+    ensures acyclic { IfOk result (λ graph. IsAcyclic (JoinedIn graph)) }
+    ensures path { FailsAt path.now result }
+    ensures only_reads { OnlyReads D.files D.faults D.put_faults desk.old desk.new result }
+{
+    let lock = read_lock_at(alloc, desk, path)?;
+    match judge_lock(alloc, problem, &lock) {
+        Ok(_) => Ok(lock.graph),
+        Err(stop) => Err(stop),
+    }
 }

@@ -3,17 +3,17 @@ use Rattle.std.specs.Prelude.{ℕ, ◌+◌, ◌-◌, ◌*◌, ◌^◌, nat_lt, L
 use Rattle.std.specs.Str.{bytes_eq}
 
 -- a number with one more digit: none from 2^64 on
-abbrev pub with_digit : ℕ → ℕ → Option ℕ
-with_digit n b = if nat_lt (n * 10 + (b - 48)) (2 ^ 64) then Some (n * 10 + (b - 48)) else None
+abbrev pub with_decimal_digit : ℕ → ℕ → Option ℕ
+with_decimal_digit n b = if nat_lt (n * 10 + (b - 48)) (2 ^ 64) then Some (n * 10 + (b - 48)) else None
 
 -- the number that digits write behind those of another; what is no digit is read somehow
 abbrev pub digits_behind : ℕ → List ℕ → Option ℕ
 digits_behind n [] = Some n
-digits_behind n (b ∷ bs) = option_and_then (λ m. digits_behind m bs) (with_digit n b)
+digits_behind n (b ∷ bs) = option_and_then (λ m. digits_behind m bs) (with_decimal_digit n b)
 
-unfoldable pub if_written : List ℕ → ℕ → Option ℕ
-if_written text n = if bytes_eq (decimal n) text then Some n else None
+unfoldable pub if_decimal : List ℕ → ℕ → Option ℕ
+if_decimal text n = if bytes_eq (decimal n) text then Some n else None
 
 -- the number of which this is the text
 unfoldable pub number_in : List ℕ → Option ℕ
-number_in text = option_and_then (if_written text) (digits_behind 0 text)
+number_in text = option_and_then (if_decimal text) (digits_behind 0 text)

@@ -24,12 +24,12 @@ joined_words first more = first ++ flat_map (λ word. 32 ∷ word) more
 abbrev pub is_blank : List ℕ → Bool
 is_blank text = list_all is_white text
 
-unfoldable pub is_same : List ℕ → List ℕ → Bool
-is_same a b = bytes_eq a b
+unfoldable pub is_same_path : List ℕ → List ℕ → Bool
+is_same_path a b = bytes_eq a b
 
 -- `-` is no path
-unfoldable pub is_dash : List ℕ → Bool
-is_dash path = bytes_eq path (codes "-")
+unfoldable pub is_dash_path : List ℕ → Bool
+is_dash_path path = bytes_eq path (codes "-")
 
 -- what the words behind a verb say, of which those of the spec are joined; `-` where a command has no such file
 pub record Command : Type 0 where
@@ -50,11 +50,14 @@ row work lock cert = Some (record { work = work; lock = lock; cert = cert })
 -- the verbs over files, by their names: whether LOCK and whether CERT is a word, and whether `-` may stand there for none
 unfoldable pub verb_of : List ℕ → Option Verb
 verb_of name =
-    if is_same name (codes "concretize") then row works.Concretize Needed Optional
-    else if is_same name (codes "judge") then row works.Judge Needed Absent
-    else if is_same name (codes "check") then row works.Check Needed Needed
-    else if is_same name (codes "refute") then row works.Refute Absent Needed
-    else if is_same name (codes "explain") then row works.Explain Absent Absent
+    if is_same_path name (codes "concretize") then row works.Concretize Needed Optional
+    else if is_same_path name (codes "judge") then row works.Judge Needed Absent
+    else if is_same_path name (codes "check") then row works.Check Needed Needed
+    else if is_same_path name (codes "fresh") then row works.Fresh Needed Absent
+    else if is_same_path name (codes "refute") then row works.Refute Absent Needed
+    else if is_same_path name (codes "explain") then row works.Explain Absent Absent
+    else if is_same_path name (codes "find") then row works.Find Absent Absent
+    else if is_same_path name (codes "plan") then row works.Plan Needed Absent
     else None
 
 -- ---- the words behind a verb
@@ -81,13 +84,13 @@ is_word file = true
 
 -- whether a file is missing that is needed
 abbrev pub lacks : FileWord → List ℕ → Bool
-lacks Needed path = is_dash path
+lacks Needed path = is_dash_path path
 lacks file path = false
 
 -- whether a file is missing, or one stands for both
 abbrev pub lacks_file : Verb → List ℕ → List ℕ → Bool
 lacks_file verb lock cert =
-    lacks verb.lock lock || (lacks verb.cert cert || (is_word verb.lock && (is_word verb.cert && is_same lock cert)))
+    lacks verb.lock lock || (lacks verb.cert cert || (is_word verb.lock && (is_word verb.cert && is_same_path lock cert)))
 
 -- whether a command lacks a file, or a spec
 abbrev pub is_wrong : Verb → Command → Bool
@@ -160,7 +163,7 @@ trial_of others = None
 abbrev pub command_of : List (List ℕ) → Option Command
 command_of [] = None
 command_of (name ∷ more) =
-    if is_same name (codes "trial") then trial_of more
+    if is_same_path name (codes "trial") then trial_of more
     else option_and_then (λ verb. command_by verb more) (verb_of name)
 
 -- the path of the lock file that the words name: `-` where there is none

@@ -2,7 +2,7 @@
 
 ghost use Rattle.std.specs.Prelude.{◌≡◌, IfOk};
 ghost use Rattle.std.specs.String.{string_bytes};
-ghost use Rattle.run_words.specs.Words.{words_of, joined_words, command_over, is_word, is_wrong, unless_wrong, is_blank, is_same, is_dash};
+ghost use Rattle.run_words.specs.Words.{words_of, joined_words, command_over, is_word, is_wrong, unless_wrong, is_blank, is_same_path, is_dash_path};
 ghost use Rattle.run_words.specs.Words as words;
 
 use crate::verbs::{FileWord, Verb};
@@ -19,17 +19,23 @@ pub enum Work {
     Judge,
     /// Judges it, and whether a certificate shows that it is the best.
     Check,
+    /// Judges it, and whether it is still the best.
+    Fresh,
     /// Checks whether a certificate shows that there is none.
     Refute,
     /// Says why there is none.
     Explain,
+    /// Finds the installed packages that meet a spec.
+    Find,
+    /// Says in which order the graph of a lock file can be built.
+    Plan,
     /// Finds the best graph of a repository that is made in memory, of 1 to 1,000 packages.
     Trial { packages: u64, seed: u64 },
 }
 
 /// What the words behind a verb say: `concretize` and `check REPO SETTINGS DATABASE LOCK CERT SPEC`,
-/// `judge REPO SETTINGS DATABASE LOCK SPEC`, `refute REPO SETTINGS DATABASE CERT SPEC`,
-/// `explain REPO SETTINGS DATABASE SPEC`, `trial N SEED`.
+/// `judge`, `fresh` and `plan REPO SETTINGS DATABASE LOCK SPEC`, `refute REPO SETTINGS DATABASE CERT SPEC`,
+/// `explain` and `find REPO SETTINGS DATABASE SPEC`, `trial N SEED`.
 #[derive(Debug, Drop)]
 pub struct Command<'a> {
     pub work: Work,
@@ -71,17 +77,17 @@ fn is_blank(text: &[u8]) -> bool
     text.iter().all(|b| is_white(*b))
 }
 
-#[tactic(auto, unfolding(crate::specs::Words::is_same))]
+#[tactic(auto, unfolding(crate::specs::Words::is_same_path))]
 pub(crate) fn is_same(a: &str, b: &str) -> bool
-    ensures { result ≡ is_same a.now b.now }
+    ensures { result ≡ is_same_path a.now b.now }
 {
     a == b
 }
 
 /// Whether a path is written `-`, which stands for none.
-#[tactic(auto, unfolding(crate::specs::Words::is_dash))]
+#[tactic(auto, unfolding(crate::specs::Words::is_dash_path))]
 pub fn is_dash(path: &str) -> bool
-    ensures { result ≡ is_dash path.now }
+    ensures { result ≡ is_dash_path path.now }
 {
     path == "-"
 }

@@ -1,13 +1,13 @@
 //! Numbers among the words.
 
 ghost use Rattle.std.specs.Prelude.{◌≡◌, IfOk};
-ghost use Rattle.run_words.specs.Numbers.{with_digit, digits_behind, if_written, number_in};
+ghost use Rattle.run_words.specs.Numbers.{with_decimal_digit, digits_behind, if_decimal, number_in};
 
 use std::alloc::{AllocError, Global};
 
 /// The number with one more digit; none from 2^64 on.
 fn with_digit(value: u64, byte: u8) -> Option<u64>
-    ensures { result ≡ with_digit value byte }
+    ensures { result ≡ with_decimal_digit value byte }
 {
     value
         .checked_mul(10)?
@@ -26,9 +26,9 @@ fn digits_behind(value: u64, text: &[u8]) -> Option<u64>
 }
 
 /// The number, where it is written so.
-#[tactic(auto, unfolding(crate::specs::Numbers::if_written))]
+#[tactic(auto, unfolding(crate::specs::Numbers::if_decimal))]
 fn if_written(alloc: Global, text: &str, number: u64) -> Result<Option<u64>, AllocError>
-    ensures { IfOk result (λ n. n ≡ if_written text.now number) }
+    ensures { IfOk result (λ n. n ≡ if_decimal text.now number) }
 {
     let written = format!(in alloc; "{number}")?;
     if written.as_str() == text {

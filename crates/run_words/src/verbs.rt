@@ -46,10 +46,16 @@ fn verb_of(name: &str) -> Option<Verb>
         row(Work::Judge, FileWord::Needed, FileWord::Absent)
     } else if is_same(name, "check") {
         row(Work::Check, FileWord::Needed, FileWord::Needed)
+    } else if is_same(name, "fresh") {
+        row(Work::Fresh, FileWord::Needed, FileWord::Absent)
     } else if is_same(name, "refute") {
         row(Work::Refute, FileWord::Absent, FileWord::Needed)
     } else if is_same(name, "explain") {
         row(Work::Explain, FileWord::Absent, FileWord::Absent)
+    } else if is_same(name, "find") {
+        row(Work::Find, FileWord::Absent, FileWord::Absent)
+    } else if is_same(name, "plan") {
+        row(Work::Plan, FileWord::Needed, FileWord::Absent)
     } else {
         None
     }

@@ -14,5 +14,6 @@ pub(crate) fn status_name(status: Status) -> &'static str {
         Status::TooLarge => "TooLarge",
         Status::Refused => "Refused",
         Status::NoMemory => "NoMemory",
+        Status::Stale => "Stale",
     }
 }

@@ -10,18 +10,18 @@ use Rattle.spec_grammar.specs.declared.part.Spec.{Spec}
 use Rattle.spec_grammar.specs.declared.fault.SpecFault.{SpecFault}
 use Rattle.spec_grammar.specs.declared.fault.SpecFault.TheVariants as spec
 use Rattle.json_readers.specs.Faults.{Reading}
-use Rattle.settings_reader.specs.Told.{Outcome, Told, Then, Goes, Below, raised, said, done}
+use Rattle.settings_reader.specs.Told.{ToldResult, Told, ToldThen, Goes, Below, raised, told_by, done}
 use Rattle.settings_reader.specs.Parsed.{AreEach, IsOptional}
 use Rattle.settings_reader.specs.Versions.{IsSet, IsSetIn}
 use Rattle.settings_reader.specs.Externals.{IsReadAs, IsDescribed, described_of}
 
 abbrev pub IsOne : {T : Type 0} → Told T → Type 0
-IsOne told = (a b : Outcome _) → told a → told b → a ≡ b
+IsOne told = (a b : ToldResult _) → told a → told b → a ≡ b
 
 -- ---- steps
 
 -- a reading has one outcome
-pub said_one : {T : Type 0} (read : Reading T) → IsOne (said read)
+pub said_one : {T : Type 0} (read : Reading T) → IsOne (told_by read)
 said_one read a b h k = h ∙ sym k
 
 -- a step that is done has one outcome
@@ -32,15 +32,15 @@ done_one x a b h k = h ∙ sym k
 pub below_one : {T : Type 0} (key : List ℕ) (told : Told T) → IsOne told → IsOne (Below key told)
 below_one key told one a b h k = h.is ∙ ap (raised key) (one h.inner k.inner h.right k.right) ∙ sym k.is
 
-goes_one : {A B : Type 0} (step : Outcome A) (next : A → Told B) → ((x : A) → IsOne (next x)) → (a b : Outcome B) → Goes step next a
+goes_one : {A B : Type 0} (step : ToldResult A) (next : A → Told B) → ((x : A) → IsOne (next x)) → (a b : ToldResult B) → Goes step next a
     → Goes step next b → a ≡ b
 goes_one (Ok x) next one a b h k = one x a b h k
 goes_one (Err m) next one a b h k = h ∙ sym k
 
 -- two steps have one outcome, if each has
-pub then_one : {A B : Type 0} (first : Told A) (next : A → Told B) → IsOne first → ((x : A) → IsOne (next x)) → IsOne (Then first next)
+pub then_one : {A B : Type 0} (first : Told A) (next : A → Told B) → IsOne first → ((x : A) → IsOne (next x)) → IsOne (ToldThen first next)
 then_one first next first_one next_one a b h k =
-    let P : Outcome _ → Type 0 = λ step. Goes step next a in
+    let P : ToldResult _ → Type 0 = λ step. Goes step next a in
     goes_one k.step next next_one a b (subst P (first_one h.step k.step h.told k.told) h.goes) k.goes
 
 -- ---- lists

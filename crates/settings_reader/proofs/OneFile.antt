@@ -8,8 +8,8 @@ use Rattle.json_readers.specs.Objects.{known, may, need}
 use Rattle.json_readers.specs.Texts.{text_of, truth_value}
 use Rattle.json_readers.proofs.Once.{json_one}
 use Rattle.json_texts.specs.Forms.{name_meaning}
-use Rattle.settings_reader.specs.Told.{Outcome, Told, Below, said}
-use Rattle.settings_reader.specs.Parsed.{IsList, IsListAt, IsOptional, items_at, members_of}
+use Rattle.settings_reader.specs.Told.{ToldResult, Told, Below, told_by}
+use Rattle.settings_reader.specs.Parsed.{IsListOf, IsListAt, IsOptional, items_at, member_pairs}
 use Rattle.settings_reader.specs.Versions.{IsVersionSet}
 use Rattle.settings_reader.specs.Externals as external_spec
 use Rattle.settings_reader.specs.Externals.{IsDescribed, IsExternal}
@@ -18,50 +18,50 @@ use Rattle.settings_reader.specs.Packages.{ArePackages, ArePackagesAt, IsPackage
 use Rattle.settings_reader.specs.Order.{head_of, tail_of}
 use Rattle.settings_reader.specs.Settings as settings
 use Rattle.settings_reader.specs.Settings.{IsSettings, IsTable}
-use Rattle.settings_reader.specs.Files.{IsFirstFault, IsFileFault, IsOfFile, with_pointer}
+use Rattle.settings_reader.specs.Files.{IsFirstFault, IsSettingsFileFault, IsOfFile, with_pointer}
 use Rattle.site_settings.specs.declared.settings.Settings.{Settings}
 use Rattle.settings_reader.specs.declared.fault.SettingsFault.{SettingsFault}
 use Rattle.settings_reader.specs.declared.fault.SettingsFault.TheVariants as fault
 use Rattle.settings_reader.proofs.One.{IsOne, ReadsSetsOnce, ReadsSpecsOnce, said_one, done_one, below_one, then_one, each_one, optional_one, set_in_one, described_one}
 
-list_one : {T : Type 0} (tells : Data → Told T) → ((d : Data) → IsOne (tells d)) → (d : Data) → IsOne (IsList tells d)
-list_one tells one d = then_one (said (given (as_array d))) _ (said_one (given (as_array d)))
+list_one : {T : Type 0} (tells : Data → Told T) → ((d : Data) → IsOne (tells d)) → (d : Data) → IsOne (IsListOf tells d)
+list_one tells one d = then_one (told_by (given (as_array d))) _ (said_one (given (as_array d)))
     (λ ds. each_one (λ key. tells) (λ key. one) (items_at 0 ds))
 
 list_at_one : {T : Type 0} (tells : Data → Told T) → ((d : Data) → IsOne (tells d)) → (key : List ℕ) (ms : Members)
     → IsOne (IsListAt tells key ms)
-list_at_one tells one key ms = below_one key (IsOptional (IsList tells) (get_member key ms))
-    (optional_one (IsList tells) (list_one tells one) (get_member key ms))
+list_at_one tells one key ms = below_one key (IsOptional (IsListOf tells) (get_member key ms))
+    (optional_one (IsListOf tells) (list_one tells one) (get_member key ms))
 
 external_one : ReadsSpecsOnce → (name platform : List ℕ) (d : Data) → IsOne (IsExternal name platform d)
 external_one laws name platform d =
-    then_one (said (known external_spec.keys d)) _ (said_one (known external_spec.keys d)) (λ ms.
-    then_one (said (need (text_of Some) (codes "spec") ms)) _ (said_one (need (text_of Some) (codes "spec") ms)) (λ text.
+    then_one (told_by (known external_spec.external_keys d)) _ (said_one (known external_spec.external_keys d)) (λ ms.
+    then_one (told_by (need (text_of Some) (codes "spec") ms)) _ (said_one (need (text_of Some) (codes "spec") ms)) (λ text.
     then_one (Below (codes "spec") (IsDescribed name platform text)) _
     (below_one (codes "spec") (IsDescribed name platform text) (described_one laws name platform text)) (λ d.
-    then_one (said (need (text_of Some) (codes "prefix") ms)) _ (said_one (need (text_of Some) (codes "prefix") ms))
+    then_one (told_by (need (text_of Some) (codes "prefix") ms)) _ (said_one (need (text_of Some) (codes "prefix") ms))
     (λ prefix. done_one _))))
 
 package_one : ReadsSetsOnce → ReadsSpecsOnce → (name platform : List ℕ) (d : Data) → IsOne (IsPackage name platform d)
 package_one sets specs name platform d =
-    then_one (said (known package_spec.keys d)) _ (said_one (known package_spec.keys d)) (λ ms.
+    then_one (told_by (known package_spec.package_keys d)) _ (said_one (known package_spec.package_keys d)) (λ ms.
     then_one (IsListAt IsVersionSet (codes "versions") ms) _
     (list_at_one IsVersionSet (λ v. set_in_one sets (as_str v)) (codes "versions") ms) (λ versions.
-    then_one (said (may truth_value (codes "buildable") ms)) _ (said_one (may truth_value (codes "buildable") ms)) (λ buildable.
+    then_one (told_by (may truth_value (codes "buildable") ms)) _ (said_one (may truth_value (codes "buildable") ms)) (λ buildable.
     then_one (IsListAt (IsExternal name platform) (codes "externals") ms) _
     (list_at_one (IsExternal name platform) (external_one specs name platform) (codes "externals") ms) (λ externals. done_one _))))
 
 packages_one : ReadsSetsOnce → ReadsSpecsOnce → (platform : List ℕ) (d : Data) → IsOne (ArePackages platform d)
-packages_one sets specs platform d = then_one (said (named name_meaning d)) _ (said_one (named name_meaning d))
-    (λ ms. each_one _ (λ name. package_one sets specs name platform) (members_of ms))
+packages_one sets specs platform d = then_one (told_by (named name_meaning d)) _ (said_one (named name_meaning d))
+    (λ ms. each_one _ (λ name. package_one sets specs name platform) (member_pairs ms))
 
 -- the settings of a value have one outcome
 pub settings_one : ReadsSetsOnce → ReadsSpecsOnce → (d : Data) → IsOne (IsSettings d)
 settings_one sets specs d =
-    then_one (said (known settings.keys d)) _ (said_one (known settings.keys d)) (λ ms.
-    then_one (said (head_of ms)) _ (said_one (head_of ms)) (λ head.
+    then_one (told_by (known settings.settings_keys d)) _ (said_one (known settings.settings_keys d)) (λ ms.
+    then_one (told_by (head_of ms)) _ (said_one (head_of ms)) (λ head.
     then_one (IsTable head.targets) _ (λ a b h k. h ∙ sym k) (λ targets.
-    then_one (said (tail_of ms)) _ (said_one (tail_of ms)) (λ tail.
+    then_one (told_by (tail_of ms)) _ (said_one (tail_of ms)) (λ tail.
     then_one (ArePackagesAt head.platform ms) _
     (below_one (codes "packages") _ (optional_one (ArePackages head.platform) (packages_one sets specs head.platform)
     (get_member (codes "packages") ms))) (λ packages. done_one _)))))
@@ -77,7 +77,7 @@ err_or e (Ok x) = e
 err_or e (Err f) = f
 
 -- the same value has one outcome
-same_one : ReadsSetsOnce → ReadsSpecsOnce → (d e : Data) (a b : Outcome Settings) → d ≡ e → IsSettings d a → IsSettings e b → a ≡ b
+same_one : ReadsSetsOnce → ReadsSpecsOnce → (d e : Data) (a b : ToldResult Settings) → d ≡ e → IsSettings d a → IsSettings e b → a ≡ b
 same_one sets specs d e a b is h k = let P : Data → Type 0 = λ v. IsSettings v a in settings_one sets specs e a b (subst P is h) k
 
 -- a file says one settings at most
@@ -90,7 +90,8 @@ first_one sets specs d e f g is h k =
     (same_one sets specs d e (Err h.misread) (Err k.misread) is h.first k.first)) ∙ sym k.is
 
 -- a file has one fault at most besides want of memory
-pub fault_one : ReadsSetsOnce → ReadsSpecsOnce → (bytes : List ℕ) (f g : SettingsFault) → IsFileFault bytes f → IsFileFault bytes g
+pub fault_one : ReadsSetsOnce → ReadsSpecsOnce → (bytes : List ℕ) (f g : SettingsFault) → IsSettingsFileFault bytes f
+    → IsSettingsFileFault bytes g
     → f ≢ fault.OutOfMemory → g ≢ fault.OutOfMemory → f ≡ g
 fault_one sets specs bytes f g (inl h) k nf ng = absurd (nf h)
 fault_one sets specs bytes f g (inr h) (inl k) nf ng = absurd (ng k)
@@ -104,7 +105,7 @@ ok_is_not_err x e h = cc
 
 -- a file of settings is refused for want of memory alone
 pub right_one : ReadsSetsOnce → ReadsSpecsOnce → (bytes : List ℕ) (settings : Settings) (f : SettingsFault) → IsOfFile bytes settings
-    → IsFileFault bytes f → f ≡ fault.OutOfMemory
+    → IsSettingsFileFault bytes f → f ≡ fault.OutOfMemory
 right_one sets specs bytes settings f h (inl k) = k
 right_one sets specs bytes settings f h (inr (inl k)) = absurd (k.1 h.0 h.1)
 right_one sets specs bytes settings f h (inr (inr k)) =

@@ -1,7 +1,7 @@
 -- Outcomes of steps that gave a value.
 use Rattle.std.proofs.Common.{◌≡◌, sym, ap, subst, ℕ, List, Result, Ok, Err}
 use Rattle.json_readers.specs.Faults.{Reading}
-use Rattle.settings_reader.specs.Told.{Outcome, Told, Then, Goes, Below, raised, said}
+use Rattle.settings_reader.specs.Told.{ToldResult, Told, ToldThen, Goes, Below, raised, told_by}
 
 -- ---- outcomes
 
@@ -19,16 +19,16 @@ ok_no x m e = cc
 abbrev pub Gave : {A B : Type 0} → Told A → (A → Told B) → B → Type 0
 Gave {A = A} first next y = (x : A) × first (Ok x) × next x (Ok y)
 
-goes_ok : {A B : Type 0} (first : Told A) (next : A → Told B) (y : B) (step : Outcome A) → first step → Goes step next (Ok y)
+goes_ok : {A B : Type 0} (first : Told A) (next : A → Told B) (y : B) (step : ToldResult A) → first step → Goes step next (Ok y)
     → Gave first next y
 goes_ok first next y (Ok x) told goes = (x, told, goes)
 goes_ok first next y (Err m) told goes = absurd (ok_no y m goes)
 
 -- two steps that gave a value did so each
-pub then_ok : {A B : Type 0} (first : Told A) (next : A → Told B) (y : B) → Then first next (Ok y) → Gave first next y
+pub then_ok : {A B : Type 0} (first : Told A) (next : A → Told B) (y : B) → ToldThen first next (Ok y) → Gave first next y
 then_ok first next y h = goes_ok first next y h.step h.told h.goes
 
-raised_ok : {T : Type 0} (key : List ℕ) (told : Told T) (x : T) (inner : Outcome T) → told inner → Ok x ≡ raised key inner → told (Ok x)
+raised_ok : {T : Type 0} (key : List ℕ) (told : Told T) (x : T) (inner : ToldResult T) → told inner → Ok x ≡ raised key inner → told (Ok x)
 raised_ok key told x (Ok y) right is = subst (λ z. told (Ok z)) (sym (ok_same x y is)) right
 raised_ok key told x (Err m) right is = absurd (ok_no x _ is)
 
@@ -37,6 +37,6 @@ pub below_ok : {T : Type 0} (key : List ℕ) (told : Told T) (x : T) → Below k
 below_ok key told x h = raised_ok key told x h.inner h.right h.is
 
 -- a value that was told of a reading
-pub said_ok : {T : Type 0} (reading : Reading T) (x : T) → said reading (Ok x) → reading ≡ Ok x
+pub said_ok : {T : Type 0} (reading : Reading T) (x : T) → told_by reading (Ok x) → reading ≡ Ok x
 said_ok (Ok y) x h = ap Ok (sym (ok_same x y h))
 said_ok (Err m) x h = absurd (ok_no x _ h)

@@ -5,12 +5,13 @@ use Rattle.std.proofs.lemmas.Result.{err_from_is_err_and}
 use Rattle.json_readers.specs.Faults.{Reading, Gives, pointed}
 use Rattle.json_readers.specs.declared.fault.JsonFault.{JsonFault}
 use Rattle.json_readers.specs.declared.fault.JsonFault.TheVariants as json
-use Rattle.settings_reader.specs.Told.{Outcome, Told, Tells, Then, Below, Raises, misread, lift, said, stop_of}
+use Rattle.settings_reader.specs.Told.{ToldResult, Told, Tells, ToldThen, Below, Raises, misread, lift, told_by, stop_of}
 use Rattle.settings_reader.specs.declared.stop.Stop.{Stop}
 use Rattle.settings_reader.specs.declared.stop.Stop.TheVariants as stop
 
 -- what is right by one relation is right by another
-pub tells_map : {T : Type 0} (P Q : Told T) (result : Result T Stop) → ((out : Outcome T) → P out → Q out) → Tells result P → Tells result Q
+pub tells_map : {T : Type 0} (P Q : Told T) (result : Result T Stop) → ((out : ToldResult T) → P out → Q out) → Tells result P
+    → Tells result Q
 tells_map P Q (Ok x) f h = f (Ok x) h
 tells_map P Q (Err (stop.Misread m)) f h = f (Err m) h
 tells_map P Q (Err stop.OutOfMemory) f h = tt
@@ -32,26 +33,26 @@ hands_on_fault told fault result h tells = rw (carried (stop_of fault) result h)
 -- ---- a step that a reader computes
 
 -- a reading that gave a value, and then the next step
-pub said_ok : {A B : Type 0} (read : Reading A) (x : A) (next : A → Told B) (out : Outcome B) → read ≡ Ok x → next x out
-    → Then (said read) next out
+pub said_ok : {A B : Type 0} (read : Reading A) (x : A) (next : A → Told B) (out : ToldResult B) → read ≡ Ok x → next x out
+    → ToldThen (told_by read) next out
 said_ok read x next out is goes = record { step = Ok x; told = rw is refl; goes = goes }
 
 -- a reading that gave a fault ends all
 pub said_err : {A B : Type 0} (read : Reading A) (next : A → Told B) (fault : JsonFault) (s : Stop) → s ≡ stop_of fault
-    → Gives {T = A} (Err fault) read → Tells {T = B} (Err s) (Then (said read) next)
+    → Gives {T = A} (Err fault) read → Tells {T = B} (Err s) (ToldThen (told_by read) next)
 said_err read next (json.Misfit m) s is gives = rw is (record { step = lift read; told = refl; goes = rw gives refl })
 said_err read next json.OutOfMemory s is gives = rw is tt
 
 -- ---- a step that a relation tells
 
 -- a step that gave a value, and then the next
-pub told_ok : {A B : Type 0} (first : Told A) (x : A) (next : A → Told B) (out : Outcome B) → first (Ok x) → next x out
-    → Then first next out
+pub told_ok : {A B : Type 0} (first : Told A) (x : A) (next : A → Told B) (out : ToldResult B) → first (Ok x) → next x out
+    → ToldThen first next out
 told_ok first x next out told goes = record { step = Ok x; told = told; goes = goes }
 
 -- a step that stopped ends all
 pub told_err : {A B : Type 0} (first : Told A) (next : A → Told B) (s : Stop) → Tells {T = A} (Err s) first
-    → Tells {T = B} (Err s) (Then first next)
+    → Tells {T = B} (Err s) (ToldThen first next)
 told_err first next (stop.Misread m) told = record { step = Err m; told = told; goes = refl }
 told_err first next stop.OutOfMemory told = tt
 
@@ -59,14 +60,14 @@ told_err first next stop.OutOfMemory told = tt
 
 -- a result that tells the step behind a reading tells both
 pub said_tells : {A B : Type 0} (read : Reading A) (x : A) (next : A → Told B) (result : Result B Stop) → read ≡ Ok x
-    → Tells result (next x) → Tells result (Then (said read) next)
+    → Tells result (next x) → Tells result (ToldThen (told_by read) next)
 said_tells read x next (Ok y) is tells = said_ok read x next (Ok y) is tells
 said_tells read x next (Err (stop.Misread m)) is tells = said_ok read x next (Err m) is tells
 said_tells read x next (Err stop.OutOfMemory) is tells = tt
 
 -- a result that tells the step behind another tells both
 pub told_tells : {A B : Type 0} (first : Told A) (x : A) (next : A → Told B) (result : Result B Stop) → first (Ok x) → Tells result (next x)
-    → Tells result (Then first next)
+    → Tells result (ToldThen first next)
 told_tells first x next (Ok y) told tells = told_ok first x next (Ok y) told tells
 told_tells first x next (Err (stop.Misread m)) told tells = told_ok first x next (Err m) told tells
 told_tells first x next (Err stop.OutOfMemory) told tells = tt

@@ -14,8 +14,8 @@ use Rattle.spec_grammar.specs.declared.part.Part.{Part}
 use Rattle.spec_grammar.specs.declared.part.Spec.{Spec}
 use Rattle.spec_grammar.specs.declared.fault.SpecFault.{SpecFault}
 use Rattle.settings_reader.specs.Told.{Told, Below}
-use Rattle.settings_reader.specs.Parsed.{AreEach, IsList, IsListAt, IsOptional, items_at, members_of}
-use Rattle.settings_reader.specs.Externals.{IsDescribed, IsExternal, IsReadAs, compiler_in, described_of, described_or_bad, is_alone, only_described, parts_of, target_in, version_in, with_prefix}
+use Rattle.settings_reader.specs.Parsed.{AreEach, IsListOf, IsListAt, IsOptional, items_at, member_pairs}
+use Rattle.settings_reader.specs.Externals.{IsDescribed, IsExternal, IsReadAs, compiler_in, described_of, described_or_bad, is_alone, only_described, parts_of, target_in, single_version_in, with_prefix}
 use Rattle.settings_reader.specs.Packages.{ArePackages, ArePackagesAt, IsPackage}
 use Rattle.settings_reader.specs.Settings.{IsSettings}
 use Rattle.settings_reader.specs.Files.{IsOfFile}
@@ -50,13 +50,15 @@ optional_ok : {T : Type 0} (p : T → Bool) (tells : Data → Told (List T)) →
 optional_ok p tells each None xs h = subst (λ l. list_all p l ≡ true) (sym (ok_same xs [] h)) refl
 optional_ok p tells each (Some d) xs h = each d xs h
 
-list_ok : {T : Type 0} (p : T → Bool) (tells : Data → Told T) → ((d : Data) → Passes p (tells d)) → (d : Data) → Passes (list_all p) (IsList tells d)
+list_ok : {T : Type 0} (p : T → Bool) (tells : Data → Told T) → ((d : Data) → Passes p (tells d)) → (d : Data)
+    → Passes (list_all p) (IsListOf tells d)
 list_ok p tells each d xs h = let items = then_ok _ _ xs h in each_ok p (λ key. tells) (λ key. each) (items_at 0 items.0) xs items.2
 
 list_at_ok : {T : Type 0} (p : T → Bool) (tells : Data → Told T) → ((d : Data) → Passes p (tells d)) → (key : List ℕ) (ms : Members)
     → Passes (list_all p) (IsListAt tells key ms)
 list_at_ok p tells each key ms xs h =
-    optional_ok p (IsList tells) (list_ok p tells each) (get_member key ms) xs (below_ok key (IsOptional (IsList tells) (get_member key ms)) xs h)
+    optional_ok p (IsListOf tells) (list_ok p tells each) (get_member key ms) xs
+    (below_ok key (IsOptional (IsListOf tells) (get_member key ms)) xs h)
 
 -- ---- what one spec says
 
@@ -71,7 +73,7 @@ some_map f (Some x) y e = (x, some_same (f x) y e)
 -- its variants are those of its part
 pub part_variants : (part : Part) (d : Described) → parts_of part ≡ Some d → part.variants ≡ d.variants
 part_variants part d e =
-    let version = some_then _ (version_in part.versions) d e in
+    let version = some_then _ (single_version_in part.versions) d e in
     let compiler = some_then _ (compiler_in part.compiler) d version.1 in
     let target = some_map _ (target_in part.targets) d compiler.1 in
     ap (λ (x : Described). x.variants) target.1
@@ -144,7 +146,7 @@ package_filled laws name platform d entry h =
 packages_filled : SpecsAreValued → (platform : List ℕ) (d : Data) → Passes (list_all has_values) (ArePackages platform d)
 packages_filled laws platform d entries h =
     let ms = then_ok _ _ entries h in
-    each_ok has_values (λ name d. IsPackage name platform d) (λ name. package_filled laws name platform) (members_of ms.0) entries ms.2
+    each_ok has_values (λ name d. IsPackage name platform d) (λ name. package_filled laws name platform) (member_pairs ms.0) entries ms.2
 
 settings_filled : SpecsAreValued → (d : Data) → Passes are_valued (IsSettings d)
 settings_filled laws d settings h =

@@ -43,5 +43,6 @@ abbrev pub IsOfFile : List ℕ → Settings → Type 0
 IsOfFile bytes settings = (d : Data) × IsJson bytes d × IsSettings d (Ok settings)
 
 -- the bytes are no JSON text, or that of a value with this fault; want of memory may come instead
-abbrev pub IsFileFault : List ℕ → SettingsFault → Type 0
-IsFileFault bytes f = (f ≡ fault.OutOfMemory) ⊎ ((f ≡ fault.NotJson) × IsNoJson bytes) ⊎ ((d : Data) × IsJson bytes d × IsFirstFault d f)
+abbrev pub IsSettingsFileFault : List ℕ → SettingsFault → Type 0
+IsSettingsFileFault bytes f = (f ≡ fault.OutOfMemory) ⊎ ((f ≡ fault.NotJson) × IsNoJson bytes)
+    ⊎ ((d : Data) × IsJson bytes d × IsFirstFault d f)

@@ -25,11 +25,11 @@ budget_at = may_or standard.conflict_budget whole_number (codes "conflict_budget
 abbrev pub os_at : Members → Reading (List (List ℕ))
 os_at = may_or standard.os os_list (codes "os")
 
-abbrev pub targets_at : Members → Reading (List TargetEntry)
-targets_at = may_or standard.targets target_list (codes "targets")
+abbrev pub target_entries_at : Members → Reading (List TargetEntry)
+target_entries_at = may_or standard.targets target_list (codes "targets")
 
 abbrev pub compilers_at : Members → Reading (List CompilerEntry)
 compilers_at = may_or standard.compilers compiler_list (codes "compilers")
 
-abbrev pub providers_at : Members → Reading (List (List ℕ × List (List ℕ)))
-providers_at = may_or [] (known_map_of name_meaning provider_list) (codes "providers")
+abbrev pub provider_entries_at : Members → Reading (List (List ℕ × List (List ℕ)))
+provider_entries_at = may_or [] (known_map_of name_meaning provider_list) (codes "providers")

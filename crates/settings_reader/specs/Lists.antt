@@ -35,8 +35,8 @@ target_list d = do
   _ ← not_empty entries
   Ok entries
 
-unfoldable pub compiler_at : Data → Reading CompilerEntry
-compiler_at d = do
+unfoldable pub compiler_entry_at : Data → Reading CompilerEntry
+compiler_entry_at d = do
   ms ← known (codes "name" ∷ codes "os" ∷ codes "targets" ∷ codes "version" ∷ []) d
   name ← need (text_of name_meaning) (codes "name") ms
   version ← need (text_of version_in) (codes "version") ms
@@ -45,21 +45,21 @@ compiler_at d = do
   Ok (record { compiler = record { name = name; version = version }; os = os; targets = targets })
 
 -- by name, then by version
-abbrev pub pair_cmp : List ℕ × List ℕ → List ℕ × List ℕ → Ordering
-pair_cmp a b = ordering_then (slice_cmp nat_cmp a.0 b.0) (slice_cmp nat_cmp a.1 b.1)
+abbrev pub compiler_pair_cmp : List ℕ × List ℕ → List ℕ × List ℕ → Ordering
+compiler_pair_cmp a b = ordering_then (slice_cmp nat_cmp a.0 b.0) (slice_cmp nat_cmp a.1 b.1)
 
 abbrev pub pair_of : Compiler → List ℕ × List ℕ
 pair_of compiler = (compiler.name, compiler.version)
 
-abbrev pub pairs_of : List CompilerEntry → List (List ℕ × List ℕ)
-pairs_of entries = map (λ entry. pair_of entry.compiler) entries
+abbrev pub compiler_pairs : List CompilerEntry → List (List ℕ × List ℕ)
+compiler_pairs entries = map (λ entry. pair_of entry.compiler) entries
 
 -- a non-empty list of compilers, each name and version once
 unfoldable pub compiler_list : Data → Reading (List CompilerEntry)
 compiler_list d = do
-  entries ← list_of compiler_at d
+  entries ← list_of compiler_entry_at d
   _ ← not_empty entries
-  _ ← distinct pair_cmp (pairs_of entries)
+  _ ← distinct compiler_pair_cmp (compiler_pairs entries)
   Ok entries
 
 -- a list of distinct names

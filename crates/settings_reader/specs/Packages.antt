@@ -7,32 +7,32 @@ use Rattle.json_readers.specs.Objects.{known, may}
 use Rattle.json_readers.specs.Maps.{named}
 use Rattle.json_readers.specs.Texts.{truth_value}
 use Rattle.json_texts.specs.Forms.{name_meaning}
-use Rattle.settings_reader.specs.Told.{Told, ◌>>=◌, Below, done, said}
-use Rattle.settings_reader.specs.Parsed.{AreEach, IsListAt, IsOptional, members_of}
+use Rattle.settings_reader.specs.Told.{Told, ◌>>=◌, Below, done, told_by}
+use Rattle.settings_reader.specs.Parsed.{AreEach, IsListAt, IsOptional, member_pairs}
 use Rattle.settings_reader.specs.Versions.{IsVersionSet}
 use Rattle.settings_reader.specs.Externals.{IsExternal}
 use Rattle.site_settings.specs.declared.settings.PackageEntry.{PackageEntry}
 
-abbrev pub keys : List (List ℕ)
-keys = codes "buildable" ∷ codes "externals" ∷ codes "versions" ∷ []
+abbrev pub package_keys : List (List ℕ)
+package_keys = codes "buildable" ∷ codes "externals" ∷ codes "versions" ∷ []
 
 -- what is said of a name
 abbrev pub IsPackage : List ℕ → List ℕ → Data → Told PackageEntry
 IsPackage name platform d = do
-  ms ← said (known keys d)
+  ms ← told_by (known package_keys d)
   versions ← IsListAt IsVersionSet (codes "versions") ms
-  buildable ← said (may truth_value (codes "buildable") ms)
+  buildable ← told_by (may truth_value (codes "buildable") ms)
   externals ← IsListAt (IsExternal name platform) (codes "externals") ms
   done (record { name = name; versions = versions; buildable = unwrap_or buildable true; externals = externals })
 
 -- the packages one after another
 abbrev pub AreEntries : List ℕ → Members → Told (List PackageEntry)
-AreEntries platform ms = AreEach (λ name d. IsPackage name platform d) (members_of ms)
+AreEntries platform ms = AreEach (λ name d. IsPackage name platform d) (member_pairs ms)
 
 -- the packages by their names
 abbrev pub ArePackages : List ℕ → Data → Told (List PackageEntry)
 ArePackages platform d = do
-  ms ← said (named name_meaning d)
+  ms ← told_by (named name_meaning d)
   AreEntries platform ms
 
 abbrev pub ArePackagesAt : List ℕ → Members → Told (List PackageEntry)

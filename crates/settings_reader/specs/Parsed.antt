@@ -3,7 +3,7 @@ use Rattle.std.specs.Prelude.{ℕ, ◌+◌, List, [], ◌∷◌, decimal, Option
 use Rattle.serde_json.specs.Data.{Data, Items, no_items, item, Members, no_members, member}
 use Rattle.serde_json.specs.Find.{as_array, get_member}
 use Rattle.json_readers.specs.Faults.{given}
-use Rattle.settings_reader.specs.Told.{Told, ◌>>=◌, Below, done, said}
+use Rattle.settings_reader.specs.Told.{Told, ◌>>=◌, Below, done, told_by}
 
 -- the values one after another, each with its key
 abbrev pub AreEach : {T : Type 0} → (List ℕ → Data → Told T) → List (List ℕ × Data) → Told (List T)
@@ -19,16 +19,16 @@ items_at i no_items = []
 items_at i (item d ds) = (decimal i, d) ∷ items_at (i + 1) ds
 
 -- the members of an object
-abbrev pub members_of : Members → List (List ℕ × Data)
-members_of no_members = []
-members_of (member key d ms) = (key, d) ∷ members_of ms
+abbrev pub member_pairs : Members → List (List ℕ × Data)
+member_pairs no_members = []
+member_pairs (member key d ms) = (key, d) ∷ member_pairs ms
 
 abbrev pub AreItems : {T : Type 0} → (Data → Told T) → Items → Told (List T)
 AreItems tells ds = AreEach (λ key. tells) (items_at 0 ds)
 
-abbrev pub IsList : {T : Type 0} → (Data → Told T) → Data → Told (List T)
-IsList tells d = do
-  ds ← said (given (as_array d))
+abbrev pub IsListOf : {T : Type 0} → (Data → Told T) → Data → Told (List T)
+IsListOf tells d = do
+  ds ← told_by (given (as_array d))
   AreItems tells ds
 
 -- nothing is written where it is not there
@@ -38,4 +38,4 @@ IsOptional tells (Some d) = tells d
 
 -- the list at a key
 abbrev pub IsListAt : {T : Type 0} → (Data → Told T) → List ℕ → Members → Told (List T)
-IsListAt tells key ms = Below key (IsOptional (IsList tells) (get_member key ms))
+IsListAt tells key ms = Below key (IsOptional (IsListOf tells) (get_member key ms))

@@ -5,18 +5,18 @@ use Rattle.json_readers.specs.Objects.{known}
 use Rattle.target_table.specs.Faults.{fault_of}
 use Rattle.target_table.specs.declared.entry.TargetEntry.{TargetEntry}
 use Rattle.target_table.specs.declared.fault.TargetFault.{TargetFault}
-use Rattle.settings_reader.specs.Told.{Outcome, Told, ◌>>=◌, done, misread, said}
+use Rattle.settings_reader.specs.Told.{ToldResult, Told, ◌>>=◌, done, misread, told_by}
 use Rattle.settings_reader.specs.Order.{head_of, tail_of}
 use Rattle.settings_reader.specs.Packages.{ArePackagesAt}
 use Rattle.settings_reader.specs.declared.stop.What.TheVariants.{Targets}
 use Rattle.site_settings.specs.declared.settings.Settings.{Settings}
 
-abbrev pub keys : List (List ℕ)
-keys = codes "compilers" ∷ codes "conflict_budget" ∷ codes "os" ∷ codes "packages" ∷ codes "platform" ∷ codes "providers"
+abbrev pub settings_keys : List (List ℕ)
+settings_keys = codes "compilers" ∷ codes "conflict_budget" ∷ codes "os" ∷ codes "packages" ∷ codes "platform" ∷ codes "providers"
     ∷ codes "targets" ∷ []
 
 -- the targets, or their fault, which has no pointer
-abbrev pub table_or : List TargetEntry → Option TargetFault → Outcome (List TargetEntry)
+abbrev pub table_or : List TargetEntry → Option TargetFault → ToldResult (List TargetEntry)
 table_or entries None = Ok entries
 table_or entries (Some fault) = Err (misread (Targets fault) [])
 
@@ -26,10 +26,10 @@ IsTable entries out = out ≡ table_or entries (fault_of entries)
 -- the settings that a value says, or its first fault
 abbrev pub IsSettings : Data → Told Settings
 IsSettings d = do
-  ms ← said (known keys d)
-  head ← said (head_of ms)
+  ms ← told_by (known settings_keys d)
+  head ← told_by (head_of ms)
   targets ← IsTable head.targets
-  tail ← said (tail_of ms)
+  tail ← told_by (tail_of ms)
   packages ← ArePackagesAt head.platform ms
   done (record {
     platform = head.platform;

@@ -13,12 +13,12 @@ use Rattle.settings_reader.specs.declared.stop.Stop.TheVariants as stop
 use Rattle.settings_reader.specs.declared.stop.What.{What}
 use Rattle.settings_reader.specs.declared.stop.What.TheVariants as what
 
-abbrev pub Outcome : Type 0 → Type 0
-Outcome T = Result T Misread
+abbrev pub ToldResult : Type 0 → Type 0
+ToldResult T = Result T Misread
 
 -- which outcomes are right
 abbrev pub Told : Type 0 → Type 1
-Told T = Outcome T → Type 0
+Told T = ToldResult T → Type 0
 
 -- a call returned a right outcome; want of memory may come instead
 abbrev pub Tells : {T : Type 0} → Result T Stop → Told T → Type 0
@@ -32,19 +32,19 @@ misread kind at = record { what = kind; at = at }
 -- ---- steps
 
 -- what follows a step: nothing more where something was wrong
-abbrev pub Goes : {A B : Type 0} → Outcome A → (A → Told B) → Told B
+abbrev pub Goes : {A B : Type 0} → ToldResult A → (A → Told B) → Told B
 Goes (Ok x) next out = next x out
 Goes (Err m) next out = out ≡ Err m
 
 -- a step, and what follows it
-pub record Then {A B : Type 0} (first : Told A) (next : A → Told B) (out : Outcome B) : Type 0 where
-  pub step : Outcome A
+pub record ToldThen {A B : Type 0} (first : Told A) (next : A → Told B) (out : ToldResult B) : Type 0 where
+  pub step : ToldResult A
   pub told : first step
   pub goes : Goes step next out
 
 infixl 10 ◌>>=◌
 abbrev pub ◌>>=◌ : {A B : Type 0} → Told A → (A → Told B) → Told B
-(first >>= next) out = Then first next out
+(first >>= next) out = ToldThen first next out
 
 abbrev pub done : {T : Type 0} → T → Told T
 done x out = out ≡ Ok x
@@ -67,23 +67,23 @@ abbrev pub stop_of : JsonFault → Stop
 stop_of (json.Misfit m) = stop.Misread (misread_of m)
 stop_of json.OutOfMemory = stop.OutOfMemory
 
-abbrev pub lift : {T : Type 0} → Reading T → Outcome T
+abbrev pub lift : {T : Type 0} → Reading T → ToldResult T
 lift (Ok x) = Ok x
 lift (Err m) = Err (misread_of m)
 
-abbrev pub said : {T : Type 0} → Reading T → Told T
-said reading out = out ≡ lift reading
+abbrev pub told_by : {T : Type 0} → Reading T → Told T
+told_by reading out = out ≡ lift reading
 
 -- ---- pointers
 
 -- an outcome, with its pointer a step further up
-abbrev pub raised : {T : Type 0} → List ℕ → Outcome T → Outcome T
+abbrev pub raised : {T : Type 0} → List ℕ → ToldResult T → ToldResult T
 raised key (Ok x) = Ok x
 raised key (Err m) = Err (misread m.what (pointed key m.at))
 
 -- what is read below a key, or below a place of a list
-pub record Below {T : Type 0} (key : List ℕ) (told : Told T) (out : Outcome T) : Type 0 where
-  pub inner : Outcome T
+pub record Below {T : Type 0} (key : List ℕ) (told : Told T) (out : ToldResult T) : Type 0 where
+  pub inner : ToldResult T
   pub right : told inner
   pub is : out ≡ raised key inner
 

@@ -4,8 +4,8 @@ ghost use Rattle.std.specs.Prelude.{◌≡◌, IfOk, Ok, codes};
 ghost use Rattle.serde_json.specs.View.{view};
 ghost use Rattle.settings_reader.specs.Told.{Below, Tells};
 ghost use Rattle.settings_reader.specs.Externals.{IsDescribed, IsExternal, compiler_in};
-ghost use Rattle.settings_reader.specs.Externals.{described_of, is_alone, is_word, only_described};
-ghost use Rattle.settings_reader.specs.Externals.{parts_of, target_in, target_of, version_in};
+ghost use Rattle.settings_reader.specs.Externals.{described_of, is_alone, is_that_word, only_described};
+ghost use Rattle.settings_reader.specs.Externals.{parts_of, target_in, single_target_of, single_version_in};
 ghost use Rattle.settings_reader.specs.Externals.{with_prefix};
 
 use crate::parser::Parser;
@@ -136,7 +136,7 @@ fn is_alone(name: &str, platform: &str, spec: &Spec) -> bool
 }
 
 fn is_word(word: &Option<Word>, text: &str) -> bool
-    ensures { result ≡ is_word word.now text.now }
+    ensures { result ≡ is_that_word word.now text.now }
 {
     match word {
         Some(word) => word.as_str() == text,
@@ -172,7 +172,7 @@ fn parts_of(alloc: Global, spec: &Spec) -> Result<Option<Described>, AllocError>
 
 /// The version of a set that is the one item `w` or `=w`.
 fn version_in(alloc: Global, versions: &Option<VersionSet>) -> Result<Option<Version>, AllocError>
-    ensures { IfOk result (λ version. version ≡ version_in versions.now) }
+    ensures { IfOk result (λ version. version ≡ single_version_in versions.now) }
 {
     match versions {
         Some(versions) => match versions.single() {
@@ -216,7 +216,7 @@ fn target_in(
 }
 
 fn target_of(alloc: Global, items: &[TargetItem]) -> Result<Option<Option<Word>>, AllocError>
-    ensures { IfOk result (λ target. target ≡ target_of items.now) }
+    ensures { IfOk result (λ target. target ≡ single_target_of items.now) }
 {
     match items {
         [item] if !item.range => Ok(Some(item.low.duplicate(alloc)?)),

@@ -3,7 +3,7 @@
 ghost use Rattle.serde_json.specs.View.{members_view};
 ghost use Rattle.json_readers.specs.Faults.{Gives};
 ghost use Rattle.settings_reader.specs.Keys.{budget_at, compilers_at, os_at, platform_at};
-ghost use Rattle.settings_reader.specs.Keys.{providers_at, targets_at};
+ghost use Rattle.settings_reader.specs.Keys.{provider_entries_at, target_entries_at};
 
 use crate::lists::{CompilerList, OsList, ProviderList, TargetList};
 use json_readers::{JsonFault, KnownMapOf, Text, WholeNumber, may};
@@ -44,7 +44,7 @@ pub(crate) fn os_at(alloc: Global, members: &Members) -> Result<List<Word>, Json
 }
 
 pub(crate) fn targets_at(alloc: Global, members: &Members) -> Result<List<TargetEntry>, JsonFault>
-    ensures { Gives result (targets_at (members_view members.now.entries)) }
+    ensures { Gives result (target_entries_at (members_view members.now.entries)) }
 {
     match may(alloc, members, "targets", &TargetList)? {
         Some(targets) => Ok(targets),
@@ -69,7 +69,7 @@ pub(crate) fn providers_at(
     alloc: Global,
     members: &Members,
 ) -> Result<List<(Word, List<Word>)>, JsonFault>
-    ensures { Gives result (providers_at (members_view members.now.entries)) }
+    ensures { Gives result (provider_entries_at (members_view members.now.entries)) }
 {
     let form = KnownMapOf {
         keys: Name,

@@ -1,7 +1,7 @@
 //! The lists of the settings.
 
 ghost use Rattle.std.specs.Prelude.{◌≡◌, IfOk};
-ghost use Rattle.settings_reader.specs.Lists.{pair_of, pairs_of};
+ghost use Rattle.settings_reader.specs.Lists.{pair_of, compiler_pairs};
 
 use graph_core::Compiler;
 use json_readers::{
@@ -72,11 +72,11 @@ impl Reader<List<TargetEntry>> for TargetList {
 pub(crate) struct CompilerForm;
 
 impl Reader<CompilerEntry> for CompilerForm {
-    ghost use Rattle.settings_reader.specs.Lists.{compiler_at};
+    ghost use Rattle.settings_reader.specs.Lists.{compiler_entry_at};
 
-    ghost reads = { λ _. compiler_at };
+    ghost reads = { λ _. compiler_entry_at };
 
-    #[tactic(auto, unfolding(crate::specs::Lists::compiler_at))]
+    #[tactic(auto, unfolding(crate::specs::Lists::compiler_entry_at))]
     fn read(&self, alloc: Global, value: &Value) -> Result<CompilerEntry, JsonFault> {
         let members = known(alloc, value, &["name", "os", "targets", "version"])?;
         let name = need(alloc, members, "name", &Text(Name))?;
@@ -110,7 +110,7 @@ impl Reader<List<CompilerEntry>> for CompilerList {
 }
 
 fn pairs_of(alloc: Global, entries: &[CompilerEntry]) -> Result<Vec<(Word, Word)>, AllocError>
-    ensures { IfOk result (λ pairs. pairs.items ≡ pairs_of entries.now) }
+    ensures { IfOk result (λ pairs. pairs.items ≡ compiler_pairs entries.now) }
 {
     let mut pairs = Vec::with_capacity(alloc, entries.len())?;
     for entry in entries {

@@ -4,7 +4,7 @@ ghost use Rattle.std.specs.Prelude.{◌≡◌, decimal, option_map};
 ghost use Rattle.serde_json.specs.View.{view, items_view, members_view};
 ghost use Rattle.serde_json.specs.Find.{get_member};
 ghost use Rattle.settings_reader.specs.Told.{Below, Tells};
-ghost use Rattle.settings_reader.specs.Parsed.{AreItems, IsList, IsListAt, IsOptional};
+ghost use Rattle.settings_reader.specs.Parsed.{AreItems, IsListOf, IsListAt, IsOptional};
 
 use crate::stop::{Stop, What, at_root, below, below_place};
 use json_readers::member;
@@ -47,7 +47,7 @@ fn parse_optional<T: Drop, P: Parser<T>>(
     parser: &P,
 ) -> Result<List<T>, Stop>
     ensures { Tells result
-        (IsOptional (IsList (P.tells parser.now)) (option_map (λ v. view v.now) value.entry)) }
+        (IsOptional (IsListOf (P.tells parser.now)) (option_map (λ v. view v.now) value.entry)) }
 {
     match value {
         Some(value) => parse_list(alloc, value, parser),
@@ -60,7 +60,7 @@ fn parse_list<T: Drop, P: Parser<T>>(
     value: &Value,
     parser: &P,
 ) -> Result<List<T>, Stop>
-    ensures { Tells result (IsList (P.tells parser.now) (view value.now)) }
+    ensures { Tells result (IsListOf (P.tells parser.now) (view value.now)) }
 {
     match value {
         Value::Array(items) => parse_items(alloc, items.as_slice(), parser),

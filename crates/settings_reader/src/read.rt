@@ -6,7 +6,7 @@ ghost use Rattle.json_readers.specs.Faults.{Gives};
 ghost use Rattle.settings_reader.specs.Told.{Tells};
 ghost use Rattle.settings_reader.specs.Order.{head_of, tail_of};
 ghost use Rattle.settings_reader.specs.Settings.{IsSettings, IsTable};
-ghost use Rattle.settings_reader.specs.Files.{IsFaultOf, IsFileFault, IsOfFile};
+ghost use Rattle.settings_reader.specs.Files.{IsFaultOf, IsSettingsFileFault, IsOfFile};
 
 use crate::SettingsFault;
 use crate::keys::{budget_at, compilers_at, os_at, platform_at, providers_at, targets_at};
@@ -33,7 +33,7 @@ use target_table::{TargetEntry, TargetFault, TargetTable, fault_laws};
 /// them.
 pub fn read_settings(alloc: Global, bytes: &[u8]) -> Result<Settings, SettingsFault>
     ensures found { IfOk result (IsOfFile bytes.now) }
-    ensures fault { IfErr result (IsFileFault bytes.now) }
+    ensures fault { IfErr result (IsSettingsFileFault bytes.now) }
 {
     match read_json(alloc, bytes)? {
         Some(value) => read_value(alloc, &value),
@@ -82,7 +82,7 @@ fn settings_of(alloc: Global, value: &Value) -> Result<Settings, Stop>
 
 /// The keys before `compilers`.
 #[derive(Drop)]
-pub(crate) struct Head {
+pub(crate) struct SettingsHead {
     pub platform: Word,
     pub conflict_budget: u64,
     pub os: List<Word>,
@@ -91,14 +91,14 @@ pub(crate) struct Head {
 
 /// The keys up to `targets`; their table is made before any key behind them is read.
 #[tactic(auto, unfolding(crate::specs::Order::head_of))]
-fn head_of(alloc: Global, members: &Map<String, Value>) -> Result<Head, JsonFault>
+fn head_of(alloc: Global, members: &Map<String, Value>) -> Result<SettingsHead, JsonFault>
     ensures { Gives result (head_of (members_view members.now.entries)) }
 {
     let platform = platform_at(alloc, members)?;
     let conflict_budget = budget_at(alloc, members)?;
     let os = os_at(alloc, members)?;
     let targets = targets_at(alloc, members)?;
-    Ok(Head {
+    Ok(SettingsHead {
         platform,
         conflict_budget,
         os,

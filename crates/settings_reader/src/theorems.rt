@@ -3,7 +3,7 @@
 ghost use Rattle.std.specs.Prelude.{◌≡◌, ◌≢◌, ℕ, true, List, [], ◌∷◌, Ok, codes};
 ghost use Rattle.serde_json.specs.Data.{Data, array, boolean, item, member, no_items, no_members};
 ghost use Rattle.serde_json.specs.Data.{number, object, string, unsigned};
-ghost use Rattle.settings_reader.specs.Files.{IsFileFault, IsFirstFault, IsOfFile};
+ghost use Rattle.settings_reader.specs.Files.{IsSettingsFileFault, IsFirstFault, IsOfFile};
 ghost use Rattle.settings_reader.specs.Settings.{IsSettings};
 ghost use Rattle.settings_reader.specs.Values.{are_valued};
 ghost use Rattle.site_settings.specs.Standard.{standard};
@@ -20,12 +20,12 @@ use version_order::set_reading_laws;
 pub fn settings_laws()
     ensures one_reading { (bytes : List ℕ) (a b : Settings) → IsOfFile bytes a
         → IsOfFile bytes b → a ≡ b }
-    ensures one_fault { (bytes : List ℕ) (f g : SettingsFault) → IsFileFault bytes f
-        → IsFileFault bytes g
+    ensures one_fault { (bytes : List ℕ) (f g : SettingsFault) → IsSettingsFileFault bytes f
+        → IsSettingsFileFault bytes g
         → f ≢ SettingsFault.OutOfMemory → g ≢ SettingsFault.OutOfMemory → f ≡ g }
     ensures right { (bytes : List ℕ) (settings : Settings) (f : SettingsFault)
         → IsOfFile bytes settings
-        → IsFileFault bytes f → f ≡ SettingsFault.OutOfMemory }
+        → IsSettingsFileFault bytes f → f ≡ SettingsFault.OutOfMemory }
     ensures valued { (bytes : List ℕ) (settings : Settings) → IsOfFile bytes settings
         → are_valued settings ≡ true }
 {

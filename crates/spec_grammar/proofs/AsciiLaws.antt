@@ -11,13 +11,13 @@ use Rattle.version_order.specs.Items.{IsItem as IsRange, spelling, spell as spel
 use Rattle.version_order.specs.declared.item.Item.{Item as VersionItem}
 use Rattle.version_order.specs.declared.item.Item.TheVariants as range
 use Rattle.spec_grammar.specs.Signs.{is_white, AreWhite, IsName, IsValue}
-use Rattle.spec_grammar.specs.Items.{spell, spell_more, HasShape, mark_byte}
-use Rattle.spec_grammar.specs.Right.{AreRight, spell_steps, Step}
+use Rattle.spec_grammar.specs.Items.{spell_item, spell_more_values, HasShape, mark_byte}
+use Rattle.spec_grammar.specs.Right.{AreRight, spell_steps, ItemStep}
 use Rattle.spec_grammar.specs.Reading.{Spells}
 use Rattle.spec_grammar.specs.declared.item.Mark.{Mark}
 use Rattle.spec_grammar.specs.declared.item.Mark.TheVariants.{Plus, Tilde, Minus}
-use Rattle.spec_grammar.specs.declared.item.Item.{Item}
-use Rattle.spec_grammar.specs.declared.item.Item.TheVariants.{Name, Versions, Variant, Compiler, Key, Caret}
+use Rattle.spec_grammar.specs.declared.item.SpecItem.{SpecItem}
+use Rattle.spec_grammar.specs.declared.item.SpecItem.TheVariants.{Name, Versions, Variant, Compiler, Key, Caret}
 use Rattle.spec_grammar.specs.declared.mode.Mode.{Mode}
 use Rattle.spec_grammar.specs.declared.part.Spec.{Spec}
 use Rattle.spec_grammar.proofs.RunLaws.{bytes_ascii, value_run, name_run, name_value}
@@ -70,17 +70,17 @@ list_ascii (x ∷ items) h = IsAscii-append (spell_range x) (spell_ranges items)
 
 -- ---- items
 
-more_ascii : (values : List (List ℕ)) → AllByRecursion IsValue values → IsAscii (spell_more values)
+more_ascii : (values : List (List ℕ)) → AllByRecursion IsValue values → IsAscii (spell_more_values values)
 more_ascii [] h = IsAscii-nil
 more_ascii (v ∷ values) h = IsAscii-cons 44 _ (omega arith)
-    (IsAscii-append v (spell_more values) (bytes_ascii v (value_run v h.0)) (more_ascii values h.1))
+    (IsAscii-append v (spell_more_values values) (bytes_ascii v (value_run v h.0)) (more_ascii values h.1))
 
 mark_ascii : (mark : Mark) → mark_byte mark < 128
 mark_ascii Plus = omega arith
 mark_ascii Tilde = omega arith
 mark_ascii Minus = omega arith
 
-item_ascii : (item : Item) → HasShape item → IsAscii (spell item)
+item_ascii : (item : SpecItem) → HasShape item → IsAscii (spell_item item)
 item_ascii (Name w) h = name_ascii w h
 item_ascii (Versions items) h = IsAscii-cons 64 _ (omega arith) (list_ascii items h.each)
 item_ascii (Variant mark w) h = IsAscii-cons (mark_byte mark) w (mark_ascii mark) (name_ascii w h)
@@ -89,7 +89,8 @@ item_ascii (Compiler w (Some items)) h = IsAscii-cons 37 _ (omega arith)
     (IsAscii-append w _ (name_ascii w h.0) (IsAscii-cons 64 _ (omega arith) (list_ascii items h.1.each)))
 item_ascii (Key w []) h = absurd h.1
 item_ascii (Key w (v ∷ values)) h = IsAscii-append w _ (name_ascii w h.0)
-    (IsAscii-cons 61 _ (omega arith) (IsAscii-append v (spell_more values) (bytes_ascii v (value_run v h.1.0)) (more_ascii values h.1.1)))
+    (IsAscii-cons 61 _ (omega arith) (IsAscii-append v (spell_more_values values) (bytes_ascii v (value_run v h.1.0))
+    (more_ascii values h.1.1)))
 item_ascii Caret h = IsAscii-cons 94 [] (omega arith) IsAscii-nil
 
 -- ---- texts
@@ -97,10 +98,10 @@ item_ascii Caret h = IsAscii-cons 94 [] (omega arith) IsAscii-nil
 white_ascii : (gap : List ℕ) → AreWhite gap → IsAscii gap
 white_ascii gap h = kind_ascii is_white white_byte gap h
 
-steps_ascii : (mode : Mode) (last : Option Item) (steps : List Step) → AreRight mode last steps → IsAscii (spell_steps steps)
+steps_ascii : (mode : Mode) (last : Option SpecItem) (steps : List ItemStep) → AreRight mode last steps → IsAscii (spell_steps steps)
 steps_ascii mode last [] h = IsAscii-nil
 steps_ascii mode last (s ∷ steps) h = IsAscii-append _ (spell_steps steps)
-    (IsAscii-append s.gap (spell s.item) (white_ascii s.gap h.0.white) (item_ascii s.item h.0.form.0))
+    (IsAscii-append s.gap (spell_item s.item) (white_ascii s.gap h.0.white) (item_ascii s.item h.0.form.0))
     (steps_ascii mode (Some s.item) steps h.1)
 
 pub right_ascii : (mode : Mode) (text : List ℕ) (specs : List Spec) → Spells mode text specs → IsAscii text

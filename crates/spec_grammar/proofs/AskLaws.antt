@@ -2,12 +2,12 @@
 use Rattle.std.proofs.Common.{◌≡◌, ℕ, Bool, true, List, [], ◌∷◌, ◌++◌, map, Option, Some, None, append-nil, refl, sym, ap, subst, ◌∙◌, inl, inr, ◌&&◌, is_some, option_map, if◌then◌else◌, codes, bytes_eq}
 use Rattle.spec_grammar.specs.declared.key.KeyKind.TheVariants as key
 use Rattle.spec_grammar.specs.declared.mode.Before.TheVariants as before
-use Rattle.spec_grammar.proofs.Common.{AllByRecursion, cases_Bool, and_parts, bytes_eq-Decides, IsName, IsValue, key_of, IsTarget, spell, spell_more, spell_values, spell_list, IsItem, kind_of, mark_byte, before_item, may_constrain, may_have_all, may_stand, is_apart, add, set_key, set_variant, take_item, mark_value, target_of, values_text, one_text, variant_text, target_text, more_targets, targets_items, empty_place}
-use Rattle.spec_grammar.proofs.Common.{VersionItem, KeyKind, Mark, Plus, Tilde, Minus, Item, Name, Versions, Variant, Compiler, Key, Caret, Mode, Before, Part, TargetItem, Draft}
+use Rattle.spec_grammar.proofs.Common.{AllByRecursion, cases_Bool, and_parts, bytes_eq-Decides, IsName, IsValue, key_of, IsTarget, spell_item, spell_more_values, spell_values, spell_list, IsSpecItem, kind_of, mark_byte, before_item, may_constrain, may_have_all, may_stand, is_apart, add, set_key, set_variant, take_item, mark_value, target_of, values_text, one_text, variant_text, target_text, more_targets, targets_items, empty_place}
+use Rattle.spec_grammar.proofs.Common.{VersionItem, KeyKind, Mark, Plus, Tilde, Minus, SpecItem, Name, Versions, Variant, Compiler, Key, Caret, Mode, Before, Part, TargetItem, Draft}
 use Rattle.spec_grammar.proofs.WordLaws.{IsWord, AreKept, kept_values, kept_same, IsTargetKept}
 
 -- a constraint other than `@`
-abbrev pub IsBehind : Item → Type 0
+abbrev pub IsBehind : SpecItem → Type 0
 IsBehind (Name w) = ⊥
 IsBehind (Versions items) = ⊥
 IsBehind Caret = ⊥
@@ -15,12 +15,12 @@ IsBehind item = Unit {0}
 
 -- an item of this text that does this to a part
 pub record Asks (mode : Mode) (text : List ℕ) (does : Part → Option Part) : Type 0 where
-  pub item : Item
+  pub item : SpecItem
   pub behind : IsBehind item
   pub may : may_have_all mode ≡ true
-  pub form : IsItem item
+  pub form : IsSpecItem item
   pub ranges : empty_place item ≡ None
-  pub spelled : spell item ≡ text
+  pub spelled : spell_item item ≡ text
   pub adds : (part : Part) → add item part ≡ does part
 
 apart : (place : Before) → is_apart place true ≡ true
@@ -29,7 +29,7 @@ apart before.Caret = refl
 apart before.Inside = refl
 
 -- it may stand behind white space wherever `@` may
-pub stands_behind : (mode : Mode) (place : Before) (item : Item) → IsBehind item → may_have_all mode ≡ true
+pub stands_behind : (mode : Mode) (place : Before) (item : SpecItem) → IsBehind item → may_have_all mode ≡ true
     → may_constrain mode place ≡ true → may_stand mode place true (kind_of item) ≡ true
 stands_behind mode place (Variant Plus w) h all may = rw (may, all) refl
 stands_behind mode place (Variant Tilde w) h all may = rw (may, all) refl
@@ -39,7 +39,8 @@ stands_behind mode place (Key w values) h all may = rw (may, all) (apart place)
 stands_behind mode place item h all may = absurd h
 
 -- and so such a text may have it
-pub may_behind : (mode : Mode) (place : Before) (gap : Bool) (item : Item) → IsBehind item → may_stand mode place gap (kind_of item) ≡ true
+pub may_behind : (mode : Mode) (place : Before) (gap : Bool) (item : SpecItem) → IsBehind item
+    → may_stand mode place gap (kind_of item) ≡ true
     → may_have_all mode ≡ true
 may_behind mode place gap (Variant Plus w) h may = (and_parts (may_constrain mode place) (may_have_all mode) may).1
 may_behind mode place gap (Variant Tilde w) h may = (and_parts (may_constrain mode place) (may_have_all mode) may).1
@@ -52,11 +53,11 @@ may_behind mode place gap (Key w values) h may =
     (and_parts (may_constrain mode place && may_have_all mode) (is_apart place gap) may).0).1
 may_behind mode place gap item h may = absurd h
 
-pub behind_inside : (item : Item) → IsBehind item → before_item item ≡ before.Inside
+pub behind_inside : (item : SpecItem) → IsBehind item → before_item item ≡ before.Inside
 behind_inside Caret h = absurd h
 behind_inside item h = refl
 
-pub behind_takes : (item : Item) (draft : Draft) (part : Part) → IsBehind item
+pub behind_takes : (item : SpecItem) (draft : Draft) (part : Part) → IsBehind item
     → take_item item (record draft { part = Some part }) ≡ option_map (λ next. record draft { part = Some next }) (add item part)
 behind_takes (Name w) draft part h = absurd h
 behind_takes Caret draft part h = absurd h
@@ -78,12 +79,13 @@ targets_are l part = if is_some part.targets then None else Some (record part { 
 
 -- `NAME=` with a value or more
 key_asks : (mode : Mode) (w : List ℕ) (values : List (List ℕ)) (text : List ℕ) (does : Part → Option Part) → may_have_all mode ≡ true
-    → IsItem (Key w values) → w ++ 61 ∷ spell_values values ≡ text → ((part : Part) → add (Key w values) part ≡ does part)
+    → IsSpecItem (Key w values) → w ++ 61 ∷ spell_values values ≡ text → ((part : Part) → add (Key w values) part ≡ does part)
     → Asks mode text does
 key_asks mode w values text does may form spelled adds =
     record { item = Key w values; behind = tt; may = may; form = form; ranges = refl; spelled = spelled; adds = adds }
 
-pub compiler_asks : (mode : Mode) (w : List ℕ) (items : Option (List VersionItem)) → may_have_all mode ≡ true → IsItem (Compiler w items)
+pub compiler_asks : (mode : Mode) (w : List ℕ) (items : Option (List VersionItem)) → may_have_all mode ≡ true
+    → IsSpecItem (Compiler w items)
     → empty_place (Compiler w items) ≡ None → Asks mode (37 ∷ (w ++ spell_list items)) (compiler_is (w, items))
 compiler_asks mode w items may form ranges =
     record { item = Compiler w items; behind = tt; may = may; form = form; ranges = ranges; spelled = refl; adds = λ part. refl }
@@ -100,7 +102,7 @@ os_asks mode w may word = key_asks mode (codes "os") (w ∷ []) _ (os_is w) may 
 
 -- ---- targets
 
-more_spelled : (targets : List TargetItem) → spell_more (map target_text targets) ≡ more_targets targets
+more_spelled : (targets : List TargetItem) → spell_more_values (map target_text targets) ≡ more_targets targets
 more_spelled [] = refl
 more_spelled (t ∷ targets) = ap (λ l. 44 ∷ (target_text t ++ l)) (more_spelled targets)
 

@@ -2,7 +2,7 @@
 use Rattle.std.proofs.Common.{◌≡◌, ℕ, ◌<◌, ◌≤◌, ◌+◌, suc, true, false, List, [], ◌∷◌, ◌++◌, length, take, drop, Option, Some, None, refl, sym, ap, subst, ◌∙◌, arith, append_assoc, ◌==◌, ◌||◌, append-nil, take-append-drop, drop-drop, length-take, length-drop}
 use Rattle.spec_grammar.specs.declared.fault.SpecFault.TheVariants as fault
 use Rattle.spec_grammar.proofs.Common.{or_from, false_from_ne_true, IsLongestFront, IsList, spelling, first_empty, is_name_byte, IsName, name_length, spell_list, IsOver, starts_with_byte, IsFirst, IsListAt, IsListFault, IsCutOff, IsItemFault, IsStuck, Varies, varied, moved}
-use Rattle.spec_grammar.proofs.Common.{VersionItem, Item, Compiler, Caret, SpecFault}
+use Rattle.spec_grammar.proofs.Common.{VersionItem, SpecItem, Compiler, Caret, SpecFault}
 use Rattle.spec_grammar.proofs.RunLaws.{Stop, stop_cons, name_front, name_stop, name_length-le, true_false, two_cons}
 use Rattle.spec_grammar.proofs.KindLaws.{first_kind}
 use Rattle.spec_grammar.proofs.VaryLaws.{varied_cons, varies_cons, varied_behind, varies_behind, take_behind}
@@ -18,12 +18,12 @@ caret_read text h = record {
   ranges = refl;
 }
 
-pub record AtCaret (text : List ℕ) (item : Item) (rest : List ℕ) : Type 0 where
+pub record AtCaret (text : List ℕ) (item : SpecItem) (rest : List ℕ) : Type 0 where
   pub same : item ≡ Caret
   pub cut : text ≡ rest
   pub over : IsOver Caret rest
 
-pub at_caret : (text : List ℕ) (item : Item) (rest : List ℕ) → IsFirst (94 ∷ text) item rest → AtCaret text item rest
+pub at_caret : (text : List ℕ) (item : SpecItem) (rest : List ℕ) → IsFirst (94 ∷ text) item rest → AtCaret text item rest
 at_caret text Caret rest first = record { same = refl; cut = (two_cons _ _ _ _ first.cut).1; over = first.over }
 at_caret text item rest first = absurd (let e = first_kind (94 ∷ text) item rest first in cc)
 
@@ -31,7 +31,7 @@ bracket : (rest : List ℕ) → starts_with_byte 91 rest ≡ true → IsOver Car
 bracket [] h over = absurd cc
 bracket (b ∷ rest) h over = over b rest refl h
 
-pub caret_none : (text : List ℕ) → starts_with_byte 91 text ≡ true → (item : Item) (rest : List ℕ) → IsFirst (94 ∷ text) item rest → ⊥
+pub caret_none : (text : List ℕ) → starts_with_byte 91 text ≡ true → (item : SpecItem) (rest : List ℕ) → IsFirst (94 ∷ text) item rest → ⊥
 caret_none text h item rest first = let a = at_caret text item rest first in bracket rest (rw a.cut at h) a.over
 
 bracket_more : (text more : List ℕ) → starts_with_byte 91 text ≡ true → starts_with_byte 91 (varied text 0 more) ≡ true
@@ -52,7 +52,7 @@ caret_stuck text h = record {
 -- ---- a compiler
 
 -- `%` begins this item
-pub record AtCompiler (text : List ℕ) (item : Item) (rest : List ℕ) : Type 0 where
+pub record AtCompiler (text : List ℕ) (item : SpecItem) (rest : List ℕ) : Type 0 where
   pub w : List ℕ
   pub items : Option (List VersionItem)
   pub same : item ≡ Compiler w items
@@ -63,7 +63,7 @@ pub record AtCompiler (text : List ℕ) (item : Item) (rest : List ℕ) : Type 0
 pub over_compiler : (w rest : List ℕ) → IsOver (Compiler w None) rest → Stop is_name_byte rest
 over_compiler w rest over b more e = false_from_ne_true (is_name_byte b) (λ is. over b more e (rw is refl))
 
-pub at_compiler : (text : List ℕ) (item : Item) (rest : List ℕ) → IsFirst (37 ∷ text) item rest → AtCompiler text item rest
+pub at_compiler : (text : List ℕ) (item : SpecItem) (rest : List ℕ) → IsFirst (37 ∷ text) item rest → AtCompiler text item rest
 at_compiler text (Compiler w None) rest first = record {
   w = w;
   items = None;
@@ -82,7 +82,7 @@ at_compiler text (Compiler w (Some items)) rest first = record {
 }
 at_compiler text item rest first = absurd (let e = first_kind (37 ∷ text) item rest first in cc)
 
-pub compiler_none : (text : List ℕ) → name_length text ≡ 0 → (item : Item) (rest : List ℕ) → IsFirst (37 ∷ text) item rest → ⊥
+pub compiler_none : (text : List ℕ) → name_length text ≡ 0 → (item : SpecItem) (rest : List ℕ) → IsFirst (37 ∷ text) item rest → ⊥
 compiler_none text none item rest first =
     let a = at_compiler text item rest first in
     omega (arith, some_text a.w a.is, (name_cut text a.w _ a.cut a.is a.stop).2)
@@ -144,13 +144,13 @@ compiler_read text n m items list e lt behind at none = record {
 
 -- the LIST behind `%NAME@` is none
 no_varied_compiler : (list : List ℕ) (q : ℕ) (more : List ℕ) → IsLongestFront IsList list q → (IsList (take q list) → ⊥)
-    → Varies list q more → (w : List ℕ) (items : Option (List VersionItem)) (item : Item) (rest : List ℕ) → item ≡ Compiler w items
+    → Varies list q more → (w : List ℕ) (items : Option (List VersionItem)) (item : SpecItem) (rest : List ℕ) → item ≡ Compiler w items
     → 64 ∷ varied list q more ≡ spell_list items ++ rest → (text : List ℕ) → IsFirst text item rest → ⊥
 no_varied_compiler list q more front not_list varies w None item rest same there text first =
-    let f = subst (λ (i : Item). IsFirst text i rest) same first in
+    let f = subst (λ (i : SpecItem). IsFirst text i rest) same first in
     f.over 64 (varied list q more) (sym there) refl
 no_varied_compiler list q more front not_list varies w (Some items) item rest same there text first =
-    let f = subst (λ (i : Item). IsFirst text i rest) same first in
+    let f = subst (λ (i : SpecItem). IsFirst text i rest) same first in
     no_varied_list list q more front not_list varies items rest (two_cons _ _ _ _ there).1 f.form.0.1 f.over
 
 compiler_list_stuck : (text : List ℕ) (n : ℕ) (list : List ℕ) (q : ℕ) → n ≡ name_length text → 0 < n → drop n text ≡ 64 ∷ list

@@ -1,14 +1,14 @@
 -- Values, cut at their commas.
 use Rattle.std.proofs.Common.{◌≡◌, ℕ, List, [], ◌∷◌, ◌++◌, length, take, drop, refl, sym, ap, ◌∙◌, append_assoc, take_at, drop_at}
-use Rattle.spec_grammar.proofs.Common.{AllByRecursion, prefix_len, is_value_byte, IsValue, spell_more, spell_values}
+use Rattle.spec_grammar.proofs.Common.{AllByRecursion, prefix_len, is_value_byte, IsValue, spell_more_values, spell_values}
 use Rattle.spec_grammar.proofs.RunLaws.{Stop, stop_cons, stop_none, run_is, value_run, two_cons, cons_none}
 
 abbrev pub AreValues : List (List ℕ) → Type 0
 AreValues values = AllByRecursion IsValue values
 
-pub more_stop : (values : List (List ℕ)) → Stop is_value_byte (spell_more values)
+pub more_stop : (values : List (List ℕ)) → Stop is_value_byte (spell_more_values values)
 more_stop [] = stop_none is_value_byte
-more_stop (v ∷ values) = stop_cons is_value_byte 44 (v ++ spell_more values) refl
+more_stop (v ∷ values) = stop_cons is_value_byte 44 (v ++ spell_more_values values) refl
 
 -- what is left to read, of all the values
 pub record Left (words : List (List ℕ)) (rest : List ℕ) (all : List (List ℕ)) : Type 0 where
@@ -27,12 +27,13 @@ abbrev pub IsSoFarAll : List ℕ → List (List ℕ) → Type 0
 IsSoFarAll text words = (first : List ℕ) (others : List (List ℕ)) → AreValues (first ∷ others) → text ≡ spell_values (first ∷ others)
     → words ≡ first ∷ others
 
-front_is : (rest g : List ℕ) (left : List (List ℕ)) (n : ℕ) → IsValue g → rest ≡ g ++ spell_more left → n ≡ prefix_len is_value_byte rest
-    → (take n rest ≡ g) × (drop n rest ≡ spell_more left)
+front_is : (rest g : List ℕ) (left : List (List ℕ)) (n : ℕ) → IsValue g → rest ≡ g ++ spell_more_values left
+    → n ≡ prefix_len is_value_byte rest
+    → (take n rest ≡ g) × (drop n rest ≡ spell_more_values left)
 front_is rest g left n h e k =
     let len : n ≡ length g = k ∙ ap (prefix_len is_value_byte) e
-    ∙ run_is is_value_byte g (spell_more left) (value_run g h) (more_stop left) in
-    (ap (take n) e ∙ take_at g (spell_more left) n (sym len), ap (drop n) e ∙ drop_at g (spell_more left) n (sym len))
+    ∙ run_is is_value_byte g (spell_more_values left) (value_run g h) (more_stop left) in
+    (ap (take n) e ∙ take_at g (spell_more_values left) n (sym len), ap (drop n) e ∙ drop_at g (spell_more_values left) n (sym len))
 
 all_case : (words : List (List ℕ)) (rest : List ℕ) (n : ℕ) (all : List (List ℕ)) (g : List ℕ) (left : List (List ℕ))
     → words ++ g ∷ left ≡ all → AreValues (g ∷ left) → rest ≡ spell_values (g ∷ left)
@@ -42,7 +43,7 @@ all_case words rest n all g [] j are e k none =
     ap (λ (v : List ℕ). words ++ v ∷ []) f.0 ∙ j
 all_case words rest n all g (h ∷ left) j are e k none =
     let f = front_is rest g (h ∷ left) n are.0 e k in
-    cons_none 44 (h ++ spell_more left) (sym f.1 ∙ none)
+    cons_none 44 (h ++ spell_more_values left) (sym f.1 ∙ none)
 
 -- the last value
 pub so_far_all : (text : List ℕ) (words : List (List ℕ)) (rest : List ℕ) (n : ℕ) → IsSoFar text words rest

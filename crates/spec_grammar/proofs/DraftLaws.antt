@@ -1,8 +1,8 @@
 -- What is read of specs can be written again.
 use Rattle.std.proofs.Common.{◌≡◌, ℕ, true, false, List, [], ◌∷◌, Option, Some, None, refl, sym, ap, subst, ◌∙◌, Contains, Bool, IfSome, IsSome, is_some, if◌then◌else◌}
 use Rattle.spec_grammar.specs.declared.mode.Mode.TheVariants.{Condition, LocalCondition}
-use Rattle.spec_grammar.proofs.Common.{AllByRecursion, and_parts, All-from_recursion, All-contains, IsName, IsItem, kind_of, before_of, is_some_gap, needs_name, may_nest, may_constrain, may_have_all, may_stand, empty_part, spec_with, nest_in, begin_part, finish, Spells, empty_place, begin}
-use Rattle.spec_grammar.proofs.Common.{Item, Name, Caret, Mode, Before, Part, Spec, Draft}
+use Rattle.spec_grammar.proofs.Common.{AllByRecursion, and_parts, All-from_recursion, All-contains, IsName, IsSpecItem, kind_of, before_of, is_some_gap, needs_name, may_nest, may_constrain, may_have_all, may_stand, empty_part, spec_with, nest_in, begin_part, finished_specs, Spells, empty_place, first_draft}
+use Rattle.spec_grammar.proofs.Common.{SpecItem, Name, Caret, Mode, Before, Part, Spec, Draft}
 use Rattle.spec_grammar.proofs.StepLaws.{all_append, Took, steps_keep, TookOn}
 use Rattle.spec_grammar.proofs.AskLaws.{IsBehind, may_behind}
 use Rattle.spec_grammar.proofs.KeptLaws.{IsKept, IsMore, kept_empty, kept_name, kept_add}
@@ -34,7 +34,7 @@ whole_with mode None below part t b p = (p, b)
 whole_with mode (Some top) below part t b p = (t.0, all_append (IsBelow mode) below (part ∷ []) b (p, tt))
 
 whole_finish : (mode : Mode) (draft : Draft) (part : Part) → AreWhole mode draft → IsPart mode draft.top part
-    → AllByRecursion (IsWhole mode) (finish draft part)
+    → AllByRecursion (IsWhole mode) (finished_specs draft part)
 whole_finish mode draft part h p = all_append (IsWhole mode) draft.specs (spec_with draft.top draft.below part ∷ []) h.specs
     (whole_with mode draft.top draft.below part h.top h.below p, tt)
 
@@ -57,7 +57,7 @@ whole_begin : (mode : Mode) (w : List ℕ) (draft : Draft) (part : Option Part) 
 whole_begin mode w draft None is h p = record { specs = h.specs; top = h.top; below = h.below; part = part_empty mode w draft.top is h.top }
 whole_begin mode w draft (Some part) is h p =
     elim (is_some part.name) as (λ b. AreWhole mode
-    (if b then record { specs = finish draft part; top = None; below = []; part = Some (empty_part (Some w)) } else record draft {
+    (if b then record { specs = finished_specs draft part; top = None; below = []; part = Some (empty_part (Some w)) } else record draft {
       part =
           Some (record part { name = Some w });
     })) [
@@ -71,7 +71,7 @@ whole_nested mode draft None part same may h p = record { specs = h.specs; top =
 whole_nested mode draft (Some top) part same may h p =
     record { specs = h.specs; top = h.top; below = all_append (IsBelow mode) draft.below (part ∷ []) h.below (p, tt); part = tt }
 
-whole_on : (mode : Mode) (place : Before) (gap : Bool) (item : Item) (draft next : Draft) → IsItem item
+whole_on : (mode : Mode) (place : Before) (gap : Bool) (item : SpecItem) (draft next : Draft) → IsSpecItem item
     → may_stand mode place gap (kind_of item) ≡ true → empty_place item ≡ None → AreWhole mode draft → TookOn item draft next
     → AreWhole mode next
 whole_on mode place gap item draft next form may none h (p, q, part, added, e) =
@@ -85,7 +85,7 @@ whole_on mode place gap item draft next form may none h (p, q, part, added, e) =
           part_more mode draft.top p q is (λ kept. kept_add mode p q item kept all form none added);
     })
 
-whole_item : (mode : Mode) (place : Before) (gap : Bool) (item : Item) (draft next : Draft) → IsItem item
+whole_item : (mode : Mode) (place : Before) (gap : Bool) (item : SpecItem) (draft next : Draft) → IsSpecItem item
     → may_stand mode place gap (kind_of item) ≡ true → empty_place item ≡ None → AreWhole mode draft → Took item draft next
     → AreWhole mode next
 whole_item mode place gap (Name w) draft next form may none h took =
@@ -95,7 +95,7 @@ whole_item mode place gap Caret draft next form may none h (p, part, e) =
     (rw part at h.part))
 whole_item mode place gap item draft next form may none h t = whole_on mode place gap item draft next form may none h t
 
-first_whole : (mode : Mode) → AreWhole mode (begin mode)
+first_whole : (mode : Mode) → AreWhole mode (first_draft mode)
 first_whole Condition = record { specs = tt; top = tt; below = tt; part = (kept_empty Condition None tt, λ needs. absurd cc) }
 first_whole LocalCondition = record { specs = tt; top = tt; below = tt; part = (kept_empty LocalCondition None tt, λ needs. absurd cc) }
 first_whole mode = record { specs = tt; top = tt; below = tt; part = tt }
@@ -106,7 +106,7 @@ pub whole : (mode : Mode) (text : List ℕ) (specs : List Spec) (spec : Spec) �
 whole mode text specs spec s has =
     let h = steps_keep mode (λ place. AreWhole mode)
     (λ last x a b right. whole_item mode (before_of last) (is_some_gap x.gap) x.item a b right.form right.stands) None s.read.steps
-    (begin mode) s.read.draft s.is.cut.right s.is.ranges (first_whole mode) s.is.value in
+    (first_draft mode) s.read.draft s.is.cut.right s.is.ranges (first_whole mode) s.is.value in
     let part : IsPart mode s.read.draft.top s.part = rw s.last at h.part in
     let all = whole_finish mode s.read.draft s.part h part in
     All-contains (IsWhole mode) specs spec (All-from_recursion (IsWhole mode) specs (subst (AllByRecursion (IsWhole mode)) (sym s.are) all))

@@ -1,8 +1,8 @@
 -- An item that is right begins no form that is not read.
 use Rattle.std.proofs.Common.{◌≡◌, ℕ, ◌<◌, Bool, true, false, List, [], ◌∷◌, ◌++◌, None, nat_eq, refl, ap, ◌∙◌, arith, append_assoc, ◌==◌}
 use Rattle.spec_grammar.specs.declared.key.KeyKind.TheVariants as key
-use Rattle.spec_grammar.proofs.Common.{list_all, and_parts, false_from_ne_true, nat_tests, is_start, is_name_byte, IsName, name_length, is_value_byte, key_of, Takes, spell_values, spell_more, AreValues, IsOver, is_name_end, kind_of, mark_byte, may_constrain, may_have_all, may_nest, may_stand, is_flags, form_at, form_behind, form_of_sign, IsFirst}
-use Rattle.spec_grammar.proofs.Common.{KeyKind, Mark, Plus, Tilde, Minus, Item, Name, Versions, Variant, Compiler, Key, Caret, Mode, Before}
+use Rattle.spec_grammar.proofs.Common.{list_all, and_parts, false_from_ne_true, nat_tests, is_start, is_name_byte, IsName, name_length, is_value_byte, key_of, Takes, spell_values, spell_more_values, AreValues, IsOver, is_name_end, kind_of, mark_byte, may_constrain, may_have_all, may_nest, may_stand, is_flags, form_at, form_behind, form_of_sign, IsFirst}
+use Rattle.spec_grammar.proofs.Common.{KeyKind, Mark, Plus, Tilde, Minus, SpecItem, Name, Versions, Variant, Compiler, Key, Caret, Mode, Before}
 use Rattle.spec_grammar.proofs.RunLaws.{Stop, stop_cons}
 use Rattle.spec_grammar.proofs.KindLaws.{over_name, or_right}
 use Rattle.spec_grammar.proofs.NameLaws.{name_cut, some_text}
@@ -68,7 +68,7 @@ key_behind : (mode : Mode) (named : Bool) (w : List ℕ) (values : List (List �
 key_behind mode named w [] rest are takes all = absurd are
 key_behind mode named w ([] ∷ values) rest are takes all = absurd (let h = are.0 in cc)
 key_behind mode named w ((b ∷ v) ∷ values) rest are takes all =
-    value_behind mode named w b ((v ++ spell_more values) ++ rest) (and_parts (is_value_byte b) (list_all is_value_byte v) are.0).0
+    value_behind mode named w b ((v ++ spell_more_values values) ++ rest) (and_parts (is_value_byte b) (list_all is_value_byte v) are.0).0
     (no_flags (key_of w) _ takes) all
 
 zero_not : (n : ℕ) → 0 < n → nat_eq n 0 ≡ false
@@ -89,7 +89,7 @@ name_start mode named mark [] rest h all = absurd cc
 name_start mode named mark (b ∷ w) rest h all =
     variant_none mode named mark b (w ++ rest) (and_parts (is_start b) (list_all is_name_byte w) h).0 all
 
-pub form_none : (mode : Mode) (place : Before) (gap : Bool) (text : List ℕ) (item : Item) (rest : List ℕ) (named : Bool)
+pub form_none : (mode : Mode) (place : Before) (gap : Bool) (text : List ℕ) (item : SpecItem) (rest : List ℕ) (named : Bool)
     → IsFirst text item rest → may_stand mode place gap (kind_of item) ≡ true → form_at mode named text ≡ None
 form_none mode place gap text (Name w) rest named first may = ap (form_at mode named) first.cut
     ∙ with_name mode named w rest first.form.0 (over_name w rest first.over) (behind_none mode named w rest first.over)

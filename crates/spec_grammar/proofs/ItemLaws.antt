@@ -1,10 +1,10 @@
 -- The item of a kind, and where it may stand.
 use Rattle.std.proofs.Common.{◌≡◌, ℕ, ◌≤◌, ◌+◌, Bool, true, false, List, [], ◌∷◌, length, take, drop, get_or, cond, Some, None, refl, sym, ap, subst, ◌∙◌, arith, inl, inr, ◌⊎◌, append-nil}
-use Rattle.spec_grammar.specs.declared.item.Item.TheVariants as item
+use Rattle.spec_grammar.specs.declared.item.SpecItem.TheVariants as item
 use Rattle.spec_grammar.specs.declared.item.Kind.TheVariants as kind
 use Rattle.spec_grammar.specs.declared.fault.SpecFault.TheVariants as fault
 use Rattle.spec_grammar.proofs.Common.{cases_Bool, cases_lt, drop_more, is_start, name_length, kind_of, kind_at, kind_by, starts_with_byte, may_stand, IsFirst, IsCutOff, IsItemFault, IsAllowedItem, IsItemFaultHere, IsStuckHere, refused_place, Varies, varied, same_Some, none-some}
-use Rattle.spec_grammar.proofs.Common.{Plus, Tilde, Minus, Item, Kind, Mode, Before, SpecFault}
+use Rattle.spec_grammar.proofs.Common.{Plus, Tilde, Minus, SpecItem, Kind, Mode, Before, SpecFault}
 use Rattle.spec_grammar.proofs.RunLaws.{true_false, name_front, name_stop, name_length-le}
 use Rattle.spec_grammar.proofs.KindLaws.{begins, first_kind, name_some, key_some, named_by, Says}
 use Rattle.spec_grammar.proofs.NameLaws.{name_varied, named_kind, key_kind, starts_is}
@@ -22,11 +22,11 @@ sign_cut text k b says here = let a = begins text k here in
 
 -- ---- where it may stand
 
-pub none_there : (text : List ℕ) → kind_at text ≡ None → (it : Item) (rest : List ℕ) → IsFirst text it rest → ⊥
+pub none_there : (text : List ℕ) → kind_at text ≡ None → (it : SpecItem) (rest : List ℕ) → IsFirst text it rest → ⊥
 none_there text none it rest first = none-some (kind_of it) (sym none ∙ first_kind text it rest first)
 
 pub may_not : (mode : Mode) (place : Before) (gap : Bool) (k : Kind) (text : List ℕ) → kind_at text ≡ Some k
-    → may_stand mode place gap k ≡ false → (it : Item) (rest : List ℕ) → IsFirst text it rest
+    → may_stand mode place gap k ≡ false → (it : SpecItem) (rest : List ℕ) → IsFirst text it rest
     → may_stand mode place gap (kind_of it) ≡ true → ⊥
 may_not mode place gap k text here not_there it rest first may =
     let same = same_Some k (kind_of it) (sym here ∙ first_kind text it rest first) in
@@ -68,7 +68,7 @@ none_varied [] more e v = rw (v (omega arith)) refl
 none_varied (b ∷ text) more e v = none_by b (drop (name_length (b ∷ text)) (b ∷ text)) (drop (name_length (b ∷ more)) (b ∷ more)) e
 
 at_once : (mode : Mode) (place : Before) (gap : Bool) (text : List ℕ)
-    → ((more : List ℕ) → Varies text 0 more → (it : Item) (rest : List ℕ) → IsFirst (varied text 0 more) it rest
+    → ((more : List ℕ) → Varies text 0 more → (it : SpecItem) (rest : List ℕ) → IsFirst (varied text 0 more) it rest
     → may_stand mode place gap (kind_of it) ≡ true → ⊥) → IsStuckHere mode place gap text 0
 at_once mode place gap text none = record { within = omega arith; none = none; viable = inl refl }
 
@@ -174,7 +174,7 @@ refused_stuck mode place gap kind.Key text here not_there =
     key_refused mode place gap (may_stand mode place gap kind.Name) text here not_there refl
 refused_stuck mode place gap k text here not_there = sign_stuck mode place gap k text here not_there tt
 
-pub taken : (mode : Mode) (place : Before) (gap : Bool) (k : Kind) (text : List ℕ) (it : Item) (n : ℕ) → kind_at text ≡ Some k
+pub taken : (mode : Mode) (place : Before) (gap : Bool) (k : Kind) (text : List ℕ) (it : SpecItem) (n : ℕ) → kind_at text ≡ Some k
     → may_stand mode place gap k ≡ true → IsCutOff text it n → IsAllowedItem mode place gap text it n
 taken mode place gap k text it n here may cut =
     let same = same_Some k (kind_of it) (sym here ∙ first_kind text it (drop n text) cut.first) in

@@ -3,8 +3,8 @@ use Rattle.std.proofs.Common.{◌≡◌, ℕ, ◌<◌, Bool, true, false, List, 
 use Rattle.std.specs.List.Sorted.{IsStrictlySortedBy}
 use Rattle.variant_values.proofs.Texts.{with_text_in_order}
 use Rattle.spec_grammar.specs.declared.key.KeyKind.TheVariants as key
-use Rattle.spec_grammar.proofs.Common.{AllByRecursion, before_first, after_first, IsInByteOrder, first_empty, IsName, key_of, Takes, IsTarget, spell_list, AreListed, AreValues, IsItem, may_have_all, add, empty_part, set_key, set_variant, set_platform, set_os, set_targets, set_arch, has_variant, with_variant, put_all, mark_value, truth, target_of, is_dash, variant_names, variant_text, targets_items, empty_place}
-use Rattle.spec_grammar.proofs.Common.{VersionItem, KeyKind, Item, Name, Versions, Variant, Compiler, Key, Caret, Mode, Part}
+use Rattle.spec_grammar.proofs.Common.{AllByRecursion, before_first, after_first, IsInByteOrder, first_empty, IsName, key_of, Takes, IsTarget, spell_list, AreListed, AreValues, IsSpecItem, may_have_all, add, empty_part, set_key, set_variant, set_platform, set_os, set_targets, set_arch, has_variant, with_variant, put_all, mark_value, truth, target_of, is_dash, variant_names, variant_text, targets_items, empty_place}
+use Rattle.spec_grammar.proofs.Common.{VersionItem, KeyKind, SpecItem, Name, Versions, Variant, Compiler, Key, Caret, Mode, Part}
 use Rattle.spec_grammar.proofs.StepLaws.{some_then}
 use Rattle.spec_grammar.proofs.OrderLaws.{all_set, names_set}
 use Rattle.spec_grammar.proofs.WordLaws.{word_of, values_kept, targets_kept, arch_parts}
@@ -211,7 +211,8 @@ kept_key mode p next key.Variant w (v ∷ values) is h may name are takes e =
     (setting_asks mode w (put_all [] (v ∷ values)) may name is (values_kept (v ∷ values) are)) (values_kept (v ∷ values) are).some e
 
 -- an item that was read keeps it so
-pub kept_add : (mode : Mode) (p next : Part) (item : Item) → IsKept mode p → (IsBehind item → may_have_all mode ≡ true) → IsItem item
+pub kept_add : (mode : Mode) (p next : Part) (item : SpecItem) → IsKept mode p → (IsBehind item → may_have_all mode ≡ true)
+    → IsSpecItem item
     → empty_place item ≡ None → add item p ≡ Some next → IsMore mode p next
 kept_add mode p next (Name w) h may form none e = absurd cc
 kept_add mode p next (Versions items) h may form none e = kept_versions mode p next items h form.0 none e

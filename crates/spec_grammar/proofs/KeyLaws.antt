@@ -5,8 +5,8 @@ use Rattle.spec_grammar.specs.declared.item.Kind.TheVariants as kind
 use Rattle.spec_grammar.specs.declared.fault.SpecFault.TheVariants as fault
 use Rattle.std.proofs.lemmas.List.Folds.{list_any-append, list_all-append}
 use Rattle.std.proofs.Math.Bool.{or-true}
-use Rattle.spec_grammar.proofs.Common.{list_all, list_any, and_parts, false_from_ne_true, bytes_eq-Decides, is_start, is_name_byte, IsName, name_length, key_of, Takes, spell, spell_values, AreValues, is_run_byte, IsItem, IsOver, kind_of, kind_at, IsFirst, start_run, IsCutOff, IsItemFault, IsStuck, AreStuck, varied, AreValuesAt, IsValuesFault, goes_on, moved, Fits, same_Some, none-some}
-use Rattle.spec_grammar.proofs.Common.{KeyKind, Item, Key, Kind, SpecFault}
+use Rattle.spec_grammar.proofs.Common.{list_all, list_any, and_parts, false_from_ne_true, bytes_eq-Decides, is_start, is_name_byte, IsName, name_length, key_of, Takes, spell_item, spell_values, AreValues, is_run_byte, IsSpecItem, IsOver, kind_of, kind_at, IsFirst, start_run, IsCutOff, IsItemFault, IsStuck, AreStuck, varied, AreValuesAt, IsValuesFault, goes_on, moved, Fits, same_Some, none-some}
+use Rattle.spec_grammar.proofs.Common.{KeyKind, SpecItem, Key, Kind, SpecFault}
 use Rattle.spec_grammar.proofs.RunLaws.{stop_cons, name_front, name_length-le, true_false, two_cons}
 use Rattle.spec_grammar.proofs.KindLaws.{first_kind, key_some}
 use Rattle.spec_grammar.proofs.NameLaws.{name_cut, starts_is, named_again, name_varied, key_kind}
@@ -14,7 +14,7 @@ use Rattle.spec_grammar.proofs.VaryLaws.{varied_behind, varies_behind, take_behi
 use Rattle.spec_grammar.proofs.ValueLaws.{accepts}
 
 -- a key begins this item
-pub record AtKey (text list : List ℕ) (item : Item) (rest : List ℕ) : Type 0 where
+pub record AtKey (text list : List ℕ) (item : SpecItem) (rest : List ℕ) : Type 0 where
   pub w : List ℕ
   pub values : List (List ℕ)
   pub same : item ≡ Key w values
@@ -24,7 +24,7 @@ pub record AtKey (text list : List ℕ) (item : Item) (rest : List ℕ) : Type 0
   pub takes : Takes (key_of w) values
   pub over : IsOver (Key w values) rest
 
-pub at_key : (text list : List ℕ) (item : Item) (rest : List ℕ) → kind.Key ≡ kind_of item → drop (name_length text) text ≡ 61 ∷ list
+pub at_key : (text list : List ℕ) (item : SpecItem) (rest : List ℕ) → kind.Key ≡ kind_of item → drop (name_length text) text ≡ 61 ∷ list
     → IsFirst text item rest → AtKey text list item rest
 at_key text list (Key w values) rest k behind first =
     let c = name_cut text w (61 ∷ (spell_values values ++ rest)) (first.cut ∙ append_assoc w (61 ∷ spell_values values) rest) first.form.0.0
@@ -50,7 +50,7 @@ not_over : (w : List ℕ) (values : List (List ℕ)) (rest : List ℕ) → goes_
 not_over w values rest h b more e on = true_false (is_run_byte b) on (rw e at h)
 
 pub key_none : (text : List ℕ) (n : ℕ) → n ≡ name_length text → kind_at text ≡ Some kind.Key → start_run (key_of (take n text)) ≡ None
-    → (item : Item) (rest : List ℕ) → IsFirst text item rest → ⊥
+    → (item : SpecItem) (rest : List ℕ) → IsFirst text item rest → ⊥
 key_none text n e k none item rest first =
     let some = key_some text k in
     let a = at_key text (drop 1 (drop (name_length text) text)) item rest (same_Some _ _ (sym k ∙ first_kind text item rest first))
@@ -95,8 +95,8 @@ name_under (b ∷ w) h =
     rw (p.0, list_all-append is_name_byte w (95 ∷ []), p.1) refl
 
 -- a NAME can go on as a key
-pub key_viable : (w : List ℕ) → IsName w → (tail : List ℕ) × (item : Item) × IsItem item × (kind.Key ≡ kind_of item)
-    × (w ++ tail ≡ spell item)
+pub key_viable : (w : List ℕ) → IsName w → (tail : List ℕ) × (item : SpecItem) × IsSpecItem item × (kind.Key ≡ kind_of item)
+    × (w ++ tail ≡ spell_item item)
 key_viable w h = (
   95 ∷ 61 ∷ 97 ∷ [],
   Key (w ++ 95 ∷ []) ((97 ∷ []) ∷ []),

@@ -1,8 +1,8 @@
 -- The kind of the item that a text begins with.
 use Rattle.std.proofs.Common.{◌≡◌, ℕ, ◌<◌, Bool, true, false, List, [], ◌∷◌, ◌++◌, drop, Option, Some, None, refl, sym, ap, ◌∙◌, arith, append_assoc, ◌==◌, ◌||◌, if◌then◌else◌, eqb-true, drop_at}
 use Rattle.spec_grammar.specs.declared.item.Kind.TheVariants as kind
-use Rattle.spec_grammar.proofs.Common.{and_parts, false_from_ne_true, nat_tests, list_all, is_start, is_name_byte, IsName, name_length, spell, spell_values, HasShape, IsOver, kind_of, kind_by, kind_at, starts_with_byte, mark_byte, is_name_end, IsFirst}
-use Rattle.spec_grammar.proofs.Common.{Mark, Plus, Tilde, Minus, Item, Name, Versions, Variant, Compiler, Key, Caret, Kind}
+use Rattle.spec_grammar.proofs.Common.{and_parts, false_from_ne_true, nat_tests, list_all, is_start, is_name_byte, IsName, name_length, spell_item, spell_values, HasShape, IsOver, kind_of, kind_by, kind_at, starts_with_byte, mark_byte, is_name_end, IsFirst}
+use Rattle.spec_grammar.proofs.Common.{Mark, Plus, Tilde, Minus, SpecItem, Name, Versions, Variant, Compiler, Key, Caret, Kind}
 use Rattle.spec_grammar.proofs.RunLaws.{Stop, stop_cons, name_length_is}
 
 -- what a kind says of the byte and of what is behind the NAME
@@ -104,7 +104,7 @@ named (b ∷ w) rest h stop =
     drop_at (b ∷ w) rest _ (sym (name_length_is (b ∷ w) rest h stop)) in
     ap (kind_by b) behind ∙ named_by b rest p.0
 
-pub kind_is : (item : Item) (rest : List ℕ) → HasShape item → IsOver item rest → kind_at (spell item ++ rest) ≡ Some (kind_of item)
+pub kind_is : (item : SpecItem) (rest : List ℕ) → HasShape item → IsOver item rest → kind_at (spell_item item ++ rest) ≡ Some (kind_of item)
 kind_is (Name w) rest shape over = named w rest shape (over_name w rest over)
     ∙ ap (λ v. Some (if v then kind.Key else kind.Name)) (over_key w rest over)
 kind_is (Versions items) rest shape over = refl
@@ -117,5 +117,5 @@ kind_is (Key w values) rest shape over =
     ∙ named w (61 ∷ (spell_values values ++ rest)) shape.0 (stop_cons is_name_byte 61 (spell_values values ++ rest) refl)
 kind_is Caret rest shape over = refl
 
-pub first_kind : (text : List ℕ) (item : Item) (rest : List ℕ) → IsFirst text item rest → kind_at text ≡ Some (kind_of item)
+pub first_kind : (text : List ℕ) (item : SpecItem) (rest : List ℕ) → IsFirst text item rest → kind_at text ≡ Some (kind_of item)
 first_kind text item rest first = ap kind_at first.cut ∙ kind_is item rest first.form.0 first.over

@@ -3,7 +3,7 @@ use Rattle.std.proofs.Common.{◌≡◌, ℕ, ◌<◌, ◌≤◌, ◌+◌, ◌^�
 use Rattle.version_order.specs.Items.{spell_more, is_empty_range, spell as spell_range}
 use Rattle.spec_grammar.specs.declared.fault.SpecFault.TheVariants as fault
 use Rattle.spec_grammar.proofs.Common.{cases_Bool, cases_order, Begins, IsLongestFront, Reads, IsList, spelling, first_empty, AreListed, IsFirst, IsListAt, IsListFault, IsCutOff, IsItemFault, IsStuck, Varies, varied, moved, Fits, same_Some, none-some}
-use Rattle.spec_grammar.proofs.Common.{VersionItem, Item, Versions, SpecFault}
+use Rattle.spec_grammar.proofs.Common.{VersionItem, SpecItem, Versions, SpecFault}
 use Rattle.spec_grammar.proofs.RunLaws.{two_cons}
 use Rattle.spec_grammar.proofs.KindLaws.{first_kind}
 use Rattle.spec_grammar.proofs.VaryLaws.{varied_front, varied_cons, varies_cons, varied_longest}
@@ -121,14 +121,14 @@ versions_read text items n at none = record {
 }
 
 -- `@` begins this item
-pub record AtVersions (text : List ℕ) (item : Item) (rest : List ℕ) : Type 0 where
+pub record AtVersions (text : List ℕ) (item : SpecItem) (rest : List ℕ) : Type 0 where
   pub items : List VersionItem
   pub same : item ≡ Versions items
   pub are : AreListed items
   pub cut : text ≡ spelling items ++ rest
   pub over : IsListOver items rest
 
-pub at_versions : (text : List ℕ) (item : Item) (rest : List ℕ) → IsFirst (64 ∷ text) item rest → AtVersions text item rest
+pub at_versions : (text : List ℕ) (item : SpecItem) (rest : List ℕ) → IsFirst (64 ∷ text) item rest → AtVersions text item rest
 at_versions text (Versions items) rest first =
     record { items = items; same = refl; are = first.form.0; cut = (two_cons _ _ _ _ first.cut).1; over = first.over }
 at_versions text item rest first = absurd (let e = first_kind (64 ∷ text) item rest first in cc)

@@ -2,7 +2,7 @@
 use Rattle.std.proofs.Common.{◌≡◌, ℕ, ◌<◌, ◌≤◌, ◌+◌, suc, true, false, List, [], ◌∷◌, ◌++◌, length, take, drop, Some, refl, sym, ap, subst, ◌∙◌, arith, inl, inr, ◌==◌, ◌||◌, eqb-true, append-nil, take-append-drop, take_at, drop_at, length-take}
 use Rattle.spec_grammar.specs.declared.item.Kind.TheVariants as kind
 use Rattle.spec_grammar.proofs.Common.{prefix_len, cases_Bool, or_from, nat_tests, is_start, is_name_byte, IsName, name_length, IsOver, kind_of, kind_at, starts_with_byte, mark_byte, is_name_end, IsFirst, IsCutOff, IsStuck, Varies, varied, same_Some}
-use Rattle.spec_grammar.proofs.Common.{Mark, Plus, Tilde, Minus, Item, Name, Variant}
+use Rattle.spec_grammar.proofs.Common.{Mark, Plus, Tilde, Minus, SpecItem, Name, Variant}
 use Rattle.spec_grammar.proofs.RunLaws.{Stop, stop_cons, name_front, name_stop, name_length_is, name_length-le, true_false, two_cons}
 use Rattle.spec_grammar.proofs.KindLaws.{named, name_some, over_name, over_variant, first_kind, or_right}
 use Rattle.spec_grammar.proofs.ListLaws.{drop_one}
@@ -31,14 +31,14 @@ variant_is Tilde text = refl
 variant_is Minus text = refl
 
 -- a mark begins this item
-pub record AtVariant (mark : Mark) (text : List ℕ) (item : Item) (rest : List ℕ) : Type 0 where
+pub record AtVariant (mark : Mark) (text : List ℕ) (item : SpecItem) (rest : List ℕ) : Type 0 where
   pub w : List ℕ
   pub same : item ≡ Variant mark w
   pub is : IsName w
   pub cut : text ≡ w ++ rest
   pub stop : Stop is_name_byte rest
 
-pub at_variant : (mark : Mark) (text : List ℕ) (item : Item) (rest : List ℕ) → kind.Variant mark ≡ kind_of item
+pub at_variant : (mark : Mark) (text : List ℕ) (item : SpecItem) (rest : List ℕ) → kind.Variant mark ≡ kind_of item
     → IsFirst (mark_byte mark ∷ text) item rest → AtVariant mark text item rest
 at_variant mark text (Variant other w) rest k first =
     record {
@@ -51,7 +51,7 @@ at_variant mark text (Variant other w) rest k first =
     }
 at_variant mark text item rest k first = absurd cc
 
-pub variant_none : (mark : Mark) (text : List ℕ) → name_length text ≡ 0 → (item : Item) (rest : List ℕ)
+pub variant_none : (mark : Mark) (text : List ℕ) → name_length text ≡ 0 → (item : SpecItem) (rest : List ℕ)
     → IsFirst (mark_byte mark ∷ text) item rest → ⊥
 variant_none mark text none item rest first =
     let a = at_variant mark text item rest (same_Some _ _ (sym (variant_is mark text) ∙ first_kind _ item rest first)) first in
@@ -125,14 +125,14 @@ name_read text n e k colon point =
     }
 
 -- a NAME begins this item
-pub record AtName (text : List ℕ) (item : Item) (rest : List ℕ) : Type 0 where
+pub record AtName (text : List ℕ) (item : SpecItem) (rest : List ℕ) : Type 0 where
   pub w : List ℕ
   pub same : item ≡ Name w
   pub is : IsName w
   pub cut : text ≡ w ++ rest
   pub over : IsOver (Name w) rest
 
-pub at_name : (text : List ℕ) (item : Item) (rest : List ℕ) → kind.Name ≡ kind_of item → IsFirst text item rest → AtName text item rest
+pub at_name : (text : List ℕ) (item : SpecItem) (rest : List ℕ) → kind.Name ≡ kind_of item → IsFirst text item rest → AtName text item rest
 at_name text (Name w) rest k first = record { w = w; same = refl; is = first.form.0; cut = first.cut; over = first.over }
 at_name text item rest k first = absurd cc
 
@@ -143,7 +143,7 @@ end_of_name b is (c ∷ rest) h w over = let same : c ≡ b = eqb-true c b h in
 
 -- no NAME that begins a part stands before this byte
 pub name_not : (text : List ℕ) (n b : ℕ) → n ≡ name_length text → kind_at text ≡ Some kind.Name → is_name_end b ≡ true
-    → starts_with_byte b (drop n text) ≡ true → (item : Item) (rest : List ℕ) → IsFirst text item rest → ⊥
+    → starts_with_byte b (drop n text) ≡ true → (item : SpecItem) (rest : List ℕ) → IsFirst text item rest → ⊥
 name_not text n b e k is h item rest first =
     let a = at_name text item rest (same_Some _ _ (sym k ∙ first_kind text item rest first)) first in
     let c = name_cut text a.w rest a.cut a.is (over_name a.w rest a.over) in

@@ -7,7 +7,7 @@ use Rattle.std.specs.Cmp.{tied_itself}
 use Rattle.std.specs.Cmp.Lexicographic.{nat_list_cmp_total}
 use Rattle.std.proofs.lemmas.Map.Views.{All-insert_key}
 use Rattle.variant_values.proofs.Texts.{ties_are_equal, with_text_in_order}
-use Rattle.spec_grammar.proofs.Common.{AllByRecursion, or_parts, false_from_ne_true, All-from_recursion, recursion_from_All, bytes_eq-Decides, byte_cmp, IsInByteOrder, with_text, truth, put_all, Variants, with_variant, set_at, has_variant, variant_names}
+use Rattle.spec_grammar.proofs.Common.{AllByRecursion, or_parts, false_from_ne_true, All-from_recursion, recursion_from_All, bytes_eq-Decides, byte_cmp, IsInByteOrder, with_text, truth, put_all, PartVariants, with_variant, set_at, has_variant, variant_names}
 use Rattle.spec_grammar.proofs.RunLaws.{true_false}
 
 pub all_at : {X : Type 0} (P : X → Type 0) (xs : List X) (x : X) (more : List X) → AllByRecursion P (xs ++ x ∷ more) → P x
@@ -72,18 +72,18 @@ other_name w u e = false_from_ne_true (bytes_eq u w) (λ is.
     let both : Greater ≡ Equal = sym e ∙ ap (byte_cmp w) ((bytes_eq-Decides u w).0 is) ∙ tied_itself nat_list_cmp_total w in
     absurd (cc))
 
-pub not_there : (w : List ℕ) (front : Variants) → AreBelow w (variant_names front) → has_variant w front ≡ false
+pub not_there : (w : List ℕ) (front : PartVariants) → AreBelow w (variant_names front) → has_variant w front ≡ false
 not_there w [] h = refl
 not_there w (v ∷ front) h = rw (other_name w v.0 h.0, not_there w front h.1) refl
 
 -- a variant with a name above all others stands last
-pub set_last : (new : List ℕ × List (List ℕ)) (front : Variants) → AreBelow new.0 (variant_names front)
+pub set_last : (new : List ℕ × List (List ℕ)) (front : PartVariants) → AreBelow new.0 (variant_names front)
     → with_variant new front ≡ front ++ new ∷ []
 unfolding with_variant
 set_last new [] h = refl
 set_last new (v ∷ front) h = rw h.0 (ap (λ l. v ∷ l) (set_last new front h.1))
 
-pub all_set : (P : (List ℕ × List (List ℕ)) → Type 0) (new : List ℕ × List (List ℕ)) (variants : Variants) → AllByRecursion P variants
+pub all_set : (P : (List ℕ × List (List ℕ)) → Type 0) (new : List ℕ × List (List ℕ)) (variants : PartVariants) → AllByRecursion P variants
     → P new → AllByRecursion P (with_variant new variants)
 unfolding with_variant
 all_set P new [] h p = (p, tt)
@@ -94,7 +94,7 @@ all_set P new (v ∷ variants) h p = elim (byte_cmp new.0 v.0) as
       | Greater ↦ (h.0, all_set P new variants h.1 p)
     ]
 
-pub names_set : (new : List ℕ × List (List ℕ)) (variants : Variants) → has_variant new.0 variants ≡ false
+pub names_set : (new : List ℕ × List (List ℕ)) (variants : PartVariants) → has_variant new.0 variants ≡ false
     → variant_names (with_variant new variants) ≡ with_text (variant_names variants) new.0
 unfolding with_variant
 names_set new [] h = refl

@@ -12,7 +12,7 @@ use Rattle.std.proofs.lemmas.Bool.{cases_Bool}
 use Rattle.std.proofs.lemmas.Map.Made.{is_some-lookup}
 use Rattle.std.proofs.lemmas.Map.Text.{is_eq-slice_cmp}
 use Rattle.variant_values.specs.Texts.{with_text, with_texts}
-use Rattle.spec_grammar.specs.Meaning.{truth, put_all, target_of, end_of, Variants, has_variant, set_at, with_variant}
+use Rattle.spec_grammar.specs.Meaning.{truth, put_all, target_of, end_of, PartVariants, has_variant, set_at, with_variant}
 use Rattle.spec_grammar.specs.Keys.{is_colon}
 
 -- values put one after another
@@ -46,16 +46,17 @@ any_none p (b ∷ w) e = elim (cases_Bool (p b)) [
 same_name : (w v : List ℕ) → is_at (slice_cmp nat_cmp w) v ≡ bytes_eq v w
 same_name w v = is_eq-slice_cmp w v ∙ nat_list_eq_equiv.symm w v
 
-named : (w : List ℕ) (variants : Variants) → list_any (is_at (slice_cmp nat_cmp w)) (keys_of variants) ≡ has_variant w variants
+named : (w : List ℕ) (variants : PartVariants) → list_any (is_at (slice_cmp nat_cmp w)) (keys_of variants) ≡ has_variant w variants
 named w [] = refl
 named w (v ∷ variants) = rw (same_name w v.0, named w variants) refl
 
 -- the name is found where it is set
-pub has_variant-is : (w : List ℕ) (variants : Variants) → is_some (lookup (is_at (slice_cmp nat_cmp w)) variants) ≡ has_variant w variants
+pub has_variant-is : (w : List ℕ) (variants : PartVariants)
+    → is_some (lookup (is_at (slice_cmp nat_cmp w)) variants) ≡ has_variant w variants
 has_variant-is w variants = is_some-lookup (is_at (slice_cmp nat_cmp w)) variants ∙ named w variants
 
 -- a name that is new goes to its place
-pub set-is : (w : List ℕ) (values : List (List ℕ)) (variants : Variants) → has_variant w variants ≡ false
+pub set-is : (w : List ℕ) (values : List (List ℕ)) (variants : PartVariants) → has_variant w variants ≡ false
     → insert_entry (slice_cmp nat_cmp) variants w values ≡ with_variant (w, values) variants
 unfolding with_variant
 set-is w values [] new = refl

@@ -1,7 +1,7 @@
 -- The canonical text of a part, piece by piece.
 use Rattle.std.proofs.Common.{◌≡◌, ℕ, true, false, List, [], ◌∷◌, ◌++◌, Option, Some, None, refl, sym, ap, subst, ◌∙◌, append_assoc, IfSome, ◌||◌, option_map, option_and_then, codes, append-nil}
-use Rattle.spec_grammar.proofs.Common.{AllByRecursion, map-append, IsInByteOrder, spelling, first_empty, IsName, is_name_byte, spell, spell_list, AreListed, IsOver, is_name_end, Step, spell_step, spell_steps, before_of, before_item, last_of, IsOverLast, IsRightStep, AreRight, needs_name, may_name, may_constrain, Variants, empty_part, set_variant, begin_part, take_item, word_text, key_text, variant_text, variants_text, compiler_text, targets_text, targets_items, variant_names, part_text, HasNoEmpty, take_steps}
-use Rattle.spec_grammar.proofs.Common.{VersionItem, Item, Name, Versions, Mode, Part, Draft}
+use Rattle.spec_grammar.proofs.Common.{AllByRecursion, map-append, IsInByteOrder, spelling, first_empty, IsName, is_name_byte, spell_item, spell_list, AreListed, IsOver, is_name_end, ItemStep, spell_step, spell_steps, before_of, before_item, last_of, IsOverLast, IsRightStep, AreRight, needs_name, may_name, may_constrain, PartVariants, empty_part, set_variant, begin_part, take_item, word_text, key_text, variant_text, variants_text, part_compiler_text, targets_text, targets_items, variant_names, part_text, HasNoEmpty, take_steps}
+use Rattle.spec_grammar.proofs.Common.{VersionItem, SpecItem, Name, Versions, Mode, Part, Draft}
 use Rattle.spec_grammar.proofs.RunLaws.{two_cons, true_false}
 use Rattle.spec_grammar.proofs.WhiteLaws.{white_goes}
 use Rattle.spec_grammar.proofs.OrderLaws.{before_above, not_there, set_last}
@@ -10,15 +10,15 @@ use Rattle.spec_grammar.proofs.AskLaws.{Asks, stands_behind, behind_inside, behi
 use Rattle.spec_grammar.proofs.KeptLaws.{IsKept}
 
 -- behind this item, steps of this text lead from one draft to the other, and constraints may follow
-pub record Leads (mode : Mode) (last : Option Item) (text : List ℕ) (from to : Draft) : Type 0 where
-  pub steps : List Step
+pub record Leads (mode : Mode) (last : Option SpecItem) (text : List ℕ) (from to : Draft) : Type 0 where
+  pub steps : List ItemStep
   pub right : AreRight mode last steps
   pub ranges : AllByRecursion HasNoEmpty steps
   pub spelled : spell_steps steps ≡ text
   pub value : take_steps from steps ≡ Some to
   pub ready : may_constrain mode (before_of (last_of last steps)) ≡ true
 
-pub leads_then : (mode : Mode) (last : Option Item) (t u : List ℕ) (d e f : Draft) → (a : Leads mode last t d e)
+pub leads_then : (mode : Mode) (last : Option SpecItem) (t u : List ℕ) (d e f : Draft) → (a : Leads mode last t d e)
     → Leads mode (last_of last a.steps) u e f → Leads mode last (t ++ u) d f
 leads_then mode last t u d e f a b = record {
   steps = a.steps ++ b.steps;
@@ -30,12 +30,13 @@ leads_then mode last t u d e f a b = record {
 }
 
 -- nothing
-pub leads_none : (mode : Mode) (last : Option Item) (d : Draft) → may_constrain mode (before_of last) ≡ true → Leads mode last [] d d
+pub leads_none : (mode : Mode) (last : Option SpecItem) (d : Draft) → may_constrain mode (before_of last) ≡ true → Leads mode last [] d d
 unfolding take_steps
 leads_none mode last d ready = record { steps = []; right = tt; ranges = tt; spelled = refl; value = refl; ready = ready }
 
 -- an item more in front
-pub leads_cons : (mode : Mode) (last : Option Item) (s : Step) (text : List ℕ) (d e f : Draft) → IsRightStep mode last s → HasNoEmpty s
+pub leads_cons : (mode : Mode) (last : Option SpecItem) (s : ItemStep) (text : List ℕ) (d e f : Draft) → IsRightStep mode last s
+    → HasNoEmpty s
     → take_item s.item d ≡ Some e → Leads mode (Some s.item) text e f → Leads mode last (spell_step s ++ text) d f
 unfolding take_steps
 leads_cons mode last s text d e f right none value l = record {
@@ -48,13 +49,13 @@ leads_cons mode last s text d e f right none value l = record {
 }
 
 -- one item
-leads_one : (mode : Mode) (last : Option Item) (s : Step) (d e : Draft) → IsRightStep mode last s → HasNoEmpty s
+leads_one : (mode : Mode) (last : Option SpecItem) (s : ItemStep) (d e : Draft) → IsRightStep mode last s → HasNoEmpty s
     → take_item s.item d ≡ Some e → may_constrain mode (before_item s.item) ≡ true → Leads mode last (spell_step s) d e
 leads_one mode last s d e right none value ready =
     subst (λ l. Leads mode last l d e) (append-nil (spell_step s))
     (leads_cons mode last s [] d e e right none value (leads_none mode (Some s.item) e ready))
 
-pub over_space : (last : Option Item) (text : List ℕ) → IsOverLast last (32 ∷ text)
+pub over_space : (last : Option SpecItem) (text : List ℕ) → IsOverLast last (32 ∷ text)
 over_space None text = tt
 over_space (Some item) text = λ b more e on. white_goes item b (rw (sym (two_cons 32 b text more e).0) refl) on
 
@@ -64,7 +65,7 @@ abbrev pub at : Draft → Part → Draft
 at draft part = record draft { part = Some part }
 
 abbrev pub Piece : Mode → List ℕ → Part → Part → Type 0
-Piece mode text p q = (last : Option Item) (draft : Draft) → may_constrain mode (before_of last) ≡ true
+Piece mode text p q = (last : Option SpecItem) (draft : Draft) → may_constrain mode (before_of last) ≡ true
     → Leads mode last text (at draft p) (at draft q)
 
 pub piece_then : (mode : Mode) (t u : List ℕ) (p q r : Part) → Piece mode t p q → Piece mode u q r → Piece mode (t ++ u) p r
@@ -79,13 +80,13 @@ piece_none mode p last draft ready = leads_none mode last (at draft p) ready
 piece_one : (mode : Mode) (text : List ℕ) (does : Part → Option Part) (p q : Part) → Asks mode text does → does p ≡ Some q
     → Piece mode (32 ∷ text) p q
 piece_one mode text does p q asks e last draft ready =
-    let s : Step = record { gap = 32 ∷ []; item = asks.item } in
+    let s : ItemStep = record { gap = 32 ∷ []; item = asks.item } in
     let right : IsRightStep mode last s = record {
       white = refl;
       form = asks.form;
       stands =
           stands_behind mode (before_of last) asks.item asks.behind asks.may ready;
-      over = over_space last (spell asks.item);
+      over = over_space last (spell_item asks.item);
     } in
     let value : take_item asks.item (at draft p) ≡ Some (at draft q) = behind_takes asks.item draft p asks.behind
     ∙ ap (option_map (λ next. record draft { part = Some next })) (asks.adds p ∙ e) in
@@ -102,7 +103,7 @@ once_piece mode p all text does with (Some a) nothing spelled none sets asks =
     rw (spelled a) (piece_one mode (text a) (does a) p (with (Some a)) asks (sets a))
 
 -- the variants behind those of a part, in byte order
-variants_piece : (mode : Mode) (p : Part) (front variants : Variants)
+variants_piece : (mode : Mode) (p : Part) (front variants : PartVariants)
     → AllByRecursion (λ v. Asks mode (variant_text v.0 v.1) (set_variant v.0 v.1)) variants
     → IsInByteOrder (variant_names (front ++ variants))
     → Piece mode (variants_text variants) (record p { variants = front }) (record p { variants = front ++ variants })
@@ -122,7 +123,7 @@ variants_piece mode p front (v ∷ variants) asks ordered =
 -- the constraints of a part but for its versions
 abbrev constraints : Part → List ℕ
 constraints p =
-    variants_text p.variants ++ (compiler_text p.compiler
+    variants_text p.variants ++ (part_compiler_text p.compiler
     ++ (key_text (codes " platform=") p.platform ++ (key_text (codes " os=") p.os ++ targets_text p.targets)))
 
 constraints_piece : (mode : Mode) (p : Part) → IsKept mode p
@@ -134,7 +135,8 @@ constraints_piece mode p h =
     let d : Part = record c { platform = p.platform } in
     let e : Part = record d { os = p.os } in
     let first = variants_piece mode a [] p.variants h.variants h.ordered in
-    let second = once_piece mode b compiler_text (λ v. 37 ∷ (v.0 ++ spell_list v.1)) compiler_is (λ o. record b { compiler = o }) p.compiler
+    let second = once_piece mode b part_compiler_text (λ v. 37 ∷ (v.0 ++ spell_list v.1)) compiler_is
+    (λ o. record b { compiler = o }) p.compiler
     refl (λ v. refl) refl (λ v. refl) h.compiler in
     let third = once_piece mode c (key_text (codes " platform=")) (λ v. codes "platform=" ++ v) platform_is (λ o. record c { platform = o })
     p.platform refl (λ v. refl) refl (λ v. refl) h.platform in
@@ -148,13 +150,13 @@ constraints_piece mode p h =
 -- ---- a part
 
 -- a part of this name may begin here
-pub record MayBegin (mode : Mode) (last : Option Item) (draft : Draft) (name : Option (List ℕ)) : Type 0 where
+pub record MayBegin (mode : Mode) (last : Option SpecItem) (draft : Draft) (name : Option (List ℕ)) : Type 0 where
   pub stands : may_name mode (before_of last) false ≡ true
   pub over : (w : List ℕ) → IsName w → IsOverLast last w
   pub begins : (w : List ℕ) → begin_part w draft draft.part ≡ at draft (empty_part (Some w))
   pub nameless : name ≡ None → (draft ≡ at draft (empty_part None)) × (last ≡ None) × (needs_name mode ≡ false)
 
-versions_lead : (mode : Mode) (last : Option Item) (draft : Draft) (name : Option (List ℕ)) (versions : Option (List VersionItem))
+versions_lead : (mode : Mode) (last : Option SpecItem) (draft : Draft) (name : Option (List ℕ)) (versions : Option (List VersionItem))
     → ((text : List ℕ) → IsOverLast last (64 ∷ text)) → may_constrain mode (before_of last) ≡ true
     → IfSome versions (λ l. AreListed l × (first_empty 1 l ≡ None))
     → Leads mode last (spell_list versions) (at draft (empty_part name)) (at draft (record (empty_part name) { versions = versions }))
@@ -166,7 +168,7 @@ versions_lead mode last draft name (Some l) over ready is =
 name_over : (w text : List ℕ) → IsOver (Name w) (64 ∷ text)
 name_over w text b more e on = true_false (is_name_byte b || is_name_end b) on (rw (sym (two_cons 64 b text more e).0) refl)
 
-front_leads : (mode : Mode) (last : Option Item) (draft : Draft) (name : Option (List ℕ)) (versions : Option (List VersionItem))
+front_leads : (mode : Mode) (last : Option SpecItem) (draft : Draft) (name : Option (List ℕ)) (versions : Option (List VersionItem))
     → MayBegin mode last draft name → IfSome name IsName → IfSome versions (λ l. AreListed l × (first_empty 1 l ≡ None))
     → Leads mode last (word_text name ++ spell_list versions) draft (at draft (record (empty_part name) { versions = versions }))
 front_leads mode last draft None versions may is listed =
@@ -182,7 +184,7 @@ front_leads mode last draft (Some w) versions may is listed =
     leads_cons mode last (record { gap = []; item = Name w }) (spell_list versions) draft _ _ right refl next
     (versions_lead mode (Some (Name w)) draft (Some w) versions (name_over w) refl listed)
 
-pub part_leads : (mode : Mode) (last : Option Item) (draft : Draft) (p : Part) → MayBegin mode last draft p.name → IsKept mode p
+pub part_leads : (mode : Mode) (last : Option SpecItem) (draft : Draft) (p : Part) → MayBegin mode last draft p.name → IsKept mode p
     → Leads mode last (part_text p) draft (at draft p)
 unfolding part_text
 part_leads mode last draft p may h =

@@ -1,7 +1,7 @@
 -- What may stand after each state of the machine of values.
 use Rattle.std.proofs.Common.{◌≡◌, ℕ, ◌≤◌, ◌+◌, Bool, true, false, cond, ◌&&◌, ◌⊎◌, List, [], ◌∷◌, ◌++◌, Option, Some, None, count_by, refl, sym, ap, ◌∙◌, arith, inl, inr, eqb-true, ◌==◌}
 use Rattle.std.proofs.lemmas.List.Sums.{sum_by-cons}
-use Rattle.spec_grammar.proofs.Common.{AllByRecursion, list_all, cases_Bool, and_parts, nat_tests, is_value_byte, is_value, IsValue, is_other, is_colon, is_piece, IsTarget, spell_more, after, is_whole, Run, One, Many, Target, First, Second, Third}
+use Rattle.spec_grammar.proofs.Common.{AllByRecursion, list_all, cases_Bool, and_parts, nat_tests, is_value_byte, is_value, IsValue, is_other, is_colon, is_piece, IsTarget, spell_more_values, after, is_whole, Run, One, Many, Target, First, Second, Third}
 use Rattle.spec_grammar.proofs.RunLaws.{two_cons, cons_none}
 
 abbrev pub is_piece_byte : ℕ → Bool
@@ -22,7 +22,7 @@ IsWithin colon w = one colon + count_by is_colon w ≤ 1
 
 -- a value of which F holds, and others behind commas
 abbrev pub Comma : (List ℕ → Type 0) → (List ℕ → Type 0) → List ℕ → Type 0
-Comma F P text = (v : List ℕ) × (values : List (List ℕ)) × F v × AllByRecursion P values × (text ≡ v ++ spell_more values)
+Comma F P text = (v : List ℕ) × (values : List (List ℕ)) × F v × AllByRecursion P values × (text ≡ v ++ spell_more_values values)
 
 -- a part of P-O-T, `-`, and what is next
 abbrev pub Dash : Bool → (List ℕ → Type 0) → List ℕ → Type 0
@@ -235,7 +235,7 @@ no_text (c ∷ w) b more e = cons_none c (w ++ b ∷ more) (sym e)
 
 comma_end : (F P : List ℕ → Type 0) → Comma F P [] → F []
 comma_end F P ([], values, f, are, e) = f
-comma_end F P (c ∷ v, values, f, are, e) = cons_none c (v ++ spell_more values) (sym e)
+comma_end F P (c ∷ v, values, f, are, e) = cons_none c (v ++ spell_more_values values) (sym e)
 
 pub rest_whole : (s : Run) → Rest s [] → is_whole s ≡ true
 rest_whole (One some) r = r

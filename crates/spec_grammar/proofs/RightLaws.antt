@@ -2,8 +2,8 @@
 use Rattle.std.proofs.Common.{◌≡◌, ◌≢◌, ℕ, ◌≤◌, ◌+◌, true, List, [], ◌∷◌, length, drop, Some, None, refl, sym, ap, subst, ◌∙◌, arith, inl, inr, option_and_then, length-drop}
 use Rattle.version_order.proofs.VersionLaws.{one_place}
 use Rattle.spec_grammar.specs.declared.fault.SpecFault.TheVariants as fault
-use Rattle.spec_grammar.proofs.Common.{AllByRecursion, cases_lt, drop_all, HasForm, kind_of, Step, is_some_gap, may_stand, take_item, finish, Read, place_of, has_gap, IsRead, Spells, IsDark, IsItemAt, HasNoEmpty, empty_place, take_steps, begin, IsWrong, IsAtItem, IsFault, same_Some, none-some}
-use Rattle.spec_grammar.proofs.Common.{Item, Mode, Spec, Part, Draft, SpecFault}
+use Rattle.spec_grammar.proofs.Common.{AllByRecursion, cases_lt, drop_all, HasForm, kind_of, ItemStep, is_some_gap, may_stand, take_item, finished_specs, SpecReading, place_of_reading, has_gap, IsSpecReading, Spells, IsDark, IsItemAt, HasNoEmpty, empty_place, take_steps, first_draft, IsWrong, IsAtItem, IsFault, same_Some, none-some}
+use Rattle.spec_grammar.proofs.Common.{SpecItem, Mode, Spec, Part, Draft, SpecFault}
 use Rattle.spec_grammar.proofs.OrderLaws.{all_at}
 use Rattle.spec_grammar.proofs.UniqueLaws.{one_first}
 use Rattle.spec_grammar.proofs.FormLaws.{form_none}
@@ -11,16 +11,16 @@ use Rattle.spec_grammar.proofs.SameLaws.{GoesOnWith, compare}
 use Rattle.spec_grammar.proofs.BadLaws.{item_cuts, no_rest, rest_dark, form_cuts}
 use Rattle.spec_grammar.proofs.StepLaws.{take_append}
 
-finishes : (a b : Draft) (p q : Part) → a ≡ b → a.part ≡ Some p → b.part ≡ Some q → finish a p ≡ finish b q
+finishes : (a b : Draft) (p q : Part) → a ≡ b → a.part ≡ Some p → b.part ≡ Some q → finished_specs a p ≡ finished_specs b q
 finishes a b p q e f g =
     let same : p ≡ q = same_Some p q (sym f ∙ ap (λ (d : Draft). d.part) e ∙ g) in
-    ap (λ (d : Draft). finish d p) e ∙ ap (finish b) same
+    ap (λ (d : Draft). finished_specs d p) e ∙ ap (finished_specs b) same
 
-reads_same : (mode : Mode) (a b : Read) (steps : a.steps ≡ b.steps) → take_steps (begin mode) a.steps ≡ Some a.draft
-    → take_steps (begin mode) b.steps ≡ Some b.draft → a.draft ≡ b.draft
-reads_same mode a b e f g = same_Some a.draft b.draft (sym f ∙ ap (take_steps (begin mode)) e ∙ g)
+reads_same : (mode : Mode) (a b : SpecReading) (steps : a.steps ≡ b.steps) → take_steps (first_draft mode) a.steps ≡ Some a.draft
+    → take_steps (first_draft mode) b.steps ≡ Some b.draft → a.draft ≡ b.draft
+reads_same mode a b e f g = same_Some a.draft b.draft (sym f ∙ ap (take_steps (first_draft mode)) e ∙ g)
 
-one_draft : (mode : Mode) (text : List ℕ) (a b : Read) → IsRead mode text a → IsRead mode text b → a.draft ≡ b.draft
+one_draft : (mode : Mode) (text : List ℕ) (a b : SpecReading) → IsSpecReading mode text a → IsSpecReading mode text b → a.draft ≡ b.draft
 one_draft mode text a b x y =
     elim (compare mode None text a.steps a.trail [] b.steps b.trail [] (form_cuts mode text a.steps a.trail x.cut)
     (form_cuts mode text b.steps b.trail y.cut)) [
@@ -35,20 +35,21 @@ one_reading mode text a b x y = x.are ∙ finishes x.read.draft y.read.draft x.p
 
 -- ---- what is right has no fault
 
-take_none : (draft : Draft) (s : Step) (more : List Step) → take_item s.item draft ≡ None → take_steps draft (s ∷ more) ≡ None
+take_none : (draft : Draft) (s : ItemStep) (more : List ItemStep) → take_item s.item draft ≡ None → take_steps draft (s ∷ more) ≡ None
 unfolding take_steps
 take_none draft s more h = rw h refl
 
-abbrev MayFollowBy : Mode → Read → List ℕ → Item → Type 0
-MayFollowBy mode read gap item = may_stand mode (place_of read) (is_some_gap gap) (kind_of item) ≡ true
+abbrev MayFollowBy : Mode → SpecReading → List ℕ → SpecItem → Type 0
+MayFollowBy mode read gap item = may_stand mode (place_of_reading read) (is_some_gap gap) (kind_of item) ≡ true
 
 -- an item that is wrong is none of the items of a reading
-pub not_within : (mode : Mode) (text : List ℕ) (p : ℕ) (read : Read) (e : SpecFault) (steps : List Step) (draft : Draft)
-    → IsItemAt mode text p read → IsWrong mode text p read e → AllByRecursion HasNoEmpty steps → take_steps (begin mode) steps ≡ Some draft
+pub not_within : (mode : Mode) (text : List ℕ) (p : ℕ) (read : SpecReading) (e : SpecFault) (steps : List ItemStep) (draft : Draft)
+    → IsItemAt mode text p read → IsWrong mode text p read e → AllByRecursion HasNoEmpty steps
+    → take_steps (first_draft mode) steps ≡ Some draft
     → GoesOnWith mode None read.steps read.trail (drop p text) steps → ⊥
 not_within mode text p read (fault.Unsupported q form) steps draft at wrong none value g =
     absurd (none-some form
-    (sym (form_none mode (place_of read) (has_gap read) (drop p text) g.step.item g.tail _ g.first
+    (sym (form_none mode (place_of_reading read) (has_gap read) (drop p text) g.step.item g.tail _ g.first
     (subst (λ (l : List ℕ). MayFollowBy mode read l g.step.item) g.gap g.right.stands)) ∙ wrong.1))
 not_within mode text p read (fault.Expected q) steps draft at wrong none value g =
     wrong.1 g.step.item g.tail g.first (subst (λ (l : List ℕ). MayFollowBy mode read l g.step.item) g.gap g.right.stands)
@@ -59,14 +60,14 @@ not_within mode text p read (fault.BadVersion q) steps draft at wrong none value
     absurd (none-some wrong.1.2 (sym nowhere ∙ ap empty_place same.0 ∙ wrong.1.5))
 not_within mode text p read (fault.TwiceSet q) steps draft at wrong none value g =
     let same = one_first (drop p text) g.step.item wrong.2.0 g.tail wrong.2.1 g.first wrong.2.2 in
-    let refused : take_item g.step.item read.draft ≡ None = ap (λ (i : Item). take_item i read.draft) same.0 ∙ wrong.2.5 in
-    let stuck : take_steps (begin mode) steps ≡ None =
-    ap (take_steps (begin mode)) g.joined ∙ take_append (begin mode) read.steps (g.step ∷ g.more)
+    let refused : take_item g.step.item read.draft ≡ None = ap (λ (i : SpecItem). take_item i read.draft) same.0 ∙ wrong.2.5 in
+    let stuck : take_steps (first_draft mode) steps ≡ None =
+    ap (take_steps (first_draft mode)) g.joined ∙ take_append (first_draft mode) read.steps (g.step ∷ g.more)
     ∙ ap (option_and_then (λ next. take_steps next (g.step ∷ g.more))) at.before.value ∙ take_none read.draft g.step g.more refused in
     absurd (none-some draft (sym stuck ∙ value))
 not_within mode text p read fault.OutOfMemory steps draft at wrong none value g = wrong
 
-no_item : (mode : Mode) (text : List ℕ) (read : Read) (e : SpecFault) → IsRead mode text read → IsAtItem mode text e → ⊥
+no_item : (mode : Mode) (text : List ℕ) (read : SpecReading) (e : SpecFault) → IsSpecReading mode text read → IsAtItem mode text e → ⊥
 no_item mode text read e is (p, front, at, wrong) =
     elim (compare mode None text front.steps front.trail (drop p text) read.steps read.trail [] (item_cuts mode text p front at)
     (form_cuts mode text read.steps read.trail is.cut)) [
@@ -100,7 +101,7 @@ IsBad (fault.Expected q) (fault.Expected r) mode text = q ≡ r
 IsBad a b mode text = Unit {0}
 
 -- two things that are wrong with one item are one
-wrong_same : (mode : Mode) (text : List ℕ) (p : ℕ) (read : Read) (a b : SpecFault) → IsBad a b mode text → IsWrong mode text p read a
+wrong_same : (mode : Mode) (text : List ℕ) (p : ℕ) (read : SpecReading) (a b : SpecFault) → IsBad a b mode text → IsWrong mode text p read a
     → IsWrong mode text p read b → a ≡ b
 wrong_same mode text p read (fault.Unsupported q f) (fault.Unsupported r g) bad x y = let places : q ≡ r = x.0 ∙ sym y.0 in
     let forms : f ≡ g = same_Some f g (sym x.1 ∙ y.1) in cc
@@ -125,9 +126,9 @@ wrong_same mode text p read (fault.TwiceSet q) (fault.BadVersion r) bad x y =
     absurd (none-some y.1.2 (sym x.2.4 ∙ ap empty_place same.0 ∙ y.1.5))
 wrong_same mode text p read (fault.TwiceSet q) (fault.TwiceSet r) bad x y = ap (λ (k : ℕ). fault.TwiceSet k) (x.1 ∙ sym y.1)
 
-read_same : (a b : Read) → a.steps ≡ b.steps → a.trail ≡ b.trail → a.draft ≡ b.draft → a ≡ b
+read_same : (a b : SpecReading) → a.steps ≡ b.steps → a.trail ≡ b.trail → a.draft ≡ b.draft → a ≡ b
 read_same a b e f g =
-    ap (λ (l : List Step). record { steps = l; trail = a.trail; draft = a.draft }) e
+    ap (λ (l : List ItemStep). record { steps = l; trail = a.trail; draft = a.draft }) e
     ∙ ap (λ (l : List ℕ). record { steps = b.steps; trail = l; draft = a.draft }) f
     ∙ ap (λ (d : Draft). record { steps = b.steps; trail = b.trail; draft = d }) g
 
@@ -138,7 +139,7 @@ items_same mode text a b bad (p, r, at, x) (q, s, there, y) =
       | inl same ↦
           let place : p ≡ q = drop_same text p q (dark_within text p at.dark) (dark_within text q there.dark) same.2 in
           let read : r ≡ s = read_same r s same.0 same.1 (reads_same mode r s same.0 at.before.value there.before.value) in
-          wrong_same mode text q s a b bad (subst (λ (t : Read). IsWrong mode text q t a) read
+          wrong_same mode text q s a b bad (subst (λ (t : SpecReading). IsWrong mode text q t a) read
           (subst (λ (k : ℕ). IsWrong mode text k r a) place x)) y
       | inr (inl g) ↦ absurd (not_within mode text p r a s.steps s.draft at x there.before.ranges there.before.value g)
       | inr (inr g) ↦ absurd (not_within mode text q s b r.steps r.draft there y at.before.ranges at.before.value g)

@@ -1,8 +1,8 @@
 -- A text that has one spec, and a text without `^`.
 use Rattle.std.proofs.Common.{◌≡◌, ℕ, Bool, true, false, List, [], ◌∷◌, ◌++◌, Option, Some, None, refl, ap, subst, ◌∙◌, arith}
 use Rattle.spec_grammar.specs.declared.mode.Before.TheVariants as before
-use Rattle.spec_grammar.proofs.Common.{AllByRecursion, and_parts, before_of, before_item, is_some_gap, may_repeat, may_nest, may_name, may_stand, needs_name, kind_of, spec_with, begin_part, Spells, begin, first_part}
-use Rattle.spec_grammar.proofs.Common.{Item, Name, Caret, Mode, Before, Part, Spec, Draft}
+use Rattle.spec_grammar.proofs.Common.{AllByRecursion, and_parts, before_of, before_item, is_some_gap, may_repeat, may_nest, may_name, may_stand, needs_name, kind_of, spec_with, begin_part, Spells, first_draft, initial_part}
+use Rattle.spec_grammar.proofs.Common.{SpecItem, Name, Caret, Mode, Before, Part, Spec, Draft}
 use Rattle.spec_grammar.proofs.RunLaws.{true_false}
 use Rattle.spec_grammar.proofs.StepLaws.{Took, steps_keep, nested_specs, nested_part}
 use Rattle.spec_grammar.proofs.DraftLaws.{IsBelow, whole}
@@ -31,7 +31,7 @@ nameless_at mode before.Start gap part one may h = h
 nameless_at mode before.Caret gap part one may h = h
 nameless_at mode before.Inside gap part one may h = true_false (may_repeat mode) (and_parts (may_repeat mode) gap may).0 one
 
-alone_item : (mode : Mode) (place : Before) (gap : Bool) (item : Item) (draft next : Draft) → may_repeat mode ≡ false
+alone_item : (mode : Mode) (place : Before) (gap : Bool) (item : SpecItem) (draft next : Draft) → may_repeat mode ≡ false
     → may_stand mode place gap (kind_of item) ≡ true → IsAlone place draft → Took item draft next → IsAlone (before_item item) next
 alone_item mode place gap (Name w) draft next one may h took =
     subst (IsAlone before.Inside) took (named_specs w draft draft.part (nameless_at mode place gap draft.part one may h.1) ∙ h.0, tt)
@@ -39,7 +39,7 @@ alone_item mode place gap Caret draft next one may h took =
     subst (IsAlone before.Caret) took.2 (nested_specs draft draft.top took.0 ∙ h.0, rw (nested_part draft draft.top took.0) tt)
 alone_item mode place gap item draft next one may h took = subst (IsAlone before.Inside) took.4 (h.0, tt)
 
-first_nameless : (b : Bool) → IsNameless (first_part b)
+first_nameless : (b : Bool) → IsNameless (initial_part b)
 first_nameless true = tt
 first_nameless false = refl
 
@@ -48,7 +48,7 @@ pub single : (mode : Mode) (text : List ℕ) (specs : List Spec) → may_repeat 
     × (specs ≡ spec ∷ [])
 single mode text specs one s =
     let h = steps_keep mode IsAlone (λ last x a b right none. alone_item mode (before_of last) (is_some_gap x.gap) x.item a b one
-    right.stands) None s.read.steps (begin mode) s.read.draft s.is.cut.right s.is.ranges
+    right.stands) None s.read.steps (first_draft mode) s.read.draft s.is.cut.right s.is.ranges
     (refl, first_nameless (needs_name mode)) s.is.value in
     let spec : Spec = spec_with s.read.draft.top s.read.draft.below s.part in
     (spec, s.are ∙ ap (λ l. l ++ spec ∷ []) h.0)

@@ -2,16 +2,16 @@
 use Rattle.std.proofs.Common.{◌≡◌, ℕ, ◌<◌, ◌≤◌, ◌+◌, Bool, false, List, [], ◌∷◌, ◌++◌, length, take, drop, Option, Some, None, nat_lt, refl, sym, ap, subst, ◌∙◌, arith, append_assoc, option_and_then, take-append-drop, take_at, drop-drop, length-drop, length-append, length-take, take-add}
 use Rattle.std.proofs.lemmas.List.Sums.{prefix_len-le-length}
 use Rattle.spec_grammar.specs.declared.mode.Before.TheVariants.{Start}
-use Rattle.spec_grammar.proofs.Common.{prefix_len, nat_tests, is_white, AreWhite, spell, IsOver, Step, spell_step, spell_steps, before_item, before_of, is_some_gap, IsOverLast, take_item, Read, last_item, place_of, has_gap, IsRead, IsDark, HasNoEmpty, take_steps, begin, IsAllowedItem}
-use Rattle.spec_grammar.proofs.Common.{Item, Mode, Before, Draft}
+use Rattle.spec_grammar.proofs.Common.{prefix_len, nat_tests, is_white, AreWhite, spell_item, IsOver, ItemStep, spell_step, spell_steps, before_item, before_of, is_some_gap, IsOverLast, take_item, SpecReading, last_item, place_of_reading, has_gap, IsSpecReading, IsDark, HasNoEmpty, take_steps, first_draft, IsAllowedItem}
+use Rattle.spec_grammar.proofs.Common.{SpecItem, Mode, Before, Draft}
 use Rattle.spec_grammar.proofs.RunLaws.{run_front, run_stop}
 use Rattle.spec_grammar.proofs.StepLaws.{right_append, last_append, all_append, spell_one, take_append, take_one}
 
 -- what is over before a text is over before its front
-over_front : (item : Item) (a rest : List ℕ) → IsOver item (a ++ rest) → IsOver item a
+over_front : (item : SpecItem) (a rest : List ℕ) → IsOver item (a ++ rest) → IsOver item a
 over_front item a rest over b more e = over b (more ++ rest) (ap (λ (l : List ℕ). l ++ rest) e)
 
-over_last_front : (last : Option Item) (a rest : List ℕ) → IsOverLast last (a ++ rest) → IsOverLast last a
+over_last_front : (last : Option SpecItem) (a rest : List ℕ) → IsOverLast last (a ++ rest) → IsOverLast last a
 over_last_front None a rest over = tt
 over_last_front (Some item) a rest over = over_front item a rest over
 
@@ -19,11 +19,11 @@ over_last_front (Some item) a rest over = over_front item a rest over
 
 -- before place `at` a draft was read, and what stood last is this, behind white space or not
 pub record Stands (mode : Mode) (text : List ℕ) (at : ℕ) (draft : Draft) (before : Before) (gap : Bool) : Type 0 where
-  pub read : Read
+  pub read : SpecReading
   pub within : at ≤ length text
-  pub is : IsRead mode (take at text) read
+  pub is : IsSpecReading mode (take at text) read
   pub draft_is : read.draft ≡ draft
-  pub before_is : place_of read ≡ before
+  pub before_is : place_of_reading read ≡ before
   pub gap_is : has_gap read ≡ gap
   pub over : IsOverLast (last_item read) (read.trail ++ drop at text)
   pub dark : at < length text → IsDark (drop at text)
@@ -49,12 +49,12 @@ white_take : (text : List ℕ) (w : ℕ) → w ≡ prefix_len is_white text → 
 white_take text w e = rw e (run_front is_white text)
 
 pub stands_first : (mode : Mode) (text : List ℕ) (w : ℕ) (gap : Bool) → w ≡ prefix_len is_white text → gap ≡ nat_lt 0 w
-    → Stands mode text w (begin mode) Start gap
+    → Stands mode text w (first_draft mode) Start gap
 unfolding take_steps
 stands_first mode text w gap e g =
     let le : w ≤ length text = omega (arith, prefix_len-le-length is_white text) in
     record {
-      read = record { steps = []; trail = take w text; draft = begin mode };
+      read = record { steps = []; trail = take w text; draft = first_draft mode };
       within = le;
       is = record { cut = record { right = tt; white = white_take text w e; spelled = refl }; ranges = tt; value = refl };
       draft_is = refl;
@@ -69,18 +69,18 @@ front_is l a n le e =
     let long : length a ≡ n = omega (arith, ap length e, length-append a (drop n l), length-drop n l) in
     ap (take n) e ∙ take_at a (drop n l) n long
 
-pub stands_more : (mode : Mode) (text : List ℕ) (at n w : ℕ) (draft next : Draft) (before : Before) (gap more : Bool) (item : Item)
+pub stands_more : (mode : Mode) (text : List ℕ) (at n w : ℕ) (draft next : Draft) (before : Before) (gap more : Bool) (item : SpecItem)
     → Stands mode text at draft before gap → IsAllowedItem mode before gap (drop at text) item n → take_item item draft ≡ Some next
     → w ≡ prefix_len is_white (drop (at + n) text) → more ≡ nat_lt 0 w → Stands mode text (at + n + w) next (before_item item) more
 stands_more mode text at n w draft next before gap more item s taken value e g =
     let read = s.read in
-    let step : Step = record { gap = read.trail; item = item } in
+    let step : ItemStep = record { gap = read.trail; item = item } in
     let rest : List ℕ = drop n (drop at text) in
     let here : rest ≡ drop (at + n) text = drop-drop n at text in
-    let cut : drop at text ≡ spell item ++ rest = taken.cut.first.cut in
+    let cut : drop at text ≡ spell_item item ++ rest = taken.cut.first.cut in
     let within : at + n ≤ length text = omega (arith, taken.cut.within, length-drop at text, s.within) in
     let le : w ≤ length (drop (at + n) text) = omega (arith, prefix_len-le-length is_white (drop (at + n) text)) in
-    let front : take n (drop at text) ≡ spell item = front_is (drop at text) (spell item) n taken.cut.within cut in
+    let front : take n (drop at text) ≡ spell_item item = front_is (drop at text) (spell_item item) n taken.cut.within cut in
     let behind : take w (drop (at + n) text) ++ drop (at + n + w) text ≡ drop (at + n) text =
     ap (λ (l : List ℕ). take w (drop (at + n) text) ++ l) (sym (drop-drop w (at + n) text)) ∙ take-append-drop w (drop (at + n) text) in
     record {
@@ -95,7 +95,7 @@ stands_more mode text at n w draft next before gap more item s taken value e g =
               stands = rw (s.before_is, s.gap_is) taken.stands;
               over = over_last_front (last_item read) (spell_step step) rest
                   (subst (IsOverLast (last_item read)) (ap (λ (l : List ℕ). read.trail ++ l) cut
-                  ∙ sym (append_assoc read.trail (spell item) rest)) s.over);
+                  ∙ sym (append_assoc read.trail (spell_item item) rest)) s.over);
             },
             tt,
           );
@@ -104,10 +104,11 @@ stands_more mode text at n w draft next before gap more item s taken value e g =
               rw (spell_one read.steps step)
               (take-add (at + n) w text
               ∙ ap (λ (l : List ℕ). l ++ take w (drop (at + n) text)) (take-add at n text ∙ ap (λ (l : List ℕ). take at text ++ l) front
-              ∙ ap (λ (l : List ℕ). l ++ spell item) s.is.cut.spelled ∙ append_assoc (spell_steps read.steps) read.trail (spell item)));
+              ∙ ap (λ (l : List ℕ). l ++ spell_item item) s.is.cut.spelled
+              ∙ append_assoc (spell_steps read.steps) read.trail (spell_item item)));
         };
         ranges = all_append HasNoEmpty read.steps (step ∷ []) s.is.ranges (taken.cut.ranges, tt);
-        value = take_append (begin mode) read.steps (step ∷ [])
+        value = take_append (first_draft mode) read.steps (step ∷ [])
             ∙ ap (option_and_then (λ d. take_steps d (step ∷ []))) (s.is.value ∙ ap (λ d. Some d) s.draft_is) ∙ take_one draft step ∙ value;
       };
       draft_is = refl;

@@ -7,7 +7,7 @@ use Rattle.version_order.proofs.ListLaws.{stops_longest, stops_whole}
 use Rattle.spec_grammar.specs.declared.item.Kind.TheVariants as kind
 use Rattle.spec_grammar.specs.declared.fault.SpecFault.TheVariants as fault
 use Rattle.spec_grammar.proofs.Common.{cases_Bool, cases_lt, first_empty, name_length, mark_byte, key_of, kind_at, starts_with_byte, may_stand, may_name, start_run, after, is_whole, Stops, goes_on, form_at, IsListAt, IsListFault, IsCutOff, IsItemFault, AreValuesAt, IsValuesFault, IsAllowedItem, IsItemFaultHere, IsFaultHere, refused_place, moved}
-use Rattle.spec_grammar.proofs.Common.{VersionItem, Item, Name, Versions, Variant, Compiler, Key, Caret, Kind, Mark, KeyKind, Run, Mode, Before, SpecFault}
+use Rattle.spec_grammar.proofs.Common.{VersionItem, SpecItem, Name, Versions, Variant, Compiler, Key, Caret, Kind, Mark, KeyKind, Run, Mode, Before, SpecFault}
 use Rattle.spec_grammar.proofs.RunLaws.{true_false}
 use Rattle.spec_grammar.proofs.ListLaws.{versions_read, versions_moved}
 use Rattle.spec_grammar.proofs.NameLaws.{variant_read, variant_stuck, name_read, name_stuck, starts_is}
@@ -79,7 +79,7 @@ values_total k start text e =
 
 -- an item is cut off at the front, or has a fault
 abbrev IsCutOrFaulty : List ℕ → Type 0
-IsCutOrFaulty text = ((item : Item) × (n : ℕ) × IsCutOff text item n) ⊎ Faulty (IsItemFault text)
+IsCutOrFaulty text = ((item : SpecItem) × (n : ℕ) × IsCutOff text item n) ⊎ Faulty (IsItemFault text)
 
 versions_total : (text : List ℕ) → IsCutOrFaulty (64 ∷ text)
 versions_total text = elim (list_total text) [
@@ -159,7 +159,7 @@ item_total kind.Caret text here = subst IsCutOrFaulty (sym (sign_cut text kind.C
 -- ---- the item at a place
 
 allowed_total : (mode : Mode) (place : Before) (gap : Bool) (text : List ℕ)
-    → ((item : Item) × (n : ℕ) × IsAllowedItem mode place gap text item n) ⊎ Faulty (IsItemFaultHere mode place gap text)
+    → ((item : SpecItem) × (n : ℕ) × IsAllowedItem mode place gap text item n) ⊎ Faulty (IsItemFaultHere mode place gap text)
 allowed_total mode place gap text = elim (some_or_none (kind_at text)) [
   | inl none ↦ inr (fault.Expected 0, none_stuck mode place gap text none, λ same. cc)
   | inr (k, here) ↦ elim (cases_Bool (may_stand mode place gap k)) [
@@ -186,7 +186,7 @@ with_form mode place gap text e none h = absurd h
 
 -- the item that is read and may stand here, or a fault
 pub next_total : (mode : Mode) (place : Before) (gap : Bool) (text : List ℕ)
-    → ((item : Item) × (n : ℕ) × IsAllowedItem mode place gap text item n × (form_at mode (may_name mode place gap) text ≡ None))
+    → ((item : SpecItem) × (n : ℕ) × IsAllowedItem mode place gap text item n × (form_at mode (may_name mode place gap) text ≡ None))
     ⊎ Faulty (IsFaultHere mode place gap text)
 next_total mode place gap text = elim (some_or_none (form_at mode (may_name mode place gap) text)) [
   | inr (form, is) ↦ inr (fault.Unsupported 0 form, (refl, is), λ same. cc)

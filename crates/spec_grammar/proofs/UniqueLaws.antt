@@ -1,8 +1,8 @@
 -- One item stands at the front of a text: a run is always the longest one.
 use Rattle.std.proofs.Common.{◌≡◌, ℕ, true, false, List, [], ◌∷◌, ◌++◌, Option, Some, None, refl, sym, ap, subst, ◌∙◌, inl, inr, append_assoc, ◌⊎◌}
 use Rattle.version_order.proofs.SoFarLaws.{one_reading}
-use Rattle.spec_grammar.proofs.Common.{AllByRecursion, list_all, and_parts, Reads, IsList, spelling, is_name_byte, is_value_byte, IsValue, spell, spell_more, spell_values, spell_list, AreListed, AreValues, IsOver, is_run_byte, kind_of, IsFirst, goes_on, append_cancel_left, same_Some}
-use Rattle.spec_grammar.proofs.Common.{VersionItem, Item, Name, Versions, Variant, Compiler, Key, Caret}
+use Rattle.spec_grammar.proofs.Common.{AllByRecursion, list_all, and_parts, Reads, IsList, spelling, is_name_byte, is_value_byte, IsValue, spell_item, spell_more_values, spell_values, spell_list, AreListed, AreValues, IsOver, is_run_byte, kind_of, IsFirst, goes_on, append_cancel_left, same_Some}
+use Rattle.spec_grammar.proofs.Common.{VersionItem, SpecItem, Name, Versions, Variant, Compiler, Key, Caret}
 use Rattle.spec_grammar.proofs.RunLaws.{Stop, stop_cons, run_cut, two_cons, cons_none, value_run}
 use Rattle.spec_grammar.proofs.CutLaws.{more_stop}
 use Rattle.spec_grammar.proofs.KindLaws.{first_kind, over_name, over_variant}
@@ -57,23 +57,24 @@ runs_append (c ∷ a) b h k =
     let one = run_of c p.0 in
     rw (one, runs_append a b p.1 k) refl
 
-more_runs : (values : List (List ℕ)) → AllByRecursion IsValue values → list_all is_run_byte (spell_more values) ≡ true
+more_runs : (values : List (List ℕ)) → AllByRecursion IsValue values → list_all is_run_byte (spell_more_values values) ≡ true
 more_runs [] h = refl
-more_runs (v ∷ values) h = runs_append v (spell_more values) (value_run v h.0) (more_runs values h.1)
+more_runs (v ∷ values) h = runs_append v (spell_more_values values) (value_run v h.0) (more_runs values h.1)
 
 values_runs : (values : List (List ℕ)) → AreValues values → list_all is_run_byte (spell_values values) ≡ true
 values_runs [] h = refl
-values_runs (v ∷ values) h = runs_append v (spell_more values) (value_run v h.0) (more_runs values h.1)
+values_runs (v ∷ values) h = runs_append v (spell_more_values values) (value_run v h.0) (more_runs values h.1)
 
 run_over : (rest : List ℕ) → goes_on rest ≡ false → Stop is_run_byte rest
 run_over rest h b more e = rw e at h
 
-same_more : (a c : List (List ℕ)) → AllByRecursion IsValue a → AllByRecursion IsValue c → spell_more a ≡ spell_more c → a ≡ c
+same_more : (a c : List (List ℕ)) → AllByRecursion IsValue a → AllByRecursion IsValue c → spell_more_values a ≡ spell_more_values c → a ≡ c
 same_more [] [] p q e = refl
-same_more [] (v ∷ c) p q e = cons_none 44 (v ++ spell_more c) (sym e)
-same_more (v ∷ a) [] p q e = cons_none 44 (v ++ spell_more a) e
+same_more [] (v ∷ c) p q e = cons_none 44 (v ++ spell_more_values c) (sym e)
+same_more (v ∷ a) [] p q e = cons_none 44 (v ++ spell_more_values a) e
 same_more (v ∷ a) (u ∷ c) p q e =
-    let cut = run_cut is_value_byte v u (spell_more a) (spell_more c) (value_run v p.0) (value_run u q.0) (more_stop a) (more_stop c)
+    let cut = run_cut is_value_byte v u (spell_more_values a) (spell_more_values c) (value_run v p.0) (value_run u q.0)
+    (more_stop a) (more_stop c)
     (two_cons _ _ _ _ e).1 in
     let first : v ≡ u = cut.0 in
     let others : a ≡ c = same_more a c p.1 q.1 cut.1 in
@@ -99,7 +100,8 @@ compilers w (Some a) None rest behind e text other f g = absurd (g.over 64 (spel
 compilers w (Some a) (Some c) rest behind e text other f g =
     ap (λ (l : List VersionItem). Some l) (one_list a c rest behind f.form.0.1 g.form.0.1 f.over g.over (two_cons _ _ _ _ e).1)
 
-one_item : (text : List ℕ) (i j : Item) (rest behind : List ℕ) → kind_of i ≡ kind_of j → IsFirst text i rest → IsFirst text j behind → i ≡ j
+one_item : (text : List ℕ) (i j : SpecItem) (rest behind : List ℕ) → kind_of i ≡ kind_of j → IsFirst text i rest
+    → IsFirst text j behind → i ≡ j
 one_item text (Name w) j rest behind k f g =
     let a = at_name text j behind k g in
     let c = name_cut text w rest f.cut f.form.0 (over_name w rest f.over) in
@@ -124,7 +126,7 @@ one_item text (Compiler w items) j rest behind k f g =
     let d = name_cut t a.w (spell_list a.items ++ behind) a.cut a.is a.stop in
     let names : w ≡ a.w = sym c.0 ∙ d.0 in
     let lists = compilers w items a.items rest behind (sym c.1 ∙ d.1) text (37 ∷ t) f
-    (subst (λ (i : Item). IsFirst (37 ∷ t) i behind) (a.same ∙ ap (λ (v : List ℕ). Compiler v a.items) (sym names)) second) in
+    (subst (λ (i : SpecItem). IsFirst (37 ∷ t) i behind) (a.same ∙ ap (λ (v : List ℕ). Compiler v a.items) (sym names)) second) in
     ap (λ (v : List ℕ). Compiler v items) names ∙ ap (λ l. Compiler a.w l) lists ∙ sym a.same
 one_item text (Key w values) j rest behind k f g =
     let c = name_cut text w (61 ∷ (spell_values values ++ rest)) (f.cut ∙ append_assoc w (61 ∷ spell_values values) rest) f.form.0.0
@@ -139,8 +141,8 @@ one_item text Caret j rest behind k f g =
     let a = at_caret rest j behind (subst (λ (l : List ℕ). IsFirst l j behind) f.cut g) in
     sym a.same
 
-pub one_first : (text : List ℕ) (i j : Item) (rest behind : List ℕ) → IsFirst text i rest → IsFirst text j behind → (i ≡ j)
+pub one_first : (text : List ℕ) (i j : SpecItem) (rest behind : List ℕ) → IsFirst text i rest → IsFirst text j behind → (i ≡ j)
     × (rest ≡ behind)
 one_first text i j rest behind f g =
     let same = one_item text i j rest behind (same_Some _ _ (sym (first_kind text i rest f) ∙ first_kind text j behind g)) f g in
-    (same, append_cancel_left (spell j) rest behind (ap (λ (x : Item). spell x ++ rest) (sym same) ∙ sym f.cut ∙ g.cut))
+    (same, append_cancel_left (spell_item j) rest behind (ap (λ (x : SpecItem). spell_item x ++ rest) (sym same) ∙ sym f.cut ∙ g.cut))

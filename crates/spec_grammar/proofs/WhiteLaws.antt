@@ -8,7 +8,7 @@ use Rattle.version_order.specs.declared.scan.Place.TheVariants as place
 use Rattle.version_order.proofs.MachineLaws.{run-append}
 use Rattle.version_order.proofs.AcceptLaws.{list_accepted}
 use Rattle.spec_grammar.proofs.Common.{list_all, and_parts, nat_tests, is_start, Begins, run, IsList, spelling, is_white, AreWhite, is_name_byte, is_name_end, is_run_byte, GoesOn, IsOver, IsOverLast, none-some}
-use Rattle.spec_grammar.proofs.Common.{VersionItem, Item, Name, Versions, Variant, Compiler, Key, Caret}
+use Rattle.spec_grammar.proofs.Common.{VersionItem, SpecItem, Name, Versions, Variant, Compiler, Key, Caret}
 use Rattle.spec_grammar.proofs.RunLaws.{true_false, two_cons, cons_none}
 
 -- no LIST goes on with another sign
@@ -60,7 +60,7 @@ white_name : (b : ℕ) → is_white b ≡ true → ((is_name_byte b || is_name_e
 white_name b h =
     (grind (arith, nat_tests), grind (arith, nat_tests), grind (arith, nat_tests), grind (arith, nat_tests), grind (arith, nat_tests))
 
-pub white_goes : (item : Item) (b : ℕ) → is_white b ≡ true → GoesOn item b → ⊥
+pub white_goes : (item : SpecItem) (b : ℕ) → is_white b ≡ true → GoesOn item b → ⊥
 white_goes (Name w) b h on = true_false _ on (white_name b h).0
 white_goes (Versions items) b h on = list_white items b h on
 white_goes (Variant mark w) b h on = true_false _ on (white_name b h).1
@@ -69,14 +69,14 @@ white_goes (Compiler w (Some items)) b h on = list_white items b h on
 white_goes (Key w values) b h on = true_false _ on (white_name b h).3
 white_goes Caret b h on = true_false _ on (white_name b h).4
 
-same_byte : (item : Item) (b c : ℕ) (trail more : List ℕ) → c ∷ trail ≡ b ∷ more → GoesOn item b → GoesOn item c
+same_byte : (item : SpecItem) (b c : ℕ) (trail more : List ℕ) → c ∷ trail ≡ b ∷ more → GoesOn item b → GoesOn item c
 same_byte item b c trail more e on = subst (GoesOn item) (sym (two_cons _ _ _ _ e).0) on
 
-over_white : (item : Item) (trail : List ℕ) → AreWhite trail → IsOver item trail
+over_white : (item : SpecItem) (trail : List ℕ) → AreWhite trail → IsOver item trail
 over_white item [] h = λ b more e. cons_none b more (sym e)
 over_white item (c ∷ trail) h = λ b more e on. white_goes item c (and_parts (is_white c) (list_all is_white trail) h).0
     (same_byte item b c trail more e on)
 
-pub last_white : (last : Option Item) (trail : List ℕ) → AreWhite trail → IsOverLast last trail
+pub last_white : (last : Option SpecItem) (trail : List ℕ) → AreWhite trail → IsOverLast last trail
 last_white None trail h = tt
 last_white (Some item) trail h = over_white item trail h

@@ -1,8 +1,8 @@
 -- The canonical text of a spec that was read is read again as it.
 use Rattle.std.proofs.Common.{◌≡◌, ℕ, true, false, List, [], ◌∷◌, ◌++◌, ◌<◌, length, All, Option, Some, None, refl, sym, ap, subst, ◌∙◌, arith, append_assoc, Contains, ◌==◌, IsSome, codes, append-nil}
 use Rattle.spec_grammar.specs.declared.mode.Mode.TheVariants.{Condition, LocalCondition}
-use Rattle.spec_grammar.proofs.Common.{AllByRecursion, list_all, and_parts, nat_tests, All-from_recursion, IsInByteOrder, is_name_byte, IsName, is_start, IsOver, before_of, last_of, may_constrain, needs_name, empty_part, begin_part, spec_with, nest_in, nest, Spells, begin, part_text, below_text, spec_text, AreNamed, AreInOrder, AreValued, variant_names}
-use Rattle.spec_grammar.proofs.Common.{Item, Caret, Mode, Part, Spec, Draft}
+use Rattle.spec_grammar.proofs.Common.{AllByRecursion, list_all, and_parts, nat_tests, All-from_recursion, IsInByteOrder, is_name_byte, IsName, is_start, IsOver, before_of, last_of, may_constrain, needs_name, empty_part, begin_part, spec_with, nest_in, nest, Spells, first_draft, part_text, below_text, spec_text, AreNamed, AreInOrder, AreValued, variant_names}
+use Rattle.spec_grammar.proofs.Common.{SpecItem, Caret, Mode, Part, Spec, Draft}
 use Rattle.spec_grammar.proofs.RunLaws.{two_cons, true_false}
 use Rattle.spec_grammar.proofs.DraftLaws.{IsTop, IsBelow, whole}
 use Rattle.spec_grammar.proofs.KeptLaws.{IsKept}
@@ -15,20 +15,20 @@ no_name (Some w) some e = absurd cc
 
 -- ---- the first part
 
-nameless : (mode : Mode) (p : Part) → IsTop mode p → p.name ≡ None → (begin mode ≡ at (begin mode) (empty_part None))
+nameless : (mode : Mode) (p : Part) → IsTop mode p → p.name ≡ None → (first_draft mode ≡ at (first_draft mode) (empty_part None))
     × (needs_name mode ≡ false)
 nameless Condition p h e = (refl, refl)
 nameless LocalCondition p h e = (refl, refl)
 nameless mode p h e = no_name p.name (h.1 refl) e
 
-begins : (mode : Mode) (w : List ℕ) → begin_part w (begin mode) (begin mode).part ≡ at (begin mode) (empty_part (Some w))
+begins : (mode : Mode) (w : List ℕ) → begin_part w (first_draft mode) (first_draft mode).part ≡ at (first_draft mode) (empty_part (Some w))
 begins Condition w = refl
 begins LocalCondition w = refl
 begins mode w = refl
 
-top_leads : (mode : Mode) (p : Part) → IsTop mode p → Leads mode None (part_text p) (begin mode) (at (begin mode) p)
+top_leads : (mode : Mode) (p : Part) → IsTop mode p → Leads mode None (part_text p) (first_draft mode) (at (first_draft mode) p)
 top_leads mode p h =
-    part_leads mode None (begin mode) p (record {
+    part_leads mode None (first_draft mode) p (record {
       stands = refl;
       over = λ w is. tt;
       begins = begins mode;
@@ -59,14 +59,15 @@ nested_with draft None q r e = refl
 nested_with draft (Some top) q r e = rw e refl
 
 -- steps of this text lead to this spec
-record LeadsTo (mode : Mode) (last : Option Item) (text : List ℕ) (from : Draft) (spec : Spec) : Type 0 where
+record LeadsTo (mode : Mode) (last : Option SpecItem) (text : List ℕ) (from : Draft) (spec : Spec) : Type 0 where
   to : Draft
   part : Part
   leads : Leads mode last text from (at to part)
   specs : to.specs ≡ []
   is : spec_with to.top to.below part ≡ spec
 
-caret_leads : (mode : Mode) (last : Option Item) (draft : Draft) (q r : Part) → IsBelow mode r → may_constrain mode (before_of last) ≡ true
+caret_leads : (mode : Mode) (last : Option SpecItem) (draft : Draft) (q r : Part) → IsBelow mode r
+    → may_constrain mode (before_of last) ≡ true
     → Leads mode last (codes " ^" ++ part_text r) (at draft q) (at (nest (at draft q) q) r)
 caret_leads mode last draft q r h ready =
     let next : Draft = nest (at draft q) q in
@@ -80,7 +81,7 @@ caret_leads mode last draft q r h ready =
     (record { white = refl; form = (tt, tt); stands = rw (ready, h.2) refl; over = over_space last (94 ∷ []) }) refl refl
     (part_leads mode (Some Caret) next r may h.0)
 
-below_lead : (mode : Mode) (below : List Part) (last : Option Item) (draft : Draft) (q : Part) → AllByRecursion (IsBelow mode) below
+below_lead : (mode : Mode) (below : List Part) (last : Option SpecItem) (draft : Draft) (q : Part) → AllByRecursion (IsBelow mode) below
     → draft.specs ≡ [] → may_constrain mode (before_of last) ≡ true
     → LeadsTo mode last (below_text below) (at draft q) (grown (spec_with draft.top draft.below q) below)
 below_lead mode [] last draft q h none ready = record {
@@ -108,11 +109,11 @@ below_lead mode (r ∷ below) last draft q h none ready =
 -- ---- specs
 
 spec_leads : (mode : Mode) (spec : Spec) → IsTop mode spec.top → AllByRecursion (IsBelow mode) spec.below
-    → LeadsTo mode None (spec_text spec) (begin mode) spec
+    → LeadsTo mode None (spec_text spec) (first_draft mode) spec
 unfolding spec_text
 spec_leads mode spec top below =
     let first = top_leads mode spec.top top in
-    let others = below_lead mode spec.below (last_of None first.steps) (begin mode) spec.top below refl first.ready in
+    let others = below_lead mode spec.below (last_of None first.steps) (first_draft mode) spec.top below refl first.ready in
     record {
       to = others.to;
       part = others.part;
@@ -122,7 +123,7 @@ spec_leads mode spec top below =
       is = others.is;
     }
 
-spells : (mode : Mode) (text : List ℕ) (spec : Spec) → LeadsTo mode None text (begin mode) spec → Spells mode text (spec ∷ [])
+spells : (mode : Mode) (text : List ℕ) (spec : Spec) → LeadsTo mode None text (first_draft mode) spec → Spells mode text (spec ∷ [])
 spells mode text spec l = record {
   read = record { steps = l.leads.steps; trail = []; draft = at l.to l.part };
   is = record {
@@ -160,5 +161,8 @@ valued mode text specs spec s has =
     let w = whole mode text specs spec s has in
     let of_part : (p : Part) → IsKept mode p → All (λ v. 0 < length v.1) p.variants =
     λ p h. All-from_recursion (λ v. 0 < length v.1) p.variants h.valued in
-    All-from_recursion _ (spec.top ∷ spec.below)
-    (of_part spec.top w.0.0, recursion_weaker (IsBelow mode) (λ p. All (λ v. 0 < length v.1) p.variants) (λ p h. of_part p h.0) spec.below w.1)
+    All-from_recursion _ (spec.top ∷ spec.below) (
+      of_part spec.top w.0.0,
+      recursion_weaker (IsBelow mode) (λ p. All (λ v. 0 < length v.1) p.variants) (λ p h. of_part p h.0)
+          spec.below w.1,
+    )

@@ -6,7 +6,7 @@ use Rattle.version_order.specs.declared.item.Item.{Item as VersionItem}
 use Rattle.variant_values.specs.Texts.{IsInByteOrder}
 use Rattle.spec_grammar.specs.Items.{spell_values, spell_list}
 use Rattle.spec_grammar.specs.Right.{needs_name}
-use Rattle.spec_grammar.specs.Meaning.{Variants}
+use Rattle.spec_grammar.specs.Meaning.{PartVariants}
 use Rattle.spec_grammar.specs.declared.mode.Mode.{Mode}
 use Rattle.spec_grammar.specs.declared.part.Part.{Part}
 use Rattle.spec_grammar.specs.declared.part.Spec.{Spec}
@@ -37,13 +37,13 @@ variant_text w [] = values_text w []
 variant_text w (v ∷ []) = one_text w v
 variant_text w (v ∷ u ∷ values) = values_text w (v ∷ u ∷ values)
 
-abbrev pub variants_text : Variants → List ℕ
+abbrev pub variants_text : PartVariants → List ℕ
 variants_text [] = []
 variants_text (v ∷ variants) = 32 ∷ (variant_text v.0 v.1 ++ variants_text variants)
 
-abbrev pub compiler_text : Option (List ℕ × Option (List VersionItem)) → List ℕ
-compiler_text None = []
-compiler_text (Some c) = 32 ∷ 37 ∷ (c.0 ++ spell_list c.1)
+abbrev pub part_compiler_text : Option (List ℕ × Option (List VersionItem)) → List ℕ
+part_compiler_text None = []
+part_compiler_text (Some c) = 32 ∷ 37 ∷ (c.0 ++ spell_list c.1)
 
 abbrev pub target_text : TargetItem → List ℕ
 target_text t = if t.range then word_text t.low ++ 58 ∷ word_text t.high else word_text t.low
@@ -63,7 +63,7 @@ targets_text (Some targets) = codes " target=" ++ targets_items targets
 
 unfoldable pub part_text : Part → List ℕ
 part_text p =
-    word_text p.name ++ (spell_list p.versions ++ (variants_text p.variants ++ (compiler_text p.compiler
+    word_text p.name ++ (spell_list p.versions ++ (variants_text p.variants ++ (part_compiler_text p.compiler
     ++ (key_text (codes " platform=") p.platform ++ (key_text (codes " os=") p.os ++ targets_text p.targets)))))
 
 -- each part after ` ^`
@@ -80,7 +80,7 @@ spec_text s = part_text s.top ++ below_text s.below
 abbrev pub AreNamed : Mode → Spec → Type 0
 AreNamed mode s = (needs_name mode ≡ true → IsSome s.top.name) × All (λ p. IsSome p.name) s.below
 
-abbrev pub variant_names : Variants → List (List ℕ)
+abbrev pub variant_names : PartVariants → List (List ℕ)
 variant_names variants = map (λ v. v.0) variants
 
 -- each part names a variant once, in byte order

@@ -9,8 +9,8 @@ use Rattle.spec_grammar.specs.Signs.{IsName, IsValue, is_name_byte, is_value_byt
 use Rattle.spec_grammar.specs.Keys.{key_of, Takes}
 use Rattle.spec_grammar.specs.declared.item.Mark.{Mark}
 use Rattle.spec_grammar.specs.declared.item.Mark.TheVariants.{Plus, Tilde, Minus}
-use Rattle.spec_grammar.specs.declared.item.Item.{Item}
-use Rattle.spec_grammar.specs.declared.item.Item.TheVariants.{Name, Versions, Variant, Compiler, Key, Caret}
+use Rattle.spec_grammar.specs.declared.item.SpecItem.{SpecItem}
+use Rattle.spec_grammar.specs.declared.item.SpecItem.TheVariants.{Name, Versions, Variant, Compiler, Key, Caret}
 use Rattle.spec_grammar.specs.declared.item.Kind.{Kind}
 use Rattle.spec_grammar.specs.declared.item.Kind.TheVariants as kind
 
@@ -22,26 +22,26 @@ mark_byte Tilde = 126
 mark_byte Minus = 45
 
 -- values, each after a comma
-abbrev pub spell_more : List (List ℕ) → List ℕ
-spell_more [] = []
-spell_more (w ∷ values) = 44 ∷ (w ++ spell_more values)
+abbrev pub spell_more_values : List (List ℕ) → List ℕ
+spell_more_values [] = []
+spell_more_values (w ∷ values) = 44 ∷ (w ++ spell_more_values values)
 
 abbrev pub spell_values : List (List ℕ) → List ℕ
 spell_values [] = []
-spell_values (w ∷ values) = w ++ spell_more values
+spell_values (w ∷ values) = w ++ spell_more_values values
 
 -- `@LIST`, where there is one
 abbrev pub spell_list : Option (List VersionItem) → List ℕ
 spell_list None = []
 spell_list (Some items) = 64 ∷ spelling items
 
-abbrev pub spell : Item → List ℕ
-spell (Name w) = w
-spell (Versions items) = 64 ∷ spelling items
-spell (Variant mark w) = mark_byte mark ∷ w
-spell (Compiler w items) = 37 ∷ (w ++ spell_list items)
-spell (Key w values) = w ++ 61 ∷ spell_values values
-spell Caret = 94 ∷ []
+abbrev pub spell_item : SpecItem → List ℕ
+spell_item (Name w) = w
+spell_item (Versions items) = 64 ∷ spelling items
+spell_item (Variant mark w) = mark_byte mark ∷ w
+spell_item (Compiler w items) = 37 ∷ (w ++ spell_list items)
+spell_item (Key w values) = w ++ 61 ∷ spell_values values
+spell_item Caret = 94 ∷ []
 
 -- ---- their form
 
@@ -55,7 +55,7 @@ AreValues [] = ⊥
 AreValues (v ∷ values) = AllByRecursion IsValue (v ∷ values)
 
 -- the form of an item, whatever its key takes
-abbrev pub HasShape : Item → Type 0
+abbrev pub HasShape : SpecItem → Type 0
 HasShape (Name w) = IsName w
 HasShape (Versions items) = AreListed items
 HasShape (Variant mark w) = IsName w
@@ -64,12 +64,12 @@ HasShape (Key w values) = IsName w × AreValues values
 HasShape Caret = Unit {0}
 
 -- the values of an item are such as its key takes
-abbrev pub IsTaken : Item → Type 0
+abbrev pub IsTaken : SpecItem → Type 0
 IsTaken (Key w values) = Takes (key_of w) values
 IsTaken other = Unit {0}
 
-abbrev pub IsItem : Item → Type 0
-IsItem item = HasShape item × IsTaken item
+abbrev pub IsSpecItem : SpecItem → Type 0
+IsSpecItem item = HasShape item × IsTaken item
 
 -- ---- their ends
 
@@ -83,7 +83,7 @@ is_name_end b = b == 61 || b == 58 || b == 46
 
 -- an item goes on with this byte: a run is always the longest one. A NAME that is directly followed by
 -- `=`, `:` or `.` begins no part, and `^[` is no `^`.
-abbrev pub GoesOn : Item → ℕ → Type 0
+abbrev pub GoesOn : SpecItem → ℕ → Type 0
 GoesOn (Name w) b = (is_name_byte b || is_name_end b) ≡ true
 GoesOn (Versions items) b = Begins IsList (spelling items ++ b ∷ [])
 GoesOn (Variant mark w) b = is_name_byte b ≡ true
@@ -93,12 +93,12 @@ GoesOn (Key w values) b = is_run_byte b ≡ true
 GoesOn Caret b = (b == 91) ≡ true
 
 -- the item is over before this text
-abbrev pub IsOver : Item → List ℕ → Type 0
+abbrev pub IsOver : SpecItem → List ℕ → Type 0
 IsOver item text = (b : ℕ) (more : List ℕ) → text ≡ b ∷ more → GoesOn item b → ⊥
 
 -- ---- their kinds
 
-abbrev pub kind_of : Item → Kind
+abbrev pub kind_of : SpecItem → Kind
 kind_of (Name w) = kind.Name
 kind_of (Versions items) = kind.Versions
 kind_of (Variant mark w) = kind.Variant mark

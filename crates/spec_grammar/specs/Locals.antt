@@ -4,12 +4,12 @@ use Rattle.version_order.specs.Fronts.{IsLongestFront}
 use Rattle.version_order.specs.Items.{Reads, IsList, first_empty}
 use Rattle.version_order.specs.declared.item.Item.{Item as VersionItem}
 use Rattle.spec_grammar.specs.Keys.{Takes}
-use Rattle.spec_grammar.specs.Items.{kind_of, kind_at, spell, spell_values, IsItem, AreValues, is_run_byte}
+use Rattle.spec_grammar.specs.Items.{kind_of, kind_at, spell_item, spell_values, IsSpecItem, AreValues, is_run_byte}
 use Rattle.spec_grammar.specs.declared.key.KeyKind.{KeyKind}
 use Rattle.spec_grammar.specs.Right.{may_name, may_stand}
 use Rattle.spec_grammar.specs.Forms.{form_at}
 use Rattle.spec_grammar.specs.Reading.{IsFirst, empty_place}
-use Rattle.spec_grammar.specs.declared.item.Item.{Item}
+use Rattle.spec_grammar.specs.declared.item.SpecItem.{SpecItem}
 use Rattle.spec_grammar.specs.declared.item.Kind.{Kind}
 use Rattle.spec_grammar.specs.declared.item.Kind.TheVariants as kind
 use Rattle.spec_grammar.specs.declared.mode.Mode.{Mode}
@@ -76,7 +76,7 @@ IsValuesFault key text other = ⊥
 -- ---- an item
 
 -- the first n bytes are this item
-pub record IsCutOff (text : List ℕ) (item : Item) (n : ℕ) : Type 0 where
+pub record IsCutOff (text : List ℕ) (item : SpecItem) (n : ℕ) : Type 0 where
   pub within : n ≤ length text
   pub first : IsFirst text item (drop n text)
   pub ranges : empty_place item ≡ None
@@ -84,37 +84,37 @@ pub record IsCutOff (text : List ℕ) (item : Item) (n : ℕ) : Type 0 where
 -- the text goes on as an item of its kind does up to place q, and no further
 pub record IsStuck (text : List ℕ) (q : ℕ) : Type 0 where
   pub within : q ≤ length text
-  pub none : (more : List ℕ) → Varies text q more → (item : Item) (rest : List ℕ) → IsFirst (varied text q more) item rest → ⊥
+  pub none : (more : List ℕ) → Varies text q more → (item : SpecItem) (rest : List ℕ) → IsFirst (varied text q more) item rest → ⊥
   pub tail : List ℕ
-  pub item : Item
-  pub form : IsItem item
+  pub item : SpecItem
+  pub form : IsSpecItem item
   pub kind : kind_at text ≡ Some (kind_of item)
-  pub cut : take q text ++ tail ≡ spell item
+  pub cut : take q text ++ tail ≡ spell_item item
 
 abbrev pub IsItemFault : List ℕ → SpecFault → Type 0
 IsItemFault text (fault.Expected q) = IsStuck text q
-IsItemFault text (fault.BadVersion q) = (item : Item) × (rest : List ℕ) × IsFirst text item rest × (empty_place item ≡ Some q)
+IsItemFault text (fault.BadVersion q) = (item : SpecItem) × (rest : List ℕ) × IsFirst text item rest × (empty_place item ≡ Some q)
 IsItemFault text fault.OutOfMemory = Unit {0}
 IsItemFault text other = ⊥
 
 -- ---- an item that may stand there
 
-pub record IsAllowedItem (mode : Mode) (place : Before) (gap : Bool) (text : List ℕ) (item : Item) (n : ℕ) : Type 0 where
+pub record IsAllowedItem (mode : Mode) (place : Before) (gap : Bool) (text : List ℕ) (item : SpecItem) (n : ℕ) : Type 0 where
   pub cut : IsCutOff text item n
   pub stands : may_stand mode place gap (kind_of item) ≡ true
 
 -- some item that may stand here goes on as the text does up to place q
 pub record IsViable (mode : Mode) (place : Before) (gap : Bool) (text : List ℕ) (q : ℕ) : Type 0 where
   pub tail : List ℕ
-  pub item : Item
-  pub form : IsItem item
+  pub item : SpecItem
+  pub form : IsSpecItem item
   pub stands : may_stand mode place gap (kind_of item) ≡ true
-  pub cut : take q text ++ tail ≡ spell item
+  pub cut : take q text ++ tail ≡ spell_item item
 
 -- the text goes on as items that may stand here do up to place q, and no further
 pub record IsStuckHere (mode : Mode) (place : Before) (gap : Bool) (text : List ℕ) (q : ℕ) : Type 0 where
   pub within : q ≤ length text
-  pub none : (more : List ℕ) → Varies text q more → (item : Item) (rest : List ℕ) → IsFirst (varied text q more) item rest
+  pub none : (more : List ℕ) → Varies text q more → (item : SpecItem) (rest : List ℕ) → IsFirst (varied text q more) item rest
       → may_stand mode place gap (kind_of item) ≡ true → ⊥
   pub viable : (q ≡ 0) ⊎ IsViable mode place gap text q
 
@@ -127,7 +127,7 @@ refused_place mode place gap other n = 0
 
 abbrev pub IsItemFaultHere : Mode → Before → Bool → List ℕ → SpecFault → Type 0
 IsItemFaultHere mode place gap text (fault.Expected q) = IsStuckHere mode place gap text q
-IsItemFaultHere mode place gap text (fault.BadVersion q) = (item : Item) × (rest : List ℕ) × IsFirst text item rest
+IsItemFaultHere mode place gap text (fault.BadVersion q) = (item : SpecItem) × (rest : List ℕ) × IsFirst text item rest
     × (may_stand mode place gap (kind_of item) ≡ true) × (empty_place item ≡ Some q)
 IsItemFaultHere mode place gap text fault.OutOfMemory = Unit {0}
 IsItemFaultHere mode place gap text other = ⊥

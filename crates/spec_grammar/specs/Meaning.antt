@@ -10,8 +10,8 @@ use Rattle.variant_values.specs.Texts.{with_text}
 use Rattle.spec_grammar.specs.Keys.{key_of, is_colon}
 use Rattle.spec_grammar.specs.declared.key.KeyKind.{KeyKind}
 use Rattle.spec_grammar.specs.declared.key.KeyKind.TheVariants as key
-use Rattle.spec_grammar.specs.declared.item.Item.{Item}
-use Rattle.spec_grammar.specs.declared.item.Item.TheVariants.{Name, Versions, Variant, Compiler, Key, Caret}
+use Rattle.spec_grammar.specs.declared.item.SpecItem.{SpecItem}
+use Rattle.spec_grammar.specs.declared.item.SpecItem.TheVariants.{Name, Versions, Variant, Compiler, Key, Caret}
 use Rattle.spec_grammar.specs.declared.item.Mark.{Mark}
 use Rattle.spec_grammar.specs.declared.item.Mark.TheVariants.{Plus, Tilde, Minus}
 use Rattle.spec_grammar.specs.declared.part.Part.{Part}
@@ -35,19 +35,19 @@ put_all texts (w ∷ values) = put_all (with_text texts (truth w)) values
 abbrev pub empty_part : Option (List ℕ) → Part
 empty_part w = record { name = w; versions = None; variants = []; compiler = None; platform = None; os = None; targets = None }
 
-abbrev pub Variants : Type 0
-Variants = List (List ℕ × List (List ℕ))
+abbrev pub PartVariants : Type 0
+PartVariants = List (List ℕ × List (List ℕ))
 
-abbrev pub has_variant : List ℕ → Variants → Bool
+abbrev pub has_variant : List ℕ → PartVariants → Bool
 has_variant w variants = list_any (λ v. bytes_eq v.0 w) variants
 
-abbrev pub set_at : Ordering → (List ℕ × List (List ℕ)) → (List ℕ × List (List ℕ)) → Variants → Variants → Variants
+abbrev pub set_at : Ordering → (List ℕ × List (List ℕ)) → (List ℕ × List (List ℕ)) → PartVariants → PartVariants → PartVariants
 set_at Less new v variants more = new ∷ v ∷ variants
 set_at Equal new v variants more = new ∷ v ∷ variants
 set_at Greater new v variants more = v ∷ more
 
 -- a variant more, in byte order of names
-unfoldable pub with_variant : (List ℕ × List (List ℕ)) → Variants → Variants
+unfoldable pub with_variant : (List ℕ × List (List ℕ)) → PartVariants → PartVariants
 with_variant new [] = new ∷ []
 with_variant new (v ∷ variants) = set_at (slice_cmp nat_cmp new.0 v.0) new v variants (with_variant new variants)
 
@@ -109,7 +109,7 @@ mark_value Tilde = codes "false"
 mark_value Minus = codes "false"
 
 -- the part with a constraint more
-abbrev pub add : Item → Part → Option Part
+abbrev pub add : SpecItem → Part → Option Part
 add (Name w) part = None
 add (Versions items) part = if is_some part.versions then None else Some (record part { versions = Some items })
 add (Variant mark w) part = set_variant w (mark_value mark ∷ []) part
@@ -133,12 +133,12 @@ abbrev pub nest : Draft → Part → Draft
 nest draft part = nest_in draft draft.top part
 
 -- the specs, where the part at hand is the last
-abbrev pub finish : Draft → Part → List Spec
-finish draft part = draft.specs ++ spec_with draft.top draft.below part ∷ []
+abbrev pub finished_specs : Draft → Part → List Spec
+finished_specs draft part = draft.specs ++ spec_with draft.top draft.below part ∷ []
 
 -- the part at hand is the last of its spec
 abbrev pub end_spec : Draft → Part → Draft
-end_spec draft part = record { specs = finish draft part; top = None; below = []; part = None }
+end_spec draft part = record { specs = finished_specs draft part; top = None; below = []; part = None }
 
 -- a NAME names the part at hand, begins one behind `^`, or begins another spec
 abbrev pub begin_part : List ℕ → Draft → Option Part → Draft
@@ -148,12 +148,12 @@ begin_part w draft (Some part) =
     else record draft { part = Some (record part { name = Some w }) }
 
 -- a constraint belongs to the nearest NAME before it
-abbrev pub constrain : Item → Draft → Option Part → Option Draft
+abbrev pub constrain : SpecItem → Draft → Option Part → Option Draft
 constrain item draft None = None
 constrain item draft (Some part) = option_map (λ next. record draft { part = Some next }) (add item part)
 
 -- an item more; None where it sets the same again
-abbrev pub take_item : Item → Draft → Option Draft
+abbrev pub take_item : SpecItem → Draft → Option Draft
 take_item (Name w) draft = Some (begin_part w draft draft.part)
 take_item (Versions items) draft = constrain (Versions items) draft draft.part
 take_item (Variant mark w) draft = constrain (Variant mark w) draft draft.part

@@ -1,9 +1,9 @@
 -- Texts of the right form, as items with the white space before each.
 use Rattle.std.specs.Prelude.{◌≡◌, ℕ, ◌&&◌, not, Bool, true, false, List, [], ◌∷◌, ◌++◌, Option, Some, None}
 use Rattle.spec_grammar.specs.Signs.{AreWhite}
-use Rattle.spec_grammar.specs.Items.{spell, IsItem, IsOver, kind_of}
-use Rattle.spec_grammar.specs.declared.item.Item.{Item}
-use Rattle.spec_grammar.specs.declared.item.Item.TheVariants as item
+use Rattle.spec_grammar.specs.Items.{spell_item, IsSpecItem, IsOver, kind_of}
+use Rattle.spec_grammar.specs.declared.item.SpecItem.{SpecItem}
+use Rattle.spec_grammar.specs.declared.item.SpecItem.TheVariants as item
 use Rattle.spec_grammar.specs.declared.item.Mark.TheVariants.{Plus, Tilde, Minus}
 use Rattle.spec_grammar.specs.declared.item.Kind.{Kind}
 use Rattle.spec_grammar.specs.declared.item.Kind.TheVariants.{Name, Versions, Variant, Compiler, Key, Caret}
@@ -85,27 +85,27 @@ may_end mode before.Inside = true
 -- ---- texts
 
 -- an item and the white space before it
-pub record Step : Type 0 where
+pub record ItemStep : Type 0 where
   pub gap : List ℕ
-  pub item : Item
+  pub item : SpecItem
 
-abbrev pub spell_step : Step → List ℕ
-spell_step s = s.gap ++ spell s.item
+abbrev pub spell_step : ItemStep → List ℕ
+spell_step s = s.gap ++ spell_item s.item
 
-abbrev pub spell_steps : List Step → List ℕ
+abbrev pub spell_steps : List ItemStep → List ℕ
 spell_steps [] = []
 spell_steps (s ∷ steps) = spell_step s ++ spell_steps steps
 
-abbrev pub before_item : Item → Before
+abbrev pub before_item : SpecItem → Before
 before_item item.Caret = before.Caret
 before_item other = before.Inside
 
 -- what stands before an item, by the item before it
-abbrev pub before_of : Option Item → Before
+abbrev pub before_of : Option SpecItem → Before
 before_of None = before.Start
 before_of (Some last) = before_item last
 
-abbrev pub IsOverLast : Option Item → List ℕ → Type 0
+abbrev pub IsOverLast : Option SpecItem → List ℕ → Type 0
 IsOverLast None text = Unit {0}
 IsOverLast (Some last) text = IsOver last text
 
@@ -114,27 +114,27 @@ is_some_gap [] = false
 is_some_gap (b ∷ gap) = true
 
 -- a step may stand behind this item
-pub record IsRightStep (mode : Mode) (last : Option Item) (s : Step) : Type 0 where
+pub record IsRightStep (mode : Mode) (last : Option SpecItem) (s : ItemStep) : Type 0 where
   pub white : AreWhite s.gap
-  pub form : IsItem s.item
+  pub form : IsSpecItem s.item
   pub stands : may_stand mode (before_of last) (is_some_gap s.gap) (kind_of s.item) ≡ true
   pub over : IsOverLast last (spell_step s)
 
-abbrev pub AreRight : Mode → Option Item → List Step → Type 0
+abbrev pub AreRight : Mode → Option SpecItem → List ItemStep → Type 0
 AreRight mode last [] = Unit {0}
 AreRight mode last (s ∷ steps) = IsRightStep mode last s × AreRight mode (Some s.item) steps
 
 -- the last item of some, where this one stands before them
-abbrev pub last_of : Option Item → List Step → Option Item
+abbrev pub last_of : Option SpecItem → List ItemStep → Option SpecItem
 last_of last [] = last
 last_of last (s ∷ steps) = last_of (Some s.item) steps
 
 -- the text is these steps, and white space behind them
-pub record IsCut (mode : Mode) (text : List ℕ) (steps : List Step) (trail : List ℕ) : Type 0 where
+pub record IsCut (mode : Mode) (text : List ℕ) (steps : List ItemStep) (trail : List ℕ) : Type 0 where
   pub right : AreRight mode None steps
   pub white : AreWhite trail
   pub spelled : text ≡ spell_steps steps ++ trail
 
 abbrev pub HasForm : Mode → List ℕ → Type 0
-HasForm mode text = (steps : List Step) × (trail : List ℕ) × IsCut mode text steps trail
+HasForm mode text = (steps : List ItemStep) × (trail : List ℕ) × IsCut mode text steps trail
     × (may_end mode (before_of (last_of None steps)) ≡ true)

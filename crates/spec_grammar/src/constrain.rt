@@ -4,7 +4,7 @@ ghost use Rattle.std.specs.Prelude.{◌≡◌, IfOk, [], ◌∷◌};
 ghost use Rattle.spec_grammar.specs.Keys.{key_of};
 ghost use Rattle.spec_grammar.specs.Meaning.{Becomes, set_variant, set_platform, set_os, set_targets, set_arch, set_key, first_value, add};
 
-use crate::item::Item;
+use crate::item::SpecItem;
 use crate::key::{KeyKind, key_of};
 use crate::open_part::OpenPart;
 use crate::values_set::{cut_dash, mark_set, target_of, targets_of, truth, value_set};
@@ -113,7 +113,7 @@ fn set_key(
 }
 
 fn set_versions(part: &mut OpenPart, versions: VersionSet) -> bool
-    ensures { Becomes (add (Item.Versions versions) part.old) result part.new }
+    ensures { Becomes (add (SpecItem.Versions versions) part.old) result part.new }
 {
     if part.versions.is_some() {
         return false;
@@ -123,7 +123,7 @@ fn set_versions(part: &mut OpenPart, versions: VersionSet) -> bool
 }
 
 fn set_compiler(part: &mut OpenPart, name: Word, versions: Option<VersionSet>) -> bool
-    ensures { Becomes (add (Item.Compiler name versions) part.old) result part.new }
+    ensures { Becomes (add (SpecItem.Compiler name versions) part.old) result part.new }
 {
     if part.compiler.is_some() {
         return false;
@@ -133,14 +133,14 @@ fn set_compiler(part: &mut OpenPart, name: Word, versions: Option<VersionSet>) -
 }
 
 /// Adds a constraint, and is `false` where it sets the same again.
-pub(crate) fn add(alloc: Global, part: &mut OpenPart, item: Item) -> Result<bool, AllocError>
+pub(crate) fn add(alloc: Global, part: &mut OpenPart, item: SpecItem) -> Result<bool, AllocError>
     ensures { IfOk result (λ done. Becomes (add item part.old) done part.new) }
 {
     match item {
-        Item::Name(_) | Item::Caret => Ok(false),
-        Item::Versions(versions) => Ok(set_versions(part, versions)),
-        Item::Variant(mark, name) => set_variant(part, name, mark_set(alloc, mark)?),
-        Item::Compiler(name, versions) => Ok(set_compiler(part, name, versions)),
-        Item::Key(name, values) => set_key(alloc, part, name, values.as_slice()),
+        SpecItem::Name(_) | SpecItem::Caret => Ok(false),
+        SpecItem::Versions(versions) => Ok(set_versions(part, versions)),
+        SpecItem::Variant(mark, name) => set_variant(part, name, mark_set(alloc, mark)?),
+        SpecItem::Compiler(name, versions) => Ok(set_compiler(part, name, versions)),
+        SpecItem::Key(name, values) => set_key(alloc, part, name, values.as_slice()),
     }
 }

@@ -3,7 +3,7 @@
 ghost use Rattle.std.specs.Prelude.{◌≡◌, IfOk, OnOk};
 
 use crate::constrain::add;
-use crate::item::Item;
+use crate::item::SpecItem;
 use crate::mode::Mode;
 use crate::open_part::OpenPart;
 use crate::{Part, Spec};
@@ -27,12 +27,12 @@ pub struct Draft {
 
 impl Draft {
     ghost use Rattle.std.specs.Prelude.{None, option_map};
-    ghost use Rattle.spec_grammar.specs.Reading.{begin};
-    ghost use Rattle.spec_grammar.specs.Meaning.{Becomes, nest, finish, end_spec, begin_part, constrain, take_item};
+    ghost use Rattle.spec_grammar.specs.Reading.{first_draft};
+    ghost use Rattle.spec_grammar.specs.Meaning.{Becomes, nest, finished_specs, end_spec, begin_part, constrain, take_item};
 
     /// What stands before the first item.
     pub(crate) fn begin(alloc: Global, mode: Mode) -> Draft
-        ensures { result ≡ begin mode }
+        ensures { result ≡ first_draft mode }
     {
         let part = if mode.needs_name() {
             None
@@ -92,7 +92,7 @@ impl Draft {
     }
 
     /// A constraint belongs to the part at hand.
-    fn constrain(&mut self, alloc: Global, item: Item) -> Result<bool, AllocError>
+    fn constrain(&mut self, alloc: Global, item: SpecItem) -> Result<bool, AllocError>
         ensures { IfOk result (λ done. Becomes (constrain item self.old self.old.part)
             done self.new) }
     {
@@ -107,7 +107,7 @@ impl Draft {
 
     /// `^` stands behind the part at hand.
     fn take_caret(&mut self, alloc: Global) -> Result<bool, AllocError>
-        ensures { IfOk result (λ done. Becomes (take_item Item.Caret self.old) done self.new) }
+        ensures { IfOk result (λ done. Becomes (take_item SpecItem.Caret self.old) done self.new) }
     {
         match self.part.take() {
             Some(part) => {
@@ -119,22 +119,23 @@ impl Draft {
     }
 
     /// Takes an item more, and is `false` where it sets the same again.
-    pub(crate) fn take(&mut self, alloc: Global, item: Item) -> Result<bool, AllocError>
+    pub(crate) fn take(&mut self, alloc: Global, item: SpecItem) -> Result<bool, AllocError>
         ensures { IfOk result (λ done. Becomes (take_item item self.old) done self.new) }
     {
         match item {
-            Item::Name(name) => {
+            SpecItem::Name(name) => {
                 self.begin_part(alloc, name)?;
                 Ok(true)
             }
-            Item::Caret => self.take_caret(alloc),
+            SpecItem::Caret => self.take_caret(alloc),
             item => self.constrain(alloc, item),
         }
     }
 
     /// Takes the specs out, where a part is at hand.
     pub(crate) fn take_specs(&mut self, alloc: Global) -> Result<Option<List<Spec>>, AllocError>
-        ensures { IfOk result (λ specs. specs ≡ option_map (finish self.old) self.old.part) }
+        ensures { IfOk result (λ specs. specs ≡ option_map (finished_specs self.old)
+            self.old.part) }
     {
         match self.part.take() {
             Some(part) => {

@@ -16,7 +16,7 @@ pub enum Mark {
 
 /// An item of a text.
 #[derive(Drop)]
-pub enum Item {
+pub enum SpecItem {
     /// A package's name.
     Name(Word),
     /// `@1.2:1.4`

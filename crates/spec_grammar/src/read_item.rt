@@ -7,7 +7,7 @@ ghost use Rattle.spec_grammar.specs.Items.{kind_at, kind_by, kind_of, mark_byte,
 ghost use Rattle.spec_grammar.specs.Locals.{IsListAt, IsListFault, IsCutOff, IsItemFault, IsAllowedItem, IsItemFaultHere, refused_place, moved, Fits};
 
 use crate::SpecFault;
-use crate::item::{Item, Kind, Mark};
+use crate::item::{Kind, Mark, SpecItem};
 use crate::key::key_of;
 use crate::mode::{Before, Mode};
 use crate::signs::{name_length, word};
@@ -50,19 +50,19 @@ fn list(alloc: Global, text: &[u8]) -> Result<(VersionSet, usize), SpecFault>
 }
 
 /// `@LIST`, of which `text` is what stands behind `@`.
-fn versions(alloc: Global, text: &[u8]) -> Result<(Item, usize), SpecFault>
+fn versions(alloc: Global, text: &[u8]) -> Result<(SpecItem, usize), SpecFault>
     requires { length text.now < 2 ^ 63 }
     ensures found { IfOk result (λ found. IsCutOff (64 ∷ text.now) found.0 found.1) }
     ensures fault { IfErr result (λ fault. IsItemFault (64 ∷ text.now) fault) }
 {
     match list(alloc, text) {
-        Ok((set, len)) => Ok((Item::Versions(set), 1 + len)),
+        Ok((set, len)) => Ok((SpecItem::Versions(set), 1 + len)),
         Err(fault) => Err(moved(1, fault)),
     }
 }
 
 /// `+NAME` and the like, of which `text` is what stands behind the mark.
-fn variant(alloc: Global, mark: Mark, text: &[u8]) -> Result<(Item, usize), SpecFault>
+fn variant(alloc: Global, mark: Mark, text: &[u8]) -> Result<(SpecItem, usize), SpecFault>
     ensures found { IfOk result (λ found. IsCutOff (mark_byte mark ∷ text.now) found.0 found.1) }
     ensures fault { IfErr result (λ fault. IsItemFault (mark_byte mark ∷ text.now) fault) }
 {
@@ -71,11 +71,11 @@ fn variant(alloc: Global, mark: Mark, text: &[u8]) -> Result<(Item, usize), Spec
         return Err(SpecFault::Expected(1));
     }
     let name = word(alloc, &text[..len])?;
-    Ok((Item::Variant(mark, name), 1 + len))
+    Ok((SpecItem::Variant(mark, name), 1 + len))
 }
 
 /// `%NAME` with its `@LIST`, of which `text` is what stands behind `%`.
-fn compiler(alloc: Global, text: &[u8]) -> Result<(Item, usize), SpecFault>
+fn compiler(alloc: Global, text: &[u8]) -> Result<(SpecItem, usize), SpecFault>
     requires { length text.now < 2 ^ 63 }
     ensures found { IfOk result (λ found. IsCutOff (37 ∷ text.now) found.0 found.1) }
     ensures fault { IfErr result (λ fault. IsItemFault (37 ∷ text.now) fault) }
@@ -87,16 +87,16 @@ fn compiler(alloc: Global, text: &[u8]) -> Result<(Item, usize), SpecFault>
     let (name, behind) = text.split_at(len);
     let name = word(alloc, name)?;
     if !starts_with_byte(b'@', behind) {
-        return Ok((Item::Compiler(name, None), 1 + len));
+        return Ok((SpecItem::Compiler(name, None), 1 + len));
     }
     match list(alloc, &behind[1..]) {
-        Ok((set, more)) => Ok((Item::Compiler(name, Some(set)), 2 + len + more)),
+        Ok((set, more)) => Ok((SpecItem::Compiler(name, Some(set)), 2 + len + more)),
         Err(fault) => Err(moved(2 + len, fault)),
     }
 }
 
 /// A NAME that is no key.
-fn name(alloc: Global, text: &[u8]) -> Result<(Item, usize), SpecFault>
+fn name(alloc: Global, text: &[u8]) -> Result<(SpecItem, usize), SpecFault>
     requires { kind_at text.now ≡ Some Kind.Name }
     ensures found { IfOk result (λ found. IsCutOff text.now found.0 found.1) }
     ensures fault { IfErr result (λ fault. IsItemFault text.now fault) }
@@ -109,11 +109,11 @@ fn name(alloc: Global, text: &[u8]) -> Result<(Item, usize), SpecFault>
     if starts_with_byte(b'.', behind) {
         return Err(SpecFault::Expected(len as u64));
     }
-    Ok((Item::Name(word(alloc, name)?), len))
+    Ok((SpecItem::Name(word(alloc, name)?), len))
 }
 
 /// `NAME=` with its values.
-fn key(alloc: Global, text: &[u8]) -> Result<(Item, usize), SpecFault>
+fn key(alloc: Global, text: &[u8]) -> Result<(SpecItem, usize), SpecFault>
     requires { kind_at text.now ≡ Some Kind.Key }
     ensures found { IfOk result (λ found. IsCutOff text.now found.0 found.1) }
     ensures fault { IfErr result (λ fault. IsItemFault text.now fault) }
@@ -125,7 +125,7 @@ fn key(alloc: Global, text: &[u8]) -> Result<(Item, usize), SpecFault>
         return Err(SpecFault::Expected(len as u64));
     };
     match values_from(alloc, key, start, &behind[1..]) {
-        Ok((values, more)) => Ok((Item::Key(word(alloc, name)?, values), len + 1 + more)),
+        Ok((values, more)) => Ok((SpecItem::Key(word(alloc, name)?, values), len + 1 + more)),
         Err(fault) => Err(moved(len + 1, fault)),
     }
 }
@@ -167,18 +167,18 @@ fn kind_at(text: &[u8]) -> Option<Kind>
 }
 
 /// `^`, of which `text` is what stands behind it.
-fn caret(text: &[u8]) -> Result<(Item, usize), SpecFault>
+fn caret(text: &[u8]) -> Result<(SpecItem, usize), SpecFault>
     ensures found { IfOk result (λ found. IsCutOff (94 ∷ text.now) found.0 found.1) }
     ensures fault { IfErr result (λ fault. IsItemFault (94 ∷ text.now) fault) }
 {
     if starts_with_byte(b'[', text) {
         return Err(SpecFault::Expected(1));
     }
-    Ok((Item::Caret, 1))
+    Ok((SpecItem::Caret, 1))
 }
 
 /// The item of this kind at the front, and its length.
-fn item(alloc: Global, kind: Kind, text: &[u8]) -> Result<(Item, usize), SpecFault>
+fn item(alloc: Global, kind: Kind, text: &[u8]) -> Result<(SpecItem, usize), SpecFault>
     requires { kind_at text.now ≡ Some kind }
     ensures found { IfOk result (λ found. IsCutOff text.now found.0 found.1) }
     ensures fault { IfErr result (λ fault. IsItemFault text.now fault) }
@@ -217,7 +217,7 @@ pub(crate) fn read_item(
     before: Before,
     gap: bool,
     text: &[u8],
-) -> Result<(Item, usize), SpecFault>
+) -> Result<(SpecItem, usize), SpecFault>
     ensures found { IfOk result (λ found. IsAllowedItem mode before gap text.now found.0 found.1) }
     ensures fault { IfErr result (λ fault. IsItemFaultHere mode before gap text.now fault) }
 {

@@ -4,12 +4,12 @@ ghost use Rattle.std.specs.Prelude.{◌≡◌, None, IfOk, IfErr};
 ghost use Rattle.spec_grammar.specs.Right.{before_item, may_name};
 ghost use Rattle.spec_grammar.specs.Forms.{form_at};
 ghost use Rattle.spec_grammar.specs.Locals.{IsAllowedItem, IsFaultHere};
-ghost use Rattle.spec_grammar.specs.Reading.{Spells, begin};
+ghost use Rattle.spec_grammar.specs.Reading.{Spells, first_draft};
 ghost use Rattle.spec_grammar.specs.Faults.{IsFault};
 
 use crate::draft::Draft;
 use crate::forms::form_at;
-use crate::item::Item;
+use crate::item::SpecItem;
 use crate::mode::{Before, Mode};
 use crate::read_item::{moved, read_item};
 use crate::signs::white_length;
@@ -18,11 +18,11 @@ use plain_data::List;
 use std::alloc::Global;
 
 /// What stands before the next item.
-fn before_item(item: &Item) -> Before
+fn before_item(item: &SpecItem) -> Before
     ensures { result ≡ before_item item.now }
 {
     match item {
-        Item::Caret => Before::Caret,
+        SpecItem::Caret => Before::Caret,
         _ => Before::Inside,
     }
 }
@@ -34,7 +34,7 @@ fn next_item(
     before: Before,
     gap: bool,
     text: &[u8],
-) -> Result<(Item, usize), SpecFault>
+) -> Result<(SpecItem, usize), SpecFault>
     ensures found { IfOk result (λ found. IsAllowedItem mode before gap text.now found.0 found.1
         × (form_at mode (may_name mode before gap) text.now ≡ None)) }
     ensures fault { IfErr result (λ fault. IsFaultHere mode before gap text.now fault) }
@@ -52,7 +52,7 @@ fn read_items(
     text: &[u8],
     draft: &mut Draft,
 ) -> Result<List<Spec>, SpecFault>
-    requires { draft.old ≡ begin mode }
+    requires { draft.old ≡ first_draft mode }
     ensures found { IfOk result (λ specs. Spells mode text.now specs) }
     ensures fault { IfErr result (λ fault. IsFault mode text.now fault) }
 {

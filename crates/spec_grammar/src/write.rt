@@ -1,8 +1,8 @@
 //! The canonical text of a spec.
 
 ghost use Rattle.std.specs.Prelude.{◌≡◌, ◌++◌, ◌∷◌, [], OnOk, IfOk};
-ghost use Rattle.spec_grammar.specs.Items.{spell_more, spell_values, spell_list};
-ghost use Rattle.spec_grammar.specs.Canonical.{word_text, key_text, values_text, one_text, variant_text, variants_text, compiler_text, target_text, more_targets, targets_items, targets_text, part_text, below_text, spec_text};
+ghost use Rattle.spec_grammar.specs.Items.{spell_more_values, spell_values, spell_list};
+ghost use Rattle.spec_grammar.specs.Canonical.{word_text, key_text, values_text, one_text, variant_text, variants_text, part_compiler_text, target_text, more_targets, targets_items, targets_text, part_text, below_text, spec_text};
 
 use crate::{Part, Spec, TargetItem};
 use plain_data::{List, Word};
@@ -44,7 +44,7 @@ fn write_list(versions: &Option<VersionSet>, out: &mut Vec<u8>) -> Result<(), Al
 }
 
 fn write_more(values: &[Word], out: &mut Vec<u8>) -> Result<(), AllocError>
-    ensures { OnOk result (out.new.items ≡ out.old.items ++ spell_more values.now) }
+    ensures { OnOk result (out.new.items ≡ out.old.items ++ spell_more_values values.now) }
 {
     for value in values {
         write_bytes(b",", out)?;
@@ -111,7 +111,7 @@ fn write_compiler(
     compiler: &Option<(Word, Option<VersionSet>)>,
     out: &mut Vec<u8>,
 ) -> Result<(), AllocError>
-    ensures { OnOk result (out.new.items ≡ out.old.items ++ compiler_text compiler.now) }
+    ensures { OnOk result (out.new.items ≡ out.old.items ++ part_compiler_text compiler.now) }
 {
     let Some((name, versions)) = compiler else {
         return Ok(());

@@ -10,16 +10,16 @@ use Rattle.keyed_lists.specs.Keyed.{IsInOrder}
 use Rattle.keyed_lists.proofs.RiseLaws.{all_from}
 use Rattle.graph_core.specs.Graphs.{Text}
 use Rattle.graph_core.specs.declared.node.Node.{Node}
-use Rattle.condition_rules.specs.Words.{among, is_some_and}
+use Rattle.condition_rules.specs.Words.{is_one_text, is_some_and}
 use Rattle.problem.specs.Problems.{same_compiler}
 use Rattle.literal_table.specs.Choices.{Choices, chosen}
 use Rattle.literal_table.specs.Tables.{AreVariantsInOrder, variant_of, value_of}
 use Rattle.literal_table.specs.Spells.{SpellsNode, values_at, variants_of}
-use Rattle.table_plan.specs.Plans.{same_origin}
+use Rattle.table_plan.specs.Plans.{is_same_origin}
 use Rattle.table_plan.specs.Offers.{Offers, OffersVariant, IsPossible, AreVariants}
 use Rattle.table_plan.specs.declared.plan.Possible.{Possible}
 use Rattle.table_plan.proofs.NodeLaws.{origins_exact, options_exact, compilers_exact}
-use Rattle.table_plan.specs.Numbers.{lit_of, numbered, variants_from, width_of, values_in, width, block_at, block_from}
+use Rattle.table_plan.specs.Numbers.{positive_lit, numbered, variants_from, width_of, value_count, block_width, block_at, block_from}
 use Rattle.table_plan.specs.Spellings.{bits_of, value_bits, node_bits}
 use Rattle.table_plan.proofs.ReadLaws.{Reads, reads_parts}
 use Rattle.table_plan.proofs.Choices.{attribute_reads, variants_spelled}
@@ -34,12 +34,12 @@ length-bits_of same part (x ∷ []) o = refl
 length-bits_of same part (x ∷ y ∷ more) o = length-map (x ∷ y ∷ more) (λ z. is_some_and o (λ node. same (part node) z))
 
 -- so have the values
-pub length-value_bits : (vs variants : List (Text × List Text)) → length (value_bits vs variants) ≡ values_in vs
+pub length-value_bits : (vs variants : List (Text × List Text)) → length (value_bits vs variants) ≡ value_count vs
 length-value_bits [] variants = refl
 length-value_bits (v ∷ vs) variants = omega (
   arith,
-  length-append (map (among (values_at variants v.0)) v.1) (value_bits vs variants),
-  length-map v.1 (among (values_at variants v.0)),
+  length-append (map (is_one_text (values_at variants v.0)) v.1) (value_bits vs variants),
+  length-map v.1 (is_one_text (values_at variants v.0)),
   length-value_bits vs variants,
 )
 
@@ -99,9 +99,9 @@ next_part v m bs cs k e r =
     (parts.0, subst (λ j. Reads v (m + j) cs) e parts.1)
 
 -- a node has as many bits as its block has variables
-pub length-node_bits : (p : Possible) (o : Option Node) → length (node_bits p o) ≡ width p
+pub length-node_bits : (p : Possible) (o : Option Node) → length (node_bits p o) ≡ block_width p
 length-node_bits p o =
-    let a = bits_of same_origin (λ (node : Node). node.origin) p.origins o in
+    let a = bits_of is_same_origin (λ (node : Node). node.origin) p.origins o in
     let b = bits_of bytes_eq (λ (node : Node). node.version) p.versions o in
     let c = value_bits p.variants (variants_of o) in
     let d = bits_of (option_eq same_compiler) (λ (node : Node). node.compiler) p.compilers o in
@@ -116,7 +116,7 @@ length-node_bits p o =
       length-append d (e ++ (f ++ g)),
       length-append e (f ++ g),
       length-append f g,
-      length-bits_of same_origin (λ (node : Node). node.origin) p.origins o,
+      length-bits_of is_same_origin (λ (node : Node). node.origin) p.origins o,
       length-bits_of bytes_eq (λ (node : Node). node.version) p.versions o,
       length-value_bits p.variants (variants_of o),
       length-bits_of (option_eq same_compiler) (λ (node : Node). node.compiler) p.compilers o,
@@ -141,7 +141,7 @@ module _ (v : ℕ → Bool) (n : ℕ) (p : Possible) (o : Option Node) (is : IsP
   pub node_read : Reads v n (node_bits p o) → SpellsNode v (block_from n p) o
   unfolding block_from
   node_read r =
-      let a = bits_of same_origin (λ (node : Node). node.origin) p.origins o in
+      let a = bits_of is_same_origin (λ (node : Node). node.origin) p.origins o in
       let b = bits_of bytes_eq (λ (node : Node). node.version) p.versions o in
       let c = value_bits p.variants (variants_of o) in
       let d = bits_of (option_eq same_compiler) (λ (node : Node). node.compiler) p.compilers o in
@@ -149,10 +149,10 @@ module _ (v : ℕ → Bool) (n : ℕ) (p : Possible) (o : Option Node) (is : IsP
       let f = bits_of bytes_eq (λ (node : Node). node.target) p.targets o in
       let g = bits_of (option_eq bytes_eq) (λ (node : Node). node.prefix) p.prefixes o in
       let ra = next_part v (n + 1) a (b ++ (c ++ (d ++ (e ++ (f ++ g))))) (width_of p.origins)
-      (length-bits_of same_origin (λ (node : Node). node.origin) p.origins o) r.1 in
+      (length-bits_of is_same_origin (λ (node : Node). node.origin) p.origins o) r.1 in
       let rb = next_part v _ b (c ++ (d ++ (e ++ (f ++ g)))) (width_of p.versions)
       (length-bits_of bytes_eq (λ (node : Node). node.version) p.versions o) ra.1 in
-      let rc = next_part v _ c (d ++ (e ++ (f ++ g))) (values_in p.variants) (length-value_bits p.variants (variants_of o)) rb.1 in
+      let rc = next_part v _ c (d ++ (e ++ (f ++ g))) (value_count p.variants) (length-value_bits p.variants (variants_of o)) rb.1 in
       let rd = next_part v _ d (e ++ (f ++ g)) (width_of p.compilers)
       (length-bits_of (option_eq same_compiler) (λ (node : Node). node.compiler) p.compilers o) rc.1 in
       let re = next_part v _ e (f ++ g) (width_of p.os) (length-bits_of bytes_eq (λ (node : Node). node.os) p.os o) rd.1 in
@@ -160,19 +160,20 @@ module _ (v : ℕ → Bool) (n : ℕ) (p : Possible) (o : Option Node) (is : IsP
       let ordered = block_ordered n p is in
       record {
         present = r.0;
-        origin = attribute_reads v same_origin origins_exact (λ node. node.origin) (lit_of n) _ p.origins o is.origins r.0
+        origin = attribute_reads v is_same_origin origins_exact (λ node. node.origin) (positive_lit n) _ p.origins o is.origins r.0
             (λ node s. (offers node s).origin) ra.0;
-        version = attribute_reads v bytes_eq bytes_decides (λ node. node.version) (lit_of n) _ p.versions o is.versions r.0
+        version = attribute_reads v bytes_eq bytes_decides (λ node. node.version) (positive_lit n) _ p.versions o is.versions r.0
             (λ node s. (offers node s).version) rb.0;
         ordered = ordered;
         variants = variants_spelled v _ p.variants (variants_of o) is.variants variants_case rc.0;
         compiler = attribute_reads v (option_eq same_compiler) (options_exact same_compiler compilers_exact)
-            (λ node. node.compiler) (lit_of n) _
+            (λ node. node.compiler) (positive_lit n) _
             p.compilers o is.compilers r.0 (λ node s. (offers node s).compiler) rd.0;
-        os = attribute_reads v bytes_eq bytes_decides (λ node. node.os) (lit_of n) _ p.os o is.os r.0 (λ node s. (offers node s).os) re.0;
-        target = attribute_reads v bytes_eq bytes_decides (λ node. node.target) (lit_of n) _ p.targets o is.targets r.0
+        os = attribute_reads v bytes_eq bytes_decides (λ node. node.os) (positive_lit n) _ p.os o is.os r.0
+            (λ node s. (offers node s).os) re.0;
+        target = attribute_reads v bytes_eq bytes_decides (λ node. node.target) (positive_lit n) _ p.targets o is.targets r.0
             (λ node s. (offers node s).target) rf.0;
-        prefix = attribute_reads v (option_eq bytes_eq) (options_exact bytes_eq bytes_decides) (λ node. node.prefix) (lit_of n)
+        prefix = attribute_reads v (option_eq bytes_eq) (options_exact bytes_eq bytes_decides) (λ node. node.prefix) (positive_lit n)
             _ p.prefixes o
             is.prefixes r.0 (λ node s. (offers node s).prefix) rf.1;
       }

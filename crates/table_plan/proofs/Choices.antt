@@ -19,14 +19,14 @@ use Rattle.keyed_lists.proofs.GivenLaws.{is_given, filter_map-agree}
 use Rattle.graph_core.specs.Graphs.{Text}
 use Rattle.graph_core.proofs.PairLaws.{tells_alike}
 use Rattle.graph_core.specs.declared.node.Node.{Node}
-use Rattle.condition_rules.specs.Words.{among, is_some_and}
+use Rattle.condition_rules.specs.Words.{is_one_text, is_some_and}
 use Rattle.possible_closure.proofs.Lists.{found-there, in_among, from_among}
 use Rattle.literal_table.specs.Choices.{Choices, chosen}
 use Rattle.literal_table.specs.Spells.{SpellsOne, with_values, chosen_variants, values_at, values_or_none}
 use Rattle.table_plan.specs.Gathering.{EachOnce}
 use Rattle.table_plan.specs.Offers.{OffersVariant, AreVariants}
 use Rattle.table_plan.proofs.GatherLaws.{only_one}
-use Rattle.table_plan.specs.Numbers.{lit_of, numbered, attribute, variants_from}
+use Rattle.table_plan.specs.Numbers.{positive_lit, numbered, attribute, variants_from}
 use Rattle.table_plan.specs.Spellings.{bits_of, value_bits}
 use Rattle.table_plan.proofs.ReadLaws.{Reads, reads_parts}
 
@@ -37,7 +37,7 @@ nothing_kept (x ∷ xs) = nothing_kept xs
 
 -- what is chosen of a variant's values
 abbrev kept_values : List (Text × List Text) → Text × List Text → Option (Text × List Text)
-kept_values variants w = with_values w.0 (filter (among (values_at variants w.0)) w.1)
+kept_values variants w = with_values w.0 (filter (is_one_text (values_at variants w.0)) w.1)
 
 module _ (v : ℕ → Bool) where
   -- bits that are tests choose what passes
@@ -46,7 +46,7 @@ module _ (v : ℕ → Bool) where
   numbered_reads test n [] r = refl
   numbered_reads test n (x ∷ xs) r =
       let rest = numbered_reads test (n + 1) xs r.1 in
-      rw r.0 (elim (test x) as (λ b. map (λ c. c.0) (cond b ((x, lit_of n) ∷ filter (λ c. lit_true v c.1) (numbered (n + 1) xs))
+      rw r.0 (elim (test x) as (λ b. map (λ c. c.0) (cond b ((x, positive_lit n) ∷ filter (λ c. lit_true v c.1) (numbered (n + 1) xs))
       (filter (λ c. lit_true v c.1) (numbered (n + 1) xs))) ≡ cond b (x ∷ filter test xs) (filter test xs)) [
         | true ↦ ap (λ ys. x ∷ ys) rest
         | false ↦ rest
@@ -75,21 +75,21 @@ module _ (v : ℕ → Bool) where
       → chosen_variants v (variants_from n vs) ≡ filter_map (kept_values variants) vs
   variants_read n [] variants r = refl
   variants_read n (w ∷ ws) variants r =
-      let parts = reads_parts v n (map (among (values_at variants w.0)) w.1) (value_bits ws variants) r in
-      let here = numbered_reads (among (values_at variants w.0)) n w.1 parts.0 in
-      let at : n + length (map (among (values_at variants w.0)) w.1) ≡ n + length w.1 =
-      ap (λ m. n + m) (length-map w.1 (among (values_at variants w.0))) in
+      let parts = reads_parts v n (map (is_one_text (values_at variants w.0)) w.1) (value_bits ws variants) r in
+      let here = numbered_reads (is_one_text (values_at variants w.0)) n w.1 parts.0 in
+      let at : n + length (map (is_one_text (values_at variants w.0)) w.1) ≡ n + length w.1 =
+      ap (λ m. n + m) (length-map w.1 (is_one_text (values_at variants w.0))) in
       let rest = variants_read (n + length w.1) ws variants (subst (λ m. Reads v m (value_bits ws variants)) at parts.1) in
       λ i. cons_option (with_values w.0 (here i)) (rest i)
 
 -- the values that are kept of a set are those of a smaller set
 smaller_set : (few many : List Text) → IsInByteOrder few → IsInByteOrder many → ((q : Text) → Contains few q → Contains many q)
-    → filter (among few) many ≡ few
+    → filter (is_one_text few) many ≡ few
 smaller_set few many order all within =
-    same_texts (filter (among few) many) few (IsStrictlySortedBy-filter byte_cmp (among few) many all) order
+    same_texts (filter (is_one_text few) many) few (IsStrictlySortedBy-filter byte_cmp (is_one_text few) many all) order
     (λ q. (
-      λ there. from_among few q (from_filter (among few) many q there).1,
-      λ there. in_filter (among few) many q (within q there) (in_among few q there),
+      λ there. from_among few q (from_filter (is_one_text few) many q there).1,
+      λ there. in_filter (is_one_text few) many q (within q there) (in_among few q there),
     ))
 
 some_values : (name : Text) (values : List Text) → (values ≡ [] → ⊥) → with_values name values ≡ Some (name, values)
@@ -116,7 +116,7 @@ module _ (names : List Text) (values : Text → List Text) (order : IsInByteOrde
         (subst (Contains names) key from.1, sym (ap (λ (p : Text × List Text). p.1) from.2) ∙ ap values key)
 
     at_found : (name : Text) (o : Option (Text × List Text)) → find (λ w. bytes_eq w.0 name) variants ≡ o
-        → with_values name (filter (among (values_or_none o)) (values name)) ≡ o
+        → with_values name (filter (is_one_text (values_or_none o)) (values name)) ≡ o
     at_found name None e = ap (with_values name) (nothing_kept (values name))
     at_found name (Some u) e =
         let at = found-there (λ (w : Text × List Text). bytes_eq w.0 name) variants u e in
@@ -124,7 +124,7 @@ module _ (names : List Text) (values : Text → List Text) (order : IsInByteOrde
         let o = offered u at.0 in
         let is = pair_is u o in
         let all : o.values ≡ values name = is.1 ∙ ap values key in
-        let same : filter (among u.1) (values name) ≡ u.1 =
+        let same : filter (is_one_text u.1) (values name) ≡ u.1 =
         smaller_set u.1 (values name) o.order (sets name) (λ q there. subst (λ vs. Contains vs q) all (o.each q there)) in
         ap (with_values name) same ∙ some_values name u.1 o.some ∙ ap (λ n. Some (n, u.1)) (sym key)
 

@@ -6,13 +6,13 @@ use Rattle.clause_store.specs.Lits.{var_of, AllBelow}
 use Rattle.reachability.proofs.CountLaws.{first_or_later}
 use Rattle.keyed_lists.proofs.RiseLaws.{all_from}
 use Rattle.graph_core.specs.Graphs.{Text}
-use Rattle.literal_table.specs.Choices.{Choices, lits_of}
+use Rattle.literal_table.specs.Choices.{Choices, choice_lits}
 use Rattle.literal_table.specs.declared.block.Block.{Block}
 use Rattle.literal_table.specs.declared.block.EdgeLits.{EdgeLits}
 use Rattle.literal_table.specs.declared.block.ProviderLits.{ProviderLits}
 use Rattle.table_plan.specs.declared.plan.Possible.{Possible}
 use Rattle.table_plan.specs.declared.plan.Plan.{Plan}
-use Rattle.table_plan.specs.Numbers.{lit_of, numbered, attribute, width_of, variants_from, values_in, total, width, widths, block_from, blocks_from, edges_from, edge_from, provider_from, providers_from, table_from, variables_of}
+use Rattle.table_plan.specs.Numbers.{positive_lit, numbered, attribute, width_of, variants_from, value_count, total_width, block_width, widths, block_from, blocks_from, edge_lits_from, edge_from, provider_from, providers_from, table_from, variables_of}
 use Rattle.literal_table.specs.Ranges.{AreBelow, IsBlockBelow, IsTableBelow}
 use Rattle.table_plan.proofs.Runs.{threes}
 
@@ -24,18 +24,19 @@ numbered_below : {T : Type 0} (m n : ℕ) (xs : List T) → n + length xs ≤ m 
 numbered_below m n [] le = tt
 numbered_below m n (x ∷ xs) le = (omega (arith, le), numbered_below m (n + 1) xs (omega (arith, le)))
 
-attribute_below : {T : Type 0} (m p n : ℕ) (xs : List T) → p < m → n + width_of xs ≤ m → AreBelow m (attribute (lit_of p) n xs)
+attribute_below : {T : Type 0} (m p n : ℕ) (xs : List T) → p < m → n + width_of xs ≤ m → AreBelow m (attribute (positive_lit p) n xs)
 attribute_below m p n [] lt le = tt
 attribute_below m p n (x ∷ []) lt le = (lt, tt)
 attribute_below m p n (x ∷ y ∷ more) lt le = numbered_below m n (x ∷ y ∷ more) le
 
-variants_below : (m n : ℕ) (vs : List (Text × List Text)) → n + values_in vs ≤ m
-    → AllBelow m (flat_map (λ w. lits_of w.1) (variants_from n vs))
+variants_below : (m n : ℕ) (vs : List (Text × List Text)) → n + value_count vs ≤ m
+    → AllBelow m (flat_map (λ w. choice_lits w.1) (variants_from n vs))
 variants_below m n [] le = tt
-variants_below m n (v ∷ vs) le = append_below m (lits_of (numbered n v.1)) (flat_map (λ w. lits_of w.1) (variants_from (n + length v.1) vs))
+variants_below m n (v ∷ vs) le = append_below m (choice_lits (numbered n v.1))
+    (flat_map (λ w. choice_lits w.1) (variants_from (n + length v.1) vs))
     (numbered_below m n v.1 (omega (arith, le))) (variants_below m (n + length v.1) vs (omega (arith, le)))
 
-block_below : (m n : ℕ) (p : Possible) → n + width p ≤ m → IsBlockBelow m (block_from n p)
+block_below : (m n : ℕ) (p : Possible) → n + block_width p ≤ m → IsBlockBelow m (block_from n p)
 unfolding block_from
 block_below m n p le = record {
   present = omega (arith, le);
@@ -52,21 +53,22 @@ blocks_below : (m n : ℕ) (ps : List Possible) → n + widths ps ≤ m → (b :
 blocks_below m n [] le b there = absurd (omega (arith, there.1))
 blocks_below m n (p ∷ ps) le b there = ⊎_elim
     (λ same. subst (IsBlockBelow m) same (block_below m n p (omega (arith, le))))
-    (λ later. blocks_below m (n + width p) ps (omega (arith, le)) b later)
-    (first_or_later (block_from n p) (blocks_from (n + width p) ps) b there)
+    (λ later. blocks_below m (n + block_width p) ps (omega (arith, le)) b later)
+    (first_or_later (block_from n p) (blocks_from (n + block_width p) ps) b there)
 
 abbrev EdgeBelow : ℕ → EdgeLits → Type 0
 EdgeBelow m e = AllBelow m (e.build ∷ e.link ∷ e.run ∷ [])
 
-edges_below : (m n : ℕ) (pairs : List (Text × Text)) → n + total (λ pair. 3) pairs ≤ m → (e : EdgeLits) → Contains (edges_from n pairs) e
+edges_below : (m n : ℕ) (pairs : List (Text × Text)) → n + total_width (λ pair. 3) pairs ≤ m → (e : EdgeLits)
+    → Contains (edge_lits_from n pairs) e
     → EdgeBelow m e
 edges_below m n [] le e there = absurd (omega (arith, there.1))
 edges_below m n (pair ∷ pairs) le e there = ⊎_elim
     (λ same. subst (EdgeBelow m) same (omega (arith, le), (omega (arith, le), (omega (arith, le), tt))))
     (λ later. edges_below m (n + 3) pairs (omega (arith, le)) e later)
-    (first_or_later (edge_from n pair) (edges_from (n + 3) pairs) e there)
+    (first_or_later (edge_from n pair) (edge_lits_from (n + 3) pairs) e there)
 
-providers_below : (m n : ℕ) (ws : List (Text × List Text)) → n + values_in ws ≤ m → (p : ProviderLits) → Contains (providers_from n ws) p
+providers_below : (m n : ℕ) (ws : List (Text × List Text)) → n + value_count ws ≤ m → (p : ProviderLits) → Contains (providers_from n ws) p
     → AreBelow m p.packages
 providers_below m n [] le p there = absurd (omega (arith, there.1))
 providers_below m n (w ∷ ws) le p there = ⊎_elim
@@ -78,9 +80,9 @@ providers_below m n (w ∷ ws) le p there = ⊎_elim
 pub table_below : (n : ℕ) (plan : Plan) → IsTableBelow (n + variables_of plan) (table_from n plan)
 unfolding table_from variables_of
 table_below n plan =
-    let m = n + (widths plan.nodes + 3 * length plan.edges + values_in plan.providers) in record {
+    let m = n + (widths plan.nodes + 3 * length plan.edges + value_count plan.providers) in record {
       blocks = all_from (IsBlockBelow m) (blocks_from n plan.nodes) (blocks_below m n plan.nodes (omega arith));
-      edges = all_from (EdgeBelow m) (edges_from (n + widths plan.nodes) plan.edges)
+      edges = all_from (EdgeBelow m) (edge_lits_from (n + widths plan.nodes) plan.edges)
           (edges_below m (n + widths plan.nodes) plan.edges (omega (arith, threes plan.edges)));
       providers = all_from (λ (p : ProviderLits). AreBelow m p.packages)
           (providers_from (n + widths plan.nodes + 3 * length plan.edges) plan.providers)

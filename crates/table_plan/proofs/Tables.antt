@@ -23,8 +23,8 @@ use Rattle.graph_core.specs.declared.node.Kinds.{Kinds}
 use Rattle.condition_rules.specs.Words.{is_some_and}
 use Rattle.problem.specs.Nodes.{has_kind}
 use Rattle.literal_table.specs.Choices.{Choices, chosen}
-use Rattle.literal_table.specs.Tables.{Table, IsTable, AreVariantsInOrder, name_of, ends_of, virtual_of, block_of, edge_lits_of, packages_of, packages_in}
-use Rattle.literal_table.specs.Spells.{SpellsNode, SpellsAt, SpellsEdge, Spells, chosen_kinds, with_kind}
+use Rattle.literal_table.specs.Tables.{Table, IsTable, AreVariantsInOrder, block_name, ends_of_edge, provider_virtual, block_of, edge_lits_of, packages_of, provider_packages}
+use Rattle.literal_table.specs.Spells.{SpellsNode, SpellsAt, SpellsEdge, Spells, chosen_kinds, if_any_kind}
 use Rattle.literal_table.specs.declared.block.Block.{Block}
 use Rattle.literal_table.specs.declared.block.EdgeLits.{EdgeLits}
 use Rattle.literal_table.proofs.Spelling.{named-so}
@@ -33,7 +33,7 @@ use Rattle.table_plan.specs.Offers.{Offers, IsOffered, IsPossible, IsPlan}
 use Rattle.table_plan.specs.declared.plan.Possible.{Possible}
 use Rattle.table_plan.specs.declared.plan.Plan.{Plan}
 use Rattle.table_plan.proofs.GatherLaws.{only_one}
-use Rattle.table_plan.specs.Numbers.{lit_of, numbered, values_in, width, widths, block_from, blocks_from, run, edge_from, edges_from, provider_from, providers_from, table_from, variables_of}
+use Rattle.table_plan.specs.Numbers.{positive_lit, numbered, value_count, block_width, widths, block_from, blocks_from, numbered_run, edge_from, edge_lits_from, provider_from, providers_from, table_from, variables_of}
 use Rattle.table_plan.specs.Spellings.{node_bits, nodes_bits, edge_bits, edges_bits, providers_bits, graph_bits, with_bits, spelling, AgreeOutside}
 use Rattle.table_plan.proofs.ReadLaws.{Reads, reads_parts, reads_bits, bits_before, bits_after}
 use Rattle.table_plan.proofs.Choices.{numbered_reads, nothing_kept}
@@ -64,7 +64,7 @@ length-edges_bits graph (pair ∷ pairs) = omega (
   length-edges_bits graph pairs,
 )
 
-length-providers_bits : (graph : Content) (ws : List (Text × List Text)) → length (providers_bits graph ws) ≡ values_in ws
+length-providers_bits : (graph : Content) (ws : List (Text × List Text)) → length (providers_bits graph ws) ≡ value_count ws
 length-providers_bits graph [] = refl
 length-providers_bits graph (w ∷ ws) = omega (
   arith,
@@ -103,14 +103,14 @@ nothing_there (Some x) f = absurd (f x refl)
 module _ (v : ℕ → Bool) (graph : Content) where
   nodes_read : (n : ℕ) (ps : List Possible) → IsInOrder byte_cmp (λ p. p.name) ps → All IsPossible ps → Reads v n (nodes_bits graph ps)
       → (name : Text) → ((node : Node) → node_of graph name ≡ Some node → (p : Possible) × Contains ps p × (p.name ≡ name) × Offers p node)
-      → SpellsAt v (find_key byte_cmp name_of (blocks_from n ps) name) (node_of graph name)
+      → SpellsAt v (find_key byte_cmp block_name (blocks_from n ps) name) (node_of graph name)
   nodes_read n [] rising is r name f = nothing_there (node_of graph name) (λ node e. let at = f node e in omega (arith, at.1.1))
   nodes_read n (p ∷ ps) rising is r name f =
       let parts = reads_parts v n (node_bits p (node_of graph p.name)) (nodes_bits graph ps) r in
       let later = subst (λ m. Reads v (n + m) (nodes_bits graph ps)) (length-node_bits p (node_of graph p.name)) parts.1 in
       let all = λ (q : Possible) (there : Contains ps q). All-contains IsPossible (p ∷ ps) q is (has_later p ps q there) in
       let first : IsPossible p = All-contains IsPossible (p ∷ ps) p is (has_first p ps) in
-      let rest = nodes_read (n + width p) ps (rises_rest byte_cmp p.name (map (λ q. q.name) ps) rising)
+      let rest = nodes_read (n + block_width p) ps (rises_rest byte_cmp p.name (map (λ q. q.name) ps) rising)
       (all_from IsPossible ps all) later name in
       ⊎_elim
       (λ hit.
@@ -141,7 +141,7 @@ module _ (v : ℕ → Bool) (graph : Content) where
 
   edges_read : (n : ℕ) (pairs : List (Text × Text)) → Reads v n (edges_bits graph pairs) → (parent child : Text)
       → ((e : Edge) → edge_of graph parent child ≡ Some e → Contains pairs (parent, child) × (has_kind e.kinds ≡ true))
-      → SpellsEdge v (find_key pair_cmp ends_of (edges_from n pairs) (parent, child)) (edge_of graph parent child)
+      → SpellsEdge v (find_key pair_cmp ends_of_edge (edge_lits_from n pairs) (parent, child)) (edge_of graph parent child)
   edges_read n [] r parent child f = nothing_there (edge_of graph parent child) (λ e is. let at = f e is in omega (arith, at.0.1))
   edges_read n (pair ∷ pairs) r parent child f =
       let parts = reads_parts v n (edge_bits (edge_of graph pair.0 pair.1)) (edges_bits graph pairs) r in
@@ -169,7 +169,8 @@ module _ (v : ℕ → Bool) (graph : Content) where
   providers_read : (n : ℕ) (ws : List (Text × List Text)) → IsInOrder byte_cmp (λ w. w.0) ws → All (λ w. IsInByteOrder w.1) ws
       → Reads v n (providers_bits graph ws) → (name : Text)
       → ((p : Text) → provider_of graph name ≡ Some p → (packages : List Text) × Contains ws (name, packages) × Contains packages p)
-      → chosen v (packages_in (find_key byte_cmp virtual_of (providers_from n ws) name)) ≡ option_to_list (provider_of graph name)
+      → chosen v (provider_packages (find_key byte_cmp provider_virtual (providers_from n ws) name))
+      ≡ option_to_list (provider_of graph name)
   providers_read n [] rising is r name f =
       sym (ap option_to_list (nothing_there (provider_of graph name) (λ p e. let at = f p e in omega (arith, at.1.1))))
   providers_read n (w ∷ ws) rising is r name f =
@@ -237,7 +238,7 @@ others_stay n plan graph v k = (
 -- ---- the table is in order
 
 made_keys : {X Y K : Type 0} (make : ℕ → X → Y) (width : X → ℕ) (key : Y → K) (from : X → K) → ((m : ℕ) (x : X) → key (make m x) ≡ from x)
-    → (n : ℕ) (xs : List X) → map key (run make width n xs) ≡ map from xs
+    → (n : ℕ) (xs : List X) → map key (numbered_run make width n xs) ≡ map from xs
 made_keys make width key from same n [] = refl
 made_keys make width key from same n (x ∷ xs) =
     let first = same n x in
@@ -250,8 +251,8 @@ blocks_ordered : (n : ℕ) (ps : List Possible) → ((p : Possible) → Contains
 blocks_ordered n [] is b there = absurd (omega (arith, there.1))
 blocks_ordered n (p ∷ ps) is b there = ⊎_elim
     (λ same. subst AreVariantsInOrder same (block_ordered n p (is p (has_first p ps))))
-    (λ later. blocks_ordered (n + width p) ps (λ q in_ps. is q (has_later p ps q in_ps)) b later)
-    (first_or_later (block_from n p) (blocks_from (n + width p) ps) b there)
+    (λ later. blocks_ordered (n + block_width p) ps (λ q in_ps. is q (has_later p ps q in_ps)) b later)
+    (first_or_later (block_from n p) (blocks_from (n + block_width p) ps) b there)
 
 pair_itself : (pairs : List (Text × Text)) → map (λ pair. pair) pairs ≡ pairs
 pair_itself [] = refl
@@ -261,11 +262,11 @@ pair_itself (pair ∷ pairs) = ap (λ ps. pair ∷ ps) (pair_itself pairs)
 pub table_right : (n : ℕ) (plan : Plan) → IsPlan plan → IsTable (table_from n plan)
 unfolding table_from
 table_right n plan is = record {
-  blocks = subst IsInByteOrder (sym (made_keys block_from width name_of (λ p. p.name) block_named n plan.nodes)) is.nodes;
+  blocks = subst IsInByteOrder (sym (made_keys block_from block_width block_name (λ p. p.name) block_named n plan.nodes)) is.nodes;
   edges = subst (IsStrictlySortedBy pair_cmp)
-      (sym (made_keys edge_from (λ pair. 3) ends_of (λ pair. pair) (λ m pair. refl) _ plan.edges ∙ pair_itself plan.edges)) is.edges;
+      (sym (made_keys edge_from (λ pair. 3) ends_of_edge (λ pair. pair) (λ m pair. refl) _ plan.edges ∙ pair_itself plan.edges)) is.edges;
   providers = subst IsInByteOrder
-      (sym (made_keys provider_from (λ w. length w.1) virtual_of (λ w. w.0) (λ m w. refl) _ plan.providers)) is.providers;
+      (sym (made_keys provider_from (λ w. length w.1) provider_virtual (λ w. w.0) (λ m w. refl) _ plan.providers)) is.providers;
   variants = all_from AreVariantsInOrder (blocks_from n plan.nodes)
       (blocks_ordered n plan.nodes (λ p there. All-contains IsPossible plan.nodes p is.possible there));
 }

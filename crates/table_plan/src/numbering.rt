@@ -1,7 +1,7 @@
 //! The table of a plan.
 ghost use Rattle.std.specs.Prelude.{◌≡◌, ◌+◌, ◌*◌, [], ◌∷◌, length, IfOk, OnOk};
 ghost use Rattle.table_plan.specs.Offers.{IsPlan};
-ghost use Rattle.table_plan.specs.Numbers.{lit_of, numbered, attribute, width_of, variants_from, values_in, width, widths, block_from, blocks_from, edge_from, edges_from, provider_from, providers_from, table_from, variables_of};
+ghost use Rattle.table_plan.specs.Numbers.{positive_lit, numbered, attribute, width_of, variants_from, value_count, block_width, widths, block_from, blocks_from, edge_from, edge_lits_from, provider_from, providers_from, table_from, variables_of};
 
 use crate::{Plan, Possible};
 use clause_store::{Lit, Var};
@@ -27,7 +27,7 @@ pub fn table_from(alloc: Global, next: &mut u64, plan: &Plan) -> Result<LiteralT
 
 // The literal of the next variable. Numbers end with those of 64 bits.
 fn new_lit(next: &mut u64) -> Result<Lit, AllocError>
-    ensures lit { IfOk result (λ lit. lit ≡ lit_of next.old) }
+    ensures lit { IfOk result (λ lit. lit ≡ positive_lit next.old) }
     ensures next { OnOk result (next.new ≡ next.old + 1) }
 {
     let number = *next;
@@ -110,7 +110,7 @@ fn variants_from(
     variants: &[(Word, ValueSet)],
 ) -> Result<List<(Word, List<(Word, Lit)>)>, AllocError>
     ensures variants { IfOk result (λ made. made ≡ variants_from next.old variants.now) }
-    ensures next { OnOk result (next.new ≡ next.old + values_in variants.now) }
+    ensures next { OnOk result (next.new ≡ next.old + value_count variants.now) }
 {
     let mut made = List::new(alloc);
     for variant in variants {
@@ -124,7 +124,7 @@ fn variants_from(
 #[tactic(auto, unfolding(crate::specs::Numbers::block_from))]
 fn block_from(alloc: Global, next: &mut u64, p: &Possible) -> Result<Block, AllocError>
     ensures block { IfOk result (λ block. block ≡ block_from next.old p.now) }
-    ensures next { OnOk result (next.new ≡ next.old + width p.now) }
+    ensures next { OnOk result (next.new ≡ next.old + block_width p.now) }
 {
     let present = new_lit(next)?;
     let origins = attribute(alloc, present, next, p.origins.as_slice())?;
@@ -183,7 +183,7 @@ fn edges_from(
     next: &mut u64,
     pairs: &[(Word, Word)],
 ) -> Result<Vec<EdgeLits>, AllocError>
-    ensures edges { IfOk result (λ edges. edges.items ≡ edges_from next.old pairs.now) }
+    ensures edges { IfOk result (λ edges. edges.items ≡ edge_lits_from next.old pairs.now) }
     ensures next { OnOk result (next.new ≡ next.old + 3 * length pairs.now) }
 {
     let mut edges = Vec::new(alloc);
@@ -217,7 +217,7 @@ fn providers_from(
 ) -> Result<Vec<ProviderLits>, AllocError>
     ensures providers { IfOk result
         (λ providers. providers.items ≡ providers_from next.old virtuals.now) }
-    ensures next { OnOk result (next.new ≡ next.old + values_in virtuals.now) }
+    ensures next { OnOk result (next.new ≡ next.old + value_count virtuals.now) }
 {
     let mut providers = Vec::new(alloc);
     for asked in virtuals {

@@ -14,8 +14,8 @@ use Rattle.reachability.proofs.SpreadLaws.{reaches_decides}
 use Rattle.target_table.specs.declared.entry.TargetEntry.{TargetEntry}
 use Rattle.target_table.specs.declared.fault.TargetFault.{TargetFault}
 use Rattle.target_table.specs.declared.fault.TargetFault.TheVariants.{TwiceNamed, UnknownParent, CyclicTargets, OutOfMemory}
-use Rattle.target_table.specs.Targets.{names_of, arcs_of, HasAncestor, IsTwice, IsUnknown, IsFirst, IsTargetFault, AreTargets}
-use Rattle.target_table.specs.Faults.{is_one_of, first_twice, first_unknown, is_cyclic, first_fault, fault_of}
+use Rattle.target_table.specs.Targets.{names_of, parent_arcs, HasAncestor, IsTwice, IsUnknown, IsFirst, IsTargetFault, AreTargets}
+use Rattle.target_table.specs.Faults.{is_one_of, first_twice, first_unknown_parent, is_cyclic, first_target_fault, fault_of}
 use Rattle.reachability.proofs.TextPlaces.{none_more}
 use Rattle.target_table.proofs.TableLaws.{from_name}
 
@@ -147,14 +147,15 @@ module _ (entries : List TargetEntry) where
       let d : TargetEntry = record { name = []; parents = [] } in
       let w = unknown.1 d in w.2 (not_lacking (get_or entries k d) (known d) w.0 w.1)
 
-  is_acyclic : is_cyclic entries ≡ false → IsAcyclic (HasArc (arcs_of entries))
+  is_acyclic : is_cyclic entries ≡ false → IsAcyclic (HasArc (parent_arcs entries))
   is_acyclic e name path =
-      false≢true (sym (any_false (λ n. reaches bytes_eq (arcs_of entries) n n) (names_of entries) e name (from_name entries name name path))
-      ∙ (reaches_decides bytes_eq bytes_decides (arcs_of entries) name name).1 path)
+      false≢true (sym (any_false (λ n. reaches bytes_eq (parent_arcs entries) n n) (names_of entries) e name
+      (from_name entries name name path))
+      ∙ (reaches_decides bytes_eq bytes_decides (parent_arcs entries) name name).1 path)
 
   a_cycle : is_cyclic entries ≡ true → (name : List ℕ) × HasAncestor entries name name
-  a_cycle e = let w = any_true (λ n. reaches bytes_eq (arcs_of entries) n n) (names_of entries) e in
-      (w.0, (reaches_decides bytes_eq bytes_decides (arcs_of entries) w.0 w.0).0 w.2)
+  a_cycle e = let w = any_true (λ n. reaches bytes_eq (parent_arcs entries) n n) (names_of entries) e in
+      (w.0, (reaches_decides bytes_eq bytes_decides (parent_arcs entries) w.0 w.0).0 w.2)
 
   -- ---- the fault
 
@@ -163,15 +164,16 @@ module _ (entries : List TargetEntry) where
   fault_means = fault_means-cases (first_twice 0 [] (names_of entries))
       (twice_means (names_of entries) 0 [] (names_of entries) refl (omega arith) (λ x. (λ h. h, λ h. h))
       (λ k lt. absurd (omega (arith, lt))))
-      (first_unknown entries) (position_means lacks_parent entries) (is_cyclic entries) refl
+      (first_unknown_parent entries) (position_means lacks_parent entries) (is_cyclic entries) refl
     where
       UnknownTold : Option ℕ → Type 0
       UnknownTold r = MatchOption r ((k : ℕ) (d : TargetEntry) → k < length entries → lacks_parent (get_or entries k d) ≡ false)
           (λ i. (i < length entries) × ((d : TargetEntry) → lacks_parent (get_or entries i d) ≡ true)
           × ((k : ℕ) (d : TargetEntry) → k < i → lacks_parent (get_or entries k d) ≡ false))
 
-      fault_means-cases : (r : Option ℕ) → TwiceTold (names_of entries) r → (u : Option ℕ) → UnknownTold u → (b : Bool) → is_cyclic entries ≡ b
-          → MatchOption (first_fault r u b) (AreTargets entries) (IsTargetFault entries)
+      fault_means-cases : (r : Option ℕ) → TwiceTold (names_of entries) r → (u : Option ℕ) → UnknownTold u → (b : Bool)
+          → is_cyclic entries ≡ b
+          → MatchOption (first_target_fault r u b) (AreTargets entries) (IsTargetFault entries)
       fault_means-cases (Some i) told u unknown b e = (to_entries entries i told.0, λ k lt twice. told.1 k lt (to_names entries k twice))
       fault_means-cases None told (Some i) unknown b e = (
         λ k twice. told k (to_names entries k twice),
@@ -214,10 +216,11 @@ module _ (entries : List TargetEntry) where
 
   -- each fault but want of memory is the one that is computed
   pub fault_is : (f : TargetFault) → IsTargetFault entries f → (f ≡ OutOfMemory) ⊎ (fault_of entries ≡ Some f)
-  fault_is f is = fault_is-cases (first_twice 0 [] (names_of entries)) (first_unknown entries) (is_cyclic entries) fault_means
+  fault_is f is = fault_is-cases (first_twice 0 [] (names_of entries)) (first_unknown_parent entries) (is_cyclic entries) fault_means
     where
-      fault_is-cases : (r u : Option ℕ) (b : Bool) → MatchOption (first_fault r u b) (AreTargets entries) (IsTargetFault entries) → (f ≡ OutOfMemory)
-          ⊎ (first_fault r u b ≡ Some f)
+      fault_is-cases : (r u : Option ℕ) (b : Bool) → MatchOption (first_target_fault r u b) (AreTargets entries) (IsTargetFault entries)
+          → (f ≡ OutOfMemory)
+          ⊎ (first_target_fault r u b ≡ Some f)
       fault_is-cases (Some i) u b means = same_fault f (TwiceNamed i) is means (λ e. cc)
       fault_is-cases None (Some i) b means = same_fault f (UnknownParent i) is means (λ e. cc)
       fault_is-cases None None true means = same_fault f CyclicTargets is means (λ e. cc)
@@ -225,10 +228,10 @@ module _ (entries : List TargetEntry) where
 
   -- entries without a fault have none that is computed
   pub none_is : AreTargets entries → fault_of entries ≡ None
-  none_is right = none_is-cases (first_twice 0 [] (names_of entries)) (first_unknown entries) (is_cyclic entries) fault_means
+  none_is right = none_is-cases (first_twice 0 [] (names_of entries)) (first_unknown_parent entries) (is_cyclic entries) fault_means
     where
-      none_is-cases : (r u : Option ℕ) (b : Bool) → MatchOption (first_fault r u b) (AreTargets entries) (IsTargetFault entries)
-          → first_fault r u b ≡ None
+      none_is-cases : (r u : Option ℕ) (b : Bool) → MatchOption (first_target_fault r u b) (AreTargets entries) (IsTargetFault entries)
+          → first_target_fault r u b ≡ None
       none_is-cases (Some i) u b means = let e : TwiceNamed i ≡ OutOfMemory = no_fault (TwiceNamed i) right means in absurd (cc)
       none_is-cases None (Some i) b means = let e : UnknownParent i ≡ OutOfMemory = no_fault (UnknownParent i) right means in absurd (cc)
       none_is-cases None None true means = let e : CyclicTargets ≡ OutOfMemory = no_fault CyclicTargets right means in absurd (cc)

@@ -15,7 +15,7 @@ use Rattle.reachability.proofs.PathLaws.{first_arc, last_arc}
 use Rattle.reachability.proofs.SpreadLaws.{reaches_decides}
 use Rattle.reachability.proofs.TableLaws.{key_table}
 use Rattle.target_table.specs.declared.entry.TargetEntry.{TargetEntry}
-use Rattle.target_table.specs.Targets.{names_of, arcs_of, place_of, HasAncestor, has_ancestor, IsTwice, IsUnknown, HasNone, IsAtLeast, at_least, IsInRange, keeps_end, in_range}
+use Rattle.target_table.specs.Targets.{names_of, parent_arcs, place_of, HasAncestor, has_ancestor, IsTwice, IsUnknown, HasNone, IsAtLeast, is_at_least, IsInRange, keeps_end, in_range}
 
 -- ---- names and places
 
@@ -44,30 +44,32 @@ module _ (entries : List TargetEntry) where
           )
 
   -- an arc leads from the name of an entry to one of its parents
-  pub arc_is : (p q : List ℕ) → HasArc (arcs_of entries) p q → (e : TargetEntry) × Contains entries e × (e.name ≡ p) × Contains e.parents q
+  pub arc_is : (p q : List ℕ) → HasArc (parent_arcs entries) p q → (e : TargetEntry) × Contains entries e × (e.name ≡ p)
+      × Contains e.parents q
   arc_is p q = arc_is-cases entries
     where
-      arc_is-cases : (es : List TargetEntry) → HasArc (arcs_of es) p q → (e : TargetEntry) × Contains es e × (e.name ≡ p) × Contains e.parents q
+      arc_is-cases : (es : List TargetEntry) → HasArc (parent_arcs es) p q → (e : TargetEntry) × Contains es e × (e.name ≡ p)
+          × Contains e.parents q
       arc_is-cases [] arc = absurd (omega (arith, arc.1))
       arc_is-cases (e ∷ es) arc = ⊎_elim
           (λ here. let w = image_of (λ parent. (e.name, parent)) e.parents (p, q) here in
           (e, has_first e es, ap (λ a. a.0) w.2, subst (Contains e.parents) (ap (λ a. a.1) w.2) w.1))
           (λ later. let w = arc_is-cases es later in (w.0, has_later e es w.0 w.1, w.2, w.3))
-          (Contains-append_cases (map (λ parent. (e.name, parent)) e.parents) (arcs_of es) (p, q) arc)
+          (Contains-append_cases (map (λ parent. (e.name, parent)) e.parents) (parent_arcs es) (p, q) arc)
 
   -- what has an ancestor is a name
   pub from_name : (p q : List ℕ) → HasAncestor entries p q → Contains (names_of entries) p
-  from_name p q path = ⊎_elim (begins p q) (λ w. begins p w.0 w.1) (first_arc (HasArc (arcs_of entries)) p q path)
+  from_name p q path = ⊎_elim (begins p q) (λ w. begins p w.0 w.1) (first_arc (HasArc (parent_arcs entries)) p q path)
     where
-      begins : (p q : List ℕ) → HasArc (arcs_of entries) p q → Contains (names_of entries) p
+      begins : (p q : List ℕ) → HasArc (parent_arcs entries) p q → Contains (names_of entries) p
       begins p q arc = let w = arc_is p q arc in
           subst (Contains (names_of entries)) w.2 (has_image (λ (e : TargetEntry). e.name) entries w.0 w.1)
 
   -- an ancestor is a name, where no parent is unknown
   pub to_name : HasNone IsUnknown entries → (p q : List ℕ) → HasAncestor entries p q → (Contains (names_of entries) q → ⊥) → ⊥
-  to_name known p q path lacks = ⊎_elim (λ arc. ends p arc) (λ w. ends w.0 w.2) (last_arc (HasArc (arcs_of entries)) p q path)
+  to_name known p q path lacks = ⊎_elim (λ arc. ends p arc) (λ w. ends w.0 w.2) (last_arc (HasArc (parent_arcs entries)) p q path)
     where
-      ends : (p : List ℕ) → HasArc (arcs_of entries) p q → ⊥
+      ends : (p : List ℕ) → HasArc (parent_arcs entries) p q → ⊥
       ends p arc =
           let w = arc_is p q arc in
           known w.1.0 (
@@ -110,15 +112,15 @@ module _ (entries : List TargetEntry) where
 
 -- a table over the arcs of entries tells of their ancestors
 pub table_of : (entries : List TargetEntry) → HasNone IsTwice entries → (numbers : List (ℕ × ℕ))
-    → AreNumbered (names_of entries) (arcs_of entries) numbers → (slice : List (ℕ × ℕ)) → slice ≡ numbers → (table : PathMarks)
-    → IsPathTable (length entries) slice table → IsKeyTable (names_of entries) (arcs_of entries) table
+    → AreNumbered (names_of entries) (parent_arcs entries) numbers → (slice : List (ℕ × ℕ)) → slice ≡ numbers → (table : PathMarks)
+    → IsPathTable (length entries) slice table → IsKeyTable (names_of entries) (parent_arcs entries) table
 table_of entries once numbers numbered slice is table are =
-    key_table (names_of entries) (arcs_of entries) numbers table numbered (one_place entries once)
+    key_table (names_of entries) (parent_arcs entries) numbers table numbered (one_place entries once)
     (rw (length-map entries (λ (e : TargetEntry). e.name), ← is) are)
 
-module _ (entries : List TargetEntry) (table : PathMarks) (are : IsKeyTable (names_of entries) (arcs_of entries) table) where
+module _ (entries : List TargetEntry) (table : PathMarks) (are : IsKeyTable (names_of entries) (parent_arcs entries) table) where
   -- where no place leads to itself there is no cycle
-  pub no_cycle : ((i : ℕ) → i < table.places → IsTrue (leads table i i) → ⊥) → IsAcyclic (HasArc (arcs_of entries))
+  pub no_cycle : ((i : ℕ) → i < table.places → IsTrue (leads table i i) → ⊥) → IsAcyclic (HasArc (parent_arcs entries))
   no_cycle none name path =
       let at = from_name entries name name path in
       none at.0 (omega (arith, are.each, at.1)) ((are.marks name name at.0 at.0 (at.1, at.2) (at.1, at.2)).1 path)
@@ -138,13 +140,13 @@ module _ (entries : List TargetEntry) (table : PathMarks) (are : IsKeyTable (nam
 pub told_ancestor : (entries : List TargetEntry) (target low : List ℕ) (is : Bool) → Decides is (HasAncestor entries target low)
     → is ≡ has_ancestor entries target low
 told_ancestor entries target low is tells =
-    same_from_decides is (has_ancestor entries target low) tells (reaches_decides bytes_eq bytes_decides (arcs_of entries) target low)
+    same_from_decides is (has_ancestor entries target low) tells (reaches_decides bytes_eq bytes_decides (parent_arcs entries) target low)
 
 -- the test whether a target is at least another
 pub at_least_decides : (entries : List TargetEntry) (target low : List ℕ)
-    → Decides (at_least entries target low) (IsAtLeast entries target low)
+    → Decides (is_at_least entries target low) (IsAtLeast entries target low)
 at_least_decides entries target low = Decides-or (bytes_eq target low) (has_ancestor entries target low) (bytes_decides target low)
-    (reaches_decides bytes_eq bytes_decides (arcs_of entries) target low)
+    (reaches_decides bytes_eq bytes_decides (parent_arcs entries) target low)
 
 module _ (P : List ℕ → Type 0) (test : List ℕ → Bool) (tells : (end : List ℕ) → Decides (test end) (P end)) where
   end_decides : (end : Option (List ℕ)) → Decides (keeps_end test end) (IfSome end P)
@@ -155,5 +157,5 @@ module _ (P : List ℕ → Type 0) (test : List ℕ → Bool) (tells : (end : Li
 pub in_range_decides : (entries : List TargetEntry) (target : List ℕ) (low high : Option (List ℕ))
     → Decides (in_range entries target low high) (IsInRange entries target low high)
 in_range_decides entries target low high = Decides-and _ _
-    (end_decides (λ l. IsAtLeast entries target l) (at_least entries target) (λ l. at_least_decides entries target l) low)
-    (end_decides (λ h. IsAtLeast entries h target) (λ h. at_least entries h target) (λ h. at_least_decides entries h target) high)
+    (end_decides (λ l. IsAtLeast entries target l) (is_at_least entries target) (λ l. at_least_decides entries target l) low)
+    (end_decides (λ h. IsAtLeast entries h target) (λ h. is_at_least entries h target) (λ h. at_least_decides entries h target) high)

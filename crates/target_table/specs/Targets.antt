@@ -15,16 +15,16 @@ abbrev pub place_of : List TargetEntry → List ℕ → Option ℕ
 place_of entries name = position (λ other. bytes_eq other name) (names_of entries)
 
 -- each name with each of its parents
-abbrev pub arcs_of : List TargetEntry → List (List ℕ × List ℕ)
-arcs_of entries = flat_map (λ entry. map (λ parent. (entry.name, parent)) entry.parents) entries
+abbrev pub parent_arcs : List TargetEntry → List (List ℕ × List ℕ)
+parent_arcs entries = flat_map (λ entry. map (λ parent. (entry.name, parent)) entry.parents) entries
 
 -- one or more steps to a parent lead from the target to its ancestor
 abbrev pub HasAncestor : List TargetEntry → List ℕ → List ℕ → Type 0
-HasAncestor entries = Path (HasArc (arcs_of entries))
+HasAncestor entries = Path (HasArc (parent_arcs entries))
 
 -- the test for that
 abbrev pub has_ancestor : List TargetEntry → List ℕ → List ℕ → Bool
-has_ancestor entries = reaches bytes_eq (arcs_of entries)
+has_ancestor entries = reaches bytes_eq (parent_arcs entries)
 
 -- ---- faults
 
@@ -57,7 +57,7 @@ IsTargetFault entries OutOfMemory = Unit {0}
 pub record AreTargets (entries : List TargetEntry) : Type 0 where
   pub once : HasNone IsTwice entries
   pub known : HasNone IsUnknown entries
-  pub acyclic : IsAcyclic (HasArc (arcs_of entries))
+  pub acyclic : IsAcyclic (HasArc (parent_arcs entries))
 
 -- ---- ranges
 
@@ -71,8 +71,8 @@ IsInRange entries target low high = IfSome low (λ l. IsAtLeast entries target l
 
 -- ---- the tests for ranges
 
-abbrev pub at_least : List TargetEntry → List ℕ → List ℕ → Bool
-at_least entries target low = bytes_eq target low || has_ancestor entries target low
+abbrev pub is_at_least : List TargetEntry → List ℕ → List ℕ → Bool
+is_at_least entries target low = bytes_eq target low || has_ancestor entries target low
 
 -- an end that is not given bounds nothing
 abbrev pub keeps_end : (List ℕ → Bool) → Option (List ℕ) → Bool
@@ -80,4 +80,4 @@ keeps_end test None = true
 keeps_end test (Some end) = test end
 
 abbrev pub in_range : List TargetEntry → List ℕ → Option (List ℕ) → Option (List ℕ) → Bool
-in_range entries target low high = keeps_end (at_least entries target) low && keeps_end (λ h. at_least entries h target) high
+in_range entries target low high = keeps_end (is_at_least entries target) low && keeps_end (λ h. is_at_least entries h target) high

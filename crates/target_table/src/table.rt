@@ -3,8 +3,8 @@ ghost use Rattle.std.specs.Prelude.{◌≡◌, IfOk, IfErr, OnOk};
 ghost use Rattle.std.specs.Option.{option_copied};
 ghost use Rattle.reachability.specs.Places.{IsKeyTable};
 ghost use Rattle.reachability.specs.TextPlaces.{ArePlaces};
-ghost use Rattle.target_table.specs.Targets.{IsTargetFault, AreTargets, names_of, arcs_of};
-ghost use Rattle.target_table.specs.Targets.{place_of, has_ancestor, at_least, keeps_end, in_range};
+ghost use Rattle.target_table.specs.Targets.{IsTargetFault, AreTargets, names_of, parent_arcs};
+ghost use Rattle.target_table.specs.Targets.{place_of, has_ancestor, is_at_least, keeps_end, in_range};
 
 use crate::arcs::numbered;
 use crate::places::{place_in, places_of};
@@ -30,13 +30,13 @@ impl Model for TargetTable {
     ghost use Rattle.target_table.specs.declared.entry.TargetEntry.{TargetEntry};
     ghost use Rattle.reachability.specs.TextPlaces.{ArePlaces};
     ghost use Rattle.reachability.specs.Places.{IsKeyTable};
-    ghost use Rattle.target_table.specs.Targets.{AreTargets, names_of, arcs_of};
+    ghost use Rattle.target_table.specs.Targets.{AreTargets, names_of, parent_arcs};
 
     ghost Value = { List TargetEntry };
 
     ghost view = { λ table. table.entries };
 
-    ghost invariant = { λ table. record { targets : AreTargets table.entries; places : ArePlaces (names_of table.entries) table.places; ancestors : IsKeyTable (names_of table.entries) (arcs_of table.entries) table.ancestors } };
+    ghost invariant = { λ table. record { targets : AreTargets table.entries; places : ArePlaces (names_of table.entries) table.places; ancestors : IsKeyTable (names_of table.entries) (parent_arcs table.entries) table.ancestors } };
 }
 
 impl TargetTable {
@@ -77,7 +77,7 @@ impl TargetTable {
 
     /// Whether a target is another or has it as an ancestor.
     pub fn at_least(&self, target: &str, low: &str) -> bool
-        ensures { result ≡ at_least self.now target.now low.now }
+        ensures { result ≡ is_at_least self.now target.now low.now }
     {
         target == low || self.is_above(target, low)
     }
@@ -91,7 +91,7 @@ impl TargetTable {
     }
 
     fn keeps_low(&self, target: &str, low: Option<&str>) -> bool
-        ensures { result ≡ keeps_end (at_least self.now target.now) (option_copied low.entry) }
+        ensures { result ≡ keeps_end (is_at_least self.now target.now) (option_copied low.entry) }
     {
         match low {
             Some(low) => self.at_least(target, low),
@@ -100,7 +100,7 @@ impl TargetTable {
     }
 
     fn keeps_high(&self, target: &str, high: Option<&str>) -> bool
-        ensures { result ≡ keeps_end (λ h. at_least self.now h target.now)
+        ensures { result ≡ keeps_end (λ h. is_at_least self.now h target.now)
             (option_copied high.entry) }
     {
         match high {
@@ -130,7 +130,7 @@ fn tables_of(
 ) -> Result<(BTreeMap<String, usize>, PathTable), TargetFault>
     ensures places { IfOk result (λ tables. ArePlaces (names_of entries.now) tables.0) }
     ensures ancestors { IfOk result
-        (λ tables. IsKeyTable (names_of entries.now) (arcs_of entries.now) tables.1) }
+        (λ tables. IsKeyTable (names_of entries.now) (parent_arcs entries.now) tables.1) }
     ensures targets { OnOk result (AreTargets entries.now) }
     ensures fault { IfErr result (IsTargetFault entries.now) }
 {

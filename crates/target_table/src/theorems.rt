@@ -8,7 +8,7 @@ ghost use Rattle.target_table.specs.declared.fault.TargetFault.TheVariants.{Unkn
 ghost use Rattle.target_table.specs.declared.fault.TargetFault.TheVariants.{CyclicTargets};
 ghost use Rattle.target_table.specs.declared.fault.TargetFault.TheVariants.{OutOfMemory};
 ghost use Rattle.target_table.specs.Targets.{AreTargets, IsTargetFault, HasAncestor, has_ancestor};
-ghost use Rattle.target_table.specs.Targets.{IsAtLeast, IsInRange, at_least, in_range, place_of};
+ghost use Rattle.target_table.specs.Targets.{IsAtLeast, IsInRange, is_at_least, in_range, place_of};
 ghost use Rattle.target_table.specs.Faults.{fault_of};
 ghost use Rattle.target_table.specs.Rows.{a, b, v1, v2, v3, v9, entry, three_levels, diamond};
 
@@ -26,7 +26,7 @@ pub fn range_laws()
     ensures ancestor { (entries : List TargetEntry) (target low : List ℕ)
         → IsTrue (has_ancestor entries target low) ↔ HasAncestor entries target low }
     ensures least { (entries : List TargetEntry) (target low : List ℕ)
-        → IsTrue (at_least entries target low) ↔ IsAtLeast entries target low }
+        → IsTrue (is_at_least entries target low) ↔ IsAtLeast entries target low }
     ensures range { (entries : List TargetEntry) (target : List ℕ) (low high : Option (List ℕ))
         → IsTrue (in_range entries target low high) ↔ IsInRange entries target low high }
 {}
@@ -34,18 +34,18 @@ pub fn range_laws()
 /// Three levels, each on the one below; a diamond; and entries that are no table.
 pub fn worked_targets()
     ensures levels { fault_of three_levels ≡ None }
-    ensures up { at_least three_levels v3 v1 ≡ true }
-    ensures down { at_least three_levels v1 v3 ≡ false }
-    ensures itself { at_least three_levels v2 v2 ≡ true }
-    ensures unknown_itself { at_least three_levels v9 v9 ≡ true }
+    ensures up { is_at_least three_levels v3 v1 ≡ true }
+    ensures down { is_at_least three_levels v1 v3 ≡ false }
+    ensures itself { is_at_least three_levels v2 v2 ≡ true }
+    ensures unknown_itself { is_at_least three_levels v9 v9 ≡ true }
     ensures above_high { in_range three_levels v2 None (Some v1) ≡ false }
     ensures between { in_range three_levels v2 (Some v1) (Some v3) ≡ true }
     ensures no_ends { in_range three_levels v9 None None ≡ true }
     ensures place { place_of three_levels v2 ≡ Some 1 }
     ensures no_place { place_of three_levels v9 ≡ None }
     ensures diamond { fault_of diamond ≡ None }
-    ensures over { at_least diamond v3 v1 ≡ true }
-    ensures beside { at_least diamond a b ≡ false }
+    ensures over { is_at_least diamond v3 v1 ≡ true }
+    ensures beside { is_at_least diamond a b ≡ false }
     ensures own_parent { fault_of (entry v1 (v1 ∷ []) ∷ []) ≡ Some CyclicTargets }
     ensures around { fault_of (entry v1 (v2 ∷ []) ∷ entry v2 (v3 ∷ []) ∷ entry v3 (v1 ∷ []) ∷ [])
         ≡ Some CyclicTargets }

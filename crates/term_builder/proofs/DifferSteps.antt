@@ -4,19 +4,19 @@ use Rattle.std.specs.Prelude.{if◌then◌else◌}
 use Rattle.std.specs.List.{list_all}
 use Rattle.std.specs.Str.{bytes_eq}
 use Rattle.std.proofs.lemmas.List.{append-nil}
-use Rattle.clause_formulas.specs.Statements.{Statement, atom, never, no, both, any_of, all_of}
+use Rattle.clause_formulas.specs.Statements.{Statement, atom, never, no, both_statements, any_statement, all_statements}
 use Rattle.graph_core.specs.Graphs.{Text}
 use Rattle.literal_table.specs.Choices.{Choices, any_choice}
 use Rattle.cost_terms.specs.declared.weighted.Weighted.{Weighted}
-use Rattle.cost_terms.specs.Differ.{is_text, filled_said, can_differ, differ_terms}
+use Rattle.cost_terms.specs.Differ.{is_any_text, filled_said, can_differ, differ_terms}
 
-all-texts : (xs : Choices Text) → list_all (λ x. is_text x.0) xs ≡ true
+all-texts : (xs : Choices Text) → list_all (λ x. is_any_text x.0) xs ≡ true
 all-texts [] = refl
 all-texts (x ∷ xs) = all-texts xs
 
 -- a text is always something
-pub texts-filled : (xs : Choices Text) → no never ≡ filled_said is_text bytes_eq xs
-texts-filled xs = sym (ap (λ b. if b then no never else any_choice is_text xs) (all-texts xs))
+pub texts-filled : (xs : Choices Text) → no never ≡ filled_said is_any_text bytes_eq xs
+texts-filled xs = sym (ap (λ b. if b then no never else any_choice is_any_text xs) (all-texts xs))
 
 module _ {T : Type 0} (filled : T → Bool) (same : T → T → Bool) (there : Statement) (xs ys : Choices T) where
   -- no term where they cannot differ
@@ -28,11 +28,15 @@ module _ {T : Type 0} (filled : T → Bool) (same : T → T → Bool) (there : S
   pub can-step : (can : Bool) (old new : List Weighted) (left right : Statement) (parts : List Statement)
       → can ≡ can_differ filled same xs ys → can ≡ true
       → left ≡ filled_said filled same xs → right ≡ filled_said filled same ys
-      → parts ≡ map (λ x. both (atom x.1) (any_choice (same x.0) ys)) xs
-      → new ≡ old ++ record { weight = 1; formula = all_of (there ∷ left ∷ right ∷ no (any_of parts) ∷ []) } ∷ []
+      → parts ≡ map (λ x. both_statements (atom x.1) (any_choice (same x.0) ys)) xs
+      → new ≡ old ++ record { weight = 1; formula = all_statements (there ∷ left ∷ right ∷ no (any_statement parts) ∷ []) } ∷ []
       → new ≡ old ++ differ_terms filled same there xs ys
   can-step can old new left right parts told right-so l r p n =
-      rw (sym told ∙ right-so) (n ∙ λ i. old ++ record { weight = 1; formula = all_of (there ∷ l i ∷ r i ∷ no (any_of (p i)) ∷ []) } ∷ [])
+      rw (sym told ∙ right-so) (n ∙ λ i. old ++ record {
+        weight = 1;
+        formula =
+            all_statements (there ∷ l i ∷ r i ∷ no (any_statement (p i)) ∷ []);
+      } ∷ [])
 
 -- a formula where some may be nothing
 pub some-step : {T : Type 0} (filled : T → Bool) (same : T → T → Bool) (xs : Choices T) (all : Bool)

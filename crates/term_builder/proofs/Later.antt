@@ -1,16 +1,53 @@
 -- Conditions of later definitions.
-use Rattle.std.proofs.Common.{◌≡◌, ap, ◌∙◌, List, [], ◌++◌}
-use Rattle.clause_formulas.specs.Statements.{Statement, both, no, any_of, opposite}
+use Prim.Native.Nat.{zero, suc}
+use Rattle.std.proofs.Common.{◌≡◌, refl, sym, ap, ◌∙◌, ℕ, ◌-◌, ◌/◌, ◌<◌, List, [], ◌∷◌, ◌++◌, take, drop, length, nat_lt, arith, append_assoc, true, false}
+use Rattle.std.proofs.lemmas.Bool.Decides.{nat_tests}
+use Rattle.clause_formulas.specs.Statements.{Statement, both_statements}
 use Rattle.graph_core.specs.Graphs.{Text}
 use Rattle.recipe_data.specs.declared.recipe.VariantRow.{VariantRow}
-use Rattle.cost_terms.proofs.PartLaws.{opposite-any}
+use Rattle.cost_terms.specs.Blocks.{block_of, blocks_of, none_among}
 use Rattle.term_builder.specs.VariantTerms.{later, governs}
 
 -- a condition that holds, and none of the later definitions' that was gathered, is the formula that governs
-pub governs-is : (variant : Text) (f said some none : Statement) (rows : List VariantRow) (fs start parts : List Statement) → said ≡ f
-    → start ≡ [] → parts ≡ start ++ later variant rows fs → some ≡ any_of parts → none ≡ opposite some
-    → both said none ≡ governs variant f rows fs
-governs-is variant f said some none rows fs start parts s z p a n =
+pub governs-is : (variant : Text) (f said none : Statement) (rows : List VariantRow) (fs start parts : List Statement) → said ≡ f
+    → start ≡ [] → parts ≡ start ++ later variant rows fs → none ≡ none_among parts → both_statements said none ≡ governs variant f rows fs
+governs-is variant f said none rows fs start parts s z p n =
     let is : parts ≡ later variant rows fs = p ∙ ap (λ ts. ts ++ later variant rows fs) z in
-    let last : none ≡ no (any_of (later variant rows fs)) = n ∙ ap opposite (a ∙ ap any_of is) ∙ opposite-any (later variant rows fs) in
-    λ i. both (s i) (last i)
+    let last : none ≡ none_among (later variant rows fs) = n ∙ ap none_among is in
+    λ i. both_statements (s i) (last i)
+
+-- no block is cut off
+pub blocks-none : (times size : ℕ) (fs : List Statement) → times ≡ 0 → blocks_of times size fs ≡ fs
+unfolding blocks_of
+blocks-none times size fs e = rw e refl
+
+pub blocks-short : (times size : ℕ) (fs : List Statement) → (times ≡ 0 → ⊥) → length fs < size
+    → blocks_of times size fs ≡ blocks_of (times - 1) (size / 2) fs
+unfolding blocks_of
+blocks-short zero size fs some lt = absurd (some refl)
+blocks-short (suc times) size fs some lt =
+    let short : nat_lt (length fs) size ≡ true = grind (arith, nat_tests) in
+    let less : suc times - 1 ≡ times = omega arith in
+    rw (short, less) refl
+
+-- one is
+pub blocks-cut : (times size : ℕ) (fs : List Statement) → (times ≡ 0 → ⊥) → (length fs < size → ⊥)
+    → blocks_of times size fs ≡ block_of (drop (length fs - size) fs) ∷ blocks_of (times - 1) (size / 2) (take (length fs - size) fs)
+unfolding blocks_of
+blocks-cut zero size fs some ge = absurd (some refl)
+blocks-cut (suc times) size fs some ge =
+    let long : nat_lt (length fs) size ≡ false = grind (arith, nat_tests) in
+    let less : suc times - 1 ≡ times = omega arith in
+    rw (long, less) refl
+
+-- the block is pushed, and the blocks of what is left stand behind it
+pub blocks-joined : (old pushed fs front back : List Statement) (times size : ℕ) (block : Statement) → (times ≡ 0 → ⊥)
+    → (length fs < size → ⊥)
+    → front ≡ take (length fs - size) fs → back ≡ drop (length fs - size) fs → block ≡ block_of back → pushed ≡ old ++ block ∷ []
+    → pushed ++ blocks_of (times - 1) (size / 2) front ≡ old ++ blocks_of times size fs
+blocks-joined old pushed fs front back times size block some ge f b k p =
+    ap (λ gs. gs ++ blocks_of (times - 1) (size / 2) front) p
+    ∙ append_assoc old (block ∷ []) (blocks_of (times - 1) (size / 2) front)
+    ∙ ap (λ gs. old ++ block ∷ blocks_of (times - 1) (size / 2) gs) f
+    ∙ ap (λ g. old ++ g ∷ blocks_of (times - 1) (size / 2) (take (length fs - size) fs)) (k ∙ ap block_of b)
+    ∙ ap (λ gs. old ++ gs) (sym (blocks-cut times size fs some ge))

@@ -2,7 +2,7 @@
 use Rattle.std.specs.Prelude.{List, [], Option, Some, None, find, map}
 use Rattle.std.specs.Str.{bytes_eq}
 use Rattle.clause_formulas.specs.declared.defined.Defined.{Defined}
-use Rattle.clause_formulas.specs.Drafts.{said_of}
+use Rattle.clause_formulas.specs.Drafts.{statement_of}
 use Rattle.graph_core.specs.Graphs.{Text}
 use Rattle.cost_terms.specs.Terms.{Held}
 
@@ -16,4 +16,4 @@ defined_in (Some h) = h.1
 
 -- the formulas of the first that is given for a name; none where the name is not there
 abbrev pub held_in : List HeldRow → Held
-held_in held name = map said_of (defined_in (find (λ h. bytes_eq name h.0) held))
+held_in held name = map statement_of (defined_in (find (λ h. bytes_eq name h.0) held))

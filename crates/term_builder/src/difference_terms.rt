@@ -2,9 +2,9 @@
 ghost use Rattle.std.specs.Prelude.{◌≡◌, ◌++◌, ◌∷◌, [], map, not, is_some, IfOk, OnOk};
 ghost use Rattle.std.specs.List.{list_any, list_all};
 ghost use Rattle.std.specs.Str.{bytes_eq};
-ghost use Rattle.clause_formulas.specs.Statements.{atom, never, no, both, any_of, all_of};
+ghost use Rattle.clause_formulas.specs.Statements.{atom, never, no, both_statements, any_statement, all_statements};
 ghost use Rattle.literal_table.specs.Choices.{any_choice as any_choice_on};
-ghost use Rattle.cost_terms.specs.Differ.{is_text, is_some_compiler, same_compilers, filled_said, can_differ, differ, differ_terms};
+ghost use Rattle.cost_terms.specs.Differ.{is_any_text, is_some_compiler, same_compilers, filled_said, can_differ, differ, differ_terms};
 
 use clause_formulas::Formula;
 use clause_store::Lit;
@@ -34,7 +34,7 @@ fn push_differ(
     ensures { OnOk result (terms.new.items ≡ terms.old.items ++ record {
       weight = 1;
       formula =
-          all_of (there ∷ left ∷ right ∷ no (any_of same.items) ∷ []);
+          all_statements (there ∷ left ∷ right ∷ no (any_statement same.items) ∷ []);
     } ∷ []) }
 {
     let mut parts = Vec::new(alloc);
@@ -56,7 +56,7 @@ fn same_texts(
     ys: &[(Word, Lit)],
 ) -> Result<Vec<Formula>, AllocError>
     ensures { IfOk result (λ parts. parts.items
-        ≡ map (λ x. both (atom x.1) (any_choice_on (bytes_eq x.0) ys.now)) xs.now) }
+        ≡ map (λ x. both_statements (atom x.1) (any_choice_on (bytes_eq x.0) ys.now)) xs.now) }
 {
     let mut parts = Vec::new(alloc);
     for x in xs {
@@ -73,13 +73,13 @@ fn any_text(alloc: Global, text: &str, ys: &[(Word, Lit)]) -> Result<Formula, Al
 }
 
 fn differs_from(x: &str, ys: &[(Word, Lit)]) -> bool
-    ensures { result ≡ list_any (λ y. differ is_text bytes_eq x.now y.0) ys.now }
+    ensures { result ≡ list_any (λ y. differ is_any_text bytes_eq x.now y.0) ys.now }
 {
     ys.iter().any(|y| !(x == y.0.as_str()))
 }
 
 fn can_texts_differ(xs: &[(Word, Lit)], ys: &[(Word, Lit)]) -> bool
-    ensures { result ≡ can_differ is_text bytes_eq xs.now ys.now }
+    ensures { result ≡ can_differ is_any_text bytes_eq xs.now ys.now }
 {
     xs.iter().any(|x| differs_from(x.0.as_str(), ys))
 }
@@ -93,7 +93,7 @@ pub fn push_texts_differ(
     ys: &[(Word, Lit)],
 ) -> Result<(), AllocError>
     ensures { OnOk result (terms.new.items ≡ terms.old.items
-        ++ differ_terms is_text bytes_eq there xs.now ys.now) }
+        ++ differ_terms is_any_text bytes_eq there xs.now ys.now) }
 {
     if !can_texts_differ(xs, ys) {
         return Ok(());
@@ -145,7 +145,8 @@ fn same_compiler_parts(
     ys: &[(Option<Compiler>, Lit)],
 ) -> Result<Vec<Formula>, AllocError>
     ensures { IfOk result (λ parts. parts.items
-        ≡ map (λ x. both (atom x.1) (any_choice_on (same_compilers x.0) ys.now)) xs.now) }
+        ≡ map (λ x. both_statements (atom x.1) (any_choice_on (same_compilers x.0) ys.now))
+        xs.now) }
 {
     let mut parts = Vec::new(alloc);
     for x in xs {

@@ -1,11 +1,18 @@
 //! Which definition of a variant governs.
 ghost use Rattle.std.specs.Prelude.{◌≡◌, ◌++◌, map, IfOk, OnOk};
-ghost use Rattle.clause_formulas.specs.Drafts.{said_of};
+ghost use Rattle.clause_formulas.specs.Drafts.{statement_of};
+ghost use Rattle.cost_terms.specs.Blocks.{block_of, blocks_of, none_among};
 ghost use Rattle.term_builder.specs.VariantTerms.{said_if, later, governs};
 
 use clause_formulas::{Defined, Formula};
 use recipe_data::VariantRow;
 use std::alloc::{AllocError, Global};
+
+/// How many sizes blocks have, each half of the one before.
+const SIZES: usize = 25;
+
+/// The size of the largest block: there are at most twice as many definitions.
+const LARGEST: usize = 134_217_728;
 
 // A condition, if it counts.
 fn push_said(
@@ -15,7 +22,7 @@ fn push_said(
     condition: Defined,
 ) -> Result<(), AllocError>
     ensures { OnOk result (parts.new.items ≡ parts.old.items
-        ++ said_if counts (said_of condition)) }
+        ++ said_if counts (statement_of condition)) }
 {
     if !counts {
         return Ok(());
@@ -33,7 +40,7 @@ fn push_later(
     conditions: &[Defined],
 ) -> Result<(), AllocError>
     ensures { OnOk result (parts.new.items ≡ parts.old.items
-        ++ later variant.now rows.now (map said_of conditions.now)) }
+        ++ later variant.now rows.now (map statement_of conditions.now)) }
 {
     let mut left = conditions;
     for row in rows {
@@ -46,6 +53,58 @@ fn push_later(
     Ok(())
 }
 
+// Some formula of the list, behind a gate.
+fn block(alloc: Global, parts: Vec<Formula>) -> Result<Formula, AllocError>
+    ensures { IfOk result (λ formula. formula ≡ block_of parts.items) }
+{
+    let mut whole = Vec::new(alloc);
+    whole.push(Formula::any(parts))?;
+    Formula::all(alloc, whole)
+}
+
+fn push_all(blocks: &mut Vec<Formula>, parts: Vec<Formula>) -> Result<(), AllocError>
+    ensures { OnOk result (blocks.new.items ≡ blocks.old.items ++ parts.items) }
+{
+    for part in parts {
+        blocks.push(part)?;
+    }
+    Ok(())
+}
+
+// Blocks of formulas, each cut off at the end of those that are left, and what is too short for a
+// block. It calls itself for each size, so `SIZES` times.
+fn push_blocks(
+    alloc: Global,
+    blocks: &mut Vec<Formula>,
+    parts: Vec<Formula>,
+    times: usize,
+    size: usize,
+) -> Result<(), AllocError>
+    ensures { OnOk result (blocks.new.items ≡ blocks.old.items
+        ++ blocks_of times size parts.items) }
+{
+    if times == 0 {
+        return push_all(blocks, parts);
+    }
+    if parts.len() < size {
+        return push_blocks(alloc, blocks, parts, times - 1, size / 2);
+    }
+    let mut front = parts;
+    let back = front.split_off(front.len() - size)?;
+    blocks.push(block(alloc, back)?)?;
+    push_blocks(alloc, blocks, front, times - 1, size / 2)
+}
+
+// None of the formulas is true. Lists with one end have blocks in common, whose gates are made once:
+// so n lists, each without the first of the one before, take some n log n literals.
+fn none_among(alloc: Global, parts: Vec<Formula>) -> Result<Formula, AllocError>
+    ensures { IfOk result (λ formula. formula ≡ none_among parts.items) }
+{
+    let mut blocks = Vec::new(alloc);
+    push_blocks(alloc, &mut blocks, parts, SIZES, LARGEST)?;
+    Ok(Formula::any(blocks).negated())
+}
+
 /// The condition holds, and none of the variant's later definitions.
 pub(crate) fn governs(
     alloc: Global,
@@ -55,10 +114,10 @@ pub(crate) fn governs(
     conditions: &[Defined],
 ) -> Result<Formula, AllocError>
     ensures { IfOk result (λ formula. formula
-        ≡ governs variant.now (said_of condition) rows.now (map said_of conditions.now)) }
+        ≡ governs variant.now (statement_of condition) rows.now (map statement_of conditions.now)) }
 {
     let mut parts = Vec::new(alloc);
     push_later(alloc, &mut parts, variant, rows, conditions)?;
-    let none = Formula::any(parts).negated();
+    let none = none_among(alloc, parts)?;
     Formula::both(alloc, Formula::of(alloc, condition), none)
 }

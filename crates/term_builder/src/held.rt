@@ -2,7 +2,7 @@
 ghost use Rattle.std.specs.Prelude.{◌≡◌, find, map};
 ghost use Rattle.std.specs.Option.{option_copied};
 ghost use Rattle.std.specs.Str.{bytes_eq};
-ghost use Rattle.clause_formulas.specs.Drafts.{said_of};
+ghost use Rattle.clause_formulas.specs.Drafts.{statement_of};
 ghost use Rattle.term_builder.specs.Held.{defined_in, held_in};
 
 use clause_formulas::Defined;
@@ -25,7 +25,7 @@ fn defined_in(found: Option<&(Word, List<Defined>)>) -> &[Defined]
 
 /// The values of the conditions that are given for a name; none where the name is not there.
 pub(crate) fn conditions_at<'a>(held: &'a [(Word, List<Defined>)], name: &str) -> &'a [Defined]
-    ensures { map said_of result.now ≡ held_in held.now name.now }
+    ensures { map statement_of result.now ≡ held_in held.now name.now }
 {
     defined_in(found(held, name))
 }

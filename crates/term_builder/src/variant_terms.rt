@@ -1,11 +1,11 @@
 //! The terms of the values of variants.
 ghost use Rattle.std.specs.Prelude.{◌≡◌, ◌++◌, ◌∷◌, [], map, not, true, IfOk, OnOk};
 ghost use Rattle.std.specs.Str.{bytes_eq};
-ghost use Rattle.condition_rules.specs.Words.{among};
-ghost use Rattle.clause_formulas.specs.Statements.{atom, both, all_of, no};
-ghost use Rattle.clause_formulas.specs.Drafts.{said_of};
+ghost use Rattle.condition_rules.specs.Words.{is_one_text};
+ghost use Rattle.clause_formulas.specs.Statements.{atom, both_statements, all_statements, no};
+ghost use Rattle.clause_formulas.specs.Drafts.{statement_of};
 ghost use Rattle.literal_table.specs.Choices.{any_choice as any_choice_on};
-ghost use Rattle.cost_terms.specs.Governing.{once, other_terms, unused_terms, with_formulas, variant_terms};
+ghost use Rattle.cost_terms.specs.Governing.{weighed_once, other_terms, unused_terms, with_formulas, variant_terms};
 ghost use Rattle.cost_terms.specs.Terms.{over_variants_terms};
 ghost use Rattle.term_builder.specs.Tests.{only_if};
 ghost use Rattle.term_builder.specs.VariantTerms.{governs, counted_terms, terms_if};
@@ -29,7 +29,7 @@ pub enum Counted {
 }
 
 fn among(texts: &[Word], text: &str) -> bool
-    ensures { result ≡ among texts.now text.now }
+    ensures { result ≡ is_one_text texts.now text.now }
 {
     texts.iter().any(|other| text == other.as_str())
 }
@@ -48,8 +48,9 @@ fn push_other(
     conditions: &[Defined],
 ) -> Result<(), AllocError>
     ensures { OnOk result (terms.new.items ≡ terms.old.items
-        ++ only_if counts (once (both (atom value)
-        (governs variant.now (said_of condition) rows.now (map said_of conditions.now))))) }
+        ++ only_if counts (weighed_once (both_statements (atom value)
+        (governs variant.now (statement_of condition) rows.now
+        (map statement_of conditions.now))))) }
 {
     if !counts {
         return Ok(());
@@ -71,8 +72,11 @@ fn push_others(
     conditions: &[Defined],
     values: &[(Word, Lit)],
 ) -> Result<(), AllocError>
-    ensures { OnOk result (terms.new.items ≡ terms.old.items ++ other_terms
-        (row.now, governs variant.now (said_of condition) rows.now (map said_of conditions.now))
+    ensures { OnOk result (terms.new.items ≡ terms.old.items ++ other_terms (
+      row.now,
+      governs variant.now (statement_of condition) rows.now
+          (map statement_of conditions.now),
+    )
         values.now) }
 {
     for choice in values {
@@ -105,7 +109,8 @@ fn unused_said(
     governing: Formula,
     values: &[(Word, Lit)],
 ) -> Result<Formula, AllocError>
-    ensures { IfOk result (λ formula. formula ≡ all_of (any_choice_on (λ value. true) values.now
+    ensures { IfOk result (λ formula. formula
+        ≡ all_statements (any_choice_on (λ value. true) values.now
         ∷ governing ∷ no (any_choice_on (bytes_eq text.now) values.now) ∷ [])) }
 {
     let mut parts = Vec::new(alloc);
@@ -126,8 +131,11 @@ fn push_unused(
     conditions: &[Defined],
     values: &[(Word, Lit)],
 ) -> Result<(), AllocError>
-    ensures { OnOk result (terms.new.items ≡ terms.old.items ++ unused_terms
-        (row.now, governs variant.now (said_of condition) rows.now (map said_of conditions.now))
+    ensures { OnOk result (terms.new.items ≡ terms.old.items ++ unused_terms (
+      row.now,
+      governs variant.now (statement_of condition) rows.now
+          (map statement_of conditions.now),
+    )
         values.now) }
 {
     for text in row.default.values() {
@@ -153,8 +161,11 @@ fn push_counted(
     values: &[(Word, Lit)],
 ) -> Result<(), AllocError>
     ensures { OnOk result (terms.new.items ≡ terms.old.items
-        ++ terms_if (bytes_eq row.now.name variant.now) which
-        (row.now, governs variant.now (said_of condition) rows.now (map said_of conditions.now))
+        ++ terms_if (bytes_eq row.now.name variant.now) which (
+          row.now,
+          governs variant.now (statement_of condition) rows.now
+              (map statement_of conditions.now),
+        )
         values.now) }
 {
     if row.name.as_str() != variant {
@@ -181,7 +192,8 @@ fn push_variant(
     values: &[(Word, Lit)],
 ) -> Result<(), AllocError>
     ensures { OnOk result (terms.new.items ≡ terms.old.items
-        ++ variant_terms (counted_terms which) (with_formulas rows.now (map said_of conditions.now))
+        ++ variant_terms (counted_terms which)
+        (with_formulas rows.now (map statement_of conditions.now))
         (variant.now, values.now)) }
 {
     let mut left = conditions;
@@ -217,7 +229,7 @@ pub fn push_variants(
 ) -> Result<(), AllocError>
     ensures { OnOk result (terms.new.items ≡ terms.old.items
         ++ over_variants_terms (counted_terms which) problem.now
-        (λ name. map said_of conditions.now) block.now) }
+        (λ name. map statement_of conditions.now) block.now) }
 {
     let rows = variants_at(problem, block.name.as_str());
     for variant in block.variants.as_slice() {

@@ -4,7 +4,7 @@ use Rattle.std.proofs.lemmas.List.{append-nil}
 use Rattle.outside_desk.specs.Files.{Files}
 use Rattle.std.specs.FinMap.{insert}
 use Rattle.trial_input.specs.Recipes.{version_line, version_lines, dependency, dependencies, recipe}
-use Rattle.trial_input.specs.Inputs.{recipe_path, with_recipes}
+use Rattle.trial_input.specs.Inputs.{trial_recipe_path, with_recipes}
 
 all_left : (n : ℕ) → n - 0 ≡ n
 all_left n = omega arith
@@ -96,10 +96,12 @@ recipes_start packages own n state files = rw (all_left n, at_start own) refl
 
 -- a recipe more
 pub more_recipes : (packages own i n state : ℕ) (files : Files) → i < n
-    → recipes_left packages own (i + 1) n (recipe packages (own + i) state).state (insert files (recipe_path (own + i)) (recipe packages (own + i) state).text)
+    → recipes_left packages own (i + 1) n (recipe packages (own + i) state).state
+    (insert files (trial_recipe_path (own + i)) (recipe packages (own + i) state).text)
     ≡ recipes_left packages own i n state files
 more_recipes packages own i n state files lt =
-    ap (λ s. with_recipes packages s (n - (i + 1)) (recipe packages (own + i) state).state (insert files (recipe_path (own + i)) (recipe packages (own + i) state).text)) (one_on own i)
+    ap (λ s. with_recipes packages s (n - (i + 1)) (recipe packages (own + i) state).state
+    (insert files (trial_recipe_path (own + i)) (recipe packages (own + i) state).text)) (one_on own i)
     ∙ ap (λ m. with_recipes packages (own + i) m state files) (sym (one_left i n lt))
 
 -- at the end none is left

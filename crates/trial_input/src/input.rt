@@ -2,7 +2,7 @@
 
 ghost use Rattle.std.specs.Prelude.{◌≡◌, ◌≤◌, ◌+◌, [], IfOk, OnOk};
 ghost use Rattle.std.specs.String.{string_bytes};
-ghost use Rattle.trial_input.specs.Inputs.{recipe_path, with_recipes, input_files};
+ghost use Rattle.trial_input.specs.Inputs.{trial_recipe_path, with_recipes, input_files};
 ghost use Rattle.trial_input.specs.Recipes.{recipe};
 
 use crate::draws::Draws;
@@ -10,9 +10,9 @@ use crate::recipes::write_recipe;
 use outside_desk::SteadyDesk;
 use std::alloc::{AllocError, Global};
 
-#[tactic(auto, unfolding(crate::specs::Inputs::recipe_path))]
+#[tactic(auto, unfolding(crate::specs::Inputs::trial_recipe_path))]
 fn recipe_path(alloc: Global, own: u64) -> Result<String, AllocError>
-    ensures { IfOk result (λ path. string_bytes path ≡ recipe_path own) }
+    ensures { IfOk result (λ path. string_bytes path ≡ trial_recipe_path own) }
 {
     format!(in alloc; "repo/packages/p{own}/package.py")
 }

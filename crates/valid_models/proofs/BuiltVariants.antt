@@ -4,12 +4,12 @@ use Rattle.std.specs.List.{list_all, list_any}
 use Rattle.std.proofs.lemmas.Bool.{cases_Bool, or_left, or_right}
 use Rattle.clause_store.specs.Lits.{lit_true}
 use Rattle.clause_formulas.specs.Statements.{Statement, eval}
-use Rattle.clause_formulas.specs.Rules.{Rule, keeps_rule}
+use Rattle.clause_formulas.specs.Rules.{Proposition, keeps_rule}
 use Rattle.clause_formulas.proofs.RuleLaws.{rule-said}
 use Rattle.graph_core.specs.Graphs.{Text, Content, node_of}
 use Rattle.graph_core.specs.declared.node.Node.{Node}
 use Rattle.graph_core.specs.declared.node.Origin.{Origin}
-use Rattle.condition_rules.specs.Words.{among, implies, if_written, is_some_and}
+use Rattle.condition_rules.specs.Words.{is_one_text, implies, if_written, is_some_and}
 use Rattle.recipe_data.specs.declared.recipe.Condition.{Condition}
 use Rattle.problem.specs.Nodes.{is_built}
 use Rattle.problem.specs.Problems.{Problem, world_of, variants_at}
@@ -17,17 +17,17 @@ use Rattle.graph_rules.specs.Built.{keeps_variant}
 use Rattle.graph_rules.specs.Valid.{keeps}
 use Rattle.graph_rules.specs.declared.rule.Rule.TheVariants as rules
 use Rattle.graph_rules.proofs.Lists.{In}
-use Rattle.literal_table.specs.Choices.{Choices, chosen, offered}
-use Rattle.literal_table.specs.Tables.{Table, block_of, names_of}
+use Rattle.literal_table.specs.Choices.{Choices, chosen, choice_values}
+use Rattle.literal_table.specs.Tables.{Table, block_of, table_names}
 use Rattle.literal_table.specs.Spells.{SpellsNode, SpellsAt}
 use Rattle.literal_table.specs.declared.block.Block.{Block}
 use Rattle.literal_table.proofs.Spelling.{named-so}
-use Rattle.graph_formulas.specs.Facts.{Word, word_said, is_in}
+use Rattle.graph_formulas.specs.Facts.{GraphWord, word_said, is_in}
 use Rattle.graph_formulas.specs.Words.{names_for}
 use Rattle.graph_formulas.proofs.WordsSaid.{word-said}
 use Rattle.graph_formulas.proofs.Rules.{each-kept}
 use Rattle.graph_formulas.proofs.Kept.{by_node}
-use Rattle.graph_formulas.specs.Terms.{Term, known, met, is_true, term_said, builds, where_built}
+use Rattle.graph_formulas.specs.Terms.{Term, known, met, is_true, term_said, builds_node, where_built}
 use Rattle.graph_formulas.specs.Variants.{variant_rule, variants_rule, keeps_one_variant}
 use Rattle.graph_formulas.specs.Laws.{SpellsProblem, rule_says, variants_in, variants_of}
 use Rattle.graph_formulas.proofs.Names.{all-same, each-node-said}
@@ -37,11 +37,12 @@ use Rattle.graph_formulas.proofs.RulesSaid.{all-among}
 use Rattle.valid_models.specs.Joined.{HasBuiltVariants}
 
 -- what is chosen is offered
-any-offered : {T : Type 0} (v : ℕ → Bool) (p : T → Bool) (cs : Choices T) → list_any p (chosen v cs) ≡ true → list_any p (offered cs) ≡ true
+any-offered : {T : Type 0} (v : ℕ → Bool) (p : T → Bool) (cs : Choices T) → list_any p (chosen v cs) ≡ true
+    → list_any p (choice_values cs) ≡ true
 any-offered v p [] h = h
 any-offered v p (c ∷ cs) h = elim (cases_Bool (lit_true v c.1)) [
-  | inl t ↦ any-offered-cases (p c.0) (list_any p (chosen v cs)) (list_any p (offered cs)) (any-offered v p cs) (rw t at h)
-  | inr f ↦ or_right (p c.0) (list_any p (offered cs)) (any-offered v p cs (rw f at h))
+  | inl t ↦ any-offered-cases (p c.0) (list_any p (chosen v cs)) (list_any p (choice_values cs)) (any-offered v p cs) (rw t at h)
+  | inr f ↦ or_right (p c.0) (list_any p (choice_values cs)) (any-offered v p cs (rw f at h))
 ]
   where
     any-offered-cases : (a b c : Bool) → (b ≡ true → c ≡ true) → (a || b) ≡ true → (a || c) ≡ true
@@ -54,12 +55,14 @@ module _ (problem : Problem) (v : ℕ → Bool) (path : Text → Text → Statem
   term-said (known rule) = rule-said v (word_said path table) (is_in graph) (word-said v path table graph s.whole) rule
   term-said (met name when) = s.conditions name when
 
-  abbrev holds_here : Rule Term → Bool
+  abbrev holds_here : Proposition Term → Bool
   holds_here rule = keeps_rule (is_true (world_of problem) graph) rule
 
   -- a built node's block offers to build it
-  offers : (b : Block) (node : Node) → SpellsNode v b (Some node) → is_built node ≡ true → list_any builds (offered b.origins) ≡ true
-  offers b node spells built = any-offered v builds b.origins (subst (λ xs. list_any builds xs ≡ true) (sym spells.origin) (or_left (builds node.origin) false built))
+  offers : (b : Block) (node : Node) → SpellsNode v b (Some node) → is_built node ≡ true
+      → list_any builds_node (choice_values b.origins) ≡ true
+  offers b node spells built = any-offered v builds_node b.origins
+      (subst (λ xs. list_any builds_node xs ≡ true) (sym spells.origin) (or_left (builds_node node.origin) false built))
 
   at-block : (name : Text) (node : Node) → node_of graph name ≡ Some node → is_built node ≡ true → (c : Option Block) → block_of table name ≡ c
       → SpellsAt v c (node_of graph name) → keeps_variant problem graph node ≡ list_all (keeps_one_variant problem graph node) (variants_of table name)
@@ -67,8 +70,10 @@ module _ (problem : Problem) (v : ℕ → Bool) (path : Text → Text → Statem
   at-block name node here built (Some b) is spells =
       let spelled : SpellsNode v b (Some node) = subst (SpellsNode v b) here spells in
       spelled-variants problem graph v b node (variants_of table name) spelled
-      (subst (λ o. list_all (among (variants_in o)) (map (λ u. u.0) b.variants) ≡ true) (sym is) (all-among (map (λ u. u.0) b.variants)))
-      (subst (λ n. list_all (among (variants_of table name)) (map (λ row. row.name) (variants_at problem n)) ≡ true) (sym (named-so graph name node here))
+      (subst (λ o. list_all (is_one_text (variants_in o)) (map (λ u. u.0) b.variants) ≡ true) (sym is)
+      (all-among (map (λ u. u.0) b.variants)))
+      (subst (λ n. list_all (is_one_text (variants_of table name)) (map (λ row. row.name) (variants_at problem n)) ≡ true)
+      (sym (named-so graph name node here))
       (has name b is (offers b node spelled built)))
 
   at-node : (name : Text) (node : Node) → node_of graph name ≡ Some node → is_built node ≡ true
@@ -92,9 +97,11 @@ module _ (problem : Problem) (v : ℕ → Bool) (path : Text → Text → Statem
       at-name-cases node false h = refl
 
   -- the formulas of variants say whether the graph keeps the rule
-  pub all-built-variant : list_all (λ name. rule_says v path condition table (where_built name (variants_rule problem (variants_of table name) name))) (names_of table)
+  pub all-built-variant : list_all (λ name. rule_says v path condition table
+      (where_built name (variants_rule problem (variants_of table name) name))) (table_names table)
       ≡ keeps rules.Variant problem graph
   unfolding keeps
   all-built-variant =
-      all-same _ (λ name. if_written (node_of graph name) (λ node. implies (is_built node) (keeps_variant problem graph node))) at-name (names_of table)
+      all-same _ (λ name. if_written (node_of graph name) (λ node. implies (is_built node) (keeps_variant problem graph node))) at-name
+      (table_names table)
       ∙ sym (each-node-said v table graph s.whole.facts s.is_table s.is_graph (λ node. implies (is_built node) (keeps_variant problem graph node)))

@@ -10,7 +10,7 @@ use Rattle.version_order.specs.Sets.{set_contains}
 use Rattle.spec_grammar.specs.declared.part.Part.{Part}
 use Rattle.spec_grammar.specs.declared.part.Spec.{Spec}
 use Rattle.clause_formulas.specs.Statements.{Statement, eval}
-use Rattle.clause_formulas.specs.Rules.{Rule, fact, nowhere}
+use Rattle.clause_formulas.specs.Rules.{Proposition, fact, nowhere}
 use Rattle.graph_core.specs.Graphs.{Text}
 use Rattle.virtuals.specs.Virtuals.{is_virtual}
 use Rattle.condition_rules.specs.Words.{if_written, is_some_and}
@@ -19,8 +19,8 @@ use Rattle.condition_rules.specs.Meets.{meets_platform, lists_overlap, is_compil
 use Rattle.recipe_data.specs.declared.recipe.Condition.{Condition}
 use Rattle.recipe_data.specs.declared.recipe.ProvideRow.{ProvideRow}
 use Rattle.literal_table.specs.Tables.{Table}
-use Rattle.graph_formulas.specs.Facts.{Word, word_said, node_has, has_version, has_variant, has_value, has_compiler, has_os, has_target, has_path, provides_as}
-use Rattle.graph_formulas.specs.Lists.{◌and◌, given, unless, is_filled, written, named, each, some}
+use Rattle.graph_formulas.specs.Facts.{GraphWord, word_said, node_has, has_version, has_variant, has_value, has_compiler, has_os, has_target, has_path, provides_as}
+use Rattle.graph_formulas.specs.Lists.{◌and◌, settled_test, asked_unless, is_filled, where_written, one_keeps, each_keeps, some}
 use Rattle.graph_formulas.specs.Parts.{there_rule, values_rule, asks_fact, rest_rule, meets_rule, tops_rule, row_rule, provides_rule, asked_rule, suits_rule, below_rule, holds_rule, condition_rule}
 use Rattle.graph_encoding.specs.Formulas.{PathFormulas}
 use Rattle.valid_models.specs.Targets.{asked_names, spec_names, condition_names}
@@ -34,7 +34,7 @@ all-flat p f (x ∷ xs) = list_all-append p (f x) (flat_map f xs) ∙ rw (all-fl
 module _ (v : ℕ → Bool) (t : Table) (path other : PathFormulas) (told : Text → Bool)
     (same : (from to : Text) → told to ≡ true → eval v (path from to) ≡ eval v (other from to)) where
   -- the word says the same under both formulas of paths
-  abbrev pub Alike : Word → Type 0
+  abbrev pub Alike : GraphWord → Type 0
   Alike w = eval v (word_said path t w) ≡ eval v (word_said other t w)
 
   module _ (world : World) where
@@ -84,7 +84,8 @@ module _ (v : ℕ → Bool) (t : Table) (path other : PathFormulas) (told : Text
 
     module _ (packages : Text → List Text) where
       -- of the node that a name asks for
-      pub asked-alike : (asked : Text) (rule : Text → Rule Word) → ((name : Text) → AllWords Alike (rule name)) → AllWords Alike (asked_rule world packages asked rule)
+      pub asked-alike : (asked : Text) (rule : Text → Proposition GraphWord) → ((name : Text) → AllWords Alike (rule name))
+          → AllWords Alike (asked_rule world packages asked rule)
       asked-alike asked rule h = asked-alike-cases (is_virtual world.recipes asked)
         where
           asked-alike-cases : (b : Bool) → AllWords Alike (if b then some (λ name. fact (provides_as asked name) and rule name) (packages asked) else rule asked)
@@ -113,7 +114,9 @@ module _ (v : ℕ → Bool) (t : Table) (path other : PathFormulas) (told : Text
       below-alike from part e = below-alike-cases part.name e
         where
           below-alike-cases : (o : Option Text) → list_all told (asked_names world packages o) ≡ true
-              → AllWords Alike (named o (λ asked. asked_rule world packages asked (λ name. suits_rule world part asked name and fact (has_path from name))))
+              → AllWords Alike
+              (one_keeps o (λ asked. asked_rule world packages asked
+              (λ name. suits_rule world part asked name and fact (has_path from name))))
           below-alike-cases None h = tt
           below-alike-cases (Some asked) h = below-rule from part asked (is_virtual world.recipes asked) h
 

@@ -3,23 +3,23 @@ use Rattle.std.proofs.Common.{◌≡◌, refl, Bool, true, false, ℕ, List, [],
 use Rattle.std.specs.Prelude.{◌&&◌, slice_get, is_some}
 use Rattle.std.specs.Str.{bytes_eq}
 use Rattle.clause_formulas.specs.Statements.{Statement, eval}
-use Rattle.clause_formulas.specs.Rules.{Rule, fact, isnt, if_so}
+use Rattle.clause_formulas.specs.Rules.{Proposition, fact, isnt, if_so}
 use Rattle.graph_core.specs.Graphs.{Text}
 use Rattle.graph_core.specs.declared.node.Node.{Node}
 use Rattle.graph_core.specs.declared.node.Kinds.{Kinds}
 use Rattle.graph_core.specs.declared.node.Origin.{Origin}
 use Rattle.graph_core.specs.declared.node.Origin.TheVariants.{Built, External, Installed}
-use Rattle.condition_rules.specs.Words.{among}
+use Rattle.condition_rules.specs.Words.{is_one_text}
 use Rattle.site_settings.specs.declared.settings.CompilerEntry.{CompilerEntry}
-use Rattle.problem.specs.Problems.{Problem, world_of, entry_of, externals_in, record_at, recipe_at, is_buildable_in}
+use Rattle.problem.specs.Problems.{Problem, world_of, package_entry_of, externals_in, record_at, recipe_at, is_buildable_in}
 use Rattle.problem.specs.Records.{kept_dependencies}
 use Rattle.reuse_db.specs.declared.record.Record.{Record}
 use Rattle.graph_rules.specs.Kept.{external_node, installed_node}
 use Rattle.literal_table.specs.Tables.{Table}
-use Rattle.graph_formulas.specs.Facts.{Word, node_has, has_origin, has_os, has_target, has_edge}
-use Rattle.graph_formulas.specs.Lists.{◌and◌, given, written, named, each}
+use Rattle.graph_formulas.specs.Facts.{GraphWord, node_has, has_origin, has_os, has_target, has_edge}
+use Rattle.graph_formulas.specs.Lists.{◌and◌, settled_test, where_written, one_keeps, each_keeps}
 use Rattle.graph_formulas.specs.Built.{buildable_rule, version_rule, entry_rule, compiler_rule, machine_rule, provider_rule}
-use Rattle.graph_formulas.specs.Edges.{no_kinds}
+use Rattle.graph_formulas.specs.Edges.{empty_kinds}
 use Rattle.graph_formulas.specs.Kept.{same_origin, installs, same_rule, kinds_rule, is_child_name, child_rule, recorded_rule, origin_rule, kept_rule}
 use Rattle.graph_encoding.specs.Formulas.{PathFormulas}
 use Rattle.valid_models.proofs.Words.{AllWords, given-all, written-all, named-all, each-all, some-all}
@@ -27,12 +27,12 @@ use Rattle.valid_models.proofs.Mentions.{Alike, provides-alike}
 
 module _ (v : ℕ → Bool) (t : Table) (path other : PathFormulas) (told : Text → Bool)
     (same : (from to : Text) → told to ≡ true → eval v (path from to) ≡ eval v (other from to)) (problem : Problem) where
-  abbrev W : Word → Type 0
+  abbrev W : GraphWord → Type 0
   W = Alike v t path other told same
 
   -- the words of the rule of buildable names; so with the other rules
   pub buildable-alike : (name : Text) → AllWords W (buildable_rule problem name)
-  buildable-alike name = given-all W (is_some (recipe_at problem name) && is_buildable_in (entry_of problem name))
+  buildable-alike name = given-all W (is_some (recipe_at problem name) && is_buildable_in (package_entry_of problem name))
 
   pub version-alike : (name : Text) → AllWords W (version_rule problem name)
   version-alike name = refl
@@ -42,8 +42,8 @@ module _ (v : ℕ → Bool) (t : Table) (path other : PathFormulas) (told : Text
       (λ entry. (
         refl,
         (
-          written-all W (λ names. fact (node_has name (has_os (among names)))) (λ names. refl) entry.os,
-          written-all W (λ names. fact (node_has name (has_target (among names)))) (λ names. refl) entry.targets,
+          written-all W (λ names. fact (node_has name (has_os (is_one_text names)))) (λ names. refl) entry.os,
+          written-all W (λ names. fact (node_has name (has_target (is_one_text names)))) (λ names. refl) entry.targets,
         ),
       ))
       problem.settings.compilers
@@ -68,11 +68,14 @@ module _ (v : ℕ → Bool) (t : Table) (path other : PathFormulas) (told : Text
     origin-alike : (name : Text) (origin : Origin) → AllWords W (origin_rule problem children name origin)
     origin-alike name Built = refl
     origin-alike name (External place) = (
-      named-all W (λ entry. same_rule name (external_node problem name place entry)) (λ entry. same-alike name (external_node problem name place entry)) (slice_get (externals_in (entry_of problem name)) place),
-      each-all W (λ child. isnt (fact (has_edge name child no_kinds))) (λ child. refl) children,
+      named-all W (λ entry. same_rule name (external_node problem name place entry))
+          (λ entry. same-alike name (external_node problem name place entry))
+          (slice_get (externals_in (package_entry_of problem name)) place),
+      each-all W (λ child. isnt (fact (has_edge name child empty_kinds))) (λ child. refl) children,
     )
     origin-alike name (Installed hash) = named-all W
-        (λ entry. same_rule name (installed_node entry) and each (child_rule problem children name) (kept_dependencies entry) and each (recorded_rule problem children name entry) children)
+        (λ entry. same_rule name (installed_node entry) and each_keeps (child_rule problem children name) (kept_dependencies entry) and
+        each_keeps (recorded_rule problem children name entry) children)
         (λ entry. (
           (same-alike name (installed_node entry), each-all W (child_rule problem children name) (child-alike name) (kept_dependencies entry)),
           each-all W (recorded_rule problem children name entry) (λ child. (refl, given-all W (is_child_name problem entry child))) children,

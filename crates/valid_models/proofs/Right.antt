@@ -5,9 +5,9 @@ use Rattle.std.specs.List.{list_all}
 use Rattle.std.proofs.lemmas.List.Folds.{list_all-append, list_all-map}
 use Rattle.std.proofs.lemmas.Bool.{and_parts, and_from}
 use Rattle.spec_grammar.specs.declared.part.Spec.{Spec}
-use Rattle.clause_formulas.specs.Statements.{Statement, never, no, eval, all_of, any_of, all_eval, implies, SaidBelow}
+use Rattle.clause_formulas.specs.Statements.{Statement, never, no, eval, all_statements, any_statement, all_eval, implication_of, SaidBelow}
 use Rattle.clause_formulas.specs.Drafts.{part_at}
-use Rattle.clause_formulas.specs.Rules.{Rule}
+use Rattle.clause_formulas.specs.Rules.{Proposition}
 use Rattle.clause_formulas.proofs.RuleLaws.{rule-below}
 use Rattle.clause_formulas.proofs.Words.{eval-all_of, all_of-below}
 use Rattle.clause_formulas.proofs.DraftLaws.{SaidBelow-le}
@@ -23,15 +23,15 @@ use Rattle.graph_rules.specs.Valid.{keeps, keeps_all, keeps_demand}
 use Rattle.graph_rules.specs.declared.rule.Rule.TheVariants as rules
 use Rattle.graph_rules.proofs.Lists.{In, In-map, contains-In, list_all-each}
 use Rattle.literal_table.specs.Tables as tables
-use Rattle.literal_table.specs.Tables.{Table, IsTable, block_of, names_of, children_of}
+use Rattle.literal_table.specs.Tables.{Table, IsTable, block_of, table_names, children_of}
 use Rattle.literal_table.specs.Spells.{Spells}
 use Rattle.literal_table.specs.declared.block.Block.{Block}
-use Rattle.graph_formulas.specs.Facts.{Word, word_said, fact_said, said_in, has_origin}
-use Rattle.graph_formulas.specs.Lists.{given, written}
+use Rattle.graph_formulas.specs.Facts.{GraphWord, word_said, fact_said, said_in, has_origin}
+use Rattle.graph_formulas.specs.Lists.{settled_test, where_written}
 use Rattle.graph_formulas.specs.Words.{SpellsPaths, names_for, rule_said}
 use Rattle.graph_formulas.specs.Parts.{condition_rule, holds_rule}
 use Rattle.graph_formulas.proofs.Parts.{condition-said}
-use Rattle.graph_formulas.specs.Terms.{Term, known, met, term_said, builds, known_rule, where_built, where_there}
+use Rattle.graph_formulas.specs.Terms.{Term, known, met, term_said, builds_node, known_rule, where_built, where_there}
 use Rattle.graph_formulas.specs.Directives.{root_rule}
 use Rattle.graph_formulas.specs.Built.{buildable_rule, version_rule, compiler_rule, machine_rule, provider_rule}
 use Rattle.graph_formulas.specs.Edges.{extra_edges_rule, used_rule, of_provider}
@@ -63,7 +63,8 @@ constant-is v true = refl
 constant-is v false = refl
 
 -- a formula of a list says each
-all-said : {X : Type 0} (v : ℕ → Bool) (f : X → Statement) (xs : List X) → eval v (all_of (map f xs)) ≡ list_all (λ x. eval v (f x)) xs
+all-said : {X : Type 0} (v : ℕ → Bool) (f : X → Statement) (xs : List X)
+    → eval v (all_statements (map f xs)) ≡ list_all (λ x. eval v (f x)) xs
 all-said v f xs = eval-all_of v (map f xs) ∙ all-said-cases xs
   where
     all-said-cases : (xs : List _) → all_eval v (map f xs) ≡ list_all (λ x. eval v (f x)) xs
@@ -79,16 +80,19 @@ all-from : {X : Type 0} (p q : X → Bool) → ((x : X) → p x ≡ true → q x
 all-from p q h [] e = refl
 all-from p q h (x ∷ xs) e = let a = and_parts (p x) (list_all p xs) e in and_from (q x) _ (h x a.0) (all-from p q h xs a.1)
 
-listed-below : {X : Type 0} (m : ℕ) (f : X → Statement) → ((x : X) → SaidBelow m (f x)) → (xs : List X) → SaidBelow m (any_of (map f xs))
+listed-below : {X : Type 0} (m : ℕ) (f : X → Statement) → ((x : X) → SaidBelow m (f x)) → (xs : List X)
+    → SaidBelow m (any_statement (map f xs))
 listed-below m f h [] = tt
 listed-below m f h (x ∷ xs) = (h x, listed-below m f h xs)
 
 -- ---- what is told
 
 module _ (problem : Problem) (t : Table) (told : Text → Bool) (all : list_all told (asked_targets problem t) ≡ true) where
-  parts : (list_all told (flat_map (targets_at problem t) (names_of t)) ≡ true)
+  parts : (list_all told (flat_map (targets_at problem t) (table_names t)) ≡ true)
       × (list_all told (flat_map (spec_names (world_of problem) (names_for t)) problem.roots) ≡ true)
-  parts = and_parts _ _ (sym (list_all-append told (flat_map (targets_at problem t) (names_of t)) (flat_map (spec_names (world_of problem) (names_for t)) problem.roots)) ∙ all)
+  parts = and_parts _ _
+      (sym (list_all-append told (flat_map (targets_at problem t) (table_names t))
+      (flat_map (spec_names (world_of problem) (names_for t)) problem.roots)) ∙ all)
 
   abbrev is_told_name : Text → Bool
   is_told_name name = list_all told (targets_at problem t name)
@@ -96,8 +100,8 @@ module _ (problem : Problem) (t : Table) (told : Text → Bool) (all : list_all 
   abbrev is_told_when : Condition → Bool
   is_told_when when = list_all told (condition_names (world_of problem) (names_for t) when)
 
-  told-names : list_all is_told_name (names_of t) ≡ true
-  told-names = sym (all-flat told (targets_at problem t) (names_of t)) ∙ parts.0
+  told-names : list_all is_told_name (table_names t) ≡ true
+  told-names = sym (all-flat told (targets_at problem t) (table_names t)) ∙ parts.0
 
   told-roots : list_all (λ spec. list_all told (spec_names (world_of problem) (names_for t) spec)) problem.roots ≡ true
   told-roots = sym (all-flat told (spec_names (world_of problem) (names_for t)) problem.roots) ∙ parts.1
@@ -116,8 +120,9 @@ module _ (problem : Problem) (t : Table) (told : Text → Bool) (all : list_all 
 
   told-conditions : list_all is_told_pair (conditions_of problem t) ≡ true
   told-conditions =
-      all-flat is_told_pair (λ name. map (pair_with name) (conditions_at problem name)) (names_of t)
-      ∙ all-from is_told_name (λ name. list_all is_told_pair (map (pair_with name) (conditions_at problem name))) told-at (names_of t) told-names
+      all-flat is_told_pair (λ name. map (pair_with name) (conditions_at problem name)) (table_names t)
+      ∙ all-from is_told_name (λ name. list_all is_told_pair (map (pair_with name) (conditions_at problem name))) told-at
+      (table_names t) told-names
 
   -- ---- one graph
 
@@ -180,58 +185,81 @@ module _ (problem : Problem) (t : Table) (told : Text → Bool) (all : list_all 
       abbrev T : Term → Type 0
       T = terms.TermAlike problem v t path exact told same cond_path cond_exact same-met
 
-      abbrev says_path : Rule Term → Bool
+      abbrev says_path : Proposition Term → Bool
       says_path rule = rule_says v path cond_path t rule
 
-      abbrev says_exact : Rule Term → Bool
+      abbrev says_exact : Proposition Term → Bool
       says_exact rule = rule_says v exact cond_exact t rule
 
-      alike : (rule : Rule Term) → AllWords T rule → says_path rule ≡ says_exact rule
+      alike : (rule : Proposition Term) → AllWords T rule → says_path rule ≡ says_exact rule
       alike rule h = said-alike v (term_said path cond_path t) (term_said exact cond_exact t) rule h
 
-      plainly : (rule : Rule Word) → AllWords (Alike v t path exact told same) rule → T (known rule)
+      plainly : (rule : Proposition GraphWord) → AllWords (Alike v t path exact told same) rule → T (known rule)
       plainly rule h = terms.known-alike problem v t path exact told same cond_path cond_exact same-met rule h
 
       -- one rule at all names that pass a test
-      row-says : (rule : Text → Rule Term) (test : Text → Bool) → ((name : Text) → test name ≡ true → AllWords T (rule name)) → (names : List Text)
+      row-says : (rule : Text → Proposition Term) (test : Text → Bool) → ((name : Text) → test name ≡ true → AllWords T (rule name))
+          → (names : List Text)
           → list_all test names ≡ true → eval v (row_said problem t path cond_path (rule, names)) ≡ list_all (λ name. says_exact (rule name)) names
       row-says rule test h names e =
           all-said v (λ name. term_formula path cond_path t (rule name)) names
           ∙ all-alike (λ name. says_path (rule name)) (λ name. says_exact (rule name)) test (λ name is. alike (rule name) (h name is)) names e
 
       -- at all names
-      row-free : (rule : Text → Rule Term) → ((name : Text) → AllWords T (rule name)) → (names : List Text)
+      row-free : (rule : Text → Proposition Term) → ((name : Text) → AllWords T (rule name)) → (names : List Text)
           → eval v (row_said problem t path cond_path (rule, names)) ≡ list_all (λ name. says_exact (rule name)) names
       row-free rule h names = row-says rule (λ name. true) (λ name is. h name) names (all-true names)
 
-      rules-say : HasBuiltVariants problem t → eval v (all_of (map (row_said problem t path cond_path) (rule_rows problem t))) ≡ keeps_all other_rules problem g
+      rules-say : HasBuiltVariants problem t → eval v (all_statements (map (row_said problem t path cond_path) (rule_rows problem t)))
+          ≡ keeps_all other_rules problem g
       rules-say has =
           all-said v (row_said problem t path cond_path) (rule_rows problem t)
           ∙ rw (
-            row-free (λ name. where_built name (known_rule (buildable_rule problem name))) (λ name. (refl, plainly (buildable_rule problem name) (plain.buildable-alike v t path exact told same problem name))) (names_of t)
+            row-free (λ name. where_built name (known_rule (buildable_rule problem name)))
+                (λ name. (refl, plainly (buildable_rule problem name) (plain.buildable-alike v t path exact told same problem name)))
+                (table_names t)
                 ∙ all-buildable problem v exact cond_exact t g spelled,
-            row-free (λ name. where_built name (known_rule (version_rule problem name))) (λ name. (refl, plainly (version_rule problem name) (plain.version-alike v t path exact told same problem name))) (names_of t)
+            row-free (λ name. where_built name (known_rule (version_rule problem name)))
+                (λ name. (refl, plainly (version_rule problem name) (plain.version-alike v t path exact told same problem name)))
+                (table_names t)
                 ∙ all-version problem v exact cond_exact t g spelled,
             row-says (λ name. where_built name (variants_rule problem (variants_of t name) name)) is_told_name
-                (λ name e. (refl, terms.variants-alike problem v t path exact told same cond_path cond_exact same-met name e (variants_of t name))) (names_of t) told-names
+                (λ name e. (
+                  refl,
+                  terms.variants-alike problem v t path exact told same cond_path cond_exact same-met name e
+                      (variants_of t name),
+                )) (table_names t) told-names
                 ∙ all-built-variant problem v exact cond_exact t g spelled has,
-            row-free (λ name. where_built name (known_rule (compiler_rule problem name))) (λ name. (refl, plainly (compiler_rule problem name) (plain.compiler-alike v t path exact told same problem name))) (names_of t)
+            row-free (λ name. where_built name (known_rule (compiler_rule problem name)))
+                (λ name. (refl, plainly (compiler_rule problem name) (plain.compiler-alike v t path exact told same problem name)))
+                (table_names t)
                 ∙ all-compiler problem v exact cond_exact t g spelled,
-            row-free (λ name. where_built name (known_rule (machine_rule problem name))) (λ name. (refl, plainly (machine_rule problem name) (plain.machine-alike v t path exact told same problem name))) (names_of t)
+            row-free (λ name. where_built name (known_rule (machine_rule problem name)))
+                (λ name. (refl, plainly (machine_rule problem name) (plain.machine-alike v t path exact told same problem name)))
+                (table_names t)
                 ∙ all-machine problem v exact cond_exact t g spelled,
             row-says (λ name. where_built name (extra_edges_rule problem (names_for t) (children_of t name) name)) is_told_name
-                (λ name e. (refl, terms.extra-edges-alike problem v t path exact told same cond_path cond_exact same-met name e (children_of t name))) (names_of t) told-names
+                (λ name e. (
+                  refl,
+                  terms.extra-edges-alike problem v t path exact told same cond_path cond_exact same-met name e
+                      (children_of t name),
+                )) (table_names t) told-names
                 ∙ all-extra_edge problem v exact cond_exact t g spelled,
             row-free (λ name. where_there name (known_rule (kept_rule problem (children_of t name) (origins_of t name) name)))
-                (λ name. (refl, plainly (kept_rule problem (children_of t name) (origins_of t name) name) (plain.kept-alike v t path exact told same problem (children_of t name) (origins_of t name) name))) (names_of t)
+                (λ name. (
+                  refl,
+                  plainly (kept_rule problem (children_of t name) (origins_of t name) name)
+                      (plain.kept-alike v t path exact told same problem (children_of t name) (origins_of t name) name),
+                )) (table_names t)
                 ∙ all-kept problem v exact cond_exact t g spelled,
             row-free (λ name. of_provider (names_for t) (λ p. known_rule (provider_rule problem p)) name)
                 (terms.of-provider-alike problem v t path exact told same cond_path cond_exact same-met (λ p. known_rule (provider_rule problem p))
                 (λ p. plainly (provider_rule problem p) (plain.provider-alike v t path exact told same problem p))) (virtuals_of t)
                 ∙ all-provider problem v exact cond_exact t g spelled,
-            row-free (λ name. of_provider (names_for t) (used_rule problem (names_of t)) name)
-                (terms.of-provider-alike problem v t path exact told same cond_path cond_exact same-met (used_rule problem (names_of t))
-                (λ p. terms.used-alike problem v t path exact told same cond_path cond_exact same-met (names_of t) p told-names)) (virtuals_of t)
+            row-free (λ name. of_provider (names_for t) (used_rule problem (table_names t)) name)
+                (terms.of-provider-alike problem v t path exact told same cond_path cond_exact same-met (used_rule problem (table_names t))
+                (λ p. terms.used-alike problem v t path exact told same cond_path cond_exact same-met (table_names t) p told-names))
+                (virtuals_of t)
                 ∙ all-used problem v exact cond_exact t g spelled,
           ) refl
 
@@ -242,23 +270,27 @@ module _ (problem : Problem) (t : Table) (told : Text → Bool) (all : list_all 
           (λ name. holds-alike v t path exact told same (world_of problem) (names_for t) name spec e) spec.top.name)
 
       roots-alike : (specs : List Spec) → list_all (λ spec. list_all told (spec_names (world_of problem) (names_for t) spec)) specs ≡ true → (k : ℕ)
-          → AllWords T (written (slice_get specs k) (λ spec. known_rule (root_rule problem (names_for t) spec)))
+          → AllWords T (where_written (slice_get specs k) (λ spec. known_rule (root_rule problem (names_for t) spec)))
       roots-alike [] e k = tt
       roots-alike (spec ∷ specs) e zero = root-alike spec (and_parts _ _ e).0
       roots-alike (spec ∷ specs) e (suc k) = roots-alike specs (and_parts _ _ e).1 k
 
-      directive-alike : (name : Text) (rule : Rule Term) → (is_told_name name ≡ true → AllWords T rule) → says_path (where_built name rule) ≡ says_exact (where_built name rule)
+      directive-alike : (name : Text) (rule : Proposition Term) → (is_told_name name ≡ true → AllWords T rule)
+          → says_path (where_built name rule) ≡ says_exact (where_built name rule)
       directive-alike name rule h = directive-alike-cases (block_of t name) refl
         where
           directive-alike-cases : (o : Option Block) → block_of t name ≡ o → says_path (where_built name rule) ≡ says_exact (where_built name rule)
           directive-alike-cases None at =
-              subst (λ o. eval v (implies (said_in (λ b. fact_said b (has_origin builds)) o) (term_formula path cond_path t rule))
-              ≡ eval v (implies (said_in (λ b. fact_said b (has_origin builds)) o) (term_formula exact cond_exact t rule))) (sym at) refl
+              subst (λ o. eval v (implication_of (said_in (λ b. fact_said b (has_origin builds_node)) o)
+              (term_formula path cond_path t rule))
+              ≡ eval v (implication_of (said_in (λ b. fact_said b (has_origin builds_node)) o) (term_formula exact cond_exact t rule)))
+              (sym at) refl
           directive-alike-cases (Some b) at = alike (where_built name rule) (refl, h (found-passes is_told_name t.blocks name b told-names at))
 
       -- of a name that the table does not have both say nothing
-      named-alike : (name : Text) (number : ℕ) (b : Bool) → says_path (if b then where_built name (directive_rule problem (names_for t) number name) else given true)
-          ≡ says_exact (if b then where_built name (directive_rule problem (names_for t) number name) else given true)
+      named-alike : (name : Text) (number : ℕ) (b : Bool)
+          → says_path (if b then where_built name (directive_rule problem (names_for t) number name) else settled_test true)
+          ≡ says_exact (if b then where_built name (directive_rule problem (names_for t) number name) else settled_test true)
       named-alike name number true = directive-alike name (directive_rule problem (names_for t) number name)
           (λ e. terms.directive-alike problem v t path exact told same cond_path cond_exact same-met name e number)
       named-alike name number false = refl
@@ -284,10 +316,11 @@ module _ (problem : Problem) (t : Table) (n : ℕ) (words : WordsBelow n t) (m :
         term-below-cases None = when-below name when
         term-below-cases (Some k) = mets k
 
-    formula-below : (rule : Rule Term) → SaidBelow m (term_formula path (condition_by problem t place path met_by) t rule)
+    formula-below : (rule : Proposition Term) → SaidBelow m (term_formula path (condition_by problem t place path met_by) t rule)
     formula-below rule = rule-below m (term_said path (condition_by problem t place path met_by) t) term-below rule
 
-    row-below : (row : (Text → Rule Term) × List Text) → SaidBelow m (row_said problem t path (condition_by problem t place path met_by) row)
+    row-below : (row : (Text → Proposition Term) × List Text)
+        → SaidBelow m (row_said problem t path (condition_by problem t place path met_by) row)
     row-below row = all_of-below m (map (λ name. term_formula path (condition_by problem t place path met_by) t (row.0 name)) row.1)
         (listed-below m (λ name. term_formula path (condition_by problem t place path met_by) t (row.0 name)) (λ name. formula-below (row.0 name)) row.1)
 

@@ -3,7 +3,7 @@ use Rattle.std.proofs.Common.{◌≡◌, refl, sym, ap, subst, ◌∙◌, Bool, 
 use Rattle.std.specs.List.{list_all}
 use Rattle.clause_store.specs.Lits.{var_of, AllBelow}
 use Rattle.clause_circuits.specs.Growth.{Agree}
-use Rattle.clause_formulas.specs.Statements.{any_of, eval, SaidBelow}
+use Rattle.clause_formulas.specs.Statements.{any_statement, eval, SaidBelow}
 use Rattle.variant_values.specs.Texts.{IsInByteOrder}
 use Rattle.graph_core.specs.Graphs.{Text, Content, IsGraph}
 use Rattle.problem.specs.Nodes.{IsWellFormed}
@@ -19,7 +19,7 @@ use Rattle.graph_encoding.specs.Formulas.{Formulas, IsRightTable, IsSpelled}
 
 -- a table of a closure, with its decoding, is right
 pub right-table : (problem : Problem) (t : Table) (n : ℕ) (f : Formulas) → IsTable t → IsTableBelow n t → f.structure ≡ structure t
-    → SaidBelow n (any_of (structure t))
+    → SaidBelow n (any_statement (structure t))
     → ((v : ℕ → Bool) → IsStructured v t → Spells v t (decode v t))
     → ((v : ℕ → Bool) (g : Content) → IsGraph g → Spells v t g → IsStructured v t)
     → ((v : ℕ → Bool) → IsStructured v t → IsGraph (decode v t))
@@ -32,7 +32,7 @@ right-table problem t n f table below same range spells spelled graph values dec
   table = table;
   edges_below = λ k d lt. let e = below.edges k d lt in (e.0, e.1.0, e.1.1.0);
   nodes_below = λ k d lt. (below.blocks k d lt).present;
-  structure_below = subst (λ fs. SaidBelow n (any_of fs)) (sym same) range;
+  structure_below = subst (λ fs. SaidBelow n (any_statement fs)) (sym same) range;
   local = local;
   reads = λ v h.
       let s : IsStructured v t = ap (list_all (eval v)) (sym same) ∙ h in

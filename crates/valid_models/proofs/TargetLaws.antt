@@ -7,8 +7,8 @@ use Rattle.graph_core.specs.Graphs.{Text}
 use Rattle.variant_values.specs.Texts.{with_texts}
 use Rattle.possible_closure.proofs.Lists.{in_texts}
 use Rattle.graph_rules.proofs.Lists.{In, In-contains, contains-In, list_all-each, list_all-from}
-use Rattle.literal_table.specs.Tables.{Table, names_of}
-use Rattle.graph_levels.specs.Numbers.{place_in}
+use Rattle.literal_table.specs.Tables.{Table, table_names}
+use Rattle.graph_levels.specs.Numbers.{first_place_in}
 use Rattle.graph_levels.specs.Levels.{among_places}
 use Rattle.graph_encoding.specs.Encodings.{told_in}
 
@@ -31,7 +31,7 @@ module _ (place : Text → Option ℕ) where
 
 -- all targets are told
 pub all-told : (t : Table) (targets : List Text) → list_all (told_in t targets) targets ≡ true
-all-told t targets = list_all-from (told_in t targets) targets (λ x at. there (place_in (names_of t)) x targets at)
+all-told t targets = list_all-from (told_in t targets) targets (λ x at. there (first_place_in (table_names t)) x targets at)
 
 -- what each of a set keeps, each of the list that the set was made of does
 pub all-asked : (test : Text → Bool) (texts : List Text) → list_all test (with_texts [] texts) ≡ true → list_all test texts ≡ true

@@ -7,7 +7,7 @@ use Rattle.std.proofs.lemmas.List.Folds.{list_all-append, list_all-map}
 use Rattle.std.proofs.lemmas.Bool.{and_parts, and_from}
 use Rattle.spec_grammar.specs.declared.part.Spec.{Spec}
 use Rattle.clause_formulas.specs.Statements.{Statement, eval}
-use Rattle.clause_formulas.specs.Rules.{Rule, fact, if_so}
+use Rattle.clause_formulas.specs.Rules.{Proposition, fact, if_so}
 use Rattle.graph_core.specs.Graphs.{Text}
 use Rattle.variant_values.specs.declared.kind.VariantKind.{VariantKind}
 use Rattle.variant_values.specs.declared.kind.VariantKind.TheVariants as kinds
@@ -23,13 +23,13 @@ use Rattle.problem.specs.Problems.{Problem, world_of, variants_at, depends_at, c
 use Rattle.problem.specs.declared.demand.Demand.{Demand}
 use Rattle.problem.specs.declared.demand.Demand.TheVariants as demand
 use Rattle.literal_table.specs.Tables.{Table}
-use Rattle.graph_formulas.specs.Facts.{Word, word_said, has_edge, provides_as}
-use Rattle.graph_formulas.specs.Lists.{◌and◌, given, written, named, each, some, last_one, just_one}
+use Rattle.graph_formulas.specs.Facts.{GraphWord, word_said, has_edge, provides_as}
+use Rattle.graph_formulas.specs.Lists.{◌and◌, settled_test, where_written, one_keeps, each_keeps, some, last_one, just_one}
 use Rattle.graph_formulas.specs.Words.{names_for, rule_said}
 use Rattle.graph_formulas.specs.Parts.{holds_rule, asked_rule, suits_rule, provides_rule}
 use Rattle.graph_formulas.specs.Terms.{Term, known, met, term_said, known_rule, met_rule, built_rule}
 use Rattle.graph_formulas.specs.Directives.{root_rule, edge_to, edge_rule, suits_asked, constraint_rule, conflict_rule, choice_rule, requirement_rule}
-use Rattle.graph_formulas.specs.Edges.{no_kinds, asks_rule, may_ask, names_virtual, may_use, kind_rule, extra_edge_rule, extra_edges_rule, use_rule, used_rule, of_provider}
+use Rattle.graph_formulas.specs.Edges.{empty_kinds, asked_child, asks_rule, may_ask, names_virtual, may_use, kind_rule, extra_edge_rule, extra_edges_rule, use_rule, used_rule, of_provider}
 use Rattle.graph_formulas.specs.Variants.{count_rule, definitions, variant_rule, variants_rule, allows_rule}
 use Rattle.graph_formulas.specs.Demands.{directive_rule}
 use Rattle.graph_encoding.specs.Formulas.{PathFormulas}
@@ -42,12 +42,14 @@ pub all-filtered : {X : Type 0} (p q : X → Bool) (xs : List X) → list_all p 
 all-filtered p q [] e = refl
 all-filtered p q (x ∷ xs) e = let h = and_parts (p x) (list_all p xs) e in all-filtered-cases (q x) h.0 (all-filtered p q xs h.1)
   where
-    all-filtered-cases : (b : Bool) → p x ≡ true → list_all p (filter q xs) ≡ true → list_all p (if b then x ∷ filter q xs else filter q xs) ≡ true
+    all-filtered-cases : (b : Bool) → p x ≡ true → list_all p (filter q xs) ≡ true
+        → list_all p (if b then x ∷ filter q xs else filter q xs) ≡ true
     all-filtered-cases true a rest = and_from (p x) _ a rest
     all-filtered-cases false a rest = rest
 
 -- of both of two lists that are tested
-pub both-all : {X : Type 0} (p q : X → Bool) (xs : List X) → list_all p xs ≡ true → list_all q xs ≡ true → list_all (λ x. p x && q x) xs ≡ true
+pub both-all : {X : Type 0} (p q : X → Bool) (xs : List X) → list_all p xs ≡ true → list_all q xs ≡ true
+    → list_all (λ x. p x && q x) xs ≡ true
 both-all p q [] e f = refl
 both-all p q (x ∷ xs) e f =
     let a = and_parts (p x) (list_all p xs) e in
@@ -59,7 +61,7 @@ module _ (problem : Problem) (v : ℕ → Bool) (t : Table) (path other : PathFo
     (condition another : Text → Condition → Statement)
     (same_met : (name : Text) (when : Condition) → list_all told (condition_names (world_of problem) (names_for t) when) ≡ true
     → eval v (condition name when) ≡ eval v (another name when)) where
-  abbrev W : Word → Type 0
+  abbrev W : GraphWord → Type 0
   W = Alike v t path other told same
 
   abbrev packages : Text → List Text
@@ -74,40 +76,50 @@ module _ (problem : Problem) (v : ℕ → Bool) (t : Table) (path other : PathFo
   abbrev pub is_told_spec : Spec → Bool
   is_told_spec spec = list_all told (spec_names (world_of problem) (names_for t) spec)
 
-  pub known-alike : (rule : Rule Word) → AllWords W rule → TermAlike (known rule)
+  pub known-alike : (rule : Proposition GraphWord) → AllWords W rule → TermAlike (known rule)
   known-alike rule h = said-alike v (word_said path t) (word_said other t) rule h
 
   spec-alike : (name : Text) (spec : Spec) → is_told_spec spec ≡ true → TermAlike (known (holds_rule (world_of problem) packages name spec))
-  spec-alike name spec e = known-alike (holds_rule (world_of problem) packages name spec) (holds-alike v t path other told same (world_of problem) packages name spec e)
+  spec-alike name spec e = known-alike (holds_rule (world_of problem) packages name spec)
+      (holds-alike v t path other told same (world_of problem) packages name spec e)
 
   -- ---- rows
 
-  edge-alike : (name : Text) (row : DependRow) → is_told_condition row.when ≡ true → AllWords TermAlike (edge_rule problem packages name row)
+  edge-alike : (name : Text) (row : DependRow) → is_told_condition row.when ≡ true
+      → AllWords TermAlike (edge_rule problem packages name row)
   edge-alike name row e = (
     same_met name row.when e,
     known-alike (edge_to problem packages name row)
         (named-all W (λ asked. asked_rule (world_of problem) packages asked (λ child. fact (has_edge name child row.kinds)))
-        (λ asked. asked-alike v t path other told same (world_of problem) packages asked (λ child. fact (has_edge name child row.kinds)) (λ child. refl)) row.part.name),
+        (λ asked. asked-alike v t path other told same (world_of problem) packages asked (λ child. fact (has_edge name child row.kinds))
+        (λ child. refl)) row.part.name),
   )
 
-  constraint-alike : (name : Text) (row : DependRow) → is_told_condition row.when ≡ true → AllWords TermAlike (constraint_rule problem packages name row)
+  constraint-alike : (name : Text) (row : DependRow) → is_told_condition row.when ≡ true
+      → AllWords TermAlike (constraint_rule problem packages name row)
   constraint-alike name row e = (
     same_met name row.when e,
     known-alike (suits_asked problem packages row)
         (named-all W (λ asked. asked_rule (world_of problem) packages asked (suits_rule (world_of problem) row.part asked))
-        (λ asked. asked-alike v t path other told same (world_of problem) packages asked (suits_rule (world_of problem) row.part asked) (suits-alike v t path other told same (world_of problem) packages row.part asked)) row.part.name),
+        (λ asked. asked-alike v t path other told same (world_of problem) packages asked (suits_rule (world_of problem) row.part asked)
+        (suits-alike v t path other told same (world_of problem) packages row.part asked)) row.part.name),
   )
 
-  conflict-alike : (name : Text) (row : ConflictRow) → is_told_condition row.when ≡ true → is_told_spec row.spec ≡ true → AllWords TermAlike (conflict_rule problem packages name row)
+  conflict-alike : (name : Text) (row : ConflictRow) → is_told_condition row.when ≡ true → is_told_spec row.spec ≡ true
+      → AllWords TermAlike (conflict_rule problem packages name row)
   conflict-alike name row e f = (same_met name row.when e, spec-alike name row.spec f)
 
-  choice-alike : (name : Text) (row : RequireRow) → list_all is_told_spec row.specs ≡ true → AllWords TermAlike (choice_rule problem packages name row)
+  choice-alike : (name : Text) (row : RequireRow) → list_all is_told_spec row.specs ≡ true
+      → AllWords TermAlike (choice_rule problem packages name row)
   choice-alike name row e = choice-alike-cases row.one_of
     where
-      choice-alike-cases : (b : Bool) → AllWords TermAlike (if b then just_one (λ spec. known_rule (holds_rule (world_of problem) packages name spec)) row.specs
+      choice-alike-cases : (b : Bool) → AllWords TermAlike
+          (if b then just_one (λ spec. known_rule (holds_rule (world_of problem) packages name spec)) row.specs
           else some (λ spec. known_rule (holds_rule (world_of problem) packages name spec)) row.specs)
-      choice-alike-cases true = just-if TermAlike (λ spec. known_rule (holds_rule (world_of problem) packages name spec)) is_told_spec (spec-alike name) row.specs e
-      choice-alike-cases false = some-if TermAlike (λ spec. known_rule (holds_rule (world_of problem) packages name spec)) is_told_spec (spec-alike name) row.specs e
+      choice-alike-cases true = just-if TermAlike (λ spec. known_rule (holds_rule (world_of problem) packages name spec)) is_told_spec
+          (spec-alike name) row.specs e
+      choice-alike-cases false = some-if TermAlike (λ spec. known_rule (holds_rule (world_of problem) packages name spec)) is_told_spec
+          (spec-alike name) row.specs e
 
   requirement-alike : (name : Text) (row : RequireRow) → is_told_condition row.when ≡ true → list_all is_told_spec row.specs ≡ true
       → AllWords TermAlike (requirement_rule problem packages name row)
@@ -130,7 +142,9 @@ module _ (problem : Problem) (v : ℕ → Bool) (t : Table) (path other : PathFo
 
   told-rows : (name : Text) → list_all told (targets_at problem t name) ≡ true → ToldRows name
   told-rows name e =
-      let both = and_parts _ _ (sym (list_all-append told (flat_map (condition_names (world_of problem) packages) (conditions_at problem name)) (flat_map (spec_names (world_of problem) packages) (specs_at problem name))) ∙ e) in
+      let both = and_parts _ _
+      (sym (list_all-append told (flat_map (condition_names (world_of problem) packages) (conditions_at problem name))
+      (flat_map (spec_names (world_of problem) packages) (specs_at problem name))) ∙ e) in
       let whens = sym (all-flat told (condition_names (world_of problem) packages) (conditions_at problem name)) ∙ both.0 in
       let specs = sym (all-flat told (spec_names (world_of problem) packages) (specs_at problem name)) ∙ both.1 in
       let a = and_parts _ _ (sym (list_all-append is_told_condition (map (λ row. row.when) (variants_at problem name)) _) ∙ whens) in
@@ -153,31 +167,45 @@ module _ (problem : Problem) (v : ℕ → Bool) (t : Table) (path other : PathFo
     pub directive-alike : (number : ℕ) → AllWords TermAlike (directive_rule problem packages number name)
     directive-alike number = (
       (
-        each-if TermAlike (λ row. edge_rule problem packages name row and constraint_rule problem packages name row) (λ row. is_told_condition row.when)
+        each-if TermAlike (λ row. edge_rule problem packages name row and constraint_rule problem packages name row)
+            (λ row. is_told_condition row.when)
             (λ row h. (edge-alike name row h, constraint-alike name row h)) (filter (λ row. row.number == number) (depends_at problem name))
             (all-filtered (λ row. is_told_condition row.when) (λ row. row.number == number) (depends_at problem name) rows.depends),
         each-if TermAlike (conflict_rule problem packages name) (λ row. is_told_condition row.when && is_told_spec row.spec)
-            (λ row h. let p = and_parts (is_told_condition row.when) (is_told_spec row.spec) h in conflict-alike name row p.0 p.1) (filter (λ row. row.number == number) (conflicts_at problem name))
-            (all-filtered (λ row. is_told_condition row.when && is_told_spec row.spec) (λ row. row.number == number) (conflicts_at problem name)
-            (both-all (λ row. is_told_condition row.when) (λ row. is_told_spec row.spec) (conflicts_at problem name) rows.conflicts rows.conflict_specs)),
+            (λ row h. let p = and_parts (is_told_condition row.when) (is_told_spec row.spec) h in conflict-alike name row p.0 p.1)
+            (filter (λ row. row.number == number) (conflicts_at problem name))
+            (all-filtered (λ row. is_told_condition row.when && is_told_spec row.spec) (λ row. row.number == number)
+            (conflicts_at problem name)
+            (both-all (λ row. is_told_condition row.when) (λ row. is_told_spec row.spec) (conflicts_at problem name) rows.conflicts
+            rows.conflict_specs)),
       ),
       each-if TermAlike (requirement_rule problem packages name) (λ row. is_told_condition row.when && list_all is_told_spec row.specs)
-          (λ row h. let p = and_parts (is_told_condition row.when) (list_all is_told_spec row.specs) h in requirement-alike name row p.0 p.1) (filter (λ row. row.number == number) (requirements_at problem name))
-          (all-filtered (λ row. is_told_condition row.when && list_all is_told_spec row.specs) (λ row. row.number == number) (requirements_at problem name)
-          (both-all (λ row. is_told_condition row.when) (λ row. list_all is_told_spec row.specs) (requirements_at problem name) rows.requirements rows.requirement_specs)),
+          (λ row h. let p = and_parts (is_told_condition row.when) (list_all is_told_spec row.specs) h in
+          requirement-alike name row p.0 p.1) (filter (λ row. row.number == number) (requirements_at problem name))
+          (all-filtered (λ row. is_told_condition row.when && list_all is_told_spec row.specs) (λ row. row.number == number)
+          (requirements_at problem name)
+          (both-all (λ row. is_told_condition row.when) (λ row. list_all is_told_spec row.specs) (requirements_at problem name)
+          rows.requirements rows.requirement_specs)),
     )
 
     defined : (variant : Text) → list_all (λ row. is_told_condition row.when) (definitions problem name variant) ≡ true
-    defined variant = all-filtered (λ row. is_told_condition row.when) (λ row. bytes_eq row.name variant) (variants_at problem name) rows.variants
+    defined variant = all-filtered (λ row. is_told_condition row.when) (λ row. bytes_eq row.name variant)
+        (variants_at problem name) rows.variants
 
     pub variants-alike : (variants : List Text) → AllWords TermAlike (variants_rule problem variants name)
     variants-alike variants = each-all TermAlike (variant_rule problem name)
         (λ variant. (
-          (some-if TermAlike (λ row. met_rule name row.when) (λ row. is_told_condition row.when) (λ row h. same_met name row.when h) (definitions problem name variant) (defined variant), refl),
+          (
+            some-if TermAlike (λ row. met_rule name row.when) (λ row. is_told_condition row.when) (λ row h. same_met name row.when h)
+                (definitions problem name variant) (defined variant),
+            refl,
+          ),
           (
             refl,
-            last-if TermAlike (λ row. met_rule name row.when) (λ row. known_rule (allows_rule name variant row)) (λ row. is_told_condition row.when)
-                (λ row h. same_met name row.when h) (λ row. known-alike (allows_rule name variant row) (allows-all row variant)) (definitions problem name variant) (defined variant),
+            last-if TermAlike (λ row. met_rule name row.when) (λ row. known_rule (allows_rule name variant row))
+                (λ row. is_told_condition row.when)
+                (λ row h. same_met name row.when h) (λ row. known-alike (allows_rule name variant row) (allows-all row variant))
+                (definitions problem name variant) (defined variant),
           ),
         ))
         variants
@@ -191,19 +219,28 @@ module _ (problem : Problem) (v : ℕ → Bool) (t : Table) (path other : PathFo
       some-if TermAlike (asks_rule problem packages name child) (λ row. is_told_condition row.when)
           (λ row h. (
             same_met name row.when h,
-            known-alike (named row.part.name (λ asked. asked_rule (world_of problem) packages asked (λ n. given (bytes_eq n child))))
-                (named-all W (λ asked. asked_rule (world_of problem) packages asked (λ n. given (bytes_eq n child)))
-                (λ asked. asked-alike v t path other told same (world_of problem) packages asked (λ n. given (bytes_eq n child)) (λ n. given-all W (bytes_eq n child))) row.part.name),
+            known-alike (one_keeps row.part.name (asked_child (world_of problem) child))
+                (named-all W (asked_child (world_of problem) child) (λ asked. asked-all asked (is_virtual problem.recipes asked))
+                row.part.name),
           ))
           (filter (λ row. has row.kinds && may_ask problem packages child row) (depends_at problem name))
-          (all-filtered (λ row. is_told_condition row.when) (λ row. has row.kinds && may_ask problem packages child row) (depends_at problem name) rows.depends),
+          (all-filtered (λ row. is_told_condition row.when) (λ row. has row.kinds && may_ask problem packages child row)
+          (depends_at problem name) rows.depends),
     )
+      where
+        asked-all : (asked : Text) (b : Bool) → AllWords W (if b then fact (provides_as asked child) else settled_test (bytes_eq asked child))
+        asked-all asked true = refl
+        asked-all asked false = given-all W (bytes_eq asked child)
 
     pub extra-edges-alike : (children : List Text) → AllWords TermAlike (extra_edges_rule problem packages children name)
     extra-edges-alike children = each-all TermAlike (extra_edge_rule problem packages name)
         (λ child. (
-          (kind-alike child (record no_kinds { build = true }) (λ kinds. kinds.build), kind-alike child (record no_kinds { link = true }) (λ kinds. kinds.link)),
-          kind-alike child (record no_kinds { run = true }) (λ kinds. kinds.run),
+          (
+            kind-alike child (record empty_kinds { build = true }) (λ kinds. kinds.build),
+            kind-alike child (record empty_kinds { link = true })
+                (λ kinds. kinds.link),
+          ),
+          kind-alike child (record empty_kinds { run = true }) (λ kinds. kinds.run),
         )) children
 
     pub use-alike : (p : Text × Text) → AllWords TermAlike (use_rule problem p name)
@@ -218,10 +255,12 @@ module _ (problem : Problem) (v : ℕ → Bool) (t : Table) (path other : PathFo
       → AllWords TermAlike (used_rule problem names p)
   used-alike names p e = (
     given-all TermAlike (is_virtual problem.recipes p.0),
-    some-if TermAlike (use_rule problem p) (λ name. list_all told (targets_at problem t name)) (λ name h. use-alike name h p) (filter (may_use problem p.0) names)
+    some-if TermAlike (use_rule problem p) (λ name. list_all told (targets_at problem t name)) (λ name h. use-alike name h p)
+        (filter (may_use problem p.0) names)
         (all-filtered (λ name. list_all told (targets_at problem t name)) (may_use problem p.0) names e),
   )
 
-  pub of-provider-alike : (rule : Text × Text → Rule Term) → ((p : Text × Text) → AllWords TermAlike (rule p)) → (virtual : Text)
+  pub of-provider-alike : (rule : Text × Text → Proposition Term) → ((p : Text × Text) → AllWords TermAlike (rule p)) → (virtual : Text)
       → AllWords TermAlike (of_provider packages rule virtual)
-  of-provider-alike rule h virtual = each-all TermAlike (λ p. if_so (known_rule (fact (provides_as virtual p))) (rule (virtual, p))) (λ p. (refl, h (virtual, p))) (packages virtual)
+  of-provider-alike rule h virtual = each-all TermAlike (λ p. if_so (known_rule (fact (provides_as virtual p))) (rule (virtual, p)))
+      (λ p. (refl, h (virtual, p))) (packages virtual)

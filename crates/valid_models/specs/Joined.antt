@@ -1,21 +1,21 @@
 -- The formulas of a problem over its table.
 use Rattle.std.specs.Prelude.{◌≡◌, ℕ, ◌≤◌, Bool, true, false, List, [], ◌∷◌, map, Option, Some, None, slice_get}
 use Rattle.std.specs.List.{list_all, list_any}
-use Rattle.clause_formulas.specs.Statements.{Statement, all_of, SaidBelow}
-use Rattle.clause_formulas.specs.Rules.{Rule}
+use Rattle.clause_formulas.specs.Statements.{Statement, all_statements, SaidBelow}
+use Rattle.clause_formulas.specs.Rules.{Proposition}
 use Rattle.graph_core.specs.Graphs.{Text, Content}
 use Rattle.condition_rules.specs.Holds.{all_hold}
 use Rattle.recipe_data.specs.declared.recipe.Condition.{Condition}
 use Rattle.problem.specs.Problems.{Problem, world_of, variants_at}
 use Rattle.problem.specs.declared.demand.Demand.{Demand}
-use Rattle.literal_table.specs.Tables.{Table, IsTable, block_of, names_of, children_of}
-use Rattle.literal_table.specs.Choices.{offered}
+use Rattle.literal_table.specs.Tables.{Table, IsTable, block_of, table_names, children_of}
+use Rattle.literal_table.specs.Choices.{choice_values}
 use Rattle.literal_table.specs.declared.block.Block.{Block}
-use Rattle.condition_rules.specs.Words.{among}
-use Rattle.graph_formulas.specs.Facts.{Word, word_said}
+use Rattle.condition_rules.specs.Words.{is_one_text}
+use Rattle.graph_formulas.specs.Facts.{GraphWord, word_said}
 use Rattle.graph_formulas.specs.Parts.{condition_rule}
 use Rattle.graph_formulas.specs.Words.{names_for, rule_said}
-use Rattle.graph_formulas.specs.Terms.{Term, builds, known_rule, where_built, where_there}
+use Rattle.graph_formulas.specs.Terms.{Term, builds_node, known_rule, where_built, where_there}
 use Rattle.graph_formulas.specs.Built.{buildable_rule, version_rule, compiler_rule, machine_rule, provider_rule}
 use Rattle.graph_formulas.specs.Edges.{extra_edges_rule, used_rule, of_provider}
 use Rattle.graph_formulas.specs.Variants.{variants_rule}
@@ -48,21 +48,21 @@ module _ (problem : Problem) (t : Table) where
   condition_by place path met name when = placed_or met (condition_said path name when) (place name when)
 
   -- the rules that are always asked but for those of levels, each at all names
-  abbrev pub rule_rows : List ((Text → Rule Term) × List Text)
+  abbrev pub rule_rows : List ((Text → Proposition Term) × List Text)
   rule_rows =
-      ((λ name. where_built name (known_rule (buildable_rule problem name))), names_of t)
-      ∷ ((λ name. where_built name (known_rule (version_rule problem name))), names_of t)
-      ∷ ((λ name. where_built name (variants_rule problem (variants_of t name) name)), names_of t)
-      ∷ ((λ name. where_built name (known_rule (compiler_rule problem name))), names_of t)
-      ∷ ((λ name. where_built name (known_rule (machine_rule problem name))), names_of t)
-      ∷ ((λ name. where_built name (extra_edges_rule problem (names_for t) (children_of t name) name)), names_of t)
-      ∷ ((λ name. where_there name (known_rule (kept_rule problem (children_of t name) (origins_of t name) name))), names_of t)
+      ((λ name. where_built name (known_rule (buildable_rule problem name))), table_names t)
+      ∷ ((λ name. where_built name (known_rule (version_rule problem name))), table_names t)
+      ∷ ((λ name. where_built name (variants_rule problem (variants_of t name) name)), table_names t)
+      ∷ ((λ name. where_built name (known_rule (compiler_rule problem name))), table_names t)
+      ∷ ((λ name. where_built name (known_rule (machine_rule problem name))), table_names t)
+      ∷ ((λ name. where_built name (extra_edges_rule problem (names_for t) (children_of t name) name)), table_names t)
+      ∷ ((λ name. where_there name (known_rule (kept_rule problem (children_of t name) (origins_of t name) name))), table_names t)
       ∷ ((λ name. of_provider (names_for t) (λ p. known_rule (provider_rule problem p)) name), virtuals_of t)
-      ∷ ((λ name. of_provider (names_for t) (used_rule problem (names_of t)) name), virtuals_of t)
+      ∷ ((λ name. of_provider (names_for t) (used_rule problem (table_names t)) name), virtuals_of t)
       ∷ []
 
-  abbrev pub row_said : PathFormulas → (Text → Condition → Statement) → ((Text → Rule Term) × List Text) → Statement
-  row_said path condition row = all_of (map (λ name. term_formula path condition t (row.0 name)) row.1)
+  abbrev pub row_said : PathFormulas → (Text → Condition → Statement) → ((Text → Proposition Term) × List Text) → Statement
+  row_said path condition row = all_statements (map (λ name. term_formula path condition t (row.0 name)) row.1)
 
   -- ---- the formulas
 
@@ -70,7 +70,7 @@ module _ (problem : Problem) (t : Table) where
   formulas_for structure listed place = record {
     structure = structure;
     conditions = λ path. map (λ c. condition_said path c.0 c.1) listed;
-    rules = λ path met. all_of (map (row_said path (condition_by place path met)) rule_rows);
+    rules = λ path met. all_statements (map (row_said path (condition_by place path met)) rule_rows);
     demand = λ path met d. term_formula path (condition_by place path met) t (demand_rule problem (names_for t) (has_name t) d);
   }
 
@@ -84,12 +84,12 @@ holds_at problem listed k g = condition_holds problem (slice_get listed k) g
 
 -- the table has each variant that a recipe defines, where it offers to build the name
 abbrev pub HasBuiltVariants : Problem → Table → Type 0
-HasBuiltVariants problem t = (name : Text) (b : Block) → block_of t name ≡ Some b → list_any builds (offered b.origins) ≡ true
-    → list_all (among (variants_of t name)) (map (λ row. row.name) (variants_at problem name)) ≡ true
+HasBuiltVariants problem t = (name : Text) (b : Block) → block_of t name ≡ Some b → list_any builds_node (choice_values b.origins) ≡ true
+    → list_all (is_one_text (variants_of t name)) (map (λ row. row.name) (variants_at problem name)) ≡ true
 
 -- the formula of each word is over the variables of the table and of paths
 abbrev pub WordsBelow : ℕ → Table → Type 0
-WordsBelow n t = (m : ℕ) (path : PathFormulas) → n ≤ m → PathsBelow m path → (w : Word) → SaidBelow m (word_said path t w)
+WordsBelow n t = (m : ℕ) (path : PathFormulas) → n ≤ m → PathsBelow m path → (w : GraphWord) → SaidBelow m (word_said path t w)
 
 -- the formulas of a problem are right, where paths are told to the targets
 abbrev pub RulesAreRight : Type 0

@@ -8,7 +8,7 @@ use Rattle.virtuals.specs.Virtuals.{is_virtual}
 use Rattle.condition_rules.specs.Worlds.{World}
 use Rattle.recipe_data.specs.declared.recipe.Condition.{Condition}
 use Rattle.problem.specs.Problems.{Problem, world_of, variants_at, depends_at, conflicts_at, requirements_at}
-use Rattle.literal_table.specs.Tables.{Table, names_of}
+use Rattle.literal_table.specs.Tables.{Table, table_names}
 use Rattle.graph_formulas.specs.Words.{names_for}
 
 module _ (world : World) (packages : Text → List Text) where
@@ -36,7 +36,7 @@ module _ (problem : Problem) where
 module _ (problem : Problem) (t : Table) where
   -- the conditions, each with the name of its package
   abbrev pub conditions_of : List (Text × Condition)
-  conditions_of = flat_map (λ name. map (λ when. (name, when)) (conditions_at problem name)) (names_of t)
+  conditions_of = flat_map (λ name. map (λ when. (name, when)) (conditions_at problem name)) (table_names t)
 
   -- the names to which a package's directives ask for paths
   abbrev pub targets_at : Text → List Text
@@ -46,7 +46,7 @@ module _ (problem : Problem) (t : Table) where
 
   -- and those of all packages of the table, and of the roots
   abbrev pub asked_targets : List Text
-  asked_targets = flat_map targets_at (names_of t) ++ flat_map (spec_names (world_of problem) (names_for t)) problem.roots
+  asked_targets = flat_map targets_at (table_names t) ++ flat_map (spec_names (world_of problem) (names_for t)) problem.roots
 
   -- in byte order, each once
   abbrev pub targets_of : List Text

@@ -17,7 +17,7 @@ use Rattle.recipe_data.specs.OfGraphCore.Graphs.{Text, pair_cmp}
 use Rattle.recipe_data.proofs.OfGraphCore.PairLaws.{pair_total}
 use Rattle.recipe_data.specs.declared.recipe.Recipe.{Recipe}
 use Rattle.recipe_data.specs.declared.recipe.ProvideRow.{ProvideRow}
-use Rattle.virtuals.specs.Virtuals.{AreInOrder, AreProviders, IsProvider, Pairs, clash, has_pair, is_virtual, name_of, provides_name}
+use Rattle.virtuals.specs.Virtuals.{AreInOrder, AreProviders, IsProvider, Pairs, clash, has_pair, is_virtual, recipe_name, provides_name}
 use Rattle.virtuals.specs.Pairs.{all_pairs, row_pairs}
 
 -- ---- tests of some element
@@ -156,7 +156,8 @@ pub first_found : (test : Recipe → Bool) (recipes : List Recipe) (first other 
     → find test recipes ≡ Some first → Contains recipes other → test other ≡ true → is_le (byte_cmp first.name other.name) ≡ true
 first_found test [] first other ordered found there passes = absurd (omega (arith, there.1))
 first_found test (recipe ∷ recipes) first other ordered found there passes =
-    ordered_by_test (test recipe) refl found (first_found test recipes first other (rises_rest byte_cmp recipe.name (map name_of recipes) ordered))
+    ordered_by_test (test recipe) refl found (first_found test recipes first other
+    (rises_rest byte_cmp recipe.name (map recipe_name recipes) ordered))
   where
     ordered_by_test : (b : Bool) → test recipe ≡ b → cond b (Some recipe) (find test recipes) ≡ Some first
         → (find test recipes ≡ Some first → Contains recipes other → test other ≡ true → is_le (byte_cmp first.name other.name) ≡ true)
@@ -165,8 +166,8 @@ first_found test (recipe ∷ recipes) first other ordered found there passes =
         let same : recipe ≡ first = cc in
         subst (λ (r : Recipe). is_le (byte_cmp r.name other.name) ≡ true) same (⊎_elim
         (λ here. ap is_le (ap (λ (r : Recipe). byte_cmp recipe.name r.name) (sym here) ∙ tied_itself nat_list_cmp_total recipe.name))
-        (λ later. ap is_le (rises_above byte_cmp recipe.name (map name_of recipes) ordered other.name
-        (has_image name_of recipes other later)))
+        (λ later. ap is_le (rises_above byte_cmp recipe.name (map recipe_name recipes) ordered other.name
+        (has_image recipe_name recipes other later)))
         (first_or_later recipe recipes other there))
     ordered_by_test false is e rest = ⊎_elim
         (λ here. absurd (false≢true (sym is ∙ ap test here ∙ passes)))

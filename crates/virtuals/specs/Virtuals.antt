@@ -10,8 +10,8 @@ use Rattle.recipe_data.specs.declared.recipe.Recipe.{Recipe}
 use Rattle.virtuals.specs.declared.clash.ProvidersFault.{ProvidersFault}
 use Rattle.virtuals.specs.declared.clash.ProvidersFault.TheVariants.{NameClash, OutOfMemory}
 
-abbrev pub name_of : Recipe → Text
-name_of recipe = recipe.name
+abbrev pub recipe_name : Recipe → Text
+recipe_name recipe = recipe.name
 
 -- some row of the recipe provides the name
 unfoldable pub provides_name : Text → Recipe → Bool
@@ -32,7 +32,7 @@ IsProvidersFault recipes OutOfMemory = Unit {0}
 
 -- recipes in byte order of names, each name once
 abbrev pub AreInOrder : List Recipe → Type 0
-AreInOrder recipes = IsInOrder byte_cmp name_of recipes
+AreInOrder recipes = IsInOrder byte_cmp recipe_name recipes
 
 -- pairs of a virtual and a package whose recipe provides it
 abbrev pub Pairs : Type 0

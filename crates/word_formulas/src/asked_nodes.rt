@@ -1,6 +1,5 @@
 // Formulas of the node that a name asks for.
 ghost use Rattle.std.specs.Prelude.{◌≡◌, IfOk, map};
-ghost use Rattle.std.specs.Str.{bytes_eq};
 ghost use Rattle.clause_formulas.specs.Rules.{fact};
 ghost use Rattle.graph_formulas.specs.Facts.{provides_as};
 ghost use Rattle.graph_formulas.specs.Parts.{asked_rule};
@@ -15,6 +14,21 @@ use literal_table::{LiteralTable, any_choice};
 use plain_data::Word;
 use std::alloc::{AllocError, Global};
 
+/// The package of this name provides the virtual.
+pub fn provides_as(
+    alloc: Global,
+    table: &LiteralTable,
+    virtual_name: &str,
+    name: &str,
+) -> Result<Formula, AllocError>
+    ensures { IfOk result (λ formula. formula
+        ≡ plain_said table.now (fact (provides_as virtual_name.now name.now))) }
+{
+    any_choice(alloc, table.packages(virtual_name), |package| {
+        package.as_str() == name
+    })
+}
+
 /// The package provides the virtual.
 pub fn provider_formula(
     alloc: Global,
@@ -25,9 +39,7 @@ pub fn provider_formula(
     ensures { IfOk result (λ formula. formula
         ≡ plain_said table.now (fact (provides_as virtual_name.now name.now))) }
 {
-    any_choice(alloc, table.packages(virtual_name.as_str()), |package| {
-        package.as_str() == name.as_str()
-    })
+    provides_as(alloc, table, virtual_name.as_str(), name.as_str())
 }
 
 /// Of each package that may provide the virtual: it does, and its node keeps the rule.

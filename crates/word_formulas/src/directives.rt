@@ -1,7 +1,7 @@
 // Formulas of directives, where their conditions have formulas.
 ghost use Rattle.std.specs.Prelude.{◌≡◌, IfOk};
 ghost use Rattle.clause_formulas.specs.Rules.{fact};
-ghost use Rattle.clause_formulas.specs.Statements.{implies};
+ghost use Rattle.clause_formulas.specs.Statements.{implication_of};
 ghost use Rattle.graph_formulas.specs.Facts.{has_edge};
 ghost use Rattle.graph_formulas.specs.Parts.{suits_rule};
 ghost use Rattle.graph_formulas.specs.Words.{names_for};
@@ -114,7 +114,8 @@ pub fn edge_formula(
     met: Formula,
 ) -> Result<Formula, AllocError>
     ensures { IfOk result (λ formula. formula
-        ≡ implies met (plain_said table.now (edge_to problem.now (names_for table.now) name.now row.now))) }
+        ≡ implication_of met (plain_said table.now
+        (edge_to problem.now (names_for table.now) name.now row.now))) }
 {
     let edge = edge_to_formula(alloc, table, problem, name, row)?;
     Formula::implies(alloc, met, edge)
@@ -129,7 +130,8 @@ pub fn constraint_formula(
     met: Formula,
 ) -> Result<Formula, AllocError>
     ensures { IfOk result (λ formula. formula
-        ≡ implies met (plain_said table.now (suits_asked problem.now (names_for table.now) row.now))) }
+        ≡ implication_of met (plain_said table.now
+        (suits_asked problem.now (names_for table.now) row.now))) }
 {
     let suits = suits_asked_formula(alloc, table, problem, row)?;
     Formula::implies(alloc, met, suits)

@@ -22,7 +22,7 @@ mod theorems;
 mod variants;
 mod virtual_nodes;
 
-pub use asked_nodes::provider_formula;
+pub use asked_nodes::{provider_formula, provides_as};
 pub use compilers::compiler_formula;
 pub use directives::{
     constraint_formula, edge_formula, edge_to_formula, suits_asked_formula, suits_formula,

@@ -1,6 +1,6 @@
 use Rattle.std.proofs.Common.{◌<◌, length, subst, sym, ap, refl, ◌∙◌, arith}
 use Rattle.std.proofs.lemmas.Grind.{common_steps}
-use Rattle.clause_formulas.specs.Statements.{any_of, no, weight, SaidBelow}
+use Rattle.clause_formulas.specs.Statements.{any_statement, no, weight, SaidBelow}
 use Rattle.clause_formulas.specs.Nodes.{said}
 use Rattle.clause_formulas.specs.Gated.{gated}
 use Rattle.clause_formulas.proofs.GateLaws.{Keeps-refl, Keeps-trans}
@@ -9,14 +9,14 @@ use Rattle.clause_formulas.proofs.asked.+ask.Goals as goal
 
 pub ask-ask_any-requires : goal.ask-ask_any-requires
 ask-ask_any-requires t c =
-    let e = sym c.formula.view_is ∙ ap said c.in-Any.is ∙ ap any_of (sym c.as_slice.ensures.value) in (
+    let e = sym c.formula.view_is ∙ ap said c.in-Any.is ∙ ap any_statement (sym c.as_slice.ensures.value) in (
       omega (arith, ap weight e),
       (subst (SaidBelow c.args.clauses.now.vars) e c.requires.formula_below, (c.requires.gates_below, c.requires.draft_below)),
     )
 
 pub ask-ask_none-requires : goal.ask-ask_none-requires
 ask-ask_none-requires t c =
-    let e = sym c.formula.view_is ∙ ap said c.in-NoneOf.is ∙ ap (λ fs. no (any_of fs)) (sym c.as_slice-in-NoneOf.ensures.value) in
+    let e = sym c.formula.view_is ∙ ap said c.in-NoneOf.is ∙ ap (λ fs. no (any_statement fs)) (sym c.as_slice-in-NoneOf.ensures.value) in
     record { parts_below = subst (SaidBelow c.args.clauses.now.vars) e c.requires.formula_below; gates_below = c.requires.gates_below }
 
 pub ask_any-ask-requires : goal.ask_any-ask-requires

@@ -1,6 +1,6 @@
 use Rattle.std.proofs.Common.{subst, sym}
 use Rattle.clause_store.specs.Lits.{AllBelow}
-use Rattle.clause_formulas.specs.Statements.{any_of}
+use Rattle.clause_formulas.specs.Statements.{any_statement}
 use Rattle.clause_formulas.specs.Gated.{gated}
 use Rattle.clause_formulas.proofs.GateLaws.{Keeps-trans, Keeps-extends}
 use Rattle.clause_formulas.proofs.SpreadSteps.{spread-below}
@@ -14,7 +14,7 @@ spread_any-requires c = record {
 }
 
 pub covered-requires : goal.covered-requires
-covered-requires c = spread-below (gated c.args.clauses.now c.args.gates.now) _ c.new-inner.result _ (any_of c.args.parts.now)
+covered-requires c = spread-below (gated c.args.clauses.now c.args.gates.now) _ c.new-inner.result _ (any_statement c.args.parts.now)
     c.new-inner.ensures c.requires.gates_below c.requires.parts_below c.in_ok-spread_any.ensures.built
 
 pub returns-in_err-value-clause-keeps : goal.returns-in_err-value-clause-keeps

@@ -3,17 +3,17 @@ use Rattle.clause_store.specs.declared.Lit.{Lit}
 use Rattle.clause_store.specs.Lits.{clause_of, AllBelow}
 use Rattle.clause_store.specs.Clauses.{Clauses}
 use Rattle.clause_formulas.specs.declared.defined.Defined.TheVariants.{Known}
-use Rattle.clause_formulas.specs.Drafts.{Draft}
+use Rattle.clause_formulas.specs.Drafts.{ClauseDraft}
 use Rattle.clause_formulas.specs.Built.{covered_on, by_cover}
 use Rattle.clause_store.proofs.Meaning.{AllBelow-clause_of}
 use Rattle.clause_circuits.proofs.Composed.{Extends-refl}
 use Rattle.clause_formulas.proofs.asked.covered.Goals as goal
 
-covered-always : (s : Clauses) (d : Draft) → d.always ≡ true → covered_on s d ≡ record { list = s; answer = Known true }
+covered-always : (s : Clauses) (d : ClauseDraft) → d.always ≡ true → covered_on s d ≡ record { list = s; answer = Known true }
 unfolding covered_on
 covered-always s d e = rw e refl
 
-covered-clause : (s : Clauses) (d : Draft) (ls : List Lit) (o : Option (List Lit)) → d.always ≡ false → ls ≡ d.lits → o ≡ clause_of ls
+covered-clause : (s : Clauses) (d : ClauseDraft) (ls : List Lit) (o : Option (List Lit)) → d.always ≡ false → ls ≡ d.lits → o ≡ clause_of ls
     → covered_on s d ≡ by_cover s o
 unfolding covered_on
 covered-clause s d ls o e f q = rw (e, q, f) refl

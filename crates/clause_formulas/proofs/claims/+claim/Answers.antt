@@ -1,7 +1,7 @@
 use Rattle.std.proofs.Common.{◌<◌, length, ap, subst, sym, ◌∙◌, refl, arith, rules}
 use Rattle.std.proofs.lemmas.Grind.{common_steps}
 use Rattle.std.proofs.lemmas.Result.{on_ok_weaker}
-use Rattle.clause_formulas.specs.Statements.{any_of}
+use Rattle.clause_formulas.specs.Statements.{any_statement}
 use Rattle.clause_formulas.specs.Gated.{gated}
 use Rattle.clause_formulas.specs.Built.{assert_in}
 use Rattle.clause_formulas.specs.Allowed.{AllowsIn}
@@ -12,13 +12,14 @@ use Rattle.clause_formulas.proofs.AllowLaws.{claims, AllowsIn-refl, AllowsIn-the
 use Rattle.clause_formulas.proofs.claims.+claim.Goals as goal
 
 pub claim_any-add_draft-requires : goal.claim_any-add_draft-requires
-claim_any-add_draft-requires t c = ask-below (gated c.args.clauses.now c.args.gates.now) _ c.new-draft.result _ (any_of c.args.parts.now)
+claim_any-add_draft-requires t c = ask-below (gated c.args.clauses.now c.args.gates.now) _ c.new-draft.result _
+    (any_statement c.args.parts.now)
     c.new-draft.ensures c.requires.gates_below c.requires.parts_below c.in_ok-ask_any.ensures.built
 
 pub claim_any-returns-then-sign-clause-built : goal.claim_any-returns-then-sign-clause-built
 claim_any-returns-then-sign-clause-built t c =
     on_ok_weaker c.add_draft.result
-    (λ e. ap (λ b. assert_in c.args.label (gated c.args.clauses.now c.args.gates.now) b (any_of c.args.parts.now)) c.if-sign.true
+    (λ e. ap (λ b. assert_in c.args.label (gated c.args.clauses.now c.args.gates.now) b (any_statement c.args.parts.now)) c.if-sign.true
     ∙ assert-any (gated c.args.clauses.now c.args.gates.now) _ _ c.args.label c.new-draft.result _ c.args.parts.now c.new-draft.ensures
     c.in_ok-ask_any.ensures.built e) c.add_draft.ensures.built
 
@@ -59,13 +60,13 @@ claim-returns-in_ok-put-in-Atom-clause-allows t c =
 pub claim_any-returns-then-sign-clause-allows : goal.claim_any-returns-then-sign-clause-allows
 claim_any-returns-then-sign-clause-allows t c =
     claim-called c.add_draft.result (gated c.args.clauses.now c.args.gates.now) (gated c.ask_any.new.clauses c.ask_any.new.gates) _
-    c.args.label c.args.sign (any_of c.args.parts.now) c.requires.gates_below c.requires.parts_below
+    c.args.label c.args.sign (any_statement c.args.parts.now) c.requires.gates_below c.requires.parts_below
     c.ask_any.ensures.keeps (claim_any-returns-then-sign-clause-built t c) c.add_draft.ensures.err
 
 pub claim_any-returns-in_err-claim-clause-allows : goal.claim_any-returns-in_err-claim-clause-allows
 claim_any-returns-in_err-claim-clause-allows t c =
     subst (λ b. AllowsIn (gated c.args.clauses.now c.args.gates.now) (gated c.claim.new.clauses c.claim.new.gates)
-    (claims c.args.label b (any_of c.args.parts.now))) (sym c.if-sign.false)
+    (claims c.args.label b (any_statement c.args.parts.now))) (sym c.if-sign.false)
     (AllowsIn-then _ _ _ _ _ c.requires.gates_below c.loop-part.invariant.allows c.claim.ensures.allows
     (none-claimed c.args.label c.args.clauses.now.vars c.args.parts.now c.loop-part.part-index c.part-item.result (omega arith)
     c.part-item.is c.requires.parts_below))

@@ -1,7 +1,7 @@
 use Rattle.std.proofs.Common.{◌<◌, length, subst, sym, ap, refl, ◌∙◌, arith}
 use Rattle.std.proofs.lemmas.Grind.{common_steps}
 use Rattle.clause_store.specs.Lits.{AllBelow}
-use Rattle.clause_formulas.specs.Statements.{any_of, no, weight, SaidBelow}
+use Rattle.clause_formulas.specs.Statements.{any_statement, no, weight, SaidBelow}
 use Rattle.clause_formulas.specs.Nodes.{said}
 use Rattle.clause_formulas.specs.Gated.{gated}
 use Rattle.clause_formulas.proofs.GateLaws.{Keeps-refl, Keeps-trans}
@@ -10,14 +10,14 @@ use Rattle.clause_formulas.proofs.spread.+spread.Goals as goal
 
 pub spread-spread_any-requires : goal.spread-spread_any-requires
 spread-spread_any-requires t c =
-    let e = sym c.formula.view_is ∙ ap said c.in-Any.is ∙ ap any_of (sym c.as_slice.ensures.value) in (
+    let e = sym c.formula.view_is ∙ ap said c.in-Any.is ∙ ap any_statement (sym c.as_slice.ensures.value) in (
       omega (arith, ap weight e),
       (subst (SaidBelow c.args.clauses.now.vars) e c.requires.formula_below, (c.requires.gates_below, c.requires.draft_below)),
     )
 
 pub spread-spread_any-requires-in-NoneOf : goal.spread-spread_any-requires-in-NoneOf
 spread-spread_any-requires-in-NoneOf t c =
-    let e = sym c.formula.view_is ∙ ap said c.in-NoneOf.is ∙ ap (λ fs. no (any_of fs)) (sym c.as_slice-in-NoneOf.ensures.value) in (
+    let e = sym c.formula.view_is ∙ ap said c.in-NoneOf.is ∙ ap (λ fs. no (any_statement fs)) (sym c.as_slice-in-NoneOf.ensures.value) in (
       omega (arith, ap weight e),
       (
         subst (SaidBelow c.args.clauses.now.vars) e c.requires.formula_below,
@@ -27,8 +27,10 @@ spread-spread_any-requires-in-NoneOf t c =
 
 pub spread-named-requires : goal.spread-named-requires
 spread-named-requires t c =
-    let e = sym c.formula.view_is ∙ ap said c.in-NoneOf.is ∙ ap (λ fs. no (any_of fs)) (sym c.as_slice-in-NoneOf.ensures.value) in record {
-      draft_below = spread-below (gated c.args.clauses.now c.args.gates.now) _ c.new-inner.result _ (any_of c.as_slice-in-NoneOf.result.now)
+    let e = sym c.formula.view_is ∙ ap said c.in-NoneOf.is ∙ ap (λ fs. no (any_statement fs)) (sym c.as_slice-in-NoneOf.ensures.value) in
+    record {
+      draft_below = spread-below (gated c.args.clauses.now c.args.gates.now) _ c.new-inner.result _
+          (any_statement c.as_slice-in-NoneOf.result.now)
           c.new-inner.ensures c.requires.gates_below (subst (SaidBelow c.args.clauses.now.vars) e c.requires.formula_below)
           c.in_ok-spread_any-in-NoneOf.ensures.built;
       gates_below = c.spread_any-in-NoneOf.ensures.keeps.below;

@@ -2,18 +2,18 @@ use Rattle.std.proofs.Common.{◌≡◌, true, false, List, Option, Some, None, 
 use Rattle.clause_store.specs.declared.Lit.{Lit}
 use Rattle.clause_store.specs.Lits.{clause_of, AllBelow}
 use Rattle.clause_formulas.specs.declared.defined.Defined.TheVariants.{Known}
-use Rattle.clause_formulas.specs.Drafts.{Draft}
+use Rattle.clause_formulas.specs.Drafts.{ClauseDraft}
 use Rattle.clause_formulas.specs.Gated.{Gated, gated}
 use Rattle.clause_formulas.specs.Built.{named_in, by_clause}
 use Rattle.clause_store.proofs.Meaning.{AllBelow-clause_of}
 use Rattle.clause_formulas.proofs.GateLaws.{Keeps-refl}
 use Rattle.clause_formulas.proofs.spread.named.Goals as goal
 
-named-always : (s : Gated) (d : Draft) → d.always ≡ true → named_in s d ≡ record { state = s; answer = Known true }
+named-always : (s : Gated) (d : ClauseDraft) → d.always ≡ true → named_in s d ≡ record { state = s; answer = Known true }
 unfolding named_in
 named-always s d e = rw e refl
 
-named-clause : (s : Gated) (d : Draft) (ls : List Lit) (o : Option (List Lit)) → d.always ≡ false → ls ≡ d.lits → o ≡ clause_of ls
+named-clause : (s : Gated) (d : ClauseDraft) (ls : List Lit) (o : Option (List Lit)) → d.always ≡ false → ls ≡ d.lits → o ≡ clause_of ls
     → named_in s d ≡ by_clause s o
 unfolding named_in
 named-clause s d ls o e f q = rw (e, q, f) refl

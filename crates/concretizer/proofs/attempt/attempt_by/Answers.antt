@@ -1,7 +1,8 @@
 use Rattle.std.proofs.Common.{sym, ap, ◌∙◌}
 use Rattle.run_output.specs.Words.{Command, cert_of_command, lock_of_command, words_of}
 use Rattle.concretizer.proofs.Logs.{answered_log, stopped_log}
-use Rattle.concretizer.proofs.Left.{stopped, answered, held, follows, unsaid, has_shown}
+use Rattle.concretizer.proofs.Left.{stopped, answered, held, follows, unsaid}
+use Rattle.concretizer.proofs.Shown.{has_shown}
 use Rattle.concretizer.specs.Asked.{IsAsked}
 use Rattle.concretizer.proofs.attempt.attempt_by.Goals as goal
 
@@ -16,13 +17,7 @@ returns-in_err-answer-clause-outcome g c =
 pub returns-in_err-answer-clause-follows : goal.returns-in_err-answer-clause-follows
 returns-in_err-answer-clause-follows g c =
     let asked : IsAsked (words_of c.args._words.now) =
-    record {
-      command = c.args.command.now;
-      named = c.requires.named;
-      roots = c.in_ok-task.ensures.roots.0;
-      asks =
-          c.in_ok-task.ensures.roots.1;
-    } in
+    record { command = c.args.command.now; named = c.requires.named; asks = c.in_ok-task.ensures.specs } in
     follows _ (words_of c.args._words.now) _ _ c.in_ok-task.task c.in_err-answer.field-0.0 c.from_residual-in_err-answer.result _ _ _ _
     c.from_residual-in_err-answer.ensures.1 asked c.in_ok-task.ensures.work
     (ap (λ (k : Command). k.lock) c.command.view_is ∙ sym (ap lock_of_command c.requires.named))
@@ -30,13 +25,7 @@ returns-in_err-answer-clause-follows g c =
 
 pub returns-clause-follows : goal.returns-clause-follows
 returns-clause-follows g c =
-    record {
-      command = c.args.command.now;
-      named = c.requires.named;
-      roots = c.in_ok-task.ensures.roots.0;
-      asks =
-          c.in_ok-task.ensures.roots.1;
-    }
+    record { command = c.args.command.now; named = c.requires.named; asks = c.in_ok-task.ensures.specs }
 
 pub returns-clause-outcome : goal.returns-clause-outcome
 returns-clause-outcome g c =
@@ -61,7 +50,8 @@ returns-in_err-answer-clause-held g c =
 
 pub returns-clause-shown : goal.returns-clause-shown
 returns-clause-shown g c =
-    has_shown (words_of c.args._words.now) c.args.command.now _ c.requires.named c.in_ok-task.ensures.shown
+    has_shown _ _ _ _ _ _ c.args.command.now c.in_ok-task.task c.in_ok-task.ensures.work (words_of c.args._words.now) _ _ c.requires.named
+    c.in_ok-task.ensures.seen c.in_ok-answer.ensures.left
 
 pub returns-in_err-answer-clause-unsaid : goal.returns-in_err-answer-clause-unsaid
 returns-in_err-answer-clause-unsaid g c =

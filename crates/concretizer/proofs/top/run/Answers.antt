@@ -3,13 +3,14 @@ use Rattle.run_output.specs.Evidence.{evidence}
 use Rattle.run_output.specs.Senses.{meaning}
 use Rattle.run_output.specs.Words.{words_of}
 use Rattle.run_output.specs.Status.TheVariants as statuses
-use Rattle.concretizer.proofs.Answered.{done, unsatisfiable, undecided, stopped_shown}
+use Rattle.concretizer.proofs.Answered.{done, unsatisfiable, undecided, stale, stopped_shown}
 use Rattle.concretizer.proofs.Ends.{reports_words, refused, settles, settled, complete, due, written, refusals_due, steady}
 use Rattle.concretizer.proofs.Kept.{others}
 use Rattle.concretizer.proofs.Faults.{read_fault, write_fault, no_memory}
 use Rattle.concretizer.proofs.Logs.{keeps_for}
 use Rattle.concretizer.proofs.Meaning.{attempts_meant, keeps_meant}
 use Rattle.concretizer.proofs.Reported.{unanswered, usage}
+use Rattle.concretizer.proofs.Shown.{shown_solved, shown_stale}
 use Rattle.concretizer.proofs.top.run.Goals as goal
 
 -- ---- Done
@@ -21,6 +22,10 @@ pub returns-in-Ok-Solved-clause-done : goal.returns-in-Ok-Solved-clause-done
 returns-in-Ok-Solved-clause-done g c = λ is.
     done meaning (words_of c.args.words.now) _ (_, _) (_, _) refl _ c.in-Ok-Solved.field-0 c.in-Ok-Solved.field-0-is
     (attempts_meant c.task_laws.ensures.any (words_of c.args.words.now) _ _ _ _ (Ok c.in-Ok-Solved.field-0) c.in-Ok-Solved.ensures.outcome)
+
+pub returns-in-Ok-Solved-clause-shown : goal.returns-in-Ok-Solved-clause-shown
+returns-in-Ok-Solved-clause-shown g c = λ is.
+    shown_solved (words_of c.args.words.now) _ c.in-Ok-Solved.field-0 c.in-Ok-Solved.field-0-is c.in-Ok-Solved.ensures.shown
 
 pub returns-in-Ok-Solved-clause-others : goal.returns-in-Ok-Solved-clause-others
 returns-in-Ok-Solved-clause-others g c = others (words_of c.args.words.now) _ _ c.in-Ok-Solved.ensures.held
@@ -99,6 +104,39 @@ returns-in-Ok-Undecided-clause-due g c =
     refusals_due c.task_laws.ensures.none _ (words_of c.args.words.now) (_, _) (_, _) (_, _) (_, _) statuses.Undecided
     (written c.task_laws.ensures.one _ (words_of c.args.words.now) c.in-Ok-Undecided.field-0 _ (_, _) (_, _) (_, _) (_, _) (_, _) statuses.Undecided c.in-Ok-Undecided.ensures.outcome)
 
+-- ---- Stale
+
+pub returns-in-Ok-Stale-clause-words : goal.returns-in-Ok-Stale-clause-words
+returns-in-Ok-Stale-clause-words g c = λ none. absurd ((c.in-Ok-Stale.ensures.at_once none).0)
+
+pub returns-in-Ok-Stale-clause-stale : goal.returns-in-Ok-Stale-clause-stale
+returns-in-Ok-Stale-clause-stale g c = λ is.
+    stale meaning (words_of c.args.words.now) _ (_, _) (_, _) refl _ c.in-Ok-Stale.field-0 c.in-Ok-Stale.field-0-is
+    (attempts_meant c.task_laws.ensures.any (words_of c.args.words.now) _ _ _ _ (Ok c.in-Ok-Stale.field-0) c.in-Ok-Stale.ensures.outcome)
+
+pub returns-in-Ok-Stale-clause-others : goal.returns-in-Ok-Stale-clause-others
+returns-in-Ok-Stale-clause-others g c = others (words_of c.args.words.now) _ _ c.in-Ok-Stale.ensures.held
+
+pub returns-in-Ok-Stale-clause-held : goal.returns-in-Ok-Stale-clause-held
+returns-in-Ok-Stale-clause-held g c = keeps_meant c.task_laws.ensures.any (words_of c.args.words.now) _ _ c.in-Ok-Stale.ensures.held
+
+pub returns-in-Ok-Stale-clause-logged : goal.returns-in-Ok-Stale-clause-logged
+returns-in-Ok-Stale-clause-logged g c = record {
+  answered = stale evidence (words_of c.args.words.now) _ (_, _) (_, _) refl _ c.in-Ok-Stale.field-0 c.in-Ok-Stale.field-0-is c.in-Ok-Stale.ensures.outcome;
+  held = c.in-Ok-Stale.ensures.held;
+  complete = settled _ (words_of c.args.words.now) (_, _) (_, _) (_, _) (_, _) statuses.Stale tt;
+  due = written c.task_laws.ensures.one _ (words_of c.args.words.now) c.in-Ok-Stale.field-0 _ (_, _) (_, _) (_, _) (_, _) (_, _) statuses.Stale c.in-Ok-Stale.ensures.outcome;
+}
+
+pub returns-in-Ok-Stale-clause-due : goal.returns-in-Ok-Stale-clause-due
+returns-in-Ok-Stale-clause-due g c =
+    refusals_due c.task_laws.ensures.none _ (words_of c.args.words.now) (_, _) (_, _) (_, _) (_, _) statuses.Stale
+    (written c.task_laws.ensures.one _ (words_of c.args.words.now) c.in-Ok-Stale.field-0 _ (_, _) (_, _) (_, _) (_, _) (_, _) statuses.Stale c.in-Ok-Stale.ensures.outcome)
+
+pub returns-in-Ok-Stale-clause-outdone : goal.returns-in-Ok-Stale-clause-outdone
+returns-in-Ok-Stale-clause-outdone g c = λ is.
+    shown_stale (words_of c.args.words.now) _ c.in-Ok-Stale.field-0 c.in-Ok-Stale.field-0-is c.in-Ok-Stale.ensures.shown
+
 -- ---- a stop
 
 pub returns-in-Err-clause-words : goal.returns-in-Err-clause-words
@@ -125,6 +163,14 @@ returns-in-Err-clause-unsatisfiable g c = λ is.
 pub returns-in-Err-clause-undecided : goal.returns-in-Err-clause-undecided
 returns-in-Err-clause-undecided g c = λ is.
     absurd (unanswered c.in-Err.stop statuses.Undecided tt (_, _) (_, _) _ c.report.ensures.reports is)
+
+pub returns-in-Err-clause-stale : goal.returns-in-Err-clause-stale
+returns-in-Err-clause-stale g c = λ is.
+    absurd (unanswered c.in-Err.stop statuses.Stale tt (_, _) (_, _) _ c.report.ensures.reports is)
+
+pub returns-in-Err-clause-outdone : goal.returns-in-Err-clause-outdone
+returns-in-Err-clause-outdone g c = λ is.
+    absurd (unanswered c.in-Err.stop statuses.Stale tt (_, _) (_, _) _ c.report.ensures.reports is)
 
 pub returns-in-Err-clause-refused : goal.returns-in-Err-clause-refused
 returns-in-Err-clause-refused g c = λ refuses.

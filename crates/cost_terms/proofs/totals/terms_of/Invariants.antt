@@ -1,11 +1,12 @@
 use Rattle.std.proofs.Common.{◌≡◌, drop}
-use Rattle.clause_circuits.specs.Growth.{Extends}
-use Rattle.cost_terms.specs.Weighed.{terms_on}
+use Rattle.clause_formulas.specs.Gated.{gated, Keeps}
+use Rattle.cost_terms.specs.Weighed.{terms_in}
 use Rattle.cost_terms.proofs.Steps.{after}
 use Rattle.cost_terms.proofs.totals.terms_of.Given as goal
 
 abbrev pub invariant-loop-one : goal.invariant-loop-one
 invariant-loop-one l = record {
-  rest : after l.terms.items (terms_on l.clauses (drop l.one-index l.weighted)) ≡ terms_on l.fn.clauses l.weighted;
-  extends : Extends l.fn.clauses l.clauses;
+  rest : after l.terms.items (terms_in (gated l.clauses l.gates) (drop l.one-index l.weighted)) ≡ terms_in (gated l.fn.clauses l.fn.gates)
+      l.fn.weighted;
+  keeps : Keeps (gated l.fn.clauses l.fn.gates) (gated l.clauses l.gates);
 }

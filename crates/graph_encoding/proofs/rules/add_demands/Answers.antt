@@ -1,6 +1,6 @@
 use Rattle.std.proofs.Common.{sym, ap, subst, ◌∙◌, arith}
 use Rattle.std.specs.Option.{option_copied}
-use Rattle.clause_formulas.specs.Drafts.{value_at}
+use Rattle.clause_formulas.specs.Drafts.{statement_at}
 use Rattle.clause_formulas.specs.Gated.{gated, GatesBelow}
 use Rattle.clause_formulas.proofs.DraftLaws.{SaidBelow-le}
 use Rattle.problem.specs.Demands.{demands}
@@ -14,7 +14,7 @@ add_demand-requires g c = record {
   gates = c.loop-id.invariant.below;
   demand = SaidBelow-le c.args.clauses.now.vars c.loop-id.clauses.vars
       ((g.F.RuleFormulas.formulas c.args.formulas.now c.args.table.now).demand (path_words c.args.table.now c.args.paths.now)
-      (value_at c.args.values.now) c.in-Some.asked.now)
+      (statement_at c.args.values.now) c.in-Some.asked.now)
       c.loop-id.invariant.more (c.requires.demands c.in-Some.asked.now);
 }
 
@@ -22,7 +22,7 @@ pub loop-id-preserved : goal.loop-id-preserved
 loop-id-preserved g c = elim c.match-demand.branch [
   | in-Some+in_ok-add_demand-in-Some w ↦ record {
     rest = demand_more ((g.F.RuleFormulas.formulas c.args.formulas.now c.args.table.now).demand
-        (path_words c.args.table.now c.args.paths.now) (value_at c.args.values.now))
+        (path_words c.args.table.now c.args.paths.now) (statement_at c.args.values.now))
         (demands c.args.problem.now) (gated c.loop-id.clauses c.loop-id.gates) (gated c.match-demand.clauses c.match-demand.gates) _
         c.loop-id.id w.in-Some.asked.now
         (sym c.demand.ensures ∙ ap (λ r. option_copied r) w.in-Some.is)

@@ -1,6 +1,6 @@
 use Rattle.std.proofs.Common.{◌≡◌, refl, ℕ, true, []}
 use Rattle.problem.specs.OfGraphCore.Graphs.{Content, no_content}
-use Rattle.problem.specs.Problems.{Problem, with_budget, entry_of, record_at}
+use Rattle.problem.specs.Problems.{Problem, with_budget, package_entry_of, record_at}
 use Rattle.graph_rules.specs.Built.{keeps_buildable, keeps_version, keeps_variant, keeps_compiler, keeps_machine, keeps_extra_edge}
 use Rattle.graph_rules.specs.Directives.{keeps_root, keeps_edge, keeps_constraint, keeps_conflict, keeps_requirement}
 use Rattle.graph_rules.specs.Kept.{external_node, keeps_kept}
@@ -14,7 +14,7 @@ unfolding valid_for keeps
 none problem = refl
 
 budget_valid : (problem : Problem) (budget : ℕ) (graph : Content) → valid (with_budget budget problem) graph ≡ valid problem graph
-unfolding valid keeps entry_of record_at keeps_buildable keeps_version keeps_variant keeps_compiler keeps_machine keeps_extra_edge
+unfolding valid keeps package_entry_of record_at keeps_buildable keeps_version keeps_variant keeps_compiler keeps_machine keeps_extra_edge
     keeps_root keeps_edge keeps_constraint keeps_conflict keeps_requirement external_node keeps_kept keeps_provider keeps_used
     keeps_reachable
 budget_valid problem budget graph = refl

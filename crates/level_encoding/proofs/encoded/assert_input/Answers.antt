@@ -2,8 +2,8 @@ use Rattle.std.proofs.Common.{◌≡◌, ℕ, ◌≤◌, ◌+◌, ◌-◌, ◌++
 use Rattle.std.specs.List.{flat_map}
 use Rattle.clause_store.specs.Clauses.{Clauses}
 use Rattle.level_encoding.specs.Asserted.{assert_all, with_vars, levels_on}
-use Rattle.level_encoding.specs.Input.{Input, IsRight, numbers}
-use Rattle.level_encoding.specs.Encoding.{below, turn_start, arcs_rules, node_rules, path_rules, constraints, end}
+use Rattle.level_encoding.specs.Input.{LevelData, IsRight, numbers}
+use Rattle.level_encoding.specs.Encoding.{numbers_below, turn_start, arcs_rules, node_rules, path_rules, constraints, end}
 use Rattle.clause_formulas.specs.Allowed.{Allows}
 use Rattle.clause_formulas.proofs.AllowLaws.{Allows-then}
 use Rattle.level_encoding.proofs.AssertedLaws.{assert_all-append}
@@ -12,14 +12,15 @@ use Rattle.level_encoding.proofs.Range.{first-le}
 use Rattle.level_encoding.proofs.encoded.assert_input.Goals as goal
 
 -- the three parts are all rules
-all-parts : (s : Input) (old a b c : Clauses) → a ≡ assert_all old (arcs_rules s (turn_start s) s.arcs)
-    → b ≡ assert_all a (flat_map (node_rules s) (below (numbers s))) → c ≡ assert_all b (flat_map (path_rules s) (below (numbers s)))
+all-parts : (s : LevelData) (old a b c : Clauses) → a ≡ assert_all old (arcs_rules s (turn_start s) s.arcs)
+    → b ≡ assert_all a (flat_map (node_rules s) (numbers_below (numbers s)))
+    → c ≡ assert_all b (flat_map (path_rules s) (numbers_below (numbers s)))
     → c ≡ assert_all old (constraints s)
 unfolding constraints
 all-parts s old a b c e f g =
     let xs = arcs_rules s (turn_start s) s.arcs in
-    let ys = flat_map (node_rules s) (below (numbers s)) in
-    let zs = flat_map (path_rules s) (below (numbers s)) in
+    let ys = flat_map (node_rules s) (numbers_below (numbers s)) in
+    let zs = flat_map (path_rules s) (numbers_below (numbers s)) in
     g ∙ ap (λ t. assert_all t zs) (f ∙ ap (λ t. assert_all t ys) e)
     ∙ ap (λ t. assert_all t zs) (sym (assert_all-append old xs ys))
     ∙ sym (assert_all-append old (xs ++ ys) zs)
@@ -44,7 +45,7 @@ returns-clause-built c =
     c.in_ok-assert_nodes.ensures.built c.in_ok-assert_paths.ensures.built
 
 -- one part more
-further : (s : Input) (old m a b : Clauses) → IsRight s → m ≡ with_vars old (end s) → Allows m a (keeping s) → Allows a b (keeping s)
+further : (s : LevelData) (old m a b : Clauses) → IsRight s → m ≡ with_vars old (end s) → Allows m a (keeping s) → Allows a b (keeping s)
     → Allows m b (keeping s)
 further s old m a b right e x y =
     let h : end s ≤ m.vars = omega (arith, ap (λ l. l.vars) e) in Allows-then m a b (keeping s) (keeping s) x y (same-kept s m.vars right h)

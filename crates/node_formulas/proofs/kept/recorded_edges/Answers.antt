@@ -1,8 +1,8 @@
 use Rattle.std.proofs.Common.{rules, sym, map}
-use Rattle.clause_formulas.specs.Statements.{all_of}
+use Rattle.clause_formulas.specs.Statements.{all_statements}
 use Rattle.graph_core.specs.Graphs.{Text}
 use Rattle.graph_formulas.specs.Facts.{word_said}
-use Rattle.graph_formulas.specs.Lists.{each}
+use Rattle.graph_formulas.specs.Lists.{each_keeps}
 use Rattle.word_formulas.specs.Builders.{no_paths, plain_said}
 use Rattle.word_formulas.proofs.Steps.{ok-same, each-said}
 use Rattle.node_formulas.specs.Attributes.{edge_rule}
@@ -13,6 +13,6 @@ returns c =
     let table = c.args.table.now in
     let rule = λ (child : Text). edge_rule c.args.problem.now c.args.name.now c.args.entry.now child in
     let formula = λ (child : Text). plain_said table (edge_rule c.args.problem.now c.args.name.now c.args.entry.now child) in
-    ok-same c.each.result (all_of (map formula c.args.children.now)) (plain_said table (each rule c.args.children.now))
+    ok-same c.each.result (all_statements (map formula c.args.children.now)) (plain_said table (each_keeps rule c.args.children.now))
     (sym (each-said (word_said no_paths table) rule c.args.children.now))
     (c.each.ensures formula (λ x r says. search rules))

@@ -3,7 +3,7 @@ use Rattle.clause_formulas.specs.Rules.{fact, if_so}
 use Rattle.graph_core.specs.Graphs.{Text}
 use Rattle.graph_core.specs.declared.node.Kinds.{Kinds}
 use Rattle.graph_formulas.specs.Facts.{has_edge}
-use Rattle.graph_formulas.specs.Lists.{given}
+use Rattle.graph_formulas.specs.Lists.{settled_test}
 use Rattle.graph_formulas.specs.Kept.{is_child_name}
 use Rattle.word_formulas.specs.Builders.{plain_said}
 use Rattle.word_formulas.proofs.Steps.{ok-same}
@@ -17,7 +17,9 @@ returns c =
     let entry = c.args.entry.now in
     let child = c.as_str-child.result.now in
     ok-same c.only_recorded.result _ (plain_said table (edge_rule c.args.problem.now name entry c.args.child.now))
-    (ap (λ (b : Bool). plain_said table (if_so (fact (has_edge name child c.no_kinds.result)) (given b))) c.is_child_name-recorded.ensures
-    ∙ ap (λ (k : Kinds). plain_said table (if_so (fact (has_edge name child k)) (given (is_child_name c.args.problem.now entry child)))) c.no_kinds.ensures
+    (ap (λ (b : Bool). plain_said table (if_so (fact (has_edge name child c.no_kinds.result)) (settled_test b)))
+    c.is_child_name-recorded.ensures
+    ∙ ap (λ (k : Kinds). plain_said table (if_so (fact (has_edge name child k))
+    (settled_test (is_child_name c.args.problem.now entry child)))) c.no_kinds.ensures
     ∙ ap (λ (n : Text). plain_said table (edge_rule c.args.problem.now name entry n)) c.as_str-child.ensures)
     c.only_recorded.ensures

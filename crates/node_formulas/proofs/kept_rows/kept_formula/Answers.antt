@@ -1,5 +1,5 @@
 use Rattle.std.proofs.Common.{ap, ◌∙◌, Option}
-use Rattle.clause_formulas.specs.Statements.{all_of}
+use Rattle.clause_formulas.specs.Statements.{all_statements}
 use Rattle.literal_table.specs.Tables.{block_of}
 use Rattle.literal_table.specs.declared.block.Block.{Block}
 use Rattle.graph_formulas.specs.Kept.{kept_rule, origins_in, origins_of}
@@ -24,4 +24,4 @@ returns-in-None c =
     let name = c.args.name.now in
     let said = λ (o : Option Block). plain_said table (kept_rule problem (children_of table name) (origins_in o) name) in
     ok-same c.all.result _ (plain_said table (kept_rule problem (children_of table name) (origins_of table name) name))
-    (ap all_of c.new.ensures.items ∙ ap said (c.in-None.ensures ∙ ap (block_of table) c.as_str.ensures)) c.all.ensures
+    (ap all_statements c.new.ensures.items ∙ ap said (c.in-None.ensures ∙ ap (block_of table) c.as_str.ensures)) c.all.ensures

@@ -1,7 +1,7 @@
 use Rattle.std.proofs.Common.{◌≡◌, ap, ◌∙◌, map}
-use Rattle.clause_formulas.specs.Statements.{all_of}
-use Rattle.graph_formulas.specs.Laws.{names_of}
-use Rattle.literal_table.specs.Tables.{name_of}
+use Rattle.clause_formulas.specs.Statements.{all_statements}
+use Rattle.graph_formulas.specs.Laws.{table_names}
+use Rattle.literal_table.specs.Tables.{block_name}
 use Rattle.word_formulas.proofs.AskedSteps.{ok-at}
 use Rattle.word_formulas.proofs.Steps.{ok-same}
 use Rattle.node_formulas.proofs.Steps.{map-map}
@@ -11,5 +11,6 @@ pub returns : goal.returns
 returns g c = λ formula builds.
     let table = c.args.table.now in
     let made = ok-at c.name_parts.result c.in_ok-parts.parts (λ parts. parts.items ≡ map (λ b. formula b.name) c.blocks-2.result.now) c.in_ok-parts.was (c.name_parts.ensures formula builds) in
-    ok-same c.all.result _ (all_of (map formula (names_of table)))
-    (ap all_of (made ∙ ap (map (λ b. formula b.name)) c.blocks-2.ensures.blocks ∙ map-map formula name_of table.blocks)) c.all.ensures
+    ok-same c.all.result _ (all_statements (map formula (table_names table)))
+    (ap all_statements (made ∙ ap (map (λ b. formula b.name)) c.blocks-2.ensures.blocks ∙ map-map formula block_name table.blocks))
+    c.all.ensures

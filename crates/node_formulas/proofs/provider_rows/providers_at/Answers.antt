@@ -1,6 +1,6 @@
 use Rattle.std.proofs.Common.{ap, ◌∙◌, map}
 use Rattle.clause_store.specs.declared.Lit.{Lit}
-use Rattle.clause_formulas.specs.Statements.{all_of}
+use Rattle.clause_formulas.specs.Statements.{all_statements}
 use Rattle.graph_core.specs.Graphs.{Text}
 use Rattle.literal_table.specs.Choices.{Choices}
 use Rattle.literal_table.specs.Tables.{packages_of}
@@ -18,6 +18,6 @@ returns c =
     let said = λ (p : Text × Text). plain_said table (provider_rule c.args.problem.now p) in
     let part = λ (n : Text). provided_said table v n (said (v, n)) in
     ok-same c.providers_in.result _ (providers_said table said c.args.virtual_name.now)
-    (ap (λ (cs : Choices Text). all_of (map (λ p. part p.0) cs)) c.packages-packages.ensures
-    ∙ ap all_of (map-map part (λ (p : Text × Lit). p.0) (packages_of table v))
+    (ap (λ (cs : Choices Text). all_statements (map (λ p. part p.0) cs)) c.packages-packages.ensures
+    ∙ ap all_statements (map-map part (λ (p : Text × Lit). p.0) (packages_of table v))
     ∙ ap (providers_said table said) c.as_str-virtual_name.ensures) c.providers_in.ensures

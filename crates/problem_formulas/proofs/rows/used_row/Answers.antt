@@ -2,7 +2,7 @@ use Rattle.std.proofs.Common.{rules}
 use Rattle.graph_core.specs.Graphs.{Text}
 use Rattle.graph_formulas.specs.Words.{names_for}
 use Rattle.graph_formulas.specs.Edges.{used_rule, of_provider}
-use Rattle.literal_table.specs.Tables.{names_of}
+use Rattle.literal_table.specs.Tables.{table_names}
 use Rattle.rule_formulas.specs.Terms.{plain_term}
 use Rattle.problem_formulas.proofs.rows.used_row.Goals as goal
 
@@ -12,4 +12,4 @@ returns g c =
     let problem = c.args.problem.now in
     let condition = g.C.MetConditions.condition_of c.args.conditions.now in
     c.each_virtual.ensures (λ (name : Text). plain_term table condition
-    (of_provider (names_for table) (used_rule problem (names_of table)) name)) (λ x r says. search rules)
+    (of_provider (names_for table) (used_rule problem (table_names table)) name)) (λ x r says. search rules)

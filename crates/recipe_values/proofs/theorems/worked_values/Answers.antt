@@ -1,28 +1,32 @@
 use Rattle.std.proofs.Common.{refl, codes}
-use Rattle.recipe_lexer.specs.Layout.{text_tokens, pieces, lay, step, begin, indented, indent, bracket, finish}
-use Rattle.recipe_lexer.specs.Pieces.{first_piece, solid, string, text_end, closes, breaks}
+use Rattle.recipe_lexer.specs.Layout.{text_tokens, text_pieces, lay, step, begin, indented, indent, bracket, finish}
+use Rattle.recipe_lexer.specs.Pieces.{first_piece, solid, string_piece, text_end, closes, breaks}
 use Rattle.recipe_values.specs.Strings.{string as string_of, decoded}
-use Rattle.recipe_values.specs.Values.{texts, value_of}
+use Rattle.recipe_values.specs.Values.{texts, segment_value}
 use Rattle.recipe_values.specs.Brackets.{elements, group, levels_of, arguments_of}
 use Rattle.recipe_values.proofs.Digits.{ascii_utf8}
 use Rattle.recipe_values.proofs.theorems.worked_values.Goals as goal
 
 pub returns-clause-joined : goal.returns-clause-joined
-unfolding text_tokens pieces lay step begin indented indent bracket finish first_piece solid string text_end closes breaks string_of decoded
-    texts value_of elements group levels_of arguments_of
+unfolding text_tokens text_pieces lay step begin indented indent bracket finish first_piece solid string_piece text_end closes breaks
+    string_of decoded
+    texts segment_value elements group levels_of arguments_of
 returns-clause-joined c = rw (ascii_utf8 (codes "a\\bc") refl) refl
 
 pub returns-clause-around : goal.returns-clause-around
-unfolding text_tokens pieces lay step begin indented indent bracket finish first_piece solid string text_end closes breaks string_of decoded
-    texts value_of elements group levels_of arguments_of
+unfolding text_tokens text_pieces lay step begin indented indent bracket finish first_piece solid string_piece text_end closes breaks
+    string_of decoded
+    texts segment_value elements group levels_of arguments_of
 returns-clause-around c = rw (ascii_utf8 (codes "a") refl) refl
 
 pub returns-clause-tuple : goal.returns-clause-tuple
-unfolding text_tokens pieces lay step begin indented indent bracket finish first_piece solid string text_end closes breaks string_of decoded
-    texts value_of elements group levels_of arguments_of
+unfolding text_tokens text_pieces lay step begin indented indent bracket finish first_piece solid string_piece text_end closes breaks
+    string_of decoded
+    texts segment_value elements group levels_of arguments_of
 returns-clause-tuple c = rw (ascii_utf8 (codes "a") refl) refl
 
 pub returns-clause-list : goal.returns-clause-list
-unfolding text_tokens pieces lay step begin indented indent bracket finish first_piece solid string text_end closes breaks string_of decoded
-    texts value_of elements group levels_of arguments_of
+unfolding text_tokens text_pieces lay step begin indented indent bracket finish first_piece solid string_piece text_end closes breaks
+    string_of decoded
+    texts segment_value elements group levels_of arguments_of
 returns-clause-list c = rw (ascii_utf8 (codes "a") refl, ascii_utf8 (codes "b") refl, ascii_utf8 (codes "c") refl) refl

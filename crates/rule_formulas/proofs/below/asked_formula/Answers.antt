@@ -1,6 +1,6 @@
 use Rattle.std.proofs.Common.{rules, sym, ap, ◌∙◌, map}
 use Rattle.clause_store.specs.declared.Lit.{Lit}
-use Rattle.clause_formulas.specs.Statements.{any_of}
+use Rattle.clause_formulas.specs.Statements.{any_statement}
 use Rattle.graph_core.specs.Graphs.{Text}
 use Rattle.literal_table.specs.Tables.{packages_of}
 use Rattle.virtuals.specs.Virtuals.{is_virtual}
@@ -20,8 +20,9 @@ returns-then-is_virtual c =
     let asked = c.args.asked.now in
     let keeps : NodeRule = reached_rule world c.args.from.now c.args.part.now asked in
     let formula = λ (choice : Text × Lit). provided path table world asked keeps choice.0 in
-    ok-same c.some.result (any_of (map formula c.packages.result.now)) (rule_said path table (asked_rule world (names_for table) asked keeps))
-    (ap (λ l. any_of (map formula l)) (c.packages.ensures ∙ ap (packages_of table) c.as_str-then-is_virtual.ensures)
+    ok-same c.some.result (any_statement (map formula c.packages.result.now))
+    (rule_said path table (asked_rule world (names_for table) asked keeps))
+    (ap (λ l. any_statement (map formula l)) (c.packages.ensures ∙ ap (packages_of table) c.as_str-then-is_virtual.ensures)
     ∙ path-virtual path table world asked keeps (sym (ap (is_virtual world.recipes) c.as_str.ensures) ∙ sym c.is_virtual.ensures ∙ c.if-is_virtual.true))
     (c.some.ensures formula (λ x r says. search rules))
 

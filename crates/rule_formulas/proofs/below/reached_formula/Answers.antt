@@ -1,5 +1,5 @@
 use Rattle.std.proofs.Common.{sym, ap, ◌∙◌}
-use Rattle.clause_formulas.specs.Statements.{both}
+use Rattle.clause_formulas.specs.Statements.{both_statements}
 use Rattle.graph_core.specs.Graphs.{Text}
 use Rattle.graph_formulas.specs.Parts.{suits_rule}
 use Rattle.graph_formulas.specs.Words.{rule_said}
@@ -21,5 +21,6 @@ returns c =
     let suits = ok-is c.suits_formula.result c.in_ok-suits.suits (plain_said table (suits_rule world part asked name)) c.in_ok-suits.was c.suits_formula.ensures
     ∙ sym (suits-agree path table world part asked name) in
     let leads = c.path-path.ensures ∙ ap (λ (n : Text). path from n) c.as_str.ensures in
-    ok-same c.both.result (both c.in_ok-suits.suits c.path-path.result) (rule_said path table (reached_rule world from part asked name))
+    ok-same c.both.result (both_statements c.in_ok-suits.suits c.path-path.result)
+    (rule_said path table (reached_rule world from part asked name))
     (both-same _ _ _ _ suits leads) c.both.ensures

@@ -1,5 +1,5 @@
 use Rattle.std.proofs.Common.{sym, ◌∙◌, ◌/◌, length, map}
-use Rattle.clause_formulas.specs.Statements.{all_of, both}
+use Rattle.clause_formulas.specs.Statements.{all_statements, both_statements}
 use Rattle.clause_formulas.proofs.RuleLaws.{all_rules-said}
 use Rattle.graph_formulas.specs.Facts.{word_said}
 use Rattle.graph_formulas.specs.Lists.{some, few_rules, just_one}
@@ -16,6 +16,7 @@ returns c =
     let holds = holds_rule c.args.world.now (names_for table) c.args.name.now in
     let rules = few_rules (length c.args.specs.now / 8) holds c.args.specs.now in
     let some_said = ok-is c.some_formula.result c.in_ok-some.some (rule_said path table (some holds c.args.specs.now)) c.in_ok-some.was c.some_formula.ensures in
-    let few_said = ok-is c.few_formula.result c.in_ok-few.few (all_of (map (rule_said path table) rules)) c.in_ok-few.was c.few_formula.ensures in
-    ok-same c.both.result (both c.in_ok-some.some c.in_ok-few.few) (rule_said path table (just_one holds c.args.specs.now))
+    let few_said = ok-is c.few_formula.result c.in_ok-few.few (all_statements (map (rule_said path table) rules)) c.in_ok-few.was
+    c.few_formula.ensures in
+    ok-same c.both.result (both_statements c.in_ok-some.some c.in_ok-few.few) (rule_said path table (just_one holds c.args.specs.now))
     (both-same _ _ _ _ some_said (few_said ∙ sym (all_rules-said (word_said path table) rules))) c.both.ensures

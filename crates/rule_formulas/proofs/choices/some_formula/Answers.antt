@@ -1,5 +1,5 @@
 use Rattle.std.proofs.Common.{rules, sym, map}
-use Rattle.clause_formulas.specs.Statements.{any_of}
+use Rattle.clause_formulas.specs.Statements.{any_statement}
 use Rattle.spec_grammar.specs.declared.part.Spec.{Spec}
 use Rattle.graph_formulas.specs.Facts.{word_said}
 use Rattle.graph_formulas.specs.Lists.{some}
@@ -15,5 +15,5 @@ returns c =
     let path = path_by table c.args.paths.now in
     let rule = λ (spec : Spec). holds_rule c.args.world.now (names_for table) c.args.name.now spec in
     let formula = λ (spec : Spec). rule_said path table (holds_rule c.args.world.now (names_for table) c.args.name.now spec) in
-    ok-same c.some.result (any_of (map formula c.args.specs.now)) (rule_said path table (some rule c.args.specs.now))
+    ok-same c.some.result (any_statement (map formula c.args.specs.now)) (rule_said path table (some rule c.args.specs.now))
     (sym (some-said (word_said path table) rule c.args.specs.now)) (c.some.ensures formula (λ x r says. search rules))

@@ -1,8 +1,8 @@
 use Rattle.std.proofs.Common.{rules, sym, ap, ◌∙◌, map, filter, List}
-use Rattle.clause_formulas.specs.Statements.{all_of}
+use Rattle.clause_formulas.specs.Statements.{all_statements}
 use Rattle.recipe_data.specs.declared.recipe.ConflictRow.{ConflictRow}
 use Rattle.problem.specs.Problems.{conflicts_at}
-use Rattle.graph_formulas.specs.Lists.{each}
+use Rattle.graph_formulas.specs.Lists.{each_keeps}
 use Rattle.graph_formulas.specs.Words.{names_for}
 use Rattle.graph_formulas.specs.Terms.{term_said}
 use Rattle.graph_formulas.specs.Directives.{conflict_rule}
@@ -22,7 +22,8 @@ returns g c =
     let p = λ (row : ConflictRow). row.number == c.args.number in
     let rule = λ (row : ConflictRow). conflict_rule problem (names_for table) name row in
     let formula = λ (row : ConflictRow). term_formula path condition table (conflict_rule problem (names_for table) name row) in
-    ok-same c.each_where.result (all_of (map formula (filter p c.conflicts_at.result.now))) (term_formula path condition table (each rule (filter p (conflicts_at problem name))))
-    (ap (λ (l : List ConflictRow). all_of (map formula (filter p l))) c.conflicts_at.ensures
+    ok-same c.each_where.result (all_statements (map formula (filter p c.conflicts_at.result.now)))
+    (term_formula path condition table (each_keeps rule (filter p (conflicts_at problem name))))
+    (ap (λ (l : List ConflictRow). all_statements (map formula (filter p l))) c.conflicts_at.ensures
     ∙ sym (each-said (term_said path condition table) rule (filter p (conflicts_at problem name))))
     (c.each_where.ensures p formula (λ x b says. search rules) (λ x r says. search rules))

@@ -1,5 +1,5 @@
 use Rattle.std.proofs.Common.{sym, ◌∙◌}
-use Rattle.clause_formulas.specs.Statements.{both, implies}
+use Rattle.clause_formulas.specs.Statements.{both_statements, implication_of}
 use Rattle.clause_formulas.specs.Rules.{both_of}
 use Rattle.graph_formulas.specs.Words.{names_for}
 use Rattle.graph_formulas.specs.Directives.{edge_to, suits_asked, edge_rule, constraint_rule}
@@ -22,10 +22,11 @@ returns g c =
     let suits = plain_said table (suits_asked problem (names_for table) row) in
     let met = ok-is c.met.result c.in_ok-met.met (condition name row.when) c.in_ok-met.was c.met.ensures in
     let again = ok-is c.met-2.result c.in_ok-again.again (condition name row.when) c.in_ok-again.was c.met-2.ensures in
-    let edge = ok-is c.edge_formula.result c.in_ok-edge.edge (implies c.in_ok-met.met goes) c.in_ok-edge.was c.edge_formula.ensures
+    let edge = ok-is c.edge_formula.result c.in_ok-edge.edge (implication_of c.in_ok-met.met goes) c.in_ok-edge.was c.edge_formula.ensures
     ∙ implies-same _ _ _ _ met (sym (edge-agree path table problem (names_for table) name row)) in
-    let constraint = ok-is c.constraint_formula.result c.in_ok-constraint.constraint (implies c.in_ok-again.again suits) c.in_ok-constraint.was c.constraint_formula.ensures
+    let constraint = ok-is c.constraint_formula.result c.in_ok-constraint.constraint (implication_of c.in_ok-again.again suits)
+    c.in_ok-constraint.was c.constraint_formula.ensures
     ∙ implies-same _ _ _ _ again (sym (suits_asked-agree path table problem (names_for table) row)) in
-    ok-same c.both.result (both c.in_ok-edge.edge c.in_ok-constraint.constraint)
+    ok-same c.both.result (both_statements c.in_ok-edge.edge c.in_ok-constraint.constraint)
     (term_formula path condition table (both_of (edge_rule problem (names_for table) name row) (constraint_rule problem (names_for table) name row)))
     (both-same _ _ _ _ edge constraint) c.both.ensures

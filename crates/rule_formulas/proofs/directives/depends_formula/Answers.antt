@@ -1,9 +1,9 @@
 use Rattle.std.proofs.Common.{rules, sym, ap, ◌∙◌, map, filter, List}
-use Rattle.clause_formulas.specs.Statements.{all_of}
+use Rattle.clause_formulas.specs.Statements.{all_statements}
 use Rattle.clause_formulas.specs.Rules.{both_of}
 use Rattle.recipe_data.specs.declared.recipe.DependRow.{DependRow}
 use Rattle.problem.specs.Problems.{depends_at}
-use Rattle.graph_formulas.specs.Lists.{each}
+use Rattle.graph_formulas.specs.Lists.{each_keeps}
 use Rattle.graph_formulas.specs.Words.{names_for}
 use Rattle.graph_formulas.specs.Terms.{term_said}
 use Rattle.graph_formulas.specs.Directives.{edge_rule, constraint_rule}
@@ -23,7 +23,8 @@ returns g c =
     let p = λ (row : DependRow). row.number == c.args.number in
     let rule = λ (row : DependRow). both_of (edge_rule problem (names_for table) name row) (constraint_rule problem (names_for table) name row) in
     let formula = λ (row : DependRow). term_formula path condition table (both_of (edge_rule problem (names_for table) name row) (constraint_rule problem (names_for table) name row)) in
-    ok-same c.each_where.result (all_of (map formula (filter p c.depends_at.result.now))) (term_formula path condition table (each rule (filter p (depends_at problem name))))
-    (ap (λ (l : List DependRow). all_of (map formula (filter p l))) c.depends_at.ensures
+    ok-same c.each_where.result (all_statements (map formula (filter p c.depends_at.result.now)))
+    (term_formula path condition table (each_keeps rule (filter p (depends_at problem name))))
+    (ap (λ (l : List DependRow). all_statements (map formula (filter p l))) c.depends_at.ensures
     ∙ sym (each-said (term_said path condition table) rule (filter p (depends_at problem name))))
     (c.each_where.ensures p formula (λ x b says. search rules) (λ x r says. search rules))

@@ -1,5 +1,5 @@
 use Rattle.std.proofs.Common.{◌∙◌}
-use Rattle.clause_formulas.specs.Statements.{implies}
+use Rattle.clause_formulas.specs.Statements.{implication_of}
 use Rattle.problem.specs.Problems.{world_of}
 use Rattle.graph_formulas.specs.Words.{names_for}
 use Rattle.graph_formulas.specs.Directives.{requirement_rule}
@@ -21,5 +21,6 @@ returns g c =
     let met = ok-is c.met.result c.in_ok-met.met (condition name row.when) c.in_ok-met.was c.met.ensures in
     let choice = ok-is c.choice_formula.result c.in_ok-choice.choice (choice_said path table (world_of problem) name row) c.in_ok-choice.was c.choice_formula.ensures
     ∙ choice-known path condition table problem name row in
-    ok-same c.implies.result (implies c.in_ok-met.met c.in_ok-choice.choice) (term_formula path condition table (requirement_rule problem (names_for table) name row))
+    ok-same c.implies.result (implication_of c.in_ok-met.met c.in_ok-choice.choice)
+    (term_formula path condition table (requirement_rule problem (names_for table) name row))
     (implies-same _ _ _ _ met choice) c.implies.ensures

@@ -1,8 +1,8 @@
 use Rattle.std.proofs.Common.{rules, sym, ap, ◌∙◌, map, filter, List}
-use Rattle.clause_formulas.specs.Statements.{all_of}
+use Rattle.clause_formulas.specs.Statements.{all_statements}
 use Rattle.recipe_data.specs.declared.recipe.RequireRow.{RequireRow}
 use Rattle.problem.specs.Problems.{requirements_at}
-use Rattle.graph_formulas.specs.Lists.{each}
+use Rattle.graph_formulas.specs.Lists.{each_keeps}
 use Rattle.graph_formulas.specs.Words.{names_for}
 use Rattle.graph_formulas.specs.Terms.{term_said}
 use Rattle.graph_formulas.specs.Directives.{requirement_rule}
@@ -22,7 +22,8 @@ returns g c =
     let p = λ (row : RequireRow). row.number == c.args.number in
     let rule = λ (row : RequireRow). requirement_rule problem (names_for table) name row in
     let formula = λ (row : RequireRow). term_formula path condition table (requirement_rule problem (names_for table) name row) in
-    ok-same c.each_where.result (all_of (map formula (filter p c.requirements_at.result.now))) (term_formula path condition table (each rule (filter p (requirements_at problem name))))
-    (ap (λ (l : List RequireRow). all_of (map formula (filter p l))) c.requirements_at.ensures
+    ok-same c.each_where.result (all_statements (map formula (filter p c.requirements_at.result.now)))
+    (term_formula path condition table (each_keeps rule (filter p (requirements_at problem name))))
+    (ap (λ (l : List RequireRow). all_statements (map formula (filter p l))) c.requirements_at.ensures
     ∙ sym (each-said (term_said path condition table) rule (filter p (requirements_at problem name))))
     (c.each_where.ensures p formula (λ x b says. search rules) (λ x r says. search rules))

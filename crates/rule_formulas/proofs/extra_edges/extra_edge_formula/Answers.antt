@@ -1,9 +1,9 @@
 use Rattle.std.proofs.Common.{true, ◌∙◌}
-use Rattle.clause_formulas.specs.Statements.{both}
-use Rattle.clause_formulas.specs.Rules.{Rule}
+use Rattle.clause_formulas.specs.Statements.{both_statements}
+use Rattle.clause_formulas.specs.Rules.{Proposition}
 use Rattle.graph_formulas.specs.Words.{names_for}
 use Rattle.graph_formulas.specs.Terms.{Term}
-use Rattle.graph_formulas.specs.Edges.{no_kinds, kind_rule, extra_edge_rule}
+use Rattle.graph_formulas.specs.Edges.{empty_kinds, kind_rule, extra_edge_rule}
 use Rattle.word_formulas.proofs.Steps.{ok-same, ok-is, both-same}
 use Rattle.rule_formulas.specs.Terms.{plain_term}
 use Rattle.rule_formulas.proofs.extra_edges.extra_edge_formula.Goals as goal
@@ -15,10 +15,17 @@ returns g c =
     let condition = g.C.MetConditions.condition_of c.args.conditions.now in
     let name = c.args.name.now in
     let child = c.args.child.now in
-    let said = λ (rule : Rule Term). plain_term table condition rule in
-    let build = ok-is c.kind_formula.result c.in_ok-build.build (said (kind_rule problem (names_for table) (record no_kinds { build = true }) (λ kinds. kinds.build) name child)) c.in_ok-build.was c.kind_formula.ensures in
-    let link = ok-is c.kind_formula-2.result c.in_ok-link.link (said (kind_rule problem (names_for table) (record no_kinds { link = true }) (λ kinds. kinds.link) name child)) c.in_ok-link.was c.kind_formula-2.ensures in
-    let run = ok-is c.kind_formula-3.result c.in_ok-run.run' (said (kind_rule problem (names_for table) (record no_kinds { run = true }) (λ kinds. kinds.run) name child)) c.in_ok-run.was c.kind_formula-3.ensures in
+    let said = λ (rule : Proposition Term). plain_term table condition rule in
+    let build = ok-is c.kind_formula.result c.in_ok-build.build
+    (said (kind_rule problem (names_for table) (record empty_kinds { build = true }) (λ kinds. kinds.build) name child))
+    c.in_ok-build.was c.kind_formula.ensures in
+    let link = ok-is c.kind_formula-2.result c.in_ok-link.link
+    (said (kind_rule problem (names_for table) (record empty_kinds { link = true }) (λ kinds. kinds.link) name child)) c.in_ok-link.was
+    c.kind_formula-2.ensures in
+    let run = ok-is c.kind_formula-3.result c.in_ok-run.run'
+    (said (kind_rule problem (names_for table) (record empty_kinds { run = true }) (λ kinds. kinds.run) name child)) c.in_ok-run.was
+    c.kind_formula-3.ensures in
     let most = c.in_ok-most.ensures ∙ both-same _ _ _ _ build link in
-    ok-same c.both-2.result (both c.in_ok-most.most c.in_ok-run.run') (said (extra_edge_rule problem (names_for table) name child))
+    ok-same c.both-2.result (both_statements c.in_ok-most.most c.in_ok-run.run')
+    (said (extra_edge_rule problem (names_for table) name child))
     (both-same _ _ _ _ most run) c.both-2.ensures

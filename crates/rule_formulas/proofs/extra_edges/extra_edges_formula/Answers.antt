@@ -1,9 +1,9 @@
 use Rattle.std.proofs.Common.{rules, sym, ap, ◌∙◌, map, filter, List}
 use Rattle.std.specs.Str.{bytes_eq}
-use Rattle.clause_formulas.specs.Statements.{all_of}
+use Rattle.clause_formulas.specs.Statements.{all_statements}
 use Rattle.graph_core.specs.Graphs.{Text}
 use Rattle.literal_table.specs.declared.block.EdgeLits.{EdgeLits}
-use Rattle.graph_formulas.specs.Lists.{each}
+use Rattle.graph_formulas.specs.Lists.{each_keeps}
 use Rattle.graph_formulas.specs.Words.{names_for}
 use Rattle.graph_formulas.specs.Terms.{term_said}
 use Rattle.graph_formulas.specs.Edges.{extra_edge_rule}
@@ -25,8 +25,9 @@ returns g c =
     let rule = λ (n : Text). extra_edge_rule problem (names_for table) name n in
     let said = λ (n : Text). plain_term table condition (extra_edge_rule problem (names_for table) name n) in
     let formula = λ (e : EdgeLits). plain_term table condition (extra_edge_rule problem (names_for table) name e.child) in
-    ok-same c.each_where.result (all_of (map formula (filter p c.edges.result.now))) (plain_term table condition (each rule (children_of table name)))
-    (ap (λ (l : List EdgeLits). all_of (map formula (filter p l))) c.edges.ensures.edges
-    ∙ ap all_of (over-mapped said child (filter p table.edges))
+    ok-same c.each_where.result (all_statements (map formula (filter p c.edges.result.now)))
+    (plain_term table condition (each_keeps rule (children_of table name)))
+    (ap (λ (l : List EdgeLits). all_statements (map formula (filter p l))) c.edges.ensures.edges
+    ∙ ap all_statements (over-mapped said child (filter p table.edges))
     ∙ sym (each-said (term_said no_paths condition table) rule (children_of table name)))
     (c.each_where.ensures p formula (λ x b says. search rules) (λ x r says. search rules))

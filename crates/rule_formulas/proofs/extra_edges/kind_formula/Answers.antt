@@ -1,5 +1,5 @@
 use Rattle.std.proofs.Common.{ap, ◌∙◌, ◌&&◌, filter}
-use Rattle.clause_formulas.specs.Statements.{implies}
+use Rattle.clause_formulas.specs.Statements.{implication_of}
 use Rattle.clause_formulas.specs.Rules.{fact}
 use Rattle.recipe_data.specs.declared.recipe.DependRow.{DependRow}
 use Rattle.graph_core.specs.declared.node.Kinds.{Kinds}
@@ -26,6 +26,6 @@ returns g c =
     (filter (λ (row : DependRow). has_of kind row.kinds && may_ask problem (names_for table) child row) (depends_at problem name))) in
     let edge = ok-is c.has_edge.result c.in_ok-edge.edge (there c.kinds_of-kinds.result) c.in_ok-edge.was c.has_edge.ensures ∙ ap there c.kinds_of-kinds.ensures in
     let asked = ok-is c.asking_formula.result c.in_ok-asked.asked asking c.in_ok-asked.was c.asking_formula.ensures in
-    ok-same c.implies.result (implies c.in_ok-edge.edge c.in_ok-asked.asked)
+    ok-same c.implies.result (implication_of c.in_ok-edge.edge c.in_ok-asked.asked)
     (plain_term table condition (kind_rule problem (names_for table) (kinds_of kind) (has_of kind) name child))
     (implies-same _ _ _ _ edge asked) c.implies.ensures

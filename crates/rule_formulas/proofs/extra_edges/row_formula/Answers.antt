@@ -1,5 +1,5 @@
 use Rattle.std.proofs.Common.{refl}
-use Rattle.clause_formulas.specs.Statements.{both}
+use Rattle.clause_formulas.specs.Statements.{both_statements}
 use Rattle.graph_formulas.specs.Words.{names_for}
 use Rattle.graph_formulas.specs.Edges.{asks_rule}
 use Rattle.word_formulas.specs.Asked.{asks_child}
@@ -15,7 +15,8 @@ returns g c =
     let condition = g.C.MetConditions.condition_of c.args.conditions.now in
     let name = c.args.name.now in
     let row = c.args.row.now in
-    let asks = plain_said table (asks_child problem table c.args.child.now row) in
+    let asks = plain_said table (asks_child problem c.args.child.now row) in
     let met = ok-is c.met.result c.in_ok-met.met (condition name row.when) c.in_ok-met.was c.met.ensures in
-    ok-same c.asks_formula.result (both c.in_ok-met.met asks) (plain_term table condition (asks_rule problem (names_for table) name c.args.child.now row))
+    ok-same c.asks_formula.result (both_statements c.in_ok-met.met asks)
+    (plain_term table condition (asks_rule problem (names_for table) name c.args.child.now row))
     (both-same c.in_ok-met.met asks (condition name row.when) asks met refl) c.asks_formula.ensures

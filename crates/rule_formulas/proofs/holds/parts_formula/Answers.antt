@@ -1,8 +1,8 @@
 use Rattle.std.proofs.Common.{rules, sym, map}
-use Rattle.clause_formulas.specs.Statements.{all_of}
+use Rattle.clause_formulas.specs.Statements.{all_statements}
 use Rattle.spec_grammar.specs.declared.part.Part.{Part}
 use Rattle.graph_formulas.specs.Facts.{word_said}
-use Rattle.graph_formulas.specs.Lists.{each}
+use Rattle.graph_formulas.specs.Lists.{each_keeps}
 use Rattle.graph_formulas.specs.Parts.{below_rule}
 use Rattle.graph_formulas.specs.Words.{names_for, rule_said}
 use Rattle.word_formulas.proofs.Steps.{ok-same, each-said}
@@ -15,5 +15,5 @@ returns c =
     let path = path_by table c.args.paths.now in
     let rule = λ (part : Part). below_rule c.args.world.now (names_for table) c.args.from.now part in
     let formula = λ (part : Part). rule_said path table (below_rule c.args.world.now (names_for table) c.args.from.now part) in
-    ok-same c.each.result (all_of (map formula c.args.parts.now)) (rule_said path table (each rule c.args.parts.now))
+    ok-same c.each.result (all_statements (map formula c.args.parts.now)) (rule_said path table (each_keeps rule c.args.parts.now))
     (sym (each-said (word_said path table) rule c.args.parts.now)) (c.each.ensures formula (λ x r says. search rules))

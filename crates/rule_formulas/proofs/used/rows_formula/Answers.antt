@@ -1,5 +1,5 @@
 use Rattle.std.proofs.Common.{rules, sym, ap, ◌∙◌, map, filter, List}
-use Rattle.clause_formulas.specs.Statements.{any_of}
+use Rattle.clause_formulas.specs.Statements.{any_statement}
 use Rattle.recipe_data.specs.declared.recipe.DependRow.{DependRow}
 use Rattle.problem.specs.Problems.{depends_at}
 use Rattle.graph_formulas.specs.Lists.{some}
@@ -19,7 +19,8 @@ returns g c =
     let p = names_virtual c.args.virtual_name.now in
     let rule = λ (row : DependRow). met_rule name row.when in
     let formula = λ (row : DependRow). condition name row.when in
-    ok-same c.some_where.result (any_of (map formula (filter p c.depends_at.result.now))) (plain_term table condition (some rule (filter p (depends_at problem name))))
-    (ap (λ (l : List DependRow). any_of (map formula (filter p l))) c.depends_at.ensures
+    ok-same c.some_where.result (any_statement (map formula (filter p c.depends_at.result.now)))
+    (plain_term table condition (some rule (filter p (depends_at problem name))))
+    (ap (λ (l : List DependRow). any_statement (map formula (filter p l))) c.depends_at.ensures
     ∙ sym (some-said (term_said no_paths condition table) rule (filter p (depends_at problem name))))
     (c.some_where.ensures p formula (λ x b says. search rules) (λ x r says. search rules))

@@ -1,7 +1,7 @@
 use Rattle.std.proofs.Common.{rules, sym, ap, ◌∙◌, map, filter, List}
-use Rattle.clause_formulas.specs.Statements.{any_of}
+use Rattle.clause_formulas.specs.Statements.{any_statement}
 use Rattle.graph_core.specs.Graphs.{Text}
-use Rattle.literal_table.specs.Tables.{name_of, names_of}
+use Rattle.literal_table.specs.Tables.{block_name, table_names}
 use Rattle.literal_table.specs.declared.block.Block.{Block}
 use Rattle.graph_formulas.specs.Lists.{some}
 use Rattle.graph_formulas.specs.Terms.{term_said}
@@ -23,8 +23,9 @@ returns g c =
     let said = λ (name : Text). plain_term table condition (use_rule problem (virtual_name, provider) name) in
     let p = λ (b : Block). may_use problem virtual_name b.name in
     let formula = λ (b : Block). plain_term table condition (use_rule problem (virtual_name, provider) b.name) in
-    ok-same c.some_where.result (any_of (map formula (filter p c.blocks-2.result.now))) (plain_term table condition (some rule (filter (may_use problem virtual_name) (names_of table))))
-    (ap (λ (l : List Block). any_of (map formula (filter p l))) c.blocks-2.ensures.blocks
-    ∙ ap any_of (filter-mapped said name_of (may_use problem virtual_name) table.blocks)
-    ∙ sym (some-said (term_said no_paths condition table) rule (filter (may_use problem virtual_name) (names_of table))))
+    ok-same c.some_where.result (any_statement (map formula (filter p c.blocks-2.result.now)))
+    (plain_term table condition (some rule (filter (may_use problem virtual_name) (table_names table))))
+    (ap (λ (l : List Block). any_statement (map formula (filter p l))) c.blocks-2.ensures.blocks
+    ∙ ap any_statement (filter-mapped said block_name (may_use problem virtual_name) table.blocks)
+    ∙ sym (some-said (term_said no_paths condition table) rule (filter (may_use problem virtual_name) (table_names table))))
     (c.some_where.ensures p formula (λ x b says. search rules) (λ x r says. search rules))

@@ -1,5 +1,5 @@
 use Rattle.std.proofs.Common.{rules, sym, ap, ◌∙◌, map}
-use Rattle.clause_formulas.specs.Statements.{all_of}
+use Rattle.clause_formulas.specs.Statements.{all_statements}
 use Rattle.graph_core.specs.Graphs.{Text}
 use Rattle.graph_formulas.specs.Terms.{term_said}
 use Rattle.word_formulas.specs.Builders.{no_paths}
@@ -20,6 +20,8 @@ returns g c =
     let rule = λ (variant : Text). variant_rule problem name variant in
     let said = λ (variant : Text). plain_term table condition (variant_rule problem name variant) in
     let formula = λ (v : Text × Choices Text). plain_term table condition (variant_rule problem name v.0) in
-    ok-same c.each.result (all_of (map formula c.args.variants.now)) (plain_term table condition (variants_rule problem (map first c.args.variants.now) name))
-    (ap all_of (over-mapped said first c.args.variants.now) ∙ sym (each-said (term_said no_paths condition table) rule (map first c.args.variants.now)))
+    ok-same c.each.result (all_statements (map formula c.args.variants.now))
+    (plain_term table condition (variants_rule problem (map first c.args.variants.now) name))
+    (ap all_statements (over-mapped said first c.args.variants.now)
+    ∙ sym (each-said (term_said no_paths condition table) rule (map first c.args.variants.now)))
     (c.each.ensures formula (λ x r says. search rules))

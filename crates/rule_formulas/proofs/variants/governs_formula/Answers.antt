@@ -1,5 +1,5 @@
 use Rattle.std.proofs.Common.{ap, ◌∙◌}
-use Rattle.clause_formulas.specs.Statements.{both, opposite}
+use Rattle.clause_formulas.specs.Statements.{both_statements, opposite}
 use Rattle.word_formulas.specs.Builders.{plain_said}
 use Rattle.word_formulas.proofs.Steps.{ok-same, ok-is, both-same}
 use Rattle.graph_formulas.specs.Variants.{allows_rule}
@@ -14,9 +14,10 @@ returns g c =
     let variant = c.args.variant.now in
     let row = c.args.row.now in
     let rest = c.args.rest.now in
-    let later = ok-is c.met_formula.result c.in_ok-later.later (met_said condition name variant rest) c.in_ok-later.was c.met_formula.ensures in
+    let later = ok-is c.met_formula.result c.in_ok-later.later (met_said condition name rest) c.in_ok-later.was c.met_formula.ensures in
     let met = ok-is c.met.result c.in_ok-met.met (condition name row.when) c.in_ok-met.was c.met.ensures in
     let last = c.in_ok-last.ensures ∙ both-same _ _ _ _ (c.negated.ensures ∙ ap opposite later) met in
-    let allowed = ok-is c.allows_formula.result c.in_ok-allowed.allowed (plain_said table (allows_rule name variant row)) c.in_ok-allowed.was c.allows_formula.ensures in
-    ok-same c.both-2.result (both c.in_ok-last.last c.in_ok-allowed.allowed) (governs_said table condition name variant row rest)
+    let allowed = ok-is c.allows_formula.result c.in_ok-allowed.allowed (plain_said table (allows_rule name variant row))
+    c.in_ok-allowed.was c.allows_formula.ensures in
+    ok-same c.both-2.result (both_statements c.in_ok-last.last c.in_ok-allowed.allowed) (governs_said table condition name variant row rest)
     (both-same _ _ _ _ last allowed) c.both-2.ensures

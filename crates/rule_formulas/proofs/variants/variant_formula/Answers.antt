@@ -1,14 +1,15 @@
-use Rattle.std.proofs.Common.{ap, ◌∙◌, List}
-use Rattle.clause_formulas.specs.Statements.{any_of, both}
+use Rattle.std.proofs.Common.{◌≡◌, ap, ◌∙◌, ◌/◌, map, filter, length}
+use Rattle.std.specs.Borrow.{Bor}
+use Rattle.std.specs.Str.{bytes_eq}
+use Rattle.clause_formulas.specs.Statements.{both_statements}
 use Rattle.word_formulas.specs.Builders.{node_said}
 use Rattle.word_formulas.proofs.Steps.{ok-same, ok-is, both-same, implies-same}
 use Rattle.rule_formulas.specs.Terms.{plain_term}
 use Rattle.recipe_data.specs.declared.recipe.VariantRow.{VariantRow}
-use Rattle.problem.specs.Problems.{variants_at}
 use Rattle.graph_formulas.specs.Facts.{has_variant}
-use Rattle.graph_formulas.specs.Variants.{variant_rule}
-use Rattle.rule_formulas.specs.Governing.{met_said, last_parts}
-use Rattle.rule_formulas.proofs.Governing.{met-said, last-said}
+use Rattle.graph_formulas.specs.Variants.{definitions, variant_rule}
+use Rattle.rule_formulas.specs.Governing.{met_said, last_said}
+use Rattle.rule_formulas.proofs.Governing.{met-is, last-is}
 use Rattle.rule_formulas.proofs.variants.variant_formula.Goals as goal
 
 pub returns : goal.returns
@@ -19,15 +20,20 @@ returns g c =
     let name = c.args.name.now in
     let variant = c.args.variant.now in
     let there_said = node_said table name (has_variant variant) in
-    let met_by = λ (rows : List VariantRow). met_said condition name variant rows in
-    let last_by = λ (rows : List VariantRow). any_of (last_parts table condition name variant rows) in
-    let met = ok-is c.met_formula.result c.in_ok-met.met (met_by c.variants_at-rows.result.now) c.in_ok-met.was c.met_formula.ensures
-    ∙ ap met_by c.variants_at-rows.ensures ∙ met-said table condition name variant (variants_at problem name) in
+    let rows = c.as_slice-rows.result.now in
+    let ds = definitions problem name variant in
+    let own = λ (row : Bor VariantRow). row.now in
+    let same : map own rows ≡ ds = ap (map own) c.as_slice-rows.ensures.value ∙ c.in_ok-found.ensures
+    ∙ ap (filter (λ (row : VariantRow). bytes_eq row.name variant)) c.variants_at.ensures in
+    let met = ok-is c.met_formula.result c.in_ok-met.met (met_said condition name rows) c.in_ok-met.was c.met_formula.ensures
+    ∙ met-is table condition name variant rows ds same in
     let there = ok-is c.has_variant.result c.in_ok-there.there there_said c.in_ok-there.was c.has_variant.ensures in
     let where_met = c.in_ok-where_met.ensures ∙ implies-same _ _ _ _ met there in
     let again = ok-is c.has_variant-2.result c.in_ok-again.again there_said c.in_ok-again.was c.has_variant-2.ensures in
-    let last = ok-is c.last_formula.result c.in_ok-last.last (last_by c.variants_at-rows.result.now) c.in_ok-last.was c.last_formula.ensures
-    ∙ ap last_by c.variants_at-rows.ensures ∙ last-said table condition name variant (variants_at problem name) in
+    let last = ok-is c.last_formula.result c.in_ok-last.last (last_said table condition name variant (length rows / 8) rows)
+    c.in_ok-last.was c.last_formula.ensures
+    ∙ last-is table condition name variant rows ds same in
     let where_there = c.in_ok-where_there.ensures ∙ implies-same _ _ _ _ again last in
-    ok-same c.both.result (both c.in_ok-where_met.where_met c.in_ok-where_there.where_there) (plain_term table condition (variant_rule problem name variant))
+    ok-same c.both.result (both_statements c.in_ok-where_met.where_met c.in_ok-where_there.where_there)
+    (plain_term table condition (variant_rule problem name variant))
     (both-same _ _ _ _ where_met where_there) c.both.ensures

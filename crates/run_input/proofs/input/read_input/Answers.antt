@@ -1,17 +1,10 @@
-use Rattle.std.proofs.Common.{ap}
-use Rattle.run_input.specs.Sites.{SettingsAt}
+use Rattle.std.proofs.Common.{ap, refl, ◌∙◌, []}
 use Rattle.run_words.specs.Words.{Command}
-use Rattle.run_input.specs.Inputs.{OverSettings}
-use Rattle.run_input.proofs.Failing.{later}
-use Rattle.run_input.proofs.Staged.{staged}
+use Rattle.run_input.specs.Inputs.{OverSpecs, StockAt}
+use Rattle.run_input.proofs.Staged.{put_over}
 use Rattle.run_input.proofs.input.read_input.Goals as goal
 
-pub returns-clause-read : goal.returns-clause-read
-returns-clause-read g c =
-    staged _ _ (λ path files. SettingsAt files path) (λ files. OverSettings files c.args.command.now) _ _ _ _
-    c.in_ok-settings.settings c.read_over.result (ap (λ (k : Command). k.settings) c.command.view_is)
-    c.in_ok-settings.ensures.only_reads.same c.in_ok-settings.ensures.read c.read_over.ensures.read
-
-pub returns-clause-path : goal.returns-clause-path
-returns-clause-path g c =
-    later _ _ c.args.command.now c.read_over.result c.in_ok-settings.ensures.only_reads.same c.read_over.ensures.path
+pub returns-in-Ok-clause-read : goal.returns-in-Ok-clause-read
+returns-in-Ok-clause-read g c =
+    put_over _ _ (λ path files. StockAt files c.args.command.now) OverSpecs _ [] [] _ _ c.in-Ok.stock c.read_asked.result refl
+    (c.as_str.ensures.value ∙ ap (λ (k : Command). k.spec) c.command.view_is) c.in-Ok.ensures.read c.read_asked.ensures.read

@@ -1,9 +1,9 @@
 use Rattle.std.proofs.Common.{sym, subst, List, Ok}
 use Rattle.recipe_data.specs.declared.recipe.Recipe.{Recipe}
-use Rattle.run_input.specs.Inputs.{Over}
+use Rattle.run_input.specs.Inputs.{OverSources}
 use Rattle.run_input.proofs.repository.read_pile.Goals as goal
 
 pub returns-in-Ok-clause-read : goal.returns-in-Ok-clause-read
 returns-in-Ok-clause-read g c =
-    subst (λ (recipes : List Recipe). Over c.args.sources.now.files (Ok recipes)) (sym c.new.ensures)
+    subst (λ (recipes : List Recipe). OverSources c.args.sources.now.files (Ok recipes)) (sym c.new.ensures)
     (rw c.as_slice.ensures.files at c.in-Ok.ensures.read)

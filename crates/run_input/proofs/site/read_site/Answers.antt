@@ -2,12 +2,12 @@ use Rattle.std.proofs.Common.{◌≡◌, subst, sym, ◌∙◌, ℕ, List, false
 use Rattle.std.specs.Prelude.{IfSome}
 use Rattle.outside_desk.specs.Files.{Files}
 use Rattle.site_settings.specs.declared.settings.Settings.{Settings}
-use Rattle.run_words.specs.Words.{is_dash}
+use Rattle.run_words.specs.Words.{is_dash_path}
 use Rattle.run_input.specs.Sites.{SettingsAt, SettingsIn, settings_bytes}
 use Rattle.run_input.proofs.site.read_site.Goals as goal
 
 -- the settings of the bytes at a path
-at_path : (before : Option Files) (path bytes given : List ℕ) (settings read : Settings) → is_dash path ≡ false
+at_path : (before : Option Files) (path bytes given : List ℕ) (settings read : Settings) → is_dash_path path ≡ false
     → IfSome before (λ files. settings_bytes files path ≡ Ok bytes) → given ≡ bytes → SettingsIn given (Ok settings) → read ≡ settings
     → IfSome before (λ files. SettingsAt files path (Ok read))
 at_path None path bytes given settings read named there same says is = tt

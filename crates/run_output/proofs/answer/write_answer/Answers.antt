@@ -18,3 +18,12 @@ returns-in_ok-said-in-Try-clause-kept g c =
     let files = g.D.Desk.files c.args.desk.now in
     rw c.in-Try.is (of_trial c.args.lock.now c.args.cert.now c.in-Try.input files files c.in_ok-said-in-Try.said.outcome _ c.tell-in-Try.result
     c.in_ok-said-in-Try.ensures.kept c.tell-in-Try.ensures.outcome)
+
+pub returns-in_ok-said-in-Compare-clause-left : goal.returns-in_ok-said-in-Compare-clause-left
+returns-in_ok-said-in-Compare-clause-left g c = c.tell-in-Compare.ensures.left c.args.lock.now c.args.cert.now _
+
+pub returns-in_ok-said-in-Find-clause-left : goal.returns-in_ok-said-in-Find-clause-left
+returns-in_ok-said-in-Find-clause-left g c = c.tell-in-Find.ensures.left c.args.lock.now c.args.cert.now _
+
+pub returns-in_ok-said-in-Plan-clause-left : goal.returns-in_ok-said-in-Plan-clause-left
+returns-in_ok-said-in-Plan-clause-left g c = c.tell-in-Plan.ensures.left c.args.lock.now c.args.cert.now _

@@ -1,20 +1,55 @@
-use Rattle.std.proofs.Common.{List, Ok}
-use Rattle.spec_grammar.specs.declared.part.Spec.{Spec}
-use Rattle.run_input.specs.Roots.{RootsOf}
-use Rattle.run_task.proofs.Paths.{later}
-use Rattle.run_task.proofs.Stops.{any_ok}
-use Rattle.run_task.proofs.RootTexts.{texts_of}
+use Rattle.std.proofs.Common.{◌≡◌, true, false, ap, sym, ◌∙◌}
+use Rattle.run_input.specs.Words.{Command}
+use Rattle.run_task.specs.Tasks.{is_search}
+use Rattle.run_task.proofs.Stops.{found_work, over_by, seen_posed, seen_search, specs_by}
 use Rattle.run_task.proofs.task.read_over.Goals as goal
 
-pub task_by-requires-clause-texts : goal.task_by-requires-clause-texts
-task_by-requires-clause-texts g c κs long =
-    texts_of c.writing_laws.ensures.read_again c.reading_laws.ensures.ascii c.args.command.now.spec
-    c.in_ok-input.input.problem.roots c.in_ok-input.ensures.roots
+-- ---- installed packages
 
-pub returns-clause-roots : goal.returns-clause-roots
-returns-clause-roots g c =
-    any_ok ((roots : List Spec) × RootsOf c.args.command.now.spec (Ok roots)) c.task_by.result
-    (c.in_ok-input.input.problem.roots, c.in_ok-input.ensures.roots)
+pub returns-then-is_search-clause-read : goal.returns-then-is_search-clause-read
+returns-then-is_search-clause-read g c =
+    let is : is_search c.args.command.now.work ≡ true =
+    sym (ap (λ (k : Command). is_search k.work) c.command.view_is) ∙ (sym c.is_search.ensures ∙ c.if-is_search.true) in
+    over_by c.args.command.now c.read_search.result _ true is c.read_search.ensures.read
 
-pub returns-clause-path : goal.returns-clause-path
-returns-clause-path g c = later _ _ c.args.command.now c.task_by.result c.in_ok-input.ensures.only_reads.same c.task_by.ensures.path
+pub returns-then-is_search-clause-seen : goal.returns-then-is_search-clause-seen
+returns-then-is_search-clause-seen g c =
+    let is : is_search c.args.command.now.work ≡ true =
+    sym (ap (λ (k : Command). is_search k.work) c.command.view_is) ∙ (sym c.is_search.ensures ∙ c.if-is_search.true) in
+    seen_search c.args.command.now c.read_search.result _ is
+
+pub returns-then-is_search-clause-work : goal.returns-then-is_search-clause-work
+returns-then-is_search-clause-work g c =
+    let is : is_search c.args.command.now.work ≡ true =
+    sym (ap (λ (k : Command). is_search k.work) c.command.view_is) ∙ (sym c.is_search.ensures ∙ c.if-is_search.true) in
+    found_work c.args.command.now c.read_search.result is c.read_search.ensures.work
+
+pub returns-then-is_search-clause-specs : goal.returns-then-is_search-clause-specs
+returns-then-is_search-clause-specs g c =
+    let is : is_search c.args.command.now.work ≡ true =
+    sym (ap (λ (k : Command). is_search k.work) c.command.view_is) ∙ (sym c.is_search.ensures ∙ c.if-is_search.true) in
+    specs_by c.args.command.now c.read_search.result true is c.read_search.ensures.specs
+
+-- ---- a problem
+
+pub read_posed-requires : goal.read_posed-requires
+read_posed-requires g c =
+    sym (ap (λ (k : Command). is_search k.work) c.command.view_is) ∙ (sym c.is_search.ensures ∙ c.if-is_search.false)
+
+pub returns-clause-read : goal.returns-clause-read
+returns-clause-read g c =
+    let is : is_search c.args.command.now.work ≡ false =
+    sym (ap (λ (k : Command). is_search k.work) c.command.view_is) ∙ (sym c.is_search.ensures ∙ c.if-is_search.false) in
+    over_by c.args.command.now c.read_posed.result _ false is c.read_posed.ensures.read
+
+pub returns-clause-seen : goal.returns-clause-seen
+returns-clause-seen g c =
+    let is : is_search c.args.command.now.work ≡ false =
+    sym (ap (λ (k : Command). is_search k.work) c.command.view_is) ∙ (sym c.is_search.ensures ∙ c.if-is_search.false) in
+    seen_posed c.args.command.now c.read_posed.result _ is c.read_posed.ensures.seen
+
+pub returns-clause-specs : goal.returns-clause-specs
+returns-clause-specs g c =
+    let is : is_search c.args.command.now.work ≡ false =
+    sym (ap (λ (k : Command). is_search k.work) c.command.view_is) ∙ (sym c.is_search.ensures ∙ c.if-is_search.false) in
+    specs_by c.args.command.now c.read_posed.result false is c.read_posed.ensures.specs

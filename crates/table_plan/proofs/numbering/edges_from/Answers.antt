@@ -1,6 +1,6 @@
 use Rattle.std.proofs.Common.{◌≡◌, ◌+◌, take, arith}
 use Rattle.std.proofs.lemmas.List.{take_all}
-use Rattle.table_plan.specs.Numbers.{edge_from, total}
+use Rattle.table_plan.specs.Numbers.{edge_from, total_width}
 use Rattle.table_plan.proofs.Runs.{total_more, run_next, threes}
 use Rattle.table_plan.proofs.numbering.edges_from.Goals as goal
 

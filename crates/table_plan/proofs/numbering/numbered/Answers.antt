@@ -1,13 +1,13 @@
 use Rattle.std.proofs.Common.{◌≡◌, ◌+◌, take, arith}
 use Rattle.std.proofs.lemmas.List.{take_all}
-use Rattle.table_plan.specs.Numbers.{lit_of, total}
+use Rattle.table_plan.specs.Numbers.{positive_lit, total_width}
 use Rattle.table_plan.proofs.Runs.{total_more, run_next, ones}
 use Rattle.table_plan.proofs.numbering.numbered.Goals as goal
 
 pub loop-item-preserved : goal.loop-item-preserved
 loop-item-preserved g c = record {
   choices = rw (c.in_ok-push.ensures.ok, c.in_ok-duplicate.ensures, c.in_ok-lit.ensures.lit, c.loop-item.invariant.choices)
-      (run_next (λ m x. (x, lit_of m)) (λ x. 1) c.args.items.now c.loop-item.item-index c.item-item.result c.loop-item-test.true
+      (run_next (λ m x. (x, positive_lit m)) (λ x. 1) c.args.items.now c.loop-item.item-index c.item-item.result c.loop-item-test.true
       c.item-item.is
       c.args.next.now c.loop-item.next c.loop-item.invariant.next);
   next = omega (

@@ -1,19 +1,21 @@
 use Rattle.std.proofs.Common.{◌≡◌, ◌++◌, ◌∷◌, [], true, map, drop}
 use Rattle.std.specs.Str.{bytes_eq}
-use Rattle.clause_formulas.specs.Statements.{all_of, no}
-use Rattle.clause_formulas.specs.Drafts.{said_of}
+use Rattle.clause_formulas.specs.Statements.{all_statements, no}
+use Rattle.clause_formulas.specs.Drafts.{statement_of}
 use Rattle.literal_table.specs.Choices.{any_choice}
-use Rattle.cost_terms.specs.Governing.{once}
+use Rattle.cost_terms.specs.Governing.{weighed_once}
 use Rattle.term_builder.specs.VariantTerms.{governs}
 use Rattle.term_builder.proofs.variant_terms.push_unused.Given as goal
 
 abbrev pub invariant-loop-text : goal.invariant-loop-text
 invariant-loop-text l =
     l.terms.items
-    ++ map (λ text. once (all_of (any_choice (λ value. true) l.fn.values ∷ governs l.fn.variant (said_of l.condition) l.fn.rows
-    (map said_of l.fn.conditions) ∷ no (any_choice (bytes_eq text) l.fn.values) ∷ [])))
+    ++ map (λ text. weighed_once (all_statements
+    (any_choice (λ value. true) l.fn.values ∷ governs l.fn.variant (statement_of l.condition) l.fn.rows
+    (map statement_of l.fn.conditions) ∷ no (any_choice (bytes_eq text) l.fn.values) ∷ [])))
     (drop l.text-index l.fn.row.default)
     ≡ l.fn.terms.items
-    ++ map (λ text. once (all_of (any_choice (λ value. true) l.fn.values ∷ governs l.fn.variant (said_of l.condition) l.fn.rows
-    (map said_of l.fn.conditions) ∷ no (any_choice (bytes_eq text) l.fn.values) ∷ [])))
+    ++ map (λ text. weighed_once (all_statements
+    (any_choice (λ value. true) l.fn.values ∷ governs l.fn.variant (statement_of l.condition) l.fn.rows
+    (map statement_of l.fn.conditions) ∷ no (any_choice (bytes_eq text) l.fn.values) ∷ [])))
     l.fn.row.default

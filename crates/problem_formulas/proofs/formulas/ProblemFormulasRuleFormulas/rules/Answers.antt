@@ -1,6 +1,6 @@
 use Rattle.std.proofs.Common.{ap, sym}
-use Rattle.clause_formulas.specs.Drafts.{value_at}
-use Rattle.clause_formulas.specs.Statements.{all_of}
+use Rattle.clause_formulas.specs.Drafts.{statement_at}
+use Rattle.clause_formulas.specs.Statements.{all_statements}
 use Rattle.valid_models.specs.Joined.{condition_said}
 use Rattle.rule_formulas.proofs.OfWordFormulas.Steps.{ok-same}
 use Rattle.rule_formulas.specs.Paths.{path_by}
@@ -15,6 +15,6 @@ returns c =
     let problem = c.args.self.now.problem.now in
     let path = path_by table c.args.paths.now in
     let condition = condition_said problem table path in
-    ok-same c.all_rules.result (all_of (rows_said problem table condition))
-    ((formulas_given problem table).rules path (value_at c.args._values.now))
-    (sym (ap all_of (rows-same path condition table problem))) c.all_rules.ensures
+    ok-same c.all_rules.result (all_statements (rows_said problem table condition))
+    ((formulas_given problem table).rules path (statement_at c.args._values.now))
+    (sym (ap all_statements (rows-same path condition table problem))) c.all_rules.ensures

@@ -1,0 +1,5 @@
+-- what public contracts say
+pub mod Parts
+pub mod Least
+-- on the way
+pub mod Reductions

@@ -1,0 +1,2 @@
+class Frames(Package):
+    version("1.0")

@@ -1,0 +1,2 @@
+class Letters(Package):
+    version("1.0")

@@ -1,0 +1,3 @@
+class Words(Package):
+    version("1.0")
+    depends_on("letters")
