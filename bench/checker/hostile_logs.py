@@ -16,7 +16,8 @@ N (20,000) is the number of ids or lines; the families:
   wide-below  the same, with as many literals below V as there are
   turns       as many clauses as each has literals, by turns, one chain of N ids
   lines       many lines with chains over long clauses
-  numbers     N clauses with one number, as `log_checker::index` makes it
+  numbers     N clauses with one number, as `log_checker::index` makes it by its first factor
+  factors     N clauses with one number by its first factor, and one by the second
   fronts      N clauses that differ in their last literal alone
 """
 import os
@@ -28,7 +29,7 @@ import time
 TOP = os.path.dirname(os.path.dirname(os.path.dirname(os.path.abspath(__file__))))
 WORDS = [f"{TOP}/examples/mpi", f"{TOP}/examples/mpi/settings.json", "-"]
 SPEC = "hdf5@1.14: ~mpi ^mpich"
-FACTOR, WHOLE = 1099511628211, 1 << 64
+FACTORS, WHOLE = (12160024628638980471, 16869996333008978667), 1 << 64
 
 
 def rules(encode):
@@ -92,20 +93,42 @@ def long_lines(log, ids):
         log.learn(log.clauses[log.base] + [*more, ring[-1], ring[-1] + 1 + at], [first, *steps])
 
 
-def number(literals):
+def number(factor, literals):
     found = 0
     for literal in sorted(literals, key=abs):
-        found = (found * FACTOR + (abs(literal) - 1) * 2 + (literal > 0)) % WHOLE
+        found = (found * factor + (abs(literal) - 1) * 2 + (literal > 0)) % WHOLE
     return found
 
 
+def literal_of(code, least):
+    """The literal with a code, above another one."""
+    variable = code // 2 + (0 if code // 2 >= least else WHOLE // 2) + 1
+    return variable if code % 2 else -variable
+
+
 def one_number(log, count):
-    base, wanted = log.clauses[log.base], number(log.clauses[log.base]) | 1
+    base, wanted = log.clauses[log.base], number(FACTORS[0], log.clauses[log.base]) | 1
     for at in range(count):
         first = log.variables + 1 + at
-        rest = (wanted - number([*base, first]) * FACTOR) % WHOLE
-        last = rest // 2 + WHOLE // 2 + 1 if rest // 2 <= first else rest // 2 + 1
-        log.weaken([first, last if rest % 2 else -last])
+        code = (wanted - number(FACTORS[0], [*base, first]) * FACTORS[0]) % WHOLE
+        log.weaken([first, literal_of(code, first)])
+
+
+def two_numbers(log, count):
+    """The codes a, b of the last two literals solve a * factor + b = what is left, for both factors."""
+    base, gap = log.clauses[log.base], (FACTORS[0] - FACTORS[1]) % WHOLE
+    even = gap & -gap
+    odd = pow(gap // even, -1, WHOLE)
+    parts = [number(factor, base) * factor for factor in FACTORS]
+    wanted = (1, 1 - parts[0] + parts[1])
+    for at in range(count):
+        first = log.variables + 1 + at
+        left = [(want - number(factor, [*base, first]) * factor * factor) % WHOLE for want, factor in zip(wanted, FACTORS)]
+        a = (left[0] - left[1]) % WHOLE // even * odd % (WHOLE // even)
+        b = (left[0] - a * FACTORS[0]) % WHOLE
+        one, other = literal_of(a, first), literal_of(b, WHOLE // 2)
+        assert (left[0] - left[1]) % even == 0 and abs(one) < abs(other) < WHOLE
+        log.weaken([first, one, other])
 
 
 def fronts(log, count):
@@ -122,6 +145,7 @@ FAMILIES = {
     "turns": turns,
     "lines": long_lines,
     "numbers": one_number,
+    "factors": two_numbers,
     "fronts": fronts,
 }
 

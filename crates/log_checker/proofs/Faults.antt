@@ -24,7 +24,7 @@ use Rattle.log_checker.specs.declared.known.Known.{Known}
 use Rattle.log_checker.specs.Known.{clauses_in, rivals_in}
 use Rattle.log_checker.specs.Steps.{CheckerState, or_else, unless, same_lits, is_among, next_id, next_bit, may_stand_later, ids_known, why_of, unknown_id, chain_why, bit_clause, bit_value_at, has_value, is_first_line, ids_fault, derivation_fault, own_line_fault, place_fault, fault}
 use Rattle.log_checker.proofs.Values.{value-is, is-value}
-use Rattle.log_checker.proofs.Buckets.{same_lits-is, same_lits-refl}
+use Rattle.log_checker.proofs.Places.{same_lits-is, same_lits-refl}
 use Rattle.log_checker.proofs.Ids.{clauses-length}
 use Rattle.log_checker.specs.Kinds.{Suits}
 use Rattle.clause_store.specs.Lits.{IsClause}

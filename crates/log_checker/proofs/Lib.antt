@@ -1,5 +1,5 @@
 pub mod Ids
-pub mod Buckets
+pub mod Places
 pub mod Marks
 pub mod Values
 pub mod Overlays
@@ -12,3 +12,4 @@ pub mod Later
 pub mod Blocks
 pub mod Copies
 pub mod WholeLogs
+pub mod Links

@@ -9,7 +9,7 @@ use Rattle.std.proofs.lemmas.Bool.Decides.{eqb_tells}
 use Rattle.std.proofs.lemmas.Option.{none-some, same_Some, slice_get_past, slice_get_cases}
 use Rattle.std.proofs.lemmas.List.{drop_more, length-set}
 use Rattle.log_checker.specs.Signs.{marked, sign_above, sign_of, SignMap, with_sign, with_touched, is_clear, are_clear, is_listed, AreTouched, IsAbove}
-use Rattle.log_checker.proofs.Buckets.{get-set-same, get-set-other}
+use Rattle.log_checker.proofs.Places.{get-set-same, get-set-other}
 
 is_eq-nat_cmp : (a b : ℕ) → is_eq (nat_cmp a b) ≡ eqb a b
 is_eq-nat_cmp a b = elim (eqb_tells a b) [

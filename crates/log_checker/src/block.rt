@@ -167,7 +167,7 @@ fn take_in(position: &mut Position, lines: &[Line]) -> Result<Option<Why>, Alloc
     ensures grown { Grows position.old position.new }
 {
     for line in lines {
-        if let Some(why) = position.plain_fault(line) {
+        if let Some(why) = position.plain_fault(line)? {
             return Ok(Some(why));
         }
         position.accept(line)?;

@@ -9,7 +9,6 @@
 #![tactic(auto)]
 
 mod block;
-mod bucket;
 mod chain;
 mod checker;
 mod gate;

@@ -64,16 +64,13 @@ pub struct Mark {
     ended: bool,
 }
 
-/// How many buckets a store begins with at least.
-const LEAST_BUCKETS: usize = 64;
-
 /// The clauses of a list, as the first known ones.
 fn copy_all(alloc: Global, clauses: &ClauseList) -> Result<Store, AllocError>
     ensures copied { IfOk result (λ store. store ≡ as_known (clauses_of clauses.now.entries)) }
     ensures in_order { OnOk result (AllClauses (clauses_of clauses.now.entries)) }
 {
     let count = clauses.len();
-    let mut store = Store::new(alloc, (count as usize).max(LEAST_BUCKETS))?;
+    let mut store = Store::new(alloc)?;
     for place in 0..count {
         match clauses.get(alloc, place + 1)? {
             Some(clause) => store.add(input_known(clause))?,
@@ -211,33 +208,36 @@ impl Position {
     }
 
     /// The fault of a bit's value or of a learnt clause.
-    fn own_fault(&self, line: &Line) -> Option<Why>
-        ensures { result ≡ own_line_fault self.now line.now }
+    fn own_fault(&mut self, line: &Line) -> Result<Option<Why>, AllocError>
+        ensures value { IfOk result (λ why. why ≡ own_line_fault self.old line.now) }
+        ensures same { self.new ≡ self.old }
     {
         match line {
-            Line::Learnt { clause, .. } => unless(
-                !self.store.has_rival(clause.lits()),
-                Why::NotNew,
-            ),
-            Line::Zero { bit, .. } => unless(self.has_value(*bit, false), Why::WrongBit),
-            Line::One { bit, .. } => unless(self.has_value(*bit, true), Why::WrongBit),
-            _ => None,
+            Line::Learnt { clause, .. } => {
+                let found = self.store.has_rival(clause.lits())?;
+                Ok(unless(!found, Why::NotNew))
+            }
+            Line::Zero { bit, .. } => Ok(unless(self.has_value(*bit, false), Why::WrongBit)),
+            Line::One { bit, .. } => Ok(unless(self.has_value(*bit, true), Why::WrongBit)),
+            _ => Ok(None),
         }
     }
 
     /// Which rule a line breaks first, but for the check of its chain.
-    pub fn plain_fault(&self, line: &Line) -> Option<Why>
-        ensures { result ≡ plain_fault self.now line.now }
+    pub fn plain_fault(&mut self, line: &Line) -> Result<Option<Why>, AllocError>
+        ensures value { IfOk result (λ why. why ≡ plain_fault self.old line.now) }
+        ensures same { self.new ≡ self.old }
     {
         if let Some(why) = self.place_fault(line) {
-            return Some(why);
+            return Ok(Some(why));
         }
         self.own_fault(line)
     }
 
     /// Which rule a line breaks first.
-    pub fn fault(&self, signs: &mut Signs, line: &Line) -> Result<Option<Why>, AllocError>
-        ensures { IfOk result (λ why. why ≡ fault self.now line.now) }
+    pub fn fault(&mut self, signs: &mut Signs, line: &Line) -> Result<Option<Why>, AllocError>
+        ensures value { IfOk result (λ why. why ≡ fault self.old line.now) }
+        ensures same { self.new ≡ self.old }
     {
         if let Some(why) = self.place_fault(line) {
             return Ok(Some(why));
@@ -246,7 +246,7 @@ impl Position {
         if let Some(why) = derivation_fault(signs, bits, self.store.known(), line)? {
             return Ok(Some(why));
         }
-        Ok(self.own_fault(line))
+        self.own_fault(line)
     }
 
     /// The known clause that a line makes.

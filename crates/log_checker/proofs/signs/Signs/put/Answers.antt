@@ -1,7 +1,7 @@
 use Rattle.std.proofs.Common.{◌∙◌, sym, ap, subst, Some, arith}
 use Rattle.log_checker.specs.Signs.{sign_of, with_sign, AreTouched}
 use Rattle.log_checker.proofs.Marks.{mark-put, above-put, touched-put, above-kept}
-use Rattle.log_checker.proofs.Buckets.{get-index}
+use Rattle.log_checker.proofs.Places.{get-index}
 use Rattle.log_checker.proofs.signs.Signs.put.Goals as goal
 
 pub invariant_of-self-then-place-len : goal.invariant_of-self-then-place-len
