@@ -1,7 +1,6 @@
 #!/usr/bin/env bash
 # Tries the program where machines fail and files are hostile: kills, full disks, little memory, several runs at once, faults of calls of the
-# system, damaged files of each kind; then the machine's edges (tools/test_machine) and long lists on a small stack (bench/stack.sh), where
-# these run.
+# system, links, pipes and devices, long lists on a small stack, damaged files of each kind, files that are made to stop the importers.
 #
 #   bench/hostile.sh [--program FILE] [OPTION..] [WORD..]
 #
@@ -16,22 +15,14 @@ for tool in python3 strace; do
   command -v "$tool" >/dev/null || { echo "bench/hostile.sh: $tool is missing" >&2; exit 2; }
 done
 
-words=("$@") others=()
+words=("$@")
 case " $* " in
 *" --program "* | *" --program="* | *" --help "* | *" -h "*) ;;
 *)
   source "$top/tools/launch.sh"
   ready_program spack_concretize # the build of these sources, or none
   words=(--program "$program" "$@")
-  [ "$#" -gt 0 ] || others=(tools/test_machine bench/stack.sh)
   ;;
 esac
 
-status=0
-python3 "$top/bench/hostile/hostile.py" "${words[@]}" || status=$?
-for other in "${others[@]}"; do
-  [ -x "$top/$other" ] || continue
-  echo "$other:"
-  "$top/$other" || status=1
-done
-exit "$status"
+exec python3 "$top/bench/hostile/hostile.py" "${words[@]}"

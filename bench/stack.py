@@ -320,9 +320,9 @@ def certificate(program, room, spec, text):
 
 
 def tried(program, kib, name, files, spec, count):
-    """One line for each run; how many a signal ended."""
+    """One line for each run; how many there were, and how many a signal ended."""
     room = tempfile.mkdtemp(prefix="stack-")
-    ended = 0
+    ended = runs = 0
     try:
         for path, text in files.items():
             if callable(text):
@@ -336,13 +336,13 @@ def tried(program, kib, name, files, spec, count):
             verb, words = todo.pop(0)
             status, said, seconds = run(program, kib, room, words)
             killed = status is not None and status < 0
-            ended += killed
+            ended, runs = ended + killed, runs + 1
             print("%-8s %-10s %6d %7.2f s  %s: %s" % (shown(status), verb, count, seconds, name, said), flush=True)
             if verb == "concretize" and status in (0, 1):
                 todo = commands(files, spec, status) + todo
     finally:
         shutil.rmtree(room, ignore_errors=True)
-    return ended
+    return runs, ended
 
 
 def main():
@@ -353,20 +353,21 @@ def main():
     parser.add_argument("--at", type=int, nargs="*")
     given = parser.parse_args()
     program = os.path.abspath(given.program)
-    ended = 0
+    ended = runs = 0
     for name, make, root in KINDS:
         if given.only not in name:
             continue
         for count in given.at or (SIZES + ((10000,) if name in ("variants", "lock: variants") else ())):
-            ended += tried(program, given.kib, name, make(count), root(count) if callable(root) else root, count)
+            more, killed = tried(program, given.kib, name, make(count), root(count) if callable(root) else root, count)
+            runs, ended = runs + more, ended + killed
     if not given.only:
         for packages, name in (("100", "100 packages"), ("1000", "1,000 packages"), ("0" * 100000 + "1", "a number of 100,001 digits")):
             room = tempfile.mkdtemp(prefix="stack-")
             status, said, seconds = run(program, given.kib, room, ["trial", packages, "7"])
             shutil.rmtree(room)
-            ended += status is not None and status < 0
+            ended, runs = ended + (status is not None and status < 0), runs + 1
             print("%-8s %-10s %6s %7.2f s  %s: %s" % (shown(status), "trial", "", seconds, name, said), flush=True)
-    print("ended by a signal: %d; kinds of list: %d" % (ended, len(KINDS)))
+    print("%d runs, %d ended by a signal; %d kinds of list" % (runs, ended, len(KINDS)))
     return min(ended, 1)
 
 

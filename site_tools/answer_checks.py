@@ -77,14 +77,15 @@ def mistake_rows() -> list[tuple[list[str], str]]:
 
 
 def check_mistakes() -> Check:
-    """Each mistake of the table is told by its word or place."""
+    """Each mistake of the table is told by its word or place, and each request that no graph meets by its reason."""
     rows = mistake_rows()
-    if len({tuple(words) for words, _ in rows}) < 59:
-        yield "mistakes.rows", "has fewer than 59 mistakes"
     before = os.getcwd()
     with tempfile.TemporaryDirectory() as room, futures.ThreadPoolExecutor(4) as pool:
         make_room(Path(room))
         runs = list(pool.map(lambda row: said(row[0], room), rows))
+        unmet = {tuple(words) for (words, _), done in zip(rows, runs) if done.returncode == 1}
+        if len(unmet) < 20 or len({tuple(words) for words, _ in rows} - unmet) < 59:
+            yield "mistakes.rows", "has fewer than 59 mistakes, or than 20 requests that no graph meets"
         os.chdir(room)
         try:
             for (words, wanted), done in zip(rows, runs):

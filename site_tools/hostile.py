@@ -126,7 +126,7 @@ def each_run(asked: list[str]) -> Iterator[tuple[str, float, int, int, str]]:
                 (room / "repo" / "packages" / package).mkdir(parents=True)
                 (room / "repo" / "packages" / package / "package.py").write_bytes(body.encode("utf-8", "surrogateescape"))
             seconds, peak, status, said = run(["import_repo", str(room / "repo"), str(room / "out")])
-            if status == 0 and not (room / "out" / "packages" / "good" / "package.py").is_file():
+            if status in (0, 1) and not (room / "out" / "packages" / "good" / "package.py").is_file():
                 status, said = -1, "the other recipe was not written"
             yield name, seconds, peak, status, said
     for name, (kind, text) in TEXTS.items():
@@ -145,7 +145,7 @@ def main() -> int:
     begun, count, wrong = time.monotonic(), 0, 0
     for name, seconds, peak, status, said in each_run(parser.parse_args().names):
         is_recipe = name in RECIPES
-        right = seconds < SECONDS and 0 < peak < BYTES and "Traceback" not in said and status in ((0,) if is_recipe else (0, 1, 2))
+        right = seconds < SECONDS and 0 < peak < BYTES and "Traceback" not in said and status in ((0, 1) if is_recipe else (0, 1, 2))
         right = right and not any(ord(sign) < 32 and sign != "\n" for sign in said) and not Path("/tmp/ran").exists()
         count, wrong = count + 1, wrong + (not right)
         last = said.strip().splitlines()[-1:] or [""]

@@ -29,7 +29,7 @@ watch_run() {
     status=0
     read -r -t 1 || status=$?
     [ "$status" != 0 ] || return 0
-    [ "$status" -gt 128 ] || { kill -TERM "$run" && return; }
+    [ "$status" -gt 128 ] || { kill -TERM "$run" 2>/dev/null || true; return 0; }
     seconds=$((seconds + 1))
     { read -r _ pages _ <"/proc/$run/statm"; } 2>/dev/null || continue
     { read -r line <"$file" && stage="$(with_commas "$line")"; } 2>/dev/null
@@ -48,11 +48,20 @@ open_nameless() {
   return "$status"
 }
 
-# The run ends with the launcher: by the same signal, but that the run is sent SIGTERM, since a shell's child ignores SIGINT.
+# The run ends with the launcher: by the same signal, but that the run is sent SIGTERM, since a shell's child ignores SIGINT. The
+# file that it was about to put, which it holds open until that has its name, goes too: the run stands still while it is looked for.
 end_with() {
+  local link path beside=()
   trap '' INT TERM HUP QUIT
-  kill -TERM "$run" 2>/dev/null
-  wait "$run" 2>/dev/null
+  kill -STOP "$run" 2>/dev/null || true
+  for link in "/proc/$run/fd/"*; do
+    path="$(readlink "$link" 2>/dev/null)" || continue
+    [[ $path != */.spack_concretize-*.tmp ]] || beside+=("$path")
+  done
+  kill -TERM "$run" 2>/dev/null || true
+  kill -CONT "$run" 2>/dev/null || true
+  wait "$run" 2>/dev/null || true
+  [ "${#beside[@]}" = 0 ] || rm -f -- "${beside[@]}" || true
   trap - "$1"
   kill -s "$1" $$
 }

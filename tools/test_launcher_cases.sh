@@ -169,12 +169,16 @@ cases_of_the_terminal() {
   check "of a fault a terminal is told line and column" grep -q 'r/packages/x/package.py:2:5:' <<<"$out"
   call explain r - - 'bad input: recipe x: Unsupported 22' 4
   check "a file is not told them" test "$(wc -l <"$work/err")" = 1
+  : >"$work/.spack_concretize-0.tmp" # another run's
   for signal in TERM INT HUP KILL; do
     call_beside_on_terminal
     kill -s "$signal" "$parent"
     check "a launcher at a terminal that ends by SIG$signal takes its run with it" is_gone "$run"
     wait
+    check "and says nothing of that" sh -c '! grep -q "kill:" "$1"' - "$work/other"
+    [ "$signal" = KILL ] || check "and the file that it was about to put" test "$(cd "$work" && echo .spack_concretize-*)" = .spack_concretize-0.tmp
   done
+  rm "$work"/.spack_concretize-*
 }
 
 cases_of_installing() {

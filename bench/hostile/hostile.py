@@ -13,18 +13,23 @@ import sys
 import faults
 import fuzz
 import machine
+import others
 
 PARTS = {
     "kills": machine.kills,
     "kills-at-calls": machine.kills_at_calls,
     "stopped": machine.by_hand,
     "file-sizes": machine.file_sizes,
+    "file-sizes-bare": lambda program, options: machine.file_sizes(program, options, is_ignored=False),
     "full-disk": machine.full_disk,
     "memory": machine.little_memory,
     "two-at-once": lambda program, options: machine.at_once(program, options, 2, options.rounds),
     "eight-at-once": lambda program, options: machine.at_once(program, options, 8, options.rounds // 5),
     "faults": faults.device_faults,
     **{"fuzz-" + kind: lambda program, options, kind=kind: fuzz.fuzz(program, options, kind) for kind in [*fuzz.PATHS, "spec"]},
+    "edges": others.edges,
+    "stack": others.stack,
+    "importers": others.importers,
 }
 
 

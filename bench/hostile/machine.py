@@ -54,17 +54,19 @@ def by_hand(program, options):
     return stopped(program, options, "stopped by SIGTERM at random", signal.SIGTERM, options.kills // 4)
 
 
-def file_sizes(program, options):
-    """`ulimit -f` at some sizes: a put fails by name, and no signal ends the run."""
-    count = Count("files of some size at most")
+def file_sizes(program, options, is_ignored=True):
+    """`ulimit -f` at some sizes. With SIGXFSZ ignored, as the launcher has it, a put fails by name; else that signal ends the bare program."""
+    count = Count("files of some size at most" + ("" if is_ignored else ", the bare program"))
     with tempfile.TemporaryDirectory() as folder:
         problem = Problem(program, folder, 104)
         for size in (0, 1, 512, 1024, 4096, 8192, 16384, 32768, 65536, 131072, 262144):
             problem.reset()
-            done, held = run(["prlimit", "--fsize=%d" % size, *problem.words], folder), problem.held()
+            ignored = ["sh", "-c", 'trap "" XFSZ; exec "$@"', "-"] if is_ignored else []
+            done, held = run([*ignored, "prlimit", "--fsize=%d" % size, *problem.words], folder), problem.held()
             count.saw("status %d, lock %s, cert %s" % (done.status, *held))
             is_lost = "lost" in held or done.status == 0 and held != ("new", "new")
-            count.add(done.fault() or ("lost" if is_lost else None), "%d bytes" % size)
+            is_ended = done.status == -signal.SIGXFSZ and not is_ignored  # docs/formats/command-line.md says so
+            count.add((not is_ended and done.fault()) or ("lost" if is_lost else None), "%d bytes" % size)
     return count
 
 

@@ -11,9 +11,14 @@ MOST = 2000
 LANGUAGES = ("c", "cxx", "fortran")  # a dependency on these and nothing more is passed over
 
 
+def provided(name: str, catalog: Catalog) -> set[str]:
+    """The virtuals that a package provides, under whatever conditions."""
+    return {virtual for virtual, rows in catalog.virtuals.items() if any(package == name for package, _ in rows)}
+
+
 def ways_to(root: str, name: str, catalog: Catalog) -> list[tuple[str, Directive]]:
     """The dependencies on a package, or on what it provides, of all packages that a root can lead to."""
-    wanted = {name} | {virtual for virtual, rows in catalog.virtuals.items() if any(package == name for package, _ in rows)}
+    wanted = {name} | provided(name, catalog)
     found: list[tuple[str, Directive]] = []
     seen, todo = {root}, [root]
     while todo and len(seen) < MOST:
@@ -27,6 +32,21 @@ def ways_to(root: str, name: str, catalog: Catalog) -> list[tuple[str, Directive
                     if next_one not in seen:
                         seen.add(next_one)
                         todo.append(next_one)
+    return found
+
+
+def rivals(spec: list[spec_parts.Part], catalog: Catalog) -> list[str]:
+    """For each virtual with several providers among the `^` of a spec that nothing asks for by their own names: that these are rivals."""
+    found: list[str] = []
+    below = sorted({part.name for part in spec[1:]})
+    by_virtual: dict[str, list[str]] = {}
+    for name in below:
+        by_name = {target[0].name for _, row in ways_to(spec[0].name, name, catalog) for target in spec_parts.parts(row.first())}
+        if name not in by_name and len(by_name) == 1:
+            by_virtual.setdefault(by_name.pop(), []).append(name)
+    for virtual, names in sorted(by_virtual.items()):
+        if len(names) > 1:
+            found.append(f"{' and '.join(names)} come in only as providers of {virtual}, and a graph has one provider of it")
     return found
 
 

@@ -3,7 +3,7 @@
 Asks the program's `explain`, and shows of each root and directive that it names the text, the file and line, the message,
 and the class of reason where one shows: no such version, variant, value, compiler, system, target or package, with what there
 is; a cycle. Where a root stands alone and all that it asks for is there, it asks the program again with less, and shows
-what cannot be together.
+what cannot be together. Of two providers of one virtual it says that they are rivals.
 """
 import argparse
 import sys
@@ -66,6 +66,9 @@ def closing_lines(found: list[Reason], asks: Optional[Asks], catalog: Catalog) -
     round_trip = reasons.cycle(found)
     if round_trip:
         return [f"a cycle: {' needs '.join(round_trip)}; no graph has one"]
+    rivals = [line for each in found if each.kind == "root" for spec in spec_parts.parts(each.text) for line in reach.rivals(spec, catalog)]
+    if rivals:
+        return rivals
     if len(found) == 1 and found[0].kind == "root" and asks:
         text, whole = together(found[0].text, asks)
         more = "" if whole else " (there may be less)"
