@@ -1,0 +1,5 @@
+pub mod NumberLaws
+pub mod ChildLaws
+pub mod EarliestLaws
+pub mod WaveLaws
+pub mod ChainLaws

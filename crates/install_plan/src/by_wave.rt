@@ -21,7 +21,8 @@ pub(crate) fn by_wave(
         waves.items) }
 {
     let nodes = graph.nodes();
-    let mut waves = no_names(alloc, greatest_built(graph, numbers))?;
+    let count = greatest_built(graph, numbers);
+    let mut waves = no_names(alloc, count)?;
     for place in 0..nodes.len() {
         if is_built(&nodes[place]) {
             let wave = &mut waves[numbers[place] - 1];

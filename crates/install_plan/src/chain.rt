@@ -20,8 +20,9 @@ pub(crate) fn chain_of(
 {
     let mut chain = List::new(alloc);
     let mut above = None;
-    for place in (0..waves.len()).rev() {
-        let name = next_name(graph, above, waves[place].as_slice());
+    for done in 0..waves.len() {
+        let wave = waves[waves.len() - 1 - done].as_slice();
+        let name = next_name(graph, above, wave);
         chain.push(name.duplicate(alloc)?)?;
         above = Some(name);
     }

@@ -33,7 +33,14 @@ pub(crate) fn numbers_of(alloc: Global, heads: &[List<usize>]) -> Result<Vec<usi
         settle(heads, waiter, &mut numbers, &mut waiting, &mut settled)?;
     }
     while let Some(place) = settled.pop() {
-        wake(alloc, heads, place, &mut numbers, &mut waiting, &mut settled)?;
+        wake(
+            alloc,
+            heads,
+            place,
+            &mut numbers,
+            &mut waiting,
+            &mut settled,
+        )?;
     }
     Ok(numbers)
 }
@@ -78,11 +85,12 @@ fn settle(
     if next < children.len() {
         let list = &mut waiting[children[next]];
         list.push(Waiter { place, next })?;
+        Ok(())
     } else {
         numbers[place] = greatest(children, numbers.as_slice()) + 1;
         settled.push(place)?;
+        Ok(())
     }
-    Ok(())
 }
 
 /// Lets all that wait for a place look further: it has its number.
@@ -99,6 +107,7 @@ fn wake(
     requires right { AreRight heads.now numbers.old.items waiting.old.items settled.old.items }
     ensures right { OnOk result (AreRight heads.now numbers.new.items waiting.new.items
         settled.new.items) }
+    ensures kept { OnOk result (Keeps numbers.old.items numbers.new.items) }
     ensures work { OnOk result (length settled.new.items + missing numbers.new.items
         ≡ length settled.old.items + missing numbers.old.items) }
     ensures waits { OnOk result ((p : ℕ) → number_at numbers.new.items p ≡ 0

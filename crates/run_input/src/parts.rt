@@ -57,7 +57,7 @@ impl ReadSettings {
 #[derive(Drop)]
 pub struct ReadRecipes {
     recipes: List<Recipe>,
-    ghost order: { AreInOrder recipes } by { IsStrictlySortedBy-prop byte_cmp (map name_of recipes) },
+    ghost order: { AreInOrder recipes } by { IsStrictlySortedBy-prop byte_cmp (map recipe_name recipes) },
     ghost right: { list_all is_right_recipe recipes ≡ true },
     ghost few_rows: { are_few_rows recipes ≡ true },
 }

@@ -11,14 +11,15 @@ use Rattle.proof_log.specs.declared.line.Line.{Line}
 use Rattle.graph_rules.specs.Costs.{vector, smaller}
 use Rattle.graph_rules.specs.Optimal.{IsOptimal}
 use Rattle.graph_rules.specs.Valid.{valid}
+use Rattle.run_task.specs.Answer.{Answer}
 use Rattle.run_task.specs.Answer.TheVariants as answers
 use Rattle.run_task.specs.Problems.{Problem}
 use Rattle.run_task.specs.Shown.{IsBestLock, IsOutdoneLock}
 use Rattle.run_task.specs.Verdicts.{HasCosts, IsValidLock}
 use Rattle.run_output.specs.Evidence.{IsFor, evidence}
-use Rattle.run_output.specs.Texts.{fresh_text, stale_text}
+use Rattle.run_output.specs.Texts.{fresh_text, stale_text, undecided_line}
 use Rattle.run_output.specs.Told.{IsCompared, IsOutdoneBy, IsStillBest}
-use Rattle.run_output.specs.declared.answer.Outcome.TheVariants.{Solved, Stale}
+use Rattle.run_output.specs.declared.answer.Outcome.TheVariants.{Solved, Stale, Undecided}
 
 tied : (a b : List ℕ) (o : Ordering) → slice_cmp nat_cmp a b ≡ o → is_lt o ≡ false → is_lt (ordering_reverse o) ≡ false → a ≡ b
 tied a b Less e below back = absurd cc
@@ -35,6 +36,12 @@ module _ (problem : Problem) (numbers : List ℕ) (costs : HasCosts problem numb
   -- no graph is valid: but one is
   pub not_nothing : (log : List Line) → IsFor problem (answers.Nothing log) → ⊥
   not_nothing log none = false≢true (sym (none.means costs.graph costs.well_formed) ∙ costs.is_valid)
+
+  -- the budget was spent
+  pub left_open : (answer : Answer) (log : List Line) (budget : ℕ) (text : List ℕ) → answer ≡ answers.Undecided log → IsFor problem answer
+      → budget ≡ problem.settings.conflict_budget → text ≡ undecided_line budget → IsCompared evidence problem numbers Undecided text
+  left_open answer log budget text is found same said =
+      record { log = log; spent = subst (IsFor problem) is found; is_text = said ∙ ap undecided_line same }
 
   module _ (graph : Content) (log : List Line) (best : IsFor problem (answers.Best graph log)) (costs_of text : List ℕ)
       (is_vector : costs_of ≡ vector problem graph) where

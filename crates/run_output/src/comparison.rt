@@ -73,6 +73,7 @@ fn beside_best(
 }
 
 /// Of costs that some valid graph has, beside an answer of the problem.
+#[tactic(auto, using(crate::proofs::Comparisons::left_open))]
 fn beside(
     alloc: Global,
     problem: &Problem,
@@ -85,8 +86,8 @@ fn beside(
 {
     match answer {
         Answer::Best { graph, log } => beside_best(alloc, problem, numbers, graph, log),
-        Answer::Nothing { .. } => unreachable!(),
-        Answer::Undecided { .. } => Ok(Said {
+        Answer::Nothing { log: _ } => unreachable!(),
+        Answer::Undecided { log: _ } => Ok(Said {
             text: undecided_text(alloc, budget_of(problem))?,
             outcome: Outcome::Undecided,
         }),

@@ -1,2 +1,5 @@
 -- what public contracts say
 pub mod Found
+-- what private ones say
+pub mod Orders
+pub mod Marks

@@ -6,8 +6,11 @@
 //! What it must not know: graphs of a run, roots, settings besides the platform and the targets.
 #![tactic(auto)]
 
+mod below;
 mod find;
+mod links;
 mod node;
+mod order;
 
 pub use find::find;
 pub use node::installed_node;

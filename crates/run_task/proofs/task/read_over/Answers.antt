@@ -36,20 +36,20 @@ pub read_posed-requires : goal.read_posed-requires
 read_posed-requires g c =
     sym (ap (λ (k : Command). is_search k.work) c.command.view_is) ∙ (sym c.is_search.ensures ∙ c.if-is_search.false)
 
-pub returns-clause-read : goal.returns-clause-read
-returns-clause-read g c =
+pub returns-else-is_search-clause-read : goal.returns-else-is_search-clause-read
+returns-else-is_search-clause-read g c =
     let is : is_search c.args.command.now.work ≡ false =
     sym (ap (λ (k : Command). is_search k.work) c.command.view_is) ∙ (sym c.is_search.ensures ∙ c.if-is_search.false) in
     over_by c.args.command.now c.read_posed.result _ false is c.read_posed.ensures.read
 
-pub returns-clause-seen : goal.returns-clause-seen
-returns-clause-seen g c =
+pub returns-else-is_search-clause-seen : goal.returns-else-is_search-clause-seen
+returns-else-is_search-clause-seen g c =
     let is : is_search c.args.command.now.work ≡ false =
     sym (ap (λ (k : Command). is_search k.work) c.command.view_is) ∙ (sym c.is_search.ensures ∙ c.if-is_search.false) in
     seen_posed c.args.command.now c.read_posed.result _ is c.read_posed.ensures.seen
 
-pub returns-clause-specs : goal.returns-clause-specs
-returns-clause-specs g c =
+pub returns-else-is_search-clause-specs : goal.returns-else-is_search-clause-specs
+returns-else-is_search-clause-specs g c =
     let is : is_search c.args.command.now.work ≡ false =
     sym (ap (λ (k : Command). is_search k.work) c.command.view_is) ∙ (sym c.is_search.ensures ∙ c.if-is_search.false) in
     specs_by c.args.command.now c.read_posed.result false is c.read_posed.ensures.specs

@@ -1,0 +1,4 @@
+pub mod OrderLaws
+pub mod LinkLaws
+pub mod MarkLaws
+pub mod FoundLaws
