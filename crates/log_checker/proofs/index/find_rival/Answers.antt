@@ -1,5 +1,5 @@
 use Prim.Native.Nat.{suc}
-use Rattle.std.proofs.Common.{◌≡◌, ◌-◌, ◌<◌, ◌≤◌, ◌∙◌, Some, length, get_or, sym, ap, refl, arith}
+use Rattle.std.proofs.Common.{◌≡◌, ◌-◌, ◌<◌, ◌≤◌, ◌∙◌, true, false, Some, length, get_or, sym, ap, refl, arith}
 use Rattle.std.specs.Prelude.{slice_get}
 use Rattle.std.proofs.lemmas.Option.{slice_get-get_or}
 use Rattle.log_checker.specs.declared.known.Known.{Known}

@@ -1,4 +1,4 @@
-use Rattle.std.proofs.Common.{◌≡◌, ◌+◌, ◌∙◌, length, set, sym, ap, subst, arith}
+use Rattle.std.proofs.Common.{◌≡◌, ◌+◌, ◌++◌, ◌∷◌, [], ◌∙◌, length, get_or, set, sym, ap, subst, arith}
 use Rattle.log_checker.specs.Links.{bucket_of, Notes}
 use Rattle.log_checker.proofs.Links.{notes-own}
 use Rattle.log_checker.proofs.index.note.Goals as goal
