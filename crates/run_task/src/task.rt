@@ -98,7 +98,7 @@ fn read_posed<R: Threads + Sync, D: Desk>(
     desk: &mut D,
     command: &Command<'_>,
 ) -> Result<Task, ReadStop>
-    requires { is_search command.now.work ≡ false }
+    requires work { is_search command.now.work ≡ false }
     ensures read { IfSome (D.files desk.old) (λ files. Gives result (OverUnless log_verdict false files command.now)) }
     ensures seen { IfOk result (λ task. IfSome (D.files desk.old)
         (λ files. IsShownOver (SeenBy command.now.work task) files command.now)) }

@@ -32,8 +32,8 @@ returns-then-is_search-clause-specs g c =
 
 -- ---- a problem
 
-pub read_posed-requires : goal.read_posed-requires
-read_posed-requires g c κs long =
+pub read_posed-requires-clause-work : goal.read_posed-requires-clause-work
+read_posed-requires-clause-work g c κs long =
     sym (ap (λ (k : Command). is_search k.work) c.command.view_is) ∙ (sym c.is_search.ensures ∙ c.if-is_search.false)
 
 pub returns-else-is_search-clause-read : goal.returns-else-is_search-clause-read
