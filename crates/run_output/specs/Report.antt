@@ -36,12 +36,16 @@ machine_text node = place_text node ++ (origin_text node.origin ++ 10 ∷ [])
 unfoldable pub node_line : Node → List ℕ
 node_line node = label_text node ++ (variants_text node.variants ++ (compiler_text node.compiler ++ machine_text node))
 
--- an installed package: its hash, and then its node, whose hash is not said again
+-- the machine of an installed package, whose hash is not said again
+unfoldable pub installed_end : Node → List ℕ
+installed_end node = place_text node ++ codes " installed\n"
+
+unfoldable pub installed_line : Node → List ℕ
+installed_line node = label_text node ++ (variants_text node.variants ++ (compiler_text node.compiler ++ installed_end node))
+
+-- an installed package: its hash, and then its node
 unfoldable pub record_line : Record → List ℕ
-record_line entry =
-    let node = installed_node entry in
-    entry.hash
-    ++ 32 ∷ (label_text node ++ (variants_text node.variants ++ (compiler_text node.compiler ++ (place_text node ++ codes " installed\n"))))
+record_line entry = entry.hash ++ 32 ∷ installed_line (installed_node entry)
 
 -- one that may be there
 abbrev pub line_if_there : Option Record → List ℕ

@@ -2,7 +2,7 @@
 
 ghost use Rattle.std.specs.Prelude.{◌≡◌, ◌++◌, ◌∷◌, [], None, IfOk, OnOk, codes, decimal};
 ghost use Rattle.graph_core.specs.declared.node.Origin.TheVariants.{External, Installed};
-ghost use Rattle.run_output.specs.Report.{compiler_text, label_text, machine_text, node_line, origin_text, place_text, record_line, report_text, vector_line, worked_node};
+ghost use Rattle.run_output.specs.Report.{compiler_text, installed_end, installed_line, label_text, machine_text, node_line, origin_text, place_text, record_line, report_text, vector_line, worked_node};
 
 use graph_core::{Compiler, Node, Origin};
 use reuse_db::Record;
@@ -93,6 +93,26 @@ fn write_node(alloc: Global, node: &Node, out: &mut Vec<u8>) -> Result<(), Alloc
     write_machine(alloc, node, out)
 }
 
+/// The machine of an installed package, and the end of its line.
+#[tactic(auto, unfolding(crate::specs::Report::installed_end))]
+fn write_installed_end(node: &Node, out: &mut Vec<u8>) -> Result<(), AllocError>
+    ensures { OnOk result (out.new.items ≡ out.old.items ++ installed_end node.now) }
+{
+    write_place(node, out)?;
+    out.extend_from_slice(b" installed\n")
+}
+
+/// The node of an installed package, and the end of its line.
+#[tactic(auto, unfolding(crate::specs::Report::installed_line))]
+fn write_installed(node: &Node, out: &mut Vec<u8>) -> Result<(), AllocError>
+    ensures { OnOk result (out.new.items ≡ out.old.items ++ installed_line node.now) }
+{
+    write_label(node, out)?;
+    write_variants(node.variants.as_slice(), out)?;
+    write_compiler(&node.compiler, out)?;
+    write_installed_end(node, out)
+}
+
 /// The line of an installed package: its hash, and its node.
 #[tactic(auto, unfolding(crate::specs::Report::record_line))]
 pub(crate) fn write_record(
@@ -105,11 +125,7 @@ pub(crate) fn write_record(
     let node = installed_node(alloc, entry)?;
     out.extend_from_slice(entry.hash.as_str().as_bytes())?;
     out.extend_from_slice(b" ")?;
-    write_label(&node, out)?;
-    write_variants(node.variants.as_slice(), out)?;
-    write_compiler(&node.compiler, out)?;
-    write_place(&node, out)?;
-    out.extend_from_slice(b" installed\n")
+    write_installed(&node, out)
 }
 
 #[tactic(auto, unfolding(crate::specs::Report::vector_line))]
