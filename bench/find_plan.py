@@ -16,7 +16,7 @@ import sys
 import tempfile
 
 TOP = os.path.dirname(os.path.dirname(os.path.abspath(__file__)))
-VERSIONS, NAMES, VIRTUALS = ("1.0", "1.2", "1.10", "2.0"), [f"p{i}" for i in range(6)], ("va", "vb")
+VERSIONS, NAMES, VIRTUALS = ("1.0", "1.2", "1.10", "2.0"), [f"p{i}" for i in range(4)], ("va", "vb")
 LISTS = (None, None, "1", "1.2", "=1.2", "1.1:", ":1", ":1.2", "1.2:1.9", "2:")
 
 # ---- the second reading: a part is its name, its list of versions, the value of `+a`, and its compiler
@@ -135,8 +135,8 @@ def run(program, folder, *words):
 
 def find_case(program, folder, draw):
     records, provided = [], {}
-    for _ in range(draw.randrange(12)):
-        children = draw.sample([r["hash"] for r in records], min(len(records), draw.randrange(3)))
+    for _ in range(draw.randrange(24)):
+        children = draw.sample([r["hash"] for r in records], min(len(records), draw.randrange(4)))
         record = record_of(draw, draw.choice(NAMES), draw.choice(VERSIONS), children)
         if record["hash"] not in [r["hash"] for r in records]:
             records.append(record)
@@ -145,10 +145,10 @@ def find_case(program, folder, draw):
         lines = [f'    provides("{virtual}{"@" + texts if texts else ""}")\n' for virtual, texts in provided[name]]
         write(folder, f"r/packages/{name}/package.py", f'class P(Package):\n    version("1.0")\n{"".join(lines)}')
     is_virtual = {virtual for each in provided.values() for virtual, _ in each}
-    parts = [(draw.choice([None, *NAMES]), draw.choice(LISTS), None, draw.choice((None, None, "gcc")))]
-    for _ in range(draw.randrange(3)):
-        name = draw.choice([*NAMES, *is_virtual])
-        parts.append((name, draw.choice(LISTS), draw.choice((None, None, "true")), draw.choice((None, None, "gcc"))))
+    parts = [(draw.choice([None, None, *NAMES]), draw.choice((None, None, None, *LISTS)), None, draw.choice((None, None, None, "gcc")))]
+    for _ in range(draw.choice((0, 1, 1, 2))):
+        name = draw.choice([*NAMES, *is_virtual, *is_virtual])
+        parts.append((name, draw.choice((None, *LISTS)), draw.choice((None, None, None, None, "true")), draw.choice((None, None, None, None, "gcc"))))
     shuffled = draw.sample(records, len(records))
     write(folder, "d", json.dumps({"records": shuffled, "version": 1}))
     spec = " ^".join(text_of(part) for part in parts) or "p0"
