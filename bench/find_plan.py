@@ -151,7 +151,7 @@ def find_case(program, folder, draw):
         parts.append((name, draw.choice((None, *LISTS)), draw.choice((None, None, None, None, "true")), draw.choice((None, None, None, None, "gcc"))))
     shuffled = draw.sample(records, len(records))
     write(folder, "d", json.dumps({"records": shuffled, "version": 1}))
-    spec = " ^".join(text_of(part) for part in parts) or "p0"
+    spec = " ^".join(text_of(part) for part in parts)
     if not text_of(parts[0]):
         spec = "os=ubuntu22.04" + spec
     wanted = found(records, provided, parts)
