@@ -144,14 +144,14 @@ def find_case(program, folder, draw):
         provided[name] = [(draw.choice(VIRTUALS), draw.choice(LISTS)) for _ in range(draw.randrange(2))]
         lines = [f'    provides("{virtual}{"@" + texts if texts else ""}")\n' for virtual, texts in provided[name]]
         write(folder, f"r/packages/{name}/package.py", f'class P(Package):\n    version("1.0")\n{"".join(lines)}')
-    is_virtual = {virtual for each in provided.values() for virtual, _ in each}
+    is_virtual = sorted({virtual for each in provided.values() for virtual, _ in each})
     parts = [(draw.choice([None, None, *NAMES]), draw.choice((None, None, None, *LISTS)), None, draw.choice((None, None, None, "gcc")))]
     for _ in range(draw.choice((0, 1, 1, 2))):
         name = draw.choice([*NAMES, *is_virtual, *is_virtual])
         parts.append((name, draw.choice((None, *LISTS)), draw.choice((None, None, None, None, "true")), draw.choice((None, None, None, None, "gcc"))))
     shuffled = draw.sample(records, len(records))
     write(folder, "d", json.dumps({"records": shuffled, "version": 1}))
-    spec = " ^".join(text_of(part) for part in parts) or "p0"
+    spec = " ^".join(text_of(part) for part in parts)
     if not text_of(parts[0]):
         spec = "os=ubuntu22.04" + spec
     wanted = found(records, provided, parts)
