@@ -144,7 +144,7 @@ def find_case(program, folder, draw):
         provided[name] = [(draw.choice(VIRTUALS), draw.choice(LISTS)) for _ in range(draw.randrange(2))]
         lines = [f'    provides("{virtual}{"@" + texts if texts else ""}")\n' for virtual, texts in provided[name]]
         write(folder, f"r/packages/{name}/package.py", f'class P(Package):\n    version("1.0")\n{"".join(lines)}')
-    is_virtual = {virtual for each in provided.values() for virtual, _ in each}
+    is_virtual = sorted({virtual for each in provided.values() for virtual, _ in each})
     parts = [(draw.choice([None, None, *NAMES]), draw.choice((None, None, None, *LISTS)), None, draw.choice((None, None, None, "gcc")))]
     for _ in range(draw.choice((0, 1, 1, 2))):
         name = draw.choice([*NAMES, *is_virtual, *is_virtual])
