@@ -20,9 +20,12 @@ use std::thread::Threads;
 /// What a run of this command is at while it reads.
 fn reading_of(command: &Command<'_>) -> Stage {
     match command.work {
-        Work::Concretize | Work::Fresh | Work::Explain | Work::Find | Work::Trial { .. } => {
-            Stage::Reading
-        }
+        Work::Concretize
+        | Work::Fresh
+        | Work::Explain
+        | Work::Reasons
+        | Work::Find
+        | Work::Trial { .. } => Stage::Reading,
         Work::Judge | Work::Check | Work::Refute | Work::Plan => Stage::Checking,
     }
 }

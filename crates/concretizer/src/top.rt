@@ -34,6 +34,8 @@ use std::thread::Threads;
 ///   graph costs less, and else `stale` and the vector of the best one.
 /// - `refute REPO SETTINGS DATABASE CERT SPEC..`: where CERT shows that no graph is valid, `out` gets `accepted`.
 /// - `explain REPO SETTINGS DATABASE SPEC..`: `out` gets `satisfiable`, or a line for each demand that stands against a graph.
+/// - `reasons REPO SETTINGS DATABASE SPEC..`: `out` gets `satisfiable`, or a list of demands for which no graph is valid, and below
+///   each of them the nodes of a graph that is valid for all others, or `none` for the empty graph: so none can be left out.
 /// - `find REPO SETTINGS DATABASE SPEC..`: `out` gets a line for each installed package that meets the spec, which need not name one.
 /// - `plan REPO SETTINGS DATABASE LOCK SPEC..`: where LOCK holds a valid graph of the specs, `out` gets its packages to build in waves,
 ///   each of which needs only those before it, and a chain of packages that shows that there are no fewer.

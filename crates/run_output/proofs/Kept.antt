@@ -10,7 +10,7 @@ use Rattle.run_task.specs.WriteStop.{WriteStop}
 use Rattle.run_task.specs.WriteStop.TheVariants.{Put, Output, NoMemory}
 use Rattle.run_task.specs.declared.task.Task.TheVariants as tasks
 use Rattle.run_output.specs.Answers.{Leaves}
-use Rattle.run_output.specs.Kept.{IsLogTo, KeepsAny}
+use Rattle.run_output.specs.Kept.{IsLeastLogTo, IsLogTo, KeepsAny}
 use Rattle.run_output.specs.Evidence.{IsFor}
 use Rattle.run_output.specs.declared.answer.Outcome.{Outcome}
 
@@ -34,3 +34,15 @@ module _ (lock cert : List ℕ) (input : Input) (before after : Option Files) wh
   of_trial outcome kept (Err (Put at)) log same = record { answer = log.answer; found = log.found; lines = log.lines }
   of_trial outcome kept (Err Output) log same = record { answer = log.answer; found = log.found; lines = log.lines }
   of_trial outcome kept (Err NoMemory) log same = inr (record { answer = log.answer; found = log.found; lines = log.lines })
+
+  -- a least list
+  pub of_least : (outcome : Outcome) (kept : List Line) (result : Result Outcome WriteStop) → IsLeastLogTo input.problem outcome kept
+      → IfOk result (λ x. x ≡ outcome) → KeepsAny lock cert (tasks.Reasons input) before after kept result
+  of_least outcome kept (Ok x) log same =
+      record { explanation = log.explanation; explains = log.explains; is_outcome = same ∙ log.is_outcome; lines = log.lines }
+  of_least outcome kept (Err (Put at)) log same =
+      record { explanation = log.explanation; explains = log.explains; lines = log.lines }
+  of_least outcome kept (Err Output) log same =
+      record { explanation = log.explanation; explains = log.explains; lines = log.lines }
+  of_least outcome kept (Err NoMemory) log same =
+      inr (record { explanation = log.explanation; explains = log.explains; lines = log.lines })

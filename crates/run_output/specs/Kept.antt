@@ -5,12 +5,14 @@ use Rattle.proof_log.specs.declared.line.Line.{Line}
 use Rattle.run_task.specs.Problems.{Problem}
 use Rattle.run_task.specs.Answers.{log_of}
 use Rattle.run_task.specs.Answer.{Answer}
+use Rattle.run_task.specs.LeastExplanation.{LeastExplanation}
 use Rattle.run_task.specs.WriteStop.{WriteStop}
 use Rattle.run_task.specs.WriteStop.TheVariants as writes
 use Rattle.run_task.specs.declared.task.Task.{Task}
 use Rattle.run_task.specs.declared.task.Task.TheVariants as tasks
 use Rattle.run_output.specs.Answers.{files_with}
-use Rattle.run_output.specs.Evidence.{IsFor}
+use Rattle.run_output.specs.Evidence.{IsFor, IsGroundedLeast}
+use Rattle.run_output.specs.LeastTexts.{least_log, least_outcome}
 use Rattle.run_output.specs.Texts.{outcome_of}
 use Rattle.run_output.specs.declared.answer.Outcome.{Outcome}
 
@@ -20,10 +22,17 @@ pub record IsLogOf (problem : Problem) (kept : List Line) : Type 0 where
   pub found : IsFor problem answer
   pub lines : kept ≡ log_of answer
 
+-- these are the lines of the log that spent the budget over the clauses of some demands; where none was spent, there is no line
+pub record IsLeastLog (problem : Problem) (kept : List Line) : Type 0 where
+  pub explanation : LeastExplanation
+  pub explains : IsGroundedLeast problem explanation
+  pub lines : kept ≡ least_log explanation
+
 -- the log of what was searched for the task; of a task that has no search, and of one that explains or compares, no line
 abbrev pub HoldsLog : Task → List Line → Type 0
 HoldsLog (tasks.Solve input) kept = IsLogOf input.problem kept
 HoldsLog (tasks.Try input) kept = IsLogOf input.problem kept
+HoldsLog (tasks.Reasons input) kept = IsLeastLog input.problem kept
 HoldsLog task kept = kept ≡ []
 
 -- the log of an answer that came to this
@@ -32,6 +41,13 @@ pub record IsLogTo (problem : Problem) (outcome : Outcome) (kept : List Line) : 
   pub found : IsFor problem answer
   pub is_outcome : outcome ≡ outcome_of answer
   pub lines : kept ≡ log_of answer
+
+-- the same of a least list that came to this
+pub record IsLeastLogTo (problem : Problem) (outcome : Outcome) (kept : List Line) : Type 0 where
+  pub explanation : LeastExplanation
+  pub explains : IsGroundedLeast problem explanation
+  pub is_outcome : outcome ≡ least_outcome explanation
+  pub lines : kept ≡ least_log explanation
 
 -- the log of the answer whose files were put
 pub record IsPutLog (lock cert : List ℕ) (problem : Problem) (outcome : Outcome) (before after : Option Files) (kept : List Line) : Type 0 where
@@ -45,6 +61,7 @@ pub record IsPutLog (lock cert : List ℕ) (problem : Problem) (outcome : Outcom
 abbrev pub KeepsLog : List ℕ → List ℕ → Task → Outcome → Option Files → Option Files → List Line → Type 0
 KeepsLog lock cert (tasks.Solve input) outcome before after kept = IsPutLog lock cert input.problem outcome before after kept
 KeepsLog lock cert (tasks.Try input) outcome before after kept = IsLogTo input.problem outcome kept
+KeepsLog lock cert (tasks.Reasons input) outcome before after kept = IsLeastLogTo input.problem outcome kept
 KeepsLog lock cert task outcome before after kept = kept ≡ []
 
 -- what is kept at any end of writing: where memory ran out, there may be no answer

@@ -14,6 +14,7 @@ ghost use Rattle.run_output.specs.Told.{Tells};
 use crate::comparison::of_comparison;
 use crate::find::{find, log_of};
 use crate::found::write_found;
+use crate::least_said::of_least_reasons;
 use crate::order::of_graph;
 use crate::packages::of_query;
 use crate::said::{Said, of_certificate, of_reasons, of_trial, of_verdict};
@@ -122,6 +123,10 @@ pub fn write_answer<D: Desk, O: Sink, P: Progress>(
         }
         Task::Explain(input) => {
             let said = of_reasons(alloc, input, progress)?;
+            tell(alloc, task, said, out)
+        }
+        Task::Reasons(input) => {
+            let said = of_least_reasons(alloc, input, kept, progress)?;
             tell(alloc, task, said, out)
         }
         Task::Try(input) => {

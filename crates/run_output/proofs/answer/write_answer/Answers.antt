@@ -1,4 +1,4 @@
-use Rattle.run_output.proofs.Kept.{of_trial}
+use Rattle.run_output.proofs.Kept.{of_least, of_trial}
 use Rattle.run_output.proofs.answer.write_answer.Goals as goal
 
 pub returns-in_ok-said-in-Report-clause-left : goal.returns-in_ok-said-in-Report-clause-left
@@ -27,3 +27,12 @@ returns-in_ok-said-in-Find-clause-left g c = c.tell-in-Find.ensures.left c.args.
 
 pub returns-in_ok-said-in-Plan-clause-left : goal.returns-in_ok-said-in-Plan-clause-left
 returns-in_ok-said-in-Plan-clause-left g c = c.tell-in-Plan.ensures.left c.args.lock.now c.args.cert.now _
+
+pub returns-in_ok-said-in-Reasons-clause-left : goal.returns-in_ok-said-in-Reasons-clause-left
+returns-in_ok-said-in-Reasons-clause-left g c = c.tell-in-Reasons.ensures.left c.args.lock.now c.args.cert.now _
+
+pub returns-in_ok-said-in-Reasons-clause-kept : goal.returns-in_ok-said-in-Reasons-clause-kept
+returns-in_ok-said-in-Reasons-clause-kept g c =
+    let files = g.D.Desk.files c.args.desk.now in
+    rw c.in-Reasons.is (of_least c.args.lock.now c.args.cert.now c.in-Reasons.input files files c.in_ok-said-in-Reasons.said.outcome _
+    c.tell-in-Reasons.result c.in_ok-said-in-Reasons.ensures.kept c.tell-in-Reasons.ensures.outcome)
