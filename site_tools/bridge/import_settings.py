@@ -11,6 +11,7 @@ from pathlib import Path
 from typing import Any, Optional
 
 from . import json_files, settings_packages, targets, yaml_texts
+from .catalog import Catalog
 from .rows import Cannot
 from .settings_compilers import compilers_of, ordered
 from .settings_notes import Notes
@@ -122,7 +123,9 @@ def site_of(given: argparse.Namespace, names: list[str]) -> settings_packages.Si
     except (OSError, ValueError, KeyError, TypeError) as fault:
         raise Cannot("no folder that import_repo wrote", f"{path}: {fault}") from fault
     digests = {hashlib.sha256(each.read_bytes()).hexdigest() for each in given.files}
-    return settings_packages.Site(given.platform, names, providers, declared, digest in digests)
+    catalog = Catalog(str(given.repo))
+    variants = {each: {row.first() for row in catalog.rows(each) if row.word == "variant"} for each in catalog.recipes}
+    return settings_packages.Site(given.platform, names, providers, declared, digest in digests, variants)
 
 
 def text_of(settings: dict) -> str:

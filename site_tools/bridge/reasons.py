@@ -2,6 +2,7 @@
 
 Reads what the program said, and the files of the run; the program alone decides that there is no graph.
 """
+import json
 import re
 from dataclasses import asdict, dataclass, field
 from typing import Any
@@ -12,7 +13,7 @@ from .reason_causes import Cause, causes
 from .recipe_rows import Directive
 from .shown import shown
 
-LINE = re.compile(r"root ([0-9]+) (.*)|([A-Za-z0-9_-]+) (depends_on|conflicts|requires) ([0-9]+)")
+LINE = re.compile(r"root ([0-9]+) (.*)|([A-Za-z0-9_-]+) (depends_on|conflicts|requires|require) ([0-9]+)")
 
 
 @dataclass
@@ -93,6 +94,18 @@ def of_directive(package: str, word: str, number: int, catalog: Catalog) -> Reas
     return found
 
 
+def of_setting(package: str, place: int, catalog: Catalog) -> Reason:
+    """An item of the settings' `require` by its place."""
+    found = Reason("require", place, f"require {place}", package)
+    entry = catalog.settings["packages"].get(package, {})
+    value = entry.get("require", []) if isinstance(entry, dict) else []
+    items = [value] if isinstance(value, str) else value
+    if isinstance(items, list) and place < len(items):
+        found.text = f"the settings require {json.dumps(items[place])}"
+        found.msg = str(items[place].get("message", "")) if isinstance(items[place], dict) else ""
+    return found
+
+
 def read(said: str, catalog: Catalog) -> list[Reason]:
     """The reasons that `explain` said, in its order."""
     found: list[Reason] = []
@@ -103,6 +116,8 @@ def read(said: str, catalog: Catalog) -> list[Reason]:
             reason = Reason("root", int(each[1]), each[2])
             reason.causes = [cause for spec in specs for part in spec for cause in causes(part, catalog)]
             found.append(reason)
+        elif each and each[4] == "require":
+            found.append(of_setting(each[3], int(each[5]), catalog))
         elif each:
             found.append(of_directive(each[3], each[4], int(each[5]), catalog))
     return found

@@ -1,13 +1,14 @@
 """packages.yaml as the keys `providers` and `packages` of the settings.
 
-Takes providers, versions, buildable and externals. What else it says of packages is written into the recipes by
+Takes providers, versions, buildable, externals and `require`. What else it says of packages is written into the recipes by
 `import_repo --packages`; where that was not done, it is listed.
 """
 from dataclasses import dataclass, field
 from typing import Any, Optional
 
-from . import settings_externals, signs, versions, wish_texts
+from . import settings_externals, settings_required, signs, versions, wish_texts
 from .settings_notes import Notes
+from .settings_required import Required
 from .spec_text import Part
 from .wish_texts import SECTIONS
 from .yaml_texts import Text, line_of, texts
@@ -32,6 +33,7 @@ class Site:
     providers: Optional[dict[str, list[str]]] = None  # of the recipes; None where none were named
     declared: dict[str, list[str]] = field(default_factory=dict)
     in_recipes: bool = False  # whether the recipes have what this packages.yaml requires, forbids and prefers
+    variants: Optional[dict[str, set[str]]] = None  # of each recipe; None where none were named
 
 
 def truth(value: Any) -> Optional[bool]:
@@ -76,9 +78,10 @@ def externals_of(package: str, value: Any, site: Site, notes: Notes) -> list[tup
     return [each for each in given if each is not None]
 
 
-def package_of(package: str, packages: dict, site: Site, notes: Notes) -> dict:
+def package_of(package: str, packages: dict, site: Site, required: Required, notes: Notes) -> dict:
     """What the settings say of one package."""
     found: dict[str, Any] = {}
+    given: list[tuple[Part, str]] = []
     for key, value in packages[package].items():
         if key == "version":
             found["versions"] = versions_of(package, value, notes)
@@ -87,14 +90,16 @@ def package_of(package: str, packages: dict, site: Site, notes: Notes) -> dict:
         elif key == "externals":
             given = settings_externals.allowed(package, externals_of(package, value, site, notes), packages, notes)
             found["externals"] = settings_externals.entries(given, site.targets)
-        elif key not in SILENT and not (key in SECTIONS and site.in_recipes):
+        elif key not in SILENT | {"require"} and not (key in SECTIONS and site.in_recipes):
             why = "it is no truth value" if key == "buildable" else ADVICE.get(str(key), "the settings have no such key")
             notes.leave_out(value, f"packages.{package}.{key}", why)
     if site.in_recipes:
         found["versions"] = preferred_of(package, packages[package].get("prefer") or [], notes) + found.get("versions", [])
     if site.declared.get(package):
         found["versions"] = found.get("versions", []) + [",".join(f"={each}" for each in site.declared[package])]
-    return {key: found[key] for key in ("versions", "buildable", "externals") if key in found and found[key] != []}
+    parts = [part for part, _ in given]
+    found["require"] = settings_required.of_package(package, packages[package].get("require"), parts, required, notes)
+    return {key: found[key] for key in ("versions", "buildable", "externals", "require") if key in found and found[key] != []}
 
 
 def maps(packages: Any, notes: Notes) -> dict[str, Any]:
@@ -158,7 +163,7 @@ def read(packages: Any, site: Site, notes: Notes) -> dict:
         else:
             notes.leave_out(order, f"packages.all.providers.{virtual}", "a name beyond the profile")
     for key in every:
-        if key not in ALL | SILENT and not (key in SECTIONS and site.in_recipes):
+        if key not in ALL | SILENT | {"require"} and not (key in SECTIONS and site.in_recipes):
             notes.leave_out(every[key], f"packages.all.{key}", ADVICE.get(str(key), "it is read of single packages alone"))
     if site.providers is None:
         for name in [name for name in packages if name in providers]:
@@ -169,6 +174,8 @@ def read(packages: Any, site: Site, notes: Notes) -> dict:
         for key, value in known.pop("", {}).items():
             if not site.in_recipes:
                 notes.leave_out_line(line_of(value), f"packages: {key} of a virtual", IN_RECIPES)
-    named = [name for name in known if name != "all"] + [name for name in site.declared if name not in known]
-    found = {name: package_of(name, {**known, name: known.get(name, {})}, site, notes) for name in named}
+    required = settings_required.read_all(packages, site.variants, notes)
+    more = [*site.declared, *((site.variants or {}) if required.of_all else [])]
+    named = [name for name in dict.fromkeys([*known, *more]) if name != "all"]
+    found = {name: package_of(name, {**known, name: known.get(name, {})}, site, required, notes) for name in named}
     return {"providers": providers, "packages": {name: found[name] for name in found if found[name]}}

@@ -3,7 +3,7 @@ ghost use Rattle.std.specs.Prelude.{◌≡◌, ℕ, Bool, List, map};
 ghost use Rattle.graph_core.specs.Graphs.{Text, Content};
 ghost use Rattle.problem.specs.Problems.{world_of, Problem};
 ghost use Rattle.clause_formulas.specs.Statements.{Statement, eval};
-ghost use Rattle.recipe_data.specs.declared.recipe.Condition.{Condition};
+ghost use Rattle.recipe_data.specs.OfSpecGrammar.Condition.{Condition};
 ghost use Rattle.condition_rules.specs.Holds.{all_hold};
 ghost use Rattle.graph_rules.specs.Costs.{vector, stopped};
 ghost use Rattle.literal_table.specs.Tables.{Table};

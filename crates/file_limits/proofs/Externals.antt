@@ -23,6 +23,7 @@ use Rattle.settings_reader.specs.Parsed.{IsListAt, IsOptional}
 use Rattle.settings_reader.specs.Externals.{IsDescribed, IsExternal, IsReadAs, described_of, is_alone, only_described, parts_of, with_prefix}
 use Rattle.settings_reader.specs.Externals as external
 use Rattle.settings_reader.specs.Packages as packages
+use Rattle.settings_reader.specs.Required.{AreRequiredAt}
 use Rattle.settings_reader.specs.Packages.{ArePackages, ArePackagesAt, IsPackage}
 use Rattle.site_settings.specs.declared.settings.ExternalEntry.{ExternalEntry}
 use Rattle.site_settings.specs.declared.settings.PackageEntry.{PackageEntry}
@@ -101,6 +102,7 @@ package_most bear name platform d entry h =
     let versions = then_ok _ _ entry ms.2 in
     let buildable = then_ok _ _ entry versions.2 in
     let externals = then_ok (IsListAt (IsExternal name platform) (codes "externals") ms.0) _ entry buildable.2 in
+    let require = then_ok (AreRequiredAt ms.0) _ entry externals.2 in
     omega (
       arith,
       ap weight (known_ok packages.package_keys d ms.0 (said_ok (known packages.package_keys d) ms.0 ms.1)),
@@ -108,7 +110,7 @@ package_most bear name platform d entry h =
           externals.1,
       key-weight ms.0 (codes "externals"),
       sum-twice-each external_members externals.0,
-      ap size_of_package (ok_same entry _ externals.2),
+      ap size_of_package (ok_same entry _ require.2),
     )
 
 packages_most : TextsBearValues → (platform : List ℕ) (d : Data) → AtMost (sum_by package_size) (weight d) (ArePackages platform d)

@@ -9,7 +9,7 @@ use Rattle.std.proofs.lemmas.List.Sums.{sum_by_push}
 use Rattle.spec_grammar.specs.declared.part.Part.{Part}
 use Rattle.spec_grammar.specs.declared.part.Spec.{Spec}
 use Rattle.graph_core.specs.declared.node.Kinds.{Kinds}
-use Rattle.recipe_data.specs.declared.recipe.Condition.{Condition}
+use Rattle.recipe_data.specs.OfSpecGrammar.Condition.{Condition}
 use Rattle.recipe_data.specs.declared.recipe.VariantRow.{VariantRow}
 use Rattle.recipe_data.specs.declared.recipe.Recipe.{Recipe}
 use Rattle.recipe_values.specs.declared.segment.Segment.{Segment}

@@ -5,10 +5,10 @@ use Rattle.std.specs.List.{list_all}
 use Rattle.std.proofs.lemmas.Bool.{cases_Bool}
 use Rattle.clause_formulas.specs.Rules.{Proposition, keeps_rule}
 use Rattle.graph_core.specs.Graphs.{Text}
-use Rattle.condition_rules.specs.Words.{is_one_text, implies}
+use Rattle.condition_rules.specs.Words.{is_one_text, implies, if_written}
 use Rattle.graph_core.specs.Graphs.{Content, node_of, provider_of}
 use Rattle.graph_core.specs.declared.node.Node.{Node}
-use Rattle.problem.specs.Problems.{Problem, world_of, depends_at, conflicts_at, requirements_at}
+use Rattle.problem.specs.Problems.{Problem, world_of, depends_at, conflicts_at, requirements_at, required_at}
 use Rattle.graph_rules.specs.Directives.{keeps_root, keeps_edge, keeps_constraint, keeps_conflict, keeps_requirement}
 use Rattle.graph_rules.specs.Valid.{keeps_directive, keeps_demand}
 use Rattle.problem.specs.declared.demand.Demand.{Demand}
@@ -18,8 +18,8 @@ use Rattle.literal_table.proofs.Spelling.{named-so}
 use Rattle.graph_formulas.proofs.Rules.{written-kept, each-kept}
 use Rattle.graph_formulas.specs.Terms.{Term, is_true, known_rule}
 use Rattle.graph_formulas.specs.Directives.{root_rule, edge_rule, constraint_rule, conflict_rule, requirement_rule}
-use Rattle.graph_formulas.specs.Demands.{directive_rule, demand_rule}
-use Rattle.graph_formulas.proofs.Directives.{LeadsToNodes, root-kept, edge-kept, constraint-kept, conflict-kept, requirement-kept, built-kept}
+use Rattle.graph_formulas.specs.Demands.{directive_rule, required_rule, demand_rule}
+use Rattle.graph_formulas.proofs.Directives.{LeadsToNodes, root-kept, edge-kept, constraint-kept, conflict-kept, requirement-kept, built-kept, there-kept}
 
 all-filter : {T : Type 0} (test f : T → Bool) (xs : List T) → list_all test (filter f xs) ≡ list_all (λ x. implies (f x) (test x)) xs
 all-filter test f [] = refl
@@ -50,6 +50,12 @@ module _ (problem : Problem) (packages : Text → List Text) (graph : Content)
     numbered number (λ row. row.number) (requirement_rule problem packages node.name) (keeps_requirement problem graph node) (requirement-kept problem packages graph listed node) (requirements_at problem node.name),
   ) refl
 
+  setting-kept : (place : ℕ) (node : Node) → holds_here (required_rule problem packages place node.name)
+      ≡ if_written (slice_get (required_at problem node.name) place) (keeps_requirement problem graph node)
+  setting-kept place node =
+      written-kept (is_true (world_of problem) graph) (requirement_rule problem packages node.name) (keeps_requirement problem graph node)
+      (requirement-kept problem packages graph listed node) (slice_get (required_at problem node.name) place)
+
   -- the rule of a demand holds where it is kept
   pub demand-kept : LeadsToNodes graph → (may_be : Text → Bool) → ((name : Text) → may_be name ≡ false → node_of graph name ≡ None) → (d : Demand)
       → holds_here (demand_rule problem packages may_be d) ≡ keeps_demand problem graph d
@@ -60,5 +66,12 @@ module _ (problem : Problem) (packages : Text → List Text) (graph : Content)
     | inl there ↦ rw there (
         built-kept problem packages graph listed name (directive_rule problem packages number name) (keeps_directive problem graph number)
         (λ node here. ap (λ n. holds_here (directive_rule problem packages number n)) (sym (named-so graph name node here)) ∙ directive-kept leads number node))
+    | inr absent ↦ rw (absent, nowhere_else name absent) refl
+  ]
+  demand-kept leads may_be nowhere_else (demand.Setting name place) = elim (cases_Bool (may_be name)) [
+    | inl there ↦ rw there (
+        there-kept problem packages graph listed name (required_rule problem packages place name)
+        (λ node. if_written (slice_get (required_at problem node.name) place) (keeps_requirement problem graph node))
+        (λ node here. ap (λ n. holds_here (required_rule problem packages place n)) (sym (named-so graph name node here)) ∙ setting-kept place node))
     | inr absent ↦ rw (absent, nowhere_else name absent) refl
   ]

@@ -27,7 +27,7 @@ use Rattle.literal_table.proofs.Spelling.{named-so}
 use Rattle.graph_formulas.proofs.Rules.{some-kept, named-kept}
 use Rattle.graph_formulas.proofs.Kept.{by_node, asked-kept, holds-kept, suits-kept}
 use Rattle.graph_formulas.proofs.Few.{one-kept}
-use Rattle.graph_formulas.specs.Terms.{Term, is_true, known_rule, where_built}
+use Rattle.graph_formulas.specs.Terms.{Term, is_true, known_rule, where_built, where_there}
 use Rattle.graph_formulas.specs.Directives.{root_rule, edge_to, edge_rule, suits_asked, constraint_rule, conflict_rule, choice_rule, requirement_rule}
 
 -- an implication
@@ -112,3 +112,10 @@ module _ (problem : Problem) (packages : Text → List Text) (graph : Content)
       by_node graph name (λ o. (not (is_some_and o is_built) || holds_true rule) ≡ if_written o (λ node. implies (is_built node) (test node)))
       (λ node here. not-or (is_built node) (holds_true rule) ∙ ap (implies (is_built node)) (same node here))
       (λ absent. refl)
+
+  -- and of a node that is there
+  pub there-kept : (name : Text) (rule : Proposition Term) (test : Node → Bool) → ((node : Node) → node_of graph name ≡ Some node → holds_true rule ≡ test node)
+      → holds_true (where_there name rule) ≡ if_written (node_of graph name) test
+  there-kept name rule test same =
+      by_node graph name (λ o. (not (is_some_and o (λ node. true)) || holds_true rule) ≡ if_written o test)
+      (λ node here. same node here) (λ absent. refl)

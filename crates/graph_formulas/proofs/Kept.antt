@@ -20,7 +20,7 @@ use Rattle.condition_rules.specs.Words.{is_one_text, includes, if_written, is_so
 use Rattle.condition_rules.specs.Worlds.{World, recipe_of, rows}
 use Rattle.condition_rules.specs.Meets.{meets, meets_rest, meets_platform, provides, row_provides, has_values, is_compiler, is_target, lists_overlap}
 use Rattle.condition_rules.specs.Holds.{asked_node, suits, holds_below, holds, all_hold}
-use Rattle.recipe_data.specs.declared.recipe.Condition.{Condition}
+use Rattle.recipe_data.specs.OfSpecGrammar.Condition.{Condition}
 use Rattle.recipe_data.specs.declared.recipe.ProvideRow.{ProvideRow}
 use Rattle.literal_table.specs.Spells.{values_at, values_or_none}
 use Rattle.literal_table.proofs.Spelling.{named-so}

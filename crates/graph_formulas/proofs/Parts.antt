@@ -15,7 +15,7 @@ use Rattle.condition_rules.specs.Words.{is_one_text, is_some_and}
 use Rattle.condition_rules.specs.Worlds.{World}
 use Rattle.condition_rules.specs.Meets.{meets, provides}
 use Rattle.condition_rules.specs.Holds.{holds, all_hold}
-use Rattle.recipe_data.specs.declared.recipe.Condition.{Condition}
+use Rattle.recipe_data.specs.OfSpecGrammar.Condition.{Condition}
 use Rattle.literal_table.specs.Choices.{Choices, chosen, choice_values}
 use Rattle.literal_table.specs.Tables.{Table, packages_of}
 use Rattle.literal_table.specs.Spells.{Spells}

@@ -18,7 +18,7 @@ use Rattle.graph_core.specs.declared.node.Node.{Node}
 use Rattle.graph_core.specs.declared.node.Edge.{Edge}
 use Rattle.virtuals.specs.Virtuals.{is_virtual}
 use Rattle.condition_rules.specs.Words.{is_one_text, implies, if_written, is_some_and}
-use Rattle.recipe_data.specs.declared.recipe.Condition.{Condition}
+use Rattle.recipe_data.specs.OfSpecGrammar.Condition.{Condition}
 use Rattle.recipe_data.specs.declared.recipe.DependRow.{DependRow}
 use Rattle.recipe_data.specs.declared.recipe.ConflictRow.{ConflictRow}
 use Rattle.recipe_data.specs.declared.recipe.RequireRow.{RequireRow}

@@ -12,7 +12,7 @@ use Rattle.virtuals.specs.Virtuals.{is_virtual}
 use Rattle.condition_rules.specs.Words.{if_written, is_some_and}
 use Rattle.condition_rules.specs.Worlds.{World, recipe_of, rows}
 use Rattle.condition_rules.specs.Meets.{meets_platform, lists_overlap, is_compiler, is_target}
-use Rattle.recipe_data.specs.declared.recipe.Condition.{Condition}
+use Rattle.recipe_data.specs.OfSpecGrammar.Condition.{Condition}
 use Rattle.recipe_data.specs.declared.recipe.ProvideRow.{ProvideRow}
 use Rattle.graph_formulas.specs.Facts.{GraphWord, is_there, has_version, has_variant, has_value, has_compiler, has_os, has_target, node_has, provides_as, has_path}
 use Rattle.graph_formulas.specs.Lists.{◌and◌, settled_test, asked_unless, is_filled, where_written, one_keeps, each_keeps, some}

@@ -3,7 +3,7 @@ ghost use Rattle.std.specs.Prelude.{◌≡◌, ℕ, Bool, List};
 ghost use Rattle.clause_formulas.specs.Statements.{Statement};
 ghost use Rattle.spec_grammar.specs.declared.part.Spec.{Spec};
 ghost use Rattle.graph_core.specs.Graphs.{Text, Content};
-ghost use Rattle.recipe_data.specs.declared.recipe.Condition.{Condition};
+ghost use Rattle.recipe_data.specs.OfSpecGrammar.Condition.{Condition};
 ghost use Rattle.recipe_data.specs.declared.recipe.DependRow.{DependRow};
 ghost use Rattle.recipe_data.specs.declared.recipe.ConflictRow.{ConflictRow};
 ghost use Rattle.recipe_data.specs.declared.recipe.RequireRow.{RequireRow};

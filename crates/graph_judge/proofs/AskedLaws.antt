@@ -11,34 +11,45 @@ use Rattle.graph_core.specs.declared.node.Node.{Node}
 use Rattle.condition_rules.specs.Words.{if_written, implies}
 use Rattle.keyed_lists.proofs.TextLaws.{texts_decide}
 use Rattle.problem.specs.Nodes.{is_built}
-use Rattle.problem.specs.Problems.{depends_at, conflicts_at, requirements_at, Problem}
+use Rattle.recipe_data.specs.declared.recipe.RequireRow.{RequireRow}
+use Rattle.problem.specs.Problems.{depends_at, conflicts_at, requirements_at, package_entry_of, required_at, Problem}
 use Rattle.problem.specs.declared.demand.Demand.{Demand}
 use Rattle.problem.specs.declared.demand.Demand.TheVariants as demand
 use Rattle.graph_rules.specs.Directives.{keeps_root, keeps_edge, keeps_constraint, keeps_conflict, keeps_requirement}
 use Rattle.graph_rules.specs.Valid.{keeps, keeps_all, structure_rules, all_rules, valid_for, keeps_demand, keeps_directive}
-use Rattle.graph_rules.specs.Verdict.{Asked, same_demand, is_among, keeps_asked_root, keeps_asked_row, breaks_of, broken_roots, broken_rows, first_broken, verdict_of, verdict_for}
+use Rattle.graph_rules.specs.Verdict.{Asked, same_demand, is_among, keeps_asked_root, keeps_asked_row, keeps_asked_setting, breaks_of, broken_roots, broken_rows, broken_settings, first_broken, verdict_of, verdict_for}
 use Rattle.graph_rules.specs.declared.rule.Rule.{Rule}
 use Rattle.graph_rules.specs.declared.rule.Rule.TheVariants as rules
 use Rattle.graph_rules.specs.declared.rule.Verdict.TheVariants as verdicts
 use Rattle.graph_rules.proofs.Lists.{In, list_all-each, list_all-from, find-in, node-itself, bytes_eq-same, bytes_eq-itself}
-use Rattle.graph_rules.proofs.ValidLaws.{implied, implies-from, slice_get-in, stands}
-use Rattle.graph_rules.proofs.VerdictLaws.{is_empty, is_valid, is_valid-from, failing_rows, step, keeps-breaks}
+use Rattle.graph_rules.proofs.ValidLaws.{implied, implies-from, slice_get-in, place-of, required-number, stands}
+use Rattle.graph_rules.proofs.VerdictLaws.{is_empty, is_valid, is_valid-from, failing_rows, failing_settings, step, keeps-breaks}
 
 -- ---- demands that are among some
 
 same_demand-is : (d e : Demand) → same_demand d e ≡ true → d ≡ e
 same_demand-is (demand.Root place) (demand.Root other) h = ap demand.Root (eqb-true place other h)
 same_demand-is (demand.Root place) (demand.Directive name number) h = absurd cc
+same_demand-is (demand.Root place) (demand.Setting name number) h = absurd cc
 same_demand-is (demand.Directive name number) (demand.Root place) h = absurd cc
+same_demand-is (demand.Directive name number) (demand.Setting other k) h = absurd cc
+same_demand-is (demand.Setting name number) (demand.Root place) h = absurd cc
+same_demand-is (demand.Setting name number) (demand.Directive other k) h = absurd cc
 same_demand-is (demand.Directive name number) (demand.Directive other k) h =
     let parts = and_parts (bytes_eq name other) (number == k) h in
     let first = bytes_eq-same name other parts.0 in
     let second = eqb-true number k parts.1 in
     λ i. demand.Directive (first i) (second i)
+same_demand-is (demand.Setting name number) (demand.Setting other k) h =
+    let parts = and_parts (bytes_eq name other) (number == k) h in
+    let first = bytes_eq-same name other parts.0 in
+    let second = eqb-true number k parts.1 in
+    λ i. demand.Setting (first i) (second i)
 
 same_demand-itself : (d : Demand) → same_demand d d ≡ true
 same_demand-itself (demand.Root place) = eq-eqb place place refl
 same_demand-itself (demand.Directive name number) = and_from _ _ (bytes_eq-itself name) (eq-eqb number number refl)
+same_demand-itself (demand.Setting name number) = and_from _ _ (bytes_eq-itself name) (eq-eqb number number refl)
 
 among-in : (asked : List Demand) (d : Demand) → is_among asked d ≡ true → In d asked
 among-in [] d h = absurd cc
@@ -117,6 +128,26 @@ module _ (graph : Content) (made : Asked) {R : Type 0} (rows_at : Text → List 
       implied (made (demand.Directive node.name (number row))) (test node row)
       (list_all-each (keeps_asked_row made number test node) (rows_at node.name) row here is) a
 
+-- ---- requirements of the settings
+
+module _ (graph : Content) (made : Asked) (rows_at : Text → List RequireRow) (test : Node → RequireRow → Bool) where
+  abbrev EachThere : Type 0
+  EachThere = (node : Node) → In node graph.nodes → (row : RequireRow) → In row (rows_at node.name)
+      → made (demand.Setting node.name row.number) ≡ true → test node row ≡ true
+
+  settings-kept : EachThere → is_empty (broken_settings rows_at (keeps_asked_setting made test) graph) ≡ true
+  settings-kept each =
+      sym (failing_settings rows_at (keeps_asked_setting made test) graph.nodes)
+      ∙ list_all-from _ graph.nodes (λ node there. list_all-from _ (rows_at node.name)
+      (λ row is. implies-from (made (demand.Setting node.name row.number)) _ (λ a. each node there row is a)))
+
+  settings-each : is_empty (broken_settings rows_at (keeps_asked_setting made test) graph) ≡ true → EachThere
+  settings-each h node there row is a =
+      let all = failing_settings rows_at (keeps_asked_setting made test) graph.nodes ∙ h in
+      let here = list_all-each (λ n. list_all (keeps_asked_setting made test n) (rows_at n.name)) graph.nodes node all there in
+      implied (made (demand.Setting node.name row.number)) (test node row)
+      (list_all-each (keeps_asked_setting made test node) (rows_at node.name) row here is) a
+
 -- ---- all rules
 
 none_broken : (made : Asked) (asked : List Rule) (problem : Problem) (graph : Content)
@@ -138,6 +169,7 @@ is_structure rules.ExtraEdge = true
 is_structure rules.Constraint = false
 is_structure rules.Conflict = false
 is_structure rules.Requirement = false
+is_structure rules.Required = false
 is_structure rules.Kept = true
 is_structure rules.Provider = true
 is_structure rules.UnusedProvider = true
@@ -159,6 +191,7 @@ structure-same made problem graph rules.ExtraEdge h = keeps-breaks rules.ExtraEd
 structure-same made problem graph rules.Constraint h = absurd cc
 structure-same made problem graph rules.Conflict h = absurd cc
 structure-same made problem graph rules.Requirement h = absurd cc
+structure-same made problem graph rules.Required h = absurd cc
 structure-same made problem graph rules.Kept h = keeps-breaks rules.Kept problem graph
 structure-same made problem graph rules.Provider h = keeps-breaks rules.Provider problem graph
 structure-same made problem graph rules.UnusedProvider h = keeps-breaks rules.UnusedProvider problem graph
@@ -235,12 +268,26 @@ module _ (problem : Problem) (graph : Content) (g : IsGraph graph) (asked : List
         implied (row.number == row.number) _ (list_all-each _ (requirements_at problem node.name) row (and_parts _ _ kept).1 is)
         (eq-eqb row.number row.number refl))
 
+    required-made : is_empty (breaks_of (is_among asked) rules.Required problem graph) ≡ true
+    unfolding breaks_of keeps_demand
+    required-made = settings-kept graph (is_among asked) (required_at problem) (keeps_requirement problem graph)
+        (λ node there row is a.
+        let place = place-of (required_at problem node.name) 0 row is in
+        let number : row.number ≡ place.0 = required-number (package_entry_of problem node.name) place.0 row place.1 in
+        let got : slice_get (required_at problem node.name) row.number ≡ Some row =
+        ap (slice_get (required_at problem node.name)) number ∙ place.1 in
+        subst (λ (o : Option RequireRow). if_written o (keeps_requirement problem graph node) ≡ true) got
+        (subst (λ (o : Option Node). if_written o (λ n. if_written (slice_get (required_at problem n.name) row.number)
+        (keeps_requirement problem graph n)) ≡ true)
+        (node-itself graph node g there) (demand-made (demand.Setting node.name row.number) a)))
+
     each-made : (rule : Rule) → is_empty (breaks_of (is_among asked) rule problem graph) ≡ true
     each-made rules.Root = roots-made
     each-made rules.Edge = edges-made
     each-made rules.Constraint = constraints-made
     each-made rules.Conflict = conflicts-made
     each-made rules.Requirement = requirements-made
+    each-made rules.Required = required-made
     each-made rules.Buildable = structure-made rules.Buildable (slice_get-in structure_rules 0 rules.Buildable refl)
     each-made rules.Version = structure-made rules.Version (slice_get-in structure_rules 1 rules.Version refl)
     each-made rules.Variant = structure-made rules.Variant (slice_get-in structure_rules 2 rules.Variant refl)
@@ -317,9 +364,38 @@ module _ (problem : Problem) (graph : Content) (g : IsGraph graph) (asked : List
               (subst (λ n. In (demand.Directive n number) asked) (sym same) there))
         ] refl
 
+    setting-kept : (node : Node) (place : ℕ) → In node graph.nodes → In (demand.Setting node.name place) asked
+        → if_written (slice_get (required_at problem node.name) place) (keeps_requirement problem graph node) ≡ true
+    unfolding breaks_of
+    setting-kept node place there is_asked =
+        elim (slice_get (required_at problem node.name) place) as (λ o. slice_get (required_at problem node.name) place ≡ o
+        → if_written o (keeps_requirement problem graph node) ≡ true) [
+          | None ↦ λ at. refl
+          | Some row ↦ λ at.
+              let number : row.number ≡ place = required-number (package_entry_of problem node.name) place row at in
+              settings-each graph (is_among asked) (required_at problem) (keeps_requirement problem graph) (unbroken rules.Required) node there
+              row (slice_get-in (required_at problem node.name) place row at)
+              (in-among asked (demand.Setting node.name row.number)
+              (subst (λ n. In (demand.Setting node.name n) asked) (sym number) is_asked))
+        ] refl
+
+    setting-asked : (name : Text) (place : ℕ) → In (demand.Setting name place) asked
+        → keeps_demand problem graph (demand.Setting name place) ≡ true
+    unfolding keeps_demand
+    setting-asked name place there =
+        elim (node_of graph name) as (λ o. node_of graph name ≡ o
+        → if_written o (λ node. if_written (slice_get (required_at problem node.name) place) (keeps_requirement problem graph node)) ≡ true) [
+          | None ↦ λ is. refl
+          | Some node ↦ λ is.
+              let found = find-in _ graph.nodes node is in
+              let same : node.name ≡ name = (texts_decide node.name name).0 found.1 in
+              setting-kept node place found.0 (subst (λ n. In (demand.Setting n place) asked) (sym same) there)
+        ] refl
+
     demand-kept : (d : Demand) → In d asked → keeps_demand problem graph d ≡ true
     demand-kept (demand.Root place) there = root-asked place there
     demand-kept (demand.Directive name number) there = directive-asked name number there
+    demand-kept (demand.Setting name place) there = setting-asked name place there
 
     valid-said : valid_for asked problem graph ≡ true
     unfolding valid_for

@@ -1,6 +1,7 @@
 -- The places where a rule is broken, one element after another.
 use Rattle.std.specs.Prelude.{Bool, true, false, ℕ, List, [], ◌∷◌, flat_map, Option, Some, None}
 use Rattle.recipe_data.specs.declared.recipe.DependRow.{DependRow}
+use Rattle.recipe_data.specs.declared.recipe.RequireRow.{RequireRow}
 use Rattle.graph_core.specs.Graphs.{Text, Content}
 use Rattle.graph_core.specs.declared.node.Node.{Node}
 use Rattle.condition_rules.specs.Words.{implies}
@@ -10,7 +11,7 @@ use Rattle.graph_rules.specs.Built.{keeps_buildable, keeps_version, keeps_varian
 use Rattle.graph_rules.specs.Directives.{keeps_edge, keeps_constraint}
 use Rattle.graph_rules.specs.Kept.{keeps_kept}
 use Rattle.graph_rules.specs.Whole.{keeps_provider, keeps_used, keeps_no_cycle, keeps_reachable}
-use Rattle.graph_rules.specs.Verdict.{Place, Asked, keeps_asked_row}
+use Rattle.graph_rules.specs.Verdict.{Place, Asked, keeps_asked_row, keeps_asked_setting}
 use Rattle.graph_rules.specs.declared.rule.Rule.{Rule}
 use Rattle.graph_rules.specs.declared.rule.Verdict.{Verdict}
 use Rattle.graph_rules.specs.declared.rule.Verdict.TheVariants as verdicts
@@ -53,6 +54,14 @@ row_places asked number test node rows = flat_map (λ row. unless (keeps_row ask
 
 abbrev pub rows_places : {R : Type 0} → Asked → (Text → List R) → (R → ℕ) → (Node → R → Bool) → List Node → List Place
 rows_places asked rows_at number test nodes = flat_map (λ node. row_places asked number test node (rows_at node.name)) nodes
+
+-- ---- requirements of the settings
+
+abbrev pub setting_places : Asked → (Node → RequireRow → Bool) → Node → List RequireRow → List Place
+setting_places asked test node rows = flat_map (λ row. unless (keeps_asked_setting asked test node row) (node.name, row.number)) rows
+
+abbrev pub settings_places : Asked → (Text → List RequireRow) → (Node → RequireRow → Bool) → List Node → List Place
+settings_places asked rows_at test nodes = flat_map (λ node. setting_places asked test node (rows_at node.name)) nodes
 
 -- ---- providers
 

@@ -1,7 +1,7 @@
 //! The verdict on a graph.
 //!
 //! What it is: `judge`, which names the first broken rule of a valid graph, and `judge_for`, which
-//! does so where only some roots and directives are asked.
+//! does so where only some roots, directives and requirements of the settings are asked.
 //! What it promises: they answer what `graph_rules` computes as `verdict` and `verdict_for`; so
 //! Valid exactly where no rule is broken, and else the first broken rule, there the least node by
 //! bytes, and there the least number.
@@ -14,6 +14,7 @@ mod nodes;
 mod others;
 mod places;
 mod rows;
+mod settings;
 mod verdict;
 
 pub use verdict::{judge, judge_for};

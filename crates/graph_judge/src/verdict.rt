@@ -12,6 +12,7 @@ use crate::nodes::{NodeRule, node_places};
 use crate::others::{provider_places, root_places};
 use crate::places::least_of;
 use crate::rows::{conflict_places, depend_places, requirement_places};
+use crate::settings::setting_places;
 use graph_core::Graph;
 use graph_rules::{Rule, Verdict};
 use plain_data::{Duplicate, Word};
@@ -19,7 +20,7 @@ use problem::{Explored, Problem};
 use std::alloc::{AllocError, Global};
 
 // The rules, in the order in which a broken one is named.
-const RULES: [Rule; 16] = [
+const RULES: [Rule; 17] = [
     Rule::Root,
     Rule::Buildable,
     Rule::Version,
@@ -31,6 +32,7 @@ const RULES: [Rule; 16] = [
     Rule::Constraint,
     Rule::Conflict,
     Rule::Requirement,
+    Rule::Required,
     Rule::Kept,
     Rule::Provider,
     Rule::UnusedProvider,
@@ -62,6 +64,7 @@ fn places_of<D: AskedDemands>(
         Rule::Constraint => depend_places(alloc, true, problem, graph, asked),
         Rule::Conflict => conflict_places(alloc, problem, graph, asked),
         Rule::Requirement => requirement_places(alloc, problem, graph, asked),
+        Rule::Required => setting_places(alloc, problem, graph, asked),
         Rule::Kept => node_places(alloc, NodeRule::Kept, problem, graph),
         Rule::Provider => provider_places(alloc, false, problem, graph),
         Rule::UnusedProvider => provider_places(alloc, true, problem, graph),
@@ -138,8 +141,8 @@ pub fn judge(alloc: Global, problem: &Problem, graph: &Graph) -> Result<Verdict,
     Ok(said)
 }
 
-/// The same, where of roots and directives only those of these demands are asked, by their numbers
-/// from 0. A number that is no demand's asks nothing.
+/// The same, where of roots, directives and requirements of the settings only those of these
+/// demands are asked, by their numbers from 0. A number that is no demand's asks nothing.
 pub fn judge_for(
     alloc: Global,
     problem: &Problem,

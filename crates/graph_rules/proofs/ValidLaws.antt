@@ -13,11 +13,14 @@ use Rattle.problem.proofs.OfKeyedLists.TextLaws.{texts_decide}
 use Rattle.graph_rules.proofs.Lists.{In, list_all-each, list_all-from, find-in, node-itself, In-left, In-right, In-map, In-flat_map}
 use Rattle.problem.specs.OfConditionRules.Worlds.{recipe_of, rows}
 use Rattle.problem.specs.OfRecipeData.Recipe.{Recipe}
-use Rattle.problem.specs.Problems.{recipe_at, depends_at, conflicts_at, requirements_at, Problem}
+use Rattle.problem.specs.OfRecipeData.RequireRow.{RequireRow}
+use Rattle.problem.specs.OfSiteSettings.PackageEntry.{PackageEntry}
+use Rattle.problem.specs.OfSiteSettings.RequireEntry.{RequireEntry}
+use Rattle.problem.specs.Problems.{recipe_at, depends_at, conflicts_at, requirements_at, package_entry_of, row_of, rows_from, required_in, required_at, Problem}
 use Rattle.graph_rules.specs.Directives.{keeps_root, keeps_edge, keeps_constraint, keeps_conflict, keeps_requirement}
 use Rattle.graph_rules.specs.Valid.{keeps, keeps_all, each_built, structure_rules, all_rules, valid, valid_for, keeps_demand, keeps_directive}
 use Rattle.problem.specs.OfRecipeData.Right.{numbers_of}
-use Rattle.problem.specs.Demands.{demands}
+use Rattle.problem.specs.Demands.{demands, directives_of}
 use Rattle.graph_rules.specs.declared.rule.Rule.{Rule}
 use Rattle.graph_rules.specs.declared.rule.Rule.TheVariants as rules
 use Rattle.problem.specs.declared.demand.Demand.{Demand}
@@ -55,7 +58,7 @@ slice_get-in (y ∷ ys) zero x e = inl (let same : y ≡ x = cc in sym same)
 slice_get-in (y ∷ ys) (suc k) x e = inr (slice_get-in ys k x e)
 
 -- an element has a place, which is one of the numbers from 0 on
-place-of : {X : Type 0} (xs : List X) (from : ℕ) (x : X) → In x xs → (k : ℕ) × (slice_get xs k ≡ Some x)
+pub place-of : {X : Type 0} (xs : List X) (from : ℕ) (x : X) → In x xs → (k : ℕ) × (slice_get xs k ≡ Some x)
     × In (from + k) (range_with_len from (length xs))
 place-of [] from x none = absurd none
 place-of (y ∷ ys) from x (inl same) = (0, ap Some (sym same), inl (omega arith))
@@ -106,6 +109,35 @@ pub row-of : {R : Type 0} (field : Recipe → List R) (found : Option Recipe) (r
 row-of field None row none = absurd none
 row-of field (Some recipe) row there = (recipe, refl, there)
 
+-- a row of the settings is one of its package's entry
+entry-with : (found : Option PackageEntry) (row : RequireRow) → In row (required_in found) → (entry : PackageEntry)
+    × (found ≡ Some entry) × In row (rows_from 0 entry.require)
+entry-with None row none = absurd none
+entry-with (Some entry) row there = (entry, refl, there)
+
+-- as many rows as entries
+rows-count : (place : ℕ) (entries : List RequireEntry) → length (rows_from place entries) ≡ length entries
+rows-count place [] = refl
+rows-count place (entry ∷ more) = ap suc (rows-count (place + 1) more)
+
+some-same : {X : Type 0} (x y : X) → Some x ≡ Some y → x ≡ y
+some-same x y e = cc
+
+-- the number of a row is its place
+rows-number : (from : ℕ) (entries : List RequireEntry) (k : ℕ) (row : RequireRow) → slice_get (rows_from from entries) k ≡ Some row
+    → row.number ≡ from + k
+rows-number from [] k row e = absurd (let no : None ≡ Some row = e in cc)
+rows-number from (entry ∷ more) zero row e =
+    let none : from ≡ from + 0 = omega arith in
+    ap (λ (r : RequireRow). r.number) (sym (some-same (row_of from entry) row e)) ∙ none
+rows-number from (entry ∷ more) (suc k) row e =
+    let next : from + 1 + k ≡ from + suc k = omega arith in
+    rows-number (from + 1) more k row e ∙ next
+
+pub required-number : (found : Option PackageEntry) (k : ℕ) (row : RequireRow) → slice_get (required_in found) k ≡ Some row → row.number ≡ k
+required-number None k row e = absurd (let no : None ≡ Some row = e in cc)
+required-number (Some entry) k row e = let same : 0 + k ≡ k = omega arith in rows-number 0 entry.require k row e ∙ same
+
 -- ---- a valid graph keeps each demand
 
 -- each rule stands in the list of all
@@ -121,11 +153,12 @@ stands rules.ExtraEdge = slice_get-in all_rules 7 rules.ExtraEdge refl
 stands rules.Constraint = slice_get-in all_rules 8 rules.Constraint refl
 stands rules.Conflict = slice_get-in all_rules 9 rules.Conflict refl
 stands rules.Requirement = slice_get-in all_rules 10 rules.Requirement refl
-stands rules.Kept = slice_get-in all_rules 11 rules.Kept refl
-stands rules.Provider = slice_get-in all_rules 12 rules.Provider refl
-stands rules.UnusedProvider = slice_get-in all_rules 13 rules.UnusedProvider refl
-stands rules.Cycle = slice_get-in all_rules 14 rules.Cycle refl
-stands rules.Unreachable = slice_get-in all_rules 15 rules.Unreachable refl
+stands rules.Required = slice_get-in all_rules 11 rules.Required refl
+stands rules.Kept = slice_get-in all_rules 12 rules.Kept refl
+stands rules.Provider = slice_get-in all_rules 13 rules.Provider refl
+stands rules.UnusedProvider = slice_get-in all_rules 14 rules.UnusedProvider refl
+stands rules.Cycle = slice_get-in all_rules 15 rules.Cycle refl
+stands rules.Unreachable = slice_get-in all_rules 16 rules.Unreachable refl
 
 -- a valid graph keeps each rule
 pub rule-of : (problem : Problem) (graph : Content) (rule : Rule) → valid problem graph ≡ true → keeps rule problem graph ≡ true
@@ -169,11 +202,35 @@ at-node problem graph name number v =
       | Some node ↦ λ e. implies-from (is_built node) _ (directive-kept problem graph number node v (find-in _ graph.nodes node e).0)
     ] refl
 
+setting-at : (problem : Problem) (graph : Content) (place : ℕ) (node : Node) → valid problem graph ≡ true → In node graph.nodes
+    → if_written (slice_get (required_at problem node.name) place) (keeps_requirement problem graph node) ≡ true
+unfolding keeps
+setting-at problem graph place node v there =
+    elim (slice_get (required_at problem node.name) place) as (λ o. slice_get (required_at problem node.name) place ≡ o
+    → if_written o (keeps_requirement problem graph node) ≡ true) [
+      | None ↦ λ e. refl
+      | Some row ↦ λ e. list_all-each (keeps_requirement problem graph node) (required_at problem node.name) row
+          (list_all-each (λ n. list_all (keeps_requirement problem graph n) (required_at problem n.name)) graph.nodes node
+          (rule-of problem graph rules.Required v) there)
+          (slice_get-in (required_at problem node.name) place row e)
+    ] refl
+
+setting-kept : (problem : Problem) (graph : Content) (name : Text) (place : ℕ) → valid problem graph ≡ true
+    → keeps_demand problem graph (demand.Setting name place) ≡ true
+unfolding keeps_demand
+setting-kept problem graph name place v =
+    elim (node_of graph name) as (λ o. node_of graph name ≡ o
+    → if_written o (λ node. if_written (slice_get (required_at problem node.name) place) (keeps_requirement problem graph node)) ≡ true) [
+      | None ↦ λ e. refl
+      | Some node ↦ λ e. setting-at problem graph place node v (find-in _ graph.nodes node e).0
+    ] refl
+
 -- a valid graph keeps each demand
 pub demand-kept : (problem : Problem) (graph : Content) (asked : Demand) → valid problem graph ≡ true
     → keeps_demand problem graph asked ≡ true
 demand-kept problem graph (demand.Root place) v = root-kept problem graph place v
 demand-kept problem graph (demand.Directive name number) v = at-node problem graph name number v
+demand-kept problem graph (demand.Setting name place) v = setting-kept problem graph name place v
 
 -- a valid graph is valid for any demands
 pub valid-for_any : (problem : Problem) (graph : Content) (asked : List Demand) → valid problem graph ≡ true
@@ -194,15 +251,23 @@ asked-kept problem graph asked v there =
 
 root-asked : (problem : Problem) (k : ℕ) → In k (range_with_len 0 (length problem.roots)) → In (demand.Root k) (demands problem)
 unfolding demands
-root-asked problem k there = In-left _ _ _ (In-map demand.Root (range_with_len 0 (length problem.roots)) k there)
+root-asked problem k there = In-left _ _ _ (In-left _ _ _ (In-map demand.Root (range_with_len 0 (length problem.roots)) k there))
 
 directive-asked : (problem : Problem) (recipe : Recipe) (number : ℕ) → In recipe problem.recipes → In number (numbers_of recipe)
     → In (demand.Directive recipe.name number) (demands problem)
 unfolding demands
 directive-asked problem recipe number there is =
-    In-right (map demand.Root (range_with_len 0 (length problem.roots))) _ _
+    In-left _ _ _ (In-right (map demand.Root (range_with_len 0 (length problem.roots))) _ _
     (In-flat_map (λ r. map (demand.Directive r.name) (numbers_of r)) problem.recipes recipe _ there
-    (In-map (demand.Directive recipe.name) (numbers_of recipe) number is))
+    (In-map (demand.Directive recipe.name) (numbers_of recipe) number is)))
+
+setting-asked : (problem : Problem) (entry : PackageEntry) (place : ℕ) → In entry problem.settings.packages
+    → In place (range_with_len 0 (length entry.require)) → In (demand.Setting entry.name place) (demands problem)
+unfolding demands
+setting-asked problem entry place there is =
+    In-right (map demand.Root (range_with_len 0 (length problem.roots)) ++ directives_of problem.recipes) _ _
+    (In-flat_map (λ e. map (demand.Setting e.name) (range_with_len 0 (length e.require))) problem.settings.packages entry _ there
+    (In-map (demand.Setting entry.name) (range_with_len 0 (length entry.require)) place is))
 
 root-from : (problem : Problem) (graph : Content) → valid_for (demands problem) problem graph ≡ true → keeps rules.Root problem graph ≡ true
 unfolding keeps keeps_demand
@@ -267,6 +332,24 @@ module _ (problem : Problem) (graph : Content) (g : IsGraph graph) (v : valid_fo
       implied (row.number == row.number) _ (list_all-each _ (requirements_at problem node.name) row (and_parts _ _ kept).1 is)
       (eq-eqb row.number row.number refl)
 
+  required-from : (node : Node) → In node graph.nodes → (row : RequireRow) → In row (required_at problem node.name)
+      → keeps_requirement problem graph node row ≡ true
+  unfolding keeps_demand package_entry_of
+  required-from node there row is =
+      let of = entry-with (package_entry_of problem node.name) row is in
+      let in_packages = find-in _ problem.settings.packages of.0 of.1 in
+      let same : of.0.name ≡ node.name = (texts_decide of.0.name node.name).0 in_packages.1 in
+      let place = place-of (rows_from 0 of.0.require) 0 row of.2 in
+      let among : In place.0 (range_with_len 0 (length of.0.require)) =
+      subst (λ n. In place.0 (range_with_len 0 n)) (rows-count 0 of.0.require)
+      (let e : 0 + place.0 ≡ place.0 = omega arith in subst (λ n. In n (range_with_len 0 (length (rows_from 0 of.0.require)))) e place.2) in
+      let asked = asked-kept problem graph (demand.Setting of.0.name place.0) v (setting-asked problem of.0 place.0 in_packages.0 among) in
+      let at : node_of graph of.0.name ≡ Some node = ap (node_of graph) same ∙ node-itself graph node g there in
+      let got : slice_get (required_at problem node.name) place.0 ≡ Some row = ap (λ o. slice_get (required_in o) place.0) of.1 ∙ place.1 in
+      subst (λ (o : Option RequireRow). if_written o (keeps_requirement problem graph node) ≡ true) got
+      (subst (λ (o : Option Node). if_written o (λ n. if_written (slice_get (required_at problem n.name) place.0)
+      (keeps_requirement problem graph n)) ≡ true) at asked)
+
   edges-from : keeps rules.Edge problem graph ≡ true
   unfolding keeps
   edges-from = built_from _ graph (λ node there built. list_all-from _ _
@@ -285,6 +368,10 @@ module _ (problem : Problem) (graph : Content) (g : IsGraph graph) (v : valid_fo
   unfolding keeps
   requirements-from = built_from _ graph (λ node there built. list_all-from _ _ (requirement-from node there built))
 
+  required-all : keeps rules.Required problem graph ≡ true
+  unfolding keeps
+  required-all = list_all-from _ graph.nodes (λ node there. list_all-from _ _ (required-from node there))
+
   structure-from : (rule : Rule) → In rule structure_rules → keeps rule problem graph ≡ true
   unfolding valid_for
   structure-from rule there = list_all-each (λ r. keeps r problem graph) structure_rules rule
@@ -296,6 +383,7 @@ module _ (problem : Problem) (graph : Content) (g : IsGraph graph) (v : valid_fo
   each-from rules.Constraint = constraints-from
   each-from rules.Conflict = conflicts-from
   each-from rules.Requirement = requirements-from
+  each-from rules.Required = required-all
   each-from rules.Buildable = structure-from rules.Buildable (slice_get-in structure_rules 0 rules.Buildable refl)
   each-from rules.Version = structure-from rules.Version (slice_get-in structure_rules 1 rules.Version refl)
   each-from rules.Variant = structure-from rules.Variant (slice_get-in structure_rules 2 rules.Variant refl)

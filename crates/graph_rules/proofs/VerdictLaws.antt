@@ -7,6 +7,7 @@ use Rattle.problem.specs.OfGraphCore.Graphs.{Text, Content}
 use Rattle.problem.specs.OfConditionRules.Words.{implies}
 use Rattle.problem.specs.Nodes.{is_built}
 use Rattle.problem.specs.OfGraphCore.Node.{Node}
+use Rattle.problem.specs.OfRecipeData.RequireRow.{RequireRow}
 use Rattle.graph_rules.specs.Directives.{keeps_root}
 use Rattle.graph_rules.specs.Valid.{keeps, keeps_all, all_rules, valid}
 use Rattle.graph_rules.specs.Verdict.{Place, all_asked, breaks_of, breaks, broken_roots, least, broken_or, first_broken, verdict_of, verdict}
@@ -57,6 +58,16 @@ failing_rows rows_at number test (node ∷ nodes) =
     p) (rows_at node.name) in
     rw (here, failing_rows rows_at number test nodes) (sym (both_empty _ _))
 
+-- the same, asked of nodes of any origin
+pub failing_settings : (rows_at : Text → List RequireRow) (test : Node → RequireRow → Bool) (nodes : List Node)
+    → list_all (λ node. list_all (test node) (rows_at node.name)) nodes
+    ≡ is_empty {X =
+    Place} (flat_map (λ node. map (λ row. (node.name, row.number)) (filter (λ row. not (test node row)) (rows_at node.name))) nodes)
+failing_settings rows_at test [] = refl
+failing_settings rows_at test (node ∷ nodes) =
+    let here = failing (test node) (λ row. let p : Place = (node.name, row.number) in p) (rows_at node.name) in
+    rw (here, failing_settings rows_at test nodes) (sym (both_empty _ _))
+
 failing_roots : (test : Spec → Bool) (place : ℕ) (specs : List Spec)
     → list_all test specs ≡ is_empty (broken_roots (λ place spec. test spec) place specs)
 failing_roots test place [] = refl
@@ -82,6 +93,7 @@ keeps-breaks rules.ExtraEdge problem graph = failing _ _ graph.nodes
 keeps-breaks rules.Constraint problem graph = failing_rows _ _ _ graph.nodes
 keeps-breaks rules.Conflict problem graph = failing_rows _ _ _ graph.nodes
 keeps-breaks rules.Requirement problem graph = failing_rows _ _ _ graph.nodes
+keeps-breaks rules.Required problem graph = failing_settings _ _ graph.nodes
 keeps-breaks rules.Kept problem graph = failing _ _ graph.nodes
 keeps-breaks rules.Provider problem graph = failing _ _ graph.providers
 keeps-breaks rules.UnusedProvider problem graph = failing _ _ graph.providers

@@ -5,7 +5,7 @@ use Rattle.problem.specs.OfConditionRules.Words.{if_written, implies}
 use Rattle.problem.specs.OfGraphCore.Graphs.{Content, node_of}
 use Rattle.problem.specs.Nodes.{is_built}
 use Rattle.problem.specs.OfGraphCore.Node.{Node}
-use Rattle.problem.specs.Problems.{depends_at, conflicts_at, requirements_at, Problem}
+use Rattle.problem.specs.Problems.{depends_at, conflicts_at, requirements_at, required_at, Problem}
 use Rattle.graph_rules.specs.Built.{keeps_buildable, keeps_version, keeps_variant, keeps_compiler, keeps_machine, keeps_extra_edge}
 use Rattle.graph_rules.specs.Directives.{keeps_root, keeps_edge, keeps_constraint, keeps_conflict, keeps_requirement}
 use Rattle.graph_rules.specs.Kept.{keeps_kept}
@@ -36,6 +36,7 @@ keeps rules.Conflict problem graph = each_built (λ node. list_all (keeps_confli
     graph
 keeps rules.Requirement problem graph =
     each_built (λ node. list_all (keeps_requirement problem graph node) (requirements_at problem node.name)) graph
+keeps rules.Required problem graph = list_all (λ node. list_all (keeps_requirement problem graph node) (required_at problem node.name)) graph.nodes
 keeps rules.Kept problem graph = list_all (keeps_kept problem graph) graph.nodes
 keeps rules.Provider problem graph = list_all (keeps_provider problem graph) graph.providers
 keeps rules.UnusedProvider problem graph = list_all (keeps_used problem graph) graph.providers
@@ -49,7 +50,7 @@ keeps_all asked problem graph = list_all (λ rule. keeps rule problem graph) ask
 abbrev pub all_rules : List Rule
 all_rules =
     rules.Root ∷ rules.Buildable ∷ rules.Version ∷ rules.Variant ∷ rules.Compiler ∷ rules.Machine ∷ rules.Edge ∷ rules.ExtraEdge
-    ∷ rules.Constraint ∷ rules.Conflict ∷ rules.Requirement ∷ rules.Kept ∷ rules.Provider ∷ rules.UnusedProvider ∷ rules.Cycle
+    ∷ rules.Constraint ∷ rules.Conflict ∷ rules.Requirement ∷ rules.Required ∷ rules.Kept ∷ rules.Provider ∷ rules.UnusedProvider ∷ rules.Cycle
     ∷ rules.Unreachable ∷ []
 
 -- no rule is broken
@@ -58,7 +59,7 @@ valid problem graph = keeps_all all_rules problem graph
 
 -- ---- fewer demands
 
--- the rules that are asked whatever is demanded: all but Root, Edge, Constraint, Conflict and Requirement
+-- the rules that are asked whatever is demanded: all but Root, Edge, Constraint, Conflict, Requirement and Required
 abbrev pub structure_rules : List Rule
 structure_rules =
     rules.Buildable ∷ rules.Version ∷ rules.Variant ∷ rules.Compiler ∷ rules.Machine ∷ rules.ExtraEdge
@@ -72,12 +73,16 @@ keeps_directive problem graph number node =
     && list_all (λ row. implies (row.number == number) (keeps_conflict problem graph node row)) (conflicts_at problem node.name)
     && list_all (λ row. implies (row.number == number) (keeps_requirement problem graph node row)) (requirements_at problem node.name)
 
--- no rule is broken at the demand: a root's spec holds, and a directive is kept where its package is built
+-- no rule is broken at the demand: a root's spec holds, a directive is kept where its package is built, and a requirement
+-- of the settings where its package is there
 unfoldable pub keeps_demand : Problem → Content → Demand → Bool
 keeps_demand problem graph (demand.Root place) = if_written (slice_get problem.roots place) (keeps_root problem graph)
 keeps_demand problem graph (demand.Directive name number) =
     if_written (node_of graph name) (λ node. implies (is_built node) (keeps_directive problem graph number node))
+keeps_demand problem graph (demand.Setting name place) =
+    if_written (node_of graph name)
+    (λ node. if_written (slice_get (required_at problem node.name) place) (keeps_requirement problem graph node))
 
--- valid, where only these roots and directives are asked
+-- valid, where only these roots, directives and requirements are asked
 unfoldable pub valid_for : List Demand → Problem → Content → Bool
 valid_for asked problem graph = keeps_all structure_rules problem graph && list_all (keeps_demand problem graph) asked

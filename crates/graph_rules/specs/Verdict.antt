@@ -9,7 +9,8 @@ use Rattle.problem.specs.OfGraphCore.Graphs.{Text, Content}
 use Rattle.problem.specs.OfConditionRules.Words.{implies}
 use Rattle.problem.specs.Nodes.{is_built}
 use Rattle.problem.specs.OfGraphCore.Node.{Node}
-use Rattle.problem.specs.Problems.{depends_at, conflicts_at, requirements_at, Problem}
+use Rattle.problem.specs.OfRecipeData.RequireRow.{RequireRow}
+use Rattle.problem.specs.Problems.{depends_at, conflicts_at, requirements_at, required_at, Problem}
 use Rattle.graph_rules.specs.Built.{keeps_buildable, keeps_version, keeps_variant, keeps_compiler, keeps_machine, keeps_extra_edge}
 use Rattle.graph_rules.specs.Directives.{keeps_root, keeps_edge, keeps_constraint, keeps_conflict, keeps_requirement}
 use Rattle.graph_rules.specs.Kept.{keeps_kept}
@@ -40,6 +41,11 @@ same_demand (demand.Root place) (demand.Root other) = place == other
 same_demand (demand.Root place) (demand.Directive name number) = false
 same_demand (demand.Directive name number) (demand.Root place) = false
 same_demand (demand.Directive name number) (demand.Directive other k) = bytes_eq name other && number == k
+same_demand (demand.Root place) (demand.Setting name number) = false
+same_demand (demand.Directive name number) (demand.Setting other k) = false
+same_demand (demand.Setting name number) (demand.Root place) = false
+same_demand (demand.Setting name number) (demand.Directive other k) = false
+same_demand (demand.Setting name number) (demand.Setting other k) = bytes_eq name other && number == k
 
 -- the demand is one of these
 abbrev pub is_among : List Demand → Asked
@@ -52,6 +58,10 @@ keeps_asked_root asked problem graph place spec = implies (asked (demand.Root pl
 -- the directive passes its test at the node, or is not asked
 abbrev pub keeps_asked_row : {R : Type 0} → Asked → (R → ℕ) → (Node → R → Bool) → Node → R → Bool
 keeps_asked_row asked number test node row = implies (asked (demand.Directive node.name (number row))) (test node row)
+
+-- the requirement of the settings passes its test at the node, or is not asked
+abbrev pub keeps_asked_setting : Asked → (Node → RequireRow → Bool) → Node → RequireRow → Bool
+keeps_asked_setting asked test node row = implies (asked (demand.Setting node.name row.number)) (test node row)
 
 -- ---- where a rule is broken
 
@@ -71,6 +81,10 @@ abbrev pub broken_rows : {R : Type 0} → (Text → List R) → (R → ℕ) → 
 broken_rows rows_at number test graph =
     flat_map (λ node. map (λ row. (node.name, number row))
     (filter (λ row. not (implies (is_built node) (test node row))) (rows_at node.name))) graph.nodes
+
+abbrev pub broken_settings : (Text → List RequireRow) → (Node → RequireRow → Bool) → Content → List Place
+broken_settings rows_at test graph =
+    flat_map (λ node. map (λ row. (node.name, row.number)) (filter (λ row. not (test node row)) (rows_at node.name))) graph.nodes
 
 abbrev pub broken_providers : ((Text × Text) → Bool) → Content → List Place
 broken_providers test graph = map (λ p. (p.0, 0)) (filter (λ p. not (test p)) graph.providers)
@@ -93,6 +107,8 @@ breaks_of asked rules.Conflict problem graph =
 breaks_of asked rules.Requirement problem graph =
     broken_rows (requirements_at problem) (λ row. row.number) (keeps_asked_row asked (λ row. row.number) (keeps_requirement problem graph))
     graph
+breaks_of asked rules.Required problem graph =
+    broken_settings (required_at problem) (keeps_asked_setting asked (keeps_requirement problem graph)) graph
 breaks_of asked rules.Kept problem graph = broken_nodes (keeps_kept problem graph) graph
 breaks_of asked rules.Provider problem graph = broken_providers (keeps_provider problem graph) graph
 breaks_of asked rules.UnusedProvider problem graph = broken_providers (keeps_used problem graph) graph

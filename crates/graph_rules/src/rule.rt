@@ -16,6 +16,7 @@ pub enum Rule {
     Constraint,
     Conflict,
     Requirement,
+    Required,
     Kept,
     Provider,
     UnusedProvider,
@@ -29,8 +30,9 @@ pub enum Verdict {
     /// No rule is broken.
     Valid,
     /// The first broken rule, there the least node by bytes, and there the least number of a
-    /// directive. The number is 0 for a rule without directives and the root's place for
-    /// `Rule::Root`. For `Rule::Provider` and `Rule::UnusedProvider` the node is the virtual.
+    /// directive. The number is 0 for a rule without directives, the root's place for `Rule::Root`,
+    /// and the requirement's place in the settings for `Rule::Required`. For `Rule::Provider` and
+    /// `Rule::UnusedProvider` the node is the virtual.
     Broken {
         rule: Rule,
         node: Word,

@@ -3,7 +3,8 @@
 use graph_core::Compiler;
 use plain_data::{List, Word};
 use settings_reader::{SettingsFault, read_settings};
-use site_settings::{CompilerEntry, ExternalEntry, PackageEntry, Settings};
+use site_settings::{CompilerEntry, ExternalEntry, PackageEntry, RequireEntry, Settings};
+use spec_grammar::{Spec, write_spec};
 use std::alloc::{AllocError, Global};
 use target_table::TargetEntry;
 use variant_values::ValueSet;
@@ -121,7 +122,34 @@ fn push_package(alloc: Global, out: &mut String, package: &PackageEntry) -> Show
     for external in package.externals.as_slice() {
         push_external(out, external)?;
     }
+    for entry in package.require.as_slice() {
+        push_required(alloc, out, entry)?;
+    }
     Ok(())
+}
+
+fn push_required(alloc: Global, out: &mut String, entry: &RequireEntry) -> Shown {
+    out.push_str(if entry.one_of { " one_of" } else { " any_of" })?;
+    push_specs(alloc, out, entry.specs.as_slice())?;
+    out.push_str(" when")?;
+    push_specs(alloc, out, entry.when.specs.as_slice())
+}
+
+fn push_specs(alloc: Global, out: &mut String, specs: &[Spec]) -> Shown {
+    for spec in specs {
+        push_spec(alloc, out, spec)?;
+    }
+    Ok(())
+}
+
+fn push_spec(alloc: Global, out: &mut String, spec: &Spec) -> Shown {
+    let text = write_spec(alloc, spec)?;
+    out.push_str(" [")?;
+    match str::from_utf8(text.as_slice()) {
+        Ok(text) => out.push_str(text)?,
+        Err(_) => out.push_str("?")?,
+    }
+    out.push_str("]")
 }
 
 fn push_versions(alloc: Global, out: &mut String, versions: &VersionSet) -> Shown {

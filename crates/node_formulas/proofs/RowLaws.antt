@@ -3,7 +3,7 @@ use Rattle.std.proofs.Common.{◌≡◌, ap, ◌∙◌, None, map}
 use Rattle.std.specs.Prelude.{◌&&◌, is_some}
 use Rattle.clause_formulas.specs.Statements.{Statement, all_statements}
 use Rattle.clause_formulas.specs.Rules.{fact, if_so}
-use Rattle.recipe_data.specs.declared.recipe.Condition.{Condition}
+use Rattle.recipe_data.specs.OfSpecGrammar.Condition.{Condition}
 use Rattle.graph_core.specs.Graphs.{Text}
 use Rattle.problem.specs.Problems.{Problem, world_of, recipe_at, package_entry_of, is_buildable_in}
 use Rattle.literal_table.specs.Tables.{Table}

@@ -1,7 +1,7 @@
 // The rows are the formulas of their rules. The bodies are empty: what is proved are the contracts.
 ghost use Rattle.std.specs.Prelude.{◌≡◌, map};
 ghost use Rattle.clause_formulas.specs.Statements.{Statement, all_statements};
-ghost use Rattle.recipe_data.specs.declared.recipe.Condition.{Condition};
+ghost use Rattle.recipe_data.specs.OfSpecGrammar.Condition.{Condition};
 ghost use Rattle.graph_core.specs.Graphs.{Text};
 ghost use Rattle.problem.specs.Problems.{Problem};
 ghost use Rattle.literal_table.specs.Tables.{Table};

@@ -1,4 +1,5 @@
 pub mod AssembledLaws
 pub mod NumberLaws
+pub mod RequiredLaws
 pub mod OfVariantValues
 pub mod OfKeyedLists

@@ -66,6 +66,19 @@ roots_more list more i is grown =
     ∙ ap (map Root) (sym (range_more 0 i ∙ ap (λ (k : ℕ). range_with_len 0 i ++ k ∷ []) last))
     ∙ ap (λ (n : ℕ). map Root (range_with_len 0 n)) (sym next)
 
+-- one place's demand more, behind others
+pub places_more : (f : ℕ → Demand) (before list more : List Demand) (i : ℕ) → list ≡ before ++ map f (range_with_len 0 i)
+    → more ≡ list ++ f i ∷ [] → more ≡ before ++ map f (range_with_len 0 (i + 1))
+places_more f before list more i is grown =
+    let next : i + 1 ≡ suc i = omega arith in
+    let last : 0 + i ≡ i = omega arith in
+    let here : map f (range_with_len 0 i) ++ f i ∷ [] ≡ map f (range_with_len 0 (i + 1)) =
+    sym (map_more f (range_with_len 0 i) i)
+    ∙ ap (map f) (sym (range_more 0 i ∙ ap (λ (k : ℕ). range_with_len 0 i ++ k ∷ []) last))
+    ∙ ap (λ (n : ℕ). map f (range_with_len 0 n)) (sym next) in
+    grown ∙ ap (λ (l : List Demand). l ++ f i ∷ []) is ∙ append_assoc before (map f (range_with_len 0 i)) (f i ∷ [])
+    ∙ ap (λ (l : List Demand). before ++ l) here
+
 -- ---- one recipe after another
 
 -- one element of a list more was gone over

@@ -2,6 +2,7 @@
 pub mod Nodes
 pub mod Problems
 pub mod Records
+pub mod Required
 pub mod Demands
 pub mod Closure
 pub mod Roots

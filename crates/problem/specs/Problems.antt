@@ -1,5 +1,5 @@
 -- A problem, and what is looked up in it.
-use Rattle.std.specs.Prelude.{Bool, true, ◌&&◌, ℕ, List, [], find, Option, Some, None, option_and_then}
+use Rattle.std.specs.Prelude.{Bool, true, ◌&&◌, ℕ, ◌+◌, List, [], ◌∷◌, find, Option, Some, None, option_and_then}
 use Rattle.std.specs.Str.{bytes_eq}
 use Rattle.condition_rules.specs.OfGraphCore.Graphs.{Text, Content}
 use Rattle.condition_rules.specs.OfGraphCore.Node.{Node}
@@ -17,6 +17,7 @@ use Rattle.condition_rules.specs.OfConditions.ConflictRow.{ConflictRow}
 use Rattle.condition_rules.specs.OfConditions.RequireRow.{RequireRow}
 use Rattle.site_settings.specs.declared.settings.PackageEntry.{PackageEntry}
 use Rattle.site_settings.specs.declared.settings.ExternalEntry.{ExternalEntry}
+use Rattle.site_settings.specs.declared.settings.RequireEntry.{RequireEntry}
 use Rattle.reuse_db.specs.declared.record.Record.{Record}
 
 -- all that decides which graphs are valid and what they cost
@@ -67,6 +68,22 @@ externals_in (Some entry) = entry.externals
 abbrev pub is_buildable_in : Option PackageEntry → Bool
 is_buildable_in None = true
 is_buildable_in (Some entry) = entry.buildable
+
+-- a requirement of the settings as one of a recipe is, its place as its number
+abbrev pub row_of : ℕ → RequireEntry → RequireRow
+row_of place entry = record { specs = entry.specs; one_of = entry.one_of; when = entry.when; number = place }
+
+abbrev pub rows_from : ℕ → List RequireEntry → List RequireRow
+rows_from place [] = []
+rows_from place (entry ∷ more) = row_of place entry ∷ rows_from (place + 1) more
+
+abbrev pub required_in : Option PackageEntry → List RequireRow
+required_in None = []
+required_in (Some entry) = rows_from 0 entry.require
+
+-- what the settings ask of each node of a package, whatever its origin
+abbrev pub required_at : Problem → Text → List RequireRow
+required_at problem name = required_in (package_entry_of problem name)
 
 abbrev pub same_compiler : Compiler → Compiler → Bool
 same_compiler a b = bytes_eq a.name b.name && bytes_eq a.version b.version

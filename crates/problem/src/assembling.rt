@@ -4,21 +4,22 @@ ghost use Rattle.std.specs.Prelude.{◌∷◌, ◌++◌};
 ghost use Rattle.std.specs.List.{list_all, range_with_len};
 ghost use Rattle.condition_rules.specs.OfConditions.Right.{is_right_recipe};
 ghost use Rattle.condition_rules.specs.OfVirtuals.Virtuals.{AreInOrder, AreProviders};
-ghost use Rattle.problem.specs.Demands.{directives_of};
+ghost use Rattle.problem.specs.Demands.{directives_of, settings_of};
 ghost use Rattle.problem.specs.Problems.{problem_of};
 ghost use Rattle.problem.specs.Roots.{IsProblemFault, name_fault, root_fault, first_fault};
 ghost use Rattle.problem.specs.Roots.{roots_fault, wrong_platform};
 ghost use Rattle.problem.specs.declared.demand.Demand.TheVariants.{Root};
 ghost use Rattle.problem.specs.declared.fault.ProblemFault.TheVariants.{WrongPlatform};
 
-use crate::demands::demands_of;
+use crate::demands::all_demands;
 use crate::known::is_known;
 use crate::platforms::wrong_platform;
+use crate::required::required_of;
 use crate::{Demand, Problem, ProblemFault};
 use condition_rules::{Providers, Recipe, Spec};
 use plain_data::{Duplicate, List, Word};
 use reuse_db::Database;
-use site_settings::Settings;
+use site_settings::{PackageEntry, Settings};
 use std::alloc::{AllocError, Global};
 
 /// The problem of these parts; takes them whatever it answers.
@@ -40,7 +41,13 @@ pub fn assemble(
     ensures known { OnOk result (roots_fault (problem_of recipes settings database roots) ≡ None) }
     ensures fault { IfErr result (IsProblemFault (problem_of recipes settings database roots)) }
 {
-    let found = found_in(alloc, recipes.as_slice(), roots.len())?;
+    let found = found_in(
+        alloc,
+        recipes.as_slice(),
+        roots.len(),
+        settings.packages.as_slice(),
+    )?;
+    let required = required_of(alloc, settings.packages.as_slice())?;
     let problem = Problem {
         recipes,
         settings,
@@ -48,6 +55,7 @@ pub fn assemble(
         roots,
         providers: found.0,
         demands: found.1,
+        required,
     };
     unless_refused(alloc, problem)
 }
@@ -57,13 +65,14 @@ fn found_in(
     alloc: Global,
     recipes: &[Recipe],
     roots: usize,
+    packages: &[PackageEntry],
 ) -> Result<(Providers, List<Demand>), AllocError>
     ensures providers { IfOk result (λ found. AreProviders recipes.now found.0) }
-    ensures demands { IfOk result (λ found. found.1 ≡ map Root (range_with_len 0 roots)
-        ++ directives_of recipes.now) }
+    ensures demands { IfOk result (λ found. found.1 ≡ (map Root (range_with_len 0 roots)
+        ++ directives_of recipes.now) ++ settings_of packages.now) }
 {
     let providers = Providers::of_recipes(alloc, recipes)?;
-    let demands = demands_of(alloc, roots, recipes)?;
+    let demands = all_demands(alloc, roots, recipes, packages)?;
     Ok((providers, demands))
 }
 

@@ -2,20 +2,33 @@
 ghost use Rattle.std.specs.Prelude.{◌≡◌, ◌++◌, map, IfOk, OnOk};
 ghost use Rattle.std.specs.List.{range_with_len};
 ghost use Rattle.condition_rules.specs.OfConditions.Right.{numbers_of};
-ghost use Rattle.problem.specs.Demands.{directives_of};
-ghost use Rattle.problem.specs.declared.demand.Demand.TheVariants.{Root, Directive};
+ghost use Rattle.problem.specs.Demands.{directives_of, settings_of};
+ghost use Rattle.problem.specs.declared.demand.Demand.TheVariants.{Root, Directive, Setting};
 
 use crate::Demand;
 use condition_rules::{ConflictRow, DependRow, Recipe, RequireRow};
 use plain_data::{Duplicate, List, Word};
+use site_settings::PackageEntry;
 use std::alloc::{AllocError, Global};
 
-/// The roots in order, and then the directives of all recipes by package and number.
-pub fn demands_of(
+/// The roots in order, the directives of all recipes by package and number, and then the
+/// requirements of the settings by package and place.
+pub fn all_demands(
     alloc: Global,
     roots: usize,
     recipes: &[Recipe],
+    packages: &[PackageEntry],
 ) -> Result<List<Demand>, AllocError>
+    ensures { IfOk result (λ list. list ≡ (map Root (range_with_len 0 roots)
+        ++ directives_of recipes.now) ++ settings_of packages.now) }
+{
+    let mut list = demands_of(alloc, roots, recipes)?;
+    add_all_settings(alloc, &mut list, packages)?;
+    Ok(list)
+}
+
+/// The roots in order, and then the directives of all recipes by package and number.
+fn demands_of(alloc: Global, roots: usize, recipes: &[Recipe]) -> Result<List<Demand>, AllocError>
     ensures { IfOk result (λ list. list ≡ map Root (range_with_len 0 roots)
         ++ directives_of recipes.now) }
 {
@@ -94,6 +107,40 @@ fn add_requirements(numbers: &mut Vec<u64>, rows: &[RequireRow]) -> Result<(), A
 {
     for row in rows {
         numbers.push(row.number)?;
+    }
+    Ok(())
+}
+
+/// Adds the demand of each requirement of the settings.
+fn add_all_settings(
+    alloc: Global,
+    list: &mut List<Demand>,
+    packages: &[PackageEntry],
+) -> Result<(), AllocError>
+    ensures { OnOk result (list.new ≡ list.old ++ settings_of packages.now) }
+{
+    for entry in packages {
+        add_settings(alloc, list, &entry.name, entry.require.len())?;
+    }
+    Ok(())
+}
+
+/// Adds the demand of each of so many requirements of a package.
+fn add_settings(
+    alloc: Global,
+    list: &mut List<Demand>,
+    name: &Word,
+    count: usize,
+) -> Result<(), AllocError>
+    ensures { OnOk result (list.new ≡ list.old
+        ++ map (Setting name.now) (range_with_len 0 count)) }
+{
+    for place in 0..count {
+        let package = name.duplicate(alloc)?;
+        list.push(Demand::Setting {
+            package,
+            number: place as u64,
+        })?;
     }
     Ok(())
 }

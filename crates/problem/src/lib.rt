@@ -20,6 +20,7 @@ mod known;
 mod lookup;
 mod platforms;
 mod problem;
+mod required;
 
 pub use assembling::assemble;
 pub use demand::Demand;
@@ -30,3 +31,4 @@ pub use lookup::{
     names_of, recipe_at, requirements_at, same_compiler, variants_at, versions_at,
 };
 pub use problem::Problem;
+pub use required::required_at;

@@ -1,14 +1,16 @@
 //! A problem.
-ghost use Rattle.std.specs.Prelude.{◌≡◌, true, length, slice_get};
+ghost use Rattle.std.specs.Prelude.{◌≡◌, true, length, map, slice_get};
 ghost use Rattle.std.specs.Option.{option_copied};
 ghost use Rattle.condition_rules.specs.OfVirtuals.Virtuals.{AreInOrder, AreProviders};
 ghost use Rattle.problem.specs.Assembled.{is_assembled};
 ghost use Rattle.problem.specs.Demands.{demands};
 ghost use Rattle.problem.specs.Problems.{world_of};
+ghost use Rattle.problem.specs.Required.{named_rows};
 
 use crate::Demand;
 use condition_rules::{Providers, Recipe, Spec, World};
-use plain_data::List;
+use plain_data::{List, Word};
+use recipe_data::RequireRow;
 use reuse_db::Database;
 use site_settings::Settings;
 use std::marker::Model;
@@ -24,20 +26,23 @@ pub struct Problem {
     pub(crate) providers: Providers,
     /// What may be demanded of a graph.
     pub(crate) demands: List<Demand>,
+    /// What the settings ask of their packages.
+    pub(crate) required: List<(Word, List<RequireRow>)>,
 }
 
 impl Model for Problem {
-    ghost use Rattle.std.specs.Prelude.{◌≡◌, true};
+    ghost use Rattle.std.specs.Prelude.{◌≡◌, true, map};
     ghost use Rattle.condition_rules.specs.OfVirtuals.Virtuals.{AreInOrder, AreProviders};
     ghost use Rattle.problem.specs.Assembled.{is_assembled};
     ghost use Rattle.problem.specs.Demands.{AreDemands};
     ghost use Rattle.problem.specs.Problems.{Problem, problem_of};
+    ghost use Rattle.problem.specs.Required.{named_rows};
 
     ghost Value = { Problem };
 
     ghost view = { λ p. problem_of p.recipes p.settings p.database p.roots };
 
-    ghost invariant = { λ p. record { order : AreInOrder p.recipes; right : is_assembled (problem_of p.recipes p.settings p.database p.roots) ≡ true; providers : AreProviders p.recipes p.providers; asked : AreDemands (problem_of p.recipes p.settings p.database p.roots) p.demands } };
+    ghost invariant = { λ p. record { order : AreInOrder p.recipes; right : is_assembled (problem_of p.recipes p.settings p.database p.roots) ≡ true; providers : AreProviders p.recipes p.providers; asked : AreDemands (problem_of p.recipes p.settings p.database p.roots) p.demands; required : p.required ≡ map named_rows p.settings.packages } };
 }
 
 impl Problem {
@@ -90,8 +95,15 @@ impl Problem {
         )
     }
 
-    /// How many demands there are: the roots in order, and then the directives by package and
-    /// number.
+    /// What the settings ask of their packages, as rows.
+    pub(crate) fn required(&self) -> &[(Word, List<RequireRow>)]
+        ensures { result.now ≡ map named_rows self.now.settings.packages }
+    {
+        self.required.as_slice()
+    }
+
+    /// How many demands there are: the roots in order, then the directives by package and number,
+    /// and then the requirements of the settings by package and place.
     pub fn demands(&self) -> u64
         ensures { result ≡ length (demands self.now) }
     {

@@ -8,13 +8,13 @@ use Rattle.std.proofs.lemmas.Simd.{map-map}
 use Rattle.clause_formulas.specs.Statements.{Statement}
 use Rattle.spec_grammar.specs.declared.part.Spec.{Spec}
 use Rattle.graph_core.specs.Graphs.{Text}
-use Rattle.recipe_data.specs.declared.recipe.Condition.{Condition}
-use Rattle.problem.specs.Problems.{Problem, world_of, variants_at, depends_at, conflicts_at, requirements_at}
+use Rattle.recipe_data.specs.OfSpecGrammar.Condition.{Condition}
+use Rattle.problem.specs.Problems.{Problem, world_of, variants_at, depends_at, conflicts_at, requirements_at, required_at}
 use Rattle.literal_table.specs.Tables.{Table, block_name}
 use Rattle.literal_table.specs.declared.block.Block.{Block}
 use Rattle.graph_formulas.specs.Words.{names_for}
 use Rattle.graph_encoding.specs.Formulas.{PathFormulas}
-use Rattle.valid_models.specs.Targets.{spec_names, condition_names, conditions_at, specs_at, targets_at, asked_targets, conditions_of}
+use Rattle.valid_models.specs.Targets.{spec_names, condition_names, choices_at, conditions_at, specs_at, targets_at, asked_targets, conditions_of}
 use Rattle.valid_models.specs.Joined.{condition_said}
 use Rattle.problem_formulas.specs.Asked.{formulas_at, formulas_of}
 
@@ -23,9 +23,15 @@ use Rattle.problem_formulas.specs.Asked.{formulas_at, formulas_of}
 four : {X : Type 0} (o a b c d : List X) → (((o ++ a) ++ b) ++ c) ++ d ≡ o ++ (a ++ (b ++ (c ++ d)))
 four o a b c d = append_assoc ((o ++ a) ++ b) c d ∙ append_assoc (o ++ a) b (c ++ d) ∙ append_assoc o a (b ++ (c ++ d))
 
-six : {X : Type 0} (o a b c d e f : List X) → (((((o ++ a) ++ b) ++ c) ++ d) ++ e) ++ f ≡ o ++ ((a ++ (b ++ (c ++ d))) ++ (e ++ f))
-six o a b c d e f = append_assoc ((((o ++ a) ++ b) ++ c) ++ d) e f ∙ ap (λ xs. xs ++ (e ++ f)) (four o a b c d)
-    ∙ append_assoc o (a ++ (b ++ (c ++ d))) (e ++ f)
+five : {X : Type 0} (o a b c d e : List X) → ((((o ++ a) ++ b) ++ c) ++ d) ++ e ≡ o ++ (a ++ (b ++ (c ++ (d ++ e))))
+five o a b c d e = append_assoc (((o ++ a) ++ b) ++ c) d e ∙ four o a b c (d ++ e)
+
+eight : {X : Type 0} (o a b c d e f g h : List X)
+    → (((((((o ++ a) ++ b) ++ c) ++ d) ++ e) ++ f) ++ g) ++ h ≡ o ++ ((a ++ (b ++ (c ++ (d ++ e)))) ++ (f ++ (g ++ h)))
+eight o a b c d e f g h = append_assoc ((((((o ++ a) ++ b) ++ c) ++ d) ++ e) ++ f) g h
+    ∙ append_assoc (((((o ++ a) ++ b) ++ c) ++ d) ++ e) f (g ++ h)
+    ∙ ap (λ xs. xs ++ (f ++ (g ++ h))) (five o a b c d e)
+    ∙ append_assoc o (a ++ (b ++ (c ++ (d ++ e)))) (f ++ (g ++ h))
 
 flat-flat : {X Y Z : Type 0} (g : Y → List Z) (f : X → List Y) (xs : List X)
     → flat_map g (flat_map f xs) ≡ flat_map (λ x. flat_map g (f x)) xs
@@ -36,7 +42,7 @@ module _ (problem : Problem) where
   abbrev when-lists : {Z : Type 0} → (Condition → Z) → Text → List Z
   when-lists g name =
       map (λ row. g row.when) (variants_at problem name) ++ (map (λ row. g row.when) (depends_at problem name)
-      ++ (map (λ row. g row.when) (conflicts_at problem name) ++ map (λ row. g row.when) (requirements_at problem name)))
+      ++ (map (λ row. g row.when) (conflicts_at problem name) ++ map (λ row. g row.when) (choices_at problem name)))
 
   -- what is made of each condition, list by list
   of-conditions : {Z : Type 0} (g : Condition → Z) (name : Text) → when-lists g name ≡ map g (conditions_at problem name)
@@ -48,25 +54,32 @@ module _ (problem : Problem) where
       (map-append g (map (λ row. row.when) (conflicts_at problem name)) _))
       ∙ ap (λ zs. zs ++ (map g (map (λ row. row.when) (depends_at problem name))
       ++ (map g (map (λ row. row.when) (conflicts_at problem name))
-      ++ map g (map (λ row. row.when) (requirements_at problem name))))) (map-map g (λ row. row.when) (variants_at problem name))
+      ++ map g (map (λ row. row.when) (choices_at problem name))))) (map-map g (λ row. row.when) (variants_at problem name))
       ∙ ap (λ zs. map (λ row. g row.when) (variants_at problem name) ++ (zs ++ (map g (map (λ row. row.when) (conflicts_at problem name))
-      ++ map g (map (λ row. row.when) (requirements_at problem name))))) (map-map g (λ row. row.when) (depends_at problem name))
+      ++ map g (map (λ row. row.when) (choices_at problem name))))) (map-map g (λ row. row.when) (depends_at problem name))
       ∙ ap (λ zs. map (λ row. g row.when) (variants_at problem name) ++ (map (λ row. g row.when) (depends_at problem name) ++ (zs
-      ++ map g (map (λ row. row.when) (requirements_at problem name))))) (map-map g (λ row. row.when) (conflicts_at problem name))
+      ++ map g (map (λ row. row.when) (choices_at problem name))))) (map-map g (λ row. row.when) (conflicts_at problem name))
       ∙ ap (λ zs. map (λ row. g row.when) (variants_at problem name) ++ (map (λ row. g row.when) (depends_at problem name)
-      ++ (map (λ row. g row.when) (conflicts_at problem name) ++ zs))) (map-map g (λ row. row.when) (requirements_at problem name)))
+      ++ (map (λ row. g row.when) (conflicts_at problem name) ++ zs))) (map-map g (λ row. row.when) (choices_at problem name)))
 
 -- ---- formulas
 
 module _ (problem : Problem) (t : Table) (path : PathFormulas) where
   -- the conditions of one package
   pub package-formulas : (name : Text) (old : List Statement)
-      → (((old ++ map (λ row. condition_said problem t path name row.when) (variants_at problem name))
+      → ((((old ++ map (λ row. condition_said problem t path name row.when) (variants_at problem name))
       ++ map (λ row. condition_said problem t path name row.when) (depends_at problem name))
       ++ map (λ row. condition_said problem t path name row.when) (conflicts_at problem name))
-      ++ map (λ row. condition_said problem t path name row.when) (requirements_at problem name)
+      ++ map (λ row. condition_said problem t path name row.when) (requirements_at problem name))
+      ++ map (λ row. condition_said problem t path name row.when) (required_at problem name)
       ≡ old ++ formulas_at problem t path name
-  package-formulas name old = four old _ _ _ _ ∙ ap (λ zs. old ++ zs) (of-conditions problem (condition_said problem t path name) name)
+  package-formulas name old =
+      append_assoc (((old ++ _) ++ _) ++ _) (map (λ row. condition_said problem t path name row.when) (requirements_at problem name)) _
+      ∙ ap (λ zs. (((old ++ map (λ row. condition_said problem t path name row.when) (variants_at problem name))
+      ++ map (λ row. condition_said problem t path name row.when) (depends_at problem name))
+      ++ map (λ row. condition_said problem t path name row.when) (conflicts_at problem name)) ++ zs)
+      (sym (map-append (λ row. condition_said problem t path name row.when) (requirements_at problem name) (required_at problem name)))
+      ∙ four old _ _ _ _ ∙ ap (λ zs. old ++ zs) (of-conditions problem (condition_said problem t path name) name)
 
   -- of all
   pub all-formulas : (blocks : List Block) → flat_map (λ (block : Block). formulas_at problem t path block.name) blocks
@@ -93,7 +106,7 @@ module _ (problem : Problem) (t : Table) where
 
   flat-conditions : (name : Text) → flat_map (λ row. whens row.when) (variants_at problem name)
       ++ (flat_map (λ row. whens row.when) (depends_at problem name)
-      ++ (flat_map (λ row. whens row.when) (conflicts_at problem name) ++ flat_map (λ row. whens row.when) (requirements_at problem name)))
+      ++ (flat_map (λ row. whens row.when) (conflicts_at problem name) ++ flat_map (λ row. whens row.when) (choices_at problem name)))
       ≡ flat_map whens (conditions_at problem name)
   flat-conditions name = sym (
       flat_map-append whens (map (λ row. row.when) (variants_at problem name)) _
@@ -103,41 +116,53 @@ module _ (problem : Problem) (t : Table) where
       (flat_map-append whens (map (λ row. row.when) (conflicts_at problem name)) _))
       ∙ ap (λ zs. zs ++ (flat_map whens (map (λ row. row.when) (depends_at problem name))
       ++ (flat_map whens (map (λ row. row.when) (conflicts_at problem name))
-      ++ flat_map whens (map (λ row. row.when) (requirements_at problem name)))))
+      ++ flat_map whens (map (λ row. row.when) (choices_at problem name)))))
       (flat_map-map whens (λ row. row.when) (variants_at problem name))
       ∙ ap (λ zs. flat_map (λ row. whens row.when) (variants_at problem name) ++ (zs
       ++ (flat_map whens (map (λ row. row.when) (conflicts_at problem name))
-      ++ flat_map whens (map (λ row. row.when) (requirements_at problem name)))))
+      ++ flat_map whens (map (λ row. row.when) (choices_at problem name)))))
       (flat_map-map whens (λ row. row.when) (depends_at problem name))
       ∙ ap (λ zs. flat_map (λ row. whens row.when) (variants_at problem name) ++ (flat_map (λ row. whens row.when) (depends_at problem name)
-      ++ (zs ++ flat_map whens (map (λ row. row.when) (requirements_at problem name)))))
+      ++ (zs ++ flat_map whens (map (λ row. row.when) (choices_at problem name)))))
       (flat_map-map whens (λ row. row.when) (conflicts_at problem name))
       ∙ ap (λ zs. flat_map (λ row. whens row.when) (variants_at problem name) ++ (flat_map (λ row. whens row.when) (depends_at problem name)
       ++ (flat_map (λ row. whens row.when) (conflicts_at problem name) ++ zs)))
-      (flat_map-map whens (λ row. row.when) (requirements_at problem name)))
+      (flat_map-map whens (λ row. row.when) (choices_at problem name)))
 
   flat-specs : (name : Text) → flat_map (λ row. specs row.spec) (conflicts_at problem name)
-      ++ flat_map (λ row. flat_map specs row.specs) (requirements_at problem name)
+      ++ flat_map (λ row. flat_map specs row.specs) (choices_at problem name)
       ≡ flat_map specs (specs_at problem name)
   flat-specs name = sym (
       flat_map-append specs (map (λ row. row.spec) (conflicts_at problem name)) _
-      ∙ ap (λ zs. zs ++ flat_map specs (flat_map (λ row. row.specs) (requirements_at problem name)))
+      ∙ ap (λ zs. zs ++ flat_map specs (flat_map (λ row. row.specs) (choices_at problem name)))
       (flat_map-map specs (λ row. row.spec) (conflicts_at problem name))
       ∙ ap (λ zs. flat_map (λ row. specs row.spec) (conflicts_at problem name) ++ zs)
-      (flat-flat specs (λ row. row.specs) (requirements_at problem name)))
+      (flat-flat specs (λ row. row.specs) (choices_at problem name)))
 
   -- the targets of one package
   pub package-targets : (name : Text) (old : List Text)
-      → (((((old ++ flat_map (λ row. whens row.when) (variants_at problem name))
+      → (((((((old ++ flat_map (λ row. whens row.when) (variants_at problem name))
       ++ flat_map (λ row. whens row.when) (depends_at problem name))
       ++ flat_map (λ row. whens row.when) (conflicts_at problem name)) ++ flat_map (λ row. whens row.when) (requirements_at problem name))
-      ++ flat_map (λ row. specs row.spec) (conflicts_at problem name))
-      ++ flat_map (λ row. flat_map specs row.specs) (requirements_at problem name)
+      ++ flat_map (λ row. whens row.when) (required_at problem name)) ++ flat_map (λ row. specs row.spec) (conflicts_at problem name))
+      ++ flat_map (λ row. flat_map specs row.specs) (requirements_at problem name))
+      ++ flat_map (λ row. flat_map specs row.specs) (required_at problem name)
       ≡ old ++ targets_at problem t name
-  package-targets name old = six old _ _ _ _ _ _
+  package-targets name old = eight old _ _ _ _ _ _ _ _
+      ∙ ap (λ zs. old ++ ((flat_map (λ row. whens row.when) (variants_at problem name)
+      ++ (flat_map (λ row. whens row.when) (depends_at problem name) ++ (flat_map (λ row. whens row.when) (conflicts_at problem name) ++ zs)))
+      ++ (flat_map (λ row. specs row.spec) (conflicts_at problem name)
+      ++ (flat_map (λ row. flat_map specs row.specs) (requirements_at problem name)
+      ++ flat_map (λ row. flat_map specs row.specs) (required_at problem name)))))
+      (sym (flat_map-append (λ row. whens row.when) (requirements_at problem name) (required_at problem name)))
+      ∙ ap (λ zs. old ++ ((flat_map (λ row. whens row.when) (variants_at problem name)
+      ++ (flat_map (λ row. whens row.when) (depends_at problem name) ++ (flat_map (λ row. whens row.when) (conflicts_at problem name)
+      ++ flat_map (λ row. whens row.when) (choices_at problem name))))
+      ++ (flat_map (λ row. specs row.spec) (conflicts_at problem name) ++ zs)))
+      (sym (flat_map-append (λ row. flat_map specs row.specs) (requirements_at problem name) (required_at problem name)))
       ∙ ap (λ zs. old
       ++ (zs ++ (flat_map (λ row. specs row.spec) (conflicts_at problem name)
-      ++ flat_map (λ row. flat_map specs row.specs) (requirements_at problem name)))) (flat-conditions name)
+      ++ flat_map (λ row. flat_map specs row.specs) (choices_at problem name)))) (flat-conditions name)
       ∙ ap (λ zs. old ++ (flat_map whens (conditions_at problem name) ++ zs)) (flat-specs name)
 
   -- of all

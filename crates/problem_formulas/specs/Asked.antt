@@ -3,7 +3,7 @@ use Rattle.std.specs.Prelude.{List, ◌++◌, map}
 use Rattle.std.specs.List.{flat_map}
 use Rattle.clause_formulas.specs.Statements.{Statement}
 use Rattle.graph_core.specs.Graphs.{Text}
-use Rattle.recipe_data.specs.declared.recipe.Condition.{Condition}
+use Rattle.recipe_data.specs.OfSpecGrammar.Condition.{Condition}
 use Rattle.problem.specs.Problems.{Problem}
 use Rattle.literal_table.specs.Tables.{Table}
 use Rattle.graph_encoding.specs.Formulas.{PathFormulas}

@@ -2,7 +2,7 @@
 use Rattle.std.specs.Prelude.{List, [], ◌∷◌, ◌++◌, map}
 use Rattle.clause_formulas.specs.Statements.{Statement, all_statements}
 use Rattle.graph_core.specs.Graphs.{Text}
-use Rattle.recipe_data.specs.declared.recipe.Condition.{Condition}
+use Rattle.recipe_data.specs.OfSpecGrammar.Condition.{Condition}
 use Rattle.problem.specs.Problems.{Problem}
 use Rattle.literal_table.specs.Tables.{Table, table_names, children_of}
 use Rattle.graph_formulas.specs.Words.{names_for}

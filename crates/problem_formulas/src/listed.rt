@@ -8,7 +8,7 @@ ghost use Rattle.problem_formulas.specs.Asked.{formulas_at, formulas_of};
 use clause_formulas::Formula;
 use graph_levels::PathLits;
 use literal_table::LiteralTable;
-use problem::{Problem, conflicts_at, depends_at, requirements_at, variants_at};
+use problem::{Problem, conflicts_at, depends_at, required_at, requirements_at, variants_at};
 use recipe_data::{Condition, ConflictRow, DependRow, RequireRow, VariantRow};
 use rule_formulas::condition_formula;
 use std::alloc::{AllocError, Global};
@@ -131,11 +131,14 @@ fn push_package(
     push_conflicts(alloc, problem, table, paths, name, conflicts, formulas)?;
     let requirements = requirements_at(problem, name);
     push_requirements(alloc, problem, table, paths, name, requirements, formulas)?;
+    let required = required_at(problem, name);
+    push_requirements(alloc, problem, table, paths, name, required, formulas)?;
     Ok(())
 }
 
 /// The formula of each condition of the directives of the table's packages: package by package, and
-/// of each those of variants, dependencies, conflicts and requirements, in the order of the recipe.
+/// of each those of variants, dependencies, conflicts and requirements, in the order of the recipe,
+/// and then those of the settings' requirements.
 pub fn condition_formulas(
     alloc: Global,
     problem: &Problem,

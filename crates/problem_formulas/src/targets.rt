@@ -11,7 +11,7 @@ use clause_store::Lit;
 use condition_rules::World;
 use literal_table::LiteralTable;
 use plain_data::{Duplicate, Word};
-use problem::{Problem, conflicts_at, depends_at, requirements_at, variants_at};
+use problem::{Problem, conflicts_at, depends_at, required_at, requirements_at, variants_at};
 use recipe_data::{ConflictRow, DependRow, RequireRow, VariantRow};
 use spec_grammar::Spec;
 use std::alloc::{AllocError, Global};
@@ -214,12 +214,15 @@ fn push_targets(
     let world = problem.world();
     let conflicts = conflicts_at(problem, name);
     let requirements = requirements_at(problem, name);
+    let asked = required_at(problem, name);
     push_variants(alloc, &world, table, variants_at(problem, name), names)?;
     push_depends(alloc, &world, table, depends_at(problem, name), names)?;
     push_conflicts(alloc, &world, table, conflicts, names)?;
     push_requirements(alloc, &world, table, requirements, names)?;
+    push_requirements(alloc, &world, table, asked, names)?;
     push_refused(alloc, &world, table, conflicts, names)?;
     push_required(alloc, &world, table, requirements, names)?;
+    push_required(alloc, &world, table, asked, names)?;
     Ok(())
 }
 
@@ -240,8 +243,8 @@ fn push_all(
     Ok(())
 }
 
-/// The names to which the directives of the table's packages and the requested specs ask for paths,
-/// in byte order, each once.
+/// The names to which the directives of the table's packages, what the settings ask of them, and
+/// the requested specs ask for paths, in byte order, each once.
 pub fn targets_of(
     alloc: Global,
     problem: &Problem,

@@ -20,6 +20,10 @@ fn push_demand(alloc: Global, text: &mut String, demand: &Demand) -> Result<(), 
             let name = package.as_str();
             text.push_str(format!(in alloc; " {name}/{number}")?.as_str())
         }
+        Demand::Setting { package, number } => {
+            let name = package.as_str();
+            text.push_str(format!(in alloc; " {name}:{number}")?.as_str())
+        }
     }
 }
 

@@ -49,6 +49,7 @@ fn package_of(alloc: Global, name: &str, is_there: bool) -> Result<PackageEntry,
         versions: List::new(alloc),
         buildable: true,
         externals,
+        require: List::new(alloc),
     })
 }
 

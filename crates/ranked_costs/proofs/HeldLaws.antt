@@ -15,12 +15,12 @@ use Rattle.clause_formulas.specs.Drafts.{statement_of, statement_at}
 use Rattle.clause_formulas.specs.Gated.{Gated}
 use Rattle.clause_formulas.specs.Built.{define_in, define_all_in}
 use Rattle.graph_core.specs.Graphs.{Text, Content}
-use Rattle.recipe_data.specs.declared.recipe.Condition.{Condition}
+use Rattle.recipe_data.specs.OfSpecGrammar.Condition.{Condition}
 use Rattle.condition_rules.specs.Words.{is_one_text}
 use Rattle.condition_rules.specs.Holds.{all_hold}
-use Rattle.problem.specs.Problems.{Problem, world_of, variants_at, depends_at, conflicts_at, requirements_at}
+use Rattle.problem.specs.Problems.{Problem, world_of, variants_at, depends_at, conflicts_at, requirements_at, required_at}
 use Rattle.graph_rules.proofs.Lists.{bytes_eq-same}
-use Rattle.valid_models.specs.Targets.{conditions_at}
+use Rattle.valid_models.specs.Targets.{choices_at, conditions_at}
 use Rattle.valid_models.specs.Joined.{holds_at}
 use Rattle.term_builder.specs.Held.{defined_in, held_in}
 use Rattle.ranked_costs.specs.Given.{passed, held_from}
@@ -71,15 +71,28 @@ module _ (v : ℕ → Bool) (problem : Problem) (graph : Content) where
     abbrev requirements : List Bool
     requirements = tests name (map (λ row. row.when) (requirements_at problem name))
 
+    abbrev required : List Bool
+    required = tests name (map (λ row. row.when) (required_at problem name))
+
+    abbrev choices : List Bool
+    choices = tests name (map (λ row. row.when) (choices_at problem name))
+
+    -- those of the recipe come before those of the settings
+    apart : (rest : List Bool) → choices ++ rest ≡ requirements ++ (required ++ rest)
+    apart rest =
+        ap (λ xs. xs ++ rest) (ap (tests name) (map-append (λ row. row.when) (requirements_at problem name) (required_at problem name))
+        ∙ map-append _ (map (λ row. row.when) (requirements_at problem name)) (map (λ row. row.when) (required_at problem name)))
+        ∙ append_assoc requirements required rest
+
     parts : (rest : List Bool) → tests name (conditions_at problem name) ++ rest ≡ variants
-        ++ (depends ++ (conflicts ++ (requirements ++ rest)))
+        ++ (depends ++ (conflicts ++ (choices ++ rest)))
     parts rest =
         ap (λ xs. xs ++ rest) (map-append _ (map (λ row. row.when) (variants_at problem name)) _
         ∙ ap (λ xs. variants ++ xs) (map-append _ (map (λ row. row.when) (depends_at problem name)) _
         ∙ ap (λ xs. depends ++ xs) (map-append _ (map (λ row. row.when) (conflicts_at problem name)) _)))
-        ∙ append_assoc variants (depends ++ (conflicts ++ requirements)) rest
-        ∙ ap (λ xs. variants ++ xs) (append_assoc depends (conflicts ++ requirements) rest
-        ∙ ap (λ xs. depends ++ xs) (append_assoc conflicts requirements rest))
+        ∙ append_assoc variants (depends ++ (conflicts ++ choices)) rest
+        ∙ ap (λ xs. variants ++ xs) (append_assoc depends (conflicts ++ choices) rest
+        ∙ ap (λ xs. depends ++ xs) (append_assoc conflicts choices rest))
 
     module _ (values : List Defined) (rest : List Bool) (e : map said values ≡ tests name (conditions_at problem name) ++ rest) where
       first-are : map said (take (length (variants_at problem name)) values)
@@ -95,17 +108,21 @@ module _ (v : ℕ → Bool) (problem : Problem) (graph : Content) where
           let b = length (depends_at problem name) in
           let c = length (conflicts_at problem name) in
           let d = length (requirements_at problem name) in
-          let one : map said (drop a values) ≡ depends ++ (conflicts ++ (requirements ++ rest)) =
+          let k = length (required_at problem name) in
+          let one : map said (drop a values) ≡ depends ++ (conflicts ++ (choices ++ rest)) =
           sym (drop-map said a values) ∙ ap (drop a) (e ∙ parts rest)
           ∙ seam-drop a variants _ (length-map _ _ ∙ length-map (variants_at problem name) _) in
-          let two : map said (drop b (drop a values)) ≡ conflicts ++ (requirements ++ rest) =
+          let two : map said (drop b (drop a values)) ≡ conflicts ++ (choices ++ rest) =
           sym (drop-map said b (drop a values)) ∙ ap (drop b) one
           ∙ seam-drop b depends _ (length-map _ _ ∙ length-map (depends_at problem name) _) in
-          let three : map said (drop c (drop b (drop a values))) ≡ requirements ++ rest =
+          let three : map said (drop c (drop b (drop a values))) ≡ choices ++ rest =
           sym (drop-map said c (drop b (drop a values))) ∙ ap (drop c) two
           ∙ seam-drop c conflicts _ (length-map _ _ ∙ length-map (conflicts_at problem name) _) in
-          sym (drop-map said d (drop c (drop b (drop a values)))) ∙ ap (drop d) three
-          ∙ seam-drop d requirements rest (length-map _ _ ∙ length-map (requirements_at problem name) _)
+          let four : map said (drop d (drop c (drop b (drop a values)))) ≡ required ++ rest =
+          sym (drop-map said d (drop c (drop b (drop a values)))) ∙ ap (drop d) (three ∙ apart rest)
+          ∙ seam-drop d requirements _ (length-map _ _ ∙ length-map (requirements_at problem name) _) in
+          sym (drop-map said k (drop d (drop c (drop b (drop a values))))) ∙ ap (drop k) four
+          ∙ seam-drop k required rest (length-map _ _ ∙ length-map (required_at problem name) _)
 
   -- what is given for a name says where its definitions' conditions hold
   pub held-says : (names : List Text) (values : List Defined) (name : Text) → map said values ≡ map tested (listed names)

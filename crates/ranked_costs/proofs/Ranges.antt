@@ -11,7 +11,7 @@ use Rattle.clause_formulas.specs.Statements.{any_statement, SaidBelow}
 use Rattle.clause_formulas.specs.declared.defined.Defined.{Defined}
 use Rattle.clause_formulas.specs.Drafts.{statement_of, statement_at}
 use Rattle.graph_core.specs.Graphs.{Text}
-use Rattle.problem.specs.Problems.{Problem, variants_at, depends_at, conflicts_at, requirements_at}
+use Rattle.problem.specs.Problems.{Problem, variants_at, depends_at, conflicts_at, requirements_at, required_at}
 use Rattle.literal_table.specs.Choices.{Choices, choice_lits}
 use Rattle.literal_table.specs.Tables.{Table, block_name}
 use Rattle.graph_encoding.specs.Formulas.{MetBelow}
@@ -76,8 +76,9 @@ drop-below n (suc k) (d ∷ ds) b = drop-below n k ds b.1
 
 passed-below : (n : ℕ) (problem : Problem) (name : Text) (ds : List Defined) → ValuesBelow n ds → ValuesBelow n (passed problem name ds)
 passed-below n problem name ds b =
-    drop-below n (length (requirements_at problem name)) _ (drop-below n (length (conflicts_at problem name)) _
-    (drop-below n (length (depends_at problem name)) _ (drop-below n (length (variants_at problem name)) ds b)))
+    drop-below n (length (required_at problem name)) _ (drop-below n (length (requirements_at problem name)) _
+    (drop-below n (length (conflicts_at problem name)) _
+    (drop-below n (length (depends_at problem name)) _ (drop-below n (length (variants_at problem name)) ds b))))
 
 from-below : (n : ℕ) (problem : Problem) (names : List Text) (values : List Defined) → ValuesBelow n values
     → AreHeldBelow n (held_in (held_from problem names values))

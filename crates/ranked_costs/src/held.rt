@@ -6,7 +6,7 @@ ghost use Rattle.ranked_costs.specs.Given.{passed, held_for};
 use clause_formulas::Defined;
 use literal_table::LiteralTable;
 use plain_data::{Duplicate, List, Word};
-use problem::{Problem, conflicts_at, depends_at, requirements_at, variants_at};
+use problem::{Problem, conflicts_at, depends_at, required_at, requirements_at, variants_at};
 use std::alloc::{AllocError, Global};
 
 fn before(values: &[Defined], count: usize) -> &[Defined]
@@ -36,7 +36,8 @@ fn passed<'a>(problem: &Problem, name: &str, values: &'a [Defined]) -> &'a [Defi
     let values = after(values, variants_at(problem, name).len());
     let values = after(values, depends_at(problem, name).len());
     let values = after(values, conflicts_at(problem, name).len());
-    after(values, requirements_at(problem, name).len())
+    let values = after(values, requirements_at(problem, name).len());
+    after(values, required_at(problem, name).len())
 }
 
 fn held_row(
@@ -55,7 +56,7 @@ fn held_row(
 
 /// For each name of the table, the values of the conditions of its definitions of variants, where
 /// the values are those of all directives, name by name: of each package the definitions of
-/// variants come first, then dependencies, conflicts and requirements.
+/// variants come first, then dependencies, conflicts and requirements, those of the settings last.
 pub(crate) fn held_for(
     alloc: Global,
     problem: &Problem,

@@ -1,27 +1,8 @@
 //! Copies and comparisons of rows.
 
-use crate::specs_exact::{
-    duplicate_part, duplicate_spec, duplicate_specs, same_part, same_spec, same_specs,
-};
-use crate::{
-    Condition, ConflictRow, DependRow, ProvideRow, Recipe, RequireRow, VariantRow, VersionRow,
-};
+use crate::{ConflictRow, DependRow, ProvideRow, Recipe, RequireRow, VariantRow, VersionRow};
 use plain_data::{Duplicate, Same};
 use std::alloc::{AllocError, Global};
-
-impl Duplicate for Condition {
-    fn duplicate(&self, alloc: Global) -> Result<Condition, AllocError> {
-        Ok(Condition {
-            specs: duplicate_specs(alloc, &self.specs)?,
-        })
-    }
-}
-
-impl Same for Condition {
-    fn same(&self, other: &Condition) -> bool {
-        same_specs(self.specs.as_slice(), other.specs.as_slice())
-    }
-}
 
 impl Duplicate for VersionRow {
     fn duplicate(&self, alloc: Global) -> Result<VersionRow, AllocError> {
@@ -70,7 +51,7 @@ impl Same for VariantRow {
 impl Duplicate for DependRow {
     fn duplicate(&self, alloc: Global) -> Result<DependRow, AllocError> {
         Ok(DependRow {
-            part: duplicate_part(alloc, &self.part)?,
+            part: self.part.duplicate(alloc)?,
             kinds: self.kinds,
             when: self.when.duplicate(alloc)?,
             number: self.number,
@@ -80,7 +61,7 @@ impl Duplicate for DependRow {
 
 impl Same for DependRow {
     fn same(&self, other: &DependRow) -> bool {
-        same_part(&self.part, &other.part)
+        self.part.same(&other.part)
             && self.kinds.same(&other.kinds)
             && self.when.same(&other.when)
             && self.number == other.number
@@ -110,7 +91,7 @@ impl Same for ProvideRow {
 impl Duplicate for ConflictRow {
     fn duplicate(&self, alloc: Global) -> Result<ConflictRow, AllocError> {
         Ok(ConflictRow {
-            spec: duplicate_spec(alloc, &self.spec)?,
+            spec: self.spec.duplicate(alloc)?,
             when: self.when.duplicate(alloc)?,
             number: self.number,
         })
@@ -119,16 +100,14 @@ impl Duplicate for ConflictRow {
 
 impl Same for ConflictRow {
     fn same(&self, other: &ConflictRow) -> bool {
-        same_spec(&self.spec, &other.spec)
-            && self.when.same(&other.when)
-            && self.number == other.number
+        self.spec.same(&other.spec) && self.when.same(&other.when) && self.number == other.number
     }
 }
 
 impl Duplicate for RequireRow {
     fn duplicate(&self, alloc: Global) -> Result<RequireRow, AllocError> {
         Ok(RequireRow {
-            specs: duplicate_specs(alloc, &self.specs)?,
+            specs: self.specs.duplicate(alloc)?,
             one_of: self.one_of,
             when: self.when.duplicate(alloc)?,
             number: self.number,
@@ -138,7 +117,7 @@ impl Duplicate for RequireRow {
 
 impl Same for RequireRow {
     fn same(&self, other: &RequireRow) -> bool {
-        same_specs(self.specs.as_slice(), other.specs.as_slice())
+        self.specs.same(&other.specs)
             && self.one_of == other.one_of
             && self.when.same(&other.when)
             && self.number == other.number

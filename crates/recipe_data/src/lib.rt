@@ -9,12 +9,9 @@
 
 mod exact;
 mod recipe;
-mod specs_exact;
 
 pub use graph_core::{
     Bits, Compiler, Graph, Node, ValueSet, VersionSet, find, heads_of, reached, reaches,
 };
-pub use recipe::{
-    Condition, ConflictRow, DependRow, ProvideRow, Recipe, RequireRow, VariantRow, VersionRow,
-};
-pub use spec_grammar::{Part, Spec, TargetItem};
+pub use recipe::{ConflictRow, DependRow, ProvideRow, Recipe, RequireRow, VariantRow, VersionRow};
+pub use spec_grammar::{Condition, Part, Spec, TargetItem};

@@ -6,15 +6,7 @@
 
 use graph_core::{Keyed, Kinds, ValueSet, VariantKind, Version, VersionSet};
 use plain_data::{List, Word};
-use spec_grammar::{Part, Spec};
-
-/// The condition of a directive: specs that must all hold at the package. Those of the enclosing
-/// `with when(..)` blocks stand first, the outermost before the others, and then its own `when=`. Where there
-/// is none, it always holds.
-#[derive(Debug, Drop)]
-pub struct Condition {
-    pub specs: List<Spec>,
-}
+use spec_grammar::{Condition, Part, Spec};
 
 /// `version("1.3", preferred=True)`
 #[derive(Debug, Drop)]

@@ -3,7 +3,7 @@ use Rattle.std.proofs.Common.{◌≡◌, ◌∙◌, ℕ, List, ◌++◌, refl, a
 use Rattle.std.specs.Prelude.{Result, Ok, Option, Some, None}
 use Rattle.std.specs.Option.{option_to_list}
 use Rattle.spec_grammar.specs.declared.part.Spec.{Spec}
-use Rattle.recipe_data.specs.declared.recipe.Condition.{Condition}
+use Rattle.recipe_data.specs.OfSpecGrammar.Condition.{Condition}
 use Rattle.recipe_reader.specs.declared.fault.RecipeFault.{RecipeFault}
 use Rattle.directive_arguments.specs.declared.directive.Directive.{Directive}
 use Rattle.directive_arguments.specs.declared.directive.Directive.TheVariants as directive

@@ -10,7 +10,7 @@ use Rattle.spec_grammar.specs.declared.part.Part.{Part}
 use Rattle.spec_grammar.specs.declared.part.Spec.{Spec}
 use Rattle.graph_core.specs.declared.node.Kinds.{Kinds}
 use Rattle.recipe_data.specs.Right.{is_distinct, has_right_default, all_numbers}
-use Rattle.recipe_data.specs.declared.recipe.Condition.{Condition}
+use Rattle.recipe_data.specs.OfSpecGrammar.Condition.{Condition}
 use Rattle.recipe_data.specs.declared.recipe.VersionRow.{VersionRow}
 use Rattle.recipe_data.specs.declared.recipe.VariantRow.{VariantRow}
 use Rattle.recipe_data.specs.declared.recipe.DependRow.{DependRow}

@@ -12,7 +12,7 @@ use Rattle.recipe_statements.specs.declared.item.ClassItem.TheVariants.{With, Ca
 use Rattle.recipe_values.specs.Strings.{strings_text, first_start}
 use Rattle.recipe_values.specs.Brackets.{arguments_of}
 use Rattle.recipe_values.specs.declared.segment.Segment.{Segment}
-use Rattle.recipe_data.specs.declared.recipe.Condition.{Condition}
+use Rattle.recipe_data.specs.OfSpecGrammar.Condition.{Condition}
 use Rattle.recipe_data.specs.declared.recipe.Recipe.{Recipe}
 use Rattle.recipe_reader.specs.declared.fault.RecipeFault.{RecipeFault}
 use Rattle.recipe_reader.specs.declared.fault.RecipeFault.TheVariants as fault

@@ -7,7 +7,7 @@ use Rattle.variant_values.specs.declared.kind.VariantKind.TheVariants as kinds
 use Rattle.clause_formulas.specs.Statements.{Statement, any_statement, both_statements, implication_of, opposite}
 use Rattle.clause_formulas.specs.Rules.{Proposition, in_words}
 use Rattle.graph_core.specs.Graphs.{Text}
-use Rattle.recipe_data.specs.declared.recipe.Condition.{Condition}
+use Rattle.recipe_data.specs.OfSpecGrammar.Condition.{Condition}
 use Rattle.recipe_data.specs.declared.recipe.VariantRow.{VariantRow}
 use Rattle.literal_table.specs.Tables.{Table}
 use Rattle.problem.specs.Problems.{Problem}

@@ -10,7 +10,7 @@ use Rattle.clause_formulas.specs.Statements.{Statement, or, all_statements}
 use Rattle.clause_formulas.proofs.RuleLaws.{all_rules-said}
 use Rattle.clause_formulas.specs.Rules.{Proposition, in_words}
 use Rattle.condition_rules.specs.Worlds.{World}
-use Rattle.recipe_data.specs.declared.recipe.Condition.{Condition}
+use Rattle.recipe_data.specs.OfSpecGrammar.Condition.{Condition}
 use Rattle.recipe_data.specs.declared.recipe.RequireRow.{RequireRow}
 use Rattle.graph_core.specs.Graphs.{Text}
 use Rattle.literal_table.specs.Choices.{Choices, choice_values}

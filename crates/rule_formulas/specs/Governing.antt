@@ -4,7 +4,7 @@ use Rattle.std.specs.Borrow.{Bor}
 use Rattle.clause_formulas.specs.Statements.{Statement, any_statement, both_statements, opposite}
 use Rattle.clause_formulas.specs.Rules.{Proposition}
 use Rattle.graph_core.specs.Graphs.{Text}
-use Rattle.recipe_data.specs.declared.recipe.Condition.{Condition}
+use Rattle.recipe_data.specs.OfSpecGrammar.Condition.{Condition}
 use Rattle.recipe_data.specs.declared.recipe.VariantRow.{VariantRow}
 use Rattle.literal_table.specs.Tables.{Table}
 use Rattle.graph_formulas.specs.Lists.{last_halved}

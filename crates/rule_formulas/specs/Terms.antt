@@ -9,7 +9,7 @@ use Rattle.graph_core.specs.declared.node.Kinds.{Kinds}
 use Rattle.condition_rules.specs.Words.{is_one_text}
 use Rattle.condition_rules.specs.Worlds.{World}
 use Rattle.virtuals.specs.Virtuals.{is_virtual}
-use Rattle.recipe_data.specs.declared.recipe.Condition.{Condition}
+use Rattle.recipe_data.specs.OfSpecGrammar.Condition.{Condition}
 use Rattle.recipe_data.specs.declared.recipe.RequireRow.{RequireRow}
 use Rattle.literal_table.specs.Tables.{Table}
 use Rattle.problem.specs.Problems.{Problem}
@@ -19,7 +19,7 @@ use Rattle.graph_formulas.specs.Lists.{where_written, some, just_one}
 use Rattle.graph_formulas.specs.Parts.{holds_rule}
 use Rattle.graph_formulas.specs.Words.{names_for, rule_said}
 use Rattle.graph_formulas.specs.Terms.{Term}
-use Rattle.graph_formulas.specs.Directives.{root_rule}
+use Rattle.graph_formulas.specs.Directives.{root_rule, requirement_rule}
 use Rattle.graph_formulas.specs.Edges.{empty_kinds}
 use Rattle.graph_formulas.specs.Demands.{demand_rule}
 use Rattle.graph_formulas.specs.Laws.{has_name, term_formula}
@@ -68,3 +68,12 @@ module _ (path : Text → Text → Statement) (table : Table) where
 abbrev pub directives_said : (Text → Text → Statement) → (Text → Condition → Statement) → Problem → Table → Text → ℕ → Statement
 directives_said path condition problem table name number =
     term_formula path condition table (demand_rule problem (names_for table) (has_name table) (demand.Directive name number))
+
+-- what the settings ask of a package, where they do
+abbrev pub required_said : (Text → Text → Statement) → (Text → Condition → Statement) → Problem → Table → Text → Option RequireRow → Statement
+required_said path condition problem table name o = term_formula path condition table (where_written o (requirement_rule problem (names_for table) name))
+
+-- the requirement of the settings of a package at a place
+abbrev pub setting_said : (Text → Text → Statement) → (Text → Condition → Statement) → Problem → Table → Text → ℕ → Statement
+setting_said path condition problem table name place =
+    term_formula path condition table (demand_rule problem (names_for table) (has_name table) (demand.Setting name place))

@@ -3,21 +3,23 @@ ghost use Rattle.std.specs.Prelude.{◌≡◌, IfOk, slice_get};
 ghost use Rattle.std.specs.Option.{option_copied};
 ghost use Rattle.graph_formulas.specs.Words.{names_for, rule_said};
 ghost use Rattle.graph_formulas.specs.Directives.{root_rule};
-ghost use Rattle.graph_formulas.specs.Demands.{directive_rule, demand_rule};
+ghost use Rattle.problem.specs.Problems.{required_at};
+ghost use Rattle.graph_formulas.specs.Demands.{directive_rule, required_rule, demand_rule};
 ghost use Rattle.graph_formulas.specs.Laws.{has_name, term_formula};
-ghost use Rattle.graph_formulas.specs.Terms.{where_built};
+ghost use Rattle.graph_formulas.specs.Terms.{where_built, where_there};
 ghost use Rattle.rule_formulas.specs.Paths.{path_by};
-ghost use Rattle.rule_formulas.specs.Terms.{root_said, directives_said};
+ghost use Rattle.rule_formulas.specs.Terms.{root_said, directives_said, required_said, setting_said};
 
-use crate::directives::directive_formula;
+use crate::directives::{directive_formula, requirement_formula};
 use crate::holds_formula;
 use clause_formulas::Formula;
 use graph_levels::PathLits;
 use literal_table::LiteralTable;
-use problem::{Demand, Problem};
+use problem::{Demand, Problem, required_at};
+use recipe_data::RequireRow;
 use spec_grammar::Spec;
 use std::alloc::{AllocError, Global};
-use word_formulas::{MetConditions, given, where_built};
+use word_formulas::{MetConditions, given, where_built, where_there};
 
 /// The spec holds at the node of its name.
 fn spec_formula(
@@ -111,6 +113,73 @@ fn directives_formula<C: MetConditions>(
     }
 }
 
+/// What the settings ask of a package at this place.
+fn row_at<'a>(problem: &'a Problem, name: &str, place: u64) -> Option<&'a RequireRow>
+    ensures { option_copied result ≡ slice_get (required_at problem.now name.now) place }
+{
+    required_at(problem, name).get(place as usize)
+}
+
+/// What the settings ask at this place is met, where they do.
+fn required_formula<C: MetConditions>(
+    alloc: Global,
+    problem: &Problem,
+    table: &LiteralTable,
+    paths: &PathLits,
+    conditions: &C,
+    name: &str,
+    place: u64,
+) -> Result<Formula, AllocError>
+    ensures { IfOk result (λ formula. formula
+        ≡ required_said (path_by table.now paths.now) (C.condition_of conditions.now) problem.now
+        table.now name.now (slice_get (required_at problem.now name.now) place)) }
+{
+    match row_at(problem, name, place) {
+        Some(row) => requirement_formula(alloc, problem, table, paths, conditions, name, row),
+        None => Ok(given(alloc, true)),
+    }
+}
+
+/// Where the node of the name is there, it keeps the requirement of the settings at this place.
+fn there_formula<C: MetConditions>(
+    alloc: Global,
+    problem: &Problem,
+    table: &LiteralTable,
+    paths: &PathLits,
+    conditions: &C,
+    name: &str,
+    place: u64,
+) -> Result<Formula, AllocError>
+    ensures { IfOk result (λ formula. formula
+        ≡ term_formula (path_by table.now paths.now) (C.condition_of conditions.now) table.now
+        (where_there name.now (required_rule problem.now (names_for table.now) place name.now))) }
+{
+    let rule = required_formula(alloc, problem, table, paths, conditions, name, place)?;
+    where_there(alloc, table, name, rule)
+}
+
+/// The requirement of the settings at this place is kept. Of a name that no node can have nothing
+/// is said, and nothing is built.
+fn setting_formula<C: MetConditions>(
+    alloc: Global,
+    problem: &Problem,
+    table: &LiteralTable,
+    paths: &PathLits,
+    conditions: &C,
+    name: &str,
+    place: u64,
+) -> Result<Formula, AllocError>
+    ensures { IfOk result (λ formula. formula
+        ≡ setting_said (path_by table.now paths.now) (C.condition_of conditions.now) problem.now
+        table.now name.now place) }
+{
+    if has_name(table, name) {
+        there_formula(alloc, problem, table, paths, conditions, name, place)
+    } else {
+        Ok(given(alloc, true))
+    }
+}
+
 /// The demand is kept.
 pub fn demand_formula<C: MetConditions>(
     alloc: Global,
@@ -129,6 +198,10 @@ pub fn demand_formula<C: MetConditions>(
         Demand::Directive { package, number } => {
             let name = package.as_str();
             directives_formula(alloc, problem, table, paths, conditions, name, *number)
+        }
+        Demand::Setting { package, number } => {
+            let name = package.as_str();
+            setting_formula(alloc, problem, table, paths, conditions, name, *number)
         }
     }
 }

@@ -86,7 +86,7 @@ fn choice_formula(
 }
 
 /// Where the condition of the row is met, as many of its specs hold as it asks for.
-fn requirement_formula<C: MetConditions>(
+pub(crate) fn requirement_formula<C: MetConditions>(
     alloc: Global,
     problem: &Problem,
     table: &LiteralTable,

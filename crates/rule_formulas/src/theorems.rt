@@ -1,7 +1,7 @@
 //! What holds of these formulas. The bodies are empty: what is proved are the contracts.
 ghost use Rattle.std.specs.Prelude.{◌≡◌, List};
 ghost use Rattle.clause_formulas.specs.Statements.{Statement};
-ghost use Rattle.recipe_data.specs.declared.recipe.Condition.{Condition};
+ghost use Rattle.recipe_data.specs.OfSpecGrammar.Condition.{Condition};
 ghost use Rattle.graph_core.specs.Graphs.{Text};
 ghost use Rattle.literal_table.specs.Tables.{Table};
 ghost use Rattle.problem.specs.Problems.{Problem};

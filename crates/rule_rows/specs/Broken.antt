@@ -1,13 +1,15 @@
 -- Graphs that break one rule, each a valid graph or problem with one change.
-use Rattle.std.specs.Prelude.{true, false, not, List, [], ◌∷◌, ◌++◌, filter, codes, Some, None}
+use Rattle.std.specs.Prelude.{Bool, true, false, not, map, List, [], ◌∷◌, ◌++◌, filter, codes, Some, None}
 use Rattle.version_order.specs.declared.item.Item.TheVariants.{Range}
-use Rattle.graph_core.specs.Graphs.{Content}
+use Rattle.spec_grammar.specs.Meaning.{empty_part}
+use Rattle.spec_grammar.specs.declared.part.Spec.{Spec}
+use Rattle.graph_core.specs.Graphs.{Text, Content}
 use Rattle.graph_core.specs.declared.node.Node.{Node}
 use Rattle.problem.specs.Problems.{Problem}
 use Rattle.graph_rules.specs.Valid.{keeps, all_rules}
 use Rattle.graph_rules.specs.declared.rule.Rule.{Rule}
-use Rattle.rule_rows.specs.Build.{named, at, always, version, to_build_and_link, to_link, recipe, compiler, built, is_on, edge, with_roots}
-use Rattle.rule_rows.specs.Rows.{hdf5, mpi_of, realistic, realistic_graph, beside}
+use Rattle.rule_rows.specs.Build.{named, spec, on, at, always, version, to_build_and_link, to_link, recipe, compiler, built, is_on, edge, with_roots}
+use Rattle.rule_rows.specs.Rows.{hdf5, mpi_of, realistic, realistic_graph, one_of_two, beside}
 
 -- the rules that the graph breaks, in their order
 abbrev pub broken_rules : Problem → Content → List Rule
@@ -80,8 +82,33 @@ newer_root = with_roots (at (Range (Some (codes "2")) None ∷ []) (named (codes
 
 abbrev pub not_buildable : Problem
 not_buildable = record realistic {
-  settings = record realistic.settings { packages = record { name = codes "zlib"; versions = []; buildable = false; externals = [] } ∷ [] };
+  settings = record realistic.settings { packages = record { name = codes "zlib"; versions = []; buildable = false; externals = []; require = [] } ∷ [] };
 }
+
+-- the settings ask this of a package
+abbrev pub asking : Text → Bool → List Spec → Problem → Problem
+asking name one_of specs p = record p {
+  settings = record p.settings {
+    packages = record {
+      name = name;
+      versions = [];
+      buildable = true;
+      externals = [];
+      require = record { specs = specs; one_of = one_of; when = always } ∷ [];
+    } ∷ [];
+  };
+}
+
+abbrev pub older_zlib_asked : Problem → Problem
+older_zlib_asked = asking (codes "zlib") false (spec (at (Range (Some (codes "1.2.13")) (Some (codes "1.2.13")) ∷ []) (empty_part None)) ∷ [])
+
+abbrev pub newer_zlib_asked : Problem → Problem
+newer_zlib_asked = asking (codes "zlib") false (spec (at (Range (Some (codes "1.3")) None ∷ []) (empty_part None)) ∷ [])
+
+-- the settings ask for one of two variants, and the recipe for neither
+abbrev pub one_asked : Problem
+one_asked = asking (codes "x") true (spec (on (codes "p") (empty_part None)) ∷ spec (on (codes "q") (empty_part None)) ∷ [])
+    (record one_of_two { recipes = map (λ r. record r { requirements = [] }) one_of_two.recipes })
 
 -- zlib has an old version besides, which hdf5 does not take
 abbrev pub older_zlib : Problem

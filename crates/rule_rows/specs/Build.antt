@@ -11,7 +11,7 @@ use Rattle.graph_core.specs.declared.node.Edge.{Edge}
 use Rattle.graph_core.specs.declared.node.Kinds.{Kinds}
 use Rattle.graph_core.specs.declared.node.Compiler.{Compiler}
 use Rattle.graph_core.specs.declared.node.Origin.TheVariants.{Built, Installed}
-use Rattle.recipe_data.specs.declared.recipe.Condition.{Condition}
+use Rattle.recipe_data.specs.OfSpecGrammar.Condition.{Condition}
 use Rattle.recipe_data.specs.declared.recipe.Recipe.{Recipe}
 use Rattle.recipe_data.specs.declared.recipe.VersionRow.{VersionRow}
 use Rattle.recipe_data.specs.declared.recipe.VariantRow.{VariantRow}

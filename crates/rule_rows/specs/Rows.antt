@@ -155,6 +155,7 @@ with_external = record (problem (app ∷ two_zlibs ∷ []) (spec (named (codes "
       versions = [];
       buildable = true;
       externals = record { version = codes "1.2.11"; variants = []; compiler = None; os = None; target = None; prefix = codes "/usr" } ∷ [];
+      require = [];
     } ∷ [];
   };
 }

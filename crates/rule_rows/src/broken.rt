@@ -6,8 +6,8 @@ ghost use Rattle.graph_rules.specs.Verdict.{verdict};
 ghost use Rattle.graph_rules.specs.declared.rule.Rule.{Rule};
 ghost use Rattle.graph_rules.specs.declared.rule.Verdict.{Verdict};
 ghost use Rattle.rule_rows.specs.Build.{is_on, is_off};
-ghost use Rattle.rule_rows.specs.Rows.{realistic, realistic_graph, old_compiler, old_compiler_graph, one_of_two, one_of_graph};
-ghost use Rattle.rule_rows.specs.Broken.{broken_rules, undeclared_version, variant_left_out, variants_out_of_order, value_not_allowed, other_compiler, no_compiler, other_os, prefix_of_a_built_node, kind_left_out, kind_not_asked_for, edge_not_asked_for, node_nobody_needs, provider_that_does_not, newer_root, not_buildable, older_zlib, older_zlib_graph, with_pmi, pmi_nobody_uses, asked_cycle, cycle_of_two};
+ghost use Rattle.rule_rows.specs.Rows.{realistic, realistic_graph, old_compiler, old_compiler_graph, one_of_two, one_of_graph, with_installed, installed_graph};
+ghost use Rattle.rule_rows.specs.Broken.{broken_rules, undeclared_version, variant_left_out, variants_out_of_order, value_not_allowed, other_compiler, no_compiler, other_os, prefix_of_a_built_node, kind_left_out, kind_not_asked_for, edge_not_asked_for, node_nobody_needs, provider_that_does_not, newer_root, not_buildable, older_zlib, older_zlib_graph, with_pmi, pmi_nobody_uses, asked_cycle, cycle_of_two, older_zlib_asked, newer_zlib_asked, one_asked};
 
 /// The rules of a node to build, one by one.
 pub fn broken_nodes()
@@ -61,6 +61,16 @@ pub fn broken_directives()
         ≡ Verdict.Broken Rule.Requirement (codes "x") 3 }
     ensures neither { broken_rules one_of_two
         (one_of_graph (is_off (codes "p") ∷ is_off (codes "q") ∷ [])) ≡ Rule.Requirement ∷ [] }
+    ensures required { broken_rules (older_zlib_asked realistic) realistic_graph
+        ≡ Rule.Required ∷ [] }
+    ensures required_at { verdict (older_zlib_asked realistic) realistic_graph
+        ≡ Verdict.Broken Rule.Required (codes "zlib") 0 }
+    ensures required_of_a_kept_node { broken_rules (newer_zlib_asked with_installed)
+        installed_graph ≡ Rule.Required ∷ [] }
+    ensures both_required { broken_rules one_asked
+        (one_of_graph (is_on (codes "p") ∷ is_on (codes "q") ∷ [])) ≡ Rule.Required ∷ [] }
+    ensures one_required { broken_rules one_asked
+        (one_of_graph (is_on (codes "p") ∷ is_off (codes "q") ∷ [])) ≡ [] }
 {}
 
 /// The rules of providers and of the graph as a whole, one by one.

@@ -30,9 +30,14 @@ unfoldable pub directive_line : Problem → Text → ℕ → List ℕ
 directive_line problem owner number =
     owner ++ (codes " " ++ (directive_word problem owner number ++ (codes " " ++ (decimal number ++ codes "\n"))))
 
+-- a requirement of the settings by its package and its place
+unfoldable pub setting_line : Text → ℕ → List ℕ
+setting_line owner place = owner ++ (codes " require " ++ (decimal place ++ codes "\n"))
+
 abbrev pub line_of_demand : Problem → Demand → List ℕ
 line_of_demand problem (demand.Root place) = root_line problem place
 line_of_demand problem (demand.Directive owner number) = directive_line problem owner number
+line_of_demand problem (demand.Setting owner place) = setting_line owner place
 
 abbrev pub line_for : Problem → Option Demand → List ℕ
 line_for problem None = []

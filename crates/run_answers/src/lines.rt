@@ -106,6 +106,22 @@ fn write_directive(
     out.extend_from_slice(b"\n")
 }
 
+/// A requirement of the settings by its package and its place.
+#[tactic(auto, unfolding(crate::specs::Texts::setting_line))]
+fn write_setting(
+    alloc: Global,
+    owner: &str,
+    place: u64,
+    out: &mut Vec<u8>,
+) -> Result<(), AllocError>
+    ensures { OnOk result (out.new.items ≡ out.old.items ++ texts.setting_line owner.now place) }
+{
+    out.extend_from_slice(owner.as_bytes())?;
+    out.extend_from_slice(b" require ")?;
+    write_number(alloc, place, out)?;
+    out.extend_from_slice(b"\n")
+}
+
 /// The line of a demand.
 fn write_demand(
     alloc: Global,
@@ -124,13 +140,20 @@ fn write_demand(
                 number,
             },
         ) => { write_directive(alloc, problem, owner.as_str(), *number, out) }
+        Some(
+            Demand::Setting {
+                package: owner,
+                number,
+            },
+        ) => { write_setting(alloc, owner.as_str(), *number, out) }
         None => Ok(()),
     }
 }
 
 /// A line for each demand, by its number among those of the problem, from 0: `root N TEXT` with the place and the
 /// canonical text of a root, `PACKAGE depends_on N`, `PACKAGE conflicts N` or `PACKAGE requires N` with the number of a
-/// directive. Numbers that no demand has are passed over.
+/// directive, `PACKAGE require N` with the place of a requirement of the settings. Numbers that no
+/// demand has are passed over.
 pub fn write_reasons(
     alloc: Global,
     problem: &Problem,

@@ -52,6 +52,7 @@ pub fn rule_name(rule: Rule) -> &'static str
         Rule::Constraint => "Constraint",
         Rule::Conflict => "Conflict",
         Rule::Requirement => "Requirement",
+        Rule::Required => "Required",
         Rule::Kept => "Kept",
         Rule::Provider => "Provider",
         Rule::UnusedProvider => "UnusedProvider",

@@ -13,7 +13,7 @@ after xs (Ok ys) = Ok (xs ++ ys)
 after xs (Err m) = Err m
 
 -- some were read, and what the rest gives is what the whole gives
-pub record Continues {T : Type 0} (tells : List ℕ → Data → Told T) (whole rest : List (List ℕ × Data)) (read : List T) : Type 0 where
+pub record Continues {T V : Type 0} (tells : List ℕ → V → Told T) (whole rest : List (List ℕ × V)) (read : List T) : Type 0 where
   pub to : (out : ToldResult (List T)) → AreEach tells rest out → AreEach tells whole (after read out)
 
 after_none : {T : Type 0} (out : ToldResult (List T)) → after [] out ≡ out
@@ -25,22 +25,19 @@ after_more xs x (Ok ys) = ap Ok (sym (append_assoc xs (x ∷ []) ys))
 after_more xs x (Err m) = refl
 
 -- at the beginning nothing was read
-pub each_none : {T : Type 0} (tells : List ℕ → Data → Told T) (whole : List (List ℕ × Data)) → Continues tells whole whole []
-each_none tells whole = record {
-  to = λ out h. let P : ToldResult (List _) → Type 0 = AreEach tells whole in
-      subst P (sym (after_none out)) h;
-}
+pub each_none : {T V : Type 0} (tells : List ℕ → V → Told T) (whole : List (List ℕ × V)) → Continues tells whole whole []
+each_none tells whole = record { to = λ out h. let P : ToldResult (List _) → Type 0 = AreEach tells whole in subst P (sym (after_none out)) h }
 
 -- one value more
-each_cons : {T : Type 0} (tells : List ℕ → Data → Told T) (key : List ℕ) (d : Data) (rest : List (List ℕ × Data)) (x : T)
+each_cons : {T V : Type 0} (tells : List ℕ → V → Told T) (key : List ℕ) (d : V) (rest : List (List ℕ × V)) (x : T)
     (out : ToldResult (List T))
     → Below key (tells key d) (Ok x) → AreEach tells rest out → AreEach tells ((key, d) ∷ rest) (after (x ∷ []) out)
 each_cons tells key d rest x (Ok xs) below h = record { step = Ok x; told = below; goes = record { step = Ok xs; told = h; goes = refl } }
 each_cons tells key d rest x (Err m) below h = record { step = Ok x; told = below; goes = record { step = Err m; told = h; goes = refl } }
 
 -- one value more was read
-pub each_more : {T : Type 0} (tells : List ℕ → Data → Told T) (whole : List (List ℕ × Data)) (key : List ℕ) (d : Data)
-    (rest : List (List ℕ × Data)) (read new : List T) (x : T)
+pub each_more : {T V : Type 0} (tells : List ℕ → V → Told T) (whole : List (List ℕ × V)) (key : List ℕ) (d : V)
+    (rest : List (List ℕ × V)) (read new : List T) (x : T)
     → Continues tells whole ((key, d) ∷ rest) read → Below key (tells key d) (Ok x) → new ≡ read ++ x ∷ [] → Continues tells whole rest new
 each_more tells whole key d rest read new x was below is = record {
   to = λ out h.
@@ -49,15 +46,15 @@ each_more tells whole key d rest read new x was below is = record {
 }
 
 -- a value that is refused refuses the whole
-pub each_stop : {T : Type 0} (tells : List ℕ → Data → Told T) (whole : List (List ℕ × Data)) (key : List ℕ) (d : Data)
-    (rest : List (List ℕ × Data)) (read : List T) (s : Stop)
+pub each_stop : {T V : Type 0} (tells : List ℕ → V → Told T) (whole : List (List ℕ × V)) (key : List ℕ) (d : V)
+    (rest : List (List ℕ × V)) (read : List T) (s : Stop)
     → Continues tells whole ((key, d) ∷ rest) read → Tells {T = T} (Err s) (Below key (tells key d))
     → Tells {T = List T} (Err s) (AreEach tells whole)
 each_stop tells whole key d rest read (stop.Misread m) was below = was.to (Err m) (record { step = Err m; told = below; goes = refl })
 each_stop tells whole key d rest read stop.OutOfMemory was below = tt
 
 -- at the end all was read
-pub each_end : {T : Type 0} (tells : List ℕ → Data → Told T) (whole : List (List ℕ × Data)) (read : List T) → Continues tells whole [] read
+pub each_end : {T V : Type 0} (tells : List ℕ → V → Told T) (whole : List (List ℕ × V)) (read : List T) → Continues tells whole [] read
     → AreEach tells whole (Ok read)
 each_end tells whole read was = let P : List _ → Type 0 = λ xs. AreEach tells whole (Ok xs) in
     subst P (append-nil read) (was.to (Ok []) refl)

@@ -5,7 +5,8 @@ use Rattle.version_order.specs.Items.{Reads}
 use Rattle.version_order.specs.declared.item.Item.{Item}
 use Rattle.spec_grammar.specs.Reading.{Spells}
 use Rattle.spec_grammar.specs.Faults.{IsFault}
-use Rattle.spec_grammar.specs.declared.mode.Mode.TheVariants.{Specs}
+use Rattle.spec_grammar.specs.declared.mode.Mode.{Mode}
+use Rattle.spec_grammar.specs.declared.mode.Mode.TheVariants.{Specs, Condition}
 use Rattle.spec_grammar.specs.declared.part.Spec.{Spec}
 use Rattle.spec_grammar.specs.declared.fault.SpecFault.{SpecFault}
 use Rattle.spec_grammar.specs.declared.fault.SpecFault.TheVariants as spec
@@ -14,6 +15,8 @@ use Rattle.settings_reader.specs.Told.{ToldResult, Told, ToldThen, Goes, Below, 
 use Rattle.settings_reader.specs.Parsed.{AreEach, IsOptional}
 use Rattle.settings_reader.specs.Versions.{IsSet, IsSetIn}
 use Rattle.settings_reader.specs.Externals.{IsReadAs, IsDescribed, described_of}
+use Rattle.settings_reader.specs.Required as required
+use Rattle.settings_reader.specs.Required.{IsCondition, outcome_of}
 
 abbrev pub IsOne : {T : Type 0} → Told T → Type 0
 IsOne told = (a b : ToldResult _) → told a → told b → a ≡ b
@@ -46,8 +49,8 @@ then_one first next first_one next_one a b h k =
 -- ---- lists
 
 -- all entries have one outcome, if each has
-pub each_one : {T : Type 0} (tells : List ℕ → Data → Told T) → ((key : List ℕ) (d : Data) → IsOne (tells key d))
-    → (vs : List (List ℕ × Data)) → IsOne (AreEach tells vs)
+pub each_one : {T V : Type 0} (tells : List ℕ → V → Told T) → ((key : List ℕ) (d : V) → IsOne (tells key d))
+    → (vs : List (List ℕ × V)) → IsOne (AreEach tells vs)
 each_one tells one [] = done_one []
 each_one tells one (v ∷ vs) =
     then_one (Below v.0 (tells v.0 v.1)) _ (below_one v.0 (tells v.0 v.1) (one v.0 v.1))
@@ -76,19 +79,35 @@ set_in_one laws None a b h k = h ∙ sym k
 set_in_one laws (Some text) a b h k = set_one laws text a b h k
 
 pub record ReadsSpecsOnce : Type 0 where
-  pub once : (text : List ℕ) (a b : List Spec) → Spells Specs text a → Spells Specs text b → a ≡ b
-  pub one_fault : (text : List ℕ) (a b : SpecFault) → IsFault Specs text a → IsFault Specs text b → a ≢ spec.OutOfMemory
+  pub once : (mode : Mode) (text : List ℕ) (a b : List Spec) → Spells mode text a → Spells mode text b → a ≡ b
+  pub one_fault : (mode : Mode) (text : List ℕ) (a b : SpecFault) → IsFault mode text a → IsFault mode text b → a ≢ spec.OutOfMemory
       → b ≢ spec.OutOfMemory → a ≡ b
-  pub right : (text : List ℕ) (specs : List Spec) (fault : SpecFault) → Spells Specs text specs → IsFault Specs text fault
+  pub right : (mode : Mode) (text : List ℕ) (specs : List Spec) (fault : SpecFault) → Spells mode text specs → IsFault mode text fault
       → fault ≡ spec.OutOfMemory
 
 read_one : ReadsSpecsOnce → (text : List ℕ) (a b : Result (List Spec) SpecFault) → IsReadAs text a → IsReadAs text b → a ≡ b
-read_one laws text (Ok a) (Ok b) h k = ap Ok (laws.once text a b h k)
-read_one laws text (Ok a) (Err f) h k = absurd (k.1 (laws.right text a f h k.0))
-read_one laws text (Err f) (Ok b) h k = absurd (h.1 (laws.right text b f k h.0))
-read_one laws text (Err f) (Err e) h k = ap Err (laws.one_fault text f e h.0 k.0 h.1 k.1)
+read_one laws text (Ok a) (Ok b) h k = ap Ok (laws.once Specs text a b h k)
+read_one laws text (Ok a) (Err f) h k = absurd (k.1 (laws.right Specs text a f h k.0))
+read_one laws text (Err f) (Ok b) h k = absurd (h.1 (laws.right Specs text b f k h.0))
+read_one laws text (Err f) (Err e) h k = ap Err (laws.one_fault Specs text f e h.0 k.0 h.1 k.1)
 
 -- what a spec describes has one outcome
 pub described_one : ReadsSpecsOnce → (name platform text : List ℕ) → IsOne (IsDescribed name platform text)
 described_one laws name platform text a b h k =
     h.is ∙ ap (described_of name platform) (read_one laws text h.read k.read h.right k.right) ∙ sym k.is
+
+-- ---- conditions
+
+only_same : (a b : Spec) → (let l : List Spec = a ∷ [] in let r : List Spec = b ∷ [] in l ≡ r) → a ≡ b
+only_same a b e = cc
+
+condition_read_one : ReadsSpecsOnce → (text : List ℕ) (a b : Result Spec SpecFault) → required.IsReadAs text a → required.IsReadAs text b
+    → a ≡ b
+condition_read_one laws text (Ok a) (Ok b) h k = ap Ok (only_same a b (laws.once Condition text (a ∷ []) (b ∷ []) h k))
+condition_read_one laws text (Ok a) (Err f) h k = absurd (k.1 (laws.right Condition text (a ∷ []) f h k.0))
+condition_read_one laws text (Err f) (Ok b) h k = absurd (h.1 (laws.right Condition text (b ∷ []) f k h.0))
+condition_read_one laws text (Err f) (Err e) h k = ap Err (laws.one_fault Condition text f e h.0 k.0 h.1 k.1)
+
+-- a text of a condition has one outcome
+pub condition_one : ReadsSpecsOnce → (text : List ℕ) → IsOne (IsCondition text)
+condition_one laws text a b h k = h.is ∙ ap outcome_of (condition_read_one laws text h.read k.read h.right k.right) ∙ sym k.is

@@ -1,5 +1,6 @@
 -- A file says one thing at most.
-use Rattle.std.proofs.Common.{◌≡◌, ◌≢◌, sym, ap, ◌∙◌, subst, ℕ, List, Some, Result, Ok, Err, codes, inl, inr}
+use Rattle.std.proofs.Common.{◌≡◌, ◌≢◌, sym, ap, ◌∙◌, subst, ℕ, List, [], Option, Some, None, Result, Ok, Err, codes, inl, inr}
+use Rattle.std.specs.Option.{unwrap_or}
 use Rattle.serde_json.specs.Data.{Data, Members}
 use Rattle.serde_json.specs.Find.{as_array, as_str, get_member}
 use Rattle.json_readers.specs.Faults.{given}
@@ -13,6 +14,9 @@ use Rattle.settings_reader.specs.Parsed.{IsListOf, IsListAt, IsOptional, items_a
 use Rattle.settings_reader.specs.Versions.{IsVersionSet}
 use Rattle.settings_reader.specs.Externals as external_spec
 use Rattle.settings_reader.specs.Externals.{IsDescribed, IsExternal}
+use Rattle.settings_reader.specs.Lists.{text_list}
+use Rattle.settings_reader.specs.Required as required_spec
+use Rattle.settings_reader.specs.Required.{AreChoices, AreConditions, AreRequired, AreRequiredAt, IsChoice, IsCondition, IsItem, texts_at, IsItemBy, IsObject, IsOnly, IsWhen, IsWhenBy, AreRequiredBy}
 use Rattle.settings_reader.specs.Packages as package_spec
 use Rattle.settings_reader.specs.Packages.{ArePackages, ArePackagesAt, IsPackage}
 use Rattle.settings_reader.specs.Order.{head_of, tail_of}
@@ -22,7 +26,7 @@ use Rattle.settings_reader.specs.Files.{IsFirstFault, IsSettingsFileFault, IsOfF
 use Rattle.site_settings.specs.declared.settings.Settings.{Settings}
 use Rattle.settings_reader.specs.declared.fault.SettingsFault.{SettingsFault}
 use Rattle.settings_reader.specs.declared.fault.SettingsFault.TheVariants as fault
-use Rattle.settings_reader.proofs.One.{IsOne, ReadsSetsOnce, ReadsSpecsOnce, said_one, done_one, below_one, then_one, each_one, optional_one, set_in_one, described_one}
+use Rattle.settings_reader.proofs.One.{IsOne, ReadsSetsOnce, ReadsSpecsOnce, said_one, done_one, below_one, then_one, each_one, optional_one, set_in_one, described_one, condition_one}
 
 list_one : {T : Type 0} (tells : Data → Told T) → ((d : Data) → IsOne (tells d)) → (d : Data) → IsOne (IsListOf tells d)
 list_one tells one d = then_one (told_by (given (as_array d))) _ (said_one (given (as_array d)))
@@ -32,6 +36,44 @@ list_at_one : {T : Type 0} (tells : Data → Told T) → ((d : Data) → IsOne (
     → IsOne (IsListAt tells key ms)
 list_at_one tells one key ms = below_one key (IsOptional (IsListOf tells) (get_member key ms))
     (optional_one (IsListOf tells) (list_one tells one) (get_member key ms))
+
+-- ---- what is asked of a package
+
+choices_one : ReadsSpecsOnce → (key : List ℕ) (ms : Members) → IsOne (AreChoices key ms)
+choices_one laws key ms = then_one (told_by (may text_list key ms)) _ (said_one (may text_list key ms))
+    (λ texts. below_one key (AreConditions (unwrap_or texts [])) (each_one _ (λ key. condition_one laws) (texts_at 0 (unwrap_or texts []))))
+
+when_by_one : ReadsSpecsOnce → (text : Option (List ℕ)) → IsOne (IsWhenBy text)
+when_by_one laws None = done_one _
+when_by_one laws (Some text) = then_one (IsCondition text) _ (condition_one laws text) (λ spec. done_one _)
+
+when_one : ReadsSpecsOnce → (ms : Members) → IsOne (IsWhen ms)
+when_one laws ms = then_one (told_by (may (text_of Some) (codes "when") ms)) _ (said_one (may (text_of Some) (codes "when") ms))
+    (λ text. below_one (codes "when") (IsWhenBy text) (when_by_one laws text))
+
+object_one : ReadsSpecsOnce → (d : Data) → IsOne (IsObject d)
+object_one laws d =
+    then_one (told_by (known required_spec.keys d)) _ (said_one (known required_spec.keys d)) (λ ms.
+    then_one (IsChoice ms) _ (λ a b h k. h ∙ sym k) (λ one_of.
+    then_one (AreChoices (codes "any_of") ms) _ (choices_one laws (codes "any_of") ms) (λ any.
+    then_one (told_by (may (text_of Some) (codes "message") ms)) _ (said_one (may (text_of Some) (codes "message") ms)) (λ message.
+    then_one (AreChoices (codes "one_of") ms) _ (choices_one laws (codes "one_of") ms) (λ one.
+    then_one (IsWhen ms) _ (when_one laws ms) (λ when. done_one _))))))
+
+only_one : ReadsSpecsOnce → (text : List ℕ) → IsOne (IsOnly text)
+only_one laws text = then_one (IsCondition text) _ (condition_one laws text) (λ spec. done_one _)
+
+item_by_one : ReadsSpecsOnce → (text : Option (List ℕ)) (d : Data) → IsOne (IsItemBy text d)
+item_by_one laws (Some text) d = only_one laws text
+item_by_one laws None d = object_one laws d
+
+required_by_one : ReadsSpecsOnce → (text : Option (List ℕ)) (d : Data) → IsOne (AreRequiredBy text d)
+required_by_one laws (Some text) d = then_one (IsOnly text) _ (only_one laws text) (λ entry. done_one _)
+required_by_one laws None d = list_one IsItem (λ v. item_by_one laws (as_str v) v) d
+
+required_at_one : ReadsSpecsOnce → (ms : Members) → IsOne (AreRequiredAt ms)
+required_at_one laws ms = below_one (codes "require") (IsOptional AreRequired (get_member (codes "require") ms))
+    (optional_one AreRequired (λ d. required_by_one laws (as_str d) d) (get_member (codes "require") ms))
 
 external_one : ReadsSpecsOnce → (name platform : List ℕ) (d : Data) → IsOne (IsExternal name platform d)
 external_one laws name platform d =
@@ -49,7 +91,8 @@ package_one sets specs name platform d =
     (list_at_one IsVersionSet (λ v. set_in_one sets (as_str v)) (codes "versions") ms) (λ versions.
     then_one (told_by (may truth_value (codes "buildable") ms)) _ (said_one (may truth_value (codes "buildable") ms)) (λ buildable.
     then_one (IsListAt (IsExternal name platform) (codes "externals") ms) _
-    (list_at_one (IsExternal name platform) (external_one specs name platform) (codes "externals") ms) (λ externals. done_one _))))
+    (list_at_one (IsExternal name platform) (external_one specs name platform) (codes "externals") ms) (λ externals.
+    then_one (AreRequiredAt ms) _ (required_at_one specs ms) (λ require. done_one _)))))
 
 packages_one : ReadsSetsOnce → ReadsSpecsOnce → (platform : List ℕ) (d : Data) → IsOne (ArePackages platform d)
 packages_one sets specs platform d = then_one (told_by (named name_meaning d)) _ (said_one (named name_meaning d))

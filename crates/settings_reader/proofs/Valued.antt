@@ -17,6 +17,7 @@ use Rattle.settings_reader.specs.Told.{Told, Below}
 use Rattle.settings_reader.specs.Parsed.{AreEach, IsListOf, IsListAt, IsOptional, items_at, member_pairs}
 use Rattle.settings_reader.specs.Externals.{IsDescribed, IsExternal, IsReadAs, compiler_in, described_of, described_or_bad, is_alone, only_described, parts_of, target_in, single_version_in, with_prefix}
 use Rattle.settings_reader.specs.Packages.{ArePackages, ArePackagesAt, IsPackage}
+use Rattle.settings_reader.specs.Required.{AreRequiredAt}
 use Rattle.settings_reader.specs.Settings.{IsSettings}
 use Rattle.settings_reader.specs.Files.{IsOfFile}
 use Rattle.settings_reader.specs.Values.{is_filled, has_values, are_valued}
@@ -139,7 +140,8 @@ package_filled laws name platform d entry h =
     let versions = then_ok _ _ entry ms.2 in
     let buildable = then_ok _ _ entry versions.2 in
     let externals = then_ok (IsListAt (IsExternal name platform) (codes "externals") ms.0) _ entry buildable.2 in
-    subst (λ (e : PackageEntry). has_values e ≡ true) (sym (ok_same entry _ externals.2))
+    let require = then_ok (AreRequiredAt ms.0) _ entry externals.2 in
+    subst (λ (e : PackageEntry). has_values e ≡ true) (sym (ok_same entry _ require.2))
     (list_at_ok (λ (external : ExternalEntry). list_all (λ v. is_filled v.1) external.variants) (IsExternal name platform)
     (external_filled laws name platform) (codes "externals") ms.0 externals.0 externals.1)
 

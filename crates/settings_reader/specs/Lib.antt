@@ -6,6 +6,7 @@ pub mod Keys
 pub mod Lists
 pub mod Packages
 pub mod Externals
+pub mod Required
 pub mod Versions
 pub mod Values
 -- How steps of reading are put together.

@@ -62,6 +62,13 @@ compiler_list d = do
   _ ← distinct compiler_pair_cmp (compiler_pairs entries)
   Ok entries
 
+-- a list of texts that is not empty
+unfoldable pub text_list : Data → Reading (List (List ℕ))
+text_list d = do
+  texts ← list_of (text_of Some) d
+  _ ← not_empty texts
+  Ok texts
+
 -- a list of distinct names
 unfoldable pub provider_list : Data → Reading (List (List ℕ))
 provider_list d = do

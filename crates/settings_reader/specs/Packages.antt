@@ -11,10 +11,11 @@ use Rattle.settings_reader.specs.Told.{Told, ◌>>=◌, Below, done, told_by}
 use Rattle.settings_reader.specs.Parsed.{AreEach, IsListAt, IsOptional, member_pairs}
 use Rattle.settings_reader.specs.Versions.{IsVersionSet}
 use Rattle.settings_reader.specs.Externals.{IsExternal}
+use Rattle.settings_reader.specs.Required.{AreRequiredAt}
 use Rattle.site_settings.specs.declared.settings.PackageEntry.{PackageEntry}
 
 abbrev pub package_keys : List (List ℕ)
-package_keys = codes "buildable" ∷ codes "externals" ∷ codes "versions" ∷ []
+package_keys = codes "buildable" ∷ codes "externals" ∷ codes "require" ∷ codes "versions" ∷ []
 
 -- what is said of a name
 abbrev pub IsPackage : List ℕ → List ℕ → Data → Told PackageEntry
@@ -23,7 +24,14 @@ IsPackage name platform d = do
   versions ← IsListAt IsVersionSet (codes "versions") ms
   buildable ← told_by (may truth_value (codes "buildable") ms)
   externals ← IsListAt (IsExternal name platform) (codes "externals") ms
-  done (record { name = name; versions = versions; buildable = unwrap_or buildable true; externals = externals })
+  require ← AreRequiredAt ms
+  done (record {
+    name = name;
+    versions = versions;
+    buildable = unwrap_or buildable true;
+    externals = externals;
+    require = require;
+  })
 
 -- the packages one after another
 abbrev pub AreEntries : List ℕ → Members → Told (List PackageEntry)

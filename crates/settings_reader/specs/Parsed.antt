@@ -6,7 +6,7 @@ use Rattle.json_readers.specs.Faults.{given}
 use Rattle.settings_reader.specs.Told.{Told, ◌>>=◌, Below, done, told_by}
 
 -- the values one after another, each with its key
-abbrev pub AreEach : {T : Type 0} → (List ℕ → Data → Told T) → List (List ℕ × Data) → Told (List T)
+abbrev pub AreEach : {T V : Type 0} → (List ℕ → V → Told T) → List (List ℕ × V) → Told (List T)
 AreEach tells [] = done []
 AreEach tells (v ∷ vs) = do
   x ← Below v.0 (tells v.0 v.1)

@@ -26,7 +26,7 @@ pub enum SettingsFault {
     TwiceNamed(Word),
     /// The targets are no table.
     Targets(TargetFault),
-    /// The spec of an external has a fault.
+    /// The spec of an external, or a condition, has a fault.
     Spec(Word, SpecFault),
     /// The spec of an external is not one of one node of its package.
     BadExternal(Word),

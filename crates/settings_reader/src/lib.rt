@@ -15,6 +15,7 @@ mod lists;
 mod package;
 mod parser;
 mod read;
+mod required;
 mod stop;
 mod theorems;
 mod versions;

@@ -127,6 +127,23 @@ fn pair_of(alloc: Global, compiler: &Compiler) -> Result<(Word, Word), AllocErro
     Ok((name, version))
 }
 
+/// Some texts.
+#[derive(Clone, Copy)]
+pub(crate) struct TextList;
+
+impl Reader<List<Word>> for TextList {
+    ghost use Rattle.settings_reader.specs.Lists.{text_list};
+
+    ghost reads = { λ _. text_list };
+
+    #[tactic(auto, unfolding(crate::specs::Lists::text_list))]
+    fn read(&self, alloc: Global, value: &Value) -> Result<List<Word>, JsonFault> {
+        let texts = ListOf(Text(AnyText)).read(alloc, value)?;
+        not_empty(alloc, &texts)?;
+        Ok(texts)
+    }
+}
+
 /// The packages that provide a virtual one.
 #[derive(Clone, Copy)]
 pub(crate) struct ProviderList;

@@ -8,6 +8,7 @@ ghost use Rattle.settings_reader.specs.Packages.{AreEntries, ArePackages, ArePac
 
 use crate::external::ExternalForm;
 use crate::parser::list_at;
+use crate::required::required_at;
 use crate::stop::{Stop, below};
 use crate::versions::SetText;
 use json_readers::{TruthValue, known, may, member, named};
@@ -87,7 +88,11 @@ fn parse_package(
 ) -> Result<PackageEntry, Stop>
     ensures { Tells result (IsPackage name.now platform.now (view value.now)) }
 {
-    let members = known(alloc, value, &["buildable", "externals", "versions"])?;
+    let members = known(
+        alloc,
+        value,
+        &["buildable", "externals", "require", "versions"],
+    )?;
     let versions = list_at(alloc, members, "versions", &SetText)?;
     let buildable = may(alloc, members, "buildable", &TruthValue)?;
     let externals = list_at(
@@ -96,10 +101,12 @@ fn parse_package(
         "externals",
         &ExternalForm { name, platform },
     )?;
+    let require = required_at(alloc, members)?;
     Ok(PackageEntry {
         name: Word::new(alloc, name)?,
         versions,
         buildable: buildable.unwrap_or(true),
         externals,
+        require,
     })
 }

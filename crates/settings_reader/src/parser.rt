@@ -55,7 +55,8 @@ fn parse_optional<T: Drop, P: Parser<T>>(
     }
 }
 
-fn parse_list<T: Drop, P: Parser<T>>(
+/// A list of values of the form.
+pub(crate) fn parse_list<T: Drop, P: Parser<T>>(
     alloc: Global,
     value: &Value,
     parser: &P,

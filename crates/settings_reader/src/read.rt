@@ -28,9 +28,11 @@ use target_table::{TargetEntry, TargetFault, TargetTable, fault_laws};
 /// first fault: in each object first the least key that it may not have, then its values, key by
 /// key, in the order `platform`, `conflict_budget`, `os`, `targets`, `compilers`, `providers`,
 /// `packages`; of a target `name`, `parents`; of a compiler `name`, `version`, `os`, `targets`; of
-/// a package `versions`, `buildable`, `externals`; of an external `spec`, `prefix`. What is said of
-/// a list as a whole comes behind its entries. An object that maps names is read in byte order of
-/// them.
+/// a package `versions`, `buildable`, `externals`, `require`; of an external `spec`, `prefix`; of
+/// an item of `require` first that it has one of `any_of` and `one_of`, then `any_of`, `message`,
+/// `one_of`, `when`. What is said of a list as a whole comes behind its entries, but for `any_of`
+/// and `one_of`: that they are texts, and some, comes first. An object that maps names is read in
+/// byte order of them.
 pub fn read_settings(alloc: Global, bytes: &[u8]) -> Result<Settings, SettingsFault>
     ensures found { IfOk result (IsOfFile bytes.now) }
     ensures fault { IfErr result (IsSettingsFileFault bytes.now) }

@@ -1,6 +1,6 @@
 //! Copies and comparisons of entries.
 
-use crate::{CompilerEntry, ExternalEntry, PackageEntry};
+use crate::{CompilerEntry, ExternalEntry, PackageEntry, RequireEntry};
 use plain_data::{Duplicate, Same};
 use std::alloc::{AllocError, Global};
 
@@ -46,6 +46,22 @@ impl Same for ExternalEntry {
     }
 }
 
+impl Duplicate for RequireEntry {
+    fn duplicate(&self, alloc: Global) -> Result<RequireEntry, AllocError> {
+        Ok(RequireEntry {
+            specs: self.specs.duplicate(alloc)?,
+            one_of: self.one_of,
+            when: self.when.duplicate(alloc)?,
+        })
+    }
+}
+
+impl Same for RequireEntry {
+    fn same(&self, other: &RequireEntry) -> bool {
+        self.specs.same(&other.specs) && self.one_of == other.one_of && self.when.same(&other.when)
+    }
+}
+
 impl Duplicate for PackageEntry {
     fn duplicate(&self, alloc: Global) -> Result<PackageEntry, AllocError> {
         Ok(PackageEntry {
@@ -53,6 +69,7 @@ impl Duplicate for PackageEntry {
             versions: self.versions.duplicate(alloc)?,
             buildable: self.buildable,
             externals: self.externals.duplicate(alloc)?,
+            require: self.require.duplicate(alloc)?,
         })
     }
 }
@@ -63,5 +80,6 @@ impl Same for PackageEntry {
             && self.versions.same(&other.versions)
             && self.buildable == other.buildable
             && self.externals.same(&other.externals)
+            && self.require.same(&other.require)
     }
 }

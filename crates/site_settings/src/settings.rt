@@ -2,6 +2,7 @@
 
 use graph_core::{Compiler, ValueSet, Version, VersionSet};
 use plain_data::{List, Word};
+use spec_grammar::{Condition, Spec};
 use target_table::TargetTable;
 
 /// A compiler that may be used: `{"name":"gcc","version":"12.3.0","os":["ubuntu22.04"]}`
@@ -31,6 +32,16 @@ pub struct ExternalEntry {
     pub prefix: Word,
 }
 
+/// What is asked of the nodes of a package: `{"one_of":["+mpi","~mpi"],"when":"%gcc"}`
+#[derive(Debug, Drop)]
+pub struct RequireEntry {
+    pub specs: List<Spec>,
+    /// Whether exactly one of them is to hold, and not at least one.
+    pub one_of: bool,
+    /// Where it is asked; everywhere, where none is written.
+    pub when: Condition,
+}
+
 /// What is said of one package.
 #[derive(Debug, Drop)]
 pub struct PackageEntry {
@@ -40,6 +51,8 @@ pub struct PackageEntry {
     /// Whether it may be built.
     pub buildable: bool,
     pub externals: List<ExternalEntry>,
+    /// What is asked of each of its nodes, whatever its origin, in the order of the settings.
+    pub require: List<RequireEntry>,
 }
 
 /// The settings of a site. A list goes from what is preferred most.

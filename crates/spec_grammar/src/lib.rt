@@ -10,6 +10,7 @@
 
 mod constrain;
 mod draft;
+mod exact;
 mod fault;
 mod forms;
 mod item;
@@ -27,7 +28,7 @@ mod values_set;
 mod write;
 
 pub use fault::{Form, SpecFault};
-pub use part::{Part, Spec, TargetItem};
+pub use part::{Condition, Part, Spec, TargetItem};
 pub use read::{
     read_condition, read_condition_bytes, read_dependency, read_dependency_bytes,
     read_local_condition_bytes, read_provision, read_provision_bytes, read_specs, read_specs_bytes,

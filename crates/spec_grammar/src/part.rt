@@ -42,3 +42,12 @@ pub struct Spec {
     /// The parts after `^`, in the order of the text.
     pub below: List<Part>,
 }
+
+/// A condition: specs that must all hold at a package. Where there is none, it always holds.
+///
+/// Of a directive those of the enclosing `with when(..)` blocks stand first, the outermost before
+/// the others, and then its own `when=`.
+#[derive(Debug, Drop)]
+pub struct Condition {
+    pub specs: List<Spec>,
+}

@@ -16,7 +16,7 @@ use Rattle.virtuals.specs.Virtuals.{is_virtual}
 use Rattle.condition_rules.specs.Words.{if_written, is_some_and}
 use Rattle.condition_rules.specs.Worlds.{World, recipe_of, rows}
 use Rattle.condition_rules.specs.Meets.{meets_platform, lists_overlap, is_compiler, is_target}
-use Rattle.recipe_data.specs.declared.recipe.Condition.{Condition}
+use Rattle.recipe_data.specs.OfSpecGrammar.Condition.{Condition}
 use Rattle.recipe_data.specs.declared.recipe.ProvideRow.{ProvideRow}
 use Rattle.literal_table.specs.Tables.{Table}
 use Rattle.graph_formulas.specs.Facts.{GraphWord, word_said, node_has, has_version, has_variant, has_value, has_compiler, has_os, has_target, has_path, provides_as}

@@ -14,7 +14,7 @@ use Rattle.clause_formulas.proofs.DraftLaws.{SaidBelow-le}
 use Rattle.graph_core.specs.Graphs.{Text, Content}
 use Rattle.graph_core.specs.Paths.{reaches_in}
 use Rattle.condition_rules.specs.Holds.{all_hold}
-use Rattle.recipe_data.specs.declared.recipe.Condition.{Condition}
+use Rattle.recipe_data.specs.OfSpecGrammar.Condition.{Condition}
 use Rattle.problem.specs.Nodes.{IsWellFormed}
 use Rattle.problem.specs.Problems.{Problem, world_of}
 use Rattle.problem.specs.declared.demand.Demand.{Demand}
@@ -26,7 +26,7 @@ use Rattle.literal_table.specs.Tables as tables
 use Rattle.literal_table.specs.Tables.{Table, IsTable, block_of, table_names, children_of}
 use Rattle.literal_table.specs.Spells.{Spells}
 use Rattle.literal_table.specs.declared.block.Block.{Block}
-use Rattle.graph_formulas.specs.Facts.{GraphWord, word_said, fact_said, said_in, has_origin}
+use Rattle.graph_formulas.specs.Facts.{GraphWord, word_said, fact_said, said_in, has_origin, is_there}
 use Rattle.graph_formulas.specs.Lists.{settled_test, where_written}
 use Rattle.graph_formulas.specs.Words.{SpellsPaths, names_for, rule_said}
 use Rattle.graph_formulas.specs.Parts.{condition_rule, holds_rule}
@@ -37,7 +37,7 @@ use Rattle.graph_formulas.specs.Built.{buildable_rule, version_rule, compiler_ru
 use Rattle.graph_formulas.specs.Edges.{extra_edges_rule, used_rule, of_provider}
 use Rattle.graph_formulas.specs.Variants.{variants_rule}
 use Rattle.graph_formulas.specs.Kept.{kept_rule, origins_of}
-use Rattle.graph_formulas.specs.Demands.{demand_rule, directive_rule}
+use Rattle.graph_formulas.specs.Demands.{demand_rule, directive_rule, required_rule}
 use Rattle.graph_formulas.specs.Laws.{SpellsProblem, term_formula, rule_says, has_name, virtuals_of, variants_of}
 use Rattle.graph_formulas.proofs.RulesSaid.{demand-said, all-buildable, all-version, all-compiler, all-machine, all-extra_edge, all-kept, all-provider, all-used}
 use Rattle.graph_formulas.proofs.Edges.{all-true}
@@ -295,11 +295,28 @@ module _ (problem : Problem) (t : Table) (told : Text → Bool) (all : list_all 
           (λ e. terms.directive-alike problem v t path exact told same cond_path cond_exact same-met name e number)
       named-alike name number false = refl
 
+      there-alike : (name : Text) (rule : Proposition Term) → (is_told_name name ≡ true → AllWords T rule) → says_path (where_there name rule) ≡ says_exact (where_there name rule)
+      there-alike name rule h = there-alike-cases (block_of t name) refl
+        where
+          there-alike-cases : (o : Option Block) → block_of t name ≡ o → says_path (where_there name rule) ≡ says_exact (where_there name rule)
+          there-alike-cases None at =
+              subst (λ o. eval v (implication_of (said_in (λ b. fact_said b is_there) o) (term_formula path cond_path t rule))
+              ≡ eval v (implication_of (said_in (λ b. fact_said b is_there) o) (term_formula exact cond_exact t rule))) (sym at) refl
+          there-alike-cases (Some b) at = alike (where_there name rule) (refl, h (found-passes is_told_name t.blocks name b told-names at))
+
+      asked-alike : (name : Text) (place : ℕ) (b : Bool) → says_path (if b then where_there name (required_rule problem (names_for t) place name) else settled_test true)
+          ≡ says_exact (if b then where_there name (required_rule problem (names_for t) place name) else settled_test true)
+      asked-alike name place true = there-alike name (required_rule problem (names_for t) place name)
+          (λ e. terms.required-alike problem v t path exact told same cond_path cond_exact same-met name e place)
+      asked-alike name place false = refl
+
       demand-says : (d : Demand) → says_path (demand_rule problem (names_for t) (has_name t) d) ≡ keeps_demand problem g d
       demand-says (demand.Root place) = alike (demand_rule problem (names_for t) (has_name t) (demand.Root place)) (roots-alike problem.roots told-roots place)
           ∙ demand-said problem v exact cond_exact t g spelled (demand.Root place)
       demand-says (demand.Directive name number) = named-alike name number (has_name t name)
           ∙ demand-said problem v exact cond_exact t g spelled (demand.Directive name number)
+      demand-says (demand.Setting name place) = asked-alike name place (has_name t name)
+          ∙ demand-said problem v exact cond_exact t g spelled (demand.Setting name place)
 
 -- ---- ranges
 

@@ -1,5 +1,5 @@
 -- The words of rules of directives: conditions and paths alone are said in two ways, and alike where paths are told.
-use Rattle.std.proofs.Common.{◌≡◌, refl, ◌∙◌, sym, Bool, true, false, ◌&&◌, ℕ, List, [], ◌∷◌, map, Option, Some, None}
+use Rattle.std.proofs.Common.{◌≡◌, refl, ◌∙◌, sym, Bool, true, false, ◌&&◌, ℕ, zero, suc, List, [], ◌∷◌, map, Option, Some, None}
 use Rattle.std.specs.Prelude.{◌++◌, flat_map, if◌then◌else◌, ◌==◌, slice_get, filter}
 use Rattle.std.specs.List.{list_all}
 use Rattle.std.specs.Str.{bytes_eq}
@@ -14,12 +14,12 @@ use Rattle.variant_values.specs.declared.kind.VariantKind.TheVariants as kinds
 use Rattle.graph_core.specs.declared.node.Kinds.{Kinds}
 use Rattle.condition_rules.specs.Words.{is_some_and}
 use Rattle.virtuals.specs.Virtuals.{is_virtual}
-use Rattle.recipe_data.specs.declared.recipe.Condition.{Condition}
+use Rattle.recipe_data.specs.OfSpecGrammar.Condition.{Condition}
 use Rattle.recipe_data.specs.declared.recipe.VariantRow.{VariantRow}
 use Rattle.recipe_data.specs.declared.recipe.DependRow.{DependRow}
 use Rattle.recipe_data.specs.declared.recipe.ConflictRow.{ConflictRow}
 use Rattle.recipe_data.specs.declared.recipe.RequireRow.{RequireRow}
-use Rattle.problem.specs.Problems.{Problem, world_of, variants_at, depends_at, conflicts_at, requirements_at}
+use Rattle.problem.specs.Problems.{Problem, world_of, variants_at, depends_at, conflicts_at, requirements_at, required_at}
 use Rattle.problem.specs.declared.demand.Demand.{Demand}
 use Rattle.problem.specs.declared.demand.Demand.TheVariants as demand
 use Rattle.literal_table.specs.Tables.{Table}
@@ -31,9 +31,9 @@ use Rattle.graph_formulas.specs.Terms.{Term, known, met, term_said, known_rule, 
 use Rattle.graph_formulas.specs.Directives.{root_rule, edge_to, edge_rule, suits_asked, constraint_rule, conflict_rule, choice_rule, requirement_rule}
 use Rattle.graph_formulas.specs.Edges.{empty_kinds, asked_child, asks_rule, may_ask, names_virtual, may_use, kind_rule, extra_edge_rule, extra_edges_rule, use_rule, used_rule, of_provider}
 use Rattle.graph_formulas.specs.Variants.{count_rule, definitions, variant_rule, variants_rule, allows_rule}
-use Rattle.graph_formulas.specs.Demands.{directive_rule}
+use Rattle.graph_formulas.specs.Demands.{directive_rule, required_rule}
 use Rattle.graph_encoding.specs.Formulas.{PathFormulas}
-use Rattle.valid_models.specs.Targets.{spec_names, condition_names, conditions_at, specs_at, targets_at}
+use Rattle.valid_models.specs.Targets.{spec_names, condition_names, choices_at, conditions_at, specs_at, targets_at}
 use Rattle.valid_models.proofs.Words.{AllWords, said-alike, given-all, written-all, named-all, each-all, some-all, each-if, some-if, just-if, last-if}
 use Rattle.valid_models.proofs.Mentions.{Alike, all-flat, asked-alike, suits-alike, holds-alike}
 
@@ -137,8 +137,10 @@ module _ (problem : Problem) (v : ℕ → Bool) (t : Table) (path other : PathFo
     depends : list_all (λ row. is_told_condition row.when) (depends_at problem name) ≡ true
     conflicts : list_all (λ row. is_told_condition row.when) (conflicts_at problem name) ≡ true
     requirements : list_all (λ row. is_told_condition row.when) (requirements_at problem name) ≡ true
+    required : list_all (λ row. is_told_condition row.when) (required_at problem name) ≡ true
     conflict_specs : list_all (λ row. is_told_spec row.spec) (conflicts_at problem name) ≡ true
     requirement_specs : list_all (λ row. list_all is_told_spec row.specs) (requirements_at problem name) ≡ true
+    required_specs : list_all (λ row. list_all is_told_spec row.specs) (required_at problem name) ≡ true
 
   told-rows : (name : Text) → list_all told (targets_at problem t name) ≡ true → ToldRows name
   told-rows name e =
@@ -151,13 +153,19 @@ module _ (problem : Problem) (v : ℕ → Bool) (t : Table) (path other : PathFo
       let b = and_parts _ _ (sym (list_all-append is_told_condition (map (λ row. row.when) (depends_at problem name)) _) ∙ a.1) in
       let c = and_parts _ _ (sym (list_all-append is_told_condition (map (λ row. row.when) (conflicts_at problem name)) _) ∙ b.1) in
       let s = and_parts _ _ (sym (list_all-append is_told_spec (map (λ row. row.spec) (conflicts_at problem name)) _) ∙ specs) in
+      let r = and_parts _ _ (sym (list_all-append (λ row. is_told_condition row.when) (requirements_at problem name) (required_at problem name))
+      ∙ sym (list_all-map is_told_condition (λ row. row.when) (choices_at problem name)) ∙ c.1) in
+      let q = and_parts _ _ (sym (list_all-append (λ row. list_all is_told_spec row.specs) (requirements_at problem name) (required_at problem name))
+      ∙ sym (all-flat is_told_spec (λ row. row.specs) (choices_at problem name)) ∙ s.1) in
       record {
         variants = sym (list_all-map is_told_condition (λ row. row.when) (variants_at problem name)) ∙ a.0;
         depends = sym (list_all-map is_told_condition (λ row. row.when) (depends_at problem name)) ∙ b.0;
         conflicts = sym (list_all-map is_told_condition (λ row. row.when) (conflicts_at problem name)) ∙ c.0;
-        requirements = sym (list_all-map is_told_condition (λ row. row.when) (requirements_at problem name)) ∙ c.1;
+        requirements = r.0;
+        required = r.1;
         conflict_specs = sym (list_all-map is_told_spec (λ row. row.spec) (conflicts_at problem name)) ∙ s.0;
-        requirement_specs = sym (all-flat is_told_spec (λ row. row.specs) (requirements_at problem name)) ∙ s.1;
+        requirement_specs = q.0;
+        required_specs = q.1;
       }
 
   module _ (name : Text) (e : list_all told (targets_at problem t name) ≡ true) where
@@ -187,6 +195,16 @@ module _ (problem : Problem) (v : ℕ → Bool) (t : Table) (path other : PathFo
           (both-all (λ row. is_told_condition row.when) (λ row. list_all is_told_spec row.specs) (requirements_at problem name)
           rows.requirements rows.requirement_specs)),
     )
+
+    pub required-alike : (place : ℕ) → AllWords TermAlike (required_rule problem packages place name)
+    required-alike place = at-place (required_at problem name) rows.required rows.required_specs place
+      where
+        at-place : (rs : List RequireRow) → list_all (λ row. is_told_condition row.when) rs ≡ true
+            → list_all (λ row. list_all is_told_spec row.specs) rs ≡ true → (k : ℕ)
+            → AllWords TermAlike (where_written (slice_get rs k) (requirement_rule problem packages name))
+        at-place [] e f k = tt
+        at-place (r ∷ rs) e f zero = requirement-alike name r (and_parts _ _ e).0 (and_parts _ _ f).0
+        at-place (r ∷ rs) e f (suc k) = at-place rs (and_parts _ _ e).1 (and_parts _ _ f).1 k
 
     defined : (variant : Text) → list_all (λ row. is_told_condition row.when) (definitions problem name variant) ≡ true
     defined variant = all-filtered (λ row. is_told_condition row.when) (λ row. bytes_eq row.name variant)

@@ -5,7 +5,7 @@ use Rattle.clause_formulas.specs.Statements.{Statement, all_statements, SaidBelo
 use Rattle.clause_formulas.specs.Rules.{Proposition}
 use Rattle.graph_core.specs.Graphs.{Text, Content}
 use Rattle.condition_rules.specs.Holds.{all_hold}
-use Rattle.recipe_data.specs.declared.recipe.Condition.{Condition}
+use Rattle.recipe_data.specs.OfSpecGrammar.Condition.{Condition}
 use Rattle.problem.specs.Problems.{Problem, world_of, variants_at}
 use Rattle.problem.specs.declared.demand.Demand.{Demand}
 use Rattle.literal_table.specs.Tables.{Table, IsTable, block_of, table_names, children_of}

@@ -6,8 +6,9 @@ use Rattle.spec_grammar.specs.declared.part.Spec.{Spec}
 use Rattle.graph_core.specs.Graphs.{Text}
 use Rattle.virtuals.specs.Virtuals.{is_virtual}
 use Rattle.condition_rules.specs.Worlds.{World}
-use Rattle.recipe_data.specs.declared.recipe.Condition.{Condition}
-use Rattle.problem.specs.Problems.{Problem, world_of, variants_at, depends_at, conflicts_at, requirements_at}
+use Rattle.recipe_data.specs.OfSpecGrammar.Condition.{Condition}
+use Rattle.recipe_data.specs.declared.recipe.RequireRow.{RequireRow}
+use Rattle.problem.specs.Problems.{Problem, world_of, variants_at, depends_at, conflicts_at, requirements_at, required_at}
 use Rattle.literal_table.specs.Tables.{Table, table_names}
 use Rattle.graph_formulas.specs.Words.{names_for}
 
@@ -24,14 +25,18 @@ module _ (world : World) (packages : Text → List Text) where
   condition_names condition = flat_map spec_names condition.specs
 
 module _ (problem : Problem) where
+  -- what a package's recipe requires, and then what the settings do
+  abbrev pub choices_at : Text → List RequireRow
+  choices_at name = requirements_at problem name ++ required_at problem name
+
   -- the conditions of a package's directives, and the specs of its conflicts and requirements
   abbrev pub conditions_at : Text → List Condition
   conditions_at name =
       map (λ row. row.when) (variants_at problem name) ++ (map (λ row. row.when) (depends_at problem name)
-      ++ (map (λ row. row.when) (conflicts_at problem name) ++ map (λ row. row.when) (requirements_at problem name)))
+      ++ (map (λ row. row.when) (conflicts_at problem name) ++ map (λ row. row.when) (choices_at name)))
 
   abbrev pub specs_at : Text → List Spec
-  specs_at name = map (λ row. row.spec) (conflicts_at problem name) ++ flat_map (λ row. row.specs) (requirements_at problem name)
+  specs_at name = map (λ row. row.spec) (conflicts_at problem name) ++ flat_map (λ row. row.specs) (choices_at name)
 
 module _ (problem : Problem) (t : Table) where
   -- the conditions, each with the name of its package

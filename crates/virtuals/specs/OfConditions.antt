@@ -5,7 +5,7 @@ pub use Rattle.recipe_data.specs.OfSpecGrammar.TargetItem
 pub use Rattle.recipe_data.specs.OfVersionOrder.Item
 pub use Rattle.recipe_data.specs.OfVersionOrder.Sets
 pub use Rattle.recipe_data.specs.Right
-pub use Rattle.recipe_data.specs.declared.recipe.Condition
+pub use Rattle.recipe_data.specs.OfSpecGrammar.Condition
 pub use Rattle.recipe_data.specs.declared.recipe.ConflictRow
 pub use Rattle.recipe_data.specs.declared.recipe.DependRow
 pub use Rattle.recipe_data.specs.declared.recipe.ProvideRow

@@ -35,7 +35,9 @@ pub use facts::{
 };
 pub use loops::{each, some};
 pub use met::MetConditions;
-pub use node_rules::{buildable_formula, machine_formula, version_formula, where_built};
+pub use node_rules::{
+    buildable_formula, machine_formula, version_formula, where_built, where_there,
+};
 pub use parts::meets_formula;
 pub use theorems::{plain_laws, row_laws};
 pub use variants::allows_formula;

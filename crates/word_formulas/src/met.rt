@@ -8,7 +8,7 @@ use std::alloc::{AllocError, Global};
 pub trait MetConditions {
     ghost use Rattle.std.specs.Prelude.{◌≡◌, IfOk};
     ghost use Rattle.clause_formulas.specs.Statements.{Statement};
-    ghost use Rattle.recipe_data.specs.declared.recipe.Condition.{Condition};
+    ghost use Rattle.recipe_data.specs.OfSpecGrammar.Condition.{Condition};
     ghost use Rattle.graph_core.specs.Graphs.{Text};
 
     ghost condition_of: { Self → Text → Condition → Statement };

@@ -10,5 +10,6 @@ invariant_of-problem c = record {
       assembled c.args.recipes c.args.settings c.args.database c.args.roots c.requires.order c.requires.right c.requires.named;
   providers =
       rw c.as_slice.ensures at c.in_ok-found.ensures.providers;
-  asked = rw (c.len.ensures, c.as_slice.ensures) at c.in_ok-found.ensures.demands;
+  asked = rw (c.len.ensures, c.as_slice.ensures, c.as_slice-2.ensures) at c.in_ok-found.ensures.demands;
+  required = rw c.as_slice-3.ensures at c.in_ok-required.ensures;
 }

@@ -4,6 +4,7 @@ use Rattle.problem_formulas.proofs.listed.push_package.Goals as goal
 
 pub returns : goal.returns
 returns c = rw (
+  c.in_ok-push_requirements-2.ensures,
   c.in_ok-push_requirements.ensures,
   c.in_ok-push_conflicts.ensures,
   c.in_ok-push_depends.ensures,
@@ -12,5 +13,6 @@ returns c = rw (
   c.depends_at-depends.ensures,
   c.conflicts_at-conflicts.ensures,
   c.requirements_at-requirements.ensures,
+  c.required_at-required.ensures,
 ) (package-formulas c.args.problem.now c.args.table.now (path_by c.args.table.now c.args.paths.now) c.args.name.now
     c.args.formulas.now.items)

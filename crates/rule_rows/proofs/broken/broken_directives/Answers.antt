@@ -22,4 +22,9 @@ returns c = record {
   requirement_at =
       refl;
   neither = refl;
+  required = refl;
+  required_at = refl;
+  required_of_a_kept_node = refl;
+  both_required = refl;
+  one_required = refl;
 }

@@ -8,10 +8,10 @@ pub returns : goal.returns
 returns c =
     let sets : ReadsSetsOnce = record { once = c.set_reading_laws.ensures.one_reading } in
     let specs : ReadsSpecsOnce = record {
-      once = c.reading_laws.ensures.one_reading Specs;
+      once = c.reading_laws.ensures.one_reading;
       one_fault =
-          c.reading_laws.ensures.one_fault Specs;
-      right = c.reading_laws.ensures.right Specs;
+          c.reading_laws.ensures.one_fault;
+      right = c.reading_laws.ensures.right;
     } in
     record {
       one_reading = file_one sets specs;

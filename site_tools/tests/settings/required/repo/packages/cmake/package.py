@@ -1,0 +1,2 @@
+class Cmake(Package):
+    version("3.27")

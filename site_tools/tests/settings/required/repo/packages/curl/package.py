@@ -1,0 +1,3 @@
+class Curl(Package):
+    version("8")
+    variant("pic", default=True)
