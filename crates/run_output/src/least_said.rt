@@ -79,7 +79,7 @@ pub fn of_least_reasons<P: Progress>(
     requires ready { IsReadyInput input.now }
     requires empty { kept.old ≡ [] }
     ensures said { IfOk result (λ said. Tells evidence (tasks.Reasons input.now) said.outcome said.text.items) }
-    ensures kept { IfOk result (λ said. IsLeastLogTo input.now.problem said.outcome kept.new) }
+    ensures kept { IfOk result (λ said. IsLeastLogTo input.now.problem said.outcome said.text.items kept.new) }
     ensures short { OnErr result (kept.new ≡ []) }
 {
     let problem = &input.problem;
