@@ -1,4 +1,4 @@
--- The definitions of a variant one by one, and terms under a test.
+-- The definitions of a variant one by one, and what they add.
 use Rattle.std.specs.Prelude.{List, map}
 use Rattle.std.specs.Borrow.{Bor}
 use Rattle.clause_formulas.specs.Statements.{Statement, both_statements}
