@@ -84,11 +84,7 @@ fn are_within(signs: &mut Signs, lits: &[Lit]) -> bool
 }
 
 /// Resolves with a clause of which it is enough to look at some literals, and gives the pivot.
-fn resolve(
-    signs: &mut Signs,
-    _lits: &[Lit],
-    parts: &[Lit],
-) -> Result<Result<Lit, Why>, AllocError>
+fn resolve(signs: &mut Signs, _lits: &[Lit], parts: &[Lit]) -> Result<Result<Lit, Why>, AllocError>
     requires in_order { IsClause _lits.now }
     requires enough { IsEnough (sign_of signs.old) _lits.now parts.now }
     ensures pivot { IfOk result (λ pivot. pivot ≡ only_one (clashes (sign_of signs.old) _lits.now)) }

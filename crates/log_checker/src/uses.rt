@@ -75,13 +75,7 @@ fn few_from(items: &[u64], place: usize, most: usize) -> Option<&[u64]>
     ensures { IfSome result (λ rest. rest.now ≡ drop place items.now) }
 {
     match items.get(place..) {
-        Some(rest) => {
-            if rest.len() <= most {
-                Some(rest)
-            } else {
-                None
-            }
-        }
+        Some(rest) => { if rest.len() <= most { Some(rest) } else { None } }
         None => None,
     }
 }
@@ -120,13 +114,7 @@ fn literal_of(lits: &[Lit], var: u64) -> Option<Lit>
 {
     let place = lits.partition_point(|other| other.var.0 < var);
     match lit_in(lits, place) {
-        Some(lit) => {
-            if is_of(lit, var) {
-                Some(lit)
-            } else {
-                None
-            }
-        }
+        Some(lit) => { if is_of(lit, var) { Some(lit) } else { None } }
         None => None,
     }
 }
