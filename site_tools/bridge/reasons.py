@@ -143,7 +143,7 @@ def read(said: str, catalog: Catalog) -> list[Reason]:
         elif each:
             found.append(of_directive(each[3], each[4], int(each[5]), catalog))
     for one in found:
-        if one.graph is not None:
+        if one.graph is not None and len(found) > 1:
             one.others = without.sentence(one.kind, one.package, one.specs, one.graph, catalog)
     return found
 
