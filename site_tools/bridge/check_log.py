@@ -11,8 +11,8 @@ from typing import Optional
 from . import dimacs, log_rules, solvers
 
 WORDS = """\
-The words behind a wrong line are those of `check` and `refute`. Of a spent log that settles bits it has to be that some graph has these bits:
-a solver finds one where --solver names it, and its model is looked at; without it the answer says that this is open.
+The words behind a wrong line are those of `check` and `refute`. A spent log that settles bits says that some graph has them: a solver
+finds one where --solver names it, and its model is looked at; without it the answer says that this is open.
 """
 
 
@@ -31,7 +31,7 @@ def model_with(problem: dimacs.Problem, values: list[bool], solver: str) -> bool
 def said_of_spent(problem: dimacs.Problem, found: log_rules.Found, solver: Optional[str]) -> str:
     """What a spent log shows."""
     first = f"a spent log: {found.learnt} learnt clauses, each useful, so a budget of {found.learnt - 1} was spent"
-    if not found.is_of_all:
+    if found.is_of_rules:
         return f"{first}; no graph was found"
     if not found.values:
         return f"{first}; no bit was settled"

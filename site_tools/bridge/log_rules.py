@@ -16,10 +16,10 @@ class Wrong(ValueError):
 
 @dataclass
 class Found:
-    """What a right log shows: its kind (`e`, `u` or `s`, its last line), the bits that it settles, how many clauses it learns."""
+    """What a right log shows: its last line (`e`, `u` or `s`), what it is over, the bits that it settles, how many clauses it learns."""
 
     end: str
-    is_of_all: bool
+    is_of_rules: bool
     values: list[bool] = field(default_factory=list)
     learnt: int = 0
 
@@ -111,7 +111,7 @@ class Rules:
                 raise ValueError("Unfinished")
         except ValueError as fault:
             raise Wrong(f"line {number} {fault}") from fault
-        return Found(self.last, self.is_of_all, self.values, self.learnt)
+        return Found(self.last, self.is_of_rules, self.values, self.learnt)
 
     def begin(self) -> None:
         """The first line."""
