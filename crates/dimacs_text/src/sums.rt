@@ -181,6 +181,7 @@ pub(crate) fn write_sums(alloc: Global, bits: &Bits, out: &mut Vec<u8>) -> Resul
 {
     let tops = bits.tops();
     let lits = bits.lits();
-    let _counts = (tops.len(), lits.len());
+    let _numbers = tops.len();
+    let _bits = lits.len();
     write_from(alloc, 1, 0, tops, lits, out)
 }
