@@ -50,6 +50,37 @@ def literals_of(numbers: list[int]) -> tuple[list[int], list[int]]:
     return found, numbers[place + 1:]
 
 
+@dataclass
+class Line:
+    """A line of a log: its kind, and what stands in it."""
+
+    kind: str
+    id: int = 0
+    literals: list[int] = field(default_factory=list)
+    bit: int = 0
+    chain: Optional[Chain] = None
+
+
+def line_of(text: str) -> Line:
+    """The line that a text spells."""
+    kind, *words = text.split(" ")
+    numbers = numbers_of(words)
+    if kind in ("e", "s") and not numbers:
+        return Line(kind)
+    if kind == "p" and len(numbers) == 4 and numbers[0] == 1 and min(numbers) >= 0:
+        return Line(kind)
+    if kind == "u":
+        return Line(kind, chain=chain_of(numbers))
+    if kind == "l" and numbers and numbers[0] >= 0:
+        literals, behind = literals_of(numbers[1:])
+        return Line(kind, numbers[0], literals, chain=chain_of(behind))
+    if kind == "z" and len(numbers) == 2 and min(numbers) >= 0:
+        return Line(kind, numbers[0], bit=numbers[1])
+    if kind == "o" and len(numbers) > 2 and min(numbers) >= 0:
+        return Line(kind, numbers[0], bit=numbers[1], chain=chain_of(numbers[2:]))
+    raise ValueError("BadLine")
+
+
 class Usefulness:
     """The clauses that are known, propagated, to tell whether a clause is useful."""
 
@@ -103,7 +134,7 @@ class Rules:
         try:
             self.begin()
             for number, line in enumerate(self.lines[:-1], 2):
-                self.take(line)
+                self.take(line_of(line))
             number = len(self.lines) + 1
             if self.lines[-1] != "":
                 raise ValueError("BadLine")
@@ -117,33 +148,26 @@ class Rules:
         """The first line."""
         if not self.lines:
             raise ValueError("BadLine" if self.head else "Unfinished")
+        line_of(self.head)
         if not (self.is_of_all or self.is_of_rules):
-            raise ValueError("WrongCounts" if re.fullmatch(r"p 1( (0|[1-9][0-9]{0,18})){3}", self.head) else "BadLine")
+            raise ValueError("WrongCounts")
 
-    def take(self, line: str) -> None:
+    def take(self, line: Line) -> None:
         """A further line."""
-        kind, *words = line.split(" ")
-        numbers = numbers_of(words)
-        if kind in ("e", "s") and not numbers:
-            self.end(kind)
-        elif kind == "u":
-            chain = chain_of(numbers)
-            self.end(kind)
-            self.derive(chain, frozenset())
-        elif kind == "l" and numbers and numbers[0] >= 0:
-            literals, behind = literals_of(numbers[1:])
-            self.learn(numbers[0], frozenset(literals), chain_of(behind))
-        elif kind == "z" and len(numbers) == 2 and min(numbers) >= 0:
-            self.settle(numbers[0], numbers[1], None)
-        elif kind == "o" and len(numbers) > 2 and min(numbers) >= 0:
-            self.settle(numbers[0], numbers[1], chain_of(numbers[2:]))
+        if self.last or line.kind == "p":
+            raise ValueError("OutOfOrder")
+        if line.kind == "l":
+            self.learn(line.id, frozenset(line.literals), line.chain or [])
+        elif line.kind in ("z", "o"):
+            self.settle(line.id, line.bit, line.chain)
         else:
-            raise ValueError("BadLine")
+            self.end(line.kind)
+            self.derive(line.chain or [], frozenset())
 
     def end(self, kind: str) -> None:
         """A last line: `e` where all bits are settled, `u` over the rules alone, `s` behind a learnt clause."""
         is_due = {"e": self.is_of_all and len(self.values) == len(self.bits), "u": self.is_of_rules, "s": self.learnt > 0}
-        if self.last or not is_due[kind]:
+        if not is_due[kind]:
             raise ValueError("OutOfOrder")
         self.last = kind
 
@@ -173,8 +197,8 @@ class Rules:
         self.know(clause)
 
     def next(self, number: int) -> None:
-        """An id has to be the next one, before the end."""
-        if self.last or number != len(self.known) + 1:
+        """An id has to be the next one."""
+        if number != len(self.known) + 1:
             raise ValueError("OutOfOrder")
 
     def know(self, clause: frozenset[int]) -> None:
@@ -184,10 +208,10 @@ class Rules:
             self.usefulness.know(clause)
 
     def derive(self, chain: Chain, stated: frozenset[int]) -> None:
-        """A chain has to derive a clause that is contained in what is stated."""
+        """A chain, if there is one, has to derive a clause that is contained in what is stated."""
         if any(number not in self.known for number in chain):
             raise ValueError("UnknownId")
-        left = set(self.known[chain[0]])
+        left = set(self.known[chain[0]]) if chain else set()
         for number in chain[1:]:
             clause = self.known[number]
             pivots = [literal for literal in clause if -literal in left]
