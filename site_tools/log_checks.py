@@ -148,7 +148,7 @@ def check_mistakes() -> Check:
         words, text, wanted = row.split(" | ")
         with tempfile.TemporaryDirectory() as name:
             room = Path(name)
-            (room / "file").write_text(text.replace("\\n", "\n"), "ascii")
+            (room / "file").write_text(text.replace("\\n", "\n").replace("\\0", "\0"), "ascii")
             tool, *rest = words.replace("@/", f"{LOGS}/").replace("FILE", str(room / "file")).replace("OUT", str(room / "out")).split(",")
             said = told(mains[tool].main, rest)
             if wanted not in said or "status" not in said or (room / "out").exists():
