@@ -128,7 +128,6 @@ def trimmed(data: bytes) -> Kept:
     needed = bytearray(b"\1") * len(lines) if is_spent else needed_of(first, lines, stated)
     learnt = [needed[place] for place in stated if lines[place][0] in b"l"]
     texts, ids = [data[:data.index(b"\n") + 1]], 0
-    del data
     for text, count in anew(first, lines, needed):
         texts.append(text)
         ids += count
