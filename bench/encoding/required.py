@@ -110,8 +110,9 @@ def main():
     parser.add_argument("--problems", type=int, default=200, help="how many problems are compared")
     parser.add_argument("--graphs", type=int, default=1200, help="how many graphs over its table a problem has at most")
     parser.add_argument("--seed", type=int, default=1)
+    parser.add_argument("--cases", help="a file to write the problems to, as cases")
     options = parser.parse_args()
-    draw, counts, done, large = random.Random(options.seed), Counts(), 0, 0
+    draw, counts, cases, done, large = random.Random(options.seed), Counts(), [], 0, 0
     while done < options.problems:
         files, spec = made(draw)
         with tempfile.TemporaryDirectory() as folder:
@@ -134,6 +135,10 @@ def main():
                 sys.exit(1)
             counts.add(*("Required first, %s nodes there" % origin for origin in origins.seen), *(["Required first, some graph"] if origins.seen else []))
         done += 1
+        cases.append({"name": "required-%d-%d" % (options.seed, done), "files": files, "words": ["concretize", "r", "s", "d", "l", "c", *spec.split()]})
+    if options.cases:
+        with open(options.cases, "w") as file:
+            file.writelines(json.dumps(case) + "\n" for case in cases)
     print("%d problems, 0 differences; %d larger ones were passed over" % (done, large))
     for name, count in sorted(counts.by.items()):
         print("%6d %s" % (count, name))
