@@ -1,5 +1,5 @@
--- What a file says of packages weighs two for each external and for each value of its variants.
-use Rattle.std.proofs.Common.{◌≡◌, ap, ℕ, ◌+◌, ◌*◌, ◌≤◌, List, [], ◌∷◌, length, Option, Some, None, Result, Ok, Err, codes, arith}
+-- What a file says of packages weighs two for each external, for each value of its variants, and for each requirement.
+use Rattle.std.proofs.Common.{◌≡◌, refl, ap, ℕ, ◌+◌, ◌*◌, ◌≤◌, List, [], ◌∷◌, length, Option, Some, None, Result, Ok, Err, codes, arith}
 use Rattle.std.proofs.lemmas.Option.{none-some}
 use Rattle.std.proofs.lemmas.List.Sums.{sum_by-cons}
 use Rattle.std.specs.List.{sum_by}
@@ -10,7 +10,7 @@ use Rattle.json_readers.specs.Objects.{known, need}
 use Rattle.json_readers.specs.Texts.{text_of}
 use Rattle.json_texts.specs.Forms.{name_meaning}
 use Rattle.file_limits.specs.Weights.{weight, weight_at}
-use Rattle.file_limits.proofs.Keys.{key-weight}
+use Rattle.file_limits.proofs.Keys.{key-weight, keys-share}
 use Rattle.file_limits.proofs.Readers.{CountsWithin, need-counts}
 use Rattle.json_readers.proofs.Steps.{known_ok, named_ok}
 use Rattle.spec_grammar.specs.Meaning.{empty_part}
@@ -31,6 +31,7 @@ use Rattle.problem.specs.Limits.{variant_members, external_members, size_of_pack
 use Rattle.settings_reader.proofs.Outcomes.{below_ok, ok_no, ok_same, said_ok, then_ok}
 use Rattle.settings_reader.proofs.Valued.{part_variants, some_if, some_described}
 use Rattle.file_limits.proofs.Outcomes.{AtMost, listed_at_most, members_at_most, optional_at_most}
+use Rattle.file_limits.proofs.Required.{required_at_most}
 use Rattle.file_limits.proofs.Sums.{sum-twice, sum-twice-each}
 
 -- ---- what one spec says
@@ -93,6 +94,12 @@ external_most bear name platform d entry h =
 
 -- ---- packages
 
+abbrev counted : List (List ℕ)
+counted = codes "externals" ∷ codes "require" ∷ []
+
+counted_sum : (f : List ℕ → ℕ) → sum_by f counted ≡ f (codes "externals") + f (codes "require")
+counted_sum f = omega arith
+
 abbrev package_size : PackageEntry → ℕ
 package_size entry = 2 * size_of_package entry
 
@@ -108,7 +115,9 @@ package_most bear name platform d entry h =
       ap weight (known_ok packages.package_keys d ms.0 (said_ok (known packages.package_keys d) ms.0 ms.1)),
       listed_at_most external_size (IsExternal name platform) (external_most bear name platform) (codes "externals") ms.0 externals.0
           externals.1,
-      key-weight ms.0 (codes "externals"),
+      required_at_most ms.0 require.0 require.1,
+      keys-share counted ms.0 refl,
+      counted_sum (weight_at ms.0),
       sum-twice-each external_members externals.0,
       ap size_of_package (ok_same entry _ require.2),
     )

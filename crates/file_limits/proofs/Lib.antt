@@ -11,6 +11,7 @@ pub mod Parts
 pub mod Drafts
 pub mod Outcomes
 pub mod Sums
+pub mod Required
 pub mod Externals
 pub mod Lists
 pub mod Whole

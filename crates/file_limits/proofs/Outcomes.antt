@@ -59,7 +59,8 @@ module _ {T : Type 0} (size : T → ℕ) where
   optional_at_most tells each None xs h = omega (arith, ap (sum_by size) (ok_same xs [] h))
   optional_at_most tells each (Some d) xs h = each d xs h
 
-  list_at_most : (tells : Data → Told T) → ((d : Data) → AtMost size (weight d) (tells d)) → (d : Data)
+  -- a list
+  pub list_at_most : (tells : Data → Told T) → ((d : Data) → AtMost size (weight d) (tells d)) → (d : Data)
       → AtMost (sum_by size) (weight d) (IsListOf tells d)
   list_at_most tells each d xs h =
       let items = then_ok _ _ xs h in

@@ -10,7 +10,7 @@ use Rattle.problem.specs.OfConditionRules.Words.{if_written, implies}
 use Rattle.problem.specs.Nodes.{is_built}
 use Rattle.problem.specs.OfGraphCore.Node.{Node}
 use Rattle.problem.proofs.OfKeyedLists.TextLaws.{texts_decide}
-use Rattle.graph_rules.proofs.Lists.{In, list_all-each, list_all-from, find-in, node-itself, In-left, In-right, In-map, In-flat_map}
+use Rattle.graph_rules.proofs.Lists.{In, list_all-each, list_all-from, find-in, node-itself, In-left, In-right, In-map, In-flat_map, bytes_eq-same}
 use Rattle.problem.specs.OfConditionRules.Worlds.{recipe_of, rows}
 use Rattle.problem.specs.OfRecipeData.Recipe.{Recipe}
 use Rattle.problem.specs.OfRecipeData.RequireRow.{RequireRow}
@@ -338,7 +338,7 @@ module _ (problem : Problem) (graph : Content) (g : IsGraph graph) (v : valid_fo
   required-from node there row is =
       let of = entry-with (package_entry_of problem node.name) row is in
       let in_packages = find-in _ problem.settings.packages of.0 of.1 in
-      let same : of.0.name ≡ node.name = (texts_decide of.0.name node.name).0 in_packages.1 in
+      let same : of.0.name ≡ node.name = bytes_eq-same of.0.name node.name in_packages.1 in
       let place = place-of (rows_from 0 of.0.require) 0 row of.2 in
       let among : In place.0 (range_with_len 0 (length of.0.require)) =
       subst (λ n. In place.0 (range_with_len 0 n)) (rows-count 0 of.0.require)

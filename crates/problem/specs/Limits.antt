@@ -25,7 +25,7 @@ size_of_recipe recipe = rows_of recipe + sum_by set_members recipe.variants
 abbrev pub size_of_recipes : List Recipe → ℕ
 size_of_recipes recipes = sum_by size_of_recipe recipes
 
--- ---- settings: OSs, targets, compilers, names in lists of providers, externals and their variant values
+-- ---- settings: OSs, targets, compilers, names in lists of providers, externals and their variant values, and requirements
 
 abbrev pub variant_members : List (Text × List Text) → ℕ
 variant_members variants = sum_by (λ variant. length variant.1) variants
@@ -34,7 +34,7 @@ abbrev pub external_members : ExternalEntry → ℕ
 external_members entry = variant_members entry.variants
 
 abbrev pub size_of_package : PackageEntry → ℕ
-size_of_package entry = length entry.externals + sum_by external_members entry.externals
+size_of_package entry = length entry.externals + sum_by external_members entry.externals + length entry.require
 
 abbrev pub provider_names : Text × List Text → ℕ
 provider_names list = length list.1

@@ -1,11 +1,11 @@
 //! A problem.
-ghost use Rattle.std.specs.Prelude.{◌≡◌, true, length, map, slice_get};
+ghost use Rattle.std.specs.Prelude.{◌≡◌, true, length, slice_get};
 ghost use Rattle.std.specs.Option.{option_copied};
 ghost use Rattle.condition_rules.specs.OfVirtuals.Virtuals.{AreInOrder, AreProviders};
 ghost use Rattle.problem.specs.Assembled.{is_assembled};
 ghost use Rattle.problem.specs.Demands.{demands};
 ghost use Rattle.problem.specs.Problems.{world_of};
-ghost use Rattle.problem.specs.Required.{named_rows};
+ghost use Rattle.problem.specs.Required.{AreNamedRows};
 
 use crate::Demand;
 use condition_rules::{Providers, Recipe, Spec, World};
@@ -26,23 +26,23 @@ pub struct Problem {
     pub(crate) providers: Providers,
     /// What may be demanded of a graph.
     pub(crate) demands: List<Demand>,
-    /// What the settings ask of their packages.
+    /// What the settings ask of their packages, in byte order of the names.
     pub(crate) required: List<(Word, List<RequireRow>)>,
 }
 
 impl Model for Problem {
-    ghost use Rattle.std.specs.Prelude.{◌≡◌, true, map};
+    ghost use Rattle.std.specs.Prelude.{◌≡◌, true};
     ghost use Rattle.condition_rules.specs.OfVirtuals.Virtuals.{AreInOrder, AreProviders};
     ghost use Rattle.problem.specs.Assembled.{is_assembled};
     ghost use Rattle.problem.specs.Demands.{AreDemands};
     ghost use Rattle.problem.specs.Problems.{Problem, problem_of};
-    ghost use Rattle.problem.specs.Required.{named_rows};
+    ghost use Rattle.problem.specs.Required.{AreNamedRows};
 
     ghost Value = { Problem };
 
     ghost view = { λ p. problem_of p.recipes p.settings p.database p.roots };
 
-    ghost invariant = { λ p. record { order : AreInOrder p.recipes; right : is_assembled (problem_of p.recipes p.settings p.database p.roots) ≡ true; providers : AreProviders p.recipes p.providers; asked : AreDemands (problem_of p.recipes p.settings p.database p.roots) p.demands; required : p.required ≡ map named_rows p.settings.packages } };
+    ghost invariant = { λ p. record { order : AreInOrder p.recipes; right : is_assembled (problem_of p.recipes p.settings p.database p.roots) ≡ true; providers : AreProviders p.recipes p.providers; asked : AreDemands (problem_of p.recipes p.settings p.database p.roots) p.demands; required : AreNamedRows p.settings.packages p.required } };
 }
 
 impl Problem {
@@ -97,7 +97,7 @@ impl Problem {
 
     /// What the settings ask of their packages, as rows.
     pub(crate) fn required(&self) -> &[(Word, List<RequireRow>)]
-        ensures { result.now ≡ map named_rows self.now.settings.packages }
+        ensures { AreNamedRows self.now.settings.packages result.now }
     {
         self.required.as_slice()
     }

@@ -1,28 +1,32 @@
 //! What the settings ask of packages, as rows of requirements.
-ghost use Rattle.std.specs.Prelude.{◌≡◌, find, map, IfOk};
-ghost use Rattle.std.specs.Str.{bytes_eq};
+ghost use Rattle.std.specs.Prelude.{◌≡◌, IfOk};
+ghost use Rattle.std.specs.Option.{option_copied};
 ghost use Rattle.problem.specs.Problems.{required_at, row_of, rows_from};
-ghost use Rattle.problem.specs.Required.{named_rows, rows_in};
+ghost use Rattle.problem.specs.Required.{AreNamedRows, rows_in};
 
 use crate::Problem;
+use keyed_lists::{find, insert};
 use plain_data::{Duplicate, List, Word};
 use recipe_data::RequireRow;
 use site_settings::{PackageEntry, RequireEntry};
 use std::alloc::{AllocError, Global};
 
-/// The rows of each package of the settings, in their order.
-pub fn required_of(
+/// The rows of each package of the settings, in byte order of the names, so that they are found by
+/// search: what the settings ask is looked up once for each of their requirements. Settings that
+/// were read name their packages in that order, and then each name goes to the end.
+pub(crate) fn required_of(
     alloc: Global,
     packages: &[PackageEntry],
 ) -> Result<List<(Word, List<RequireRow>)>, AllocError>
-    ensures { IfOk result (λ list. list ≡ map named_rows packages.now) }
+    ensures { IfOk result (AreNamedRows packages.now) }
 {
-    let mut list = List::new(alloc);
+    let mut named = Vec::new(alloc);
     for entry in packages {
         let rows = rows_of(alloc, entry.require.as_slice())?;
-        list.push((entry.name.duplicate(alloc)?, rows))?;
+        let name = entry.name.duplicate(alloc)?;
+        insert(&mut named, (name, rows))?;
     }
-    Ok(list)
+    Ok(List::from_vec(named))
 }
 
 fn rows_of(alloc: Global, entries: &[RequireEntry]) -> Result<List<RequireRow>, AllocError>
@@ -47,10 +51,10 @@ fn row_of(alloc: Global, place: usize, entry: &RequireEntry) -> Result<RequireRo
     })
 }
 
-fn rows_named<'a>(list: &'a [(Word, List<RequireRow>)], name: &str) -> &'a [RequireRow]
-    ensures { result.now ≡ rows_in (find (λ named. bytes_eq named.0 name.now) list.now) }
+fn rows_in<'a>(named: Option<&'a (Word, List<RequireRow>)>) -> &'a [RequireRow]
+    ensures { result.now ≡ rows_in (option_copied named.entry) }
 {
-    match list.iter().find(|named| named.0.as_str() == name) {
+    match named {
         Some(named) => named.1.as_slice(),
         None => &[],
     }
@@ -61,5 +65,5 @@ fn rows_named<'a>(list: &'a [(Word, List<RequireRow>)], name: &str) -> &'a [Requ
 pub fn required_at<'a>(problem: &'a Problem, name: &str) -> &'a [RequireRow]
     ensures { result.now ≡ required_at problem.now name.now }
 {
-    rows_named(problem.required(), name)
+    rows_in(find(problem.required(), name))
 }
