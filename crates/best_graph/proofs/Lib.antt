@@ -3,3 +3,4 @@ pub mod Found
 pub mod Shown
 mod Asked
 pub mod ReasonsShown
+pub mod LeastShown

@@ -4,3 +4,4 @@ pub mod OfProblemEncoding
 pub mod Verdicts
 pub mod Explanations
 pub mod Grounds
+pub mod LeastLists

@@ -49,7 +49,7 @@ pub fn explain<P: Progress>(
 }
 
 /// A log in memory has fewer lines than 2^64.
-fn is_finite(log: &Log)
+pub(crate) fn is_finite(log: &Log)
     ensures { length log.now < 2 ^ 64 }
 {
     let _count = log.lines().len();

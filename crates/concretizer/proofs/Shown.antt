@@ -9,6 +9,9 @@ use Rattle.run_output.specs.Answers.{HasBetter, IsFinished, Writes}
 use Rattle.run_output.specs.Evidence.{evidence}
 use Rattle.run_output.specs.Explanation.{Explanation}
 use Rattle.run_output.specs.Explanation.TheVariants as explanations
+use Rattle.run_output.specs.LeastExplanation.{LeastExplanation}
+use Rattle.run_output.specs.LeastExplanation.TheVariants as least
+use Rattle.run_output.specs.LeastTexts.{least_outcome}
 use Rattle.run_output.specs.Problems.{Problem}
 use Rattle.run_output.specs.Shown.{IsOutdone, IsSeen, IsShown, IsShownOver, IsShownUnless, OutdoneBy, SeenBy, ShownBy}
 use Rattle.run_output.specs.Task.{Task}
@@ -29,6 +32,11 @@ no_explanation explanations.Satisfiable e = let no : Stale ≡ Solved = e in cc
 no_explanation (explanations.Unmet demands) e = let no : Stale ≡ Unsolved = e in cc
 no_explanation explanations.Undecided e = let no : Stale ≡ Undecided = e in cc
 
+no_least : (explanation : LeastExplanation) → Stale ≡ least_outcome explanation → ⊥
+no_least least.Satisfiable e = let no : Stale ≡ Solved = e in cc
+no_least (least.Least demands graphs) e = let no : Stale ≡ Unsolved = e in cc
+no_least (least.Undecided demands log) e = let no : Stale ≡ Undecided = e in cc
+
 no_answer : (answer : Answer) → Stale ≡ outcome_of answer → ⊥
 no_answer (answers.Best graph log) e = let no : Stale ≡ Solved = e in cc
 no_answer (answers.Nothing log) e = let no : Stale ≡ Unsolved = e in cc
@@ -47,6 +55,7 @@ module _ (lock cert : List ℕ) (before after : Option Files) (said more : Optio
   never_better works.Refute tasks.Accepted of better = absurd (not_solved better.tells.0)
   never_better works.Explain (tasks.Explain input) of better =
       absurd (no_explanation better.tells.explanation better.tells.is_outcome)
+  never_better works.Reasons (tasks.Reasons input) of better = absurd (no_least better.tells.explanation better.tells.is_outcome)
   never_better works.Find (tasks.Find query) of better = absurd (not_solved better.tells.is_outcome)
   never_better works.Plan (tasks.Plan graph) of better = absurd (not_solved better.tells.is_outcome)
   never_better (works.Trial packages seed) (tasks.Try input) of better = absurd (no_answer better.tells.answer better.tells.is_outcome)

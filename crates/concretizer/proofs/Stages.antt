@@ -2,6 +2,7 @@
 use Rattle.std.proofs.Common.{◌≡◌, ℕ, List, [], refl, sym, ◌∙◌, Option, Some, None, Err, inl}
 use Rattle.std.specs.Prelude.{IfSome}
 use Rattle.outside_desk.specs.Files.{Files}
+use Rattle.run_answers.specs.Exits.{Spoken}
 use Rattle.run_output.specs.Evidence.{evidence}
 use Rattle.run_output.specs.Line.{Line}
 use Rattle.run_output.specs.Reading.{GivesCommand}
@@ -61,12 +62,12 @@ stops_at_once words (Read NoMemory) spent = tt
 stops_at_once words (Write stop) never = absurd never
 
 -- no log is kept then
-pub none_kept : (words : List (List ℕ)) (before : Option Files) (kept : List Line) (stop : Stop) → GivesCommand words (Err stop)
-    → kept ≡ [] → IfSome before (λ files. AttemptKeeps files words before kept (Err stop))
-none_kept words None kept stop gives empty = tt
-none_kept words (Some files) kept Usage gives empty = empty
-none_kept words (Some files) kept (Read stop) gives empty = empty
-none_kept words (Some files) kept (Write stop) never empty = absurd never
+pub none_kept : (words : List (List ℕ)) (before : Option Files) (out : Spoken) (kept : List Line) (stop : Stop) → GivesCommand words (Err stop)
+    → kept ≡ [] → IfSome before (λ files. AttemptKeeps files words before out kept (Err stop))
+none_kept words None out kept stop gives empty = tt
+none_kept words (Some files) out kept Usage gives empty = empty
+none_kept words (Some files) out kept (Read stop) gives empty = empty
+none_kept words (Some files) out kept (Write stop) never empty = absurd never
 
 -- and no device failed
 pub not_read : (words : List (List ℕ)) (stop : Stop) → GivesCommand words (Err stop) → FailsToRead (Err stop) → ⊥

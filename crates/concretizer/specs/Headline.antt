@@ -40,7 +40,7 @@ SaysFront said line = SaysPart said.0 said.1 line
 -- for the problem that was read, CERT, unless it is `-`, the text of a log (as evidence, a certificate of its costs), every
 -- other file is as at entry, its lines were said, and nothing else was. By the other commands (`IsTold`): no file changed, and
 -- what the task comes to was said: of `judge` the cost vector of the lock file's valid graph, of `fresh` that no valid graph costs
--- less than it, of `check` and `refute` that the certificate is right, of `explain` that some graph is valid, of `find` exactly the
+-- less than it, of `check` and `refute` that the certificate is right, of `explain` and `reasons` that some graph is valid, of `find` exactly the
 -- installed packages that meet the condition, of `plan` the earliest order in which the lock file's valid graph can be built, of
 -- `trial` the counts of an optimal graph
 pub record IsDone (sense : Sense) (files : Files) (words : List (List ℕ)) (after : Option Files) (out err : Spoken) : Type 0 where
@@ -79,7 +79,8 @@ ShowsBy other files words = Unit {0}
 
 -- Unsatisfiable, by `concretize`: no graph is valid, CERT holds the text of a log (as evidence, it refutes the problem), and every
 -- other file is as at entry. By `explain`: a line was said for each demand that a refutation of the problem rests on, and no
--- graph is valid for these alone; by `trial`: no graph of the made input is valid; no file changed
+-- graph is valid for these alone; by `reasons` (`IsLeastList` in `best_graph`) a line for each of some demands for which no graph is
+-- valid, and below each the nodes of a graph that is valid for all others, so that none can be left out; by `trial`: no graph of the made input is valid; no file changed
 pub record IsUnsatisfiable (sense : Sense) (files : Files) (words : List (List ℕ)) (after : Option Files) (out err : Spoken) : Type 0 where
   pub task : Task
   pub read : Poses sense.verdicts files words (Ok task)
@@ -87,7 +88,7 @@ pub record IsUnsatisfiable (sense : Sense) (files : Files) (words : List (List �
   pub errors : IsSilent err
 
 -- Undecided, by `concretize`: the budget of the settings was spent, CERT holds the text of a log (as evidence, it shows that), and
--- every other file is as at entry; by `explain`, `fresh` and `trial` likewise, and no file changed
+-- every other file is as at entry; by `explain`, `reasons`, `fresh` and `trial` likewise, and no file changed
 pub record IsUndecided (sense : Sense) (files : Files) (words : List (List ℕ)) (after : Option Files) (out err : Spoken) : Type 0 where
   pub task : Task
   pub read : Poses sense.verdicts files words (Ok task)

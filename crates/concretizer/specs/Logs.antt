@@ -57,11 +57,12 @@ pub record IsLogged (words : List (List ℕ)) (files : Option Files × Option Fi
 
 -- ---- what is kept
 
--- what is kept of a run that came to this: the log of the answer whose files were put, or of the trial; of other commands no line
-pub record HasKept (files : Files) (words : List (List ℕ)) (outcome : Outcome) (after : Option Files) (kept : List Line) : Type 0 where
+-- what is kept of a run that came to this: the log of the answer whose files were put, or of the trial; the log that left `reasons`
+-- undecided, which spent the budget over the clauses of the demands that were said; of other commands no line
+pub record HasKept (files : Files) (words : List (List ℕ)) (outcome : Outcome) (after : Option Files) (out : Spoken) (kept : List Line) : Type 0 where
   pub task : Task
   pub read : Poses log_verdict files words (Ok task)
-  pub keeps : KeepsLog (lock_path words) (cert_path words) task outcome (Some files) after kept
+  pub keeps : KeepsLog (lock_path words) (cert_path words) task outcome (Some files) after out.0 out.1 kept
 
 -- what is kept of a run that stopped: no line, or the log of an answer that was found before
 pub record HasFound (files : Files) (words : List (List ℕ)) (kept : List Line) : Type 0 where
@@ -73,18 +74,18 @@ abbrev pub MayKeep : Files → List (List ℕ) → List Line → Type 0
 MayKeep files words kept = (kept ≡ []) ⊎ HasFound files words kept
 
 -- what is kept, by the answer
-abbrev pub KeepsFor : Status → Files → List (List ℕ) → Option Files → List Line → Type 0
-KeepsFor statuses.Done files words after kept = HasKept files words outcomes.Solved after kept
-KeepsFor statuses.Unsatisfiable files words after kept = HasKept files words outcomes.Unsolved after kept
-KeepsFor statuses.Undecided files words after kept = HasKept files words outcomes.Undecided after kept
-KeepsFor statuses.Stale files words after kept = HasKept files words outcomes.Stale after kept
-KeepsFor statuses.WriteFault files words after kept = MayKeep files words kept
-KeepsFor statuses.NoMemory files words after kept = MayKeep files words kept
-KeepsFor other files words after kept = kept ≡ []
+abbrev pub KeepsFor : Status → Files → List (List ℕ) → Option Files → Spoken → List Line → Type 0
+KeepsFor statuses.Done files words after out kept = HasKept files words outcomes.Solved after out kept
+KeepsFor statuses.Unsatisfiable files words after out kept = HasKept files words outcomes.Unsolved after out kept
+KeepsFor statuses.Undecided files words after out kept = HasKept files words outcomes.Undecided after out kept
+KeepsFor statuses.Stale files words after out kept = HasKept files words outcomes.Stale after out kept
+KeepsFor statuses.WriteFault files words after out kept = MayKeep files words kept
+KeepsFor statuses.NoMemory files words after out kept = MayKeep files words kept
+KeepsFor other files words after out kept = kept ≡ []
 
 -- what an attempt keeps of a search
-abbrev pub AttemptKeeps : Files → List (List ℕ) → Option Files → List Line → Result Outcome Stop → Type 0
-AttemptKeeps files words after kept (Ok outcome) = HasKept files words outcome after kept
-AttemptKeeps files words after kept (Err Usage) = kept ≡ []
-AttemptKeeps files words after kept (Err (Read stop)) = kept ≡ []
-AttemptKeeps files words after kept (Err (Write stop)) = MayKeep files words kept
+abbrev pub AttemptKeeps : Files → List (List ℕ) → Option Files → Spoken → List Line → Result Outcome Stop → Type 0
+AttemptKeeps files words after out kept (Ok outcome) = HasKept files words outcome after out kept
+AttemptKeeps files words after out kept (Err Usage) = kept ≡ []
+AttemptKeeps files words after out kept (Err (Read stop)) = kept ≡ []
+AttemptKeeps files words after out kept (Err (Write stop)) = MayKeep files words kept

@@ -20,9 +20,12 @@ use std::thread::Threads;
 /// What a run of this command is at while it reads.
 fn reading_of(command: &Command<'_>) -> Stage {
     match command.work {
-        Work::Concretize | Work::Fresh | Work::Explain | Work::Find | Work::Trial { .. } => {
-            Stage::Reading
-        }
+        Work::Concretize
+        | Work::Fresh
+        | Work::Explain
+        | Work::Reasons
+        | Work::Find
+        | Work::Trial { .. } => Stage::Reading,
         Work::Judge | Work::Check | Work::Refute | Work::Plan => Stage::Checking,
     }
 }
@@ -54,7 +57,8 @@ fn attempt_by<R: Threads + Sync, D: Desk, O: Sink, P: Progress>(
     ensures held { IfSome (D.files desk.old)
         (λ files. Keeps evidence files (words_of _words.now) (D.files desk.new)) }
     ensures kept { IfSome (D.files desk.old)
-        (λ files. AttemptKeeps files (words_of _words.now) (D.files desk.new) kept.new result) }
+        (λ files. AttemptKeeps files (words_of _words.now) (D.files desk.new)
+        (O.said out.old, O.said out.new) kept.new result) }
     ensures read { Counts (D.faults desk.old) (D.faults desk.new) (FailsToRead result) }
     ensures put { Counts (D.put_faults desk.old) (D.put_faults desk.new) (FailsToPut result) }
     ensures said { Counts (O.faults out.old) (O.faults out.new) (FailsToSay result) }
@@ -104,7 +108,8 @@ pub fn attempt<R: Threads + Sync, D: Desk, O: Sink, P: Progress>(
     ensures held { IfSome (D.files desk.old)
         (λ files. Keeps evidence files (words_of words.now) (D.files desk.new)) }
     ensures kept { IfSome (D.files desk.old)
-        (λ files. AttemptKeeps files (words_of words.now) (D.files desk.new) kept.new result) }
+        (λ files. AttemptKeeps files (words_of words.now) (D.files desk.new)
+        (O.said out.old, O.said out.new) kept.new result) }
     ensures read { Counts (D.faults desk.old) (D.faults desk.new) (FailsToRead result) }
     ensures put { Counts (D.put_faults desk.old) (D.put_faults desk.new) (FailsToPut result) }
     ensures said { Counts (O.faults out.old) (O.faults out.new) (FailsToSay result) }

@@ -58,7 +58,8 @@ pub fn run_steady<R: Threads + Sync>(
         → IsAnsweredBy (status_of refusal) result }
     ensures logged { IsLogged (words_of words.now) (Some desk.old, Some desk.new) (0, 0) (0, 0) (0, 0)
         (0, 0) (Some out.old, Some out.new) (Some err.old, Some err.new) result }
-    ensures kept { KeepsFor result desk.old (words_of words.now) (Some desk.new) kept.new }
+    ensures kept { KeepsFor result desk.old (words_of words.now) (Some desk.new)
+        (Some out.old, Some out.new) kept.new }
 {
     run(rt, alloc, words, desk, out, err, kept, &mut Untold)
 }

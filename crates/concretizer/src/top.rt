@@ -34,14 +34,17 @@ use std::thread::Threads;
 ///   graph costs less, and else `stale` and the vector of the best one.
 /// - `refute REPO SETTINGS DATABASE CERT SPEC..`: where CERT shows that no graph is valid, `out` gets `accepted`.
 /// - `explain REPO SETTINGS DATABASE SPEC..`: `out` gets `satisfiable`, or a line for each demand that stands against a graph.
+/// - `reasons REPO SETTINGS DATABASE SPEC..`: `out` gets `satisfiable`, or a list of demands for which no graph is valid, and below
+///   each of them the nodes of a graph that is valid for all others, or `none` for the empty graph: so none can be left out.
 /// - `find REPO SETTINGS DATABASE SPEC..`: `out` gets a line for each installed package that meets the spec, which need not name one.
 /// - `plan REPO SETTINGS DATABASE LOCK SPEC..`: where LOCK holds a valid graph of the specs, `out` gets its packages to build in waves,
 ///   each of which needs only those before it, and a chain of packages that shows that there are no fewer.
 /// - `trial N SEED` finds the best graph of N packages that are made in memory; `out` gets how many nodes it has, its cost vector
 ///   and how many clauses were learnt.
 ///
-/// At the return `kept` holds the log of the answer that `concretize` or `trial` found, whatever it held before; of the other commands,
-/// and where reading stopped the run, it holds no line. Where memory ran out or a write failed it holds the one or the other.
+/// At the return `kept` holds the log of the answer that `concretize` or `trial` found, or of the search that left `reasons` undecided,
+/// whatever it held before; of the other commands, and where reading stopped the run, it holds no line. Where memory ran out or a write
+/// failed it holds the one or the other.
 ///
 /// `progress` is told how far the run is. It is a device apart from the others: what follows holds whatever it does.
 pub fn run<R: Threads + Sync, D: Desk, O: Sink, E: Sink, P: Progress>(
@@ -118,7 +121,8 @@ pub fn run<R: Threads + Sync, D: Desk, O: Sink, E: Sink, P: Progress>(
 
     // The log of the search is kept, and no line where no search answered.
     ensures kept { IfSome (D.files desk.old) (λ files.
-        KeepsFor result files (words_of words.now) (D.files desk.new) kept.new) }
+        KeepsFor result files (words_of words.now) (D.files desk.new)
+        (O.said out.old, O.said out.new) kept.new) }
 
     // Input that nothing refuses is answered, where no device fails and no certificate is read.
     ensures complete { IfSome (D.files desk.old) (λ files. (task : Task)

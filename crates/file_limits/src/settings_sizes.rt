@@ -6,10 +6,10 @@ ghost use Rattle.file_limits.specs.SettingsSizes.{StandardIsSmall};
 
 use crate::{count_laws, spec_count_laws};
 
-/// The OSs, targets, compilers, names in lists of providers, externals and variant values of
-/// externals that a file says, two bytes for each, are at most as many as the file has bytes, and
-/// the standard ones. So those of a file of at most 2^24 bytes are within the limits of a problem,
-/// and so are the standard ones.
+/// The OSs, targets, compilers, names in lists of providers, externals, variant values of externals
+/// and requirements of packages that a file says, two bytes for each, are at most as many as the
+/// file has bytes, and the standard ones. So those of a file of at most 2^24 bytes are within the
+/// limits of a problem, and so are the standard ones.
 pub fn settings_count_laws()
     ensures bear { FilesBearSettings }
     ensures within { FilesAreSmall }

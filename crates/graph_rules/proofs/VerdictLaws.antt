@@ -8,10 +8,10 @@ use Rattle.problem.specs.OfConditionRules.Words.{implies}
 use Rattle.problem.specs.Nodes.{is_built}
 use Rattle.problem.specs.OfGraphCore.Node.{Node}
 use Rattle.problem.specs.OfRecipeData.RequireRow.{RequireRow}
-use Rattle.graph_rules.specs.Directives.{keeps_root}
+use Rattle.graph_rules.specs.Directives.{keeps_requirement, keeps_root}
 use Rattle.graph_rules.specs.Valid.{keeps, keeps_all, all_rules, valid}
 use Rattle.graph_rules.specs.Verdict.{Place, all_asked, breaks_of, breaks, broken_roots, least, broken_or, first_broken, verdict_of, verdict}
-use Rattle.problem.specs.Problems.{Problem}
+use Rattle.problem.specs.Problems.{required_at, Problem}
 use Rattle.graph_rules.specs.declared.rule.Rule.{Rule}
 use Rattle.graph_rules.specs.declared.rule.Rule.TheVariants as rules
 use Rattle.graph_rules.specs.declared.rule.Verdict.{Verdict}
@@ -93,7 +93,7 @@ keeps-breaks rules.ExtraEdge problem graph = failing _ _ graph.nodes
 keeps-breaks rules.Constraint problem graph = failing_rows _ _ _ graph.nodes
 keeps-breaks rules.Conflict problem graph = failing_rows _ _ _ graph.nodes
 keeps-breaks rules.Requirement problem graph = failing_rows _ _ _ graph.nodes
-keeps-breaks rules.Required problem graph = failing_settings _ _ graph.nodes
+keeps-breaks rules.Required problem graph = failing_settings (required_at problem) (keeps_requirement problem graph) graph.nodes
 keeps-breaks rules.Kept problem graph = failing _ _ graph.nodes
 keeps-breaks rules.Provider problem graph = failing _ _ graph.providers
 keeps-breaks rules.UnusedProvider problem graph = failing _ _ graph.providers

@@ -32,6 +32,8 @@ tells_meant (tasks.Report numbers) outcome text t = t
 tells_meant tasks.Accepted outcome text t = t
 tells_meant (tasks.Explain input) outcome text t =
     record { explanation = t.explanation; explains = t.explains.means; is_outcome = t.is_outcome; is_text = t.is_text }
+tells_meant (tasks.Reasons input) outcome text t =
+    record { explanation = t.explanation; explains = t.explains.means; is_outcome = t.is_outcome; is_text = t.is_text }
 tells_meant (tasks.Try input) outcome text t =
     record { answer = t.answer; found = t.found.means; is_outcome = t.is_outcome; is_text = t.is_text }
 tells_meant (tasks.Compare input numbers) outcome text t = compared_meant input.problem numbers outcome text t

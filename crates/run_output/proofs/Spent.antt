@@ -9,8 +9,12 @@ use Rattle.run_task.specs.Answer.TheVariants as answers
 use Rattle.run_task.specs.Explanations.{Explains}
 use Rattle.run_task.specs.Explanation.{Explanation}
 use Rattle.run_task.specs.Explanation.TheVariants as explanations
+use Rattle.run_task.specs.LeastExplanation.{LeastExplanation}
+use Rattle.run_task.specs.LeastExplanation.TheVariants as least
+use Rattle.run_task.specs.LeastLists.{ExplainsLeast}
 use Rattle.run_output.specs.Answers.{HasSpent}
 use Rattle.run_output.specs.Budgets.{budget_of}
+use Rattle.run_output.specs.LeastTexts.{least_outcome}
 use Rattle.run_output.specs.Senses.{meaning}
 use Rattle.run_output.specs.Texts.{explanation_outcome, outcome_of}
 use Rattle.run_output.specs.declared.answer.Outcome.TheVariants.{Undecided}
@@ -27,6 +31,12 @@ of_explanation problem explanations.Satisfiable explains is = absurd (cc)
 of_explanation problem (explanations.Unmet demands) explains is = absurd (cc)
 of_explanation problem explanations.Undecided explains is = explains
 
+of_least : (problem : Problem) (explanation : LeastExplanation) → ExplainsLeast problem problem.settings.conflict_budget explanation
+    → Undecided ≡ least_outcome explanation → problem.settings.conflict_budget < 2 ^ 64 - 1
+of_least problem least.Satisfiable explains is = absurd (cc)
+of_least problem (least.Least demands graphs) explains is = absurd (cc)
+of_least problem (least.Undecided demands log) explains is = explains
+
 -- no budget of 2^64 - 1 is spent
 pub spent_below : (cert : List ℕ) (task : Task) (before after : Option Files) (said more : Option (List ℕ))
     → HasSpent meaning cert task before after said more → budget_of task < 2 ^ 64 - 1
@@ -35,6 +45,8 @@ spent_below cert (tasks.Report numbers) before after said more spent = absurd (l
 spent_below cert tasks.Accepted before after said more spent = absurd (let e = spent.tells.0 in cc)
 spent_below cert (tasks.Explain input) before after said more spent =
     let t = spent.tells in of_explanation input.problem t.explanation t.explains t.is_outcome
+spent_below cert (tasks.Reasons input) before after said more spent =
+    let t = spent.tells in of_least input.problem t.explanation t.explains t.is_outcome
 spent_below cert (tasks.Try input) before after said more spent =
     let t = spent.tells in of_answer input.problem t.answer t.found t.is_outcome
 spent_below cert (tasks.Compare input numbers) before after said more spent = spent.tells.spent.1

@@ -9,6 +9,7 @@ budget_of (tasks.Solve input) = input.problem.settings.conflict_budget
 budget_of (tasks.Report numbers) = 0
 budget_of tasks.Accepted = 0
 budget_of (tasks.Explain input) = input.problem.settings.conflict_budget
+budget_of (tasks.Reasons input) = input.problem.settings.conflict_budget
 budget_of (tasks.Try input) = input.problem.settings.conflict_budget
 budget_of (tasks.Compare input numbers) = input.problem.settings.conflict_budget
 budget_of (tasks.Find query) = 0

@@ -1,16 +1,18 @@
 -- What is kept of a search: the log of its answer.
 use Rattle.std.specs.Prelude.{◌≡◌, ◌⊎◌, ℕ, List, [], Option, Result, Ok, Err}
-use Rattle.outside_desk.specs.Files.{Files}
+use Rattle.outside_desk.specs.Files.{Files, and_said}
 use Rattle.proof_log.specs.declared.line.Line.{Line}
 use Rattle.run_task.specs.Problems.{Problem}
 use Rattle.run_task.specs.Answers.{log_of}
 use Rattle.run_task.specs.Answer.{Answer}
+use Rattle.run_task.specs.LeastExplanation.{LeastExplanation}
 use Rattle.run_task.specs.WriteStop.{WriteStop}
 use Rattle.run_task.specs.WriteStop.TheVariants as writes
 use Rattle.run_task.specs.declared.task.Task.{Task}
 use Rattle.run_task.specs.declared.task.Task.TheVariants as tasks
 use Rattle.run_output.specs.Answers.{files_with}
-use Rattle.run_output.specs.Evidence.{IsFor}
+use Rattle.run_output.specs.Evidence.{IsFor, IsGroundedLeast}
+use Rattle.run_output.specs.LeastTexts.{least_explanation_text, least_log, least_outcome}
 use Rattle.run_output.specs.Texts.{outcome_of}
 use Rattle.run_output.specs.declared.answer.Outcome.{Outcome}
 
@@ -20,10 +22,17 @@ pub record IsLogOf (problem : Problem) (kept : List Line) : Type 0 where
   pub found : IsFor problem answer
   pub lines : kept ≡ log_of answer
 
+-- these are the lines of the log that spent the budget over the clauses of some demands; where none was spent, there is no line
+pub record IsLeastLog (problem : Problem) (kept : List Line) : Type 0 where
+  pub explanation : LeastExplanation
+  pub explains : IsGroundedLeast problem explanation
+  pub lines : kept ≡ least_log explanation
+
 -- the log of what was searched for the task; of a task that has no search, and of one that explains or compares, no line
 abbrev pub HoldsLog : Task → List Line → Type 0
 HoldsLog (tasks.Solve input) kept = IsLogOf input.problem kept
 HoldsLog (tasks.Try input) kept = IsLogOf input.problem kept
+HoldsLog (tasks.Reasons input) kept = IsLeastLog input.problem kept
 HoldsLog task kept = kept ≡ []
 
 -- the log of an answer that came to this
@@ -33,6 +42,20 @@ pub record IsLogTo (problem : Problem) (outcome : Outcome) (kept : List Line) : 
   pub is_outcome : outcome ≡ outcome_of answer
   pub lines : kept ≡ log_of answer
 
+-- the same of a least list that came to this, and of which this is said
+pub record IsLeastLogTo (problem : Problem) (outcome : Outcome) (text : List ℕ) (kept : List Line) : Type 0 where
+  pub explanation : LeastExplanation
+  pub explains : IsGroundedLeast problem explanation
+  pub is_outcome : outcome ≡ least_outcome explanation
+  pub is_text : text ≡ least_explanation_text problem explanation
+  pub lines : kept ≡ least_log explanation
+
+-- it was said: so a log that is kept is over the clauses of the demands on the sink
+pub record IsToldLog (problem : Problem) (outcome : Outcome) (said more : Option (List ℕ)) (kept : List Line) : Type 0 where
+  pub text : List ℕ
+  pub log : IsLeastLogTo problem outcome text kept
+  pub out : more ≡ and_said said text
+
 -- the log of the answer whose files were put
 pub record IsPutLog (lock cert : List ℕ) (problem : Problem) (outcome : Outcome) (before after : Option Files) (kept : List Line) : Type 0 where
   pub answer : Answer
@@ -41,14 +64,16 @@ pub record IsPutLog (lock cert : List ℕ) (problem : Problem) (outcome : Outcom
   pub files : after ≡ files_with lock cert problem answer before
   pub lines : kept ≡ log_of answer
 
--- what is kept of a task that came to this
-abbrev pub KeepsLog : List ℕ → List ℕ → Task → Outcome → Option Files → Option Files → List Line → Type 0
-KeepsLog lock cert (tasks.Solve input) outcome before after kept = IsPutLog lock cert input.problem outcome before after kept
-KeepsLog lock cert (tasks.Try input) outcome before after kept = IsLogTo input.problem outcome kept
-KeepsLog lock cert task outcome before after kept = kept ≡ []
+-- what is kept of a task that came to this, where the files were and are so, and what was said so
+abbrev pub KeepsLog : List ℕ → List ℕ → Task → Outcome → Option Files → Option Files → Option (List ℕ) → Option (List ℕ) → List Line → Type 0
+KeepsLog lock cert (tasks.Solve input) outcome before after said more kept = IsPutLog lock cert input.problem outcome before after kept
+KeepsLog lock cert (tasks.Try input) outcome before after said more kept = IsLogTo input.problem outcome kept
+KeepsLog lock cert (tasks.Reasons input) outcome before after said more kept = IsToldLog input.problem outcome said more kept
+KeepsLog lock cert task outcome before after said more kept = kept ≡ []
 
 -- what is kept at any end of writing: where memory ran out, there may be no answer
-abbrev pub KeepsAny : List ℕ → List ℕ → Task → Option Files → Option Files → List Line → Result Outcome WriteStop → Type 0
-KeepsAny lock cert task before after kept (Ok outcome) = KeepsLog lock cert task outcome before after kept
-KeepsAny lock cert task before after kept (Err writes.NoMemory) = (kept ≡ []) ⊎ HoldsLog task kept
-KeepsAny lock cert task before after kept (Err other) = HoldsLog task kept
+abbrev pub KeepsAny : List ℕ → List ℕ → Task → Option Files → Option Files → Option (List ℕ) → Option (List ℕ) → List Line
+    → Result Outcome WriteStop → Type 0
+KeepsAny lock cert task before after said more kept (Ok outcome) = KeepsLog lock cert task outcome before after said more kept
+KeepsAny lock cert task before after said more kept (Err writes.NoMemory) = (kept ≡ []) ⊎ HoldsLog task kept
+KeepsAny lock cert task before after said more kept (Err other) = HoldsLog task kept

@@ -5,6 +5,7 @@ pub mod Senses
 pub mod Evidence
 pub mod Report
 pub mod Texts
+pub mod LeastTexts
 pub mod Told
 pub mod Changes
 pub mod Answers
@@ -35,3 +36,4 @@ pub use Rattle.run_task.specs.Answer
 pub use Rattle.run_task.specs.Explanation
 pub use Rattle.run_task.specs.Problems
 pub use Rattle.proof_log.specs.declared.line.Line
+pub use Rattle.run_task.specs.LeastExplanation

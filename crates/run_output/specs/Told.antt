@@ -13,6 +13,8 @@ use Rattle.run_task.specs.declared.task.Task.TheVariants as tasks
 use Rattle.run_task.specs.Answer.{Answer}
 use Rattle.run_task.specs.Answer.TheVariants as answers
 use Rattle.run_task.specs.Explanation.{Explanation}
+use Rattle.run_task.specs.LeastExplanation.{LeastExplanation}
+use Rattle.run_output.specs.LeastTexts.{least_explanation_text, least_outcome}
 use Rattle.run_output.specs.Senses.{Sense}
 use Rattle.run_output.specs.Report.{found_text, plan_text}
 use Rattle.run_output.specs.Texts.{
@@ -35,6 +37,13 @@ pub record IsExplained (sense : Sense) (problem : Problem) (outcome : Outcome) (
   pub explains : sense.explains problem explanation
   pub is_outcome : outcome ≡ explanation_outcome explanation
   pub is_text : text ≡ explanation_text problem explanation
+
+-- it was found by a list of demands of which none can be left out, each with a graph that is valid for all others
+pub record IsReduced (sense : Sense) (problem : Problem) (outcome : Outcome) (text : List ℕ) : Type 0 where
+  pub explanation : LeastExplanation
+  pub explains : sense.explains_least problem explanation
+  pub is_outcome : outcome ≡ least_outcome explanation
+  pub is_text : text ≡ least_explanation_text problem explanation
 
 -- the best graph of a made input was looked for
 pub record IsTried (sense : Sense) (problem : Problem) (outcome : Outcome) (text : List ℕ) : Type 0 where
@@ -93,6 +102,7 @@ Tells sense (tasks.Solve input) outcome text = ⊥
 Tells sense (tasks.Report numbers) outcome text = (outcome ≡ outcomes.Solved) × (text ≡ verdict_text numbers)
 Tells sense tasks.Accepted outcome text = (outcome ≡ outcomes.Solved) × (text ≡ accepted_line)
 Tells sense (tasks.Explain input) outcome text = IsExplained sense input.problem outcome text
+Tells sense (tasks.Reasons input) outcome text = IsReduced sense input.problem outcome text
 Tells sense (tasks.Try input) outcome text = IsTried sense input.problem outcome text
 Tells sense (tasks.Compare input numbers) outcome text = IsCompared sense input.problem numbers outcome text
 Tells sense (tasks.Find query) outcome text = IsLookedFor query outcome text

@@ -2,7 +2,7 @@
 
 ghost use Rattle.std.specs.Prelude.{◌≡◌, ◌⊎◌, ℕ, List, [], Option, IfOk, OnOk};
 ghost use Rattle.outside_desk.specs.Causes.{Counts};
-ghost use Rattle.outside_desk.specs.Files.{Files};
+ghost use Rattle.outside_desk.specs.Files.{Files, and_said};
 ghost use Rattle.run_task.specs.Stops.{EndsInPutFault, EndsInOutputFault};
 ghost use Rattle.run_task.specs.Tasks.{IsReady};
 ghost use Rattle.run_task.specs.declared.task.Task.TheVariants as tasks;
@@ -14,6 +14,7 @@ ghost use Rattle.run_output.specs.Told.{Tells};
 use crate::comparison::of_comparison;
 use crate::find::{find, log_of};
 use crate::found::write_found;
+use crate::least_said::of_least_reasons;
 use crate::order::of_graph;
 use crate::packages::of_query;
 use crate::said::{Said, of_certificate, of_reasons, of_trial, of_verdict};
@@ -60,7 +61,7 @@ fn write_best<D: Desk, O: Sink, P: Progress>(
     ensures steady { OnOk result ((D.put_faults desk.new ≡ D.put_faults desk.old)
         × (O.faults out.new ≡ O.faults out.old)) }
     ensures kept { KeepsAny lock.now cert.now (tasks.Solve input.now) (D.files desk.old)
-        (D.files desk.new) kept.new result }
+        (D.files desk.new) (O.said out.old) (O.said out.new) kept.new result }
 {
     let answer = find(alloc, input, progress)?;
     let written = write_found(alloc, &input.problem, &answer, lock, cert, desk, out);
@@ -78,6 +79,7 @@ fn tell<O: Sink>(alloc: Global, _task: &Task, said: Said, out: &mut O) -> Result
     ensures steady { OnOk result (O.faults out.new ≡ O.faults out.old) }
     ensures no_put { EndsInPutFault result → ⊥ }
     ensures outcome { IfOk result (λ outcome. outcome ≡ said.outcome) }
+    ensures out { IfOk result (λ outcome. O.said out.new ≡ and_said (O.said out.old) said.text.items) }
 {
     say(alloc, out, said.text.as_slice())?;
     Ok(said.outcome)
@@ -108,7 +110,7 @@ pub fn write_answer<D: Desk, O: Sink, P: Progress>(
     ensures steady { OnOk result ((D.put_faults desk.new ≡ D.put_faults desk.old)
         × (O.faults out.new ≡ O.faults out.old)) }
     ensures kept { KeepsAny lock.now cert.now task.now (D.files desk.old) (D.files desk.new)
-        kept.new result }
+        (O.said out.old) (O.said out.new) kept.new result }
 {
     match task {
         Task::Solve(input) => write_best(alloc, input, lock, cert, desk, out, kept, progress),
@@ -122,6 +124,10 @@ pub fn write_answer<D: Desk, O: Sink, P: Progress>(
         }
         Task::Explain(input) => {
             let said = of_reasons(alloc, input, progress)?;
+            tell(alloc, task, said, out)
+        }
+        Task::Reasons(input) => {
+            let said = of_least_reasons(alloc, input, kept, progress)?;
             tell(alloc, task, said, out)
         }
         Task::Try(input) => {

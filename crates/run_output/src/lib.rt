@@ -13,6 +13,8 @@ mod answer;
 mod comparison;
 mod find;
 mod found;
+mod least_said;
+mod least_text;
 mod lock;
 mod order;
 mod packages;

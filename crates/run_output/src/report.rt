@@ -84,7 +84,7 @@ fn write_machine(alloc: Global, node: &Node, out: &mut Vec<u8>) -> Result<(), Al
 }
 
 #[tactic(auto, unfolding(crate::specs::Report::node_line))]
-fn write_node(alloc: Global, node: &Node, out: &mut Vec<u8>) -> Result<(), AllocError>
+pub(crate) fn write_node(alloc: Global, node: &Node, out: &mut Vec<u8>) -> Result<(), AllocError>
     ensures { OnOk result (out.new.items ≡ out.old.items ++ node_line node.now) }
 {
     write_label(node, out)?;

@@ -58,7 +58,7 @@ pub fn of_certificate(alloc: Global) -> Result<Said, AllocError>
 // ---- why there is no graph
 
 #[tactic(auto, unfolding(crate::specs::Texts::satisfiable_line))]
-fn satisfiable_text(alloc: Global) -> Result<Vec<u8>, AllocError>
+pub(crate) fn satisfiable_text(alloc: Global) -> Result<Vec<u8>, AllocError>
     ensures { IfOk result (λ text. text.items ≡ texts.satisfiable_line) }
 {
     Vec::from_slice(alloc, b"satisfiable\n")

@@ -45,6 +45,7 @@ one_by one_verdict one_graph works.Plan files command input =
 one_by one_verdict one_graph works.Find files command input = λ a b one other. absurd one
 one_by one_verdict one_graph works.Refute files command input = one_acceptance files command.cert input.problem None
 one_by one_verdict one_graph works.Explain files command input = one_is (Ok (tasks.Explain input))
+one_by one_verdict one_graph works.Reasons files command input = one_is (Ok (tasks.Reasons input))
 one_by one_verdict one_graph (works.Trial packages seed) files command input = one_is (Ok (tasks.Try input))
 
 some_same : {A : Type 0} (x y : A) → (let T : Type 0 = Option A in let a : T = Some x in let b : T = Some y in a ≡ b) → x ≡ y

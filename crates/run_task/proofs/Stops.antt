@@ -249,6 +249,7 @@ is_find works.Check is = absurd (false≢true is)
 is_find works.Fresh is = absurd (false≢true is)
 is_find works.Refute is = absurd (false≢true is)
 is_find works.Explain is = absurd (false≢true is)
+is_find works.Reasons is = absurd (false≢true is)
 is_find works.Plan is = absurd (false≢true is)
 is_find (works.Trial packages seed) is = absurd (false≢true is)
 

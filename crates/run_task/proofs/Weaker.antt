@@ -46,6 +46,7 @@ module _ (some more : CertificateVerdicts) (allows : Allows some more) where
       (λ s judged. judged) (λ numbers. accepts files command.cert input.problem (Some numbers)) r is
   by_work works.Refute files command input r is = accepts files command.cert input.problem None r is
   by_work works.Explain files command input r is = is
+  by_work works.Reasons files command input r is = is
   by_work works.Fresh files command input r is = is
   by_work works.Find files command input r is = is
   by_work works.Plan files command input r is = is

@@ -12,6 +12,8 @@ pub mod Pieces
 pub use Rattle.best_graph.specs.Explanations
 pub use Rattle.best_graph.specs.Grounds
 pub use Rattle.best_graph.specs.declared.explanation.Explanation
+pub use Rattle.best_graph.specs.LeastLists
+pub use Rattle.best_graph.specs.declared.least_explanation.LeastExplanation
 pub use Rattle.best_graph.specs.Answers
 pub use Rattle.best_graph.specs.declared.answer.Answer
 pub use Rattle.best_graph.specs.OfProblemEncoding.Built

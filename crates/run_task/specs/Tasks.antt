@@ -30,6 +30,7 @@ made_for works.Judge = None
 made_for works.Check = None
 made_for works.Refute = None
 made_for works.Explain = None
+made_for works.Reasons = None
 made_for works.Fresh = None
 made_for works.Find = None
 made_for works.Plan = None
@@ -69,7 +70,7 @@ module _ (verdicts : CertificateVerdicts) where
   abbrev pub CheckOf : Files → List ℕ → List ℕ → Problem → Result Task Refusal → Type 0
   CheckOf files lock cert problem = Then (Judges files lock problem) (λ numbers. AcceptanceOf files cert problem (Some numbers))
 
-  -- a command's own work over what was read: `concretize`, `explain` and `trial` have a problem to solve, `judge` says what is
+  -- a command's own work over what was read: `concretize`, `explain`, `reasons` and `trial` have a problem to solve, `judge` says what is
   -- said of the lock file, `check` and `refute` of the certificate; `fresh` and `plan` do as `judge` first
   abbrev pub TaskBy : Work → Files → Command → Input → Result Task Refusal → Type 0
   TaskBy works.Concretize files command input = Is (Ok (tasks.Solve input))
@@ -79,6 +80,7 @@ module _ (verdicts : CertificateVerdicts) where
   TaskBy works.Plan files command input = PlanOf files command.lock input.problem
   TaskBy works.Refute files command input = AcceptanceOf files command.cert input.problem None
   TaskBy works.Explain files command input = Is (Ok (tasks.Explain input))
+  TaskBy works.Reasons files command input = Is (Ok (tasks.Reasons input))
   TaskBy works.Find files command input = λ posed. ⊥
   TaskBy (works.Trial packages seed) files command input = Is (Ok (tasks.Try input))
 
@@ -105,6 +107,7 @@ IsOf works.Judge (tasks.Report numbers) = Unit {0}
 IsOf works.Check tasks.Accepted = Unit {0}
 IsOf works.Refute tasks.Accepted = Unit {0}
 IsOf works.Explain (tasks.Explain input) = Unit {0}
+IsOf works.Reasons (tasks.Reasons input) = Unit {0}
 IsOf works.Fresh (tasks.Compare input numbers) = Unit {0}
 IsOf works.Find (tasks.Find query) = Unit {0}
 IsOf works.Plan (tasks.Plan graph) = Unit {0}
@@ -121,6 +124,7 @@ IsReadyInput input = All (λ spec. IsUtf8 (spec_text spec)) input.problem.roots 
 abbrev pub IsReady : Task → Type 0
 IsReady (tasks.Solve input) = IsReadyInput input
 IsReady (tasks.Explain input) = IsReadyInput input
+IsReady (tasks.Reasons input) = IsReadyInput input
 IsReady (tasks.Try input) = IsReadyInput input
 IsReady (tasks.Report numbers) = Unit {0}
 IsReady tasks.Accepted = Unit {0}

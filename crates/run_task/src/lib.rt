@@ -25,7 +25,10 @@ mod whole;
 
 // What crates above answer with.
 pub use accepted_again::again_laws;
-pub use best_graph::{Answer, Explanation, Progress, Stage, Untold, best_graph, explain};
+pub use best_graph::{
+    Answer, Explanation, LeastExplanation, Progress, Stage, Untold, best_graph, explain,
+    explain_least,
+};
 pub use certificate::read_certificate;
 // The cost vector, for crates above.
 pub use certificate_sayings::certificate_laws;

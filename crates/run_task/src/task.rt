@@ -31,6 +31,9 @@ pub enum Task {
     Accepted,
     /// It is to be said whether there is a graph, and else why there is none.
     Explain(Input),
+    /// It is to be said whether there is a graph, and else a list of demands of which none can be left out, with the graphs that show
+    /// it.
+    Reasons(Input),
     /// The best graph of a made input is to be found.
     Try(Input),
     /// The lock file's graph is valid and has this cost vector: it is to be said whether a valid graph costs less.
@@ -64,6 +67,7 @@ fn task_by<R: Threads + Sync, D: Desk>(
     match command.work {
         Work::Concretize => Ok(Task::Solve(input)),
         Work::Explain => Ok(Task::Explain(input)),
+        Work::Reasons => Ok(Task::Reasons(input)),
         Work::Trial { .. } => Ok(Task::Try(input)),
         Work::Judge => {
             let task = read_report(alloc, desk, command.lock, &input);
@@ -147,6 +151,7 @@ fn is_search(work: Work) -> bool
         | Work::Fresh
         | Work::Refute
         | Work::Explain
+        | Work::Reasons
         | Work::Plan
         | Work::Trial { .. } => false,
     }
@@ -187,6 +192,7 @@ fn made_for(work: Work) -> Option<(u64, u64)>
         | Work::Fresh
         | Work::Refute
         | Work::Explain
+        | Work::Reasons
         | Work::Find
         | Work::Plan => None,
     }

@@ -56,6 +56,7 @@ verb_of name =
     else if is_same_path name (codes "fresh") then row works.Fresh Needed Absent
     else if is_same_path name (codes "refute") then row works.Refute Absent Needed
     else if is_same_path name (codes "explain") then row works.Explain Absent Absent
+    else if is_same_path name (codes "reasons") then row works.Reasons Absent Absent
     else if is_same_path name (codes "find") then row works.Find Absent Absent
     else if is_same_path name (codes "plan") then row works.Plan Needed Absent
     else None

@@ -25,6 +25,8 @@ pub enum Work {
     Refute,
     /// Says why there is none.
     Explain,
+    /// Says why, by a list of which nothing can be left out.
+    Reasons,
     /// Finds the installed packages that meet a spec.
     Find,
     /// Says in which order the graph of a lock file can be built.
@@ -35,7 +37,7 @@ pub enum Work {
 
 /// What the words behind a verb say: `concretize` and `check REPO SETTINGS DATABASE LOCK CERT SPEC`,
 /// `judge`, `fresh` and `plan REPO SETTINGS DATABASE LOCK SPEC`, `refute REPO SETTINGS DATABASE CERT SPEC`,
-/// `explain` and `find REPO SETTINGS DATABASE SPEC`, `trial N SEED`.
+/// `explain`, `reasons` and `find REPO SETTINGS DATABASE SPEC`, `trial N SEED`.
 #[derive(Debug, Drop)]
 pub struct Command<'a> {
     pub work: Work,

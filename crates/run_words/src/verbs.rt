@@ -52,6 +52,8 @@ fn verb_of(name: &str) -> Option<Verb>
         row(Work::Refute, FileWord::Absent, FileWord::Needed)
     } else if is_same(name, "explain") {
         row(Work::Explain, FileWord::Absent, FileWord::Absent)
+    } else if is_same(name, "reasons") {
+        row(Work::Reasons, FileWord::Absent, FileWord::Absent)
     } else if is_same(name, "find") {
         row(Work::Find, FileWord::Absent, FileWord::Absent)
     } else if is_same(name, "plan") {

@@ -38,4 +38,4 @@ text_stop texts i x read s was lt is below =
 pub text_end : (texts : List (List ℕ)) (i : ℕ) (read : List Spec) → So texts i read → length texts ≤ i → AreConditions texts (Ok read)
 text_end texts i read was le =
     let P : List (List ℕ × List ℕ) → Type 0 = λ rest. Continues (λ key text. IsCondition text) (texts_at 0 texts) rest read in
-    each_end (λ key text. IsCondition text) (texts_at 0 texts) read (subst P (ap (texts_at i) (drop_all texts i le)) was)
+    each_end (λ key text. IsCondition text) (texts_at 0 texts) read (subst P (ap (texts_at i) (drop_all i texts le)) was)

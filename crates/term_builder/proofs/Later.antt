@@ -1,19 +1,33 @@
 -- Conditions of later definitions.
 use Prim.Native.Nat.{zero, suc}
-use Rattle.std.proofs.Common.{◌≡◌, refl, sym, ap, ◌∙◌, ℕ, ◌-◌, ◌/◌, ◌<◌, List, [], ◌∷◌, ◌++◌, take, drop, length, nat_lt, arith, append_assoc, true, false}
+use Rattle.std.proofs.Common.{◌≡◌, refl, sym, ap, ◌∙◌, ℕ, ◌-◌, ◌/◌, ◌<◌, List, [], ◌∷◌, ◌++◌, take, drop, length, nat_lt, map, Bor, arith, append_assoc, true, false}
 use Rattle.std.proofs.lemmas.Bool.Decides.{nat_tests}
+use Rattle.std.proofs.lemmas.Simd.{map-map}
 use Rattle.clause_formulas.specs.Statements.{Statement, both_statements}
 use Rattle.graph_core.specs.Graphs.{Text}
-use Rattle.recipe_data.specs.declared.recipe.VariantRow.{VariantRow}
+use Rattle.std.specs.Str.{bytes_eq}
+use Rattle.keyed_lists.specs.Lent.{lent, with_text, IsIndexOf}
+use Rattle.keyed_lists.proofs.Lent.{filter_mapped}
 use Rattle.cost_terms.specs.Blocks.{block_of, blocks_of, none_among}
-use Rattle.term_builder.specs.VariantTerms.{later, governs}
+use Rattle.cost_terms.specs.Governing.{Row, of_variant, formulas_of}
+use Rattle.term_builder.specs.VariantTerms.{Held, row_said, rows_of, governs}
+
+-- what an index lends for a variant are its definitions
+pub run-is : (variant : Text) (held : List Held) (index : List (Text × Held)) (run : List (Bor Text × Bor Held))
+    → lent run ≡ with_text variant index → IsIndexOf (λ (h : Held). h.0.name) held index
+    → rows_of run ≡ of_variant variant (map row_said held)
+run-is variant held index run found is =
+    sym (map-map row_said (λ (e : Bor Text × Bor Held). e.1.now) run)
+    ∙ ap (map row_said) (sym (map-map (λ (e : Text × Held). e.1) (λ (e : Bor Text × Bor Held). (e.0.now, e.1.now)) run)
+    ∙ ap (map (λ (e : Text × Held). e.1)) found ∙ is variant)
+    ∙ sym (filter_mapped row_said (λ (r : Row). bytes_eq r.0.name variant) held)
 
 -- a condition that holds, and none of the later definitions' that was gathered, is the formula that governs
-pub governs-is : (variant : Text) (f said none : Statement) (rows : List VariantRow) (fs start parts : List Statement) → said ≡ f
-    → start ≡ [] → parts ≡ start ++ later variant rows fs → none ≡ none_among parts → both_statements said none ≡ governs variant f rows fs
-governs-is variant f said none rows fs start parts s z p n =
-    let is : parts ≡ later variant rows fs = p ∙ ap (λ ts. ts ++ later variant rows fs) z in
-    let last : none ≡ none_among (later variant rows fs) = n ∙ ap none_among is in
+pub governs-is : (f said none : Statement) (later : List Row) (start parts : List Statement) → said ≡ f
+    → start ≡ [] → parts ≡ start ++ formulas_of later → none ≡ none_among parts → both_statements said none ≡ governs f later
+governs-is f said none later start parts s z p n =
+    let is : parts ≡ formulas_of later = p ∙ ap (λ ts. ts ++ formulas_of later) z in
+    let last : none ≡ none_among (formulas_of later) = n ∙ ap none_among is in
     λ i. both_statements (s i) (last i)
 
 -- no block is cut off

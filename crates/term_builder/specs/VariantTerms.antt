@@ -1,32 +1,35 @@
--- The definitions of a variant one by one, and terms under a test.
-use Rattle.std.specs.Prelude.{Bool, List, [], ◌∷◌, if◌then◌else◌}
+-- The definitions of a variant one by one, and what they add.
+use Rattle.std.specs.Prelude.{List, map}
+use Rattle.std.specs.Borrow.{Bor}
 use Rattle.clause_formulas.specs.Statements.{Statement, both_statements}
+use Rattle.clause_formulas.specs.Drafts.{statement_of}
+use Rattle.clause_formulas.specs.declared.defined.Defined.{Defined}
 use Rattle.graph_core.specs.Graphs.{Text}
 use Rattle.recipe_data.specs.declared.recipe.VariantRow.{VariantRow}
 use Rattle.literal_table.specs.Choices.{Choices}
 use Rattle.cost_terms.specs.declared.weighted.Weighted.{Weighted}
 use Rattle.cost_terms.specs.Blocks.{none_among}
-use Rattle.cost_terms.specs.Governing.{Row, with_formulas, of_variant, formulas_of, other_terms, unused_terms}
+use Rattle.cost_terms.specs.Governing.{Row, formulas_of, other_terms, unused_terms}
 use Rattle.term_builder.specs.declared.variant_terms.Counted.{Counted}
 use Rattle.term_builder.specs.declared.variant_terms.Counted.TheVariants as counted
 
--- a formula, if it counts
-abbrev pub said_if : Bool → Statement → List Statement
-said_if counts f = if counts then f ∷ [] else []
+-- a definition, and the value of its condition
+abbrev pub Held : Type 0
+Held = VariantRow × Defined
 
--- the conditions of the variant's definitions
-abbrev pub later : Text → List VariantRow → List Statement → List Statement
-later variant rows fs = formulas_of (of_variant variant (with_formulas rows fs))
+-- with the formula that the value stands for
+abbrev pub row_said : Held → Row
+row_said held = (held.0, statement_of held.1)
+
+-- those that are lent, each behind the name of its variant
+abbrev pub rows_of : List (Bor Text × Bor Held) → List Row
+rows_of lent = map (λ e. row_said e.1.now) lent
 
 -- a condition holds, and none of later definitions
-abbrev pub governs : Text → Statement → List VariantRow → List Statement → Statement
-governs variant f rows fs = both_statements f (none_among (later variant rows fs))
+abbrev pub governs : Statement → List Row → Statement
+governs f later = both_statements f (none_among (formulas_of later))
 
 -- what is counted of a variant where a definition governs
 abbrev pub counted_terms : Counted → Row → Choices Text → List Weighted
 counted_terms counted.Others r values = other_terms r values
 counted_terms counted.Unused r values = unused_terms r values
-
--- what a definition adds if it is of the variant
-abbrev pub terms_if : Bool → Counted → Row → Choices Text → List Weighted
-terms_if counts which r values = if counts then counted_terms which r values else []

@@ -1,11 +1,12 @@
 //! Which definition of a variant governs.
-ghost use Rattle.std.specs.Prelude.{◌≡◌, ◌++◌, map, IfOk, OnOk};
+ghost use Rattle.std.specs.Prelude.{◌≡◌, ◌++◌, IfOk, OnOk};
 ghost use Rattle.clause_formulas.specs.Drafts.{statement_of};
 ghost use Rattle.cost_terms.specs.Blocks.{block_of, blocks_of, none_among};
-ghost use Rattle.term_builder.specs.VariantTerms.{said_if, later, governs};
+ghost use Rattle.cost_terms.specs.Governing.{formulas_of};
+ghost use Rattle.term_builder.specs.VariantTerms.{rows_of, governs};
 
+use crate::definitions::Definition;
 use clause_formulas::{Defined, Formula};
-use recipe_data::VariantRow;
 use std::alloc::{AllocError, Global};
 
 /// How many sizes blocks have, each half of the one before.
@@ -14,41 +15,17 @@ const SIZES: usize = 25;
 /// The size of the largest block: there are at most twice as many definitions.
 const LARGEST: usize = 134_217_728;
 
-// A condition, if it counts.
-fn push_said(
+// The conditions of these definitions.
+fn push_conditions(
     alloc: Global,
     parts: &mut Vec<Formula>,
-    counts: bool,
-    condition: Defined,
+    definitions: &[(&str, &Definition)],
 ) -> Result<(), AllocError>
     ensures { OnOk result (parts.new.items ≡ parts.old.items
-        ++ said_if counts (statement_of condition)) }
+        ++ formulas_of (rows_of definitions.now)) }
 {
-    if !counts {
-        return Ok(());
-    }
-    parts.push(Formula::of(alloc, condition))?;
-    Ok(())
-}
-
-// The conditions of the variant's definitions.
-fn push_later(
-    alloc: Global,
-    parts: &mut Vec<Formula>,
-    variant: &str,
-    rows: &[VariantRow],
-    conditions: &[Defined],
-) -> Result<(), AllocError>
-    ensures { OnOk result (parts.new.items ≡ parts.old.items
-        ++ later variant.now rows.now (map statement_of conditions.now)) }
-{
-    let mut left = conditions;
-    for row in rows {
-        let Some((condition, later)) = left.split_first() else {
-            return Ok(());
-        };
-        push_said(alloc, parts, row.name.as_str() == variant, *condition)?;
-        left = later;
+    for one in definitions {
+        parts.push(Formula::of(alloc, one.1.condition()))?;
     }
     Ok(())
 }
@@ -108,16 +85,13 @@ fn none_among(alloc: Global, parts: Vec<Formula>) -> Result<Formula, AllocError>
 /// The condition holds, and none of the variant's later definitions.
 pub(crate) fn governs(
     alloc: Global,
-    variant: &str,
     condition: Defined,
-    rows: &[VariantRow],
-    conditions: &[Defined],
+    later: &[(&str, &Definition)],
 ) -> Result<Formula, AllocError>
-    ensures { IfOk result (λ formula. formula
-        ≡ governs variant.now (statement_of condition) rows.now (map statement_of conditions.now)) }
+    ensures { IfOk result (λ formula. formula ≡ governs (statement_of condition) (rows_of later.now)) }
 {
     let mut parts = Vec::new(alloc);
-    push_later(alloc, &mut parts, variant, rows, conditions)?;
+    push_conditions(alloc, &mut parts, later)?;
     let none = none_among(alloc, parts)?;
     Formula::both(alloc, Formula::of(alloc, condition), none)
 }

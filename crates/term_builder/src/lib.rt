@@ -13,6 +13,7 @@
 mod assembly;
 mod blocks;
 mod criteria;
+mod definitions;
 mod difference_terms;
 mod edge_terms;
 mod governing;

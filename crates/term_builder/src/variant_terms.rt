@@ -1,15 +1,16 @@
 //! The terms of the values of variants.
-ghost use Rattle.std.specs.Prelude.{◌≡◌, ◌++◌, ◌∷◌, [], map, not, true, IfOk, OnOk};
+ghost use Rattle.std.specs.Prelude.{◌≡◌, ◌++◌, ◌∷◌, [], map, flat_map, not, true, IfOk, OnOk};
 ghost use Rattle.std.specs.Str.{bytes_eq};
 ghost use Rattle.condition_rules.specs.Words.{is_one_text};
 ghost use Rattle.clause_formulas.specs.Statements.{atom, both_statements, all_statements, no};
 ghost use Rattle.clause_formulas.specs.Drafts.{statement_of};
 ghost use Rattle.literal_table.specs.Choices.{any_choice as any_choice_on};
-ghost use Rattle.cost_terms.specs.Governing.{weighed_once, other_terms, unused_terms, with_formulas, variant_terms};
+ghost use Rattle.cost_terms.specs.Governing.{weighed_once, other_terms, unused_terms, governing_rows, variant_terms};
 ghost use Rattle.cost_terms.specs.Terms.{over_variants_terms};
 ghost use Rattle.term_builder.specs.Tests.{only_if};
-ghost use Rattle.term_builder.specs.VariantTerms.{governs, counted_terms, terms_if};
+ghost use Rattle.term_builder.specs.VariantTerms.{row_said, rows_of, governs, counted_terms};
 
+use crate::definitions::{Definition, Definitions, with_conditions};
 use crate::governing::governs;
 use clause_formulas::{Defined, Formula};
 use clause_store::Lit;
@@ -42,20 +43,17 @@ fn push_other(
     terms: &mut Vec<Weighted>,
     counts: bool,
     value: Lit,
-    variant: &str,
     condition: Defined,
-    rows: &[VariantRow],
-    conditions: &[Defined],
+    later: &[(&str, &Definition)],
 ) -> Result<(), AllocError>
     ensures { OnOk result (terms.new.items ≡ terms.old.items
         ++ only_if counts (weighed_once (both_statements (atom value)
-        (governs variant.now (statement_of condition) rows.now
-        (map statement_of conditions.now))))) }
+        (governs (statement_of condition) (rows_of later.now))))) }
 {
     if !counts {
         return Ok(());
     }
-    let governing = governs(alloc, variant, condition, rows, conditions)?;
+    let governing = governs(alloc, condition, later)?;
     let formula = Formula::both(alloc, Formula::lit(value), governing)?;
     terms.push(Weighted { weight: 1, formula })?;
     Ok(())
@@ -66,24 +64,19 @@ fn push_others(
     alloc: Global,
     terms: &mut Vec<Weighted>,
     row: &VariantRow,
-    variant: &str,
     condition: Defined,
-    rows: &[VariantRow],
-    conditions: &[Defined],
+    later: &[(&str, &Definition)],
     values: &[(Word, Lit)],
 ) -> Result<(), AllocError>
     ensures { OnOk result (terms.new.items ≡ terms.old.items ++ other_terms (
       row.now,
-      governs variant.now (statement_of condition) rows.now
-          (map statement_of conditions.now),
+      governs (statement_of condition) (rows_of later.now),
     )
         values.now) }
 {
     for choice in values {
         let counts = !among(row.default.values(), choice.0.as_str());
-        push_other(
-            alloc, terms, counts, choice.1, variant, condition, rows, conditions,
-        )?;
+        push_other(alloc, terms, counts, choice.1, condition, later)?;
     }
     Ok(())
 }
@@ -125,21 +118,18 @@ fn push_unused(
     alloc: Global,
     terms: &mut Vec<Weighted>,
     row: &VariantRow,
-    variant: &str,
     condition: Defined,
-    rows: &[VariantRow],
-    conditions: &[Defined],
+    later: &[(&str, &Definition)],
     values: &[(Word, Lit)],
 ) -> Result<(), AllocError>
     ensures { OnOk result (terms.new.items ≡ terms.old.items ++ unused_terms (
       row.now,
-      governs variant.now (statement_of condition) rows.now
-          (map statement_of conditions.now),
+      governs (statement_of condition) (rows_of later.now),
     )
         values.now) }
 {
     for text in row.default.values() {
-        let governing = governs(alloc, variant, condition, rows, conditions)?;
+        let governing = governs(alloc, condition, later)?;
         let formula = unused_said(alloc, text.as_str(), governing, values)?;
         terms.push(Weighted { weight: 1, formula })?;
     }
@@ -148,71 +138,74 @@ fn push_unused(
 
 // ---- either, over all definitions and variants
 
-// What a definition adds to the values of a variant; those of other variants add nothing.
+// What a definition adds to the values of its variant.
 fn push_counted(
     alloc: Global,
     terms: &mut Vec<Weighted>,
     which: Counted,
-    row: &VariantRow,
-    variant: &str,
-    condition: Defined,
-    rows: &[VariantRow],
-    conditions: &[Defined],
+    one: &Definition,
+    later: &[(&str, &Definition)],
     values: &[(Word, Lit)],
 ) -> Result<(), AllocError>
     ensures { OnOk result (terms.new.items ≡ terms.old.items
-        ++ terms_if (bytes_eq row.now.name variant.now) which (
-          row.now,
-          governs variant.now (statement_of condition) rows.now
-              (map statement_of conditions.now),
-        )
+        ++ counted_terms which (one.now.0, governs (statement_of one.now.1) (rows_of later.now))
         values.now) }
 {
-    if row.name.as_str() != variant {
-        return Ok(());
-    }
+    let row = one.row();
+    let condition = one.condition();
     match which {
-        Counted::Others => push_others(
-            alloc, terms, row, variant, condition, rows, conditions, values,
-        ),
-        Counted::Unused => push_unused(
-            alloc, terms, row, variant, condition, rows, conditions, values,
-        ),
+        Counted::Others => push_others(alloc, terms, row, condition, later, values),
+        Counted::Unused => push_unused(alloc, terms, row, condition, later, values),
     }
 }
 
 // What the values of a variant add, definition by definition.
+fn push_each(
+    alloc: Global,
+    terms: &mut Vec<Weighted>,
+    which: Counted,
+    definitions: &[(&str, &Definition)],
+    values: &[(Word, Lit)],
+) -> Result<(), AllocError>
+    ensures { OnOk result (terms.new.items ≡ terms.old.items
+        ++ flat_map (λ r. counted_terms which r values.now) (governing_rows (rows_of definitions.now))) }
+{
+    for (i, one) in definitions.iter().enumerate() {
+        push_counted(alloc, terms, which, one.1, &definitions[i + 1..], values)?;
+    }
+    Ok(())
+}
+
+// What the values of a variant add.
 fn push_variant(
     alloc: Global,
     terms: &mut Vec<Weighted>,
     which: Counted,
+    definitions: &Definitions,
     variant: &str,
-    rows: &[VariantRow],
-    conditions: &[Defined],
     values: &[(Word, Lit)],
 ) -> Result<(), AllocError>
     ensures { OnOk result (terms.new.items ≡ terms.old.items
-        ++ variant_terms (counted_terms which)
-        (with_formulas rows.now (map statement_of conditions.now))
+        ++ variant_terms (counted_terms which) (map row_said definitions.now)
         (variant.now, values.now)) }
 {
-    let mut left = conditions;
-    for (i, row) in rows.iter().enumerate() {
-        let Some((condition, later)) = left.split_first() else {
-            return Ok(());
-        };
-        push_counted(
-            alloc,
-            terms,
-            which,
-            row,
-            variant,
-            *condition,
-            &rows[i + 1..],
-            later,
-            values,
-        )?;
-        left = later;
+    push_each(alloc, terms, which, definitions.of(variant), values)
+}
+
+fn push_all(
+    alloc: Global,
+    terms: &mut Vec<Weighted>,
+    which: Counted,
+    definitions: &Definitions,
+    variants: &[(Word, List<(Word, Lit)>)],
+) -> Result<(), AllocError>
+    ensures { OnOk result (terms.new.items ≡ terms.old.items
+        ++ flat_map (variant_terms (counted_terms which) (map row_said definitions.now))
+        variants.now) }
+{
+    for variant in variants {
+        let values = variant.1.as_slice();
+        push_variant(alloc, terms, which, definitions, variant.0.as_str(), values)?;
     }
     Ok(())
 }
@@ -232,16 +225,7 @@ pub fn push_variants(
         (λ name. map statement_of conditions.now) block.now) }
 {
     let rows = variants_at(problem, block.name.as_str());
-    for variant in block.variants.as_slice() {
-        push_variant(
-            alloc,
-            terms,
-            which,
-            variant.0.as_str(),
-            rows,
-            conditions,
-            variant.1.as_slice(),
-        )?;
-    }
-    Ok(())
+    let held = with_conditions(alloc, rows, conditions)?;
+    let definitions = Definitions::new(alloc, held.as_slice())?;
+    push_all(alloc, terms, which, &definitions, block.variants.as_slice())
 }

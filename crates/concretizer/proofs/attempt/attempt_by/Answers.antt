@@ -60,7 +60,7 @@ returns-in_err-answer-clause-unsaid g c =
 
 pub returns-clause-kept : goal.returns-clause-kept
 returns-clause-kept g c =
-    answered_log (words_of c.args._words.now) c.args.command.now _ _ c.in_ok-task.task _ _ _ _ _ c.requires.named
+    answered_log (words_of c.args._words.now) c.args.command.now _ _ c.in_ok-task.task _ _ _ _ _ _ _ c.requires.named
     c.in_ok-task.ensures.read c.in_ok-task.ensures.only_reads.same
     (ap (λ (k : Command). k.lock) c.command.view_is ∙ sym (ap lock_of_command c.requires.named))
     (ap (λ (k : Command). k.cert) c.command.view_is ∙ sym (ap cert_of_command c.requires.named)) c.in_ok-answer.ensures.kept
@@ -68,7 +68,7 @@ returns-clause-kept g c =
 pub returns-in_err-answer-clause-kept : goal.returns-in_err-answer-clause-kept
 returns-in_err-answer-clause-kept g c =
     stopped_log (words_of c.args._words.now) c.args.command.now _ _ c.in_ok-task.task _ c.in_err-answer.field-0.0
-    c.from_residual-in_err-answer.result _ _ _ c.from_residual-in_err-answer.ensures.1 c.requires.named
+    c.from_residual-in_err-answer.result _ _ _ _ _ c.from_residual-in_err-answer.ensures.1 c.requires.named
     c.in_ok-task.ensures.read c.in_ok-task.ensures.only_reads.same
     (ap (λ (k : Command). k.lock) c.command.view_is ∙ sym (ap lock_of_command c.requires.named))
     (ap (λ (k : Command). k.cert) c.command.view_is ∙ sym (ap cert_of_command c.requires.named)) c.in_err-answer.ensures.kept

@@ -227,4 +227,4 @@ returns-in-Err-clause-due g c =
 
 pub returns-in-Err-clause-kept : goal.returns-in-Err-clause-kept
 returns-in-Err-clause-kept g c =
-    keeps_for _ (words_of c.args.words.now) _ _ c.in-Err.stop (_, _) (_, _) _ c.in-Err.ensures.kept c.report.ensures.reports
+    keeps_for _ (words_of c.args.words.now) _ (_, _) _ c.in-Err.stop (_, _) (_, _) _ c.in-Err.ensures.kept c.report.ensures.reports

@@ -1,4 +1,4 @@
-use Rattle.run_output.proofs.Kept.{of_trial}
+use Rattle.run_output.proofs.Kept.{of_least, of_trial}
 use Rattle.run_output.proofs.answer.write_answer.Goals as goal
 
 pub returns-in_ok-said-in-Report-clause-left : goal.returns-in_ok-said-in-Report-clause-left
@@ -16,7 +16,7 @@ returns-in_ok-said-in-Try-clause-left g c = c.tell-in-Try.ensures.left c.args.lo
 pub returns-in_ok-said-in-Try-clause-kept : goal.returns-in_ok-said-in-Try-clause-kept
 returns-in_ok-said-in-Try-clause-kept g c =
     let files = g.D.Desk.files c.args.desk.now in
-    rw c.in-Try.is (of_trial c.args.lock.now c.args.cert.now c.in-Try.input files files c.in_ok-said-in-Try.said.outcome _ c.tell-in-Try.result
+    rw c.in-Try.is (of_trial c.args.lock.now c.args.cert.now c.in-Try.input files files _ _ c.in_ok-said-in-Try.said.outcome _ c.tell-in-Try.result
     c.in_ok-said-in-Try.ensures.kept c.tell-in-Try.ensures.outcome)
 
 pub returns-in_ok-said-in-Compare-clause-left : goal.returns-in_ok-said-in-Compare-clause-left
@@ -27,3 +27,13 @@ returns-in_ok-said-in-Find-clause-left g c = c.tell-in-Find.ensures.left c.args.
 
 pub returns-in_ok-said-in-Plan-clause-left : goal.returns-in_ok-said-in-Plan-clause-left
 returns-in_ok-said-in-Plan-clause-left g c = c.tell-in-Plan.ensures.left c.args.lock.now c.args.cert.now _
+
+pub returns-in_ok-said-in-Reasons-clause-left : goal.returns-in_ok-said-in-Reasons-clause-left
+returns-in_ok-said-in-Reasons-clause-left g c = c.tell-in-Reasons.ensures.left c.args.lock.now c.args.cert.now _
+
+pub returns-in_ok-said-in-Reasons-clause-kept : goal.returns-in_ok-said-in-Reasons-clause-kept
+returns-in_ok-said-in-Reasons-clause-kept g c =
+    let files = g.D.Desk.files c.args.desk.now in
+    rw c.in-Reasons.is (of_least c.args.lock.now c.args.cert.now c.in-Reasons.input files files _ _ c.in_ok-said-in-Reasons.said.outcome
+    c.in_ok-said-in-Reasons.said.text.items _ c.tell-in-Reasons.result c.in_ok-said-in-Reasons.ensures.kept c.tell-in-Reasons.ensures.outcome
+    c.tell-in-Reasons.ensures.out)
